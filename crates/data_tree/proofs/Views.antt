@@ -1,0 +1,90 @@
+-- A value, level by level, beside its tree and its parts.
+use Rattle.std.proofs.Common.{◌≡◌, ℕ, zero, suc, List, [], ◌∷◌, length, map, Vec, String, Global, string_bytes, Option, None, Some, option_map, Bor, not, nat_eq, false, arith, refl, sym, ap, ◌∙◌, rules}
+use Rattle.std.specs.Option.{option_copied, option_map_or}
+use Rattle.std.specs.List.{slice_get}
+use Rattle.std.proofs.lemmas.Option.{slice_get-map}
+use Rattle.std.proofs.lemmas.Bool.Decides.{nat_tests}
+use Rattle.data_tree.specs.Print.{is_true}
+use Rattle.data_tree.specs.LookUp.{nth, after, at}
+use Rattle.data_tree.specs.declared.step.Step.{Step}
+use Rattle.data_tree.specs.declared.step.Step.TheVariants.{Name, Index}
+use Rattle.data_tree.specs.Tree.{Tree, nothing, list, fields, named, Items, items_of, members_of, view, items_view, members_view}
+use Rattle.data_tree.specs.Parts.{items, keys, trees_of, values_of, names_of}
+use Rattle.data_tree.specs.declared.data.Data.{Data, List as ListData, Fields, Named, the_lemmas}
+
+abbrev pub Field : Type 0
+Field = String Global × Data
+
+pub view-List : (v : Vec Data Global) → view (ListData v) ≡ list (items_view v.items)
+view-List v = search (rules, the_lemmas)
+
+pub view-Fields : (v : Vec (String Global × Data) Global) → view (Fields v) ≡ fields (members_view v.items)
+view-Fields v = search (rules, the_lemmas)
+
+pub view-Named : (s : String Global) (v : Vec Data Global) (w : Vec (String Global × Data) Global) → view (Named s v w) ≡ named (string_bytes s) (items_view v.items) (members_view w.items)
+view-Named s v w = search (rules, the_lemmas)
+
+pub trees_of-items_of : (ts : List Tree) → trees_of (items_of ts) ≡ ts
+trees_of-items_of [] = refl
+trees_of-items_of (t ∷ ts) = ap (λ us. t ∷ us) (trees_of-items_of ts)
+
+pub values_of-members_of : (ms : List (String Global × Tree)) → values_of (members_of ms) ≡ map (λ (m : String Global × Tree). m.1) ms
+values_of-members_of [] = refl
+values_of-members_of (m ∷ ms) = ap (λ us. m.1 ∷ us) (values_of-members_of ms)
+
+pub values_of-members_view : (fs : List Field) → values_of (members_view fs) ≡ map (λ (f : Field). view f.1) fs
+values_of-members_view [] = refl
+values_of-members_view (f ∷ fs) = ap (λ us. view f.1 ∷ us) (values_of-members_view fs)
+
+pub names_of-members_view : (fs : List Field) → names_of (members_view fs) ≡ map (λ (f : Field). string_bytes f.0) fs
+names_of-members_view [] = refl
+names_of-members_view (f ∷ fs) = ap (λ us. string_bytes f.0 ∷ us) (names_of-members_view fs)
+
+pub items-List : (v : Vec Data Global) → items (view (ListData v)) ≡ map view v.items
+items-List v = ap items (view-List v) ∙ trees_of-items_of (map view v.items)
+
+pub items-Named : (s : String Global) (v : Vec Data Global) (w : Vec (String Global × Data) Global) → items (view (Named s v w)) ≡ map view v.items
+items-Named s v w = ap items (view-Named s v w) ∙ trees_of-items_of (map view v.items)
+
+pub items-Fields : (v : Vec (String Global × Data) Global) → items (view (Fields v)) ≡ map (λ (f : Field). view f.1) v.items
+items-Fields v = ap items (view-Fields v) ∙ values_of-members_view v.items
+
+pub keys-Fields : (v : Vec (String Global × Data) Global) → keys (view (Fields v)) ≡ map (λ (f : Field). string_bytes f.0) v.items
+keys-Fields v = ap keys (view-Fields v) ∙ names_of-members_view v.items
+
+pub view-copied : (r : Option (Bor Data)) → option_map (λ (x : Bor Data). view x.now) r ≡ option_map view (option_copied r)
+view-copied None = refl
+view-copied (Some x) = refl
+
+-- what an element of a list of values stands for
+pub view_of_element : (r : Option (Bor Data)) (xs : List Data) (k : ℕ) → option_copied r ≡ slice_get xs k → option_map (λ (x : Bor Data). view x.now) r ≡ slice_get (map view xs) k
+view_of_element r xs k e = view-copied r ∙ ap (option_map view) e ∙ sym (slice_get-map view xs k)
+
+found-copied : (r : Option (Bor Data)) → option_map_or (λ (x : Bor Data). view x.now) r nothing ≡ option_map_or (λ t. t) (option_map view (option_copied r)) nothing
+found-copied None = refl
+found-copied (Some x) = refl
+
+found-nth : (xs : List Data) (k : ℕ) → option_map_or (λ t. t) (option_map view (slice_get xs k)) nothing ≡ nth k (items_view xs)
+found-nth [] k = refl
+found-nth (x ∷ xs) zero = refl
+found-nth (x ∷ xs) (suc k) = found-nth xs k
+
+-- an element of a list of values, or Nothing, is what an index finds
+pub nth_of_element : (r : Option (Bor Data)) (xs : List Data) (k : ℕ) → option_copied r ≡ slice_get xs k → option_map_or (λ (x : Bor Data). view x.now) r nothing ≡ nth k (items_view xs)
+nth_of_element r xs k e = found-copied r ∙ ap (λ o. option_map_or (λ t. t) (option_map view o) nothing) e ∙ found-nth xs k
+
+-- no step leads on from Nothing
+pub after-nothing : (s : Step) → after s nothing ≡ nothing
+after-nothing (Name k) = refl
+after-nothing (Index n) = refl
+
+pub at-nothing : (ss : List Step) → at ss nothing ≡ nothing
+at-nothing [] = refl
+at-nothing (s ∷ ss) = rw (after-nothing s) (at-nothing ss)
+
+pub suc_is_not_zero : (n : ℕ) → nat_eq (suc n) 0 ≡ false
+suc_is_not_zero n = grind (arith, nat_tests)
+
+pub not_empty-items : (xs : List Data) (n : ℕ) → n ≡ length xs → not (nat_eq n 0) ≡ is_true (list (items_view xs))
+not_empty-items [] n e = rw e refl
+not_empty-items (x ∷ xs) n e = rw e (ap not (suc_is_not_zero (length xs)))

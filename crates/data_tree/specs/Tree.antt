@@ -1,0 +1,53 @@
+-- What a `Data` stands for: a finite tree of texts, numbers and truths.
+use Rattle.std.specs.Prelude.{ℕ, ℤ, Bool, List, [], ◌∷◌, map, String, string_bytes}
+use Rattle.std.specs.declared.alloc.Global.{Global}
+use Rattle.data_tree.specs.declared.data.Data.{Data, fold-Data}
+use Rattle.data_tree.specs.declared.data.Data.TheOpen.{Data-F}
+
+-- texts and names are their bytes
+mutual
+  pub data Tree : Type 0 where
+    nothing : Tree
+    truth : Bool → Tree
+    number : ℤ → Tree
+    text : List ℕ → Tree
+    list : Items → Tree
+    fields : Members → Tree
+    named : List ℕ → Items → Members → Tree
+
+  pub data Items : Type 0 where
+    no_items : Items
+    item : Tree → Items → Items
+
+  -- names, each with its value
+  pub data Members : Type 0 where
+    no_members : Members
+    member : List ℕ → Tree → Members → Members
+
+abbrev pub items_of : List Tree → Items
+items_of [] = no_items
+items_of (t ∷ ts) = item t (items_of ts)
+
+abbrev pub members_of : List (String Global × Tree) → Members
+members_of [] = no_members
+members_of (m ∷ ms) = member (string_bytes m.0) m.1 (members_of ms)
+
+-- one level, with each value inside already seen as its tree
+abbrev pub view_step : Data-F Tree → Tree
+view_step Data-F.Nothing = nothing
+view_step (Data-F.Truth b) = truth b
+view_step (Data-F.Number n) = number n
+view_step (Data-F.Text s) = text (string_bytes s)
+view_step (Data-F.List v) = list (items_of v.items)
+view_step (Data-F.Fields v) = fields (members_of v.items)
+view_step (Data-F.Named s v w) = named (string_bytes s) (items_of v.items) (members_of w.items)
+
+-- the tree that a value stands for
+abbrev pub view : Data → Tree
+view = fold-Data Tree view_step
+
+abbrev pub items_view : List Data → Items
+items_view ds = items_of (map view ds)
+
+abbrev pub members_view : List (String Global × Data) → Members
+members_view ms = members_of (map (λ m. (m.0, view m.1)) ms)

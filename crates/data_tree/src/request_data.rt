@@ -1,0 +1,71 @@
+// The root of what a template sees, within its limit.
+ghost use Rattle.std.specs.Prelude.{◌≤◌};
+ghost use Rattle.data_tree.specs.Tree.{view};
+ghost use Rattle.data_tree.specs.Json.{size};
+ghost use Rattle.data_tree.specs.LookUp.{HasNoEmptyName};
+
+use crate::data::Data;
+use crate::error_code::ErrorCode;
+
+/// The most that a request's data may take: bytes of its compact JSON text, plus 1.
+pub const SIZE_LIMIT: u64 = 16_777_216;
+
+/// What a template sees of one request: a value within the limit, whose root has no field of the empty name.
+#[derive(Debug, Drop)]
+pub struct RequestData {
+    root: Data,
+    ghost within_limit: { size (view root) ≤ 16777216 },
+    ghost no_empty_name: { HasNoEmptyName (view root) },
+}
+
+/// Why there is no data for a request.
+#[derive(Debug, Drop)]
+pub enum DataError {
+    /// The value is over the limit; here it is again.
+    TooLarge(Data),
+    OutOfMemory,
+}
+
+impl RequestData {
+    ghost use Rattle.std.specs.Prelude.{◌≡◌, ◌≤◌, ◌<◌, MatchResult};
+    ghost use Rattle.data_tree.specs.Tree.{view};
+    ghost use Rattle.data_tree.specs.Json.{size};
+    ghost use Rattle.data_tree.specs.LookUp.{HasNoEmptyName};
+    ghost use Rattle.data_tree.specs.RequestData.{root_of};
+
+    /// Takes the value over, where it is within the limit. Takes no memory.
+    pub fn new(root: Data) -> Result<RequestData, DataError>
+        requires { HasNoEmptyName (view root) }
+        ensures { MatchResult result
+            (λ made. (root_of made ≡ view root) × (size (view root) ≤ SIZE_LIMIT))
+            (λ error. (error ≡ DataError.TooLarge root) × (SIZE_LIMIT < size (view root))) }
+    {
+        if root.size() > SIZE_LIMIT {
+            return Err(DataError::TooLarge(root));
+        }
+        Ok(RequestData { root })
+    }
+
+    /// The value.
+    pub fn root(&self) -> &Data
+        ensures tree { view result.now ≡ root_of self.now }
+        ensures within_limit { size (root_of self.now) ≤ SIZE_LIMIT }
+        ensures no_empty_name { HasNoEmptyName (root_of self.now) }
+    {
+        &self.root
+    }
+}
+
+impl DataError {
+    ghost use Rattle.std.specs.Prelude.{◌≡◌};
+    ghost use Rattle.data_tree.specs.RequestData.{code_of};
+
+    pub fn code(&self) -> ErrorCode
+        ensures { result ≡ code_of self.now }
+    {
+        match self {
+            DataError::TooLarge(_) => ErrorCode::TooLarge,
+            DataError::OutOfMemory => ErrorCode::OutOfMemory,
+        }
+    }
+}

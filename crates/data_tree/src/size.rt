@@ -1,0 +1,99 @@
+// How long a value's compact JSON text is, without making it.
+ghost use Rattle.std.specs.Prelude.{◌≡◌, ◌+◌, true, length, nat_eq, if◌then◌else◌};
+ghost use Rattle.json.specs.Print.{quoted, escape_byte};
+ghost use Rattle.data_tree.specs.Tree.{view, items_view, members_view};
+ghost use Rattle.data_tree.specs.Json.{json, size, items_json, members_json};
+ghost use Rattle.data_tree.specs.Capped.{capped};
+
+use crate::data::Data;
+use itoa::Buffer;
+
+impl Data {
+    /// The length of the compact JSON text in bytes, plus 1; 2^64 - 1 where it is more. Looks at each byte
+    /// once and takes no memory; the recursion is as deep as the value.
+    pub fn size(&self) -> u64
+        ensures { result ≡ capped (size (view self.now)) }
+    {
+        json_len(self).saturating_add(1)
+    }
+}
+
+#[cycle(json_len)]
+fn json_len(data: &Data) -> u64
+    ensures { result ≡ capped (length (json (view data.now))) }
+{
+    match data {
+        Data::Nothing => 4,
+        Data::Truth(truth) => if *truth { 4 } else { 5 },
+        Data::Number(number) => Buffer::new().format(*number).len() as u64,
+        Data::Text(text) => quoted_len(text.as_str()),
+        Data::List(items) => bracketed_len(items.len(), items_len(items)),
+        Data::Fields(fields) => bracketed_len(fields.len(), members_len(fields)),
+        Data::Named {
+            text,
+            items,
+            fields,
+        } => bracketed_len(fields.len(), members_len(fields))
+            .saturating_add(bracketed_len(items.len(), items_len(items)))
+            .saturating_add(quoted_len(text.as_str()))
+            // `{"fields":`, `,"items":`, `,"text":` and `}`.
+            .saturating_add(28),
+    }
+}
+
+// Brackets round what has a comma before each part: the first comma isn't there, if there is a part.
+fn bracketed_len(count: usize, len: u64) -> u64
+    ensures { result ≡ (if nat_eq count 0 then 2 else capped (len + 1)) }
+{
+    if count == 0 { 2 } else { len.saturating_add(1) }
+}
+
+// Each item with a comma before it.
+#[cycle(json_len)]
+fn items_len(items: &Vec<Data>) -> u64
+    ensures { result ≡ capped (length (items_json true (items_view items.now.items))) }
+{
+    let mut len = 0u64;
+    for item in items {
+        len = len.saturating_add(1).saturating_add(json_len(item));
+    }
+    len
+}
+
+// Each member with a comma before it.
+#[cycle(json_len)]
+fn members_len(members: &Vec<(String, Data)>) -> u64
+    ensures { result ≡ capped (length (members_json true (members_view members.now.items))) }
+{
+    let mut len = 0u64;
+    for (name, value) in members {
+        len = len
+            .saturating_add(2)
+            .saturating_add(quoted_len(name.as_str()))
+            .saturating_add(json_len(value));
+    }
+    len
+}
+
+// With the quotes.
+fn quoted_len(text: &str) -> u64
+    ensures { result ≡ capped (length (quoted text.now)) }
+{
+    let mut len = 2u64;
+    for byte in text.as_bytes() {
+        len = len.saturating_add(escaped_len(*byte));
+    }
+    len
+}
+
+// How many bytes stand for a byte between quotes.
+#[tactic(auto, unfolding(json::specs::Print::escape_byte))]
+fn escaped_len(byte: u8) -> u64
+    ensures { result ≡ length (escape_byte byte) }
+{
+    match byte {
+        b'"' | b'\\' | 8 | 9 | 10 | 12 | 13 => 2,
+        0..32 => 6,
+        _ => 1,
+    }
+}

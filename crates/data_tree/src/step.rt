@@ -1,0 +1,58 @@
+// A step into a value, and a path of steps.
+ghost use Rattle.std.specs.Prelude.{◌≡◌, IfOk};
+
+use crate::plain_text::PlainText;
+use std::alloc::AllocError;
+use std::marker::Model;
+
+/// One step into a value.
+#[derive(Debug, Drop)]
+pub enum Step {
+    /// To the field of that name.
+    Name(PlainText),
+    /// To the item of that place, the first being 0; in `Fields` to the value named by the number in decimal.
+    Index(u32),
+}
+
+impl Step {
+    /// A copy.
+    pub fn try_clone(&self) -> Result<Step, AllocError>
+        ensures { IfOk result (λ copy. copy ≡ self.now) }
+    {
+        match self {
+            Step::Name(name) => Ok(Step::Name(name.try_clone()?)),
+            Step::Index(index) => Ok(Step::Index(*index)),
+        }
+    }
+}
+
+/// Steps that are taken from the left. Contracts see the list of the steps.
+#[derive(Debug, Drop)]
+pub struct Path {
+    steps: Vec<Step>,
+}
+
+impl Model for Path {
+    ghost use Rattle.std.specs.Prelude.{List};
+    ghost use Rattle.data_tree.specs.declared.step.Step.{Step};
+
+    ghost Value = { List Step };
+
+    ghost view = { λ p. p.steps.items };
+}
+
+impl Path {
+    /// Takes the steps over, without copying them.
+    pub fn new(steps: Vec<Step>) -> Path
+        ensures { result ≡ steps.items }
+    {
+        Path { steps }
+    }
+
+    /// The steps.
+    pub fn steps(&self) -> &[Step]
+        ensures { result.now ≡ self.now }
+    {
+        self.steps.as_slice()
+    }
+}
