@@ -1,7 +1,7 @@
 -- Lengths of JSON texts, piece by piece, as counts that stop at the greatest number.
-use Rattle.std.proofs.Common.{◌≡◌, ℕ, ◌+◌, ◌≤◌, List, [], ◌∷◌, ◌++◌, true, false, length, nat_eq, if◌then◌else◌, refl, ap, ◌∙◌, arith, length-append}
+use Rattle.std.proofs.Common.{◌≡◌, ℕ, ◌+◌, List, [], ◌∷◌, ◌++◌, true, false, length, nat_eq, if◌then◌else◌, refl, arith, length-append}
 use Rattle.json.specs.Print.{quoted}
-use Rattle.data_tree.specs.Tree.{Tree, list, fields, named, Items, Members, view, items_view, members_view}
+use Rattle.data_tree.specs.Tree.{list, fields, named, Items, Members, view, items_view, members_view}
 use Rattle.data_tree.specs.Json.{json, items_json, members_json}
 use Rattle.data_tree.specs.Capped.{capped}
 use Rattle.data_tree.specs.declared.data.Data.{Data}

@@ -8,7 +8,7 @@ use Rattle.data_tree.specs.Print.{is_true}
 use Rattle.data_tree.specs.LookUp.{nth, after, at}
 use Rattle.data_tree.specs.declared.step.Step.{Step}
 use Rattle.data_tree.specs.declared.step.Step.TheVariants.{Name, Index}
-use Rattle.data_tree.specs.Tree.{Tree, nothing, list, fields, named, Items, items_of, members_of, view, items_view, members_view}
+use Rattle.data_tree.specs.Tree.{Tree, nothing, list, fields, named, items_of, members_of, view, items_view, members_view}
 use Rattle.data_tree.specs.Parts.{items, keys, trees_of, values_of, names_of}
 use Rattle.data_tree.specs.declared.data.Data.{Data, List as ListData, Fields, Named, the_lemmas}
 
@@ -72,15 +72,6 @@ found-nth (x ∷ xs) (suc k) = found-nth xs k
 -- an element of a list of values, or Nothing, is what an index finds
 pub nth_of_element : (r : Option (Bor Data)) (xs : List Data) (k : ℕ) → option_copied r ≡ slice_get xs k → option_map_or (λ (x : Bor Data). view x.now) r nothing ≡ nth k (items_view xs)
 nth_of_element r xs k e = found-copied r ∙ ap (λ o. option_map_or (λ t. t) (option_map view o) nothing) e ∙ found-nth xs k
-
--- no step leads on from Nothing
-pub after-nothing : (s : Step) → after s nothing ≡ nothing
-after-nothing (Name k) = refl
-after-nothing (Index n) = refl
-
-pub at-nothing : (ss : List Step) → at ss nothing ≡ nothing
-at-nothing [] = refl
-at-nothing (s ∷ ss) = rw (after-nothing s) (at-nothing ss)
 
 pub suc_is_not_zero : (n : ℕ) → nat_eq (suc n) 0 ≡ false
 suc_is_not_zero n = grind (arith, nat_tests)

@@ -6,3 +6,4 @@ pub mod LookUp
 pub mod Capped
 pub mod ErrorCode
 pub mod RequestData
+pub mod Laws

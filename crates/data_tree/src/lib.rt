@@ -4,11 +4,21 @@
 // stands for), `Json`, `Print`, `Parts` and `LookUp`.
 #![tactic(auto)]
 
-pub mod data;
+// Texts, names and codes.
 pub mod error_code;
+pub mod plain_text;
+pub mod step;
+
+// The value, and what is asked of it.
+pub mod data;
 pub mod look_up;
 pub mod parts;
-pub mod plain_text;
-pub mod request_data;
 pub mod size;
-pub mod step;
+
+// The root that a template sees.
+pub mod request_data;
+
+// What holds of all values.
+pub mod laws;
+#[cfg(test)]
+mod tests;

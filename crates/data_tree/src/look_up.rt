@@ -32,20 +32,12 @@ fn after<'v>(data: &'v Data, step: &Step) -> Option<&'v Data>
     match step {
         Step::Name(name) => match data {
             Data::Fields(fields) => under(fields.as_slice(), name.as_str()),
-            Data::Named {
-                text: _,
-                items: _,
-                fields,
-            } => under(fields.as_slice(), name.as_str()),
+            Data::Named { fields, .. } => under(fields.as_slice(), name.as_str()),
             _ => None,
         },
         Step::Index(index) => match data {
             Data::List(items) => element(items.as_slice(), *index as usize),
-            Data::Named {
-                text: _,
-                items,
-                fields: _,
-            } => element(items.as_slice(), *index as usize),
+            Data::Named { items, .. } => element(items.as_slice(), *index as usize),
             Data::Fields(fields) => under(fields.as_slice(), Buffer::new().format(*index)),
             _ => None,
         },

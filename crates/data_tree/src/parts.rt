@@ -27,11 +27,7 @@ impl Data {
             Data::Text(text) => !text.is_empty(),
             Data::List(items) => !items.is_empty(),
             Data::Fields(_) => true,
-            Data::Named {
-                text,
-                items: _,
-                fields: _,
-            } => !text.is_empty(),
+            Data::Named { text, .. } => !text.is_empty(),
         }
     }
 
@@ -42,11 +38,7 @@ impl Data {
         match self {
             Data::List(items) => items.len(),
             Data::Fields(fields) => fields.len(),
-            Data::Named {
-                text: _,
-                items,
-                fields: _,
-            } => items.len(),
+            Data::Named { items, .. } => items.len(),
             _ => 0,
         }
     }
@@ -61,11 +53,7 @@ impl Data {
                 Some((_, value)) => Some(value),
                 None => None,
             },
-            Data::Named {
-                text: _,
-                items,
-                fields: _,
-            } => element(items.as_slice(), place),
+            Data::Named { items, .. } => element(items.as_slice(), place),
             _ => None,
         }
     }
@@ -74,12 +62,12 @@ impl Data {
     pub fn key(&self, place: usize) -> Option<&str>
         ensures { option_map (λ found. found.now) result ≡ slice_get (keys (view self.now)) place }
     {
-        match self {
-            Data::Fields(fields) => match element(fields.as_slice(), place) {
-                Some((name, _)) => Some(name.as_str()),
-                None => None,
-            },
-            _ => None,
+        let Data::Fields(fields) = self else {
+            return None;
+        };
+        match element(fields.as_slice(), place) {
+            Some((name, _)) => Some(name.as_str()),
+            None => None,
         }
     }
 }

@@ -1,5 +1,4 @@
-use Rattle.std.proofs.Common.{◌≡◌, ap, ◌∙◌, sym, rules}
-use Rattle.data_tree.specs.Tree.{view}
+use Rattle.std.proofs.Common.{◌∙◌}
 use Rattle.data_tree.proofs.Views.{view-List, view-Named, nth_of_element}
 use Rattle.data_tree.proofs.look_up.after.Goals as goal
 

@@ -1,4 +1,4 @@
-use Rattle.std.proofs.Common.{◌≡◌, ◌+◌, length, ap, ap₂, ◌∙◌, rules}
+use Rattle.std.proofs.Common.{◌≡◌, length, ◌∙◌, rules}
 use Rattle.data_tree.specs.Tree.{items_view, members_view, fields, list}
 use Rattle.data_tree.specs.Json.{json}
 use Rattle.data_tree.specs.Capped.{capped}

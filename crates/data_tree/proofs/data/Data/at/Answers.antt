@@ -2,7 +2,7 @@ use Rattle.std.proofs.Common.{◌≡◌, ◌+◌, ◌∷◌, drop, ap, ◌∙◌
 use Rattle.std.proofs.lemmas.List.{at_drop_more}
 use Rattle.data_tree.specs.Tree.{view, nothing}
 use Rattle.data_tree.specs.LookUp.{at, after}
-use Rattle.data_tree.proofs.Views.{at-nothing}
+use Rattle.data_tree.proofs.Lookups.{at_nothing}
 use Rattle.data_tree.proofs.data.Data.at.Goals as goal
 
 pub returns-in-None : goal.returns-in-None
@@ -13,4 +13,4 @@ returns-in-None c =
     let split : at (drop l.step-index c.args.steps.now) here ≡ at (c.step-item.result ∷ rest) here =
     at_drop_more (λ ss. at ss here) c.args.steps.now l.step-index c.step-item.result (omega arith) ∙ ap (λ s. at (s ∷ rest) here) (sym c.step-item.is) in
     let found : nothing ≡ after c.step-item.result here = c.in-None.ensures in
-    sym (at-nothing rest) ∙ ap (at rest) found ∙ sym split ∙ l.invariant
+    sym (at_nothing rest) ∙ ap (at rest) found ∙ sym split ∙ l.invariant

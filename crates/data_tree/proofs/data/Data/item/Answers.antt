@@ -1,5 +1,4 @@
-use Rattle.std.proofs.Common.{◌≡◌, List, ℕ, Some, None, option_map, ap, ◌∙◌, sym, rules}
-use Rattle.std.specs.List.{slice_get}
+use Rattle.std.proofs.Common.{option_map, ap, ◌∙◌, sym}
 use Rattle.std.proofs.lemmas.Option.{slice_get-map}
 use Rattle.data_tree.specs.Tree.{view}
 use Rattle.data_tree.proofs.Views.{Field, items-List, items-Fields, items-Named, view_of_element}

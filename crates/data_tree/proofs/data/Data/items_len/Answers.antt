@@ -1,7 +1,5 @@
-use Rattle.std.proofs.Common.{ap, ◌∙◌, length, arith, rules}
+use Rattle.std.proofs.Common.{rules}
 use Rattle.std.proofs.lemmas.List.{length-map}
-use Rattle.data_tree.specs.Tree.{view}
-use Rattle.data_tree.specs.Parts.{items}
 use Rattle.data_tree.proofs.Views.{items-List, items-Fields, items-Named}
 use Rattle.data_tree.proofs.data.Data.items_len.Goals as goal
 

@@ -1,5 +1,4 @@
-use Rattle.std.proofs.Common.{◌≡◌, List, ℕ, Some, None, option_map, string_bytes, ap, ◌∙◌, sym, rules}
-use Rattle.std.specs.List.{slice_get}
+use Rattle.std.proofs.Common.{option_map, string_bytes, ap, ◌∙◌, sym}
 use Rattle.std.proofs.lemmas.Option.{slice_get-map}
 use Rattle.data_tree.proofs.Views.{Field, keys-Fields}
 use Rattle.data_tree.proofs.data.Data.key.Goals as goal
