@@ -1,5 +1,7 @@
 pub mod Views
 pub mod Lengths
+pub mod Printed
+pub mod Numerals
 pub mod Sizes
 pub mod Lookups
 pub mod LastText

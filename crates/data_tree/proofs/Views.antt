@@ -5,9 +5,7 @@ use Rattle.std.specs.List.{slice_get}
 use Rattle.std.proofs.lemmas.Option.{slice_get-map}
 use Rattle.std.proofs.lemmas.Bool.Decides.{nat_tests}
 use Rattle.data_tree.specs.Print.{is_true}
-use Rattle.data_tree.specs.LookUp.{nth, after, at}
-use Rattle.data_tree.specs.declared.step.Step.{Step}
-use Rattle.data_tree.specs.declared.step.Step.TheVariants.{Name, Index}
+use Rattle.data_tree.specs.LookUp.{nth}
 use Rattle.data_tree.specs.Tree.{Tree, nothing, list, fields, named, items_of, members_of, view, items_view, members_view}
 use Rattle.data_tree.specs.Parts.{items, keys, trees_of, values_of, names_of}
 use Rattle.data_tree.specs.declared.data.Data.{Data, List as ListData, Fields, Named, the_lemmas}

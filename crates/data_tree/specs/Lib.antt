@@ -1,6 +1,7 @@
 pub mod Tree
 pub mod Json
 pub mod Print
+pub mod Tokens
 pub mod Parts
 pub mod LookUp
 pub mod Capped

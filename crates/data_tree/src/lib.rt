@@ -13,6 +13,7 @@ pub mod step;
 pub mod data;
 pub mod look_up;
 pub mod parts;
+pub mod print;
 pub mod size;
 
 // The root that a template sees.

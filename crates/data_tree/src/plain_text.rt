@@ -39,7 +39,8 @@ impl PlainText {
     pub fn into_string(self) -> String
         ensures { string_bytes result ≡ self }
     {
-        self.text
+        let PlainText { text } = self;
+        text
     }
 
     /// A copy.

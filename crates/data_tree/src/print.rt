@@ -1,0 +1,125 @@
+// What a value looks like as text: a text as it stands, a list or an object as its compact JSON text.
+ghost use Rattle.std.specs.Prelude.{◌≡◌, ◌++◌, OnOk, OnErr, string_bytes};
+ghost use Rattle.data_tree.specs.Json.{json};
+ghost use Rattle.data_tree.specs.Tokens.{tree_tokens, items_tokens, members_tokens};
+ghost use Rattle.data_tree.specs.Tree.{view, items_view, members_view};
+
+#[cfg(test)]
+mod tests;
+
+use crate::data::Data;
+use json::Writer;
+use std::alloc::{AllocError, Global};
+use std::mem;
+
+impl Data {
+    ghost use Rattle.data_tree.specs.Print.{print};
+
+    /// Appends what the value prints as.
+    ///
+    /// Nothing prints as the empty text, a `Text` and a `Named` as their text, and a list or an object as
+    /// its compact JSON text. Each byte is read and written once, straight into `out`; for a list or an
+    /// object the writer also clears some spare room ahead, 16 KiB at most. The recursion is as deep as
+    /// lists and objects nest in the value. Where memory is refused, `out` keeps the text that it had.
+    pub fn print_into(&self, alloc: Global, out: &mut String) -> Result<(), AllocError>
+        ensures ok { OnOk result
+            (string_bytes out.new ≡ string_bytes out.old ++ print (view self.now)) }
+        ensures err { OnErr result (string_bytes out.new ≡ string_bytes out.old) }
+    {
+        match self {
+            Data::Nothing => Ok(()),
+            Data::Truth(true) => out.push_str("true"),
+            Data::Truth(false) => out.push_str("false"),
+            Data::Number(number) => {
+                let mut buffer = itoa::Buffer::new();
+                out.push_str(buffer.format(*number))
+            }
+            Data::Text(text) | Data::Named { text, .. } => out.push_str(text.as_str()),
+            Data::List(_) | Data::Fields(_) => json_into(self, alloc, out),
+        }
+    }
+}
+
+// The writer takes over the bytes of `out`, and gives them back whether or not it could write it all.
+fn json_into(value: &Data, alloc: Global, out: &mut String) -> Result<(), AllocError>
+    ensures ok { OnOk result
+        (string_bytes out.new ≡ string_bytes out.old ++ json (view value.now)) }
+    ensures err { OnErr result (string_bytes out.new ≡ string_bytes out.old) }
+{
+    let start = out.len();
+    let text = mem::replace(out, String::new(alloc));
+    let mut writer = Writer::new(text.into_bytes());
+    let written = write_value(value, &mut writer);
+    let mut bytes = writer.into_inner();
+    if written.is_err() {
+        bytes.truncate(start);
+    }
+    // SAFETY: it is proved that the bytes are UTF-8. To check them would read all of `out` again.
+    *out = unsafe { String::from_utf8_unchecked(bytes) };
+    written
+}
+
+#[cycle(write)]
+fn write_value(value: &Data, out: &mut Writer) -> Result<(), AllocError>
+    ensures ok { OnOk result (out.new.tokens ≡ out.old.tokens ++ tree_tokens (view value.now)) }
+    ensures before { out.new.before ≡ out.old.before }
+{
+    match value {
+        Data::Nothing => out.null(),
+        Data::Truth(truth) => out.boolean(*truth),
+        Data::Number(number) => {
+            let mut buffer = itoa::Buffer::new();
+            out.number(buffer.format(*number))
+        }
+        Data::Text(text) => out.string(text.as_str()),
+        Data::List(items) => {
+            out.begin_array()?;
+            write_items(items, out)
+        }
+        Data::Fields(members) => {
+            out.begin_object()?;
+            write_members(members, out)
+        }
+        Data::Named {
+            text,
+            items,
+            fields,
+        } => {
+            out.begin_object()?;
+            out.key("fields")?;
+            out.begin_object()?;
+            write_members(fields, out)?;
+            out.key("items")?;
+            out.begin_array()?;
+            write_items(items, out)?;
+            out.key("text")?;
+            out.string(text.as_str())?;
+            out.end_object()
+        }
+    }
+}
+
+#[cycle(write)]
+fn write_items(items: &Vec<Data>, out: &mut Writer) -> Result<(), AllocError>
+    ensures ok { OnOk result
+        (out.new.tokens ≡ out.old.tokens ++ items_tokens (items_view items.now.items)) }
+    ensures before { out.new.before ≡ out.old.before }
+{
+    for item in items {
+        write_value(item, out)?;
+    }
+    out.end_array()
+}
+
+#[cycle(write)]
+fn write_members(members: &Vec<(String, Data)>, out: &mut Writer) -> Result<(), AllocError>
+    ensures ok { OnOk result
+        (out.new.tokens ≡ out.old.tokens ++ members_tokens (members_view members.now.items)) }
+    ensures before { out.new.before ≡ out.old.before }
+{
+    for (name, member) in members {
+        out.key(name.as_str())?;
+        write_value(member, out)?;
+    }
+    out.end_object()
+}
