@@ -1,0 +1,128 @@
+-- Worked examples, which the checker computes.
+use Rattle.std.specs.Prelude.{◌≡◌, ℕ, zero, suc, List, [], ◌∷◌, ◌++◌, replicate, Option, Some, None, codes}
+use Rattle.std.proofs.Common.{refl, sym, ap, length, ◌^◌, ◌-◌, Bool, true, false, true≢false}
+use Rattle.data_tree.specs.Tree.{Tree, text}
+use Rattle.template_code.specs.Code.{StackCode}
+use Rattle.template_code.specs.Machine.{advance, first, IsTrap, State, a_datum, Runs}
+use Rattle.template_code.specs.Budget.{budget}
+use Rattle.template_code.specs.Bounds.{told}
+use Rattle.template_code.specs.WellFormed.{Entry, broken_by, verdict}
+use Rattle.template_code.specs.declared.instr.Instr.{Instr}
+use Rattle.template_code.specs.declared.instr.Instr.TheVariants.{Emit, Root, Show, Print, Halt}
+use Rattle.template_code.specs.declared.rule.Rule.{Rule}
+use Rattle.template_code.specs.declared.rule.Rule.TheVariants.{V1, V2, V5, V6, V7, V8, V12, V13}
+use Rattle.template_code.proofs.TableFacts.{entry_at}
+
+-- with one empty path and one empty text in the tables
+abbrev with_tables : List Instr → StackCode
+with_tables is = record { instrs = is; texts = [] ∷ []; paths = [] ∷ [] }
+
+abbrev judged : List Instr → ℕ → Option Rule
+judged is place = verdict (with_tables is) place (entry_at (with_tables is) place)
+
+-- the verdicts on the first n places
+abbrev verdicts : List Instr → ℕ → List (Option Rule)
+verdicts is zero = []
+verdicts is (suc n) = verdicts is n ++ judged is n ∷ []
+
+abbrev one_value : StackCode
+one_value = with_tables (Root 0 ∷ Show ∷ Print ∷ Halt ∷ [])
+
+budget_of_one_value : budget one_value ≡ record { steps = 4 ∷ []; bytes = 0 ∷ 1 ∷ [] }
+budget_of_one_value = refl
+
+run_of_one_value : Runs one_value (text (codes "Ann")) 4 (codes "Ann")
+run_of_one_value = (record { place = 3; stack = []; loops = []; output = codes "Ann" }, (3, refl, refl, refl), refl)
+
+abbrev hello : StackCode
+hello = record { instrs = Emit 0 ∷ Root 0 ∷ Show ∷ Print ∷ Halt ∷ []; texts = codes "Hello " ∷ []; paths = [] ∷ [] }
+
+budget_of_hello : budget hello ≡ record { steps = 5 ∷ []; bytes = 6 ∷ 1 ∷ [] }
+budget_of_hello = refl
+
+-- the empty template
+budget_of_nothing : budget (with_tables (Halt ∷ [])) ≡ record { steps = 1 ∷ []; bytes = [] }
+budget_of_nothing = refl
+
+told_of_nothing : told (budget (with_tables (Halt ∷ []))).bytes ≡ 0 ∷ []
+told_of_nothing = refl
+
+abbrev is_halt : Option Instr → Bool
+is_halt None = false
+is_halt (Some (Emit t)) = false
+is_halt (Some (Root p)) = false
+is_halt (Some Show) = false
+is_halt (Some Print) = false
+is_halt (Some Halt) = true
+
+-- a value isn't a text: no step at 1
+abbrev unshown : StackCode
+unshown = with_tables (Root 0 ∷ Print ∷ Halt ∷ [])
+
+trap_of_unshown : (root : Tree) → (s : State) × (advance unshown root 1 first ≡ Some s) × (s.place ≡ 1) × IsTrap unshown root s
+trap_of_unshown root =
+    (record { place = 1; stack = a_datum root ∷ []; loops = []; output = [] }, refl, refl, (refl, λ h. true≢false (sym (ap is_halt h))))
+
+-- behind the last instruction there is no step
+abbrev endless : StackCode
+endless = with_tables (Emit 0 ∷ [])
+
+trap_of_endless : (root : Tree) → (s : State) × (advance endless root 1 first ≡ Some s) × (s.place ≡ 1) × IsTrap endless root s
+trap_of_endless root = (record { place = 1; stack = []; loops = []; output = [] }, refl, refl, (refl, λ h. true≢false (sym (ap is_halt h))))
+
+-- accepted: no verdict at a place, nor behind the last
+one_value_accepted : verdicts (Root 0 ∷ Show ∷ Print ∷ Halt ∷ []) 5 ≡ None ∷ None ∷ None ∷ None ∷ None ∷ []
+one_value_accepted = refl
+
+halt_accepted : verdicts (Halt ∷ []) 2 ≡ None ∷ None ∷ []
+halt_accepted = refl
+
+slots_32_accepted : verdicts (replicate 32 (Root 0) ++ (Show ∷ [])) 33 ≡ replicate 32 None ++ Some V12 ∷ []
+slots_32_accepted = refl
+
+no_code : verdicts [] 2 ≡ Some V1 ∷ None ∷ []
+no_code = refl
+
+-- whatever stands there
+place_4096 : (code : StackCode) (i : Instr) (e : Entry) → broken_by code 4096 i e ≡ Some V1
+place_4096 code i e = refl
+
+text_past_the_table : verdicts (Emit 1 ∷ Halt ∷ []) 1 ≡ Some V2 ∷ []
+text_past_the_table = refl
+
+path_past_the_table : verdicts (Root 1 ∷ Halt ∷ []) 1 ≡ Some V2 ∷ []
+path_past_the_table = refl
+
+nothing_to_print : verdicts (Print ∷ Halt ∷ []) 1 ≡ Some V5 ∷ []
+nothing_to_print = refl
+
+nothing_to_show : verdicts (Show ∷ Halt ∷ []) 1 ≡ Some V5 ∷ []
+nothing_to_show = refl
+
+print_of_data : verdicts (Root 0 ∷ Print ∷ Halt ∷ []) 2 ≡ None ∷ Some V6 ∷ []
+print_of_data = refl
+
+show_of_text : verdicts (Root 0 ∷ Show ∷ Show ∷ Halt ∷ []) 3 ≡ None ∷ None ∷ Some V6 ∷ []
+show_of_text = refl
+
+slot_33 : verdicts (replicate 33 (Root 0) ++ Halt ∷ []) 33 ≡ replicate 32 None ++ Some V7 ∷ []
+slot_33 = refl
+
+slot_left : verdicts (Root 0 ∷ Halt ∷ []) 2 ≡ None ∷ Some V8 ∷ []
+slot_left = refl
+
+no_end : verdicts (Emit 0 ∷ []) 1 ≡ Some V12 ∷ []
+no_end = refl
+
+early_end : verdicts (Halt ∷ Halt ∷ []) 1 ≡ Some V12 ∷ []
+early_end = refl
+
+-- a text that is one byte too long for a budget, and one that just fits
+abbrev one_text : List ℕ → StackCode
+one_text bytes = record { instrs = Emit 0 ∷ Halt ∷ []; texts = bytes ∷ []; paths = [] }
+
+too_long : (bytes : List ℕ) → length bytes ≡ 2 ^ 63 → verdict (one_text bytes) 0 (entry_at (one_text bytes) 0) ≡ Some V13
+too_long bytes h = rw h refl
+
+just_fits : (bytes : List ℕ) → length bytes ≡ 2 ^ 63 - 1 → verdict (one_text bytes) 0 (entry_at (one_text bytes) 0) ≡ None
+just_fits bytes h = rw h refl

@@ -1,0 +1,8 @@
+mod Examples
+pub mod RunFacts
+pub mod MachineFacts
+pub mod BoundFacts
+pub mod BudgetFacts
+pub mod TableFacts
+pub mod FaultFacts
+pub mod FormFacts

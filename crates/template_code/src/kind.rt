@@ -1,0 +1,11 @@
+// The kinds of a slot of the stack.
+
+/// What a slot of the stack holds.
+#[derive(Clone, Copy, Debug, PartialEq, Eq)]
+pub enum Kind {
+    /// A value of the request's data.
+    Data,
+    Text,
+    Number,
+    Truth,
+}

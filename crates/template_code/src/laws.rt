@@ -1,0 +1,37 @@
+// Laws over the definitions, for all code and all runs: functions that do nothing, whose contracts are the laws.
+ghost use Rattle.template_code.specs.Laws.{EachIsJudged, NoneIsBoth, FaultIsOne, EachIsFormed, NoneIsBothFormed, FaultOfForm, RunsEndAlike, StepsAddUp, EffectsAreRuled, EffectsAreKinded, CostsRun, BoundsRun, CostsEnd};
+
+/// One verdict on code: a fault, which is the only one, or that it is accepted; and so for the rules without V13.
+pub fn law_one_verdict()
+    ensures judged { EachIsJudged }
+    ensures never_both { NoneIsBoth }
+    ensures one_fault { FaultIsOne }
+
+    // V13 aside
+    ensures formed { EachIsFormed }
+    ensures never_both_formed { NoneIsBothFormed }
+    ensures fault_of_form { FaultOfForm }
+{}
+
+/// A run is determined by the state that it begins in.
+pub fn law_determined()
+    ensures { RunsEndAlike }
+{}
+
+/// Two stretches of a run are one, whose steps are the sum.
+pub fn law_steps_add_up()
+    ensures { StepsAddUp }
+{}
+
+/// What the rules ask of an instruction is what the machine needs.
+pub fn law_rules_fit_machine()
+    ensures ruled { EffectsAreRuled }
+    ensures kinded { EffectsAreKinded }
+{}
+
+/// The budget is what one pass over the instructions adds up.
+pub fn law_running_budget()
+    ensures costs { CostsRun }
+    ensures bounds { BoundsRun }
+    ensures end { CostsEnd }
+{}
