@@ -1,5 +1,5 @@
 -- What holds of all code and of all its runs.
-use Rattle.std.specs.Prelude.{◌≡◌, ℕ, suc, ◌+◌, not, ◌&&◌, ◌⊎◌, List, ◌++◌, map, length, drop, Some, is_some, slice_get}
+use Rattle.std.specs.Prelude.{◌≡◌, ℕ, suc, ◌+◌, ◌≤◌, not, ◌&&◌, ◌⊎◌, List, ◌++◌, map, length, drop, Some, is_some, slice_get}
 use Rattle.data_tree.specs.Tree.{Tree}
 use Rattle.template_code.specs.Code.{StackCode}
 use Rattle.template_code.specs.Instructions.{names_entries, pops, pushes}
@@ -33,6 +33,10 @@ EachIsFormed = (code : StackCode) → IsBroken code ⊎ IsWellFormed code
 
 abbrev pub NoneIsBothFormed : Type 0
 NoneIsBothFormed = (code : StackCode) → IsBroken code → IsWellFormed code → ⊥
+
+-- well-formed code has 1 to 4,096 instructions
+abbrev pub FormedIsLimited : Type 0
+FormedIsLimited = (code : StackCode) → IsWellFormed code → (1 ≤ length code.instrs) × (length code.instrs ≤ 4096)
 
 -- the only fault of well-formed code is V13
 abbrev pub FaultOfForm : Type 0

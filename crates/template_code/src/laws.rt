@@ -1,5 +1,5 @@
 // Laws over the definitions, for all code and all runs: functions that do nothing, whose contracts are the laws.
-ghost use Rattle.template_code.specs.Laws.{EachIsJudged, NoneIsBoth, FaultIsOne, EachIsFormed, NoneIsBothFormed, FaultOfForm, RunsEndAlike, StepsAddUp, EffectsAreRuled, EffectsAreKinded, CostsRun, BoundsRun, CostsEnd};
+ghost use Rattle.template_code.specs.Laws.{EachIsJudged, NoneIsBoth, FaultIsOne, EachIsFormed, NoneIsBothFormed, FormedIsLimited, FaultOfForm, RunsEndAlike, StepsAddUp, EffectsAreRuled, EffectsAreKinded, CostsRun, BoundsRun, CostsEnd};
 
 /// One verdict on code: a fault, which is the only one, or that it is accepted; and so for the rules without V13.
 pub fn law_one_verdict()
@@ -10,6 +10,7 @@ pub fn law_one_verdict()
     // V13 aside
     ensures formed { EachIsFormed }
     ensures never_both_formed { NoneIsBothFormed }
+    ensures limited { FormedIsLimited }
     ensures fault_of_form { FaultOfForm }
 {}
 
