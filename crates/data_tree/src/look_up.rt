@@ -26,16 +26,16 @@ impl Data {
     }
 }
 
-fn after<'v>(data: &'v Data, step: &Step) -> Option<&'v Data>
-    ensures { option_map_or (λ found. view found.now) result nothing ≡ after step.now (view data.now) }
+fn after<'v>(value: &'v Data, step: &Step) -> Option<&'v Data>
+    ensures { option_map_or (λ found. view found.now) result nothing ≡ after step.now (view value.now) }
 {
     match step {
-        Step::Name(name) => match data {
+        Step::Name(name) => match value {
             Data::Fields(fields) => under(fields.as_slice(), name.as_str()),
             Data::Named { fields, .. } => under(fields.as_slice(), name.as_str()),
             _ => None,
         },
-        Step::Index(index) => match data {
+        Step::Index(index) => match value {
             Data::List(items) => element(items.as_slice(), *index as usize),
             Data::Named { items, .. } => element(items.as_slice(), *index as usize),
             Data::Fields(fields) => under(fields.as_slice(), Buffer::new().format(*index)),

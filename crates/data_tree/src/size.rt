@@ -19,10 +19,10 @@ impl Data {
 }
 
 #[cycle(json_len)]
-fn json_len(data: &Data) -> u64
-    ensures { result ≡ capped (length (json (view data.now))) }
+fn json_len(value: &Data) -> u64
+    ensures { result ≡ capped (length (json (view value.now))) }
 {
-    match data {
+    match value {
         Data::Nothing => 4,
         Data::Truth(truth) => if *truth { 4 } else { 5 },
         Data::Number(number) => Buffer::new().format(*number).len() as u64,

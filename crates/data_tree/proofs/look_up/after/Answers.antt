@@ -6,6 +6,6 @@ pub returns-in-List : goal.returns-in-List
 returns-in-List c =
     rw (c.in-Index.is, c.in-List.is, view-List c.in-List.items) (nth_of_element c.element.result c.in-List.items.items c.in-Index.index (c.element.ensures ∙ rw c.as_slice-in-List.ensures.value))
 
-pub returns-in-Named-data : goal.returns-in-Named-data
-returns-in-Named-data c =
-    rw (c.in-Index.is, c.in-Named-data.is, view-Named c.in-Named-data.text c.in-Named-data.items c.in-Named-data.fields) (nth_of_element c.element-in-Named-data.result c.in-Named-data.items.items c.in-Index.index (c.element-in-Named-data.ensures ∙ rw c.as_slice-in-Named-data.ensures.value))
+pub returns-in-Named-value : goal.returns-in-Named-value
+returns-in-Named-value c =
+    rw (c.in-Index.is, c.in-Named-value.is, view-Named c.in-Named-value.text c.in-Named-value.items c.in-Named-value.fields) (nth_of_element c.element-in-Named-value.result c.in-Named-value.items.items c.in-Index.index (c.element-in-Named-value.ensures ∙ rw c.as_slice-in-Named-value.ensures.value))

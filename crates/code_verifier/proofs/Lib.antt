@@ -1,0 +1,4 @@
+pub mod ToldFacts
+pub mod SumFacts
+pub mod JudgeFacts
+pub mod PassFacts

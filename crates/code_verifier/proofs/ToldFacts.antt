@@ -1,0 +1,17 @@
+-- Budgets as they are told: the same values, and sums that keep the form.
+use Rattle.std.proofs.Common.{◌≡◌, ℕ, ◌+◌, [], ◌∷◌, refl, ap, arith}
+use Rattle.template_code.specs.Bounds.{Bound, plus, value, fits, told}
+
+pub value-told : (ps : Bound) (n : ℕ) → value (told ps) n ≡ value ps n
+value-told [] n = grind arith
+value-told (p ∷ ps) n = refl
+
+pub plus-told : (ps qs : Bound) → plus (told ps) qs ≡ told (plus ps qs)
+plus-told [] [] = refl
+plus-told [] (q ∷ qs) = let e : 0 + q ≡ q = omega arith in ap (λ x. x ∷ qs) e
+plus-told (p ∷ ps) [] = refl
+plus-told (p ∷ ps) (q ∷ qs) = refl
+
+pub fits-told : (ps : Bound) → fits (told ps) ≡ fits ps
+fits-told [] = refl
+fits-told (p ∷ ps) = refl

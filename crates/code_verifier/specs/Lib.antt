@@ -1,0 +1,4 @@
+pub mod Pass
+pub mod Slots
+pub mod Finding
+pub mod Verdict

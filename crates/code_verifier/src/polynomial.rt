@@ -1,0 +1,153 @@
+// Polynomials with coefficients of 64 bits.
+ghost use Rattle.std.specs.Prelude.{◌≡◌, ◌+◌, ◌-◌, ◌*◌, ◌≤◌, ◌^◌, ◌↔◌, cond, nat_le, [], ◌∷◌, Some, None, slice_index, IfOk, IfSome, IsNone};
+ghost use Rattle.std.specs.Option.{option_map};
+ghost use Rattle.template_code.specs.Bounds.{constant, all_data, plus, fits, value};
+ghost use Rattle.code_verifier.specs.Pass.{within};
+
+use std::alloc::{AllocError, Global};
+use std::marker::Model;
+
+/// The largest coefficient of a bound or a budget.
+const LIMIT: u64 = 9_223_372_036_854_775_807;
+
+/// A polynomial in the size of a request's data, seen as the list of its coefficients, the constant first.
+#[derive(Debug, Drop)]
+pub struct Polynomial {
+    coefficients: Vec<u64>,
+}
+
+impl Model for Polynomial {
+    ghost use Rattle.std.specs.Prelude.{List, ℕ};
+
+    ghost Value = { List ℕ };
+
+    ghost view = { λ p. p.coefficients.items };
+}
+
+impl Polynomial {
+    /// The polynomial without a coefficient.
+    pub fn nothing(alloc: Global) -> Polynomial
+        ensures { result ≡ [] }
+    {
+        Polynomial {
+            coefficients: Vec::new(alloc),
+        }
+    }
+
+    /// The polynomial without a coefficient, as it is told: `[0]`.
+    pub fn zero(alloc: Global) -> Result<Polynomial, AllocError>
+        ensures { IfOk result (λ p. p ≡ 0 ∷ []) }
+    {
+        Ok(Polynomial {
+            coefficients: vec![in alloc; 0]?,
+        })
+    }
+
+    /// A number that doesn't depend on the size.
+    pub fn constant(alloc: Global, number: u64) -> Result<Polynomial, AllocError>
+        ensures { IfOk result (λ p. p ≡ constant number) }
+    {
+        let mut coefficients = Vec::new(alloc);
+        if number > 0 {
+            coefficients.push(number)?;
+        }
+        Ok(Polynomial { coefficients })
+    }
+
+    /// The size itself.
+    pub fn all_data(alloc: Global) -> Result<Polynomial, AllocError>
+        ensures { IfOk result (λ p. p ≡ all_data) }
+    {
+        Ok(Polynomial {
+            coefficients: vec![in alloc; 0, 1]?,
+        })
+    }
+
+    /// The coefficients, the constant first.
+    pub fn coefficients(&self) -> &[u64]
+        ensures { result.now ≡ self.now }
+    {
+        self.coefficients.as_slice()
+    }
+
+    /// Whether no coefficient is over the limit.
+    pub fn fits(&self) -> bool
+        ensures { result ≡ fits self.now }
+    {
+        self.coefficients
+            .iter()
+            .all(|coefficient| *coefficient <= LIMIT)
+    }
+
+    /// The sum, where no coefficient of it is over the limit.
+    pub fn plus(&self, alloc: Global, other: &Polynomial) -> Result<Option<Polynomial>, AllocError>
+        ensures { IfOk result (λ sum. sum ≡ within (plus self.now other.now)) }
+    {
+        let coefficients = sum(
+            alloc,
+            self.coefficients.as_slice(),
+            other.coefficients.as_slice(),
+        )?;
+        Ok(coefficients.map(|coefficients| Polynomial { coefficients }))
+    }
+
+    /// The value, where 128 bits hold it.
+    pub fn value_at(&self, size: u64) -> Option<u128>
+        ensures value { IfSome result (λ at. at ≡ value self.now size) }
+        ensures none { IsNone result ↔ (2 ^ 128 ≤ value self.now size) }
+    {
+        value_of(self.coefficients.as_slice(), size)
+    }
+}
+
+// The sum, coefficient by coefficient, where none is over the limit.
+fn sum(alloc: Global, left: &[u64], right: &[u64]) -> Result<Option<Vec<u64>>, AllocError>
+    ensures { IfOk result (λ sum. option_map (λ v. v.items) sum ≡ within (plus left.now right.now)) }
+{
+    let mut sum = Vec::new(alloc);
+    for place in 0..left.len().max(right.len()) {
+        match limited_sum(coefficient(left, place), coefficient(right, place)) {
+            Some(both) => sum.push(both)?,
+            None => return Ok(None),
+        }
+    }
+    Ok(Some(sum))
+}
+
+// The sum of two coefficients, where it isn't over the limit.
+fn limited_sum(left: u64, right: u64) -> Option<u64>
+    ensures { result ≡ cond (nat_le (left + right) (2 ^ 63 - 1)) (Some (left + right)) None }
+{
+    match left.checked_add(right) {
+        Some(both) if both <= LIMIT => Some(both),
+        _ => None,
+    }
+}
+
+// The coefficient at a place, which is 0 behind the last one.
+fn coefficient(coefficients: &[u64], place: usize) -> u64
+    ensures { result ≡ slice_index coefficients.now place }
+{
+    coefficients.get(place).copied().unwrap_or(0)
+}
+
+// By Horner's rule, from the last coefficient on.
+fn value_of(coefficients: &[u64], size: u64) -> Option<u128>
+    ensures value { IfSome result (λ at. at ≡ value coefficients.now size) }
+    ensures none { IsNone result ↔ (2 ^ 128 ≤ value coefficients.now size) }
+{
+    match coefficients.split_first() {
+        None => Some(0),
+        Some((constant, others)) => next_value(*constant, value_of(others, size)?, size),
+    }
+}
+
+// The value with one more coefficient before the others.
+fn next_value(constant: u64, others: u128, size: u64) -> Option<u128>
+    ensures value { IfSome result (λ at. at ≡ constant + size * others) }
+    ensures none { IsNone result ↔ (2 ^ 128 ≤ constant + size * others) }
+{
+    u128::from(size)
+        .checked_mul(others)?
+        .checked_add(u128::from(constant))
+}

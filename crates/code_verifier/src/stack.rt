@@ -1,0 +1,79 @@
+// The stack at a place, as far as the code tells it.
+ghost use Rattle.std.specs.Prelude.{◌≡◌, List, [], ◌∷◌, length, drop, map, IfSome, OnOk, MatchOption};
+ghost use Rattle.template_code.specs.Budget.{top};
+ghost use Rattle.code_verifier.specs.Slots.{bounds_of};
+ghost use Rattle.code_verifier.specs.declared.stack.Slot.{Slot};
+
+use crate::polynomial::Polynomial;
+use std::alloc::{AllocError, Global};
+use std::marker::Model;
+use template_code::kind::Kind;
+
+/// What is known of a slot: its kind, and how long the text is that it prints as, at most.
+#[derive(Drop)]
+pub struct Slot {
+    pub kind: Kind,
+    pub bound: Polynomial,
+}
+
+/// The slots, seen with the top first.
+#[derive(Drop)]
+pub struct Stack {
+    slots: Vec<Slot>,
+}
+
+impl Model for Stack {
+    ghost use Rattle.std.specs.Prelude.{List, reverse};
+    ghost use Rattle.code_verifier.specs.declared.stack.Slot.{Slot};
+
+    ghost Value = { List Slot };
+
+    ghost view = { λ s. reverse s.slots.items };
+}
+
+impl Stack {
+    /// No slot.
+    pub fn new(alloc: Global) -> Stack
+        ensures { result ≡ [] }
+    {
+        Stack {
+            slots: Vec::new(alloc),
+        }
+    }
+
+    /// How many slots there are.
+    pub fn depth(&self) -> usize
+        ensures { result ≡ length self.now }
+    {
+        self.slots.len()
+    }
+
+    /// The slot at the top.
+    pub fn top(&self) -> Option<&Slot>
+        ensures { MatchOption result (self.now ≡ []) (λ slot. (below : List Slot) × (self.now ≡ slot.now ∷ below)) }
+    {
+        self.slots.last()
+    }
+
+    /// One more slot.
+    pub fn push(&mut self, kind: Kind, bound: Polynomial) -> Result<(), AllocError>
+        ensures { OnOk result (self.new ≡ record { kind = kind; bound = bound } ∷ self.old) }
+    {
+        self.slots.push(Slot { kind, bound })?;
+        Ok(())
+    }
+
+    /// Takes the slot at the top.
+    pub fn pop(&mut self) -> Option<Slot>
+        ensures { MatchOption result ((self.old ≡ []) × (self.new ≡ [])) (λ slot. self.old ≡ slot ∷ self.new) }
+    {
+        self.slots.pop()
+    }
+
+    /// Takes every slot.
+    pub fn clear(&mut self)
+        ensures { self.new ≡ [] }
+    {
+        self.slots.clear();
+    }
+}

@@ -1,0 +1,55 @@
+// Code that may run.
+ghost use Rattle.std.specs.Prelude.{◌≡◌};
+ghost use Rattle.template_code.specs.Budget.{budget};
+ghost use Rattle.template_code.specs.WellFormed.{IsWellFormed, IsWithinLimits};
+ghost use Rattle.template_code.specs.Bounds.{told};
+ghost use Rattle.code_verifier.specs.Verdict.{IsVerified};
+
+use crate::budget::Budget;
+use std::marker::Model;
+use template_code::code::Code;
+
+/// Code that is well formed and within its limits, with its budget. Nothing else makes one than `verify`.
+#[derive(Debug, Drop)]
+pub struct Verified {
+    code: Code,
+    budget: Budget,
+}
+
+impl Model for Verified {
+    ghost use Rattle.template_code.specs.Code.{StackCode};
+    ghost use Rattle.code_verifier.specs.Verdict.{IsVerified};
+
+    ghost Value = { StackCode };
+
+    ghost view = { λ v. v.code };
+
+    ghost invariant = { λ v. IsVerified v.code v.budget };
+}
+
+impl Verified {
+    // With the budget that the pass found.
+    pub(crate) fn new(code: Code, budget: Budget) -> Verified
+        requires { IsVerified code budget }
+        ensures { result ≡ code }
+    {
+        Verified { code, budget }
+    }
+
+    /// The code that was given.
+    pub fn code(&self) -> &Code
+        ensures code { result.now ≡ self.now }
+        ensures well_formed { IsWellFormed self.now }
+        ensures within_limits { IsWithinLimits self.now }
+    {
+        &self.code
+    }
+
+    /// The budget of the code.
+    pub fn budget(&self) -> &Budget
+        ensures steps { result.now.steps ≡ told (budget self.now).steps }
+        ensures bytes { result.now.bytes ≡ told (budget self.now).bytes }
+    {
+        &self.budget
+    }
+}

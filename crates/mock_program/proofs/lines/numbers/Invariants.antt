@@ -1,0 +1,8 @@
+use Rattle.std.proofs.Common.{◌≡◌, ◌++◌, [], ◌∷◌, string_bytes, drop, codes, decimal}
+use Rattle.std.specs.Prelude.{flat_map}
+use Rattle.mock_program.specs.Lines.{next_number}
+use Rattle.mock_program.proofs.lines.numbers.Given as goal
+
+-- so far, and what is left, give the whole
+abbrev pub invariant-loop-number : goal.invariant-loop-number
+invariant-loop-number l = string_bytes l.text ++ flat_map next_number (drop l.number-index l.rest) ≡ string_bytes l.initial.text ++ flat_map next_number l.rest

@@ -1,0 +1,3 @@
+pub mod TargetLemmas
+pub mod UrlLemmas
+pub mod TreeLemmas

@@ -1,0 +1,74 @@
+-- What follows from the definition of a URL's parts.
+use Rattle.std.proofs.Common.{◌≡◌, ℕ, ◌+◌, ◌<◌, Bool, true, false, not, ◌||◌, cond, if◌then◌else◌, ◌++◌, List, [], ◌∷◌, ◌≢◌, map, Bor, unwrap_or, MatchOption, length, get_or, Option, None, Some, All, eqb, sym, refl, ap, ◌∙◌, arith}
+use Rattle.std.proofs.lemmas.Bool.{eqb-true, false≢true}
+use Rattle.std.proofs.lemmas.Bool.Decides.{nat_tests}
+use Rattle.std.proofs.lemmas.List.{get_or_default, nil_from_length, take_all}
+use Rattle.std.proofs.lemmas.List.Folds.{list_any_none}
+use Rattle.std.proofs.lemmas.Str.Pattern.{NoCharPasses-char}
+use Rattle.std.proofs.lemmas.List.Sums.{passes_at_first, split_at_first}
+use Rattle.std.proofs.lemmas.List.Splits.{join_with_byte-slice_split}
+use Rattle.std.specs.List.{list_any, position_or_len, after_first, join_with_byte}
+use Rattle.std.specs.Str.{NoCharPasses}
+use Rattle.mock_request.specs.Url.{is_question_mark, path_of, query_of, segments_of}
+use Rattle.mock_request.specs.Target.{slash, question_mark, IsRooted}
+use Rattle.mock_request.specs.RequestTree.{texts}
+use Rattle.data_tree.specs.Tree.{text, item, items_of}
+
+-- a URL without a question mark has no query
+pub query_of_none : (url : List ℕ) → NoCharPasses (λ d. eqb d 63) url → query_of url ≡ None
+query_of_none url none = rw (list_any_none is_question_mark url all_other) refl
+  where
+    all_other : All (λ b. is_question_mark b ≡ false) url
+    all_other k d here =
+        let same = get_or_default url k d 0 here in
+        let other = NoCharPasses-char 63 url k none (omega arith) here in
+        grind (arith, nat_tests)
+
+-- the pieces that a loop went over, as items
+pub texts_from_pieces : (pieces : List (Bor (List ℕ))) → items_of (map (λ (piece : Bor (List ℕ)). text piece.now) pieces) ≡ texts (map (λ (piece : Bor (List ℕ)). piece.now) pieces)
+texts_from_pieces [] = refl
+texts_from_pieces (piece ∷ pieces) = ap (item (text piece.now)) (texts_from_pieces pieces)
+
+-- a path with nothing behind its leading slash
+pub no_segments : (path : List ℕ) (r : Option (Bor (List ℕ))) (none rest : Bor (List ℕ)) → IsRooted path → MatchOption r ((behind : List ℕ) → path ≢ 47 ∷ behind) (λ x. path ≡ 47 ∷ x.now) → rest ≡ unwrap_or r none → true ≡ eqb (length rest.now) 0 → segments_of path ≡ []
+no_segments [] None none rest rooted cut e empty = absurd rooted
+no_segments (b ∷ bs) None none rest rooted cut e empty = absurd (cut bs (ap (λ d. d ∷ bs) rooted))
+no_segments path (Some x) none rest rooted cut e empty =
+    let nil : x.now ≡ [] = nil_from_length x.now (ap (λ (y : Bor (List ℕ)). length y.now) (sym e) ∙ eqb-true _ _ (sym empty)) in
+    rw (cut, nil) refl
+
+-- ---- what the parts make together
+
+any_below : (p : ℕ → Bool) (xs : List ℕ) → list_any p xs ≡ true → position_or_len p xs < length xs
+any_below p [] any = absurd (false≢true any)
+any_below p (x ∷ xs) any =
+    (elim (p x) as (λ b. (b || list_any p xs) ≡ true → cond (not b) (1 + position_or_len p xs) 0 < length (x ∷ xs)) [
+      | true ↦ λ _. omega arith
+      | false ↦ λ later. omega (arith, any_below p xs later)
+    ]) any
+
+none_below : (p : ℕ → Bool) (xs : List ℕ) → list_any p xs ≡ false → position_or_len p xs ≡ length xs
+none_below p [] none = refl
+none_below p (x ∷ xs) none =
+    (elim (p x) as (λ b. (b || list_any p xs) ≡ false → cond (not b) (1 + position_or_len p xs) 0 ≡ length (x ∷ xs)) [
+      | true ↦ λ here. absurd (false≢true (sym here))
+      | false ↦ λ later. omega (arith, none_below p xs later)
+    ]) none
+
+-- a URL is its path, or its path, a question mark and its query
+pub joined_parts : (url : List ℕ) → MatchOption (query_of url) (url ≡ path_of url) (λ query. url ≡ path_of url ++ question_mark ∷ query)
+joined_parts url = by (list_any is_question_mark url) refl
+  where
+    by : (b : Bool) → list_any is_question_mark url ≡ b → MatchOption (if b then Some (after_first is_question_mark url) else None) (url ≡ path_of url) (λ query. url ≡ path_of url ++ question_mark ∷ query)
+    by true any =
+        let below = any_below is_question_mark url any in
+        let mark : get_or url (position_or_len is_question_mark url) 0 ≡ question_mark = eqb-true _ _ (passes_at_first is_question_mark url 0 below) in
+        split_at_first is_question_mark url 0 below ∙ ap (λ m. path_of url ++ m ∷ after_first is_question_mark url) mark
+    by false none = sym (take_all (position_or_len is_question_mark url) url (omega (arith, none_below is_question_mark url none)))
+
+-- a path is a slash, and its segments with a slash between two
+pub joined_segments : (path : List ℕ) → IsRooted path → path ≡ slash ∷ join_with_byte slash (segments_of path)
+joined_segments [] rooted = absurd rooted
+joined_segments (b ∷ []) rooted = ap (λ d. d ∷ []) rooted
+joined_segments (b ∷ c ∷ cs) rooted =
+    ap (λ d. d ∷ c ∷ cs) rooted ∙ ap (λ behind. slash ∷ behind) (sym (join_with_byte-slice_split slash (c ∷ cs)))

@@ -1,0 +1,6 @@
+pub mod Target
+pub mod Url
+pub mod Request
+pub mod SnapshotError
+pub mod RequestTree
+pub mod WellFormed

@@ -1,0 +1,7 @@
+pub mod Stands
+pub mod Runs
+pub mod Covers
+pub mod Unbroken
+pub mod Limits
+pub mod Spelled
+mod Examples

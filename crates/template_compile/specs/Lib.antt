@@ -1,0 +1,4 @@
+pub mod Meaning
+pub mod Length
+pub mod Compiled
+pub mod Errors

@@ -1,0 +1,11 @@
+// The compiler: from a template's tree to stack code. It stands on `template_tree` and `template_code`. Its
+// contract cites `specs/Meaning.antt` (what a template means, which knows nothing of code) and `Length`
+// (how many instructions its code has).
+#![tactic(auto)]
+
+pub mod compiler;
+mod draft;
+pub mod error;
+mod length;
+#[cfg(test)]
+mod tests;

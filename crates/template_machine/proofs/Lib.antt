@@ -1,0 +1,6 @@
+pub mod Progress
+pub mod Reached
+pub mod Safety
+pub mod Running
+pub mod Pieces
+pub mod Refusals

@@ -1,0 +1,4 @@
+pub mod Safe
+pub mod Slots
+pub mod Program
+pub mod Errors

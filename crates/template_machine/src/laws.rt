@@ -1,0 +1,7 @@
+// What holds of all code that may run.
+ghost use Rattle.template_machine.specs.Safe.{EachIsSafe};
+
+/// Well-formed code comes to its end over every root, meets no trap, and keeps to its budget.
+pub fn law_safe()
+    ensures { EachIsSafe }
+{}

@@ -1,0 +1,94 @@
+// Programs: templates that are compiled and verified, ready to be rendered.
+ghost use Rattle.std.specs.Prelude.{◌≡◌, ◌≤◌, ℕ, length, string_bytes, IfOk, IfErr, OnOk, IsErrOf};
+ghost use Rattle.data_tree.specs.Json.{size};
+ghost use Rattle.data_tree.specs.RequestData.{root_of};
+ghost use Rattle.template_code.specs.Bounds.{value, told};
+ghost use Rattle.template_code.specs.Budget.{budget};
+ghost use Rattle.template_code.specs.Machine.{Runs};
+ghost use Rattle.template_code.specs.declared.rule.Rule.{Rule};
+ghost use Rattle.template_machine.specs.Errors.{IsTold};
+ghost use Rattle.template_machine.specs.Program.{IsProgramText, IsMeant};
+ghost use Rattle.template_machine.specs.Safe.{IsSafe};
+ghost use Rattle.template_machine.specs.declared.error.ProgramError.TheVariants.{CodeRefused, OutOfMemory};
+
+use crate::error::ProgramError;
+use crate::run::{Rendered, run};
+use code_verifier::budget::Budget;
+use code_verifier::verified::Verified;
+use code_verifier::verify::verify;
+use data_tree::request_data::RequestData;
+use std::alloc::{AllocError, Global};
+use std::marker::Model;
+use template_compile::compiler::compile;
+use template_tree::parser::parse;
+
+/// A template's text and its verified code. Contracts see both, and only `from_text` makes one.
+#[derive(Debug, Drop)]
+pub struct Program {
+    source: String,
+    verified: Verified,
+}
+
+impl Model for Program {
+    ghost use Rattle.std.specs.Prelude.{string_bytes};
+    ghost use Rattle.template_machine.specs.Program.{ProgramParts, IsProgram};
+
+    ghost Value = { ProgramParts };
+
+    ghost view = { λ p. record { source = string_bytes p.source; code = p.verified } };
+
+    ghost invariant = { λ p. IsProgram (record { source = string_bytes p.source; code = p.verified }) };
+}
+
+impl Program {
+    /// The program of a template's text, where the text is one.
+    ///
+    /// Work and memory grow with the text's length.
+    pub fn from_text(alloc: Global, text: &str) -> Result<Program, ProgramError>
+        ensures source { IfOk result (λ program. program.source ≡ text.now) }
+        ensures ok { OnOk result (IsProgramText text.now) }
+        ensures exactly { IsProgramText text.now → IfErr result (λ error. error ≡ OutOfMemory) }
+        ensures told { IfErr result (λ error. IsTold text.now error) }
+        ensures never_refused { (place : ℕ) (rule : Rule) → IsErrOf result (CodeRefused place rule) → ⊥ }
+    {
+        let template = parse(alloc, text)?;
+        let code = compile(alloc, &template)?;
+        let verified = verify(alloc, code)?;
+        let source = String::from_str(alloc, text)?;
+        Ok(Program { source, verified })
+    }
+
+    /// The text.
+    pub fn source(&self) -> &str
+        ensures { result.now ≡ self.now.source }
+    {
+        self.source.as_str()
+    }
+
+    /// How many steps a rendering takes and how many bytes it writes, at most.
+    pub fn budget(&self) -> &Budget
+        ensures steps { result.now.steps ≡ told (budget self.now.code).steps }
+        ensures bytes { result.now.bytes ≡ told (budget self.now.code).bytes }
+    {
+        self.verified.budget()
+    }
+}
+
+/// The text that a program's source means over a request's data, and the steps of its run.
+pub fn render(
+    alloc: Global,
+    program: &Program,
+    request: &RequestData,
+) -> Result<Rendered, AllocError>
+    ensures safe { IsSafe program.now.code }
+    ensures meant { IfOk result
+        (λ rendered. IsMeant program.now.source (root_of request.now) rendered.steps (string_bytes rendered.text)) }
+    ensures run { IfOk result
+        (λ rendered. Runs program.now.code (root_of request.now) rendered.steps (string_bytes rendered.text)) }
+    ensures steps { IfOk result
+        (λ rendered. rendered.steps ≤ value (budget program.now.code).steps (size (root_of request.now))) }
+    ensures bytes { IfOk result
+        (λ rendered. length (string_bytes rendered.text) ≤ value (budget program.now.code).bytes (size (root_of request.now))) }
+{
+    run(alloc, &program.verified, request)
+}

@@ -1,0 +1,15 @@
+use Rattle.std.proofs.Common.{◌≤◌, length}
+use denote.Text.{Utf8}
+use denote.Shadow.{shadow}
+use Rattle.template_tree.proofs.Rows.{Read}
+use Rattle.template_tree.proofs.parser.read_nodes.Given as goal
+
+abbrev pub invariant-loop-rest : goal.invariant-loop-rest
+invariant-loop-rest l = record {
+  utf8 : shadow (Utf8 l.rest);
+  left : length l.rest ≤ length l.text;
+  read : Read l.text l.nodes.items l.rest;
+}
+
+abbrev pub decreases-loop-rest : goal.decreases-loop-rest
+decreases-loop-rest l = length l.rest

@@ -1,0 +1,13 @@
+pub mod Tree
+pub mod Reading
+pub mod Marks
+pub mod Modes
+pub mod Tags
+pub mod Words
+pub mod Paths
+pub mod Tokens
+pub mod Grammar
+pub mod Errors
+pub mod Views
+pub mod Laws
+pub mod Examples

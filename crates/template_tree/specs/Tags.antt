@@ -1,0 +1,45 @@
+-- A tag of a text: its marks, and what stands between them.
+use Rattle.std.specs.Prelude.{ℕ, suc, ◌&&◌, not, List, [], ◌∷◌, drop, Option, Some, None, option_map, if◌then◌else◌, codes}
+use Rattle.template_tree.specs.declared.mode.Mode.{Mode}
+use Rattle.template_tree.specs.declared.mode.Mode.TheVariants.{Start}
+use Rattle.template_tree.specs.declared.tags.Opening.{Opening}
+use Rattle.template_tree.specs.declared.tags.Opening.TheVariants.{Double, Triple}
+use Rattle.template_tree.specs.Marks.{begins, place_of, around}
+use Rattle.template_tree.specs.Modes.{mode_after, is_literal}
+
+-- the place where the close first stands outside of literals, in what is left of a tag's text
+abbrev pub close_from : List ℕ → Mode → List ℕ → Option ℕ
+close_from close mode [] = None
+close_from close mode (b ∷ bs) =
+    if not (is_literal mode) && begins close (b ∷ bs) then Some 0
+    else option_map suc (close_from close (mode_after mode b) bs)
+
+-- a comment, or what is shown: the bytes between the marks
+pub data Tag : Type 0 where
+  comment : Tag
+  shown : Opening → List ℕ → Tag
+
+abbrev pub comment_tag : Option (List ℕ × List ℕ) → Option (Tag × List ℕ)
+comment_tag None = None
+comment_tag (Some x) = Some (comment, x.1)
+
+abbrev pub shown_tag : Opening → Option (List ℕ × List ℕ) → Option (Tag × List ℕ)
+shown_tag opening None = None
+shown_tag opening (Some x) = Some (shown opening x.0, x.1)
+
+-- a comment's close, which may take the dashes of its opening mark; no literals in a comment
+abbrev pub comment_close : List ℕ → List ℕ
+comment_close body = if begins (codes "--") body then codes "--}}" else codes "}}"
+
+abbrev pub comment_of : List ℕ → Option (Tag × List ℕ)
+comment_of body = comment_tag (around (comment_close body) body (place_of (comment_close body) body))
+
+abbrev pub shown_of : Opening → List ℕ → List ℕ → Option (Tag × List ℕ)
+shown_of opening close body = shown_tag opening (around close body (close_from close Start body))
+
+-- the tag that the text begins with, and what follows it; none where it isn't closed
+unfoldable pub tag_of : List ℕ → Option (Tag × List ℕ)
+tag_of text =
+    if begins (codes "{{!") text then comment_of (drop 3 text)
+    else if begins (codes "{{{") text then shown_of Triple (codes "}}}") (drop 3 text)
+    else shown_of Double (codes "}}") (drop 2 text)

@@ -1,0 +1,38 @@
+// Laws over the definitions that `parse` is proved by, each on a function that does nothing.
+ghost use Rattle.std.specs.Prelude.{◌≡◌, ◌<◌, ◌≤◌, ◌↔◌, ℕ, List, length};
+ghost use Rattle.template_tree.specs.Grammar.{Spells, IsFault};
+ghost use Rattle.template_tree.specs.Laws.{IsFirstMark, IsFirstClose};
+ghost use Rattle.template_tree.specs.Examples.{AreExamples};
+ghost use Rattle.template_tree.specs.Marks.{place_of, around};
+ghost use Rattle.template_tree.specs.Tags.{close_from};
+ghost use Rattle.template_tree.specs.declared.mode.Mode.TheVariants.{Start};
+ghost use Rattle.template_tree.specs.Tree.{Nodes};
+ghost use Rattle.template_tree.specs.declared.error.TemplateError.{TemplateError};
+
+/// A text spells one tree at most.
+pub fn one_tree()
+    ensures { (text : List ℕ) (a b : Nodes) → Spells text a → Spells text b → a ≡ b }
+{}
+
+/// A text has one fault at most, never a fault beside a tree, and, where it has at most 65,536 bytes, it
+/// spells a tree exactly where it has no fault.
+pub fn tree_or_fault()
+    ensures one { (text : List ℕ) (d e : TemplateError) → IsFault text d → IsFault text e → d ≡ e }
+    ensures apart { (text : List ℕ) (tree : Nodes) (e : TemplateError) → Spells text tree → IsFault text e → ⊥ }
+    ensures exactly { (text : List ℕ) → length text ≤ 65536 → ((tree : Nodes) × Spells text tree) ↔ ((e : TemplateError) → IsFault text e → ⊥) }
+{}
+
+/// A mark is found where it first stands in a text.
+pub fn first_mark()
+    ensures { (mark text before after : List ℕ) → 0 < length mark → (around mark text (place_of mark text) ≡ Some (before, after)) ↔ IsFirstMark mark text before after }
+{}
+
+/// The content of a tag is what stands before the first close that is outside of literals.
+pub fn first_close()
+    ensures { (close text content rest : List ℕ) → 0 < length close → (around close text (close_from close Start text) ≡ Some (content, rest)) ↔ IsFirstClose close text content rest }
+{}
+
+/// A dozen texts, each with its tree or its fault.
+pub fn examples()
+    ensures { AreExamples }
+{}

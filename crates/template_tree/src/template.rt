@@ -1,0 +1,45 @@
+// A template as a tree.
+
+use crate::reference::Reference;
+use data_tree::plain_text::PlainText;
+
+/// What a tag shows.
+#[derive(Debug, Drop)]
+pub enum Expression {
+    /// The value that a path leads to.
+    Reference(Reference),
+}
+
+/// A part of a template.
+#[derive(Debug, Drop)]
+pub enum Node {
+    /// Text, which is written as it stands.
+    Piece(PlainText),
+    /// The printed text of a value.
+    Print(Expression),
+}
+
+/// A template: what `parse` reads from a text. Contracts see `tree_of` it.
+#[derive(Debug, Drop)]
+pub struct Template {
+    nodes: Vec<Node>,
+}
+
+impl Template {
+    ghost use Rattle.std.specs.Prelude.{◌≡◌};
+    ghost use Rattle.template_tree.specs.Tree.{tree_of, nodes_view};
+
+    /// Takes the parts over, without copying them.
+    pub(crate) fn new(nodes: Vec<Node>) -> Template
+        ensures { tree_of result ≡ nodes_view nodes.items }
+    {
+        Template { nodes }
+    }
+
+    /// Its parts, in order.
+    pub fn nodes(&self) -> &[Node]
+        ensures { nodes_view result.now ≡ tree_of self.now }
+    {
+        self.nodes.as_slice()
+    }
+}
