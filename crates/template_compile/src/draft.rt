@@ -26,7 +26,6 @@ impl Model for Draft {
 
 impl Draft {
     ghost use Rattle.std.specs.Prelude.{[], ◌∷◌};
-    ghost use Rattle.template_code.specs.declared.instr.Instr.TheVariants.{Show, Print, Halt};
     ghost use Rattle.template_compile.specs.Compiled.{no_code, joined, bare, past, start, emit_code, root_code};
 
     /// No code.

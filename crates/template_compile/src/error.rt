@@ -3,7 +3,7 @@ ghost use Rattle.std.specs.Prelude.{◌≡◌};
 ghost use Rattle.template_compile.specs.declared.error.CompileError.TheVariants.{OutOfMemory};
 
 use data_tree::error_code::ErrorCode;
-use std::alloc::{AllocError, AllocFailed};
+use std::alloc::AllocError;
 
 /// Why there is no code for a template.
 #[derive(Clone, Copy, Debug, PartialEq, Eq)]

@@ -1,5 +1,5 @@
-// What a template's code is, for templates from Handlebars' guide ("Expressions", "Template comments"), and
-// that compiling succeeds.
+// What code a template has, worked out by hand, and that compiling succeeds. The templates are of the kinds in
+// Handlebars' guide ("Expressions", "Template comments").
 
 use crate::compiler::compile;
 use crate::error::CompileError;

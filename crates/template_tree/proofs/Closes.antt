@@ -123,10 +123,10 @@ first_close close text content rest some = (
 )
 
 -- a mark at n is the first
-record Marks (mark s : List ℕ) (n : ℕ) : Type 0 where
-  inside : n < length s
-  here : begins mark (drop n s) ≡ true
-  first : (k : ℕ) → k < n → begins mark (drop k s) ≡ false
+pub record Marks (mark s : List ℕ) (n : ℕ) : Type 0 where
+  pub inside : n < length s
+  pub here : begins mark (drop n s) ≡ true
+  pub first : (k : ℕ) → k < n → begins mark (drop k s) ≡ false
 
 marks_later : (mark : List ℕ) (b : ℕ) (s : List ℕ) (n : ℕ) → begins mark (b ∷ s) ≡ false → Marks mark s n → Marks mark (b ∷ s) (suc n)
 marks_later mark b s n f c = record { inside = omega (arith, c.inside); here = c.here; first = earlier }
@@ -135,7 +135,7 @@ marks_later mark b s n f c = record { inside = omega (arith, c.inside); here = c
     earlier zero lt = f
     earlier (suc k) lt = c.first k (omega arith)
 
-marks : (mark s : List ℕ) → IfSome (place_of mark s) (Marks mark s)
+pub marks : (mark s : List ℕ) → IfSome (place_of mark s) (Marks mark s)
 marks mark [] = tt
 marks mark (b ∷ s) =
     cond_both (begins mark (b ∷ s)) (Some 0) (option_map suc (place_of mark s)) (λ o. IfSome o (Marks mark (b ∷ s)))

@@ -9,3 +9,4 @@ pub mod Unique
 pub mod Outcomes
 pub mod Closes
 pub mod Vectors
+pub mod Pieces

@@ -1,6 +1,7 @@
--- What the definitions of marks and closes mean, told by splits of the text.
-use Rattle.std.specs.Prelude.{◌≡◌, ℕ, ◌<◌, ◌≤◌, true, false, List, ◌++◌, length}
+-- What the definitions of marks, closes and pieces of text mean, told by splits of the text.
+use Rattle.std.specs.Prelude.{◌≡◌, ◌⊎◌, ℕ, ◌<◌, ◌≤◌, true, false, List, [], ◌++◌, length, None, codes}
 use Rattle.template_tree.specs.declared.mode.Mode.TheVariants.{Start}
+use Rattle.template_tree.specs.Marks.{begins, place_of}
 use Rattle.template_tree.specs.Modes.{mode_behind, is_literal}
 
 -- the mark stands between before and after, and nowhere earlier
@@ -13,3 +14,10 @@ pub record IsFirstClose (close text content rest : List ℕ) : Type 0 where
   pub split : text ≡ content ++ (close ++ rest)
   pub outside : is_literal (mode_behind Start content) ≡ false
   pub first : (a b : List ℕ) → text ≡ a ++ (close ++ b) → length a < length content → is_literal (mode_behind Start a) ≡ true
+
+-- a piece of text has no mark in it, and goes up to the next mark or to the end
+pub record IsPiece (text piece rest : List ℕ) : Type 0 where
+  pub split : text ≡ piece ++ rest
+  pub some : 0 < length piece
+  pub unmarked : place_of (codes "{{") piece ≡ None
+  pub until : (rest ≡ []) ⊎ (begins (codes "{{") rest ≡ true)

@@ -1,12 +1,13 @@
 // Laws over the definitions that `parse` is proved by, each on a function that does nothing.
 ghost use Rattle.std.specs.Prelude.{◌≡◌, ◌<◌, ◌≤◌, ◌↔◌, ℕ, List, length};
 ghost use Rattle.template_tree.specs.Grammar.{Spells, IsFault};
-ghost use Rattle.template_tree.specs.Laws.{IsFirstMark, IsFirstClose};
+ghost use Rattle.template_tree.specs.Laws.{IsFirstMark, IsFirstClose, IsPiece};
 ghost use Rattle.template_tree.specs.Examples.{AreExamples};
 ghost use Rattle.template_tree.specs.Marks.{place_of, around};
 ghost use Rattle.template_tree.specs.Tags.{close_from};
 ghost use Rattle.template_tree.specs.declared.mode.Mode.TheVariants.{Start};
-ghost use Rattle.template_tree.specs.Tree.{Nodes};
+ghost use Rattle.template_tree.specs.Tokens.{token, part_token, next_of};
+ghost use Rattle.template_tree.specs.Tree.{Nodes, piece};
 ghost use Rattle.template_tree.specs.declared.error.TemplateError.{TemplateError};
 
 /// A text spells one tree at most.
@@ -30,6 +31,11 @@ pub fn first_mark()
 /// The content of a tag is what stands before the first close that is outside of literals.
 pub fn first_close()
     ensures { (close text content rest : List ℕ) → 0 < length close → (around close text (close_from close Start text) ≡ Some (content, rest)) ↔ IsFirstClose close text content rest }
+{}
+
+/// A piece of text is never split: it goes up to the next mark, or to the end.
+pub fn whole_piece()
+    ensures { (text p rest : List ℕ) → next_of text ≡ token (part_token (piece p)) rest → IsPiece text p rest }
 {}
 
 /// A dozen texts, each with its tree or its fault.
