@@ -2,7 +2,7 @@
 use Rattle.std.proofs.Common.{◌≡◌, ℕ, ◌+◌, ◌<◌, Bool, true, false, not, ◌||◌, cond, if◌then◌else◌, ◌++◌, List, [], ◌∷◌, ◌≢◌, map, Bor, unwrap_or, MatchOption, length, get_or, Option, None, Some, All, eqb, sym, refl, ap, ◌∙◌, arith}
 use Rattle.std.proofs.lemmas.Bool.{eqb-true, false≢true}
 use Rattle.std.proofs.lemmas.Bool.Decides.{nat_tests}
-use Rattle.std.proofs.lemmas.List.{get_or_default, nil_from_length, take_all}
+use Rattle.std.proofs.lemmas.List.{get_or_default, take_all}
 use Rattle.std.proofs.lemmas.List.Folds.{list_any_none}
 use Rattle.std.proofs.lemmas.Str.Pattern.{NoCharPasses-char}
 use Rattle.std.proofs.lemmas.List.Sums.{passes_at_first, split_at_first}
@@ -29,13 +29,11 @@ pub texts_from_pieces : (pieces : List (Bor (List ℕ))) → items_of (map (λ (
 texts_from_pieces [] = refl
 texts_from_pieces (piece ∷ pieces) = ap (item (text piece.now)) (texts_from_pieces pieces)
 
--- a path with nothing behind its leading slash
-pub no_segments : (path : List ℕ) (r : Option (Bor (List ℕ))) (none rest : Bor (List ℕ)) → IsRooted path → MatchOption r ((behind : List ℕ) → path ≢ 47 ∷ behind) (λ x. path ≡ 47 ∷ x.now) → rest ≡ unwrap_or r none → true ≡ eqb (length rest.now) 0 → segments_of path ≡ []
-no_segments [] None none rest rooted cut e empty = absurd rooted
-no_segments (b ∷ bs) None none rest rooted cut e empty = absurd (cut bs (ap (λ d. d ∷ bs) rooted))
-no_segments path (Some x) none rest rooted cut e empty =
-    let nil : x.now ≡ [] = nil_from_length x.now (ap (λ (y : Bor (List ℕ)). length y.now) (sym e) ∙ eqb-true _ _ (sym empty)) in
-    rw (cut, nil) refl
+-- what stands behind a path's leading slash
+pub behind_slash : (path : List ℕ) (r : Option (Bor (List ℕ))) (none : Bor (List ℕ)) → IsRooted path → MatchOption r ((behind : List ℕ) → path ≢ 47 ∷ behind) (λ x. path ≡ 47 ∷ x.now) → path ≡ slash ∷ (unwrap_or r none).now
+behind_slash [] None none rooted cut = absurd rooted
+behind_slash (b ∷ bs) None none rooted cut = absurd (cut bs (ap (λ d. d ∷ bs) rooted))
+behind_slash path (Some x) none rooted cut = cut
 
 -- ---- what the parts make together
 

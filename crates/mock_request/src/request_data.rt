@@ -1,9 +1,9 @@
 // The data that a template sees of a request.
-ghost use Rattle.std.specs.Prelude.{◌≡◌, ◌≤◌, IfOk, OnOk, IfErr, string_bytes};
+ghost use Rattle.std.specs.Prelude.{◌≡◌, ◌≤◌, ◌∷◌, IfOk, OnOk, IfErr, string_bytes};
 ghost use Rattle.data_tree.specs.Tree.{Tree, text, no_members, fields, view, items_view, members_view};
 ghost use Rattle.data_tree.specs.Json.{size};
 ghost use Rattle.data_tree.specs.RequestData.{root_of};
-ghost use Rattle.mock_request.specs.Target.{IsRooted};
+ghost use Rattle.mock_request.specs.Target.{slash, IsRooted};
 ghost use Rattle.std.specs.List.{slice_split};
 ghost use Rattle.mock_request.specs.Url.{segments_of, is_slash};
 ghost use Rattle.mock_request.specs.RequestTree.{texts, path_tree, request_fields, request_tree, IsRefusal};
@@ -53,18 +53,15 @@ fn request(
 ) -> Result<Data, AllocError>
     ensures { IfOk result (λ made. view made ≡ fields (request_fields snapshot.now)) }
 {
+    let path = snapshot.path();
     Ok(Data::Fields(vec![in alloc;
         field(alloc, "method", text(alloc, snapshot.method())?)?,
         field(
             alloc,
             "path",
-            path(alloc, snapshot.path(), bindings(alloc, template))?
+            named(alloc, path, bindings(alloc, template))?
         )?,
-        field(
-            alloc,
-            "pathSegments",
-            path(alloc, snapshot.path(), Vec::new(alloc))?
-        )?,
+        field(alloc, "pathSegments", named(alloc, path, Vec::new(alloc))?)?,
         field(alloc, "url", text(alloc, snapshot.url())?)?,
     ]?))
 }
@@ -91,7 +88,7 @@ fn bindings(alloc: Global, template: Option<&PathTemplate>) -> Vec<(String, Data
     }
 }
 
-fn path(alloc: Global, path: &str, bindings: Vec<(String, Data)>) -> Result<Data, AllocError>
+fn named(alloc: Global, path: &str, bindings: Vec<(String, Data)>) -> Result<Data, AllocError>
     requires { IsRooted path.now }
     ensures { IfOk result (λ made. view made ≡ path_tree path.now (members_view bindings.items)) }
 {
@@ -102,16 +99,23 @@ fn path(alloc: Global, path: &str, bindings: Vec<(String, Data)>) -> Result<Data
     })
 }
 
-// The pieces behind the leading slash; a slash alone has none.
+// The pieces between slashes behind the leading one; a slash alone has none.
 fn segments(alloc: Global, path: &str) -> Result<Vec<Data>, AllocError>
     requires { IsRooted path.now }
     ensures { IfOk result (λ made. items_view made.items ≡ texts (segments_of path.now)) }
 {
-    let behind = path.strip_prefix('/').unwrap_or("");
+    let behind = behind_slash(path);
     if behind.is_empty() {
         return Ok(Vec::new(alloc));
     }
     pieces(alloc, behind)
+}
+
+fn behind_slash(path: &str) -> &str
+    requires { IsRooted path.now }
+    ensures { path.now ≡ slash ∷ result.now }
+{
+    path.strip_prefix('/').unwrap_or("")
 }
 
 fn pieces(alloc: Global, behind: &str) -> Result<Vec<Data>, AllocError>

@@ -1,12 +1,12 @@
 -- The pieces of a template take no more bytes than the text that spells it.
-use Rattle.std.proofs.Common.{◌≡◌, ℕ, zero, suc, ◌+◌, ◌<◌, ◌≤◌, ◌^◌, ◌==◌, Bool, true, false, List, [], ◌∷◌, length, take, drop, Option, Some, None, Result, Ok, Err, refl, sym, ap, ◌∙◌, subst, arith, length-drop, codes, if◌then◌else◌}
+use Rattle.std.proofs.Common.{◌≡◌, ℕ, zero, suc, ◌+◌, ◌<◌, ◌≤◌, ◌^◌, ◌==◌, true, false, List, [], ◌∷◌, length, take, drop, Option, Some, None, Result, Ok, Err, refl, sym, ap, ◌∙◌, subst, arith, length-drop, codes, if◌then◌else◌}
 use Rattle.std.specs.List.{ends_with}
 use Rattle.std.proofs.lemmas.List.{length-take}
 use Rattle.template_tree.specs.declared.fault.Fault.{Fault}
 use Rattle.template_tree.specs.Marks.{place_of}
 use Rattle.template_tree.specs.Tags.{Tag, comment, shown, tag_of}
-use Rattle.template_tree.specs.Tokens.{Token, comment_token, part_token, Next, token, fault, ended, term_of, print_next, closed_next, tag_next, escaped, text_next, last_text_next, next_at, next_of}
-use Rattle.template_tree.specs.Tree.{Term, Part, piece, print, Nodes, no_nodes, node}
+use Rattle.template_tree.specs.Tokens.{Token, comment_token, part_token, Next, token, fault, ended, term_of, print_next, closed_next, tag_next, escaped, text_next, next_at, next_of}
+use Rattle.template_tree.specs.Tree.{Term, piece, print, Nodes, no_nodes, node}
 use Rattle.template_tree.specs.Grammar.{Level, Leads, without_comments, spell, Spells}
 use Rattle.template_tree.proofs.Rows.{token_shorter}
 use Rattle.template_compile.specs.Length.{part_bytes, text_bytes}

@@ -1,13 +1,10 @@
 -- What a text that is a program is never refused for.
-use Rattle.std.proofs.Common.{◌≡◌, ℕ, ◌<◌, ◌≤◌, ◌^◌, List, [], length, Err, refl, sym, ap, ◌∙◌, subst, arith, MatchResult}
+use Rattle.std.proofs.Common.{◌≡◌, ℕ, List, refl, sym, ap, ◌∙◌}
 use Rattle.data_tree.specs.Tree.{Tree}
 use Rattle.data_tree.specs.LookUp.{HasNoEmptyName}
-use Rattle.template_tree.specs.Tree.{Nodes}
-use Rattle.template_code.specs.Code.{StackCode}
 use Rattle.template_code.specs.Machine.{first, Runs}
 use Rattle.template_code.proofs.RunFacts.{ends_alike}
 use Rattle.template_compile.specs.Length.{code_length}
-use Rattle.template_compile.specs.Meaning.{template_text}
 use Rattle.template_compile.specs.declared.error.CompileError.{CompileError}
 use Rattle.template_compile.specs.declared.error.CompileError.TheVariants as compile
 use Rattle.template_machine.specs.Program.{ProgramParts, IsProgram, IsMeant}

@@ -1,5 +1,5 @@
 -- Which text is a program, what a program keeps, and what rendering it gives.
-use Rattle.std.specs.Prelude.{◌≡◌, ℕ, ◌<◌, ◌≤◌, ◌⊎◌, List, []}
+use Rattle.std.specs.Prelude.{◌≡◌, ℕ, ◌<◌, ◌≤◌, List, []}
 use Rattle.data_tree.specs.Tree.{Tree}
 use Rattle.data_tree.specs.LookUp.{HasNoEmptyName}
 use Rattle.template_tree.specs.Tree.{Nodes}

@@ -1,6 +1,6 @@
 // Templates with what they give, and where others are wrong: examples of the Handlebars guide's kind, whose
 // results an independent program computed, and hand-made code that no compiler makes.
-ghost use Rattle.std.specs.Prelude.{IfOk};
+ghost use Rattle.std.specs.Prelude.{◌<◌, length, IfOk};
 ghost use Rattle.data_tree.specs.Tree.{view};
 ghost use Rattle.data_tree.specs.LookUp.{HasNoEmptyName};
 
@@ -16,6 +16,7 @@ use data_tree::plain_text::PlainText;
 use data_tree::request_data::RequestData;
 use data_tree::step::{Path, Step};
 use std::alloc::{AllocError, Global};
+use std::process::Abort;
 use std::test::Fail;
 use template_code::code::Code;
 use template_code::instr::Instr;
@@ -89,56 +90,77 @@ fn rendered(
     }
 }
 
+// The template gives that text, in so many steps, and its budget is those steps and these bytes.
+fn gives(
+    rt: &impl Abort,
+    alloc: Global,
+    source: &str,
+    want: &str,
+    steps: u64,
+    bytes: [u64; 2],
+) -> Result<(), Fail> {
+    let program = program(alloc, source)?;
+    let rendered = rendered(alloc, &program, &hi_ann(alloc, "GET")?)?;
+    assert_eq!(rt; program.source(), source);
+    assert_eq!(rt;
+        program.budget().steps(),
+        [steps].as_slice(),
+        "budget of {source}"
+    );
+    assert_eq!(rt;
+        program.budget().bytes(),
+        bytes.as_slice(),
+        "budget of {source}"
+    );
+    assert_eq!(rt; rendered.text.as_str(), want, "text of {source}");
+    assert_eq!(rt; rendered.steps, u128::from(steps), "steps of {source}");
+    Ok(())
+}
+
 #[test]
 fn a_template_gives_its_text_within_its_budget(rt: HostRuntime) -> Result<(), Fail> {
     let alloc = rt.alloc();
-    let request = hi_ann(alloc, "GET")?;
-    let rows = [
-        ("Hello {{request.path.[1]}}", "Hello Ann", 5, [6, 1]),
-        (
-            "{{request.method}} {{{request.url}}}",
-            "GET /hi/Ann",
-            8,
-            [1, 2],
-        ),
-        ("x{{!----}}}}{{!x}}{{{..}}}", "x}}", 6, [3, 1]),
-        (
-            "{{{\trequest.pathSegments.[2]\t}}}--}}{{\n request.[url]\n }}{{foo}}",
-            "--}}/hi/Ann",
-            11,
-            [4, 3],
-        ),
-        (
-            "{{!--}}é{{request.path.[9]}}{{!--\n--}}{{!x}}",
-            "é",
-            5,
-            [2, 1],
-        ),
-        (
-            "{{../request.path.[1]}}{{! \"}} {{\n request.pathSegments\n }}",
-            "Ann /hi/Ann",
-            8,
-            [1, 2],
-        ),
-    ];
-    for (source, want, steps, bytes) in rows {
-        let program = program(alloc, source)?;
-        assert_eq!(rt; program.source(), source);
-        assert_eq!(rt;
-            program.budget().steps(),
-            [steps as u64].as_slice(),
-            "steps of {source}"
-        );
-        assert_eq!(rt;
-            program.budget().bytes(),
-            bytes.as_slice(),
-            "bytes of {source}"
-        );
-        let rendered = rendered(alloc, &program, &request)?;
-        assert_eq!(rt; rendered.text.as_str(), want, "text of {source}");
-        assert_eq!(rt; rendered.steps, steps, "run of {source}");
-    }
-    Ok(())
+    gives(
+        &rt,
+        alloc,
+        "Hello {{request.path.[1]}}",
+        "Hello Ann",
+        5,
+        [6, 1],
+    )?;
+    gives(
+        &rt,
+        alloc,
+        "{{request.method}} {{{request.url}}}",
+        "GET /hi/Ann",
+        8,
+        [1, 2],
+    )?;
+    gives(&rt, alloc, "x{{!----}}}}{{!x}}{{{..}}}", "x}}", 6, [3, 1])?;
+    gives(
+        &rt,
+        alloc,
+        "{{{\trequest.pathSegments.[2]\t}}}--}}{{\n request.[url]\n }}{{foo}}",
+        "--}}/hi/Ann",
+        11,
+        [4, 3],
+    )?;
+    gives(
+        &rt,
+        alloc,
+        "{{!--}}é{{request.path.[9]}}{{!--\n--}}{{!x}}",
+        "é",
+        5,
+        [2, 1],
+    )?;
+    gives(
+        &rt,
+        alloc,
+        "{{../request.path.[1]}}{{! \"}} {{\n request.pathSegments\n }}",
+        "Ann /hi/Ann",
+        8,
+        [1, 2],
+    )
 }
 
 #[test]

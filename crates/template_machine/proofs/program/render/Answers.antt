@@ -1,4 +1,4 @@
-use Rattle.std.proofs.Common.{IfOk, string_bytes}
+use Rattle.std.proofs.Common.{string_bytes}
 use Rattle.std.proofs.lemmas.Result.{IfOk-weaker}
 use Rattle.data_tree.specs.RequestData.{root_of}
 use Rattle.template_code.specs.Machine.{Runs}

@@ -1,8 +1,8 @@
-use Rattle.std.proofs.Common.{◌≡◌, ◌<◌, Err, ap, sym, subst, ◌∙◌, arith}
+use Rattle.std.proofs.Common.{Err, ap, arith}
 use Rattle.std.proofs.lemmas.Result.{err_from_is_err_and}
 use Rattle.template_tree.specs.Tree.{tree_of}
 use Rattle.template_compile.specs.Length.{code_length}
-use Rattle.template_machine.specs.Errors.{of_template, of_verify, IsTold}
+use Rattle.template_machine.specs.Errors.{of_template, of_verify}
 use Rattle.template_machine.proofs.Pieces.{pieces_fit}
 use Rattle.template_machine.proofs.Refusals.{compile_error}
 use Rattle.template_machine.proofs.program.Program.from_text.Goals as goal
