@@ -2,5 +2,4 @@ pub mod Progress
 pub mod Reached
 pub mod Safety
 pub mod Running
-pub mod Pieces
 pub mod Refusals

@@ -5,6 +5,7 @@ ghost use Rattle.data_tree.specs.Tree.{view};
 ghost use Rattle.data_tree.specs.LookUp.{HasNoEmptyName};
 
 use crate::error::ProgramError;
+use crate::laws::law_safe;
 use crate::program::{Program, render};
 use crate::run::{Rendered, run};
 use code_verifier::error::VerifyError;
@@ -273,4 +274,9 @@ fn a_text_that_is_no_program_is_refused_with_its_place(rt: HostRuntime) -> Resul
         }
     }
     Ok(())
+}
+
+#[test]
+fn laws_run(_rt: HostRuntime) {
+    law_safe();
 }

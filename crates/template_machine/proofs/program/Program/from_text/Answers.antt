@@ -3,7 +3,6 @@ use Rattle.std.proofs.lemmas.Result.{err_from_is_err_and}
 use Rattle.template_tree.specs.Tree.{tree_of}
 use Rattle.template_compile.specs.Length.{code_length}
 use Rattle.template_machine.specs.Errors.{of_template, of_verify}
-use Rattle.template_machine.proofs.Pieces.{pieces_fit}
 use Rattle.template_machine.proofs.Refusals.{compile_error}
 use Rattle.template_machine.proofs.program.Program.from_text.Goals as goal
 
@@ -21,21 +20,21 @@ returns-in_err-code-clause-exactly c = λ is.
 pub returns-in_err-verified-clause-exactly : goal.returns-in_err-verified-clause-exactly
 returns-in_err-verified-clause-exactly c = λ is.
     let p = err_from_is_err_and c.from_residual-in_err-verified.result c.from_residual-in_err-verified.ensures.1 in
-    let fits = pieces_fit c.args.text.now (tree_of c.in_ok-template.template) c.in_ok-template.ensures.found in
-    rw (p.1, p.2) (ap of_verify (c.in_err-verified.ensures.only c.in_ok-code.ensures.well_formed (c.in_ok-code.ensures.limits fits)))
+    let fits = c.in_ok-code.ensures.spelled c.args.text.now c.in_ok-template.ensures.found in
+    rw (p.1, p.2) (ap of_verify (c.in_err-verified.ensures.only c.in_ok-code.ensures.well_formed fits))
 
 pub returns-in_err-verified-clause-told : goal.returns-in_err-verified-clause-told
 returns-in_err-verified-clause-told c =
     let p = err_from_is_err_and c.from_residual-in_err-verified.result c.from_residual-in_err-verified.ensures.1 in
-    let fits = pieces_fit c.args.text.now (tree_of c.in_ok-template.template) c.in_ok-template.ensures.found in
-    let memory = c.in_err-verified.ensures.only c.in_ok-code.ensures.well_formed (c.in_ok-code.ensures.limits fits) in
+    let fits = c.in_ok-code.ensures.spelled c.args.text.now c.in_ok-template.ensures.found in
+    let memory = c.in_err-verified.ensures.only c.in_ok-code.ensures.well_formed fits in
     rw (p.1, p.2, memory) tt
 
 pub returns-in_err-verified-clause-never_refused : goal.returns-in_err-verified-clause-never_refused
 returns-in_err-verified-clause-never_refused c = λ place rule refused.
     let p = err_from_is_err_and c.from_residual-in_err-verified.result c.from_residual-in_err-verified.ensures.1 in
-    let fits = pieces_fit c.args.text.now (tree_of c.in_ok-template.template) c.in_ok-template.ensures.found in
-    let memory = c.in_err-verified.ensures.only c.in_ok-code.ensures.well_formed (c.in_ok-code.ensures.limits fits) in
+    let fits = c.in_ok-code.ensures.spelled c.args.text.now c.in_ok-template.ensures.found in
+    let memory = c.in_err-verified.ensures.only c.in_ok-code.ensures.well_formed fits in
     let e = ap of_verify memory in
     absurd cc
 
