@@ -4,6 +4,7 @@ pub mod Print
 pub mod Tokens
 pub mod Parts
 pub mod LookUp
+pub mod WellFormed
 pub mod Capped
 pub mod ErrorCode
 pub mod RequestData

@@ -55,4 +55,15 @@ impl Path {
     {
         self.steps.as_slice()
     }
+
+    /// A copy.
+    pub fn try_clone(&self) -> Result<Path, AllocError>
+        ensures { IfOk result (λ copy. copy ≡ self.now) }
+    {
+        let mut steps = Vec::new(*self.steps.allocator());
+        for step in self.steps.as_slice() {
+            steps.push(step.try_clone()?)?;
+        }
+        Ok(Path { steps })
+    }
 }

@@ -4,7 +4,7 @@ use Rattle.mock_request.specs.Request.{Request}
 use Rattle.mock_request.specs.RequestTree.{texts, path_tree, request_tree}
 use Rattle.data_tree.specs.Tree.{no_members}
 use Rattle.mock_request.specs.Url.{path_of, segments_of}
-use Rattle.mock_request.specs.WellFormed.{IsWellFormed, AreWellFormed}
+use Rattle.data_tree.specs.WellFormed.{IsWellFormed, AreWellFormed}
 
 texts_well_formed : (ts : List (List ℕ)) → AreWellFormed (texts ts)
 texts_well_formed [] = tt

@@ -3,4 +3,3 @@ pub mod Url
 pub mod Request
 pub mod SnapshotError
 pub mod RequestTree
-pub mod WellFormed

@@ -7,7 +7,7 @@ ghost use Rattle.mock_request.specs.Target.{slash, IsRooted};
 ghost use Rattle.std.specs.List.{slice_split};
 ghost use Rattle.mock_request.specs.Url.{segments_of, is_slash};
 ghost use Rattle.mock_request.specs.RequestTree.{texts, path_tree, request_fields, request_tree, IsRefusal};
-ghost use Rattle.mock_request.specs.WellFormed.{IsWellFormed};
+ghost use Rattle.data_tree.specs.WellFormed.{IsWellFormed};
 
 use crate::path_template::PathTemplate;
 use crate::snapshot::Snapshot;

@@ -95,7 +95,7 @@ fn read_path(alloc: Global, reference: &Reference) -> Result<Path, AllocError>
     ensures { IfOk result (λ path. path ≡ path_of reference.now) }
 {
     match reference {
-        Reference::Root(path) => copy_of(alloc, path),
+        Reference::Root(path) => Ok(path.try_clone()?),
         Reference::Item { .. } => empty_name(alloc),
     }
 }
@@ -105,14 +105,4 @@ fn empty_name(alloc: Global) -> Result<Path, AllocError>
 {
     let name = Step::Name(PlainText::new(String::new(alloc)));
     Ok(Path::new(vec![in alloc; name]?))
-}
-
-fn copy_of(alloc: Global, path: &Path) -> Result<Path, AllocError>
-    ensures { IfOk result (λ copy. copy ≡ path.now) }
-{
-    let mut steps = Vec::new(alloc);
-    for step in path.steps() {
-        steps.push(step.try_clone()?)?;
-    }
-    Ok(Path::new(steps))
 }

@@ -1,6 +1,6 @@
 use Rattle.std.proofs.Common.{subst, sym, ◌∙◌}
 use Rattle.std.proofs.lemmas.Result.{MatchResult-weaker}
-use Rattle.mock_request.specs.WellFormed.{IsWellFormed}
+use Rattle.data_tree.specs.WellFormed.{IsWellFormed}
 use Rattle.mock_request.proofs.TreeLemmas.{request_tree_well_formed}
 use Rattle.mock_request.proofs.request_data.request_data.Goals as goal
 
