@@ -2,11 +2,13 @@
 use Rattle.std.proofs.Common.{◌≡◌, ◌-◌, ◌^◌, pos, negsuc, false, [], ◌∷◌, length, refl, codes, sum_by}
 use Rattle.json.specs.Print.{escape_byte, quoted}
 use Rattle.std.specs.Fmt.{digits}
+use Rattle.std.specs.Int.Signed.{le_z_yes, lt_z_yes, clash_ℤ}
 use Rattle.data_tree.specs.Tree.{Tree, nothing, truth, number, text, list, fields, named, no_items, item, no_members, member}
 use Rattle.data_tree.specs.Json.{json, size}
 use Rattle.data_tree.specs.Print.{print}
 use Rattle.data_tree.specs.Parts.{items, keys}
 use Rattle.data_tree.specs.LookUp.{at}
+use Rattle.data_tree.specs.WellFormed.{IsWellFormed}
 use Rattle.data_tree.specs.declared.step.Step.TheVariants.{Name, Index}
 
 -- ---- the path of a request for /hi/Ann
@@ -181,3 +183,39 @@ one_json = refl
 two_prints : print its_object ≡ json hi_ann
 unfolding escape_byte
 two_prints = refl
+
+-- ---- well-formed values: numbers at both ends and one past, names in byte order and each once
+
+least_well_formed : IsWellFormed (number (negsuc (2 ^ 63 - 1)))
+least_well_formed = (le_z_yes tt, le_z_yes tt)
+
+greatest_well_formed : IsWellFormed (number (pos (2 ^ 64 - 1)))
+greatest_well_formed = (le_z_yes tt, le_z_yes tt)
+
+past_the_least : IsWellFormed (number (negsuc (2 ^ 63))) → ⊥
+past_the_least h = clash_ℤ (lt_z_yes tt) h.0
+
+past_the_greatest : IsWellFormed (number (pos (2 ^ 64))) → ⊥
+past_the_greatest h = clash_ℤ (lt_z_yes tt) h.1
+
+in_byte_order : IsWellFormed (fields (member [] nothing (member (codes "B") nothing (member (codes "a") nothing (member (codes "a0") nothing no_members)))))
+in_byte_order = ((refl, (refl, (refl, tt))), (tt, (tt, (tt, (tt, tt)))))
+
+out_of_order : IsWellFormed (fields (member (codes "b") nothing (member (codes "a") nothing no_members))) → ⊥
+out_of_order h = absurd (cc (h.0.0))
+
+one_name_twice : IsWellFormed (fields (member (codes "a") nothing (member (codes "a") nothing no_members))) → ⊥
+one_name_twice h = absurd (cc (h.0.0))
+
+-- of a named text the items, the names and the values are judged
+named_item : IsWellFormed (named [] (item (number (pos (2 ^ 64))) no_items) no_members) → ⊥
+named_item h = clash_ℤ (lt_z_yes tt) h.0.0.1
+
+named_names : IsWellFormed (named [] no_items (member (codes "a") nothing (member (codes "a") nothing no_members))) → ⊥
+named_names h = absurd (cc (h.1.0))
+
+named_value : IsWellFormed (named [] no_items (member (codes "a") (number (pos (2 ^ 64))) no_members)) → ⊥
+named_value h = clash_ℤ (lt_z_yes tt) h.2.0.1
+
+within_a_list : IsWellFormed (list (item (fields (member (codes "a") (number (pos (2 ^ 64))) no_members)) no_items)) → ⊥
+within_a_list h = clash_ℤ (lt_z_yes tt) h.0.1.0.1

@@ -23,10 +23,6 @@ pub at_nothing : (steps : List Step) → at steps nothing ≡ nothing
 at_nothing [] = refl
 at_nothing (s ∷ steps) = ap (at steps) (after_nothing s) ∙ at_nothing steps
 
--- with no step the value itself is found
-pub at_nil : (t : Tree) → at [] t ≡ t
-at_nil t = refl
-
 -- two paths, one after the other
 pub at_append : (a b : List Step) (t : Tree) → at (a ++ b) t ≡ at b (at a t)
 at_append [] b t = refl

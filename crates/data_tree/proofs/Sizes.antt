@@ -1,7 +1,7 @@
 -- A value's parts are no larger than the value.
-use Rattle.std.proofs.Common.{◌≡◌, ℕ, zero, suc, ◌+◌, ◌≤◌, Bool, true, false, cond, List, [], ◌∷◌, ◌++◌, length, Some, refl, ap, arith, length-append, slice_get, codes, sum, map}
+use Rattle.std.proofs.Common.{◌≡◌, ℕ, zero, suc, ◌+◌, ◌≤◌, Bool, true, false, cond, List, [], ◌∷◌, ◌++◌, length, Some, refl, ap, arith, length-append, slice_get, codes}
 use Rattle.std.specs.List.{sum_by}
-use Rattle.std.proofs.lemmas.List.Sums.{sum_by-cons, sum-map}
+use Rattle.std.proofs.lemmas.List.Sums.{sum_by-cons}
 use Rattle.json.specs.Print.{escape_byte, escape, quoted}
 use Rattle.data_tree.specs.Tree.{Tree, nothing, truth, number, text, list, fields, named, Items, no_items, item, Members, no_members, member}
 use Rattle.data_tree.specs.Json.{json, items_json, members_json, comma_if, size}
@@ -158,11 +158,3 @@ size_item t i u found = omega (arith, size_one (items t) i u found, size_sum t)
 pub length_names : (ms : Members) → length (names_of ms) ≡ length (values_of ms)
 length_names no_members = refl
 length_names (member k t ms) = omega (arith, length_names ms)
-
--- the size of no value
-pub size_nothing : size nothing ≡ 5
-size_nothing = refl
-
--- the same sum, over the list of the sizes
-pub sum_sizes : (t : Tree) → sum (map size (items t)) ≤ size t
-sum_sizes t = omega (arith, sum-map size (items t), size_sum t)

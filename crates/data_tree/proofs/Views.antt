@@ -6,7 +6,7 @@ use Rattle.std.proofs.lemmas.Option.{slice_get-map}
 use Rattle.std.proofs.lemmas.Bool.Decides.{nat_tests}
 use Rattle.data_tree.specs.Print.{is_true}
 use Rattle.data_tree.specs.LookUp.{nth}
-use Rattle.data_tree.specs.Tree.{Tree, nothing, list, fields, named, items_of, members_of, view, items_view, members_view}
+use Rattle.data_tree.specs.Tree.{Tree, nothing, list, fields, named, items_of, view, items_view, members_view}
 use Rattle.data_tree.specs.Parts.{items, keys, trees_of, values_of, names_of}
 use Rattle.data_tree.specs.declared.data.Data.{Data, List as ListData, Fields, Named, the_lemmas}
 
@@ -25,10 +25,6 @@ view-Named s v w = search (rules, the_lemmas)
 pub trees_of-items_of : (ts : List Tree) → trees_of (items_of ts) ≡ ts
 trees_of-items_of [] = refl
 trees_of-items_of (t ∷ ts) = ap (λ us. t ∷ us) (trees_of-items_of ts)
-
-pub values_of-members_of : (ms : List (String Global × Tree)) → values_of (members_of ms) ≡ map (λ (m : String Global × Tree). m.1) ms
-values_of-members_of [] = refl
-values_of-members_of (m ∷ ms) = ap (λ us. m.1 ∷ us) (values_of-members_of ms)
 
 pub values_of-members_view : (fs : List Field) → values_of (members_view fs) ≡ map (λ (f : Field). view f.1) fs
 values_of-members_view [] = refl

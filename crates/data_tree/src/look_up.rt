@@ -10,8 +10,9 @@ use crate::step::Step;
 use itoa::Buffer;
 
 impl Data {
-    /// What the steps find, taken from the left; `None` is Nothing, as is a `Data::Nothing` that is found. A step into an object compares names by
-    /// their bytes until one is equal. Takes no memory.
+    /// What the steps find, taken from the left; `None` is Nothing, as is a `Data::Nothing` that is found.
+    /// A step into an object compares names by their bytes until one is equal. Takes no memory, and does
+    /// not recurse.
     pub fn at(&self, steps: &[Step]) -> Option<&Data>
         ensures { option_map_or (λ found. view found.now) result nothing ≡ at steps.now (view self.now) }
     {

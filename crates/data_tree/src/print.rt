@@ -1,11 +1,9 @@
 // What a value looks like as text: a text as it stands, a list or an object as its compact JSON text.
-ghost use Rattle.std.specs.Prelude.{◌≡◌, ◌++◌, OnOk, OnErr, string_bytes};
+ghost use Rattle.std.specs.Prelude.{◌≡◌, [], ◌∷◌, ◌++◌, OnOk, OnErr, string_bytes, codes};
+ghost use Rattle.json.specs.Token.{Token};
 ghost use Rattle.data_tree.specs.Json.{json};
 ghost use Rattle.data_tree.specs.Tokens.{tree_tokens, items_tokens, members_tokens};
 ghost use Rattle.data_tree.specs.Tree.{view, items_view, members_view};
-
-#[cfg(test)]
-mod tests;
 
 use crate::data::Data;
 use json::Writer;
@@ -20,7 +18,8 @@ impl Data {
     /// Nothing prints as the empty text, a `Text` and a `Named` as their text, and a list or an object as
     /// its compact JSON text. Each byte is read and written once, straight into `out`; for a list or an
     /// object the writer also clears some spare room ahead, 16 KiB at most. The recursion is as deep as
-    /// lists and objects nest in the value. Where memory is refused, `out` keeps the text that it had.
+    /// lists, objects and named texts nest in the value. Where memory is refused, `out` keeps the text that
+    /// it had.
     pub fn print_into(&self, alloc: Global, out: &mut String) -> Result<(), AllocError>
         ensures ok { OnOk result
             (string_bytes out.new ≡ string_bytes out.old ++ print (view self.now)) }
@@ -85,18 +84,43 @@ fn write_value(value: &Data, out: &mut Writer) -> Result<(), AllocError>
             items,
             fields,
         } => {
-            out.begin_object()?;
-            out.key("fields")?;
-            out.begin_object()?;
+            begin_named(out)?;
             write_members(fields, out)?;
-            out.key("items")?;
-            out.begin_array()?;
+            begin_items(out)?;
             write_items(items, out)?;
-            out.key("text")?;
-            out.string(text.as_str())?;
-            out.end_object()
+            end_named(text.as_str(), out)
         }
     }
+}
+
+// A named text is an object of three members: its fields, its items, its text.
+fn begin_named(out: &mut Writer) -> Result<(), AllocError>
+    ensures ok { OnOk result (out.new.tokens ≡ out.old.tokens
+        ++ Token.begin_object ∷ Token.key (codes "fields") ∷ Token.begin_object ∷ []) }
+    ensures before { out.new.before ≡ out.old.before }
+{
+    out.begin_object()?;
+    out.key("fields")?;
+    out.begin_object()
+}
+
+fn begin_items(out: &mut Writer) -> Result<(), AllocError>
+    ensures ok { OnOk result (out.new.tokens ≡ out.old.tokens
+        ++ Token.key (codes "items") ∷ Token.begin_array ∷ []) }
+    ensures before { out.new.before ≡ out.old.before }
+{
+    out.key("items")?;
+    out.begin_array()
+}
+
+fn end_named(text: &str, out: &mut Writer) -> Result<(), AllocError>
+    ensures ok { OnOk result (out.new.tokens ≡ out.old.tokens
+        ++ Token.key (codes "text") ∷ Token.string text.now ∷ Token.end_object ∷ []) }
+    ensures before { out.new.before ≡ out.old.before }
+{
+    out.key("text")?;
+    out.string(text)?;
+    out.end_object()
 }
 
 #[cycle(write)]

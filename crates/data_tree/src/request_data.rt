@@ -23,6 +23,7 @@ pub struct RequestData {
 pub enum DataError {
     /// The value is over the limit; here it is again.
     TooLarge(Data),
+    /// Memory was refused while the value was made; `RequestData::new` itself takes none.
     OutOfMemory,
 }
 
@@ -60,6 +61,7 @@ impl DataError {
     ghost use Rattle.std.specs.Prelude.{◌≡◌};
     ghost use Rattle.data_tree.specs.RequestData.{code_of};
 
+    /// The code that a user is told.
     pub fn code(&self) -> ErrorCode
         ensures { result ≡ code_of self.now }
     {

@@ -10,7 +10,8 @@ use itoa::Buffer;
 
 impl Data {
     /// The length of the compact JSON text in bytes, plus 1; 2^64 - 1 where it is more. Looks at each byte
-    /// once and takes no memory; the recursion is as deep as the value.
+    /// once and takes no memory. The recursion is as deep as lists, objects and named texts nest in the
+    /// value.
     pub fn size(&self) -> u64
         ensures { result ≡ capped (size (view self.now)) }
     {

@@ -1,156 +1,245 @@
-// Values and results worked out by hand, from RFC 8259 and the rules of the value's cases.
+// Values and results worked out by hand, from RFC 8259 and the rules of the value's cases. A table is one
+// text with a row on each line: what a test makes of the row's words has to be the row. Each growing call
+// is made again where memory was refused, so that all tests pass whichever growth is refused.
+ghost use Rattle.std.specs.Prelude.{IfOk};
 ghost use Rattle.data_tree.specs.Tree.{view};
 ghost use Rattle.data_tree.specs.LookUp.{HasNoEmptyName};
+
+mod samples;
 
 use crate::data::Data;
 use crate::error_code::ErrorCode;
 use crate::plain_text::PlainText;
 use crate::request_data::{DataError, RequestData};
 use crate::step::{Path, Step};
+use samples::{list_of, steps, value};
 use std::alloc::{AllocError, Global};
 use std::test::Fail;
 
-fn text(alloc: Global, text: &str) -> Result<Data, AllocError> {
-    Ok(Data::Text(String::from_str(alloc, text)?))
-}
-
-fn name(alloc: Global, name: &str) -> Result<Step, AllocError> {
-    Ok(Step::Name(PlainText::new(String::from_str(alloc, name)?)))
-}
-
-// The value of the path `/hi/Ann`.
-fn path(alloc: Global) -> Result<Data, AllocError> {
-    let mut items = Vec::new(alloc);
-    items.push(text(alloc, "hi")?)?;
-    items.push(text(alloc, "Ann")?)?;
-    Ok(Data::Named {
-        text: String::from_str(alloc, "/hi/Ann")?,
-        items,
-        fields: Vec::new(alloc),
-    })
-}
-
-// `{"2":"two","a":["x",0],"b":null}`
-fn object(alloc: Global) -> Result<Data, AllocError> {
-    let mut items = Vec::new(alloc);
-    items.push(text(alloc, "x")?)?;
-    items.push(Data::Number(0))?;
-    let mut fields = Vec::new(alloc);
-    fields.push((String::from_str(alloc, "2")?, text(alloc, "two")?))?;
-    fields.push((String::from_str(alloc, "a")?, Data::List(items)))?;
-    fields.push((String::from_str(alloc, "b")?, Data::Nothing))?;
-    Ok(Data::Fields(fields))
-}
-
-fn shown(found: Option<&Data>) -> &str {
-    match found {
-        Some(Data::Text(text)) => text.as_str(),
-        Some(Data::Number(_)) => "a number",
-        Some(Data::List(_)) => "a list",
-        Some(Data::Nothing) => "nothing",
-        Some(_) => "another value",
-        None => "nothing",
+// What the value prints after a `>`. Where the text could not grow it has to be as it was, and then a
+// second try prints the same.
+fn printed(alloc: Global, value: &Data) -> Result<String, AllocError> {
+    let mut out = String::from_str(alloc, ">")?;
+    if value.print_into(alloc, &mut out).is_err() && out.as_str() == ">" {
+        value.print_into(alloc, &mut out)?;
     }
+    Ok(out)
+}
+
+// The word of a value, what it prints, what it prints in a list, which is its JSON text in brackets, its
+// size, whether it counts as true, and how many items it has.
+fn described(alloc: Global, word: &str) -> Result<String, AllocError> {
+    let value = value(alloc, word)?;
+    let alone = printed(alloc, &value)?;
+    let (size, truth, items) = (value.size(), value.is_true(), value.items_len());
+    let listed = printed(alloc, &list_of(alloc, value)?)?;
+    format!(in alloc; "{word}|{alone}|{listed}|{size} {truth} {items}")
+}
+
+// The word before the first bar.
+fn word_of(row: &str) -> &str {
+    row.split_once('|').unwrap_or((row, "")).0
 }
 
 #[test]
-fn a_size_is_the_length_of_the_json_text_and_one(rt: HostRuntime) -> Result<(), Fail> {
+fn a_value_prints_and_has_the_size_of_its_json_text_and_one(rt: HostRuntime) -> Result<(), Fail> {
     let alloc = rt.alloc();
-    assert_eq!(rt; path(alloc)?.size(), 52);
-    assert_eq!(rt; object(alloc)?.size(), 33);
-    assert_eq!(rt; Data::Nothing.size(), 5);
-    assert_eq!(rt; Data::Truth(true).size(), 5);
-    assert_eq!(rt; Data::Truth(false).size(), 6);
-    assert_eq!(rt; Data::Number(-9_223_372_036_854_775_808).size(), 21);
-    assert_eq!(rt; Data::Number(18_446_744_073_709_551_615).size(), 21);
-    assert_eq!(rt; Data::List(Vec::new(alloc)).size(), 3);
-    assert_eq!(rt; Data::Fields(Vec::new(alloc)).size(), 3);
-    // RFC 8259, section 7: a quote, a backslash and the controls have escapes; `/` and é have none.
-    assert_eq!(rt; text(alloc, "\"\\\n\r\t/é")?.size(), 16);
-    assert_eq!(rt; text(alloc, "\u{0}\u{8}\u{c}\u{1f}\u{7f}")?.size(), 20);
+    let table = r#"n|>|>[null]|5 false 0
+t|>true|>[true]|5 true 0
+f|>false|>[false]|6 false 0
+0|>0|>[0]|2 false 0
++|>1|>[1]|2 true 0
+-|>-9223372036854775808|>[-9223372036854775808]|21 true 0
+M|>18446744073709551615|>[18446744073709551615]|21 true 0
+=|>|>[""]|3 false 0
+=x|>x|>["x"]|4 true 0
+l|>[]|>[[]]|3 false 0
+N|>[null]|>[[null]]|7 true 1
+o|>{}|>[{}]|3 true 0
+e|>|>[{"fields":{},"items":[],"text":""}]|35 false 0
+p|>/hi/Ann|>[{"fields":{},"items":["hi","Ann"],"text":"/hi/Ann"}]|52 true 2
+b|>/a/7|>[{"fields":{"b":"7"},"items":["a","7"],"text":"/a/7"}]|53 true 2
+O|>{"2":"two","a":["x",0],"b":null}|>[{"2":"two","a":["x",0],"b":null}]|33 true 3
+D|>{"a\"b":[null,true,false,0,[],{},[{"fields":{},"items":["hi","Ann"],"text":"/hi/Ann"}]],"c":"/"}|>[{"a\"b":[null,true,false,0,[],{},[{"fields":{},"items":["hi","Ann"],"text":"/hi/Ann"}]],"c":"/"}]|97 true 2"#;
+    for row in table.split('\n') {
+        let word = word_of(row);
+        let told = described(alloc, word).or_else(|_refused| described(alloc, word))?;
+        assert_eq!(rt; told.as_str(), row);
+    }
     Ok(())
+}
+
+// RFC 8259, section 7, with the short escapes where there are any, as `serde_json` writes them. The
+// expected texts were compared with those of Python's `json`.
+#[test]
+fn quotes_backslashes_and_control_characters_are_escaped_in_lists(
+    rt: HostRuntime,
+) -> Result<(), Fail> {
+    let alloc = rt.alloc();
+    let table = "=\"|>\"|>[\"\\\"\"]|5 true 0~\
+        =\\|>\\|>[\"\\\\\"]|5 true 0~\
+        =\u{8}\u{9}\u{a}\u{c}\u{d}|>\u{8}\u{9}\u{a}\u{c}\u{d}|>[\"\\b\\t\\n\\f\\r\"]|13 true 0~\
+        =\u{0}\u{7}\u{b}\u{e}|>\u{0}\u{7}\u{b}\u{e}|>[\"\\u0000\\u0007\\u000b\\u000e\"]|27 true 0~\
+        =\u{10}\u{1a}\u{1b}\u{1f}|>\u{10}\u{1a}\u{1b}\u{1f}|>[\"\\u0010\\u001a\\u001b\\u001f\"]|27 true 0~\
+        = /\u{7f}|> /\u{7f}|>[\" /\u{7f}\"]|6 true 0~\
+        =é€😀\u{2028}|>é€😀\u{2028}|>[\"é€😀\u{2028}\"]|15 true 0~\
+        =a quote (\") and two lines\n|>a quote (\") and two lines\n|>[\"a quote (\\\") and two lines\\n\"]|31 true 0~\
+        =\"\\\n\r\t/é|>\"\\\n\r\t/é|>[\"\\\"\\\\\\n\\r\\t/é\"]|16 true 0~\
+        =\u{0}\u{8}\u{c}\u{1f}\u{7f}|>\u{0}\u{8}\u{c}\u{1f}\u{7f}|>[\"\\u0000\\b\\f\\u001f\u{7f}\"]|20 true 0";
+    for row in table.split('~') {
+        let word = word_of(row);
+        let told = described(alloc, word).or_else(|_refused| described(alloc, word))?;
+        assert_eq!(rt; told.as_str(), row);
+    }
+    Ok(())
+}
+
+fn shown(value: &Data) -> &str {
+    match value {
+        Data::Text(text) => text.as_str(),
+        Data::Number(_) => "a number",
+        Data::List(_) => "a list",
+        Data::Nothing => "nothing",
+        _ => "another value",
+    }
+}
+
+// What the steps of the row's second part find in the value of its first part.
+fn found(alloc: Global, row: &str) -> Result<String, AllocError> {
+    let (word, rest) = row.split_once('|').unwrap_or((row, ""));
+    let ways = word_of(rest);
+    let value = value(alloc, word)?;
+    let path = Path::new(steps(alloc, ways)?);
+    let found = value.at(path.steps()).map_or("nothing", shown);
+    format!(in alloc; "{word}|{ways}|{found}")
 }
 
 #[test]
 fn steps_find_by_name_place_and_decimal_name(rt: HostRuntime) -> Result<(), Fail> {
     let alloc = rt.alloc();
-    let object = object(alloc)?;
-    let path = path(alloc)?;
-    let a = Path::new(vec![in alloc; name(alloc, "a")?]?);
-    let a_0 = Path::new(vec![in alloc; name(alloc, "a")?, Step::Index(0)]?);
-    let a_2_a = Path::new(vec![in alloc; name(alloc, "a")?, Step::Index(2), name(alloc, "a")?]?);
-    let one = Path::new(vec![in alloc; Step::Index(1)]?);
-    let two = Path::new(vec![in alloc; Step::Index(2)]?);
-    let one_by_name = Path::new(vec![in alloc; name(alloc, "1")?]?);
-    assert_eq!(rt; shown(object.at(a.steps())), "a list");
-    assert_eq!(rt; shown(object.at(a_0.steps())), "x");
-    assert_eq!(rt; shown(object.at(a_2_a.steps())), "nothing");
-    assert_eq!(rt; shown(object.at(two.steps())), "two");
-    assert_eq!(rt; shown(object.at(one.steps())), "nothing");
-    assert_eq!(rt; shown(path.at(one.steps())), "Ann");
-    assert_eq!(rt; shown(path.at(one_by_name.steps())), "nothing");
+    let table = "O|'a|a list
+O|'a.0|x
+O|'a.1|a number
+O|'a.2.'a|nothing
+O|'b|nothing
+O|'A|nothing
+O|'|nothing
+O|2|two
+O|1|nothing
+p|0|hi
+p|1|Ann
+p|2|nothing
+p|'1|nothing
+b|'b|7
+b|0|a
+=x||x
+=x|0|nothing";
+    for row in table.split('\n') {
+        let told = found(alloc, row).or_else(|_refused| found(alloc, row))?;
+        assert_eq!(rt; told.as_str(), row);
+    }
     Ok(())
 }
 
+// Four items, each behind its name.
+fn items(alloc: Global, word: &str) -> Result<String, AllocError> {
+    let value = value(alloc, word)?;
+    let mut told = String::from_str(alloc, word)?;
+    for place in 0..4 {
+        let key = value.key(place).unwrap_or("none");
+        let item = value.item(place).map_or("none", shown);
+        told.push_str(format!(in alloc; "|{key}={item}")?.as_str())?;
+    }
+    Ok(told)
+}
+
 #[test]
-fn parts_and_truth_are_those_of_the_case(rt: HostRuntime) -> Result<(), Fail> {
+fn an_objects_items_alone_have_names(rt: HostRuntime) -> Result<(), Fail> {
     let alloc = rt.alloc();
-    let object = object(alloc)?;
-    let path = path(alloc)?;
-    assert_eq!(rt; object.items_len(), 3);
-    assert_eq!(rt; shown(object.item(0)), "two");
-    assert_eq!(rt; object.key(1).unwrap_or("none"), "a");
-    assert_eq!(rt; object.key(3).unwrap_or("none"), "none");
-    assert_eq!(rt; path.items_len(), 2);
-    assert_eq!(rt; shown(path.item(1)), "Ann");
-    assert_eq!(rt; path.key(0).unwrap_or("none"), "none");
-    assert_eq!(rt; text(alloc, "x")?.items_len(), 0);
-    assert!(rt; object.is_true());
-    assert!(rt; Data::Fields(Vec::new(alloc)).is_true());
-    assert!(rt; !Data::List(Vec::new(alloc)).is_true());
-    assert!(rt; !Data::Number(0).is_true());
-    assert!(rt; Data::Number(-1).is_true());
-    assert!(rt; !text(alloc, "")?.is_true());
-    assert!(rt; path.is_true());
+    let table = "O|2=two|a=a list|b=nothing|none=none
+p|none=hi|none=Ann|none=none|none=none
+b|none=a|none=7|none=none|none=none
+N|none=nothing|none=none|none=none|none=none
+=x|none=none|none=none|none=none|none=none
+n|none=none|none=none|none=none|none=none";
+    for row in table.split('\n') {
+        let word = word_of(row);
+        let told = items(alloc, word).or_else(|_refused| items(alloc, word))?;
+        assert_eq!(rt; told.as_str(), row);
+    }
     Ok(())
+}
+
+// Each step behind a dot, a name behind `'`.
+fn written(alloc: Global, path: &Path) -> Result<String, AllocError> {
+    let mut out = String::new(alloc);
+    for step in path.steps() {
+        match step {
+            Step::Name(name) => out.push_str(format!(in alloc; ".'{}", name.as_str())?.as_str())?,
+            Step::Index(index) => out.push_str(format!(in alloc; ".{index}")?.as_str())?,
+        }
+    }
+    Ok(out)
+}
+
+fn copied(alloc: Global) -> Result<String, AllocError> {
+    let path = Path::new(steps(alloc, "'request.4294967295.'b")?);
+    let copy = path.try_clone().or_else(|_refused| path.try_clone())?;
+    let (source, copy) = (written(alloc, &path)?, written(alloc, &copy)?);
+    format!(in alloc; "{source} {copy}")
 }
 
 #[test]
 fn copies_equal_their_source_also_after_memory_was_refused(rt: HostRuntime) -> Result<(), Fail> {
     let alloc = rt.alloc();
-    let step = name(alloc, "request")?;
-    let copy = match step.try_clone() {
-        Ok(copy) => copy,
-        Err(_refused) => step.try_clone()?,
-    };
-    match copy {
-        Step::Name(text) => assert_eq!(rt; text.into_string().as_str(), "request"),
-        Step::Index(_) => assert!(rt; false, "an index"),
-    }
+    let told = copied(alloc).or_else(|_refused| copied(alloc))?;
+    assert_eq!(rt;
+        told.as_str(),
+        ".'request.4294967295.'b .'request.4294967295.'b"
+    );
     Ok(())
 }
 
+fn given_back(alloc: Global, text: &str) -> Result<String, AllocError> {
+    let text = PlainText::new(String::from_str(alloc, text)?);
+    let copy = text.try_clone().or_else(|_refused| text.try_clone())?;
+    Ok(copy.into_string())
+}
+
+#[test]
+fn a_text_is_given_back_as_it_came(rt: HostRuntime) -> Result<(), Fail> {
+    let alloc = rt.alloc();
+    let text = given_back(alloc, "a \"b\"").or_else(|_refused| given_back(alloc, "a \"b\""))?;
+    assert_eq!(rt; text.as_str(), "a \"b\"");
+    Ok(())
+}
+
+// A text of 16,777,200 bytes and the rest. It grows once.
+fn long_text(alloc: Global, rest: &str) -> Result<String, AllocError> {
+    let mut text = String::with_capacity(alloc, 16_777_216)?;
+    for _ in 0..1_048_575 {
+        text.push_str("sixteen bytes...")?;
+    }
+    text.push_str(rest)?;
+    Ok(text)
+}
+
 // A root that is a text has no fields.
-fn root_of_text(text: String) -> Data
-    ensures { HasNoEmptyName (view result) }
+fn long_root(alloc: Global, rest: &str) -> Result<Data, AllocError>
+    ensures { IfOk result (λ root. HasNoEmptyName (view root)) }
 {
-    Data::Text(text)
+    let text = long_text(alloc, rest).or_else(|_refused| long_text(alloc, rest))?;
+    Ok(Data::Text(text))
 }
 
 #[test]
 fn data_is_refused_one_past_the_limit(rt: HostRuntime) -> Result<(), Fail> {
-    // With its quotes, and 1 more: 16,777,216.
-    let mut longest = String::with_capacity(rt.alloc(), 16_777_214)?;
-    for _ in 0..16_777_213 {
-        longest.push('x')?;
-    }
-    let mut longer = longest.clone()?;
-    longer.push('x')?;
-    match RequestData::new(root_of_text(longest)) {
-        Ok(data) => assert_eq!(rt; data.root().size(), 16_777_216),
+    // With its quotes and 1: 16,777,216.
+    match RequestData::new(long_root(rt.alloc(), "13 more bytes")?) {
+        Ok(taken) => assert_eq!(rt; taken.root().size(), 16_777_216),
         Err(_) => assert!(rt; false, "refused at the limit"),
     }
-    match RequestData::new(root_of_text(longer)) {
+    match RequestData::new(long_root(rt.alloc(), "14 more bytes.")?) {
         Ok(_) => assert!(rt; false, "taken past the limit"),
         Err(error) => {
             assert_eq!(rt; error.code(), ErrorCode::TooLarge);
@@ -163,19 +252,33 @@ fn data_is_refused_one_past_the_limit(rt: HostRuntime) -> Result<(), Fail> {
     Ok(())
 }
 
-#[test]
-fn each_code_has_its_number_and_title(rt: HostRuntime) {
-    for (code, number, title) in [
-        (ErrorCode::BadUrl, 14, "bad url"),
-        (ErrorCode::UnclosedTag, 20, "unclosed tag"),
-        (ErrorCode::TooLong, 25, "too long"),
-        (ErrorCode::BadPath, 26, "bad path"),
-        (ErrorCode::UnsupportedTag, 27, "unsupported tag"),
-        (ErrorCode::CodeRefused, 28, "code refused"),
-        (ErrorCode::OutOfMemory, 50, "out of memory"),
-        (ErrorCode::TooLarge, 51, "too large"),
+fn codes_told(alloc: Global) -> Result<String, AllocError> {
+    let mut told = String::new(alloc);
+    for code in [
+        ErrorCode::BadUrl,
+        ErrorCode::UnclosedTag,
+        ErrorCode::TooLong,
+        ErrorCode::BadPath,
+        ErrorCode::UnsupportedTag,
+        ErrorCode::CodeRefused,
+        ErrorCode::OutOfMemory,
+        ErrorCode::TooLarge,
     ] {
-        assert_eq!(rt; code.number(), number);
-        assert_eq!(rt; code.title(), title);
+        let (number, title) = (code.number(), code.title());
+        told.push_str(format!(in alloc; "{number} {title}, ")?.as_str())?;
     }
+    Ok(told)
+}
+
+#[test]
+fn each_code_has_its_number_and_title(rt: HostRuntime) -> Result<(), Fail> {
+    let alloc = rt.alloc();
+    assert_eq!(rt;
+        codes_told(alloc)
+            .or_else(|_refused| codes_told(alloc))?
+            .as_str(),
+        "14 bad url, 20 unclosed tag, 25 too long, 26 bad path, 27 unsupported tag, 28 code refused, \
+        50 out of memory, 51 too large, "
+    );
+    Ok(())
 }
