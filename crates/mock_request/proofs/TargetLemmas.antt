@@ -110,12 +110,6 @@ pub has_origin : (target : List ℕ) → get_or target 0 0 ≡ slash → HasUrl 
 has_origin [] e = absurd (omega (arith, e))
 has_origin (b ∷ bs) e = (b ∷ bs, inl (record { rooted = e; same = refl }))
 
--- one that begins neither with a slash nor with the scheme
-pub has_neither : (target : List ℕ) → (get_or target 0 0 ≡ slash → ⊥) → ((rest : List ℕ) → target ≢ codes "http://" ++ rest) → ¬ (HasUrl target)
-has_neither [] unrooted other (url, inl o) = o.rooted
-has_neither (b ∷ bs) unrooted other (url, inl o) = unrooted o.rooted
-has_neither target unrooted other (url, inr a) = other _ a.spelled
-
 -- one with a scheme and no authority
 pub has_no_authority : (target rest : List ℕ) → target ≡ codes "http://" ++ rest → MayFollowAuthority rest → ¬ (HasUrl target)
 has_no_authority target rest spelled ended (url, inl o) =
@@ -134,7 +128,7 @@ pub not_nil : (bs : List ℕ) → false ≡ eqb (length bs) 0 → bs ≢ []
 not_nil bs more none = false≢true (more ∙ ap (λ l. eqb (length l) 0) none)
 
 -- one with both
-pub has_absolute : (target authority rest : List ℕ) → target ≡ codes "http://" ++ (authority ++ rest) → IsAuthority authority → MayFollowAuthority rest → (url : List ℕ) → IsRootedForm rest url → IsTarget target url
+has_absolute : (target authority rest : List ℕ) → target ≡ codes "http://" ++ (authority ++ rest) → IsAuthority authority → MayFollowAuthority rest → (url : List ℕ) → IsRootedForm rest url → IsTarget target url
 has_absolute target authority rest spelled named ended url rooted =
     inr (record { authority = authority; rest = rest; spelled = spelled; named = named; ended = ended; rooted = rooted })
 

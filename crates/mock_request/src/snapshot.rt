@@ -39,8 +39,9 @@ impl Model for Snapshot {
 }
 
 impl Snapshot {
-    /// Takes a request. Its target may be in origin form or in absolute form, and the headers and the body
-    /// are taken over without copying them.
+    /// Takes a request. Its target may be in origin form or in absolute form (RFC 9112, section 3.2), and the
+    /// headers and the body are taken over without copying them. Refused are a target of another form and
+    /// then a body of more than `BODY_LIMIT` bytes.
     pub fn new(
         alloc: Global,
         method: &str,
@@ -70,6 +71,7 @@ impl Snapshot {
         })
     }
 
+    /// The method as it came.
     pub fn method(&self) -> &str
         ensures { result.now ≡ self.now.method }
     {
@@ -110,6 +112,7 @@ impl Snapshot {
         self.headers.as_slice()
     }
 
+    /// The body, `BODY_LIMIT` bytes at most.
     pub fn body(&self) -> &Bytes
         ensures value { result.now ≡ self.now.body }
         ensures within { length result.now ≤ BODY_LIMIT }
