@@ -3,7 +3,7 @@ use Rattle.std.proofs.Common.{◌≡◌, ℕ, ◌+◌, ◌-◌, ◌<◌, ◌≤�
 use Rattle.std.proofs.lemmas.List.{append-nil, take_at, take_all, drop_at, get_or_at, get_or-drop}
 use Rattle.std.proofs.lemmas.Str.{IsUtf8-drop, IsCharBoundary-before_ascii, IsCharBoundary-after_ascii}
 use Rattle.std.proofs.lemmas.Bool.{and_parts, eqb-true, false≢true}
-use Rattle.template_tree.specs.Paths.{onto_first, in_bracket, parts_of, DotAt}
+use Rattle.template_tree.specs.Paths.{onto_first, in_bracket, parts_of}
 
 -- bytes before the first part
 abbrev pub glue : List ℕ → List (List ℕ) → List (List ℕ)
@@ -18,15 +18,18 @@ pub glue_head : (xs part : List ℕ) (parts : List (List ℕ)) → glue xs (part
 glue_head [] part parts = refl
 glue_head (x ∷ xs) part parts = ap (onto_first x) (glue_head xs part parts)
 
+-- the first dot outside of brackets, by its place
+pub record DotAt (text : List ℕ) (n : ℕ) : Type 0 where
+  pub inside : n < length text
+  pub dot : slice_index text n ≡ 46
+  pub parts : parts_of false text ≡ take n text ∷ parts_of false (drop (n + 1) text)
+
 -- what is known before a rest that no dot has come before
 pub record Seen (text : List ℕ) (at : ℕ) (inside : Bool) (rest : List ℕ) : Type 0 where
   pub front : List ℕ
   pub whole : text ≡ front ++ rest
   pub counted : length front ≡ at
   pub ahead : parts_of false text ≡ glue front (parts_of inside rest)
-
-pub seen_none : (text : List ℕ) → Seen text 0 false text
-seen_none text = record { front = []; whole = refl; counted = refl; ahead = refl }
 
 pub seen_more : (text : List ℕ) (at : ℕ) (inside : Bool) (b : ℕ) (after : List ℕ) → Seen text at inside (b ∷ after) → ((b == 46) && not inside) ≡ false → Seen text (at + 1) (in_bracket inside b) after
 seen_more text at inside b after s no_dot =
@@ -72,9 +75,9 @@ seen_cut text at false (b ∷ bs) some s dot =
     let P : ℕ → Type 0 = λ x. Seen text at false (x ∷ bs) in
     seen_dot text at bs (subst P (eqb-true b 46 (and_parts (b == 46) true dot).0) s)
 
-pub after_dot : (s : List ℕ) (n : ℕ) → IsUtf8 s → DotAt s n → IsCharBoundary (drop n s) 1
-after_dot s n utf8 at =
-    let back : IsUtf8 (drop n s) = IsUtf8-drop s n utf8 (IsCharBoundary-before_ascii s n at.inside (omega (arith, at.dot))) in
+pub after_dot : (s : List ℕ) (n : ℕ) → IsUtf8 s → n < length s → slice_index s n ≡ 46 → IsCharBoundary (drop n s) 1
+after_dot s n utf8 inside dot =
+    let back : IsUtf8 (drop n s) = IsUtf8-drop s n utf8 (IsCharBoundary-before_ascii s n inside (omega (arith, dot))) in
     let first : get_or (drop n s) 0 0 ≡ get_or s (n + 0) 0 = get_or-drop n s 0 0 in
     let same : get_or s (n + 0) 0 ≡ get_or s n 0 = ap (λ k. get_or s k 0) (omega arith) in
-    IsCharBoundary-after_ascii (drop n s) 0 back (omega (arith, length-drop n s, at.inside)) (omega (arith, first, same, at.dot))
+    IsCharBoundary-after_ascii (drop n s) 0 back (omega (arith, length-drop n s, inside)) (omega (arith, first, same, dot))

@@ -1,4 +1,4 @@
--- A dozen texts, each with the tree that it spells or with its fault.
+-- Texts, each with the tree that it spells or with its fault.
 use Rattle.std.specs.Prelude.{◌≡◌, ℕ, List, [], ◌∷◌, length, None, codes}
 use Rattle.data_tree.specs.declared.step.Step.{Step}
 use Rattle.data_tree.specs.declared.step.Step.TheVariants.{Name, Index}

@@ -1,5 +1,5 @@
 -- Which word spells which path.
-use Rattle.std.specs.Prelude.{◌≡◌, ◌<◌, ℕ, ◌+◌, ◌==◌, nat_lt, nat_le, Bool, true, false, ◌&&◌, ◌||◌, not, List, [], ◌∷◌, length, take, drop, map, Option, Some, None, Result, Ok, Err, if◌then◌else◌, codes, slice_index}
+use Rattle.std.specs.Prelude.{ℕ, ◌+◌, ◌==◌, nat_lt, nat_le, Bool, true, false, ◌&&◌, ◌||◌, not, List, [], ◌∷◌, length, map, Option, Some, None, Result, Ok, Err, if◌then◌else◌, codes, slice_index}
 use Rattle.std.specs.Char.{to_ascii_lowercase}
 use Rattle.std.specs.List.{list_any}
 use Rattle.std.specs.Str.{bytes_eq, all_ascii_digits}
@@ -61,12 +61,6 @@ abbrev pub parts_of : Bool → List ℕ → List (List ℕ)
 parts_of inside [] = [] ∷ []
 parts_of inside (b ∷ bs) =
     if (b == 46) && not inside then [] ∷ parts_of false bs else onto_first b (parts_of (in_bracket inside b) bs)
-
--- the first dot outside of brackets, by its place
-pub record DotAt (text : List ℕ) (n : ℕ) : Type 0 where
-  pub inside : n < length text
-  pub dot : slice_index text n ≡ 46
-  pub parts : parts_of false text ≡ take n text ∷ parts_of false (drop (n + 1) text)
 
 -- each part as a step
 abbrev pub all_steps : List (List ℕ) → Result (List Step) Fault

@@ -38,7 +38,7 @@ pub fn whole_piece()
     ensures { (text p rest : List ℕ) → next_of text ≡ token (part_token (piece p)) rest → IsPiece text p rest }
 {}
 
-/// A dozen texts, each with its tree or its fault.
+/// Some twenty texts, each with its tree or its fault.
 pub fn examples()
     ensures { AreExamples }
 {}

@@ -1,5 +1,5 @@
 // Reading a text as a template.
-ghost use Rattle.std.specs.Prelude.{◌≡◌, ◌≤◌, ◌<◌, length, MatchResult, IfOk, IfErr};
+ghost use Rattle.std.specs.Prelude.{◌≡◌, ◌≤◌, ◌<◌, length, MatchResult, IfOk, IfErr, IsErrOf};
 ghost use Rattle.template_tree.specs.Grammar.{Spells, IsFault, OrMemory};
 ghost use Rattle.template_tree.specs.Tokens.{token, next_of};
 ghost use Rattle.template_tree.specs.Tree.{Nodes, tree_of, nodes_view};
@@ -71,10 +71,13 @@ fn read_nodes(alloc: Global, text: &str) -> Result<Vec<Node>, TemplateError>
     Ok(nodes)
 }
 
-/// The template that a text spells, or what is wrong with the text.
+/// The template that a text spells, or what is wrong with it: its first fault, with the byte at which that tag
+/// begins. A text of more than 65,536 bytes is refused before any memory is taken.
 pub fn parse(alloc: Global, text: &str) -> Result<Template, TemplateError>
     ensures found { IfOk result (λ template. Spells text.now (tree_of template)) }
     ensures wrong { IfErr result (OrMemory (IsFault text.now)) }
+    // However little memory there is.
+    ensures too_long { 65536 < length text.now → IsErrOf result (TemplateError.TooLong 65536) }
     ensures every_tree { (tree : Nodes) → Spells text.now tree → MatchResult result (λ template. tree_of template ≡ tree) (λ e. e ≡ TemplateError.OutOfMemory) }
     ensures every_fault { (fault : TemplateError) → IsFault text.now fault → MatchResult result (λ template. ⊥) (OrMemory (λ e. e ≡ fault)) }
 {

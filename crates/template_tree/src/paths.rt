@@ -1,6 +1,6 @@
 // A word read as a path.
-ghost use Rattle.std.specs.Prelude.{◌≡◌, ◌==◌, ◌+◌, ◌<◌, ◌^◌, false, ◌&&◌, not, ◌∷◌, [], length, take, drop, slice_index, MatchOption, IfSome};
-ghost use Rattle.template_tree.specs.Paths.{is_name_byte, all_name_bytes, is_name, is_index, step_named, step_of, in_bracket, parts_of, DotAt, all_steps, is_step, begins_with_step, rest_of_steps, is_reserved, in_lower_case, names_header, header_in_lower_case, placed, path_below, path_of};
+ghost use Rattle.std.specs.Prelude.{◌≡◌, ◌==◌, ◌+◌, ◌<◌, ◌^◌, false, ◌&&◌, not, ◌∷◌, [], length, take, drop, slice_index, MatchOption, IfSome, IfNone};
+ghost use Rattle.template_tree.specs.Paths.{is_name_byte, all_name_bytes, is_name, is_index, step_named, step_of, in_bracket, parts_of, all_steps, is_step, begins_with_step, rest_of_steps, is_reserved, in_lower_case, names_header, header_in_lower_case, placed, path_below, path_of};
 ghost use Rattle.template_tree.specs.Reading.{Gives};
 
 use crate::fault::{Fault, ReadError};
@@ -99,7 +99,10 @@ fn is_cut(inside: bool, byte: u8) -> bool
 
 /// The place of the first dot outside of brackets.
 fn dot_place(text: &[u8]) -> Option<usize>
-    ensures { MatchOption result (parts_of false text.now ≡ text.now ∷ []) (DotAt text.now) }
+    ensures none { IfNone result (parts_of false text.now ≡ text.now ∷ []) }
+    ensures inside { IfSome result (λ n. n < length text.now) }
+    ensures dot { IfSome result (λ n. slice_index text.now n ≡ 46) }
+    ensures parts { IfSome result (λ n. parts_of false text.now ≡ take n text.now ∷ parts_of false (drop (n + 1) text.now)) }
 {
     let mut inside = false;
     let mut at = 0;

@@ -6,62 +6,86 @@ use crate::laws::{examples, first_close, first_mark, one_tree, tree_or_fault, wh
 use crate::parser::parse;
 use crate::reference::Reference;
 use crate::template::{Expression, Node, Template};
-use data_tree::error_code::ErrorCode;
 use data_tree::step::Step;
 use std::alloc::Global;
 use std::test::Fail;
 
-// The nodes of a template in one line: pieces between bars, steps between slashes.
-fn shown(alloc: Global, template: &Template) -> Result<String, Fail> {
-    let mut text = String::new(alloc);
-    for node in template.nodes() {
-        match node {
-            Node::Piece(piece) => {
-                text.push_str("|")?;
-                text.push_str(piece.as_str())?;
-                text.push_str("|")?;
-            }
-            Node::Print(Expression::Reference(reference)) => {
-                let steps = match reference {
-                    Reference::Root(path) => {
-                        text.push_str("root")?;
-                        path.steps()
-                    }
-                    Reference::Item { depth, steps } => {
-                        let place = format!(in alloc; "item {depth}")?;
-                        text.push_str(place.as_str())?;
-                        steps.steps()
-                    }
-                };
-                for step in steps {
-                    let part = match step {
-                        Step::Name(name) => format!(in alloc; "/{}", name.as_str())?,
-                        Step::Index(index) => format!(in alloc; "/#{index}")?,
-                    };
-                    text.push_str(part.as_str())?;
-                }
-            }
-        }
+// What a template is read as, in one line: pieces between bars, steps behind slashes, indices behind `#`.
+// Each function takes its part off the front of the wanted line, and takes no memory.
+
+fn without_step<'a>(want: &'a [u8], step: &Step) -> Option<&'a [u8]> {
+    match step {
+        Step::Name(name) => want
+            .strip_prefix(b"/")?
+            .strip_prefix(name.as_str().as_bytes()),
+        Step::Index(0) => want.strip_prefix(b"/#0"),
+        Step::Index(1) => want.strip_prefix(b"/#1"),
+        Step::Index(999_999_999) => want.strip_prefix(b"/#999999999"),
+        Step::Index(_) => None,
     }
-    Ok(text)
 }
 
-// What a text is read as, or its code and offset.
-fn told(alloc: Global, text: &str) -> Result<String, Fail> {
-    match parse(alloc, text) {
-        Ok(template) => shown(alloc, &template),
-        Err(TemplateError::OutOfMemory) => Err("out of memory")?,
-        Err(error) => Ok(format!(in alloc;
-            "{} at {}: {}",
-            error.code().number(),
-            error.at().unwrap_or(99),
-            error.title()
-        )?),
+fn without_steps<'a>(want: &'a [u8], steps: &[Step]) -> Option<&'a [u8]> {
+    let mut rest = want;
+    for step in steps {
+        rest = without_step(rest, step)?;
+    }
+    Some(rest)
+}
+
+fn without_place<'a>(want: &'a [u8], depth: u32) -> Option<&'a [u8]> {
+    match depth {
+        0 => want.strip_prefix(b"item 0"),
+        1 => want.strip_prefix(b"item 1"),
+        2 => want.strip_prefix(b"item 2"),
+        _ => None,
+    }
+}
+
+fn without_node<'a>(want: &'a [u8], node: &Node) -> Option<&'a [u8]> {
+    match node {
+        Node::Piece(piece) => {
+            let opened = want.strip_prefix(b"|")?;
+            opened
+                .strip_prefix(piece.as_str().as_bytes())?
+                .strip_prefix(b"|")
+        }
+        Node::Print(Expression::Reference(Reference::Root(path))) => {
+            without_steps(want.strip_prefix(b"root")?, path.steps())
+        }
+        Node::Print(Expression::Reference(Reference::Item { depth, steps })) => {
+            without_steps(without_place(want, *depth)?, steps.steps())
+        }
+    }
+}
+
+fn is_shown(nodes: &[Node], want: &str) -> bool {
+    let mut rest = want.as_bytes();
+    for node in nodes {
+        match without_node(rest, node) {
+            Some(after) => rest = after,
+            None => return false,
+        }
+    }
+    rest.is_empty()
+}
+
+fn reads(read: &Result<Template, TemplateError>, want: &str) -> bool {
+    match read {
+        Ok(template) => is_shown(template.nodes(), want),
+        Err(_error) => false,
+    }
+}
+
+fn refuses(read: &Result<Template, TemplateError>, number: u16, at: usize) -> bool {
+    match read {
+        Ok(_template) => false,
+        Err(error) => error.code().number() == number && error.at() == Some(at),
     }
 }
 
 #[test]
-fn reads_text_and_paths(rt: HostRuntime) -> Result<(), Fail> {
+fn reads_text_and_paths(rt: HostRuntime) {
     let rows = [
         ("", ""),
         ("a } { b", "|a } { b|"),
@@ -79,14 +103,15 @@ fn reads_text_and_paths(rt: HostRuntime) -> Result<(), Fail> {
             "root/request/headers/x-id/#0",
         ),
         ("{{request.[headers].[X-Id]}}", "root/request/headers/x-id"),
+        ("{{x.[ ']}}'}}", "item 0/x/ '|'}}|"),
         ("{{this}}{{.}}{{this.A.[]}}", "item 0item 0item 0/A/"),
         (
             "{{..}}{{../..}}{{../this.x}}{{../.}}",
             "item 1item 2item 1/xitem 1",
         ),
         (
-            "{{x.0}}{{x.01}}{{x.1234567890}}",
-            "item 0/x/#0item 0/x/01item 0/x/1234567890",
+            "{{x.0}}{{x.01}}{{x.[999999999]}}{{x.1234567890}}",
+            "item 0/x/#0item 0/x/01item 0/x/#999999999item 0/x/1234567890",
         ),
         (
             "{{if}}{{now.x}}{{{else}}}{{-}}",
@@ -96,46 +121,41 @@ fn reads_text_and_paths(rt: HostRuntime) -> Result<(), Fail> {
         ("{{x}}}{ {{é$}}", "item 0/x|}{ |item 0/é$"),
     ];
     for (text, want) in rows {
-        let told = told(rt.alloc(), text)?;
-        assert_eq!(rt; told.as_str(), want, "{text}");
+        let read = parse(rt.alloc(), text);
+        assert!(rt; reads(&read, want), "{text}");
     }
-    Ok(())
 }
 
 #[test]
-fn refuses_as_the_independent_program_does(rt: HostRuntime) -> Result<(), Fail> {
+fn refuses_as_the_independent_program_does(rt: HostRuntime) {
     let rows = [
-        ("{{x", "20 at 0: unclosed tag"),
-        ("a{{!-- x", "20 at 1: unclosed tag"),
-        ("{{.}}{{{x}} ", "20 at 5: unclosed tag"),
-        ("--}}\\{{!-- x }}", "20 at 5: unclosed tag"),
-        ("{{\"x}}{{request.none}}", "20 at 0: unclosed tag"),
-        ("{{request.path.[}}", "26 at 0: bad path"),
-        ("é{{.}}{{a%}}{{!--}}", "26 at 7: bad path"),
-        ("{{a!b}}\"{{!-- {{x}} --}}a b", "26 at 0: bad path"),
-        ("{{x~}} {{{foo.bar}}}", "26 at 0: bad path"),
-        ("{{request.path.[]}}{{a.[b]c}}", "26 at 19: bad path"),
-        ("{{../}}{{\trequest.pathSegments\t}}", "26 at 0: bad path"),
-        ("{{[a b]}}", "26 at 0: bad path"),
-        (
-            "{{!x}}{{{ request.url }}}{{../parameters}}",
-            "27 at 25: unsupported tag",
-        ),
-        ("}{{a:b}}\\{{!-- {{x}} --}}", "27 at 9: unsupported tag"),
-        ("日本{{}}{{! \"}} x", "27 at 6: unsupported tag"),
-        ("{{!x}}{{request.id}}", "27 at 6: unsupported tag"),
-        ("{{{{x}}}}", "27 at 0: unsupported tag"),
-        ("{{true}}", "27 at 0: unsupported tag"),
+        ("{{x", 20, 0),
+        ("a{{!-- x", 20, 1),
+        ("{{.}}{{{x}} ", 20, 5),
+        ("--}}\\{{!-- x }}", 20, 5),
+        ("{{\"x}}{{request.none}}", 20, 0),
+        ("{{request.path.[}}", 26, 0),
+        ("é{{.}}{{a%}}{{!--}}", 26, 7),
+        ("{{a!b}}\"{{!-- {{x}} --}}a b", 26, 0),
+        ("{{x~}} {{{foo.bar}}}", 26, 0),
+        ("{{request.path.[]}}{{a.[b]c}}", 26, 19),
+        ("{{../}}{{\trequest.pathSegments\t}}", 26, 0),
+        ("{{[a b]}}", 26, 0),
+        ("{{!x}}{{{ request.url }}}{{../parameters}}", 27, 25),
+        ("}{{a:b}}\\{{!-- {{x}} --}}", 27, 9),
+        ("日本{{}}{{! \"}} x", 27, 6),
+        ("{{!x}}{{request.id}}", 27, 6),
+        ("{{{{x}}}}", 27, 0),
+        ("{{true}}", 27, 0),
     ];
-    for (text, want) in rows {
-        let told = told(rt.alloc(), text)?;
-        assert_eq!(rt; told.as_str(), want, "{text}");
+    for (text, number, at) in rows {
+        let read = parse(rt.alloc(), text);
+        assert!(rt; refuses(&read, number, at), "{text}");
     }
-    Ok(())
 }
 
 #[test]
-fn tells_what_is_kept_for_later(rt: HostRuntime) -> Result<(), Fail> {
+fn tells_what_is_kept_for_later(rt: HostRuntime) {
     let rows = [
         "{{#if x}}",
         "{{ /if}}",
@@ -152,38 +172,56 @@ fn tells_what_is_kept_for_later(rt: HostRuntime) -> Result<(), Fail> {
         "{{request.clientIp.x}}",
     ];
     for text in rows {
-        let told = told(rt.alloc(), text)?;
-        assert_eq!(rt; told.as_str(), "27 at 0: unsupported tag", "{text}");
+        let read = parse(rt.alloc(), text);
+        assert!(rt; refuses(&read, 27, 0), "{text}");
     }
-    Ok(())
+}
+
+fn repeated(alloc: Global, letter: char, count: u32) -> Result<String, Fail> {
+    let mut text = String::new(alloc);
+    for _ in 0..count {
+        text.push(letter)?;
+    }
+    Ok(text)
 }
 
 #[test]
 fn takes_65536_bytes_and_no_more(rt: HostRuntime) -> Result<(), Fail> {
-    let alloc = rt.alloc();
-    let mut text = String::new(alloc);
-    for _ in 0..65_536u32 {
-        text.push('{')?;
-    }
-    let braces = told(alloc, text.as_str())?;
-    assert_eq!(rt; braces.as_str(), "20 at 0: unclosed tag");
-    let mut text = String::new(alloc);
-    for _ in 0..65_536u32 {
-        text.push('x')?;
-    }
-    assert!(rt; parse(alloc, text.as_str()).is_ok());
-    text.push('x')?;
-    let longer = told(alloc, text.as_str())?;
-    assert_eq!(rt; longer.as_str(), "25 at 65536: too long");
+    let braces = repeated(rt.alloc(), '{', 65_536)?;
+    assert!(rt; refuses(&parse(rt.alloc(), braces.as_str()), 20, 0));
+    let longest = repeated(rt.alloc(), 'x', 65_536)?;
+    assert!(rt; parse(rt.alloc(), longest.as_str()).is_ok());
+    let longer = repeated(rt.alloc(), 'x', 65_537)?;
+    assert!(rt; refuses(&parse(rt.alloc(), longer.as_str()), 25, 65_536));
     Ok(())
+}
+
+fn is_told(error: TemplateError, number: u16, title: &str, at: Option<usize>) -> bool {
+    error.code().number() == number && error.title() == title && error.at() == at
 }
 
 #[test]
 fn tells_codes_titles_and_places(rt: HostRuntime) {
-    assert_eq!(rt; TemplateError::OutOfMemory.code(), ErrorCode::OutOfMemory);
-    assert_eq!(rt; TemplateError::OutOfMemory.title(), "out of memory");
-    assert_eq!(rt; TemplateError::OutOfMemory.at(), None);
-    assert_eq!(rt; TemplateError::BadPath { at: 7 }.at(), Some(7));
+    let rows = [
+        (
+            TemplateError::UnclosedTag { at: 1 },
+            20,
+            "unclosed tag",
+            Some(1),
+        ),
+        (TemplateError::TooLong { at: 2 }, 25, "too long", Some(2)),
+        (TemplateError::BadPath { at: 3 }, 26, "bad path", Some(3)),
+        (
+            TemplateError::UnsupportedTag { at: 4 },
+            27,
+            "unsupported tag",
+            Some(4),
+        ),
+        (TemplateError::OutOfMemory, 50, "out of memory", None),
+    ];
+    for (error, number, title, at) in rows {
+        assert!(rt; is_told(error, number, title, at), "{title}");
+    }
 }
 
 #[test]
@@ -196,60 +234,28 @@ fn laws_run(_rt: HostRuntime) {
     examples();
 }
 
-fn is_named(step: &Step, name: &str) -> bool {
-    match step {
-        Step::Name(text) => text.as_str() == name,
-        Step::Index(_) => false,
+// Reads the text, and again where memory was refused.
+fn read_again(alloc: Global, text: &str) -> Result<Template, TemplateError> {
+    let read = parse(alloc, text);
+    match read {
+        Err(TemplateError::OutOfMemory) => parse(alloc, text),
+        _ => read,
     }
-}
-
-// The nodes of `a{{request.headers.X-Id}}{{../x.[0]}}{{.}}`, compared without taking memory.
-fn are_as_spelled(nodes: &[Node]) -> bool {
-    let (piece, first, second, third) = match nodes {
-        [
-            Node::Piece(piece),
-            Node::Print(Expression::Reference(Reference::Root(first))),
-            Node::Print(
-                Expression::Reference(
-                    Reference::Item {
-                        depth: 1,
-                        steps: second,
-                    },
-                ),
-            ),
-            Node::Print(
-                Expression::Reference(
-                    Reference::Item {
-                        depth: 0,
-                        steps: third,
-                    },
-                ),
-            ),
-        ] => { (piece, first, second, third) }
-        _ => return false,
-    };
-    let is_header = match first.steps() {
-        [a, b, c] => is_named(a, "request") && is_named(b, "headers") && is_named(c, "x-id"),
-        _ => false,
-    };
-    let is_outer = match second.steps() {
-        [a, Step::Index(0)] => is_named(a, "x"),
-        _ => false,
-    };
-    piece.as_str() == "a" && is_header && is_outer && third.steps().is_empty()
 }
 
 // Run with `rt try --test --fail-alloc N` for N = 1, 2, .. until nothing fails: each growth is refused in turn.
 #[test]
-fn reads_again_after_a_refused_growth(rt: HostRuntime) -> Result<(), Fail> {
-    let text = "a{{request.headers.X-Id}}{{../x.[0]}}{{.}}";
-    let mut read = parse(rt.alloc(), text);
-    if let Err(TemplateError::OutOfMemory) = read {
-        read = parse(rt.alloc(), text);
-    }
-    match read {
-        Ok(template) => assert!(rt; are_as_spelled(template.nodes())),
-        Err(_error) => assert!(rt; false),
-    }
-    Ok(())
+fn reads_again_after_a_refused_growth(rt: HostRuntime) {
+    let tree = read_again(
+        rt.alloc(),
+        "a{{request.headers.X-Id.[0].1}}{{../x.[0]}}{{.}}{{!}}b",
+    );
+    assert!(rt;
+        reads(
+            &tree,
+            "|a|root/request/headers/x-id/#0/#1item 1/x/#0item 0|b|"
+        )
+    );
+    let fault = read_again(rt.alloc(), "{{x}}{{y!}}");
+    assert!(rt; refuses(&fault, 26, 5));
 }

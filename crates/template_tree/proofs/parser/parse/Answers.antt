@@ -1,4 +1,4 @@
-use Rattle.std.proofs.Common.{sym, subst}
+use Rattle.std.proofs.Common.{sym, subst, arith}
 use Rattle.template_tree.specs.Grammar.{Spells}
 use Rattle.template_tree.specs.Tree.{Nodes, tree_of}
 use Rattle.template_tree.proofs.Unique.{one_tree, never_both, memory_alone, this_or_memory}
@@ -12,6 +12,7 @@ returns-in-Ok c =
     record {
       found = found;
       wrong = tt;
+      too_long = λ long. absurd (omega (arith, long));
       every_tree = λ tree t. one_tree text (tree_of c.new.result) tree found t;
       every_fault = λ fault f. never_both text (tree_of c.new.result) fault found f;
     }

@@ -4,7 +4,8 @@ use Rattle.template_tree.proofs.paths.dot_place.Goals as goal
 
 pub returns-then-is_cut : goal.returns-then-is_cut
 returns-then-is_cut c =
-    seen_cut c.args.text.now c.loop-rest.at c.loop-rest.inside c.loop-rest.rest.now c.in-len1-up.len_at_least c.loop-rest.invariant (sym c.is_cut.ensures ∙ c.if-is_cut.true)
+    let d = seen_cut c.args.text.now c.loop-rest.at c.loop-rest.inside c.loop-rest.rest.now c.in-len1-up.len_at_least c.loop-rest.invariant (sym c.is_cut.ensures ∙ c.if-is_cut.true) in
+    record { none = tt; inside = d.inside; dot = d.dot; parts = d.parts }
 
 pub loop-rest-preserved : goal.loop-rest-preserved
 loop-rest-preserved c =
@@ -14,4 +15,9 @@ loop-rest-preserved c =
     (seen_step c.args.text.now c.loop-rest.at c.loop-rest.inside r c.in-len1-up.len_at_least c.loop-rest.invariant (sym c.is_cut.ensures ∙ c.if-is_cut.false))
 
 pub returns : goal.returns
-returns c = seen_all c.args.text.now c.loop-rest.at c.loop-rest.inside c.loop-rest.rest.now c.in_default.len_below c.loop-rest.invariant
+returns c = record {
+  none = seen_all c.args.text.now c.loop-rest.at c.loop-rest.inside c.loop-rest.rest.now c.in_default.len_below c.loop-rest.invariant;
+  inside = tt;
+  dot = tt;
+  parts = tt;
+}
