@@ -4,14 +4,11 @@ use Rattle.std.specs.Prelude.{max, ◌&&◌, cond}
 use Rattle.std.proofs.lemmas.List.Folds.{list_all-append}
 use Rattle.std.proofs.lemmas.Option.{none-some, same_Some}
 use Rattle.template_code.specs.Bounds.{Bound, plus, value, fits}
+use Rattle.template_code.proofs.BoundFacts.{plus-empty}
 
 drop-none : (i : ℕ) → drop {A = ℕ} i [] ≡ []
 drop-none zero = refl
 drop-none (suc i) = refl
-
-plus-none : (ps : Bound) → plus ps [] ≡ ps
-plus-none [] = refl
-plus-none (p ∷ ps) = refl
 
 drop-right : (qs : Bound) (i : ℕ) → i < length qs → drop i qs ≡ (0 + get_or qs i 0) ∷ drop (suc i) qs
 drop-right [] i h = absurd (omega (arith, h))
@@ -27,8 +24,8 @@ plus-drop [] [] i h = absurd (omega (arith, h))
 plus-drop [] (q ∷ qs) i h =
     ap (λ x. plus x (drop i (q ∷ qs))) (drop-none i) ∙ drop-right (q ∷ qs) i (omega (arith, h))
 plus-drop (p ∷ ps) [] i h =
-    ap (plus (drop i (p ∷ ps))) (drop-none i) ∙ (plus-none (drop i (p ∷ ps)) ∙ (drop-left (p ∷ ps) i (omega (arith, h))
-    ∙ ap (λ x. (get_or (p ∷ ps) i 0 + 0) ∷ x) (sym (plus-none (drop (suc i) (p ∷ ps))))))
+    ap (plus (drop i (p ∷ ps))) (drop-none i) ∙ (plus-empty (drop i (p ∷ ps)) ∙ (drop-left (p ∷ ps) i (omega (arith, h))
+    ∙ ap (λ x. (get_or (p ∷ ps) i 0 + 0) ∷ x) (sym (plus-empty (drop (suc i) (p ∷ ps))))))
 plus-drop (p ∷ ps) (q ∷ qs) zero h = refl
 plus-drop (p ∷ ps) (q ∷ qs) (suc i) h = plus-drop ps qs i (omega (arith, h))
 

@@ -1,10 +1,6 @@
--- Budgets as they are told: the same values, and sums that keep the form.
+-- Budgets as they are told: sums keep the form, and so do limits.
 use Rattle.std.proofs.Common.{◌≡◌, ℕ, ◌+◌, [], ◌∷◌, refl, ap, arith}
-use Rattle.template_code.specs.Bounds.{Bound, plus, value, fits, told}
-
-pub value-told : (ps : Bound) (n : ℕ) → value (told ps) n ≡ value ps n
-value-told [] n = grind arith
-value-told (p ∷ ps) n = refl
+use Rattle.template_code.specs.Bounds.{Bound, plus, fits, told}
 
 pub plus-told : (ps qs : Bound) → plus (told ps) qs ≡ told (plus ps qs)
 plus-told [] [] = refl

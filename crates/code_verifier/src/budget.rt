@@ -10,7 +10,7 @@ use std::marker::Model;
 
 /// How many steps a run takes and how many bytes it writes, at most: two polynomials in the size of the
 /// request's data, as lists of coefficients. The constant stands first, and no list but `[0]` ends in a
-/// zero.
+/// zero, as `laws::law_trim` says of every budget.
 #[derive(Debug, Drop)]
 pub struct Budget {
     steps: Polynomial,

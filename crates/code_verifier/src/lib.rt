@@ -1,7 +1,7 @@
 // Who may run: one pass over stack code, which keeps what is known before the next place and no table. It
 // stands on `template_code`, whose definitions of well-formed code, faults and budgets its contracts cite;
-// `specs/Verdict.antt` says what is known of accepted code and what an error tells. The other files of
-// `specs/` are words of the private functions.
+// `specs/Verdict.antt` says what is known of accepted code and what an error tells. `Pass`, `Slots` and `Finding`
+// are words of the private functions.
 #![tactic(auto)]
 
 pub mod budget;

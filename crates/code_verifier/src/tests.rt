@@ -1,6 +1,7 @@
-// Hand-made code, with one text and one empty path in its tables. The first rows are known faults; the
-// lists are those of `Hello {{request.path.[1]}}`, of one value alone and of the empty template.
+// Hand-made code, with one text and one empty path in its tables, and its verdict by the rules. Each growth
+// that is refused is tried again.
 use crate::error::VerifyError;
+use crate::verified::Verified;
 use crate::verify::verify;
 use data_tree::plain_text::PlainText;
 use data_tree::step::Path;
@@ -15,6 +16,20 @@ const EMIT: Instr = Instr::Emit(0);
 const ROOT: Instr = Instr::Root(0);
 
 // That instruction so many times, and then the others.
+fn made(
+    alloc: Global,
+    count: usize,
+    instr: Instr,
+    others: &[Instr],
+    text: &str,
+) -> Result<Code, AllocError> {
+    let mut instrs = vec![in alloc; instr; count]?;
+    instrs.extend_from_slice(others)?;
+    let texts = vec![in alloc; PlainText::new(String::from_str(alloc, text)?)]?;
+    let paths = vec![in alloc; Path::new(Vec::new(alloc))]?;
+    Ok(Code::new(instrs, texts, paths))
+}
+
 fn code(
     alloc: Global,
     count: usize,
@@ -22,44 +37,45 @@ fn code(
     others: &[Instr],
     text: &str,
 ) -> Result<Code, AllocError> {
-    let mut instrs = Vec::new(alloc);
-    for _ in 0..count {
-        instrs.push(instr)?;
+    match made(alloc, count, instr, others, text) {
+        Ok(code) => Ok(code),
+        Err(_refused) => made(alloc, count, instr, others, text),
     }
-    for other in others {
-        instrs.push(*other)?;
-    }
-    let mut texts = Vec::new(alloc);
-    texts.push(PlainText::new(String::from_str(alloc, text)?))?;
-    let mut paths = Vec::new(alloc);
-    paths.push(Path::new(Vec::new(alloc)))?;
-    Ok(Code::new(instrs, texts, paths))
 }
 
-// Whether the code has that fault, and comes back.
-fn has_fault(code: Code, alloc: Global, place: usize, rule: Rule) -> bool {
-    let len = code.instrs().len();
+// Where memory is refused, the code comes back and is judged again.
+fn judged(alloc: Global, code: Code) -> Result<Verified, VerifyError> {
     match verify(alloc, code) {
-        Ok(_verified) => false,
-        Err(VerifyError::OutOfMemory { code: _ }) => false,
-        Err(
-            VerifyError::CodeRefused {
-                code,
-                place: at,
-                rule: broken,
-            },
-        ) => code.instrs().len() == len && at == place && broken == rule,
-    }
-}
-
-// Whether the code is accepted with these lists; where memory is refused it is judged again.
-fn has_budget(code: Code, alloc: Global, steps: &[u64], bytes: &[u64]) -> bool {
-    let judged = match verify(alloc, code) {
         Err(VerifyError::OutOfMemory { code }) => verify(alloc, code),
         judged => judged,
-    };
-    match judged {
-        Ok(verified) => verified.budget().steps() == steps && verified.budget().bytes() == bytes,
+    }
+}
+
+// The fault that is told, where the code comes back in its length.
+fn fault(alloc: Global, code: Code) -> Option<(usize, Rule)> {
+    let len = code.instrs().len();
+    match judged(alloc, code) {
+        Ok(_verified) => None,
+        Err(VerifyError::OutOfMemory { code: _code }) => None,
+        Err(VerifyError::CodeRefused { code, place, rule }) => {
+            if code.instrs().len() == len {
+                Some((place, rule))
+            } else {
+                None
+            }
+        }
+    }
+}
+
+// Whether the code is accepted with these lists, and is then held as it was given.
+fn has_budget(alloc: Global, code: Code, steps: &[u64], bytes: &[u64]) -> bool {
+    let len = code.instrs().len();
+    match judged(alloc, code) {
+        Ok(verified) => {
+            verified.code().instrs().len() == len
+                && verified.budget().steps() == steps
+                && verified.budget().bytes() == bytes
+        }
         Err(_refused) => false,
     }
 }
@@ -67,91 +83,79 @@ fn has_budget(code: Code, alloc: Global, steps: &[u64], bytes: &[u64]) -> bool {
 #[test]
 fn the_least_fault_is_told(rt: HostRuntime) -> Result<(), Fail> {
     let alloc = rt.alloc();
-    assert!(rt;
-        has_fault(
-            code(alloc, 0, EMIT, &[Instr::Print, Instr::Halt], "")?,
-            alloc,
-            0,
-            Rule::V5
-        )
-    );
-    assert!(rt;
-        has_fault(
-            code(alloc, 1, ROOT, &[Instr::Print, Instr::Halt], "")?,
-            alloc,
-            1,
-            Rule::V6
-        )
-    );
-    assert!(rt; has_fault(code(alloc, 0, EMIT, &[], "")?, alloc, 0, Rule::V1));
-    assert!(rt;
-        has_fault(
-            code(alloc, 0, EMIT, &[Instr::Emit(1), Instr::Halt], "")?,
-            alloc,
-            0,
-            Rule::V2
-        )
-    );
-    assert!(rt;
-        has_fault(
-            code(alloc, 1, ROOT, &[Instr::Halt], "")?,
-            alloc,
-            1,
-            Rule::V8
-        )
-    );
-    assert!(rt;
-        has_fault(
-            code(alloc, 0, EMIT, &[Instr::Halt, Instr::Halt], "")?,
-            alloc,
-            0,
-            Rule::V12
-        )
-    );
-    assert!(rt; has_fault(code(alloc, 1, EMIT, &[], "")?, alloc, 0, Rule::V12));
+    let rows: &[(&[Instr], usize, Rule)] = &[
+        (&[], 0, Rule::V1),
+        (&[Instr::Emit(1), Instr::Halt], 0, Rule::V2),
+        (&[Instr::Root(1), Instr::Halt], 0, Rule::V2),
+        (&[Instr::Print, Instr::Halt], 0, Rule::V5),
+        (&[Instr::Show, Instr::Halt], 0, Rule::V5),
+        (&[ROOT, Instr::Print, Instr::Halt], 1, Rule::V6),
+        (&[ROOT, Instr::Show, Instr::Show, Instr::Halt], 2, Rule::V6),
+        (&[ROOT, Instr::Halt], 1, Rule::V8),
+        (&[Instr::Halt, Instr::Halt], 0, Rule::V12),
+        (&[EMIT], 0, Rule::V12),
+        // Two rules at one place, and faults at two places.
+        (&[Instr::Emit(1)], 0, Rule::V2),
+        (&[Instr::Print], 0, Rule::V5),
+        (&[ROOT, Instr::Print], 1, Rule::V6),
+        (&[ROOT, Instr::Halt, Instr::Halt], 1, Rule::V8),
+        (&[Instr::Halt, Instr::Emit(1)], 0, Rule::V12),
+    ];
+    for (instrs, place, rule) in rows {
+        let code = code(alloc, 0, EMIT, instrs, "")?;
+        assert_eq!(rt; fault(alloc, code), Some((*place, *rule)));
+    }
     Ok(())
 }
 
 #[test]
 fn code_has_at_most_4096_instructions_and_32_slots(rt: HostRuntime) -> Result<(), Fail> {
     let alloc = rt.alloc();
-    assert!(rt;
-        has_fault(
-            code(alloc, 4096, EMIT, &[Instr::Halt], "")?,
-            alloc,
-            4096,
-            Rule::V1
-        )
-    );
-    assert!(rt;
-        has_fault(
-            code(alloc, 33, ROOT, &[Instr::Halt], "")?,
-            alloc,
-            32,
-            Rule::V7
-        )
-    );
-    assert!(rt;
-        has_fault(
-            code(alloc, 32, ROOT, &[Instr::Halt], "")?,
-            alloc,
-            32,
-            Rule::V8
-        )
-    );
-    assert!(rt;
-        has_budget(
-            code(alloc, 4095, EMIT, &[Instr::Halt], "x")?,
-            alloc,
-            &[4096],
-            &[4095]
-        )
-    );
+    let rows: &[(usize, Instr, Instr, usize, Rule)] = &[
+        (4096, EMIT, Instr::Halt, 4096, Rule::V1),
+        (4096, EMIT, Instr::Emit(1), 4096, Rule::V1),
+        (33, ROOT, Instr::Halt, 32, Rule::V7),
+        (32, ROOT, Instr::Halt, 32, Rule::V8),
+    ];
+    for (count, instr, last, place, rule) in rows {
+        let code = code(alloc, *count, *instr, &[*last], "")?;
+        assert_eq!(rt; fault(alloc, code), Some((*place, *rule)));
+    }
     Ok(())
 }
 
 #[test]
-fn budgets_are_told_also_after_memory_was_refused(rt: HostRuntime) -> Result<(), Fail> {
+fn budgets_are_told(rt: HostRuntime) -> Result<(), Fail> {
+    let alloc = rt.alloc();
+    let rows: &[(usize, &[Instr], &str, &[u64], &[u64])] = &[
+        (
+            0,
+            &[ROOT, Instr::Show, Instr::Print, Instr::Halt],
+            "",
+            &[4],
+            &[0, 1],
+        ),
+        (
+            1,
+            &[ROOT, Instr::Show, Instr::Print, Instr::Halt],
+            "Hello ",
+            &[5],
+            &[6, 1],
+        ),
+        (0, &[Instr::Halt], "", &[1], &[0]),
+        // Bytes are counted, not characters.
+        (2, &[Instr::Halt], "é", &[3], &[4]),
+        (4095, &[Instr::Halt], "x", &[4096], &[4095]),
+    ];
+    for (emits, others, text, steps, bytes) in rows {
+        let code = code(alloc, *emits, EMIT, others, text)?;
+        assert!(rt; has_budget(alloc, code, steps, bytes));
+    }
+    Ok(())
+}
+
+#[test]
+fn a_budget_has_its_values_and_a_refusal_its_code(rt: HostRuntime) -> Result<(), Fail> {
     let alloc = rt.alloc();
     let value = code(
         alloc,
@@ -160,42 +164,15 @@ fn budgets_are_told_also_after_memory_was_refused(rt: HostRuntime) -> Result<(),
         &[Instr::Show, Instr::Print, Instr::Halt],
         "",
     )?;
-    assert!(rt; has_budget(value, alloc, &[4], &[0, 1]));
-    let hello = code(
-        alloc,
-        1,
-        EMIT,
-        &[ROOT, Instr::Show, Instr::Print, Instr::Halt],
-        "Hello ",
-    )?;
-    assert!(rt; has_budget(hello, alloc, &[5], &[6, 1]));
-    let nothing = code(alloc, 0, EMIT, &[Instr::Halt], "")?;
-    assert!(rt; has_budget(nothing, alloc, &[1], &[0]));
-    Ok(())
-}
-
-#[test]
-fn a_budget_has_its_values_and_a_refusal_its_code(rt: HostRuntime) -> Result<(), Fail> {
-    let alloc = rt.alloc();
-    match verify(
-        alloc,
-        code(
-            alloc,
-            1,
-            ROOT,
-            &[Instr::Show, Instr::Print, Instr::Halt],
-            "",
-        )?,
-    ) {
+    match judged(alloc, value) {
         Ok(verified) => {
-            assert_eq!(rt; verified.code().instrs().len(), 4);
-            assert_eq!(rt; verified.budget().at(0), Some((4, 0)));
-            assert_eq!(rt; verified.budget().at(1), Some((4, 1)));
-            assert_eq!(rt; verified.budget().at(16_777_216), Some((4, 16_777_216)));
+            for size in [0, 1, 16_777_216] {
+                assert_eq!(rt; verified.budget().at(size), Some((4, u128::from(size))));
+            }
         }
         Err(refused) => assert_eq!(rt; refused.code().number(), 50),
     }
-    match verify(alloc, code(alloc, 0, EMIT, &[], "")?) {
+    match judged(alloc, code(alloc, 0, EMIT, &[], "")?) {
         Ok(_verified) => assert!(rt; false, "accepted"),
         Err(refused) => assert_eq!(rt; refused.code().number(), 28),
     }

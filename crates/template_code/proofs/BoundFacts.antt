@@ -1,6 +1,6 @@
 -- The values of bounds.
 use Rattle.std.proofs.Common.{◌≡◌, ℕ, zero, suc, ◌+◌, [], ◌∷◌, refl, arith}
-use Rattle.template_code.specs.Bounds.{Bound, constant, all_data, plus, value}
+use Rattle.template_code.specs.Bounds.{Bound, constant, all_data, plus, value, told}
 
 pub value-constant : (c n : ℕ) → value (constant c) n ≡ c
 value-constant zero n = refl
@@ -13,6 +13,10 @@ pub value-plus : (ps qs : Bound) (n : ℕ) → value (plus ps qs) n ≡ value ps
 value-plus [] qs n = omega arith
 value-plus (p ∷ ps) [] n = omega arith
 value-plus (p ∷ ps) (q ∷ qs) n = rw (value-plus ps qs n) (grind arith)
+
+pub value-told : (ps : Bound) (n : ℕ) → value (told ps) n ≡ value ps n
+value-told [] n = grind arith
+value-told (p ∷ ps) n = refl
 
 pub plus-empty : (ps : Bound) → plus ps [] ≡ ps
 plus-empty [] = refl

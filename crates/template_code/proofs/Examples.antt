@@ -117,6 +117,26 @@ no_end = refl
 early_end : verdicts (Halt ∷ Halt ∷ []) 1 ≡ Some V12 ∷ []
 early_end = refl
 
+-- a place that breaks several rules: the least is told
+path_before_end : verdicts (Root 1 ∷ []) 1 ≡ Some V2 ∷ []
+path_before_end = refl
+
+missing_before_end : verdicts (Print ∷ []) 1 ≡ Some V5 ∷ []
+missing_before_end = refl
+
+kind_before_end : verdicts (Root 0 ∷ Print ∷ []) 2 ≡ None ∷ Some V6 ∷ []
+kind_before_end = refl
+
+slot_33_before_end : verdicts (replicate 33 (Root 0)) 33 ≡ replicate 32 None ++ Some V7 ∷ []
+slot_33_before_end = refl
+
+left_before_end : verdicts (Root 0 ∷ Halt ∷ Halt ∷ []) 2 ≡ None ∷ Some V8 ∷ []
+left_before_end = refl
+
+-- the kind of the top is judged, whatever lies below it
+text_below_data : verdicts (Root 0 ∷ Show ∷ Root 0 ∷ Print ∷ Halt ∷ []) 4 ≡ None ∷ None ∷ None ∷ Some V6 ∷ []
+text_below_data = refl
+
 -- a text that is one byte too long for a budget, and one that just fits
 abbrev one_text : List ℕ → StackCode
 one_text bytes = record { instrs = Emit 0 ∷ Halt ∷ []; texts = bytes ∷ []; paths = [] }
@@ -126,3 +146,17 @@ too_long bytes h = rw h refl
 
 just_fits : (bytes : List ℕ) → length bytes ≡ 2 ^ 63 - 1 → verdict (one_text bytes) 0 (entry_at (one_text bytes) 0) ≡ None
 just_fits bytes h = rw h refl
+
+-- one at the last place: a broken rule on places comes before
+too_long_at_the_end : (bytes : List ℕ) → length bytes ≡ 2 ^ 63 → verdict (record { instrs = Emit 0 ∷ []; texts = bytes ∷ []; paths = [] }) 0 (entry_at (record { instrs = Emit 0 ∷ []; texts = bytes ∷ []; paths = [] }) 0) ≡ Some V12
+too_long_at_the_end bytes h = refl
+
+-- two that fit, of which the second takes the budget over the limit
+abbrev two_texts : List ℕ → StackCode
+two_texts bytes = record { instrs = Emit 0 ∷ Emit 0 ∷ Halt ∷ []; texts = bytes ∷ []; paths = [] }
+
+first_fits : (bytes : List ℕ) → length bytes ≡ 2 ^ 62 → verdict (two_texts bytes) 0 (entry_at (two_texts bytes) 0) ≡ None
+first_fits bytes h = rw h refl
+
+second_is_too_much : (bytes : List ℕ) → length bytes ≡ 2 ^ 62 → verdict (two_texts bytes) 1 (entry_at (two_texts bytes) 1) ≡ Some V13
+second_is_too_much bytes h = rw h refl

@@ -3,6 +3,7 @@ pub mod RunFacts
 pub mod MachineFacts
 pub mod BoundFacts
 pub mod BudgetFacts
+pub mod TrimFacts
 pub mod TableFacts
 pub mod FaultFacts
 pub mod FormFacts

@@ -1,10 +1,15 @@
 -- Bounds and budgets as polynomials in n, the size of a request's data: lists of coefficients, the constant first.
-use Rattle.std.specs.Prelude.{ℕ, zero, suc, ◌+◌, ◌-◌, ◌*◌, ◌^◌, nat_le, Bool, List, [], ◌∷◌}
+use Rattle.std.specs.Prelude.{ℕ, zero, suc, ◌+◌, ◌-◌, ◌*◌, ◌^◌, nat_eq, nat_le, Bool, false, List, [], ◌∷◌}
 use Rattle.std.specs.List.{list_all}
 
--- no list ends in a zero
+-- no list of a bound or a budget ends in a zero (a law says so)
 abbrev pub Bound : Type 0
 Bound = List ℕ
+
+abbrev pub ends_in_zero : Bound → Bool
+ends_in_zero [] = false
+ends_in_zero (p ∷ []) = nat_eq p 0
+ends_in_zero (p ∷ q ∷ ps) = ends_in_zero (q ∷ ps)
 
 -- a number that doesn't depend on n
 abbrev pub constant : ℕ → Bound

@@ -1,9 +1,10 @@
 -- What holds of all code and of all its runs.
-use Rattle.std.specs.Prelude.{◌≡◌, ℕ, suc, ◌+◌, ◌≤◌, not, ◌&&◌, ◌⊎◌, List, ◌++◌, map, length, drop, Some, is_some, slice_get}
+use Rattle.std.specs.Prelude.{◌≡◌, ℕ, suc, ◌+◌, ◌≤◌, false, not, ◌&&◌, ◌⊎◌, List, ◌++◌, map, length, drop, Some, is_some, slice_get}
 use Rattle.data_tree.specs.Tree.{Tree}
 use Rattle.template_code.specs.Code.{StackCode}
 use Rattle.template_code.specs.Instructions.{names_entries, pops, pushes}
 use Rattle.template_code.specs.Machine.{Value, kind_of, Loop, Effect, effect, State, Comes, EndsAt}
+use Rattle.template_code.specs.Bounds.{Bound, ends_in_zero, constant, all_data, plus, value, told}
 use Rattle.template_code.specs.Budget.{plus_cost, cost, bounds_behind, bounds_at, cost_before, budget}
 use Rattle.template_code.specs.WellFormed.{Entry, IsTable, lacks_slots, kinds_fit, broken, IsWellFormed, IsWithinLimits, IsFault}
 use Rattle.template_code.specs.declared.instr.Instr.{Instr}
@@ -59,6 +60,23 @@ BoundsRun = (code : StackCode) (place : ℕ) (i : Instr) → slice_get code.inst
 
 abbrev pub CostsEnd : Type 0
 CostsEnd = (code : StackCode) → cost_before code (length code.instrs) ≡ budget code
+
+-- so a budget has one list for each of its polynomials
+abbrev pub NoneEndsInZero : Type 0
+NoneEndsInZero = (code : StackCode) → (ends_in_zero (budget code).steps ≡ false) × (ends_in_zero (budget code).bytes ≡ false)
+
+-- the value of a number is the number, that of `all_data` is the size
+abbrev pub ConstantsAreValues : Type 0
+ConstantsAreValues = (c n : ℕ) → value (constant c) n ≡ c
+
+abbrev pub DataIsItsSize : Type 0
+DataIsItsSize = (n : ℕ) → value all_data n ≡ n
+
+abbrev pub ValuesAddUp : Type 0
+ValuesAddUp = (ps qs : Bound) (n : ℕ) → value (plus ps qs) n ≡ value ps n + value qs n
+
+abbrev pub ToldKeepsValues : Type 0
+ToldKeepsValues = (ps : Bound) (n : ℕ) → value (told ps) n ≡ value ps n
 
 -- an instruction has an effect exactly where its tables, its slots and their kinds are right
 abbrev pub EffectsAreRuled : Type 0

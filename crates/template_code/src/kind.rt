@@ -5,7 +5,10 @@
 pub enum Kind {
     /// A value of the request's data.
     Data,
+    /// A text, which is written as it stands.
     Text,
+    /// A whole number.
     Number,
+    /// Yes or no.
     Truth,
 }

@@ -1,5 +1,5 @@
 // Laws over the definitions, for all code and all runs: functions that do nothing, whose contracts are the laws.
-ghost use Rattle.template_code.specs.Laws.{EachIsJudged, NoneIsBoth, FaultIsOne, EachIsFormed, NoneIsBothFormed, FormedIsLimited, FaultOfForm, RunsEndAlike, StepsAddUp, EffectsAreRuled, EffectsAreKinded, CostsRun, BoundsRun, CostsEnd};
+ghost use Rattle.template_code.specs.Laws.{EachIsJudged, NoneIsBoth, FaultIsOne, EachIsFormed, NoneIsBothFormed, FormedIsLimited, FaultOfForm, RunsEndAlike, StepsAddUp, EffectsAreRuled, EffectsAreKinded, CostsRun, BoundsRun, CostsEnd, NoneEndsInZero, ConstantsAreValues, DataIsItsSize, ValuesAddUp, ToldKeepsValues};
 
 /// One verdict on code: a fault, which is the only one, or that it is accepted; and so for the rules without V13.
 pub fn law_one_verdict()
@@ -30,9 +30,18 @@ pub fn law_rules_fit_machine()
     ensures kinded { EffectsAreKinded }
 {}
 
-/// The budget is what one pass over the instructions adds up.
+/// The budget is what one pass over the instructions adds up, and none of its lists ends in a zero.
 pub fn law_running_budget()
     ensures costs { CostsRun }
     ensures bounds { BoundsRun }
     ensures end { CostsEnd }
+    ensures trimmed { NoneEndsInZero }
+{}
+
+/// The value of a sum is the sum of the values, and a list that is told has the value of the bound.
+pub fn law_values()
+    ensures constants { ConstantsAreValues }
+    ensures all_data { DataIsItsSize }
+    ensures sums { ValuesAddUp }
+    ensures told { ToldKeepsValues }
 {}

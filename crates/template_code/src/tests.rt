@@ -8,10 +8,15 @@ use data_tree::step::{Path, Step};
 use std::alloc::{AllocError, Global};
 use std::test::Fail;
 
+// Over one text, `Hello `, and one path, to the item at 1.
 fn code_of(alloc: Global, instrs: &[Instr]) -> Result<Code, AllocError> {
-    let texts = vec![in alloc; PlainText::new(String::new(alloc))]?;
-    let paths = vec![in alloc; Path::new(Vec::new(alloc))]?;
+    let texts = vec![in alloc; PlainText::new("Hello ".to_string(alloc)?)]?;
+    let paths = vec![in alloc; second_item(alloc)?]?;
     Ok(Code::new(Vec::from_slice(alloc, instrs)?, texts, paths))
+}
+
+fn second_item(alloc: Global) -> Result<Path, AllocError> {
+    Ok(Path::new(vec![in alloc; Step::Index(1)]?))
 }
 
 #[test]
@@ -44,14 +49,9 @@ fn each_instruction_has_a_line(rt: HostRuntime) -> Result<(), Fail> {
 #[test]
 fn code_gives_its_parts_back(rt: HostRuntime) -> Result<(), Fail> {
     let alloc = rt.alloc();
-    let instrs = vec![in alloc; Instr::Emit(0), Instr::Root(0), Instr::Halt]?;
-    let texts = vec![in alloc; PlainText::new("Hello ".to_string(alloc)?)]?;
-    let path = vec![in alloc; Step::Index(1)]?;
-    let code = Code::new(instrs, texts, vec![in alloc; Path::new(path)]?);
-    assert_eq!(rt;
-        code.instrs(),
-        [Instr::Emit(0), Instr::Root(0), Instr::Halt].as_slice()
-    );
+    let instrs = [Instr::Emit(0), Instr::Root(0), Instr::Halt];
+    let code = code_of(alloc, &instrs)?;
+    assert_eq!(rt; code.instrs(), instrs.as_slice());
     assert_eq!(rt; code.texts().len(), 1);
     assert_eq!(rt; code.texts()[0].as_str(), "Hello ");
     assert_eq!(rt; code.paths().len(), 1);

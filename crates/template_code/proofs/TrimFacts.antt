@@ -1,0 +1,58 @@
+-- No list of a budget ends in a zero.
+use Rattle.std.proofs.Common.{◌≡◌, ℕ, zero, suc, ◌+◌, List, [], ◌∷◌, length, false, nat_eq, refl, arith}
+use Rattle.std.specs.Prelude.{slice_get, unwrap_or}
+use Rattle.template_code.specs.Code.{StackCode}
+use Rattle.template_code.specs.Bounds.{Bound, ends_in_zero, constant, plus}
+use Rattle.template_code.specs.Budget.{budget, bounds_behind, region, written_bound}
+use Rattle.template_code.specs.declared.instr.Instr.{Instr}
+use Rattle.template_code.specs.declared.instr.Instr.TheVariants.{Emit, Root, Show, Print, Halt}
+
+abbrev IsTrimmed : Bound → Type 0
+IsTrimmed ps = ends_in_zero ps ≡ false
+
+sum_not_zero : (p q : ℕ) → nat_eq p 0 ≡ false → nat_eq (p + q) 0 ≡ false
+sum_not_zero p q h = grind (arith, h)
+
+trimmed-plus : (ps qs : Bound) → IsTrimmed ps → IsTrimmed qs → IsTrimmed (plus ps qs)
+trimmed-plus [] qs h k = k
+trimmed-plus (p ∷ ps) [] h k = h
+trimmed-plus (p ∷ []) (q ∷ []) h k = sum_not_zero p q h
+trimmed-plus (p ∷ []) (q ∷ r ∷ qs) h k = k
+trimmed-plus (p ∷ o ∷ ps) (q ∷ []) h k = h
+trimmed-plus (p ∷ o ∷ ps) (q ∷ r ∷ qs) h k = trimmed-plus (o ∷ ps) (r ∷ qs) h k
+
+trimmed-constant : (c : ℕ) → IsTrimmed (constant c)
+trimmed-constant zero = refl
+trimmed-constant (suc c) = grind arith
+
+abbrev AllTrimmed : List Bound → Type 0
+AllTrimmed [] = Unit {0}
+AllTrimmed (b ∷ bs) = IsTrimmed b × AllTrimmed bs
+
+trimmed-behind : (code : StackCode) (i : Instr) (bounds : List Bound) → AllTrimmed bounds → AllTrimmed (bounds_behind code i bounds)
+trimmed-behind code (Emit t) bounds h = h
+trimmed-behind code (Root p) bounds h = (refl, h)
+trimmed-behind code Show [] h = (refl, tt)
+trimmed-behind code Show (b ∷ bs) h = h
+trimmed-behind code Print [] h = tt
+trimmed-behind code Print (b ∷ bs) h = h.1
+trimmed-behind code Halt bounds h = tt
+
+trimmed-written : (code : StackCode) (i : Instr) (bounds : List Bound) → AllTrimmed bounds → IsTrimmed (written_bound code i bounds)
+trimmed-written code (Emit t) bounds h = trimmed-constant (length (unwrap_or (slice_get code.texts t) []))
+trimmed-written code (Root p) bounds h = refl
+trimmed-written code Show bounds h = refl
+trimmed-written code Print [] h = refl
+trimmed-written code Print (b ∷ bs) h = h.0
+trimmed-written code Halt bounds h = refl
+
+region-trimmed : (code : StackCode) (is : List Instr) (bounds : List Bound) → AllTrimmed bounds → IsTrimmed (region code is bounds).steps × IsTrimmed (region code is bounds).bytes
+region-trimmed code [] bounds h = (refl, refl)
+region-trimmed code (i ∷ is) bounds h =
+    let rest = region-trimmed code is (bounds_behind code i bounds) (trimmed-behind code i bounds h) in (
+      trimmed-plus (constant 1) (region code is (bounds_behind code i bounds)).steps refl rest.0,
+      trimmed-plus (written_bound code i bounds) (region code is (bounds_behind code i bounds)).bytes (trimmed-written code i bounds h) rest.1,
+    )
+
+pub budget-trimmed : (code : StackCode) → (ends_in_zero (budget code).steps ≡ false) × (ends_in_zero (budget code).bytes ≡ false)
+budget-trimmed code = region-trimmed code code.instrs [] tt
