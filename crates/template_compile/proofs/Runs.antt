@@ -1,11 +1,11 @@
 -- Each run of a template's code writes the template's text.
 use Rattle.std.proofs.Common.{◌≡◌, ℕ, suc, ◌+◌, List, [], ◌∷◌, ◌++◌, length, Some, refl, sym, ap, ◌∙◌, arith, append_assoc, append-nil, length-append, add-one}
-use Rattle.std.specs.Prelude.{IsTrue, slice_get, option_map, option_and_then}
-use Rattle.data_tree.specs.Tree.{Tree, nothing, truth, number, text, list, fields, named}
-use Rattle.data_tree.specs.LookUp.{at, after, is_nothing, HasNoEmptyName}
+use Rattle.std.specs.Prelude.{slice_get, option_map, option_and_then}
+use Rattle.data_tree.specs.Tree.{Tree}
+use Rattle.data_tree.specs.LookUp.{at, HasNoEmptyName}
 use Rattle.data_tree.specs.Print.{print as printed}
 use Rattle.data_tree.specs.declared.step.Step.{Step}
-use Rattle.data_tree.specs.declared.step.Step.TheVariants.{Name, Index}
+use Rattle.data_tree.proofs.Lookups.{at_nothing, at_empty_name}
 use Rattle.template_code.specs.Code.{StackCode}
 use Rattle.template_code.specs.Machine.{Value, a_datum, a_text, Loop, State, writes, leaves, moved, act, advance, Comes, Runs}
 use Rattle.template_code.specs.Instructions.{Straight}
@@ -19,27 +19,10 @@ use Rattle.template_compile.specs.Length.{part_length, nodes_length, code_length
 use Rattle.template_compile.specs.Meaning.{value_at, part_text, template_text}
 use Rattle.template_compile.proofs.Stands.{Stands, stands-front, stands-back, stands-itself}
 
-nothing-if : (t : Tree) → IsTrue (is_nothing t) → t ≡ nothing
-nothing-if nothing h = refl
-nothing-if (truth b) h = cc
-nothing-if (number n) h = cc
-nothing-if (text s) h = cc
-nothing-if (list ts) h = cc
-nothing-if (fields ms) h = cc
-nothing-if (named s ts ms) h = cc
-
-after-nothing : (s : Step) → after s nothing ≡ nothing
-after-nothing (Name name) = refl
-after-nothing (Index n) = refl
-
-at-nothing : (path : List Step) → at path nothing ≡ nothing
-at-nothing [] = refl
-at-nothing (s ∷ path) = ap (at path) (after-nothing s) ∙ at-nothing path
-
 -- outside of loops, the path that is read finds the value
 path-finds : (root : Tree) (r : Reference) → HasNoEmptyName root → at (path_of r) root ≡ value_at r root []
 path-finds root (Reference.Root path) h = refl
-path-finds root (Reference.Item depth steps) h = nothing-if (after (Name []) root) h ∙ sym (at-nothing steps)
+path-finds root (Reference.Item depth steps) h = at_empty_name root h ∙ sym (at_nothing steps)
 
 abbrev state : ℕ → List Value → List Loop → List ℕ → State
 state place stack loops output = record { place = place; stack = stack; loops = loops; output = output }

@@ -1,4 +1,5 @@
--- The code of a template, part by part. Each part's code says where its table entries stand.
+-- The code of a template, part by part. A part's code depends on where it stands: each use of a text or a path is a new
+-- entry of its table, behind those of the parts before.
 use Rattle.std.specs.Prelude.{ℕ, ◌+◌, List, [], ◌∷◌, ◌++◌, length}
 use Rattle.data_tree.specs.declared.step.Step.{Step}
 use Rattle.data_tree.specs.declared.step.Step.TheVariants.{Name}
@@ -61,6 +62,6 @@ abbrev pub nodes_code : Nodes → Seam → StackCode
 nodes_code no_nodes seam = no_code
 nodes_code (node part nodes) seam = joined (part_code part seam) (nodes_code nodes (past seam (part_code part seam)))
 
--- the code of a whole template
+-- the code of a whole template; `Halt` ends it
 abbrev pub code_of : Nodes → StackCode
 code_of nodes = joined (nodes_code nodes start) (bare (Halt ∷ []))

@@ -30,6 +30,9 @@ pub fn compile(alloc: Global, template: &Template) -> Result<Code, CompileError>
     ensures well_formed { IfOk result (λ code. IsWellFormed code) }
     ensures long { IfOk result (λ code. length code.instrs ≡ code_length (tree_of template.now)) }
 
+    // It is the code that the parts have, one by one.
+    ensures translated { IfOk result (λ code. code ≡ code_of (tree_of template.now)) }
+
     // Each run writes the template's text, over any root in which the empty name finds nothing.
     ensures runs { IfOk result (λ code. (root : Tree) → HasNoEmptyName root → Runs code root (code_length (tree_of template.now)) (template_text (tree_of template.now) root [])) }
 

@@ -4,7 +4,7 @@
 use crate::compiler::compile;
 use crate::error::CompileError;
 use data_tree::error_code::ErrorCode;
-use data_tree::step::Step;
+use data_tree::step::{Path, Step};
 use std::alloc::{AllocError, Global};
 use std::test::Fail;
 use template_code::code::Code;
@@ -60,42 +60,48 @@ fn each_part_is_followed_by_the_next_and_last_stands_halt(rt: HostRuntime) -> Re
     Ok(())
 }
 
+// `request.path.[1]`.
+fn is_second_segment(path: &Path) -> bool {
+    match path.steps() {
+        [Step::Name(first), Step::Name(second), Step::Index(1)] => {
+            first.as_str() == "request" && second.as_str() == "path"
+        }
+        _ => false,
+    }
+}
+
+// Outside of loops a name is Nothing, which the empty name finds in every request.
+fn is_nothing(path: &Path) -> bool {
+    match path.steps() {
+        [Step::Name(name)] => name.as_str().is_empty(),
+        _ => false,
+    }
+}
+
 #[test]
 fn each_use_is_an_entry(rt: HostRuntime) -> Result<(), Fail> {
     let alloc = rt.alloc();
     let code = code_of(alloc, "a{{request.path.[1]}}a{{request.path.[1]}}{{name}}")?;
-    assert_eq!(rt; code.texts().len(), 2);
-    for text in code.texts() {
-        assert_eq!(rt; text.as_str(), "a");
+    match code.texts() {
+        [first, second] => assert!(rt; first.as_str() == "a" && second.as_str() == "a"),
+        _ => assert!(rt; false, "not two texts"),
     }
-    assert_eq!(rt; code.paths().len(), 3);
-    for path in &code.paths()[..2] {
-        match path.steps() {
-            [Step::Name(first), Step::Name(second), Step::Index(index)] => {
-                assert_eq!(rt; first.as_str(), "request");
-                assert_eq!(rt; second.as_str(), "path");
-                assert_eq!(rt; *index, 1);
-            }
-            _ => assert!(rt; false, "another path"),
+    match code.paths() {
+        [first, second, third] => {
+            assert!(rt; is_second_segment(first) && is_second_segment(second));
+            assert!(rt; is_nothing(third));
         }
-    }
-    // Outside of loops a name is Nothing, which the empty name finds in every request.
-    match code.paths()[2].steps() {
-        [Step::Name(name)] => assert_eq!(rt; name.as_str(), ""),
-        _ => assert!(rt; false, "another path"),
+        _ => assert!(rt; false, "not three paths"),
     }
     Ok(())
 }
 
 // So many prints, each of three instructions.
 fn prints(alloc: Global, count: usize) -> Result<String, AllocError> {
-    let mut text = String::new(alloc);
-    for _ in 0..count {
-        if text.push_str("{{request.url}}").is_err() {
-            text.push_str("{{request.url}}")?;
-        }
+    match "{{request.url}}".repeat(alloc, count) {
+        Ok(text) => Ok(text),
+        Err(_error) => "{{request.url}}".repeat(alloc, count),
     }
-    Ok(text)
 }
 
 #[test]
@@ -142,7 +148,13 @@ fn a_refused_growth_changes_nothing(rt: HostRuntime) -> Result<(), Fail> {
         ]
         .as_slice()
     );
-    assert_eq!(rt; code.texts().len(), 2);
-    assert_eq!(rt; code.paths().len(), 2);
+    match code.texts() {
+        [first, second] => assert!(rt; first.as_str() == "a " && second.as_str() == "b"),
+        _ => assert!(rt; false, "not two texts"),
+    }
+    match code.paths() {
+        [first, second] => assert!(rt; is_second_segment(first) && is_nothing(second)),
+        _ => assert!(rt; false, "not two paths"),
+    }
     Ok(())
 }

@@ -4,6 +4,7 @@ use Rattle.data_tree.specs.Tree.{Tree}
 use Rattle.data_tree.specs.LookUp.{HasNoEmptyName}
 use Rattle.template_tree.specs.Tree.{Nodes}
 use Rattle.template_tree.specs.Grammar.{Spells}
+use Rattle.template_compile.specs.Compiled.{code_of}
 use Rattle.template_compile.specs.Length.{code_length}
 use Rattle.template_compile.specs.Meaning.{template_text}
 use Rattle.template_code.specs.Code.{StackCode}
@@ -22,10 +23,12 @@ IsProgramText text = (tree : Nodes) × Spells text tree × (code_length tree ≤
 abbrev pub IsTooLong : List ℕ → Type 0
 IsTooLong text = (tree : Nodes) × Spells text tree × (4096 < code_length tree)
 
--- every run of the code writes the text of the tree that the source spells, over a root where the empty name finds nothing
+-- the code is that of the tree that the source spells, and every run of it writes the tree's text, over a root where the
+-- empty name finds nothing
 pub record IsProgram (p : ProgramParts) : Type 0 where
   pub tree : Nodes
   pub spelled : Spells p.source tree
+  pub translated : p.code ≡ code_of tree
   pub runs : (root : Tree) → HasNoEmptyName root → Runs p.code root (code_length tree) (template_text tree root [])
 
 -- the text that the source means over a root, and the number of instructions

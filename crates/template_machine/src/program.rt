@@ -7,7 +7,7 @@ ghost use Rattle.template_code.specs.Budget.{budget};
 ghost use Rattle.template_code.specs.Machine.{Runs};
 ghost use Rattle.template_code.specs.declared.rule.Rule.{Rule};
 ghost use Rattle.template_machine.specs.Errors.{IsTold};
-ghost use Rattle.template_machine.specs.Program.{IsProgramText, IsMeant};
+ghost use Rattle.template_machine.specs.Program.{IsProgram, IsProgramText, IsMeant};
 ghost use Rattle.template_machine.specs.Safe.{IsSafe};
 ghost use Rattle.template_machine.specs.declared.error.ProgramError.TheVariants.{CodeRefused, OutOfMemory};
 
@@ -43,9 +43,11 @@ impl Model for Program {
 impl Program {
     /// The program of a template's text, where the text is one.
     ///
-    /// Work and memory grow with the text's length.
+    /// Else the text's first fault is told, and code that would be too long only where there is no other. Work
+    /// and memory grow with the text's length; where memory is refused, that is told.
     pub fn from_text(alloc: Global, text: &str) -> Result<Program, ProgramError>
         ensures source { IfOk result (λ program. program.source ≡ text.now) }
+        ensures program { IfOk result IsProgram }
         ensures ok { OnOk result (IsProgramText text.now) }
         ensures exactly { IsProgramText text.now → IfErr result (λ error. error ≡ OutOfMemory) }
         ensures told { IfErr result (λ error. IsTold text.now error) }
@@ -75,6 +77,8 @@ impl Program {
 }
 
 /// The text that a program's source means over a request's data, and the steps of its run.
+///
+/// The only error is that memory for the text is refused.
 pub fn render(
     alloc: Global,
     program: &Program,

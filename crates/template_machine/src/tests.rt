@@ -1,6 +1,7 @@
 // Templates with what they give, and where others are wrong: examples of the Handlebars guide's kind, whose
-// results an independent program computed, and hand-made code that no compiler makes.
-ghost use Rattle.std.specs.Prelude.{◌<◌, length, IfOk};
+// results an independent program computed, texts and code at their limits, and hand-made code that no compiler
+// makes. Each call that is refused memory is made again, so that every test passes whichever growth is refused.
+ghost use Rattle.std.specs.Prelude.{IfOk};
 ghost use Rattle.data_tree.specs.Tree.{view};
 ghost use Rattle.data_tree.specs.LookUp.{HasNoEmptyName};
 
@@ -18,7 +19,6 @@ use data_tree::request_data::RequestData;
 use data_tree::step::{Path, Step};
 use std::alloc::{AllocError, Global};
 use std::process::Abort;
-use std::test::Fail;
 use template_code::code::Code;
 use template_code::instr::Instr;
 
@@ -28,55 +28,65 @@ fn text(alloc: Global, text: &str) -> Result<Data, AllocError> {
 
 // The value of the path `/hi/Ann`.
 fn path(alloc: Global) -> Result<Data, AllocError> {
-    let mut items = Vec::new(alloc);
-    items.push(text(alloc, "hi")?)?;
-    items.push(text(alloc, "Ann")?)?;
     Ok(Data::Named {
         text: String::from_str(alloc, "/hi/Ann")?,
-        items,
+        items: vec![in alloc; text(alloc, "hi")?, text(alloc, "Ann")?]?,
         fields: Vec::new(alloc),
     })
 }
 
-fn add_field(
-    alloc: Global,
-    fields: &mut Vec<(String, Data)>,
-    name: &str,
-    value: Data,
-) -> Result<(), AllocError> {
-    fields.push((String::from_str(alloc, name)?, value))?;
-    Ok(())
-}
-
-// An object of one field.
-fn object(alloc: Global, name: &str, value: Data) -> Result<Data, AllocError>
-    requires { 0 < length name.now }
-    ensures { IfOk result (λ made. HasNoEmptyName (view made)) }
-{
-    let mut fields = Vec::new(alloc);
-    fields.push((String::from_str(alloc, name)?, value))?;
-    Ok(Data::Fields(fields))
-}
-
-// What a template sees of a request for `/hi/Ann`.
-fn hi_ann(alloc: Global, method: &str) -> Result<RequestData, Fail> {
-    let mut fields = Vec::new(alloc);
-    add_field(alloc, &mut fields, "method", text(alloc, method)?)?;
-    add_field(alloc, &mut fields, "path", path(alloc)?)?;
-    add_field(alloc, &mut fields, "pathSegments", path(alloc)?)?;
-    add_field(alloc, &mut fields, "url", text(alloc, "/hi/Ann")?)?;
-    match RequestData::new(object(alloc, "request", Data::Fields(fields))?) {
-        Ok(request) => Ok(request),
-        Err(_error) => Err(AllocError)?,
+fn part(alloc: Global, name: &str) -> Result<Data, AllocError> {
+    if name == "method" {
+        text(alloc, "GET")
+    } else if name == "url" {
+        text(alloc, "/hi/Ann")
+    } else {
+        path(alloc)
     }
 }
 
-// The program of a text. A refused growth is tried again, here and below.
-fn program(alloc: Global, text: &str) -> Result<Program, Fail> {
+fn parts(alloc: Global) -> Result<Data, AllocError> {
+    let mut fields = Vec::new(alloc);
+    for name in ["method", "path", "pathSegments", "url"] {
+        fields.push((String::from_str(alloc, name)?, part(alloc, name)?))?;
+    }
+    Ok(Data::Fields(fields))
+}
+
+fn root(alloc: Global) -> Result<Data, AllocError>
+    ensures { IfOk result (λ made. HasNoEmptyName (view made)) }
+{
+    let request = parts(alloc)?;
+    let name = String::from_str(alloc, "request")?;
+    Ok(Data::Fields(vec![in alloc; (name, request)]?))
+}
+
+fn hi_ann_once(alloc: Global) -> Result<RequestData, AllocError> {
+    match RequestData::new(root(alloc)?) {
+        Ok(request) => Ok(request),
+        Err(_error) => Err(AllocError),
+    }
+}
+
+// What a template sees of `GET /hi/Ann`.
+fn hi_ann(alloc: Global) -> Result<RequestData, AllocError> {
+    match hi_ann_once(alloc) {
+        Ok(request) => Ok(request),
+        Err(_error) => hi_ann_once(alloc),
+    }
+}
+
+fn repeated(alloc: Global, text: &str, count: usize) -> Result<String, AllocError> {
+    match text.repeat(alloc, count) {
+        Ok(all) => Ok(all),
+        Err(_error) => text.repeat(alloc, count),
+    }
+}
+
+fn program(alloc: Global, text: &str) -> Option<Program> {
     match Program::from_text(alloc, text) {
-        Ok(program) => Ok(program),
-        Err(ProgramError::OutOfMemory) => Ok(Program::from_text(alloc, text)?),
-        Err(error) => Err(error)?,
+        Err(ProgramError::OutOfMemory) => Program::from_text(alloc, text).ok(),
+        other => other.ok(),
     }
 }
 
@@ -95,143 +105,73 @@ fn rendered(
 fn gives(
     rt: &impl Abort,
     alloc: Global,
+    request: &RequestData,
     source: &str,
     want: &str,
     steps: u64,
-    bytes: [u64; 2],
-) -> Result<(), Fail> {
-    let program = program(alloc, source)?;
-    let rendered = rendered(alloc, &program, &hi_ann(alloc, "GET")?)?;
-    assert_eq!(rt; program.source(), source);
-    assert_eq!(rt;
-        program.budget().steps(),
-        [steps].as_slice(),
-        "budget of {source}"
-    );
-    assert_eq!(rt;
-        program.budget().bytes(),
-        bytes.as_slice(),
-        "budget of {source}"
-    );
-    assert_eq!(rt; rendered.text.as_str(), want, "text of {source}");
-    assert_eq!(rt; rendered.steps, u128::from(steps), "steps of {source}");
-    Ok(())
-}
-
-#[test]
-fn a_template_gives_its_text_within_its_budget(rt: HostRuntime) -> Result<(), Fail> {
-    let alloc = rt.alloc();
-    gives(
-        &rt,
-        alloc,
-        "Hello {{request.path.[1]}}",
-        "Hello Ann",
-        5,
-        [6, 1],
-    )?;
-    gives(
-        &rt,
-        alloc,
-        "{{request.method}} {{{request.url}}}",
-        "GET /hi/Ann",
-        8,
-        [1, 2],
-    )?;
-    gives(&rt, alloc, "x{{!----}}}}{{!x}}{{{..}}}", "x}}", 6, [3, 1])?;
-    gives(
-        &rt,
-        alloc,
-        "{{{\trequest.pathSegments.[2]\t}}}--}}{{\n request.[url]\n }}{{foo}}",
-        "--}}/hi/Ann",
-        11,
-        [4, 3],
-    )?;
-    gives(
-        &rt,
-        alloc,
-        "{{!--}}é{{request.path.[9]}}{{!--\n--}}{{!x}}",
-        "é",
-        5,
-        [2, 1],
-    )?;
-    gives(
-        &rt,
-        alloc,
-        "{{../request.path.[1]}}{{! \"}} {{\n request.pathSegments\n }}",
-        "Ann /hi/Ann",
-        8,
-        [1, 2],
-    )
-}
-
-#[test]
-fn the_empty_template_gives_the_empty_text(rt: HostRuntime) -> Result<(), Fail> {
-    let alloc = rt.alloc();
-    let program = program(alloc, "")?;
-    let rendered = rendered(alloc, &program, &hi_ann(alloc, "GET")?)?;
-    assert_eq!(rt; program.budget().steps(), [1].as_slice());
-    assert_eq!(rt; program.budget().bytes(), [0].as_slice());
-    assert_eq!(rt; rendered.text.as_str(), "");
-    assert_eq!(rt; rendered.steps, 1);
-    Ok(())
-}
-
-// `request` and that name.
-fn path_in_request(alloc: Global, name: &str) -> Result<Path, AllocError> {
-    let request = PlainText::new(String::from_str(alloc, "request")?);
-    let name = PlainText::new(String::from_str(alloc, name)?);
-    Ok(Path::new(vec![in alloc; Step::Name(request), Step::Name(name)]?))
-}
-
-fn verified(alloc: Global, code: Code) -> Result<Verified, Fail> {
-    match verify(alloc, code) {
-        Ok(verified) => Ok(verified),
-        Err(VerifyError::OutOfMemory { code }) => match verify(alloc, code) {
-            Ok(verified) => Ok(verified),
-            Err(_error) => Err(AllocError)?,
-        },
-        Err(_error) => Err(AllocError)?,
-    }
-}
-
-#[test]
-fn the_last_text_that_was_shown_is_written_first(rt: HostRuntime) -> Result<(), Fail> {
-    let alloc = rt.alloc();
-    let instrs = vec![in alloc;
-        Instr::Root(0),
-        Instr::Show,
-        Instr::Root(1),
-        Instr::Show,
-        Instr::Print,
-        Instr::Print,
-        Instr::Halt,
-    ]?;
-    let paths = vec![in alloc;
-        path_in_request(alloc, "method")?,
-        path_in_request(alloc, "url")?,
-    ]?;
-    let verified = verified(alloc, Code::new(instrs, Vec::new(alloc), paths))?;
-    assert_eq!(rt; verified.budget().steps(), [7].as_slice());
-    assert_eq!(rt; verified.budget().bytes(), [0, 2].as_slice());
-    let request = hi_ann(alloc, "GET")?;
-    let rendered = match run(alloc, &verified, &request) {
-        Ok(rendered) => rendered,
-        Err(_error) => run(alloc, &verified, &request)?,
-    };
-    assert_eq!(rt; rendered.text.as_str(), "/hi/AnnGET");
-    assert_eq!(rt; rendered.steps, 7);
-    Ok(())
-}
-
-// So often that text.
-fn repeated(alloc: Global, text: &str, count: usize) -> Result<String, AllocError> {
-    let mut all = String::new(alloc);
-    for _ in 0..count {
-        if all.push_str(text).is_err() {
-            all.push_str(text)?;
+    bytes: &[u64],
+) -> Result<(), AllocError> {
+    match program(alloc, source) {
+        None => assert!(rt; false, "refused: {source}"),
+        Some(program) => {
+            let rendered = rendered(alloc, &program, request)?;
+            assert_eq!(rt; program.source(), source);
+            assert_eq!(rt; program.budget().steps(), [steps].as_slice());
+            assert_eq!(rt; program.budget().bytes(), bytes, "{source}");
+            assert_eq!(rt; rendered.text.as_str(), want);
+            assert_eq!(rt; rendered.steps, u128::from(steps), "{source}");
         }
     }
-    Ok(all)
+    Ok(())
+}
+
+#[test]
+fn a_template_gives_its_text_within_its_budget(rt: HostRuntime) -> Result<(), AllocError> {
+    let alloc = rt.alloc();
+    let request = hi_ann(alloc)?;
+    let rows = [
+        ("Hello {{request.path.[1]}}", "Hello Ann", 5, [6, 1]),
+        (
+            "{{request.method}} {{{request.url}}}",
+            "GET /hi/Ann",
+            8,
+            [1, 2],
+        ),
+        ("x{{!----}}}}{{!x}}{{{..}}}", "x}}", 6, [3, 1]),
+        (
+            "{{{\trequest.pathSegments.[2]\t}}}--}}{{\n request.[url]\n }}{{foo}}",
+            "--}}/hi/Ann",
+            11,
+            [4, 3],
+        ),
+        (
+            "{{!--}}é{{request.path.[9]}}{{!--\n--}}{{!x}}",
+            "é",
+            5,
+            [2, 1],
+        ),
+        (
+            "{{../request.path.[1]}}{{! \"}} {{\n request.pathSegments\n }}",
+            "Ann /hi/Ann",
+            8,
+            [1, 2],
+        ),
+    ];
+    for (source, want, steps, bytes) in rows {
+        gives(&rt, alloc, &request, source, want, steps, &bytes)?;
+    }
+    gives(&rt, alloc, &request, "", "", 1, &[0])
+}
+
+#[test]
+fn the_longest_text_and_the_longest_code_are_programs(rt: HostRuntime) -> Result<(), AllocError> {
+    let alloc = rt.alloc();
+    let request = hi_ann(alloc)?;
+    let text = repeated(alloc, "x", 65_536)?;
+    gives(&rt, alloc, &request, &text, &text, 2, &[65_536])?;
+    let code = repeated(alloc, "{{request.url}}", 1365)?;
+    let urls = repeated(alloc, "/hi/Ann", 1365)?;
+    gives(&rt, alloc, &request, &code, &urls, 4096, &[0, 1365])
 }
 
 fn refusal(alloc: Global, text: &str) -> Option<ProgramError> {
@@ -242,7 +182,7 @@ fn refusal(alloc: Global, text: &str) -> Option<ProgramError> {
 }
 
 #[test]
-fn a_text_that_is_no_program_is_refused_with_its_place(rt: HostRuntime) -> Result<(), Fail> {
+fn a_text_that_is_no_program_is_refused_with_its_place(rt: HostRuntime) -> Result<(), AllocError> {
     let alloc = rt.alloc();
     let long_text = repeated(alloc, "x", 65_537)?;
     let long_code = repeated(alloc, "{{request.url}}", 1366)?;
@@ -265,7 +205,7 @@ fn a_text_that_is_no_program_is_refused_with_its_place(rt: HostRuntime) -> Resul
     ];
     for (text, code, title, at) in rows {
         match refusal(alloc, text) {
-            None => assert!(rt; false, "taken"),
+            None => assert!(rt; false, "taken: {text}"),
             Some(error) => {
                 assert_eq!(rt; error.code(), code);
                 assert_eq!(rt; error.title(), title);
@@ -273,6 +213,74 @@ fn a_text_that_is_no_program_is_refused_with_its_place(rt: HostRuntime) -> Resul
             }
         }
     }
+    Ok(())
+}
+
+// `request` and that name.
+fn path_in_request(alloc: Global, name: &str) -> Result<Path, AllocError> {
+    let request = PlainText::new(String::from_str(alloc, "request")?);
+    let name = PlainText::new(String::from_str(alloc, name)?);
+    Ok(Path::new(vec![in alloc; Step::Name(request), Step::Name(name)]?))
+}
+
+fn paths(alloc: Global) -> Result<Vec<Path>, AllocError> {
+    let mut paths = Vec::new(alloc);
+    for name in ["method", "url"] {
+        paths.push(path_in_request(alloc, name)?)?;
+    }
+    Ok(paths)
+}
+
+fn code(alloc: Global, instrs: &[Instr]) -> Result<Code, AllocError> {
+    let mut all = Vec::new(alloc);
+    for instr in instrs {
+        all.push(*instr)?;
+    }
+    Ok(Code::new(all, Vec::new(alloc), paths(alloc)?))
+}
+
+// Shows the method, then the URL, and prints both.
+fn two_shown(alloc: Global) -> Result<Code, AllocError> {
+    let instrs = [
+        Instr::Root(0),
+        Instr::Show,
+        Instr::Root(1),
+        Instr::Show,
+        Instr::Print,
+        Instr::Print,
+        Instr::Halt,
+    ];
+    code(alloc, &instrs)
+}
+
+fn verified(alloc: Global, code: Code) -> Option<Verified> {
+    match verify(alloc, code) {
+        Err(VerifyError::OutOfMemory { code }) => verify(alloc, code).ok(),
+        other => other.ok(),
+    }
+}
+
+fn verified_pair(alloc: Global) -> Result<Verified, AllocError> {
+    let code = match two_shown(alloc) {
+        Ok(code) => code,
+        Err(_error) => two_shown(alloc)?,
+    };
+    verified(alloc, code).ok_or(AllocError)
+}
+
+#[test]
+fn the_last_text_that_was_shown_is_written_first(rt: HostRuntime) -> Result<(), AllocError> {
+    let alloc = rt.alloc();
+    let verified = verified_pair(alloc)?;
+    let request = hi_ann(alloc)?;
+    let rendered = match run(alloc, &verified, &request) {
+        Ok(rendered) => rendered,
+        Err(_error) => run(alloc, &verified, &request)?,
+    };
+    assert_eq!(rt; verified.budget().steps(), [7].as_slice());
+    assert_eq!(rt; verified.budget().bytes(), [0, 2].as_slice());
+    assert_eq!(rt; rendered.text.as_str(), "/hi/AnnGET");
+    assert_eq!(rt; rendered.steps, 7);
     Ok(())
 }
 

@@ -43,5 +43,15 @@ invariant_of-result c =
     record {
       tree = tree_of c.in_ok-template.template;
       spelled = rw c.in_ok-source.ensures.ok c.in_ok-template.ensures.found;
+      translated = rw c.in_ok-verified.ensures.same c.in_ok-code.ensures.translated;
+      runs = rw c.in_ok-verified.ensures.same c.in_ok-code.ensures.runs;
+    }
+
+pub returns-clause-program : goal.returns-clause-program
+returns-clause-program c =
+    record {
+      tree = tree_of c.in_ok-template.template;
+      spelled = rw c.in_ok-source.ensures.ok c.in_ok-template.ensures.found;
+      translated = rw c.in_ok-verified.ensures.same c.in_ok-code.ensures.translated;
       runs = rw c.in_ok-verified.ensures.same c.in_ok-code.ensures.runs;
     }
