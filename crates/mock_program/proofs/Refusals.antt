@@ -1,5 +1,5 @@
 -- Data that is over its limit, as a refusal of the command.
-use Rattle.std.proofs.Common.{◌≡◌, ℕ, ◌<◌, List, [], None, inl, inr, refl, sym, subst}
+use Rattle.std.proofs.Common.{◌≡◌, ℕ, ◌<◌, List, [], None, inl, inr, refl, subst}
 use Rattle.data_tree.specs.Json.{size}
 use Rattle.data_tree.specs.RequestData.{code_of}
 use Rattle.data_tree.specs.declared.request_data.TheConstants.{SIZE_LIMIT}

@@ -1,6 +1,7 @@
 -- The lines that a command writes.
 use Rattle.std.specs.Prelude.{ℕ, List, [], ◌∷◌, ◌++◌, codes, decimal, flat_map, Option, None, Some}
 use Rattle.data_tree.specs.ErrorCode.{number_of, title_of}
+use Rattle.data_tree.specs.declared.error_code.ErrorCode.{ErrorCode}
 use Rattle.mock_program.specs.declared.fault.Fault.{Fault}
 
 -- a comma and a number
@@ -23,3 +24,7 @@ place_text (Some at) = codes " at " ++ decimal at
 
 abbrev pub fault_line : Fault → List ℕ
 fault_line f = codes "error " ++ (decimal (number_of f.code) ++ (place_text f.at ++ (codes ": " ++ (title_of f.code ++ codes "\n"))))
+
+-- the fault where memory was refused
+abbrev pub out_of_memory : Fault
+out_of_memory = record { code = ErrorCode.OutOfMemory; at = None }

@@ -1,14 +1,7 @@
--- What a rendering reports.
-use Rattle.std.specs.Prelude.{string_bytes}
-use Rattle.template_code.specs.Bounds.{told}
-use Rattle.template_code.specs.Budget.{budget}
-use Rattle.mock_program.specs.Rendering.{Report}
+-- The bytes that a rendering shows.
+use Rattle.std.specs.Prelude.{ℕ, List, ◌++◌, codes, string_bytes}
 use Rattle.mock_program.specs.declared.render.Rendering.{Rendering}
 
-abbrev pub report_of : Rendering → Report
-report_of r = record {
-  step_budget = told (budget r.program.code).steps;
-  byte_budget = told (budget r.program.code).bytes;
-  steps = r.rendered.steps;
-  text = string_bytes r.rendered.text;
-}
+-- the two lines, the text, a line feed
+abbrev pub shown_by : Rendering → List ℕ
+shown_by r = string_bytes r.step_line ++ (string_bytes r.byte_line ++ (string_bytes r.text ++ codes "\n"))

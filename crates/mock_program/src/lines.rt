@@ -1,24 +1,20 @@
 // The lines in front of a rendered text.
-ghost use Rattle.std.specs.Prelude.{◌≡◌, ◌++◌, IfOk, OnOk, string_bytes};
-ghost use Rattle.std.specs.Io.KnownBytes.{Appends};
+ghost use Rattle.std.specs.Prelude.{◌≡◌, ◌++◌, IfOk, string_bytes};
 ghost use Rattle.mock_program.specs.Lines.{numbers_text, measure_line};
 
 use std::alloc::{AllocError, Global};
-use std::io;
-use std::io::Write;
 
-/// Writes what was taken beside the coefficients of its budget, as `steps 5 of [5]`.
-pub fn write_measure<W: Write>(
-    out: &mut W,
+/// What was taken beside the coefficients of its budget, as `steps 5 of [5]`, and a line feed.
+pub(crate) fn measure_line(
     alloc: Global,
     name: &str,
     taken: u128,
     budget: &[u64],
-) -> io::Result<()>
-    ensures { OnOk result (Appends (W.contents out.old) (W.contents out.new) (measure_line name.now taken budget.now)) }
+) -> Result<String, AllocError>
+    ensures { IfOk result (λ line. string_bytes line ≡ measure_line name.now taken budget.now) }
 {
     let numbers = numbers(alloc, budget)?;
-    writeln!(out, "{name} {taken} of {numbers}")
+    format!(in alloc; "{name} {taken} of {numbers}\n")
 }
 
 fn numbers(alloc: Global, list: &[u64]) -> Result<String, AllocError>

@@ -1,38 +1,41 @@
 // `mock render`: a template's text for one request.
-ghost use Rattle.std.specs.Prelude.{◌≡◌, ◌⊎◌, IfOk, IfErr, string_bytes};
-ghost use Rattle.std.specs.Io.KnownBytes.{Appends, Keeps};
-ghost use Rattle.mock_program.specs.Lines.{fault_line};
-ghost use Rattle.mock_program.specs.Rendering.{Report, IsReport, IsRefusal, report_text};
-ghost use Rattle.mock_program.specs.Views.{report_of};
+ghost use Rattle.std.specs.Prelude.{◌≡◌, ◌⊎◌, IfOk, IfErr};
+ghost use Rattle.data_tree.specs.RequestData.{root_of};
+ghost use Rattle.template_machine.specs.Safe.{IsSafe};
+ghost use Rattle.mock_program.specs.Rendering.{Report, IsReport, IsRefusal, IsRun, report_text, ShowsReport, TellsFault, BreaksOff};
+ghost use Rattle.mock_program.specs.Views.{shown_by};
 
 use crate::fault::Fault;
-use crate::lines::write_measure;
+use crate::lines::measure_line;
+use crate::output::put_all;
 use bytes::Bytes;
 use data_tree::error_code::ErrorCode;
+use data_tree::request_data::RequestData;
 use mock_request::request_data::request_data;
 use mock_request::snapshot::Snapshot;
-use std::alloc::Global;
+use std::alloc::{AllocError, Global};
 use std::io;
 use std::io::Write;
 use template_machine::program::{Program, render};
-use template_machine::run::Rendered;
 
-/// A program, and what a run of it gave.
+/// What is shown of a run: its steps and its bytes, a line each, and the text that it wrote.
 #[derive(Debug, Drop)]
-pub struct Rendering {
-    program: Program,
-    rendered: Rendered,
+pub(crate) struct Rendering {
+    step_line: String,
+    byte_line: String,
+    text: String,
 }
 
 /// Renders a template for a request of that method and target without headers and body. The template is
 /// judged first, then the target, then the request's data.
-pub fn render_request(
+pub(crate) fn render_request(
     alloc: Global,
     template: &str,
     method: &str,
     target: &str,
 ) -> Result<Rendering, Fault>
-    ensures report { IfOk result (λ made. IsReport template.now method.now target.now (report_of made)) }
+    ensures report { IfOk result (λ made. (report : Report) × IsReport template.now method.now target.now report
+        × (shown_by made ≡ report_text report)) }
     ensures refusal { IfErr result (IsRefusal template.now method.now target.now) }
 {
     let program = match Program::from_text(alloc, template) {
@@ -52,14 +55,35 @@ pub fn render_request(
         Ok(data) => data,
         Err(error) => return Err(Fault::of(error.code())),
     };
-    match render(alloc, &program, &data) {
-        Ok(rendered) => Ok(Rendering { program, rendered }),
+    match run_program(alloc, &program, &data) {
+        Ok(rendering) => Ok(rendering),
         Err(_error) => Err(Fault::of(ErrorCode::OutOfMemory)),
     }
 }
 
+fn run_program(
+    alloc: Global,
+    program: &Program,
+    request: &RequestData,
+) -> Result<Rendering, AllocError>
+    ensures safe { IsSafe program.now.code }
+    ensures run { IfOk result (λ made. (report : Report) × IsRun program.now (root_of request.now) report
+        × (shown_by made ≡ report_text report)) }
+{
+    let rendered = render(alloc, program, request)?;
+    let budget = program.budget();
+    let written = rendered.text.len() as u128;
+    let step_line = measure_line(alloc, "steps", rendered.steps, budget.steps())?;
+    let byte_line = measure_line(alloc, "bytes", written, budget.bytes())?;
+    Ok(Rendering {
+        step_line,
+        byte_line,
+        text: rendered.text,
+    })
+}
+
 /// Writes the report to `out`, or the fault to `err`, and gives the exit status: 0, or 1 for a fault or for
-/// output that can't be written.
+/// output that can't be written. All memory is taken before the first byte is written.
 pub fn render_to<O: Write, E: Write>(
     alloc: Global,
     template: &str,
@@ -69,57 +93,40 @@ pub fn render_to<O: Write, E: Write>(
     err: &mut E,
 ) -> u8
     ensures status { (result ≡ 0) ⊎ (result ≡ 1) }
-    ensures shown { result ≡ 0 → (report : Report) × IsReport template.now method.now target.now report
-        × Appends (O.contents out.old) (O.contents out.new) (report_text report) × (err.new ≡ err.old) }
-{
-    match tell(alloc, template, method, target, out, err) {
-        Ok(status) => status,
-        Err(_error) => 1,
-    }
-}
-
-// The same, with an error where something can't be written.
-fn tell<O: Write, E: Write>(
-    alloc: Global,
-    template: &str,
-    method: &str,
-    target: &str,
-    out: &mut O,
-    err: &mut E,
-) -> io::Result<u8>
-    ensures status { IfOk result (λ status. (status ≡ 0) ⊎ (status ≡ 1)) }
-    ensures shown { IfOk result (λ status. status ≡ 0 → (report : Report) × IsReport template.now method.now target.now report
-        × Appends (O.contents out.old) (O.contents out.new) (report_text report) × (err.new ≡ err.old)) }
-    ensures refused { IfOk result (λ status. status ≡ 1 → (fault : Fault) × IsRefusal template.now method.now target.now fault
-        × Appends (E.contents err.old) (E.contents err.new) (fault_line fault) × (out.new ≡ out.old)) }
+    ensures shown { result ≡ 0
+        → ShowsReport template.now method.now target.now (O.contents out.old) (O.contents out.new) × (err.new ≡ err.old) }
+    ensures refused { result ≡ 1
+        → (TellsFault template.now method.now target.now (E.contents err.old) (E.contents err.new) × (out.new ≡ out.old))
+        ⊎ (BreaksOff template.now method.now target.now (O.contents out.old) (O.contents out.new) × (err.new ≡ err.old)) }
 {
     match render_request(alloc, template, method, target) {
-        Ok(rendering) => {
-            rendering.write_to(alloc, out)?;
-            Ok(0)
-        }
+        Ok(rendering) => match rendering.write_to(out) {
+            Ok(()) => 0,
+            Err(_error) => 1,
+        },
         Err(fault) => {
-            fault.write_to(err)?;
-            Ok(1)
+            fault.tell(err);
+            1
         }
     }
 }
 
 impl Rendering {
-    ghost use Rattle.std.specs.Prelude.{OnOk};
-    ghost use Rattle.std.specs.Io.KnownBytes.{Appends};
-    ghost use Rattle.mock_program.specs.Rendering.{report_text};
-    ghost use Rattle.mock_program.specs.Views.{report_of};
+    ghost use Rattle.mock_program.specs.Output.{Writes};
+    ghost use Rattle.mock_program.specs.Views.{shown_by};
 
-    /// Writes the report: what the run took beside its budgets, then the text.
-    pub fn write_to<W: Write>(&self, alloc: Global, out: &mut W) -> io::Result<()>
-        ensures { OnOk result (Appends (W.contents out.old) (W.contents out.new) (report_text (report_of self.now))) }
+    fn write_to<W: Write>(&self, out: &mut W) -> io::Result<()>
+        ensures { Writes result (W.contents out.old) (W.contents out.new) (shown_by self.now) }
     {
-        let budget = self.program.budget();
-        let text = self.rendered.text.as_str();
-        write_measure(out, alloc, "steps", self.rendered.steps, budget.steps())?;
-        write_measure(out, alloc, "bytes", text.len() as u128, budget.bytes())?;
-        out.write_all(text.as_bytes())?;
-        out.write_all(b"\n")
+        put_all(
+            out,
+            [
+                self.step_line.as_str(),
+                self.byte_line.as_str(),
+                self.text.as_str(),
+                "\n",
+            ]
+            .as_slice(),
+        )
     }
 }

@@ -1,9 +1,11 @@
 // Compares what `mock render` writes with expected results, which an independent program computed: each line
 // of the input is an object with a template, a method and a URL, and with what the command gives for them on
-// standard output, on standard error and as its status. It prints how many agree, and the first that don't.
+// standard output, on standard error and as its status. It prints how many were compared and how many of them
+// don't agree, before that the first of these, and ends with status 1 where there is one, where nothing was
+// compared, and at a line that is no such object.
 #![tactic(auto)]
 
-use anyhow::{Context, Result};
+use anyhow::{Context, Result, ensure};
 use mock_program::render::render_to;
 use serde_json::Value;
 use std::alloc::Global;
@@ -27,6 +29,8 @@ fn main(rt: HostRuntime) -> Result<()> {
         }
     }
     println!(rt; "{compared} compared, {wrong} not so")?;
+    ensure!(compared > 0, "nothing to compare");
+    ensure!(wrong == 0, "the command gives something else than expected");
     Ok(())
 }
 

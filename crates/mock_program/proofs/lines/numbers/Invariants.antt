@@ -1,4 +1,4 @@
-use Rattle.std.proofs.Common.{◌≡◌, ◌++◌, [], ◌∷◌, string_bytes, drop, codes, decimal}
+use Rattle.std.proofs.Common.{◌≡◌, ◌++◌, string_bytes, drop}
 use Rattle.std.specs.Prelude.{flat_map}
 use Rattle.mock_program.specs.Lines.{next_number}
 use Rattle.mock_program.proofs.lines.numbers.Given as goal

@@ -1,5 +1,4 @@
-use Rattle.std.proofs.Common.{◌≡◌, [], refl, ◌∙◌, rules}
-use Rattle.mock_request.specs.Request.{Request}
+use Rattle.std.proofs.Common.{◌≡◌, [], refl, ◌∙◌}
 use Rattle.mock_program.proofs.Refusals.{refused_data}
 use Rattle.mock_program.proofs.render.render_request.Goals as goal
 
