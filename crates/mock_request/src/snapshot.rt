@@ -52,12 +52,12 @@ impl Snapshot {
         ensures url { IfOk result (λ request. IsTarget target.now request.url) }
         ensures kept { IfOk result (λ request. request
             ≡ record { method = method.now; url = request.url; headers = headers_of headers.items; body = body }) }
-        ensures within { OnOk result (length body ≤ BODY_LIMIT) }
+        ensures within { OnOk result (length body ≤ 1048576) }
 
         // A bad target is told before a body that is too large.
         ensures bad_url { IsErrOf result SnapshotError.BadUrl ↔ ¬ (HasUrl target.now) }
         ensures too_large { IsErrOf result SnapshotError.BodyTooLarge
-            ↔ (HasUrl target.now × (BODY_LIMIT < length body)) }
+            ↔ (HasUrl target.now × (1048576 < length body)) }
     {
         let text = path_and_query(target).ok_or(SnapshotError::BadUrl)?;
         if body.len() > BODY_LIMIT {
