@@ -34,28 +34,32 @@ impl Data {
                 out.push_str(buffer.format(*number))
             }
             Data::Text(text) | Data::Named { text, .. } => out.push_str(text.as_str()),
-            Data::List(_) | Data::Fields(_) => json_into(self, alloc, out),
+            Data::List(_) | Data::Fields(_) => self.json_into(alloc, out),
         }
     }
-}
 
-// The writer takes over the bytes of `out`, and gives them back whether or not it could write it all.
-fn json_into(value: &Data, alloc: Global, out: &mut String) -> Result<(), AllocError>
-    ensures ok { OnOk result
-        (string_bytes out.new ≡ string_bytes out.old ++ json (view value.now)) }
-    ensures err { OnErr result (string_bytes out.new ≡ string_bytes out.old) }
-{
-    let start = out.len();
-    let text = mem::replace(out, String::new(alloc));
-    let mut writer = Writer::new(text.into_bytes());
-    let written = write_value(value, &mut writer);
-    let mut bytes = writer.into_inner();
-    if written.is_err() {
-        bytes.truncate(start);
+    /// Appends the value's compact JSON text, of whatever case it is: `null` for Nothing, a text between
+    /// quotes, a named text as an object of its fields, items and text.
+    ///
+    /// It costs what `print_into` of a list costs. Where memory is refused, `out` keeps the text that it had.
+    pub fn json_into(&self, alloc: Global, out: &mut String) -> Result<(), AllocError>
+        ensures ok { OnOk result
+            (string_bytes out.new ≡ string_bytes out.old ++ json (view self.now)) }
+        ensures err { OnErr result (string_bytes out.new ≡ string_bytes out.old) }
+    {
+        // The writer takes over the bytes of `out`, and gives them back whether or not it could write it all.
+        let start = out.len();
+        let text = mem::replace(out, String::new(alloc));
+        let mut writer = Writer::new(text.into_bytes());
+        let written = write_value(self, &mut writer);
+        let mut bytes = writer.into_inner();
+        if written.is_err() {
+            bytes.truncate(start);
+        }
+        // SAFETY: it is proved that the bytes are UTF-8. To check them would read all of `out` again.
+        *out = unsafe { String::from_utf8_unchecked(bytes) };
+        written
     }
-    // SAFETY: it is proved that the bytes are UTF-8. To check them would read all of `out` again.
-    *out = unsafe { String::from_utf8_unchecked(bytes) };
-    written
 }
 
 #[cycle(write)]

@@ -12,6 +12,7 @@ use crate::error_code::ErrorCode;
 use crate::plain_text::PlainText;
 use crate::request_data::{DataError, RequestData};
 use crate::step::{Path, Step};
+use itoa::Buffer;
 use samples::{list_of, steps, value};
 use std::alloc::{AllocError, Global};
 use std::test::Fail;
@@ -26,14 +27,24 @@ fn printed(alloc: Global, value: &Data) -> Result<String, AllocError> {
     Ok(out)
 }
 
+// A word behind a mark.
+fn add_word(told: &mut String, mark: &str, word: &str) -> Result<(), AllocError> {
+    told.push_str(mark)?;
+    told.push_str(word)
+}
+
 // The word of a value, what it prints, what it prints in a list, which is its JSON text in brackets, its
 // size, whether it counts as true, and how many items it has.
 fn described(alloc: Global, word: &str) -> Result<String, AllocError> {
     let value = value(alloc, word)?;
-    let alone = printed(alloc, &value)?;
+    let mut told = String::from_str(alloc, word)?;
+    add_word(&mut told, "|", printed(alloc, &value)?.as_str())?;
     let (size, truth, items) = (value.size(), value.is_true(), value.items_len());
     let listed = printed(alloc, &list_of(alloc, value)?)?;
-    format!(in alloc; "{word}|{alone}|{listed}|{size} {truth} {items}")
+    add_word(&mut told, "|", listed.as_str())?;
+    let counts = format!(in alloc; "{size} {truth} {items}")?;
+    add_word(&mut told, "|", counts.as_str())?;
+    Ok(told)
 }
 
 // The word before the first bar.
@@ -104,14 +115,29 @@ fn shown(value: &Data) -> &str {
     }
 }
 
-// What the steps of the row's second part find in the value of its first part.
-fn found(alloc: Global, row: &str) -> Result<String, AllocError> {
-    let (word, rest) = row.split_once('|').unwrap_or((row, ""));
-    let ways = word_of(rest);
+fn shown_or<'v>(found: Option<&'v Data>, none: &'v str) -> &'v str {
+    match found {
+        Some(value) => shown(value),
+        None => none,
+    }
+}
+
+// What the steps find in a value.
+fn found(alloc: Global, word: &str, ways: &str) -> Result<String, AllocError> {
     let value = value(alloc, word)?;
     let path = Path::new(steps(alloc, ways)?);
-    let found = value.at(path.steps()).map_or("nothing", shown);
-    format!(in alloc; "{word}|{ways}|{found}")
+    String::from_str(alloc, shown_or(value.at(path.steps()), "nothing"))
+}
+
+// The row of a value and of steps, with what they find in it.
+fn looked_up(alloc: Global, row: &str) -> Result<String, AllocError> {
+    let (word, rest) = row.split_once('|').unwrap_or((row, ""));
+    let ways = word_of(rest);
+    let found = found(alloc, word, ways)?;
+    let mut told = String::from_str(alloc, word)?;
+    add_word(&mut told, "|", ways)?;
+    add_word(&mut told, "|", found.as_str())?;
+    Ok(told)
 }
 
 #[test]
@@ -135,10 +161,17 @@ b|0|a
 =x||x
 =x|0|nothing";
     for row in table.split('\n') {
-        let told = found(alloc, row).or_else(|_refused| found(alloc, row))?;
+        let told = looked_up(alloc, row).or_else(|_refused| looked_up(alloc, row))?;
         assert_eq!(rt; told.as_str(), row);
     }
     Ok(())
+}
+
+// An item behind its name.
+fn add_item(told: &mut String, value: &Data, place: usize) -> Result<(), AllocError> {
+    let none = "none";
+    add_word(told, "|", value.key(place).unwrap_or(none))?;
+    add_word(told, "=", shown_or(value.item(place), none))
 }
 
 // Four items, each behind its name.
@@ -146,9 +179,7 @@ fn items(alloc: Global, word: &str) -> Result<String, AllocError> {
     let value = value(alloc, word)?;
     let mut told = String::from_str(alloc, word)?;
     for place in 0..4 {
-        let key = value.key(place).unwrap_or("none");
-        let item = value.item(place).map_or("none", shown);
-        told.push_str(format!(in alloc; "|{key}={item}")?.as_str())?;
+        add_item(&mut told, &value, place)?;
     }
     Ok(told)
 }
@@ -170,23 +201,28 @@ n|none=none|none=none|none=none|none=none";
     Ok(())
 }
 
-// Each step behind a dot, a name behind `'`.
-fn written(alloc: Global, path: &Path) -> Result<String, AllocError> {
-    let mut out = String::new(alloc);
-    for step in path.steps() {
-        match step {
-            Step::Name(name) => out.push_str(format!(in alloc; ".'{}", name.as_str())?.as_str())?,
-            Step::Index(index) => out.push_str(format!(in alloc; ".{index}")?.as_str())?,
-        }
+// A step behind a dot, a name behind `'`.
+fn add_step(told: &mut String, step: &Step) -> Result<(), AllocError> {
+    match step {
+        Step::Name(name) => add_word(told, ".'", name.as_str()),
+        Step::Index(index) => add_word(told, ".", Buffer::new().format(*index)),
     }
-    Ok(out)
+}
+
+fn written(alloc: Global, path: &Path) -> Result<String, AllocError> {
+    let mut told = String::new(alloc);
+    for step in path.steps() {
+        add_step(&mut told, step)?;
+    }
+    Ok(told)
 }
 
 fn copied(alloc: Global) -> Result<String, AllocError> {
     let path = Path::new(steps(alloc, "'request.4294967295.'b")?);
     let copy = path.try_clone().or_else(|_refused| path.try_clone())?;
-    let (source, copy) = (written(alloc, &path)?, written(alloc, &copy)?);
-    format!(in alloc; "{source} {copy}")
+    let mut told = written(alloc, &path)?;
+    add_word(&mut told, " ", written(alloc, &copy)?.as_str())?;
+    Ok(told)
 }
 
 #[test]
@@ -214,12 +250,9 @@ fn a_text_is_given_back_as_it_came(rt: HostRuntime) -> Result<(), Fail> {
     Ok(())
 }
 
-// A text of 16,777,200 bytes and the rest. It grows once.
+// A text of 16,777,200 bytes and the rest.
 fn long_text(alloc: Global, rest: &str) -> Result<String, AllocError> {
-    let mut text = String::with_capacity(alloc, 16_777_216)?;
-    for _ in 0..1_048_575 {
-        text.push_str("sixteen bytes...")?;
-    }
+    let mut text = "sixteen bytes...".repeat(alloc, 1_048_575)?;
     text.push_str(rest)?;
     Ok(text)
 }
@@ -264,8 +297,8 @@ fn codes_told(alloc: Global) -> Result<String, AllocError> {
         ErrorCode::OutOfMemory,
         ErrorCode::TooLarge,
     ] {
-        let (number, title) = (code.number(), code.title());
-        told.push_str(format!(in alloc; "{number} {title}, ")?.as_str())?;
+        add_word(&mut told, ", ", Buffer::new().format(code.number()))?;
+        add_word(&mut told, " ", code.title())?;
     }
     Ok(told)
 }
@@ -273,12 +306,11 @@ fn codes_told(alloc: Global) -> Result<String, AllocError> {
 #[test]
 fn each_code_has_its_number_and_title(rt: HostRuntime) -> Result<(), Fail> {
     let alloc = rt.alloc();
+    let told = codes_told(alloc).or_else(|_refused| codes_told(alloc))?;
     assert_eq!(rt;
-        codes_told(alloc)
-            .or_else(|_refused| codes_told(alloc))?
-            .as_str(),
-        "14 bad url, 20 unclosed tag, 25 too long, 26 bad path, 27 unsupported tag, 28 code refused, \
-        50 out of memory, 51 too large, "
+        told.as_str(),
+        ", 14 bad url, 20 unclosed tag, 25 too long, 26 bad path, 27 unsupported tag, 28 code refused, \
+        50 out of memory, 51 too large"
     );
     Ok(())
 }

@@ -56,7 +56,7 @@ fn simple(alloc: Global, word: &str) -> Result<Data, AllocError> {
         Some(b'=') => text(alloc, word.strip_prefix('=').unwrap_or(word)),
         Some(b'l') => Ok(Data::List(Vec::new(alloc))),
         Some(b'o') => Ok(Data::Fields(Vec::new(alloc))),
-        Some(b'e') => named(alloc, "", Vec::new(alloc), Vec::new(alloc)),
+        Some(b'e') => Ok(named(String::new(alloc), Vec::new(alloc), Vec::new(alloc))),
         Some(b'N') => list_of(alloc, Data::Nothing),
         Some(b'p') => path(alloc),
         Some(b'q') => list_of(alloc, path(alloc)?),
@@ -73,17 +73,12 @@ fn text(alloc: Global, text: &str) -> Result<Data, AllocError> {
     Ok(Data::Text(String::from_str(alloc, text)?))
 }
 
-fn named(
-    alloc: Global,
-    text: &str,
-    items: Vec<Data>,
-    fields: Vec<(String, Data)>,
-) -> Result<Data, AllocError> {
-    Ok(Data::Named {
-        text: String::from_str(alloc, text)?,
+fn named(text: String, items: Vec<Data>, fields: Vec<(String, Data)>) -> Data {
+    Data::Named {
+        text,
         items,
         fields,
-    })
+    }
 }
 
 fn texts(alloc: Global, first: &str, second: &str) -> Result<Vec<Data>, AllocError> {
@@ -91,18 +86,15 @@ fn texts(alloc: Global, first: &str, second: &str) -> Result<Vec<Data>, AllocErr
 }
 
 fn path(alloc: Global) -> Result<Data, AllocError> {
-    named(
-        alloc,
-        "/hi/Ann",
-        texts(alloc, "hi", "Ann")?,
-        Vec::new(alloc),
-    )
+    let text = String::from_str(alloc, "/hi/Ann")?;
+    Ok(named(text, texts(alloc, "hi", "Ann")?, Vec::new(alloc)))
 }
 
 fn bound_path(alloc: Global) -> Result<Data, AllocError> {
     let mut fields = Vec::new(alloc);
     add(alloc, &mut fields, "b", text(alloc, "7")?)?;
-    named(alloc, "/a/7", texts(alloc, "a", "7")?, fields)
+    let text = String::from_str(alloc, "/a/7")?;
+    Ok(named(text, texts(alloc, "a", "7")?, fields))
 }
 
 fn add(

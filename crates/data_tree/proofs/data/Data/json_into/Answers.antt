@@ -6,8 +6,8 @@ use Rattle.json.specs.Print.{print}
 use Rattle.data_tree.specs.Tokens.{tree_tokens}
 use Rattle.data_tree.specs.Tree.{view}
 use Rattle.data_tree.proofs.Printed.{print-tree_tokens}
-use Rattle.data_tree.proofs.print.json_into.Goals as goal
-use Rattle.data_tree.proofs.print.json_into.Goals.{then-is_err, else-is_err}
+use Rattle.data_tree.proofs.data.Data.json_into.Goals as goal
+use Rattle.data_tree.proofs.data.Data.json_into.Goals.{then-is_err, else-is_err}
 
 pub from_utf8_unchecked-requires : goal.from_utf8_unchecked-requires
 from_utf8_unchecked-requires c =
@@ -31,5 +31,5 @@ returns-clause-ok c =
       | then-is_err w ↦ search rules
       | else-is_err w ↦ on_ok_weaker written.result (λ e.
           ap (λ v. v.items) (c.from_utf8_unchecked.ensures.value ∙ w.bytes-is) ∙ whole
-          ∙ ap (λ ts. old ++ print ts) (e ∙ ap (λ ts. ts ++ tree_tokens (view c.args.value.now)) c.new-writer.ensures.tokens) ∙ ap (λ s. old ++ s) (print-tree_tokens (view c.args.value.now))) written.ensures.ok
+          ∙ ap (λ ts. old ++ print ts) (e ∙ ap (λ ts. ts ++ tree_tokens (view c.args.self.now)) c.new-writer.ensures.tokens) ∙ ap (λ s. old ++ s) (print-tree_tokens (view c.args.self.now))) written.ensures.ok
     ]

@@ -1,0 +1,9 @@
+pub mod Grown
+pub mod Marks
+pub mod Cuts
+pub mod Indexes
+pub mod Next
+pub mod Unique
+pub mod WellRead
+pub mod Back
+pub mod Vectors

@@ -1,0 +1,83 @@
+// From a JSON text to its value.
+ghost use Rattle.std.specs.Prelude.{◌≡◌, IfOk, IfSome, option_map};
+ghost use Rattle.data_tree.specs.Tree as tree;
+ghost use Rattle.data_tree.specs.WellFormed.{IsWellFormed};
+ghost use Rattle.serde_json.specs.View.{view, number_view, items_view, members_view};
+ghost use Rattle.json_bridge.specs.Reading.{whole_number, tree_of, items_of, members_of, tree_of_text};
+
+use data_tree::data::Data;
+use serde_json::{Map, Number, Value};
+use std::alloc::{AllocError, Global};
+
+/// The value of a JSON text. `None` where `serde_json` doesn't read the text, which includes one that nests
+/// over 127 deep, and where a number in it isn't whole or doesn't fit 64 bits. JSON's `null` is `Nothing`.
+///
+/// Takes memory for the value twice: as `serde_json` has it, and as `Data`. The recursion is as deep as the
+/// text nests.
+pub fn data_of_json(alloc: Global, text: &str) -> Result<Option<Data>, AllocError>
+    ensures value { IfOk result (λ found. option_map tree.view found ≡ tree_of_text text.now) }
+    ensures well_formed { IfOk result (λ found. IfSome found (λ d. IsWellFormed (tree.view d))) }
+{
+    match Value::from_str(alloc, text) {
+        Ok(value) => data_of(alloc, &value),
+        Err(error) => if error.is_memory() {
+            Err(AllocError)
+        } else {
+            Ok(None)
+        },
+    }
+}
+
+// A number that `as_i64` or `as_u64` gives.
+fn whole_number(number: &Number) -> Option<i128>
+    ensures { result ≡ whole_number (number_view number.now) }
+{
+    number.as_i128()
+}
+
+#[cycle(data_of)]
+fn data_of(alloc: Global, value: &Value) -> Result<Option<Data>, AllocError>
+    ensures { IfOk result (λ found. option_map tree.view found ≡ tree_of (view value.now)) }
+{
+    match value {
+        Value::Null => Ok(Some(Data::Nothing)),
+        Value::Bool(truth) => Ok(Some(Data::Truth(*truth))),
+        Value::Number(number) => Ok(whole_number(number).map(Data::Number)),
+        Value::String(text) => Ok(Some(Data::Text(text.clone()?))),
+        Value::Array(items) => Ok(list_of(alloc, items)?.map(Data::List)),
+        Value::Object(members) => Ok(fields_of(alloc, members)?.map(Data::Fields)),
+    }
+}
+
+#[cycle(data_of)]
+fn list_of(alloc: Global, items: &Vec<Value>) -> Result<Option<Vec<Data>>, AllocError>
+    ensures { IfOk result (λ found. option_map (λ v. tree.items_view v.items) found
+        ≡ items_of (items_view items.now.items)) }
+{
+    let mut found = Vec::with_capacity(alloc, items.len())?;
+    for item in items {
+        match data_of(alloc, item)? {
+            Some(data) => found.push(data)?,
+            None => return Ok(None),
+        }
+    }
+    Ok(Some(found))
+}
+
+#[cycle(data_of)]
+fn fields_of(
+    alloc: Global,
+    members: &Map<String, Value>,
+) -> Result<Option<Vec<(String, Data)>>, AllocError>
+    ensures { IfOk result (λ found. option_map (λ v. tree.members_view v.items) found
+        ≡ members_of (members_view members.now.entries)) }
+{
+    let mut found = Vec::with_capacity(alloc, members.len())?;
+    for (name, member) in members.iter() {
+        match data_of(alloc, member)? {
+            Some(data) => found.push((name.clone()?, data))?,
+            None => return Ok(None),
+        }
+    }
+    Ok(Some(found))
+}
