@@ -165,8 +165,8 @@ fn a_call_for_help_succeeds_and_bad_words_have_status_2(rt: HostRuntime) -> Resu
 
 #[test]
 fn data_over_its_limit_is_told(rt: HostRuntime) -> Result<(), Fail> {
-    // The target is five times in the data, so its size is 149 and five times the segment's length.
-    for (length, err, status) in [(3_355_413, "", 0), (3_355_414, "error 51: too large\n", 1)] {
+    // The target is five times in the data, so its size is 252 and five times the segment's length.
+    for (length, err, status) in [(3_355_392, "", 0), (3_355_393, "error 51: too large\n", 1)] {
         let mut target = String::from_str(rt.alloc(), "/")?;
         target.push_str("a".repeat(rt.alloc(), length)?.as_str())?;
         let mut told = Vec::new(rt.alloc());

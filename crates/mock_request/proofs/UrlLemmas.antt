@@ -11,18 +11,22 @@ use Rattle.std.specs.List.{list_any, position_or_len, after_first, join_with_byt
 use Rattle.std.specs.Str.{NoCharPasses}
 use Rattle.mock_request.specs.Url.{is_question_mark, path_of, query_of, segments_of}
 use Rattle.mock_request.specs.Target.{slash, question_mark, IsRooted}
-use Rattle.mock_request.specs.RequestTree.{texts}
+use Rattle.mock_request.specs.Grouped.{texts}
 use Rattle.data_tree.specs.Tree.{text, item, items_of}
+
+-- a text without a character has none of its bytes
+pub lacks_char : (c : ℕ) (bs : List ℕ) → NoCharPasses (λ d. eqb d c) bs → c < 128 → list_any (λ b. eqb b c) bs ≡ false
+lacks_char c bs none ascii = list_any_none (λ b. eqb b c) bs all_other
+  where
+    all_other : All (λ b. eqb b c ≡ false) bs
+    all_other k d here =
+        let same = get_or_default bs k d 0 here in
+        let other = NoCharPasses-char c bs k none ascii here in
+        grind (arith, nat_tests)
 
 -- a URL without a question mark has no query
 pub query_of_none : (url : List ℕ) → NoCharPasses (λ d. eqb d 63) url → query_of url ≡ None
-query_of_none url none = rw (list_any_none is_question_mark url all_other) refl
-  where
-    all_other : All (λ b. is_question_mark b ≡ false) url
-    all_other k d here =
-        let same = get_or_default url k d 0 here in
-        let other = NoCharPasses-char 63 url k none (omega arith) here in
-        grind (arith, nat_tests)
+query_of_none url none = rw (lacks_char 63 url none (omega arith)) refl
 
 -- the pieces that a loop went over, as items
 pub texts_from_pieces : (pieces : List (Bor (List ℕ))) → items_of (map (λ (piece : Bor (List ℕ)). text piece.now) pieces) ≡ texts (map (λ (piece : Bor (List ℕ)). piece.now) pieces)

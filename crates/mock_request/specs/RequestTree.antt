@@ -1,16 +1,18 @@
 -- The data that a template sees of a request, and why there is none.
-use Rattle.std.specs.Prelude.{◌≡◌, ℕ, ◌<◌, List, [], ◌∷◌, codes}
-use Rattle.data_tree.specs.Tree.{Tree, nothing, text, fields, named, Items, no_items, item, Members, no_members, member, view}
+use Rattle.std.specs.Prelude.{◌≡◌, ℕ, ◌<◌, List, ◌++◌, pos, codes}
+use Rattle.std.specs.Str.Lossy.{utf8_lossy}
+use Rattle.data_tree.specs.Tree.{Tree, nothing, number, text, fields, named, Members, no_members, member, view}
 use Rattle.data_tree.specs.Json.{size}
 use Rattle.data_tree.specs.declared.request_data.TheConstants.{SIZE_LIMIT}
 use Rattle.data_tree.specs.declared.request_data.DataError.{DataError}
 use Rattle.data_tree.specs.declared.request_data.DataError.TheVariants.{TooLarge, OutOfMemory}
 use Rattle.mock_request.specs.Request.{Request}
 use Rattle.mock_request.specs.Url.{path_of, segments_of}
-
-abbrev pub texts : List (List ℕ) → Items
-texts [] = no_items
-texts (t ∷ ts) = item (text t) (texts ts)
+use Rattle.mock_request.specs.Grouped.{texts, grouped}
+use Rattle.mock_request.specs.Query.{query_pairs}
+use Rattle.mock_request.specs.HeaderFields.{header_pairs}
+use Rattle.mock_request.specs.Cookies.{cookie_pairs}
+use Rattle.mock_request.specs.Authority.{authority_of, host_of, port_of}
 
 -- a path, its segments, and what a path template binds in it
 abbrev pub path_tree : List ℕ → Members → Tree
@@ -18,11 +20,19 @@ path_tree path bindings = named path (texts (segments_of path)) bindings
 
 abbrev pub request_fields : Request → Members
 request_fields request =
-    member (codes "method") (text request.method)
+    member (codes "baseUrl") (text (codes "http://" ++ authority_of request.headers))
+    (member (codes "body") (text (utf8_lossy request.body))
+    (member (codes "cookies") (grouped (cookie_pairs request.headers))
+    (member (codes "headers") (grouped (header_pairs request.headers))
+    (member (codes "host") (text (host_of (authority_of request.headers)))
+    (member (codes "method") (text request.method)
     (member (codes "path") (path_tree (path_of request.url) no_members)
     (member (codes "pathSegments") (path_tree (path_of request.url) no_members)
+    (member (codes "port") (number (pos (port_of (authority_of request.headers))))
+    (member (codes "query") (grouped (query_pairs request.url))
+    (member (codes "scheme") (text (codes "http"))
     (member (codes "url") (text request.url)
-    no_members)))
+    no_members)))))))))))
 
 abbrev pub request_tree : Request → Tree
 request_tree request =

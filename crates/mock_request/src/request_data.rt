@@ -1,15 +1,21 @@
 // The data that a template sees of a request.
-ghost use Rattle.std.specs.Prelude.{◌≡◌, ◌≤◌, ◌∷◌, IfOk, OnOk, IfErr, string_bytes};
-ghost use Rattle.data_tree.specs.Tree.{Tree, text, no_members, fields, view, items_view, members_view};
+ghost use Rattle.std.specs.Prelude.{◌≡◌, ◌≤◌, ◌∷◌, ◌++◌, IfOk, OnOk, IfErr, string_bytes, pos, codes};
+ghost use Rattle.std.specs.Str.Lossy.{utf8_lossy};
+ghost use Rattle.data_tree.specs.Tree.{Tree, number, text, no_members, fields, view, items_view, members_view};
 ghost use Rattle.data_tree.specs.Json.{size};
 ghost use Rattle.data_tree.specs.RequestData.{root_of};
 ghost use Rattle.mock_request.specs.Target.{slash, IsRooted};
 ghost use Rattle.std.specs.List.{slice_split};
 ghost use Rattle.mock_request.specs.Url.{segments_of, is_slash};
-ghost use Rattle.mock_request.specs.RequestTree.{texts, path_tree, request_fields, request_tree, IsRefusal};
+ghost use Rattle.mock_request.specs.Grouped.{texts};
+ghost use Rattle.mock_request.specs.RequestTree.{path_tree, request_fields, request_tree, IsRefusal};
 ghost use Rattle.data_tree.specs.WellFormed.{IsWellFormed};
 
+use crate::authority::{authority, host_and_port};
+use crate::cookies::cookie_fields;
+use crate::header_fields::header_fields;
 use crate::path_template::PathTemplate;
+use crate::query::query_fields;
 use crate::snapshot::Snapshot;
 use data_tree::data::Data;
 use data_tree::request_data::{DataError, RequestData, SIZE_LIMIT};
@@ -53,8 +59,16 @@ fn request(
 ) -> Result<Data, AllocError>
     ensures { IfOk result (λ made. view made ≡ fields (request_fields snapshot.now)) }
 {
+    let headers = snapshot.headers();
+    let authority = authority(alloc, headers)?;
+    let (host, port) = host_and_port(authority.as_str());
     let path = snapshot.path();
     Ok(Data::Fields(vec![in alloc;
+        field(alloc, "baseUrl", base_url(alloc, authority.as_str())?)?,
+        field(alloc, "body", lossy_text(alloc, snapshot.body())?)?,
+        field(alloc, "cookies", cookie_fields(alloc, headers)?)?,
+        field(alloc, "headers", header_fields(alloc, headers)?)?,
+        field(alloc, "host", text(alloc, host)?)?,
         field(alloc, "method", text(alloc, snapshot.method())?)?,
         field(
             alloc,
@@ -62,8 +76,31 @@ fn request(
             named(alloc, path, bindings(alloc, template))?
         )?,
         field(alloc, "pathSegments", named(alloc, path, Vec::new(alloc))?)?,
+        field(alloc, "port", number(port))?,
+        field(alloc, "query", query_fields(alloc, snapshot)?)?,
+        field(alloc, "scheme", text(alloc, "http")?)?,
         field(alloc, "url", text(alloc, snapshot.url())?)?,
     ]?))
+}
+
+fn base_url(alloc: Global, authority: &str) -> Result<Data, AllocError>
+    ensures { IfOk result (λ made. view made ≡ text (codes "http://" ++ authority.now)) }
+{
+    let mut url = String::from_str(alloc, "http://")?;
+    url.push_str(authority)?;
+    Ok(Data::Text(url))
+}
+
+fn number(port: u16) -> Data
+    ensures { view result ≡ number (pos port) }
+{
+    Data::Number(i128::from(port))
+}
+
+fn lossy_text(alloc: Global, bytes: &[u8]) -> Result<Data, AllocError>
+    ensures { IfOk result (λ made. view made ≡ text (utf8_lossy bytes.now)) }
+{
+    Ok(Data::Text(String::from_utf8_lossy(alloc, bytes)?))
 }
 
 fn field(alloc: Global, name: &str, value: Data) -> Result<(String, Data), AllocError>

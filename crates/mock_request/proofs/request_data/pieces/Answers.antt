@@ -3,7 +3,7 @@ use Rattle.std.proofs.lemmas.Iterator.Consumers.{YieldsList-end}
 use Rattle.std.proofs.lemmas.Iterator.Splits.{YieldsList-from_str_split}
 use Rattle.std.specs.Str.Iter.{split_text, split_has_more, split_pattern}
 use Rattle.data_tree.specs.Tree.{items_of}
-use Rattle.mock_request.specs.RequestTree.{texts}
+use Rattle.mock_request.specs.Grouped.{texts}
 use Rattle.mock_request.proofs.UrlLemmas.{texts_from_pieces}
 use Rattle.mock_request.proofs.request_data.pieces.Goals as goal
 

@@ -1,0 +1,35 @@
+-- The cookies that the `cookie` headers of a request bring (RFC 6265, section 4.2.1, read leniently).
+use Rattle.std.specs.Prelude.{ℕ, Bool, ◌&&◌, List, [], ◌∷◌, reverse, Option, None, Some, ◌==◌, if◌then◌else◌, codes}
+use Rattle.std.specs.List.{before_first, after_first, slice_split, list_any, filter_map, flat_map}
+use Rattle.data_tree.specs.Print.{is_not_empty}
+use Rattle.mock_request.specs.Request.{Header}
+use Rattle.mock_request.specs.HeaderFields.{texts_of}
+
+abbrev pub is_semicolon : ℕ → Bool
+is_semicolon b = b == 59
+
+abbrev pub is_equals_sign : ℕ → Bool
+is_equals_sign b = b == 61
+
+-- without the spaces (U+0020 alone) before it
+abbrev pub without_leading_spaces : List ℕ → List ℕ
+without_leading_spaces [] = []
+without_leading_spaces (b ∷ bs) = if b == 32 then without_leading_spaces bs else b ∷ bs
+
+-- without the spaces round it
+abbrev pub trimmed : List ℕ → List ℕ
+trimmed piece = reverse (without_leading_spaces (reverse (without_leading_spaces piece)))
+
+-- a name and a value on the two sides of the first `=`; without one, or with no name, it is no cookie
+abbrev pub cookie_in : List ℕ → Option (List ℕ × List ℕ)
+cookie_in piece =
+    if list_any is_equals_sign piece && is_not_empty (before_first is_equals_sign piece)
+    then Some (before_first is_equals_sign piece, after_first is_equals_sign piece) else None
+
+-- the cookies between the semicolons of a header's text
+abbrev pub cookies_in : List ℕ → List (List ℕ × List ℕ)
+cookies_in text = filter_map (λ piece. cookie_in (trimmed piece)) (slice_split is_semicolon text)
+
+-- those of all `cookie` headers, in order
+abbrev pub cookie_pairs : List Header → List (List ℕ × List ℕ)
+cookie_pairs headers = flat_map cookies_in (texts_of (codes "cookie") headers)

@@ -1,0 +1,52 @@
+-- Names and values, as they came, put together by name: what a template sees of a query, of headers and of cookies.
+use Rattle.std.specs.Prelude.{ℕ, List, [], ◌∷◌, map, String, string_bytes}
+use Rattle.std.specs.declared.alloc.Global.{Global}
+use Rattle.std.specs.List.{filter}
+use Rattle.std.specs.Str.{bytes_eq}
+use Rattle.std.specs.Ordering.{nat_cmp, match_ordering}
+use Rattle.std.specs.Cmp.Lexicographic.{slice_cmp}
+use Rattle.data_tree.specs.Tree.{Tree, text, fields, named, Items, no_items, item, Members, no_members, member}
+
+abbrev pub texts : List (List ℕ) → Items
+texts [] = no_items
+texts (t ∷ ts) = item (text t) (texts ts)
+
+-- a name and its value
+abbrev pub pair_of : String Global × String Global → List ℕ × List ℕ
+pair_of pair = (string_bytes pair.0, string_bytes pair.1)
+
+abbrev pub pairs_of : List (String Global × String Global) → List (List ℕ × List ℕ)
+pairs_of pairs = map pair_of pairs
+
+-- one more name at its place in byte order, unless it is there
+abbrev pub with_name : List ℕ → List (List ℕ) → List (List ℕ)
+with_name name [] = name ∷ []
+with_name name (n ∷ ns) =
+    match_ordering (slice_cmp nat_cmp name n) (name ∷ n ∷ ns) (n ∷ ns) (n ∷ with_name name ns)
+
+-- the names of the pairs, each once, in byte order
+abbrev pub names_in : List (List ℕ × List ℕ) → List (List ℕ)
+names_in [] = []
+names_in (pair ∷ pairs) = with_name pair.0 (names_in pairs)
+
+-- all values of a name, in the order in which they came
+abbrev pub values_of : List ℕ → List (List ℕ × List ℕ) → List (List ℕ)
+values_of name pairs = map (λ pair. pair.1) (filter (λ pair. bytes_eq name pair.0) pairs)
+
+-- the first of the values; of none the empty text, as for a request with no `host` header (a name of the pairs has one)
+abbrev pub first_of : List (List ℕ) → List ℕ
+first_of [] = []
+first_of (v ∷ vs) = v
+
+-- the first value, all values, and no fields
+abbrev pub values_tree : List (List ℕ) → Tree
+values_tree values = named (first_of values) (texts values) no_members
+
+-- each name with its values
+abbrev pub fields_under : List (List ℕ) → List (List ℕ × List ℕ) → Members
+fields_under [] pairs = no_members
+fields_under (name ∷ names) pairs = member name (values_tree (values_of name pairs)) (fields_under names pairs)
+
+-- per name, in byte order, its first value and all its values
+abbrev pub grouped : List (List ℕ × List ℕ) → Tree
+grouped pairs = fields (fields_under (names_in pairs) pairs)

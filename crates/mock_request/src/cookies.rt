@@ -1,0 +1,74 @@
+// The cookies of a request.
+ghost use Rattle.std.specs.Prelude.{◌≡◌, ◌++◌, option_map, IfOk, OnOk};
+ghost use Rattle.data_tree.specs.Tree.{view};
+ghost use Rattle.mock_request.specs.Cookies.{trimmed, cookie_in, cookies_in, cookie_pairs};
+ghost use Rattle.mock_request.specs.Grouped.{grouped, pairs_of};
+ghost use Rattle.mock_request.specs.Request.{headers_of};
+
+use crate::grouped::grouped;
+use data_tree::data::Data;
+use http_header::{HeaderName, HeaderValue};
+use std::alloc::{AllocError, Global};
+
+/// Per name of a cookie its values.
+pub(crate) fn cookie_fields(
+    alloc: Global,
+    headers: &[(HeaderName, HeaderValue)],
+) -> Result<Data, AllocError>
+    ensures { IfOk result (λ made. view made ≡ grouped (cookie_pairs (headers_of headers.now))) }
+{
+    grouped(alloc, cookie_pairs(alloc, headers)?)
+}
+
+// The cookies of all `cookie` headers, in order.
+fn cookie_pairs(
+    alloc: Global,
+    headers: &[(HeaderName, HeaderValue)],
+) -> Result<Vec<(String, String)>, AllocError>
+    ensures { IfOk result (λ pairs. pairs_of pairs.items ≡ cookie_pairs (headers_of headers.now)) }
+{
+    let mut pairs = Vec::new(alloc);
+    for (name, value) in headers {
+        if name.as_str() == "cookie" {
+            let text = String::from_utf8_lossy(alloc, value.as_bytes())?;
+            push_cookies(alloc, text.as_str(), &mut pairs)?;
+        }
+    }
+    Ok(pairs)
+}
+
+// Appends the cookies between the semicolons.
+fn push_cookies(
+    alloc: Global,
+    text: &str,
+    pairs: &mut Vec<(String, String)>,
+) -> Result<(), AllocError>
+    ensures { OnOk result (pairs_of pairs.new.items ≡ pairs_of pairs.old.items ++ cookies_in text.now) }
+{
+    for piece in text.split(';') {
+        if let Some((name, value)) = cookie(trim_spaces(piece)) {
+            pairs.push((
+                String::from_str(alloc, name)?,
+                String::from_str(alloc, value)?,
+            ))?;
+        }
+    }
+    Ok(())
+}
+
+// A name and a value on the two sides of the first `=`, where there is a name.
+fn cookie(piece: &str) -> Option<(&str, &str)>
+    ensures { option_map (λ pair. (pair.0.now, pair.1.now)) result ≡ cookie_in piece.now }
+{
+    let (name, value) = piece.split_once('=')?;
+    if name.is_empty() {
+        return None;
+    }
+    Some((name, value))
+}
+
+fn trim_spaces(piece: &str) -> &str
+    ensures { result.now ≡ trimmed piece.now }
+{
+    piece.trim_start_matches(' ').trim_end_matches(' ')
+}
