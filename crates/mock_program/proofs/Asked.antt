@@ -5,14 +5,14 @@ use Rattle.std.proofs.lemmas.Slice.Eq.{bytes_eq-Decides}
 use Rattle.mock_program.specs.Rendering.{TellsFault, BreaksOff}
 use Rattle.mock_program.specs.CommandLine.{AsksFor, IsPlainWord, is_flag, marked_words, render_words}
 
-differs : (word other : List ℕ) → ¬ (word ≡ other) → bytes_eq word other ≡ false
+pub differs : (word other : List ℕ) → ¬ (word ≡ other) → bytes_eq word other ≡ false
 differs word other h = go (bytes_eq word other) refl
   where
     go : (t : Bool) → bytes_eq word other ≡ t → bytes_eq word other ≡ false
     go true e = absurd (h ((bytes_eq-Decides word other).0 e))
     go false e = e
 
-is_no_flag : (word : List ℕ) → IsPlainWord word → is_flag word ≡ false
+pub is_no_flag : (word : List ℕ) → IsPlainWord word → is_flag word ≡ false
 is_no_flag word (short, long, dashes) = rw (differs word (codes "-h") short, differs word (codes "--help") long, differs word (codes "--") dashes) refl
 
 pub marked_is : (words : List (List ℕ)) (template method target : List ℕ) → AsksFor words template method target → marked_words words ≡ render_words template method target

@@ -1,3 +1,5 @@
 pub mod Asked
+pub mod Judged
+pub mod Mistakes
 pub mod Refusals
 pub mod Written

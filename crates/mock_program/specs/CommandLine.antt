@@ -1,5 +1,6 @@
--- Which words of the command line ask for a rendering, and what the parser of the command line is given for them.
-use Rattle.std.specs.Prelude.{◌≡◌, ◌≢◌, ◌⊎◌, ℕ, Bool, false, not, ◌||◌, if◌then◌else◌, List, [], ◌∷◌, ◌++◌, codes, Option, Some, None}
+-- Which words of the command line ask for a rendering, which call for help and which are bad words; and what the parser
+-- of the command line is given for them.
+use Rattle.std.specs.Prelude.{◌≡◌, ◌≢◌, ◌⊎◌, ◌<◌, ⊤, ℕ, Bool, false, not, ◌||◌, if◌then◌else◌, List, [], ◌∷◌, ◌++◌, length, codes, Option, Some, None}
 use Rattle.std.specs.Str.{bytes_eq}
 use Rattle.mock_program.specs.declared.command_line.Call.{Call}
 
@@ -7,11 +8,45 @@ use Rattle.mock_program.specs.declared.command_line.Call.{Call}
 abbrev pub IsPlainWord : List ℕ → Type 0
 IsPlainWord word = (word ≢ codes "-h") × (word ≢ codes "--help") × (word ≢ codes "--")
 
--- `PROGRAM render TEMPLATE METHOD URL`, each word as it stands; any template may stand behind a `--`
+-- there is no first word, or it is plain
+abbrev pub BeginsPlain : List (List ℕ) → Type 0
+BeginsPlain [] = ⊤
+BeginsPlain (word ∷ words) = IsPlainWord word
+
+-- `PROGRAM render GIVEN..`, each word as it stands; any word may stand first behind a `--`
+abbrev pub GivesRender : List (List ℕ) → List (List ℕ) → Type 0
+GivesRender words given = (program : List ℕ)
+    × ((BeginsPlain given × (words ≡ program ∷ codes "render" ∷ given))
+    ⊎ (words ≡ program ∷ codes "render" ∷ codes "--" ∷ given))
+
+-- `PROGRAM render TEMPLATE METHOD URL`
 abbrev pub AsksFor : List (List ℕ) → List ℕ → List ℕ → List ℕ → Type 0
-AsksFor words template method target = (program : List ℕ)
-    × ((IsPlainWord template × (words ≡ program ∷ codes "render" ∷ template ∷ method ∷ target ∷ []))
-    ⊎ (words ≡ program ∷ codes "render" ∷ codes "--" ∷ template ∷ method ∷ target ∷ []))
+AsksFor words template method target = GivesRender words (template ∷ method ∷ target ∷ [])
+
+abbrev pub IsHelpFlag : List ℕ → Type 0
+IsHelpFlag word = (word ≡ codes "-h") ⊎ (word ≡ codes "--help")
+
+-- help of the program or its version, or help of `render`, whatever follows
+abbrev pub CallsForHelp : List (List ℕ) → Type 0
+CallsForHelp words = (program flag : List ℕ) × (rest : List (List ℕ))
+    × (((IsHelpFlag flag ⊎ (flag ≡ codes "--version")) × (words ≡ program ∷ flag ∷ rest))
+    ⊎ (IsHelpFlag flag × (words ≡ program ∷ codes "render" ∷ flag ∷ rest)))
+
+abbrev pub BeginsWithDash : List ℕ → Type 0
+BeginsWithDash word = (rest : List ℕ) × (word ≡ codes "-" ++ rest)
+
+-- the first word names no command, and is no flag either
+abbrev pub NamesNoCommand : List (List ℕ) → Type 0
+NamesNoCommand words = (program command : List ℕ) × (rest : List (List ℕ))
+    × (words ≡ program ∷ command ∷ rest) × (command ≢ codes "render") × (¬ (BeginsWithDash command))
+
+-- a rendering with too few or too many words
+abbrev pub MiscountsWords : List (List ℕ) → Type 0
+MiscountsWords words = (given : List (List ℕ)) × GivesRender words given × (length given ≢ 3)
+
+-- no command, another than there is, or a wrong number of words
+abbrev pub AreBadWords : List (List ℕ) → Type 0
+AreBadWords words = (length words < 2) ⊎ NamesNoCommand words ⊎ MiscountsWords words
 
 abbrev pub is_flag : List ℕ → Bool
 is_flag word = bytes_eq word (codes "-h") || (bytes_eq word (codes "--help") || bytes_eq word (codes "--"))

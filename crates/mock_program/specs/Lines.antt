@@ -28,3 +28,7 @@ fault_line f = codes "error " ++ (decimal (number_of f.code) ++ (place_text f.at
 -- the fault where memory was refused
 abbrev pub out_of_memory : Fault
 out_of_memory = record { code = ErrorCode.OutOfMemory; at = None }
+
+-- what is told of words that aren't UTF-8
+abbrev pub bad_words_line : List ℕ
+bad_words_line = codes "error: the words of the command line aren't UTF-8\n"

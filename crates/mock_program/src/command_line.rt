@@ -1,9 +1,9 @@
 // The command line: its words, its help, and the command that they name.
 ghost use Rattle.std.specs.Prelude.{◌≡◌, ◌≤◌, ◌⊎◌, ℕ, List, ◌++◌, IfOk, IfErr, OnOk, Some, false, map, codes, string_bytes};
-ghost use Rattle.clap.specs.Words.{app_of, first_value, found_of, kind_of, rule_of};
+ghost use Rattle.clap.specs.Words.{FailsBy, app_of, first_value, found_of, kind_of, rule_of};
 ghost use Rattle.clap.specs.declared.error.kind.ErrorKind.{ErrorKind};
-ghost use Rattle.mock_program.specs.CommandLine.{AsksFor, IsRenderOf, is_flag, mark, marked_words, render_words, wants_mark};
-ghost use Rattle.mock_program.specs.Parser.{mock_app, word_rule};
+ghost use Rattle.mock_program.specs.CommandLine.{AreBadWords, AsksFor, CallsForHelp, IsRenderOf, is_flag, mark, marked_words, render_words, wants_mark};
+ghost use Rattle.mock_program.specs.Parser.{IsHelp, answers_to, mock_app, word_rule};
 ghost use Rattle.mock_program.specs.Lines.{fault_line, out_of_memory};
 ghost use Rattle.mock_program.specs.Output.{AppendsFront};
 ghost use Rattle.mock_program.specs.Rendering.{ShowsReport, TellsFault, BreaksOff};
@@ -56,6 +56,15 @@ pub fn run<O: Write, E: Write>(alloc: Global, words: &[String], out: &mut O, err
         → result ≡ 1
         → (TellsFault template method target (E.contents err.old) (E.contents err.new) × (out.new ≡ out.old))
         ⊎ (BreaksOff template method target (O.contents out.old) (O.contents out.new) × (err.new ≡ err.old)) }
+
+    // A call for help is no mistake, and bad words are one. Where the text can't be had or written, the status is 1.
+    ensures help { CallsForHelp (map string_bytes words.now) → (result ≡ 0) ⊎ (result ≡ 1) }
+    ensures bad_words { AreBadWords (map string_bytes words.now) → (result ≡ 2) ⊎ (result ≡ 1) }
+
+    // Whatever the words are, one of both is left as it was: `err` at status 0, `out` at status 2.
+    ensures no_fault { result ≡ 0 → err.new ≡ err.old }
+    ensures no_output { result ≡ 2 → out.new ≡ out.old }
+    ensures one_of_both { (out.new ≡ out.old) ⊎ (err.new ≡ err.old) }
 {
     let Ok(words) = marked(alloc, words) else {
         Fault::of(ErrorCode::OutOfMemory).tell(err);
@@ -77,6 +86,8 @@ fn perform<O: Write, E: Write>(alloc: Global, call: Call<'_>, out: &mut O, err: 
         → result ≡ 1
         → (TellsFault template method target (E.contents err.old) (E.contents err.new) × (out.new ≡ out.old))
         ⊎ (BreaksOff template method target (O.contents out.old) (O.contents out.new) × (err.new ≡ err.old)) }
+    ensures no_fault { result ≡ 0 → err.new ≡ err.old }
+    ensures one_of_both { (out.new ≡ out.old) ⊎ (err.new ≡ err.old) }
 {
     render_to(alloc, call.template, call.method, call.target, out, err)
 }
@@ -128,6 +139,7 @@ fn call_of<'a>(alloc: Global, words: &'a [&'a str]) -> Result<Option<Call<'a>>, 
         → IfOk result (λ call. IsRenderOf call template method target) }
     ensures err { (template method target : List ℕ) → map (λ word. word.now) words.now ≡ render_words template method target
         → IfErr result (λ error. kind_of error ≡ ErrorKind.OutOfMemory) }
+    ensures kinds { FailsBy (answers_to (map (λ word. word.now) words.now)) result }
 {
     let command = command(alloc)?;
     let matches = match command.try_get_matches_from(words) {
@@ -157,6 +169,11 @@ fn explained<O: Write, E: Write>(error: Error, out: &mut O, err: &mut E) -> u8
     ensures status { result ≤ 2 }
     ensures no_memory { kind_of error ≡ ErrorKind.OutOfMemory
         → (result ≡ 1) × AppendsFront (E.contents err.old) (E.contents err.new) (fault_line out_of_memory) × (out.new ≡ out.old) }
+    ensures help { IsHelp (kind_of error) → (result ≡ 0) ⊎ (result ≡ 1) }
+    ensures mistake { ¬ (IsHelp (kind_of error)) → (result ≡ 2) ⊎ (result ≡ 1) }
+    ensures no_fault { result ≡ 0 → err.new ≡ err.old }
+    ensures no_output { result ≡ 2 → out.new ≡ out.old }
+    ensures one_of_both { (out.new ≡ out.old) ⊎ (err.new ≡ err.old) }
 {
     if error.kind() == ErrorKind::OutOfMemory {
         Fault::of(ErrorCode::OutOfMemory).tell(err);

@@ -1,7 +1,8 @@
 // The lines in front of a rendered text.
-ghost use Rattle.std.specs.Prelude.{◌≡◌, ◌++◌, IfOk, string_bytes};
-ghost use Rattle.mock_program.specs.Lines.{numbers_text, measure_line};
+ghost use Rattle.std.specs.Prelude.{◌≡◌, ◌++◌, IfOk, OnOk, string_bytes};
+ghost use Rattle.mock_program.specs.Lines.{next_number, numbers_text, measure_line};
 
+use itoa::Buffer;
 use std::alloc::{AllocError, Global};
 
 /// What was taken beside the coefficients of its budget, as `steps 5 of [5]`, and a line feed.
@@ -25,11 +26,18 @@ fn numbers(alloc: Global, list: &[u64]) -> Result<String, AllocError>
         [first, rest @ ..] => {
             let mut text = format!(in alloc; "[{first}")?;
             for number in rest {
-                let next = format!(in alloc; ",{number}")?;
-                text.push_str(next.as_str())?;
+                push_next(&mut text, *number)?;
             }
             text.push_str("]")?;
             Ok(text)
         }
     }
+}
+
+fn push_next(text: &mut String, number: u64) -> Result<(), AllocError>
+    ensures { OnOk result (string_bytes text.new ≡ string_bytes text.old ++ next_number number) }
+{
+    let mut digits = Buffer::new();
+    text.push_str(",")?;
+    text.push_str(digits.format(number))
 }

@@ -1,10 +1,12 @@
-use Rattle.std.proofs.Common.{◌≡◌, ℕ, List, refl, ap, ap₂, ◌∙◌, codes, true, Option, Some}
+use Rattle.std.proofs.Common.{◌≡◌, ℕ, List, refl, sym, subst, ap, ap₂, ◌∙◌, codes, true, Option, Some}
 use Rattle.std.specs.Prelude.{option_map, option_and_then}
 use Rattle.clap.specs.Words.{Row, Text, first_of, first_value, found_of, is_simple, rows_of, subcommand_of, takes}
+use Rattle.clap.specs.Words.{HasKind, is_simple_and_free}
 use Rattle.clap.proofs.OnLiterals.{clap_on_literals}
 use Rattle.clap.proofs.WalkLemmas.{first_value-rows}
 use Rattle.mock_program.specs.CommandLine.{render_words}
 use Rattle.mock_program.specs.Parser.{mock_app}
+use Rattle.mock_program.proofs.Judged.{answers_are, is_judged}
 use Rattle.mock_program.proofs.command_line.call_of.Goals as goal
 
 is_taken : (template method target : List ℕ) → takes mock_app (render_words template method target) ≡ true
@@ -41,3 +43,13 @@ returns-in-Some-clause-ok c = λ template method target words.
     let first : (id : List ℕ) → first_value (found_of c.in-Some.words.now) id ≡ first_in (given template method target) id =
     λ id. first_value-rows (found_of c.in-Some.words.now) id ∙ ap (λ o. first_in o id) rows in
     c.render_call.ensures template method target (first (codes "template") ∙ template_is template method target) (first (codes "method") ∙ method_is template method target) (first (codes "url") ∙ target_is template method target)
+
+pub returns-in-Err-clause-kinds : goal.returns-in-Err-clause-kinds
+returns-in-Err-clause-kinds c =
+    subst (λ ks. HasKind ks c.in-Err.error) (sym (answers_are _ _ c.in_ok-command.ensures)) (c.in-Err.ensures.kinds (ap is_simple_and_free c.in_ok-command.ensures ∙ is_judged))
+
+pub returns-in-Some-clause-kinds : goal.returns-in-Some-clause-kinds
+returns-in-Some-clause-kinds c = answers_are _ _ c.in_ok-command.ensures ∙ c.in-Ok.ensures.kinds (ap is_simple_and_free c.in_ok-command.ensures ∙ is_judged)
+
+pub returns-clause-kinds : goal.returns-clause-kinds
+returns-clause-kinds c = answers_are _ _ c.in_ok-command.ensures ∙ c.in-Ok.ensures.kinds (ap is_simple_and_free c.in_ok-command.ensures ∙ is_judged)
