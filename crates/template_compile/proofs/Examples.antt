@@ -5,7 +5,7 @@ use Rattle.data_tree.specs.Tree.{Tree, text, fields, named, no_items, item, no_m
 use Rattle.data_tree.specs.declared.step.Step.TheVariants.{Name, Index}
 use Rattle.template_code.specs.declared.instr.Instr.TheVariants.{Emit, Root, Show, Print, Halt}
 use Rattle.template_tree.specs.Tree.{reading, piece, print, Nodes, no_nodes, node}
-use Rattle.template_tree.specs.declared.reference.Reference.{Reference}
+use Rattle.template_words.specs.declared.reference.Reference.{Reference}
 use Rattle.template_compile.specs.Compiled.{code_of}
 use Rattle.template_compile.specs.Length.{code_length, text_bytes}
 use Rattle.template_compile.specs.Meaning.{template_text}

@@ -13,7 +13,7 @@ use Rattle.template_code.proofs.RunFacts.{comes-add}
 use Rattle.template_code.specs.declared.instr.Instr.{Instr}
 use Rattle.template_code.specs.declared.instr.Instr.TheVariants.{Emit, Root, Show, Print, Halt}
 use Rattle.template_tree.specs.Tree.{reading, Part, piece, print, Nodes, no_nodes, node}
-use Rattle.template_tree.specs.declared.reference.Reference.{Reference}
+use Rattle.template_words.specs.declared.reference.Reference.{Reference}
 use Rattle.template_compile.specs.Compiled.{Seam, start, past, bare, path_of, part_code, nodes_code, code_of}
 use Rattle.template_compile.specs.Length.{part_length, nodes_length, code_length}
 use Rattle.template_compile.specs.Meaning.{value_at, part_text, template_text}

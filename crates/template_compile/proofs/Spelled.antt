@@ -4,9 +4,9 @@ use Rattle.std.specs.Prelude.{Result, Ok, Err, codes, ◌==◌}
 use Rattle.std.specs.List.{ends_with}
 use Rattle.std.proofs.lemmas.Bool.{cond_both}
 use Rattle.std.proofs.lemmas.List.{length-take}
-use Rattle.template_tree.specs.declared.fault.Fault.{Fault}
+use Rattle.template_words.specs.declared.fault.Fault.{Fault}
 use Rattle.template_tree.specs.Grammar.{Level, Leads, without_comments, spell, Spells}
-use Rattle.template_tree.specs.Marks.{place_of}
+use Rattle.template_words.specs.Marks.{place_of}
 use Rattle.template_tree.specs.Tags.{Tag, comment, shown, tag_of}
 use Rattle.template_tree.specs.Tokens.{Token, comment_token, part_token, Next, token, fault, ended, term_of, print_next, closed_next, tag_next, escaped, text_next, last_text_next, next_at, next_of}
 use Rattle.template_tree.specs.Tree.{Term, piece, Nodes, no_nodes, node}

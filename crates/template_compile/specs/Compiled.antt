@@ -4,7 +4,7 @@ use Rattle.std.specs.Prelude.{ℕ, ◌+◌, List, [], ◌∷◌, ◌++◌, lengt
 use Rattle.data_tree.specs.declared.step.Step.{Step}
 use Rattle.data_tree.specs.declared.step.Step.TheVariants.{Name}
 use Rattle.template_tree.specs.Tree.{Term, reading, Part, piece, print, Nodes, no_nodes, node}
-use Rattle.template_tree.specs.declared.reference.Reference.{Reference}
+use Rattle.template_words.specs.declared.reference.Reference.{Reference}
 use Rattle.template_code.specs.Code.{StackCode}
 use Rattle.template_code.specs.declared.instr.Instr.{Instr}
 use Rattle.template_code.specs.declared.instr.Instr.TheVariants.{Emit, Root, Show, Print, Halt}

@@ -4,8 +4,8 @@ use Rattle.data_tree.specs.Tree.{Tree, nothing}
 use Rattle.data_tree.specs.LookUp.{at}
 use Rattle.data_tree.specs.Print.{print as printed}
 use Rattle.template_tree.specs.Tree.{Term, reading, Part, piece, print, Nodes, no_nodes, node}
-use Rattle.template_tree.specs.declared.reference.Reference.{Reference}
-use Rattle.template_tree.specs.declared.reference.Reference.TheVariants.{Root, Item}
+use Rattle.template_words.specs.declared.reference.Reference.{Reference}
+use Rattle.template_words.specs.declared.reference.Reference.TheVariants.{Root, Item}
 
 -- the item of the loop so many out, where so many are open; the items are those of the open loops, the innermost first
 abbrev pub item_at : ℕ → List Tree → Tree

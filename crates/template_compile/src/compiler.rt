@@ -19,8 +19,8 @@ use data_tree::step::{Path, Step};
 use std::alloc::{AllocError, Global};
 use template_code::code::Code;
 use template_code::instr::Instr;
-use template_tree::reference::Reference;
 use template_tree::template::{Expression, Node, Template};
+use template_words::reference::Reference;
 
 /// The code of a template, which is refused where it would have more than 4,096 instructions.
 ///

@@ -1,15 +1,13 @@
--- What is taken out of a text isn't longer than the text.
+-- What stands in a tag, and what follows it, isn't longer than the text.
 use Rattle.std.proofs.Common.{◌≡◌, ℕ, ◌+◌, ◌<◌, ◌≤◌, Bool, true, false, cond, ◌&&◌, List, [], ◌∷◌, length, drop, Option, Some, None, IfSome, sym, subst, arith, length-drop, codes}
 use Rattle.std.proofs.lemmas.Bool.{cond_both}
 use Rattle.std.proofs.lemmas.List.{length-take}
-use Rattle.template_tree.specs.declared.mode.Mode.TheVariants.{Start}
+use Rattle.template_words.specs.declared.mode.Mode.TheVariants.{Start}
 use Rattle.template_tree.specs.declared.tags.Opening.{Opening}
 use Rattle.template_tree.specs.declared.tags.Opening.TheVariants.{Double, Triple}
-use Rattle.template_tree.specs.Marks.{begins, place_of, around}
-use Rattle.template_tree.specs.Modes.{is_blank}
-use Rattle.template_tree.specs.Tags.{close_from, Tag, comment, shown, comment_tag, shown_tag, comment_close, comment_of, shown_of, tag_of}
-use Rattle.template_tree.specs.Words.{is_nil, without_leading_blanks, without_trailing_blanks, trimmed}
-use Rattle.template_tree.proofs.Finding.{place_at, close_at}
+use Rattle.template_words.specs.Marks.{begins, place_of, close_from, around}
+use Rattle.template_tree.specs.Tags.{Tag, comment, shown, comment_tag, shown_tag, comment_close, comment_of, shown_of, tag_of}
+use Rattle.template_words.proofs.Finding.{place_at, close_at}
 
 abbrev pub shown_length : Tag → ℕ
 shown_length comment = 0
@@ -19,19 +17,6 @@ shown_length (shown opening text) = length text
 abbrev pub TagWithin : ℕ → Option (Tag × List ℕ) → Type 0
 TagWithin n None = Unit {0}
 TagWithin n (Some x) = (shown_length x.0 ≤ n) × (length x.1 < n)
-
-leading_short : (s : List ℕ) → length (without_leading_blanks s) ≤ length s
-leading_short [] = omega arith
-leading_short (b ∷ bs) =
-    cond_both (is_blank b) (without_leading_blanks bs) (b ∷ bs) (λ x. length x ≤ length (b ∷ bs)) (λ t. omega (arith, leading_short bs)) (λ f. omega arith)
-
-trailing_short : (s : List ℕ) → length (without_trailing_blanks s) ≤ length s
-trailing_short [] = omega arith
-trailing_short (b ∷ bs) =
-    cond_both (is_blank b && is_nil (without_trailing_blanks bs)) [] (b ∷ without_trailing_blanks bs) (λ x. length x ≤ length (b ∷ bs)) (λ t. omega arith) (λ f. omega (arith, trailing_short bs))
-
-pub trimmed_short : (s : List ℕ) → length (trimmed s) ≤ length s
-trimmed_short s = omega (arith, leading_short s, trailing_short (without_leading_blanks s))
 
 Within : ℕ → Option (List ℕ × List ℕ) → Type 0
 Within n None = Unit {0}

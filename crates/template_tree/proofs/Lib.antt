@@ -1,12 +1,6 @@
-pub mod Finding
-pub mod Dots
-pub mod Blanks
-pub mod Climbs
-pub mod Steps
 pub mod Lengths
 pub mod Rows
 pub mod Unique
 pub mod Outcomes
-pub mod Closes
 pub mod Vectors
 pub mod Pieces

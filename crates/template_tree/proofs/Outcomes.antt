@@ -1,8 +1,8 @@
 -- A short text spells a tree, or has a fault.
 use Rattle.std.proofs.Common.{◌≡◌, ℕ, zero, suc, ◌-◌, ◌≤◌, ◌⊎◌, inl, inr, List, [], ◌∷◌, length, refl, ap, arith}
 use Rattle.template_tree.specs.declared.error.TemplateError.{TemplateError}
-use Rattle.template_tree.specs.declared.fault.Fault.{Fault}
-use Rattle.template_tree.specs.declared.fault.Fault.TheVariants.{Unclosed, Misspelled, Unsupported}
+use Rattle.template_words.specs.declared.fault.Fault.{Fault}
+use Rattle.template_words.specs.declared.fault.Fault.TheVariants.{Unclosed, Misspelled, Unsupported}
 use Rattle.template_tree.specs.Errors.{error_of}
 use Rattle.template_tree.specs.Grammar.{Leads, without_comments, spell, Spells, FaultAt, IsFault}
 use Rattle.template_tree.specs.Tokens.{Token, comment_token, part_token, token, fault, ended, next_of}

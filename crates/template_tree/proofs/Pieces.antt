@@ -3,14 +3,14 @@ use Rattle.std.proofs.Common.{◌≡◌, ℕ, zero, suc, ◌<◌, ◌≤◌, ◌
 use Rattle.std.specs.List.{ends_with}
 use Rattle.std.proofs.lemmas.Bool.{cond_both, both_ways}
 use Rattle.std.proofs.lemmas.List.{append-nil, take-append-drop, drop-append-le, length-take-le}
-use Rattle.template_tree.specs.declared.fault.Fault.{Fault}
+use Rattle.template_words.specs.declared.fault.Fault.{Fault}
 use Rattle.template_tree.specs.Laws.{IsPiece}
-use Rattle.template_tree.specs.Marks.{begins, place_of}
+use Rattle.template_words.specs.Marks.{begins, place_of}
 use Rattle.template_tree.specs.Tags.{Tag, comment, shown, tag_of}
 use Rattle.template_tree.specs.Tokens.{part_token, token, fault, ended, print_next, closed_next, tag_next, escaped, last_text_next, next_at, next_of, term_of}
 use Rattle.template_tree.specs.Tree.{Term, piece}
-use Rattle.template_tree.proofs.Closes.{Marks, marks}
-use Rattle.template_tree.proofs.Finding.{begins_own, place_none}
+use Rattle.template_words.proofs.Closes.{Marks, marks}
+use Rattle.template_words.proofs.Finding.{begins_own, place_none}
 
 same_piece : (a b x y : List ℕ) → token (part_token (piece a)) x ≡ token (part_token (piece b)) y → (a ≡ b) × (x ≡ y)
 same_piece a b x y e = (cc, cc)

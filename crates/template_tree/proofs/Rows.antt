@@ -4,16 +4,16 @@ use Rattle.std.specs.List.{ends_with}
 use Rattle.std.proofs.lemmas.Bool.{cond_both}
 use Rattle.template_tree.specs.declared.error.TemplateError.{TemplateError}
 use Rattle.template_tree.specs.declared.error.TemplateError.TheVariants.{UnclosedTag, BadPath, UnsupportedTag, TooLong, OutOfMemory}
-use Rattle.template_tree.specs.declared.fault.Fault.{Fault}
-use Rattle.template_tree.specs.declared.fault.Fault.TheVariants.{Unclosed, Misspelled, Unsupported}
+use Rattle.template_words.specs.declared.fault.Fault.{Fault}
+use Rattle.template_words.specs.declared.fault.Fault.TheVariants.{Unclosed, Misspelled, Unsupported}
 use Rattle.template_tree.specs.declared.template.Node.{Node}
 use Rattle.template_tree.specs.Grammar.{Level, Leads, without_comments, spell, Spells, FaultAt, IsFault, OrMemory}
-use Rattle.template_tree.specs.Marks.{begins, place_of}
+use Rattle.template_words.specs.Marks.{begins, place_of}
 use Rattle.template_tree.specs.Tags.{Tag, comment, shown, tag_of}
 use Rattle.template_tree.specs.Tokens.{Token, comment_token, part_token, Next, token, fault, ended, print_next, closed_next, tag_next, escaped, text_next, last_text_next, next_at, next_of, term_of}
 use Rattle.template_tree.specs.Tree.{Term, Part, piece, node_view, nodes_view}
 use Rattle.template_tree.specs.Views.{TellsAt, Tells}
-use Rattle.template_tree.proofs.Finding.{place_at}
+use Rattle.template_words.proofs.Finding.{place_at}
 use Rattle.template_tree.proofs.Lengths.{TagWithin, tag_short}
 
 -- what comes of a token is shorter, a fault's mark is in the text, and only the empty text is at its end

@@ -2,8 +2,8 @@
 use Rattle.std.proofs.Common.{◌≡◌, ℕ, ◌<◌, List, [], ◌∷◌, length, refl, sym, ap, subst, ◌∙◌, arith}
 use Rattle.template_tree.specs.declared.error.TemplateError.{TemplateError}
 use Rattle.template_tree.specs.declared.error.TemplateError.TheVariants.{UnclosedTag, BadPath, UnsupportedTag, TooLong, OutOfMemory}
-use Rattle.template_tree.specs.declared.fault.Fault.{Fault}
-use Rattle.template_tree.specs.declared.fault.Fault.TheVariants.{Unclosed, Misspelled, Unsupported}
+use Rattle.template_words.specs.declared.fault.Fault.{Fault}
+use Rattle.template_words.specs.declared.fault.Fault.TheVariants.{Unclosed, Misspelled, Unsupported}
 use Rattle.template_tree.specs.Errors.{error_of}
 use Rattle.template_tree.specs.Grammar.{Level, Leads, without_comments, spell, Spells, FaultAt, IsFault, OrMemory}
 use Rattle.template_tree.specs.Tokens.{Token, part_token, Next, token, fault, ended, next_of}

@@ -1,12 +1,12 @@
 -- The examples, computed.
 use Rattle.std.proofs.Common.{◌≡◌, ℕ, ◌≤◌, List, [], ◌∷◌, length, None, codes, refl, ap, arith}
 use Rattle.data_tree.specs.declared.step.Step.TheVariants.{Name, Index}
-use Rattle.template_tree.specs.declared.fault.Fault.{Fault}
-use Rattle.template_tree.specs.declared.reference.Reference.TheVariants.{Root, Item}
+use Rattle.template_words.specs.declared.fault.Fault.{Fault}
+use Rattle.template_words.specs.declared.reference.Reference.TheVariants.{Root, Item}
 use Rattle.template_tree.specs.Examples.{AreExamples, text_before}
 use Rattle.template_tree.specs.Grammar.{Spells, FaultAt}
-use Rattle.template_tree.specs.Marks.{place_of}
-use Rattle.template_tree.specs.Paths.{path_from, step_of}
+use Rattle.template_words.specs.Marks.{place_of}
+use Rattle.template_words.specs.Paths.{path_from, step_of}
 use Rattle.template_tree.specs.Tags.{tag_of}
 use Rattle.template_tree.specs.Tokens.{comment_token, part_token, fault, next_at, next_of, term_of}
 use Rattle.template_tree.specs.Tree.{no_nodes, piece, print, reading}

@@ -4,8 +4,8 @@ use Rattle.data_tree.specs.declared.error_code.ErrorCode.{ErrorCode}
 use Rattle.data_tree.specs.declared.error_code.ErrorCode.TheVariants as codes
 use Rattle.template_tree.specs.declared.error.TemplateError.{TemplateError}
 use Rattle.template_tree.specs.declared.error.TemplateError.TheVariants.{UnclosedTag, BadPath, UnsupportedTag, TooLong, OutOfMemory}
-use Rattle.template_tree.specs.declared.fault.Fault.{Fault}
-use Rattle.template_tree.specs.declared.fault.Fault.TheVariants.{Unclosed, Misspelled, Unsupported}
+use Rattle.template_words.specs.declared.fault.Fault.{Fault}
+use Rattle.template_words.specs.declared.fault.Fault.TheVariants.{Unclosed, Misspelled, Unsupported}
 
 abbrev pub code_of : TemplateError → ErrorCode
 code_of (UnclosedTag at) = codes.UnclosedTag

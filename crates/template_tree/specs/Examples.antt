@@ -3,9 +3,9 @@ use Rattle.std.specs.Prelude.{◌≡◌, ℕ, List, [], ◌∷◌, length, None,
 use Rattle.data_tree.specs.declared.step.Step.{Step}
 use Rattle.data_tree.specs.declared.step.Step.TheVariants.{Name, Index}
 use Rattle.template_tree.specs.declared.error.TemplateError.TheVariants.{UnclosedTag, BadPath, UnsupportedTag, TooLong}
-use Rattle.template_tree.specs.declared.reference.Reference.TheVariants.{Root, Item}
+use Rattle.template_words.specs.declared.reference.Reference.TheVariants.{Root, Item}
 use Rattle.template_tree.specs.Grammar.{Spells, IsFault}
-use Rattle.template_tree.specs.Marks.{place_of}
+use Rattle.template_words.specs.Marks.{place_of}
 use Rattle.template_tree.specs.Tree.{Nodes, no_nodes, node, piece, print, reading}
 
 abbrev pub text_before : List ℕ → Nodes → Nodes

@@ -1,19 +1,6 @@
--- What the definitions of marks, closes and pieces of text mean, told by splits of the text.
-use Rattle.std.specs.Prelude.{◌≡◌, ◌⊎◌, ℕ, ◌<◌, ◌≤◌, true, false, List, [], ◌++◌, length, None, codes}
-use Rattle.template_tree.specs.declared.mode.Mode.TheVariants.{Start}
-use Rattle.template_tree.specs.Marks.{begins, place_of}
-use Rattle.template_tree.specs.Modes.{mode_behind, is_literal}
-
--- the mark stands between before and after, and nowhere earlier
-pub record IsFirstMark (mark text before after : List ℕ) : Type 0 where
-  pub split : text ≡ before ++ (mark ++ after)
-  pub first : (a b : List ℕ) → text ≡ a ++ (mark ++ b) → length before ≤ length a
-
--- the close stands between content and rest, outside of literals; one that stands earlier is inside of a literal
-pub record IsFirstClose (close text content rest : List ℕ) : Type 0 where
-  pub split : text ≡ content ++ (close ++ rest)
-  pub outside : is_literal (mode_behind Start content) ≡ false
-  pub first : (a b : List ℕ) → text ≡ a ++ (close ++ b) → length a < length content → is_literal (mode_behind Start a) ≡ true
+-- What the definition of a piece of text means, told by a split of the text.
+use Rattle.std.specs.Prelude.{◌≡◌, ◌⊎◌, ℕ, ◌<◌, true, List, [], ◌++◌, length, None, codes}
+use Rattle.template_words.specs.Marks.{begins, place_of}
 
 -- a piece of text has no mark in it, and goes up to the next mark or to the end
 pub record IsPiece (text piece rest : List ℕ) : Type 0 where

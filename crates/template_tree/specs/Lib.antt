@@ -1,10 +1,5 @@
 pub mod Tree
-pub mod Reading
-pub mod Marks
-pub mod Modes
 pub mod Tags
-pub mod Words
-pub mod Paths
 pub mod Tokens
 pub mod Grammar
 pub mod Errors

@@ -1,18 +1,12 @@
 -- A tag of a text: its marks, and what stands between them.
-use Rattle.std.specs.Prelude.{ℕ, suc, ◌&&◌, not, List, [], ◌∷◌, drop, Option, Some, None, option_map, if◌then◌else◌, codes}
-use Rattle.template_tree.specs.declared.mode.Mode.{Mode}
-use Rattle.template_tree.specs.declared.mode.Mode.TheVariants.{Start}
+use Rattle.std.specs.Prelude.{ℕ, ◌==◌, Bool, true, false, ◌||◌, List, [], ◌∷◌, drop, Option, Some, None, if◌then◌else◌, codes}
+use Rattle.std.specs.List.{list_any}
+use Rattle.std.specs.Str.{bytes_eq}
+use Rattle.template_words.specs.declared.mode.Mode.TheVariants.{Start}
 use Rattle.template_tree.specs.declared.tags.Opening.{Opening}
 use Rattle.template_tree.specs.declared.tags.Opening.TheVariants.{Double, Triple}
-use Rattle.template_tree.specs.Marks.{begins, place_of, around}
-use Rattle.template_tree.specs.Modes.{mode_after, is_literal}
-
--- the place where the close first stands outside of literals, in what is left of a tag's text
-abbrev pub close_from : List ℕ → Mode → List ℕ → Option ℕ
-close_from close mode [] = None
-close_from close mode (b ∷ bs) =
-    if not (is_literal mode) && begins close (b ∷ bs) then Some 0
-    else option_map suc (close_from close (mode_after mode b) bs)
+use Rattle.template_words.specs.Marks.{begins, place_of, close_from, around}
+use Rattle.template_words.specs.Words.{is_nil, has_break, is_literal_word, is_helper}
 
 -- a comment, or what is shown: the bytes between the marks
 pub data Tag : Type 0 where
@@ -43,3 +37,18 @@ tag_of text =
     if begins (codes "{{!") text then comment_of (drop 3 text)
     else if begins (codes "{{{") text then shown_of Triple (codes "}}}") (drop 3 text)
     else shown_of Double (codes "}}") (drop 2 text)
+
+-- begins with a byte that marks another kind of tag
+abbrev pub is_marked : Opening → List ℕ → Bool
+is_marked opening [] = false
+is_marked Double (b ∷ bs) = list_any (λ c. c == b) (codes ">&^*~{@#/")
+is_marked Triple (b ∷ bs) = list_any (λ c. c == b) (codes ">&^*~{@")
+
+abbrev pub is_else : Opening → List ℕ → Bool
+is_else Double text = bytes_eq text (codes "else")
+is_else Triple text = false
+
+-- something other than one word that may be a path
+abbrev pub is_unsupported : Opening → List ℕ → Bool
+is_unsupported opening text =
+    is_nil text || is_marked opening text || has_break Start text || is_literal_word text || is_helper text || is_else opening text

@@ -1,15 +1,15 @@
 -- The tokens of a text: pieces of text and tags, in turn.
 use Rattle.std.specs.Prelude.{ℕ, zero, suc, ◌==◌, List, [], ◌∷◌, take, drop, Option, Some, None, Result, Ok, Err, if◌then◌else◌, codes}
 use Rattle.std.specs.List.{ends_with}
-use Rattle.template_tree.specs.declared.fault.Fault.{Fault}
-use Rattle.template_tree.specs.declared.fault.Fault.TheVariants.{Unclosed, Unsupported}
+use Rattle.template_words.specs.declared.fault.Fault.{Fault}
+use Rattle.template_words.specs.declared.fault.Fault.TheVariants.{Unclosed, Unsupported}
 use Rattle.template_tree.specs.declared.tags.Opening.{Opening}
-use Rattle.template_tree.specs.Marks.{place_of}
-use Rattle.template_tree.specs.Paths.{path_of}
-use Rattle.template_tree.specs.Reading.{◌>>=◌}
-use Rattle.template_tree.specs.Tags.{Tag, comment, shown, tag_of}
+use Rattle.template_words.specs.Marks.{place_of}
+use Rattle.template_words.specs.Paths.{path_of}
+use Rattle.template_words.specs.Reading.{◌>>=◌}
+use Rattle.template_tree.specs.Tags.{Tag, comment, shown, tag_of, is_unsupported}
 use Rattle.template_tree.specs.Tree.{Term, reading, Part, piece, print}
-use Rattle.template_tree.specs.Words.{trimmed, is_unsupported}
+use Rattle.template_words.specs.Words.{trimmed}
 
 -- a comment leaves no part of the tree
 pub data Token : Type 0 where

@@ -1,6 +1,6 @@
 -- What a `Template` stands for: its nodes in order, pieces of text and prints.
 use Rattle.std.specs.Prelude.{ℕ, List, [], ◌∷◌}
-use Rattle.template_tree.specs.declared.reference.Reference.{Reference}
+use Rattle.template_words.specs.declared.reference.Reference.{Reference}
 use Rattle.template_tree.specs.declared.template.Expression.{Expression}
 use Rattle.template_tree.specs.declared.template.Node.{Node}
 use Rattle.template_tree.specs.declared.template.Template.{Template}

@@ -3,10 +3,10 @@ use Rattle.std.specs.Prelude.{◌≡◌, ℕ, ◌+◌, List, length, Option, Som
 use denote.Ref.{Bor}
 use Rattle.template_tree.specs.declared.error.TemplateError.{TemplateError}
 use Rattle.template_tree.specs.declared.error.TemplateError.TheVariants.{UnclosedTag, BadPath, UnsupportedTag, TooLong, OutOfMemory}
-use Rattle.template_tree.specs.declared.fault.Fault.{Fault}
-use Rattle.template_tree.specs.declared.fault.Fault.TheVariants.{Unclosed, Misspelled, Unsupported}
-use Rattle.template_tree.specs.declared.fault.ReadError.{ReadError}
-use Rattle.template_tree.specs.declared.fault.ReadError.TheVariants.{Memory, Wrong}
+use Rattle.template_words.specs.declared.fault.Fault.{Fault}
+use Rattle.template_words.specs.declared.fault.Fault.TheVariants.{Unclosed, Misspelled, Unsupported}
+use Rattle.template_words.specs.declared.fault.ReadError.{ReadError}
+use Rattle.template_words.specs.declared.fault.ReadError.TheVariants.{Memory, Wrong}
 use Rattle.template_tree.specs.declared.tags.TagText.{TagText}
 use Rattle.template_tree.specs.declared.tags.TagText.TheVariants as tags
 use Rattle.template_tree.specs.declared.tokens.Token as parser
@@ -14,16 +14,6 @@ use Rattle.template_tree.specs.declared.tokens.Token.TheVariants as tokens
 use Rattle.template_tree.specs.Tags.{Tag, comment, shown}
 use Rattle.template_tree.specs.Tokens.{Token, comment_token, part_token, Next, fault}
 use Rattle.template_tree.specs.Tree.{node_view}
-
--- a part of a text
-abbrev pub part_view : Option (Bor (List ℕ)) → Option (List ℕ)
-part_view None = None
-part_view (Some x) = Some x.now
-
--- two parts of a text
-abbrev pub parts_view : Option (Bor (List ℕ) × Bor (List ℕ)) → Option (List ℕ × List ℕ)
-parts_view None = None
-parts_view (Some x) = Some (x.0.now, x.1.now)
 
 abbrev pub tag_view : TagText → Tag
 tag_view tags.Comment = comment

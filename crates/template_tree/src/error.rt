@@ -1,6 +1,7 @@
 // Why a text is no template.
 
 use data_tree::error_code::ErrorCode;
+use template_words::fault::Fault;
 
 /// What is wrong with a template's text, and the byte at which the tag with the fault begins.
 #[derive(Clone, Copy, Debug)]
@@ -19,7 +20,18 @@ pub enum TemplateError {
 impl TemplateError {
     ghost use Rattle.std.specs.Prelude.{◌≡◌};
     ghost use Rattle.data_tree.specs.ErrorCode.{title_of};
-    ghost use Rattle.template_tree.specs.Errors.{code_of, place_in_text};
+    ghost use Rattle.template_tree.specs.Errors.{code_of, place_in_text, error_of};
+
+    /// The error of a tag with that fault, which begins there.
+    pub(crate) fn of(fault: Fault, at: usize) -> TemplateError
+        ensures { result ≡ error_of fault at }
+    {
+        match fault {
+            Fault::Unclosed => TemplateError::UnclosedTag { at },
+            Fault::Misspelled => TemplateError::BadPath { at },
+            Fault::Unsupported => TemplateError::UnsupportedTag { at },
+        }
+    }
 
     /// Its code.
     pub fn code(&self) -> ErrorCode

@@ -1,11 +1,8 @@
 // Laws over the definitions that `parse` is proved by, each on a function that does nothing.
-ghost use Rattle.std.specs.Prelude.{◌≡◌, ◌<◌, ◌≤◌, ◌↔◌, ℕ, List, length};
+ghost use Rattle.std.specs.Prelude.{◌≡◌, ◌≤◌, ◌↔◌, ℕ, List, length};
 ghost use Rattle.template_tree.specs.Grammar.{Spells, IsFault};
-ghost use Rattle.template_tree.specs.Laws.{IsFirstMark, IsFirstClose, IsPiece};
+ghost use Rattle.template_tree.specs.Laws.{IsPiece};
 ghost use Rattle.template_tree.specs.Examples.{AreExamples};
-ghost use Rattle.template_tree.specs.Marks.{place_of, around};
-ghost use Rattle.template_tree.specs.Tags.{close_from};
-ghost use Rattle.template_tree.specs.declared.mode.Mode.TheVariants.{Start};
 ghost use Rattle.template_tree.specs.Tokens.{token, part_token, next_of};
 ghost use Rattle.template_tree.specs.Tree.{Nodes, piece};
 ghost use Rattle.template_tree.specs.declared.error.TemplateError.{TemplateError};
@@ -21,16 +18,6 @@ pub fn tree_or_fault()
     ensures one { (text : List ℕ) (d e : TemplateError) → IsFault text d → IsFault text e → d ≡ e }
     ensures apart { (text : List ℕ) (tree : Nodes) (e : TemplateError) → Spells text tree → IsFault text e → ⊥ }
     ensures exactly { (text : List ℕ) → length text ≤ 65536 → ((tree : Nodes) × Spells text tree) ↔ ((e : TemplateError) → IsFault text e → ⊥) }
-{}
-
-/// A mark is found where it first stands in a text.
-pub fn first_mark()
-    ensures { (mark text before after : List ℕ) → 0 < length mark → (around mark text (place_of mark text) ≡ Some (before, after)) ↔ IsFirstMark mark text before after }
-{}
-
-/// The content of a tag is what stands before the first close that is outside of literals.
-pub fn first_close()
-    ensures { (close text content rest : List ℕ) → 0 < length close → (around close text (close_from close Start text) ≡ Some (content, rest)) ↔ IsFirstClose close text content rest }
 {}
 
 /// A piece of text is never split: it goes up to the next mark, or to the end.

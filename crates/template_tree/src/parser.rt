@@ -6,11 +6,14 @@ ghost use Rattle.template_tree.specs.Tree.{Nodes, tree_of, nodes_view};
 ghost use Rattle.template_tree.specs.Views.{token_view, Tells};
 
 use crate::error::TemplateError;
-use crate::fault::ReadError;
-use crate::marks::mark_place;
 use crate::template::{Node, Template};
 use crate::tokens::{Token, escaped, piece_token, tag_token};
 use std::alloc::Global;
+use template_words::fault::ReadError;
+use template_words::marks::mark_place;
+
+/// How many bytes a template's text may have.
+const TEXT_LIMIT: usize = 65_536;
 
 /// The token that what is left of a text begins with, and what follows it.
 #[tactic(auto, unfolding(crate::specs::Tokens::next_of))]
@@ -32,12 +35,12 @@ fn read_token<'a>(
         Some(0) => match tag_token(alloc, rest) {
             Ok(found) => Ok(found),
             Err(ReadError::Memory) => Err(TemplateError::OutOfMemory),
-            Err(ReadError::Wrong(fault)) => Err(fault.error(text_length - rest.len())),
+            Err(ReadError::Wrong(fault)) => Err(TemplateError::of(fault, text_length - rest.len())),
         },
         Some(place) => {
             let (front, mark) = rest.split_at(place);
             if front.ends_with("\\") {
-                return Err(escaped(mark).error(text_length - mark.len()));
+                return Err(TemplateError::of(escaped(mark), text_length - mark.len()));
             }
             match piece_token(alloc, front) {
                 Ok(token) => Ok((token, mark)),
@@ -81,8 +84,8 @@ pub fn parse(alloc: Global, text: &str) -> Result<Template, TemplateError>
     ensures every_tree { (tree : Nodes) → Spells text.now tree → MatchResult result (λ template. tree_of template ≡ tree) (λ e. e ≡ TemplateError.OutOfMemory) }
     ensures every_fault { (fault : TemplateError) → IsFault text.now fault → MatchResult result (λ template. ⊥) (OrMemory (λ e. e ≡ fault)) }
 {
-    if text.len() > 65_536 {
-        return Err(TemplateError::TooLong { at: 65_536 });
+    if text.len() > TEXT_LIMIT {
+        return Err(TemplateError::TooLong { at: TEXT_LIMIT });
     }
     match read_nodes(alloc, text) {
         Ok(nodes) => Ok(Template::new(nodes)),

@@ -1,7 +1,7 @@
 // A template as a tree.
 
-use crate::reference::Reference;
 use data_tree::plain_text::PlainText;
+use template_words::reference::Reference;
 
 /// What a tag shows.
 #[derive(Debug, Drop)]

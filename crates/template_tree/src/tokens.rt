@@ -1,19 +1,19 @@
 // The tokens of a text: pieces of text and tags, in turn.
 ghost use Rattle.std.specs.Prelude.{◌≡◌, ◌<◌, ◌^◌, true, length, codes, MatchResult, IfOk};
-ghost use Rattle.template_tree.specs.Marks.{begins};
-ghost use Rattle.template_tree.specs.Reading.{Gives};
+ghost use Rattle.template_words.specs.Marks.{begins};
+ghost use Rattle.template_words.specs.Reading.{Gives};
 ghost use Rattle.template_tree.specs.Tags.{tag_of};
 ghost use Rattle.template_tree.specs.Tokens.{token, part_token, term_of, tag_next, escaped};
 ghost use Rattle.template_tree.specs.Tree.{term_view, piece};
 ghost use Rattle.template_tree.specs.Views.{token_view, FailsAt};
 
-use crate::fault::{Fault, ReadError};
-use crate::paths::path_of;
-use crate::tags::{Opening, TagText, tag_at};
+use crate::tags::{Opening, TagText, is_unsupported, tag_at};
 use crate::template::{Expression, Node};
-use crate::words::{is_unsupported, trimmed};
 use data_tree::plain_text::PlainText;
 use std::alloc::{AllocError, Global};
+use template_words::fault::{Fault, ReadError};
+use template_words::paths::path_of;
+use template_words::words::trimmed;
 
 /// A token: a comment leaves no node.
 #[derive(Debug, Drop)]
@@ -65,5 +65,6 @@ pub fn escaped(text: &str) -> Fault
 pub fn piece_token(alloc: Global, text: &str) -> Result<Token, AllocError>
     ensures { IfOk result (λ t. token_view t ≡ part_token (piece text.now)) }
 {
-    Ok(Token::Node(Node::Piece(PlainText::new(String::from_str(alloc, text)?))))
+    let piece = PlainText::new(String::from_str(alloc, text)?);
+    Ok(Token::Node(Node::Piece(piece)))
 }

@@ -1,9 +1,9 @@
 use Rattle.std.proofs.Common.{◌≡◌, ◌<◌, ◌==◌, true, false, Some, codes, length, drop, sym, ap, ◌∙◌}
 use Rattle.std.specs.List.{ends_with}
 use Rattle.std.proofs.lemmas.Str.Pattern.{ends_text}
-use Rattle.template_tree.specs.Marks.{begins, place_of}
+use Rattle.template_words.specs.Marks.{begins, place_of}
 use Rattle.template_tree.specs.Tokens.{token, text_next}
-use Rattle.template_tree.proofs.Finding.{place_at, if_some}
+use Rattle.template_words.proofs.Finding.{place_at, if_some}
 use Rattle.template_tree.proofs.Rows.{next_text, text_plain}
 use Rattle.template_tree.proofs.parser.read_token.Goals as goal
 

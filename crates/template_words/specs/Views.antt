@@ -1,0 +1,13 @@
+-- What parts of a text stand for.
+use Rattle.std.specs.Prelude.{ℕ, List, Option, Some, None}
+use denote.Ref.{Bor}
+
+-- a part of a text
+abbrev pub part_view : Option (Bor (List ℕ)) → Option (List ℕ)
+part_view None = None
+part_view (Some x) = Some x.now
+
+-- two parts of a text
+abbrev pub parts_view : Option (Bor (List ℕ) × Bor (List ℕ)) → Option (List ℕ × List ℕ)
+parts_view None = None
+parts_view (Some x) = Some (x.0.now, x.1.now)
