@@ -1,4 +1,6 @@
 pub mod ToldFacts
 pub mod SumFacts
+pub mod StackFacts
+pub mod PopFacts
 pub mod JudgeFacts
 pub mod PassFacts

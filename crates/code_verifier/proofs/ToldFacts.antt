@@ -1,5 +1,5 @@
 -- Budgets as they are told: sums keep the form, and so do limits.
-use Rattle.std.proofs.Common.{◌≡◌, ℕ, ◌+◌, [], ◌∷◌, refl, ap, arith}
+use Rattle.std.proofs.Common.{◌≡◌, ◌+◌, [], ◌∷◌, refl, ap, arith}
 use Rattle.template_code.specs.Bounds.{Bound, plus, fits, told}
 
 pub plus-told : (ps qs : Bound) → plus (told ps) qs ≡ told (plus ps qs)

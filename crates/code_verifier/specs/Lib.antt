@@ -1,4 +1,5 @@
 pub mod Pass
 pub mod Slots
+pub mod Shape
 pub mod Finding
 pub mod Verdict

@@ -1,7 +1,7 @@
 -- The kinds and the bounds of the slots that the pass knows.
 use Rattle.std.specs.Prelude.{List, map}
 use Rattle.template_code.specs.Bounds.{Bound}
-use Rattle.template_code.specs.declared.kind.Kind.{Kind}
+use Rattle.helper_set.specs.declared.kind.Kind.{Kind}
 use Rattle.code_verifier.specs.declared.stack.Slot.{Slot}
 
 abbrev pub kinds_of : List Slot → List Kind

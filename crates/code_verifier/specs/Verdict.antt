@@ -1,7 +1,7 @@
 -- What is known of accepted code, and what an error tells of the code that was given.
 use Rattle.std.specs.Prelude.{◌≡◌}
 use Rattle.data_tree.specs.declared.error_code.ErrorCode.{ErrorCode}
-use Rattle.template_code.specs.Code.{StackCode}
+use Rattle.template_code.specs.Code.{StackCode, HasTypedNumbers}
 use Rattle.template_code.specs.Bounds.{told}
 use Rattle.template_code.specs.Budget.{Cost, budget}
 use Rattle.template_code.specs.WellFormed.{IsWellFormed, IsWithinLimits, IsFault}
@@ -12,6 +12,7 @@ use Rattle.code_verifier.specs.declared.error.VerifyError.TheVariants.{CodeRefus
 pub record IsVerified (code : StackCode) (lists : Cost) : Type 0 where
   pub well_formed : IsWellFormed code
   pub within_limits : IsWithinLimits code
+  pub typed : HasTypedNumbers code
   pub steps : lists.steps ≡ told (budget code).steps
   pub bytes : lists.bytes ≡ told (budget code).bytes
 

@@ -100,6 +100,13 @@ impl Polynomial {
     }
 }
 
+/// Whether a coefficient isn't over the limit.
+pub fn is_within_limit(coefficient: u64) -> bool
+    ensures { result ≡ nat_le coefficient (2 ^ 63 - 1) }
+{
+    coefficient <= LIMIT
+}
+
 // The sum, coefficient by coefficient, where none is over the limit.
 fn sum(alloc: Global, left: &[u64], right: &[u64]) -> Result<Option<Vec<u64>>, AllocError>
     ensures { IfOk result (λ sum. option_map (λ v. v.items) sum ≡ within (plus left.now right.now)) }

@@ -1,13 +1,11 @@
 // The stack at a place, as far as the code tells it.
-ghost use Rattle.std.specs.Prelude.{◌≡◌, List, [], ◌∷◌, length, drop, map, IfSome, OnOk, MatchOption};
-ghost use Rattle.template_code.specs.Budget.{top};
-ghost use Rattle.code_verifier.specs.Slots.{bounds_of};
+ghost use Rattle.std.specs.Prelude.{◌≡◌, List, [], ◌∷◌, length, drop, OnOk, MatchOption};
 ghost use Rattle.code_verifier.specs.declared.stack.Slot.{Slot};
 
 use crate::polynomial::Polynomial;
+use helper_set::kind::Kind;
 use std::alloc::{AllocError, Global};
 use std::marker::Model;
-use template_code::kind::Kind;
 
 /// What is known of a slot: its kind, and how long the text is that it prints as, at most.
 #[derive(Drop)]
@@ -48,6 +46,18 @@ impl Stack {
         self.slots.len()
     }
 
+    /// The slot so far below the top.
+    pub fn slot(&self, depth: usize) -> Option<&Slot>
+        ensures { MatchOption result (drop depth self.now ≡ []) (λ slot. (below : List Slot) × (drop depth self.now ≡ slot.now ∷ below)) }
+    {
+        let count = self.depth();
+        if depth < count {
+            Some(&self.slots[count - 1 - depth])
+        } else {
+            None
+        }
+    }
+
     /// The slot at the top.
     pub fn top(&self) -> Option<&Slot>
         ensures { MatchOption result (self.now ≡ []) (λ slot. (below : List Slot) × (self.now ≡ slot.now ∷ below)) }
@@ -68,6 +78,14 @@ impl Stack {
         ensures { MatchOption result ((self.old ≡ []) × (self.new ≡ [])) (λ slot. self.old ≡ slot ∷ self.new) }
     {
         self.slots.pop()
+    }
+
+    /// Takes so many slots, as far as they are there.
+    pub fn pop_some(&mut self, count: usize)
+        ensures { self.new ≡ drop count self.old }
+    {
+        let left = self.depth().saturating_sub(count);
+        self.slots.truncate(left);
     }
 
     /// Takes every slot.

@@ -1,10 +1,11 @@
-// Hand-made code, with one text and one empty path in its tables, and its verdict by the rules. Each growth
+// Hand-made code, whose tables have a text and an empty path for each text of a row, and its verdict by the rules. Each growth
 // that is refused is tried again.
 use crate::error::VerifyError;
 use crate::verified::Verified;
 use crate::verify::verify;
 use data_tree::plain_text::PlainText;
 use data_tree::step::Path;
+use helper_set::helper::Helper;
 use std::alloc::{AllocError, Global};
 use std::test::Fail;
 use template_code::code::Code;
@@ -15,18 +16,22 @@ const EMIT: Instr = Instr::Emit(0);
 
 const ROOT: Instr = Instr::Root(0);
 
-// That instruction so many times, and then the others.
+// That instruction so many times, and then the others; `|` stands between the texts.
 fn made(
     alloc: Global,
     count: usize,
     instr: Instr,
     others: &[Instr],
-    text: &str,
+    rows: &str,
 ) -> Result<Code, AllocError> {
     let mut instrs = vec![in alloc; instr; count]?;
     instrs.extend_from_slice(others)?;
-    let texts = vec![in alloc; PlainText::new(String::from_str(alloc, text)?)]?;
-    let paths = vec![in alloc; Path::new(Vec::new(alloc))]?;
+    let mut texts = Vec::new(alloc);
+    let mut paths = Vec::new(alloc);
+    for text in rows.split('|') {
+        texts.push(PlainText::new(String::from_str(alloc, text)?))?;
+        paths.push(Path::new(Vec::new(alloc)))?;
+    }
     Ok(Code::new(instrs, texts, paths))
 }
 
@@ -94,6 +99,42 @@ fn the_least_fault_is_told(rt: HostRuntime) -> Result<(), Fail> {
         (&[ROOT, Instr::Halt], 1, Rule::V8),
         (&[Instr::Halt, Instr::Halt], 0, Rule::V12),
         (&[EMIT], 0, Rule::V12),
+        (&[Instr::Text(1), Instr::Halt], 0, Rule::V2),
+        (&[Instr::Jump(0), Instr::Halt], 0, Rule::V3),
+        (&[Instr::Jump(2), Instr::Halt], 0, Rule::V3),
+        (
+            &[ROOT, Instr::Show, Instr::Print, Instr::Jump(1), Instr::Halt],
+            3,
+            Rule::V3,
+        ),
+        (&[Instr::Call(Helper::Not), Instr::Halt], 0, Rule::V5),
+        (&[ROOT, Instr::Branch(2), Instr::Halt], 1, Rule::V6),
+        (
+            &[Instr::Text(0), Instr::Call(Helper::Not), Instr::Halt],
+            1,
+            Rule::V6,
+        ),
+        // Behind a jump there is no slot, and what stands there is judged.
+        (&[Instr::Jump(2), Instr::Print, Instr::Halt], 1, Rule::V5),
+        (&[ROOT, Instr::Jump(2), Instr::Halt], 1, Rule::V8),
+        (
+            &[ROOT, Instr::Truth(true), Instr::Branch(3), Instr::Halt],
+            2,
+            Rule::V8,
+        ),
+        // A jump leads to a place that holds a slot.
+        (
+            &[
+                Instr::Truth(true),
+                Instr::Branch(3),
+                ROOT,
+                Instr::Show,
+                Instr::Print,
+                Instr::Halt,
+            ],
+            3,
+            Rule::V8,
+        ),
         // Two rules at one place, and faults at two places.
         (&[Instr::Emit(1)], 0, Rule::V2),
         (&[Instr::Print], 0, Rule::V5),
@@ -146,6 +187,54 @@ fn budgets_are_told(rt: HostRuntime) -> Result<(), Fail> {
         // Bytes are counted, not characters.
         (2, &[Instr::Halt], "é", &[3], &[4]),
         (4095, &[Instr::Halt], "x", &[4096], &[4095]),
+        // A literal text has its length, a number at most 20 bytes and a truth 5.
+        (
+            0,
+            &[Instr::Text(0), Instr::Print, Instr::Halt],
+            "abc",
+            &[3],
+            &[3],
+        ),
+        (
+            0,
+            &[Instr::Number(-5), Instr::Show, Instr::Print, Instr::Halt],
+            "",
+            &[4],
+            &[20],
+        ),
+        (
+            0,
+            &[
+                ROOT,
+                Instr::Test,
+                Instr::Call(Helper::Not),
+                Instr::Show,
+                Instr::Print,
+                Instr::Halt,
+            ],
+            "",
+            &[6],
+            &[5],
+        ),
+        // Where a value counts as true `Q=` and the value, else `none`: both parts are counted.
+        (
+            0,
+            &[
+                ROOT,
+                Instr::Test,
+                Instr::Branch(8),
+                EMIT,
+                Instr::Root(1),
+                Instr::Show,
+                Instr::Print,
+                Instr::Jump(9),
+                Instr::Emit(1),
+                Instr::Halt,
+            ],
+            "Q=|none",
+            &[10],
+            &[6, 1],
+        ),
     ];
     for (emits, others, text, steps, bytes) in rows {
         let code = code(alloc, *emits, EMIT, others, text)?;

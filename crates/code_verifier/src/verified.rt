@@ -1,6 +1,7 @@
 // Code that may run.
 ghost use Rattle.std.specs.Prelude.{◌≡◌};
 ghost use Rattle.template_code.specs.Budget.{budget};
+ghost use Rattle.template_code.specs.Code.{HasTypedNumbers};
 ghost use Rattle.template_code.specs.WellFormed.{IsWellFormed, IsWithinLimits};
 ghost use Rattle.template_code.specs.Bounds.{told};
 ghost use Rattle.code_verifier.specs.Verdict.{IsVerified};
@@ -41,6 +42,7 @@ impl Verified {
         ensures code { result.now ≡ self.now }
         ensures well_formed { IsWellFormed self.now }
         ensures within_limits { IsWithinLimits self.now }
+        ensures typed { HasTypedNumbers self.now }
     {
         &self.code
     }

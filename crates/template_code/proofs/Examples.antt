@@ -1,16 +1,18 @@
 -- Worked examples, which the checker computes.
-use Rattle.std.specs.Prelude.{◌≡◌, ℕ, zero, suc, List, [], ◌∷◌, ◌++◌, replicate, Option, Some, None, codes}
+use Rattle.std.specs.Prelude.{◌≡◌, ℕ, zero, suc, List, [], ◌∷◌, ◌++◌, replicate, Option, Some, None, codes, pos}
 use Rattle.std.proofs.Common.{refl, sym, ap, length, ◌^◌, ◌-◌, Bool, true, false, true≢false}
-use Rattle.data_tree.specs.Tree.{Tree, text}
+use Rattle.data_tree.specs.Tree.{Tree, text, nothing}
+use Rattle.helper_set.specs.Values.{a_datum}
+use Rattle.helper_set.specs.declared.helper.Helper.TheVariants.{Not}
 use Rattle.template_code.specs.Code.{StackCode}
-use Rattle.template_code.specs.Machine.{advance, first, IsTrap, State, a_datum, Runs}
+use Rattle.template_code.specs.Machine.{advance, first, IsTrap, State, Runs}
 use Rattle.template_code.specs.Budget.{budget}
 use Rattle.template_code.specs.Bounds.{told}
 use Rattle.template_code.specs.WellFormed.{Entry, broken_by, verdict}
 use Rattle.template_code.specs.declared.instr.Instr.{Instr}
-use Rattle.template_code.specs.declared.instr.Instr.TheVariants.{Emit, Root, Show, Print, Halt}
+use Rattle.template_code.specs.declared.instr.Instr.TheVariants.{Emit, Root, Text, Number, Truth, Show, Test, Call, Print, Jump, Branch, Halt}
 use Rattle.template_code.specs.declared.rule.Rule.{Rule}
-use Rattle.template_code.specs.declared.rule.Rule.TheVariants.{V1, V2, V5, V6, V7, V8, V12, V13}
+use Rattle.template_code.specs.declared.rule.Rule.TheVariants.{V1, V2, V3, V5, V6, V7, V8, V12, V13}
 use Rattle.template_code.proofs.TableFacts.{entry_at}
 
 -- with one empty path and one empty text in the tables
@@ -49,11 +51,8 @@ told_of_nothing = refl
 
 abbrev is_halt : Option Instr → Bool
 is_halt None = false
-is_halt (Some (Emit t)) = false
-is_halt (Some (Root p)) = false
-is_halt (Some Show) = false
-is_halt (Some Print) = false
 is_halt (Some Halt) = true
+is_halt (Some i) = false
 
 -- a value isn't a text: no step at 1
 abbrev unshown : StackCode
@@ -160,3 +159,96 @@ first_fits bytes h = rw h refl
 
 second_is_too_much : (bytes : List ℕ) → length bytes ≡ 2 ^ 62 → verdict (two_texts bytes) 1 (entry_at (two_texts bytes) 1) ≡ Some V13
 second_is_too_much bytes h = rw h refl
+
+-- a jump goes ahead, and stays in the code
+jump_to_itself : verdicts (Jump 0 ∷ Halt ∷ []) 1 ≡ Some V3 ∷ []
+jump_to_itself = refl
+
+jump_back : verdicts (Root 0 ∷ Show ∷ Print ∷ Jump 1 ∷ Halt ∷ []) 5 ≡ None ∷ None ∷ None ∷ Some V3 ∷ None ∷ []
+jump_back = refl
+
+jump_past_the_end : verdicts (Jump 2 ∷ Halt ∷ []) 1 ≡ Some V3 ∷ []
+jump_past_the_end = refl
+
+branch_past_the_end : verdicts (Truth true ∷ Branch 3 ∷ Halt ∷ []) 2 ≡ None ∷ Some V3 ∷ []
+branch_past_the_end = refl
+
+jump_at_the_end : verdicts (Jump 1 ∷ []) 1 ≡ Some V3 ∷ []
+jump_at_the_end = refl
+
+-- what stands behind a jump is judged too, without a slot
+print_behind_a_jump : verdicts (Jump 2 ∷ Print ∷ Halt ∷ []) 3 ≡ None ∷ Some V5 ∷ None ∷ []
+print_behind_a_jump = refl
+
+slot_left_at_a_jump : verdicts (Root 0 ∷ Jump 2 ∷ Halt ∷ []) 3 ≡ None ∷ Some V8 ∷ None ∷ []
+slot_left_at_a_jump = refl
+
+slot_left_behind_a_branch : verdicts (Root 0 ∷ Truth true ∷ Branch 3 ∷ Halt ∷ []) 3 ≡ None ∷ None ∷ Some V8 ∷ []
+slot_left_behind_a_branch = refl
+
+-- a slot where a jump leads to
+slot_at_a_target : verdicts (Truth true ∷ Branch 3 ∷ Root 0 ∷ Show ∷ Print ∷ Halt ∷ []) 4 ≡ None ∷ None ∷ None ∷ Some V8 ∷ []
+slot_at_a_target = refl
+
+branch_of_data : verdicts (Root 0 ∷ Branch 2 ∷ Halt ∷ []) 2 ≡ None ∷ Some V6 ∷ []
+branch_of_data = refl
+
+not_of_text : verdicts (Text 0 ∷ Call Not ∷ Halt ∷ []) 2 ≡ None ∷ Some V6 ∷ []
+not_of_text = refl
+
+text_that_is_not_there : verdicts (Text 1 ∷ Halt ∷ []) 1 ≡ Some V2 ∷ []
+text_that_is_not_there = refl
+
+-- a text that is written where a value counts as false
+abbrev unless_value : StackCode
+unless_value = with_tables (Root 0 ∷ Test ∷ Call Not ∷ Branch 5 ∷ Emit 0 ∷ Halt ∷ [])
+
+unless_value_accepted : verdicts unless_value.instrs 7 ≡ replicate 7 None
+unless_value_accepted = refl
+
+-- a branch over a text, whose bytes count whether it is written or not
+abbrev over_a_text : StackCode
+over_a_text = record { instrs = Truth true ∷ Branch 3 ∷ Emit 0 ∷ Halt ∷ []; texts = codes "abc" ∷ []; paths = [] }
+
+over_a_text_accepted : verdict over_a_text 1 (entry_at over_a_text 1) ≡ None
+over_a_text_accepted = refl
+
+budget_over_a_text : budget over_a_text ≡ record { steps = 4 ∷ []; bytes = 3 ∷ [] }
+budget_over_a_text = refl
+
+run_over_a_text : Runs over_a_text nothing 4 (codes "abc")
+run_over_a_text = (record { place = 3; stack = []; loops = []; output = codes "abc" }, (3, refl, refl, refl), refl)
+
+-- where a value counts as true, two bytes and the value, else four bytes
+abbrev if_value : StackCode
+if_value = record {
+  instrs = Root 0 ∷ Test ∷ Branch 8 ∷ Emit 0 ∷ Root 1 ∷ Show ∷ Print ∷ Jump 9 ∷ Emit 1 ∷ Halt ∷ [];
+  texts = codes "Q=" ∷ codes "none" ∷ [];
+  paths = [] ∷ [] ∷ [];
+}
+
+abbrev judged_to : StackCode → ℕ → List (Option Rule)
+judged_to code zero = []
+judged_to code (suc n) = judged_to code n ++ verdict code n (entry_at code n) ∷ []
+
+if_value_accepted : judged_to if_value 11 ≡ replicate 11 None
+if_value_accepted = refl
+
+budget_of_if_value : told (budget if_value).steps ≡ 10 ∷ []
+budget_of_if_value = refl
+
+bytes_of_if_value : told (budget if_value).bytes ≡ 6 ∷ 1 ∷ []
+bytes_of_if_value = refl
+
+run_where_true : Runs if_value (text (codes "a")) 9 (codes "Q=a")
+run_where_true = (record { place = 9; stack = []; loops = []; output = codes "Q=a" }, (8, refl, refl, refl), refl)
+
+run_where_false : Runs if_value nothing 5 (codes "none")
+run_where_false = (record { place = 9; stack = []; loops = []; output = codes "none" }, (4, refl, refl, refl), refl)
+
+-- a literal number has the bound of any number
+bytes_of_a_number : told (budget (with_tables (Number (pos 5) ∷ Show ∷ Print ∷ Halt ∷ []))).bytes ≡ 20 ∷ []
+bytes_of_a_number = refl
+
+bytes_of_a_truth : told (budget (with_tables (Root 0 ∷ Test ∷ Show ∷ Print ∷ Halt ∷ []))).bytes ≡ 5 ∷ []
+bytes_of_a_truth = refl

@@ -3,7 +3,9 @@ pub mod RunFacts
 pub mod MachineFacts
 pub mod BoundFacts
 pub mod BudgetFacts
+pub mod CostFacts
 pub mod TrimFacts
 pub mod TableFacts
 pub mod FaultFacts
 pub mod FormFacts
+pub mod StepFacts

@@ -1,9 +1,10 @@
 -- What holds of all code and of all its runs.
-use Rattle.std.specs.Prelude.{◌≡◌, ℕ, suc, ◌+◌, ◌≤◌, false, not, ◌&&◌, ◌⊎◌, List, ◌++◌, map, length, drop, Some, is_some, slice_get}
+use Rattle.std.specs.Prelude.{◌≡◌, ℕ, suc, ◌+◌, ◌<◌, ◌≤◌, true, false, not, ◌&&◌, ◌⊎◌, List, [], ◌++◌, map, length, drop, Some, is_some, slice_get}
 use Rattle.data_tree.specs.Tree.{Tree}
+use Rattle.helper_set.specs.Values.{Value, kind_of}
 use Rattle.template_code.specs.Code.{StackCode}
-use Rattle.template_code.specs.Instructions.{names_entries, pops, pushes}
-use Rattle.template_code.specs.Machine.{Value, kind_of, Loop, Effect, effect, State, Comes, EndsAt}
+use Rattle.template_code.specs.Instructions.{flow, jump_of, goes_on, names_entries, pops, pushes}
+use Rattle.template_code.specs.Machine.{Loop, Effect, effect, State, Comes, EndsAt}
 use Rattle.template_code.specs.Bounds.{Bound, ends_in_zero, constant, all_data, plus, value, told}
 use Rattle.template_code.specs.Budget.{plus_cost, cost, bounds_behind, bounds_at, cost_before, budget}
 use Rattle.template_code.specs.WellFormed.{Entry, IsTable, lacks_slots, kinds_fit, broken, IsWellFormed, IsWithinLimits, IsFault}
@@ -85,3 +86,19 @@ EffectsAreRuled = (code : StackCode) (root : Tree) (i : Instr) (loops : List Loo
 -- it pops as many slots as it is said to pop, and pushes the kinds that it is said to push
 abbrev pub EffectsAreKinded : Type 0
 EffectsAreKinded = (code : StackCode) (root : Tree) (i : Instr) (loops : List Loop) (stack : List Value) (e : Effect) → effect code root i loops stack ≡ Some e → map kind_of e.stack ≡ pushes i ++ drop (length (pops i)) (map kind_of stack)
+
+-- a jump of well-formed code leads to a place behind its own and in the code, where there is no slot
+abbrev pub JumpsLandEmpty : Type 0
+JumpsLandEmpty = (code : StackCode) (well : IsWellFormed code) (place target : ℕ) (i : Instr) → slice_get code.instrs place ≡ Some i → jump_of (flow i) ≡ Some target → (place < target) × (target < length code.instrs) × ((well.table target).kinds ≡ [])
+
+-- an instruction that goes on to the next place isn't the last one
+abbrev pub GoesOnInside : Type 0
+GoesOnInside = (code : StackCode) (place : ℕ) (i : Instr) → IsWellFormed code → slice_get code.instrs place ≡ Some i → goes_on (flow i) ≡ true → suc place < length code.instrs
+
+-- each slot of a place has a bound
+abbrev pub EachSlotIsBounded : Type 0
+EachSlotIsBounded = (code : StackCode) (table : ℕ → Entry) (place : ℕ) → IsTable code table → place ≤ length code.instrs → length (bounds_at code place) ≡ length (table place).kinds
+
+-- what code costs up to a place isn't more than up to a later one
+abbrev pub CostsRise : Type 0
+CostsRise = (code : StackCode) (n place later : ℕ) → place ≤ later → (value (cost_before code place).steps n ≤ value (cost_before code later).steps n) × (value (cost_before code place).bytes n ≤ value (cost_before code later).bytes n)

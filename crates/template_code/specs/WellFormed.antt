@@ -1,14 +1,15 @@
 -- Which code is well formed, and which fault of other code is told.
-use Rattle.std.specs.Prelude.{◌≡◌, ℕ, zero, suc, ◌<◌, nat_lt, nat_eq, Bool, true, false, not, ◌&&◌, if◌then◌else◌, List, [], ◌∷◌, length, drop, Option, Some, None, slice_get}
+use Rattle.std.specs.Prelude.{◌≡◌, ℕ, zero, suc, ◌<◌, nat_lt, nat_eq, Bool, true, false, not, ◌&&◌, ◌||◌, if◌then◌else◌, List, [], ◌∷◌, length, drop, Option, Some, None, slice_get}
 use Rattle.std.specs.List.{list_any, list_all}
+use Rattle.helper_set.specs.Values.{same_kind}
+use Rattle.helper_set.specs.declared.kind.Kind.{Kind}
 use Rattle.template_code.specs.Code.{StackCode}
-use Rattle.template_code.specs.Instructions.{Flow, Straight, Ends, flow, names_entries, pops, pushes, behind}
+use Rattle.template_code.specs.Instructions.{Flow, Straight, Ahead, Forks, Ends, flow, jump_of, names_entries, pops, pushes, behind}
 use Rattle.template_code.specs.Bounds.{fits}
 use Rattle.template_code.specs.Budget.{pushed_bounds, bounds_at, cost_before, cost_fits}
 use Rattle.template_code.specs.declared.instr.Instr.{Instr}
-use Rattle.template_code.specs.declared.kind.Kind.{Kind}
 use Rattle.template_code.specs.declared.rule.Rule.{Rule}
-use Rattle.template_code.specs.declared.rule.Rule.TheVariants.{V1, V2, V5, V6, V7, V8, V12, V13}
+use Rattle.template_code.specs.declared.rule.Rule.TheVariants.{V1, V2, V3, V5, V6, V7, V8, V12, V13}
 
 -- what a table says of a place: the places of the loops that are open there, the innermost first, and the kinds of the
 -- slots, the top first
@@ -23,6 +24,8 @@ blank = record { nest = []; kinds = [] }
 -- the nest behind an instruction at a place
 abbrev pub nest_behind : Flow → ℕ → List ℕ → List ℕ
 nest_behind Straight place nest = nest
+nest_behind (Ahead a) place nest = nest
+nest_behind (Forks a) place nest = nest
 nest_behind Ends place nest = nest
 
 -- the entry behind an instruction at a place
@@ -34,12 +37,34 @@ pub record IsTable (code : StackCode) (table : ℕ → Entry) : Type 0 where
   pub start : table 0 ≡ blank
   pub next : (place : ℕ) (i : Instr) → slice_get code.instrs place ≡ Some i → table (suc place) ≡ entry_behind place i (table place)
 
-abbrev pub same_kind : Kind → Kind → Bool
-same_kind Kind.Data Kind.Data = true
-same_kind Kind.Text Kind.Text = true
-same_kind Kind.Number Kind.Number = true
-same_kind Kind.Truth Kind.Truth = true
-same_kind k l = false
+-- a jump may lead to a place that is behind its own, and in the code
+abbrev pub may_lead : StackCode → ℕ → ℕ → Bool
+may_lead code place target = nat_lt place target && nat_lt target (length code.instrs)
+
+-- it leads to another one
+abbrev pub leads_astray : StackCode → ℕ → Option ℕ → Bool
+leads_astray code place None = false
+leads_astray code place (Some target) = not (may_lead code place target)
+
+abbrev pub is_that : Option ℕ → ℕ → Bool
+is_that None place = false
+is_that (Some target) place = nat_eq target place
+
+-- what stands there jumps to that place
+abbrev pub jumps : Option Instr → ℕ → Bool
+jumps None target = false
+jumps (Some i) target = is_that (jump_of (flow i)) target
+
+-- those of the first places that jump to a place, the last first
+abbrev pub jumps_among : StackCode → ℕ → ℕ → List ℕ
+jumps_among code zero target = []
+jumps_among code (suc place) target =
+    if jumps (slice_get code.instrs place) target then place ∷ jumps_among code place target
+    else jumps_among code place target
+
+-- the places before a place that jump to it: where it is in the code, these are all jumps there that may lead to it
+abbrev pub jumps_to : StackCode → ℕ → List ℕ
+jumps_to code place = jumps_among code place place
 
 -- fewer slots are there than are wanted
 abbrev pub lacks_slots : List (List Kind) → List Kind → Bool
@@ -56,26 +81,39 @@ kinds_fit (w ∷ ws) (k ∷ kinds) = list_any (same_kind k) w && kinds_fit ws ki
 -- no slot may be left there by what is popped
 abbrev pub wants_empty : Flow → Bool
 wants_empty Straight = false
+wants_empty (Ahead a) = true
+wants_empty (Forks a) = true
 wants_empty Ends = true
 
 -- `Halt` and no other instruction stands at the last place
 abbrev pub is_misplaced : Flow → Bool → Bool
 is_misplaced Straight is_last = is_last
+is_misplaced (Ahead a) is_last = is_last
+is_misplaced (Forks a) is_last = is_last
 is_misplaced Ends is_last = not is_last
 
-abbrev pub is_empty : List Kind → Bool
+abbrev pub is_empty : {A : Type 0} → List A → Bool
 is_empty [] = true
-is_empty (k ∷ kinds) = false
+is_empty (x ∷ xs) = false
+
+-- a slot is there where a jump leads to
+abbrev pub is_met_full : StackCode → ℕ → List Kind → Bool
+is_met_full code place kinds = not (is_empty (jumps_to code place)) && not (is_empty kinds)
+
+-- a slot is left where none may be
+abbrev pub leaves_slots : Instr → List Kind → Bool
+leaves_slots i kinds = wants_empty (flow i) && not (is_empty (drop (length (pops i)) kinds))
 
 -- the least of the rules up to V12 that an instruction breaks at a place with that entry
 abbrev pub broken_by : StackCode → ℕ → Instr → Entry → Option Rule
 broken_by code place i e =
     if nat_eq place 4096 then Some V1
     else if not (names_entries code i) then Some V2
+    else if leads_astray code place (jump_of (flow i)) then Some V3
     else if lacks_slots (pops i) e.kinds then Some V5
     else if not (kinds_fit (pops i) e.kinds) then Some V6
     else if nat_lt 32 (length (behind i (pushes i) e.kinds)) then Some V7
-    else if wants_empty (flow i) && not (is_empty (drop (length (pops i)) e.kinds)) then Some V8
+    else if is_met_full code place e.kinds || leaves_slots i e.kinds then Some V8
     else if is_misplaced (flow i) (nat_eq (suc place) (length code.instrs)) then Some V12
     else None
 

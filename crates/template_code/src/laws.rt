@@ -1,5 +1,7 @@
 // Laws over the definitions, for all code and all runs: functions that do nothing, whose contracts are the laws.
-ghost use Rattle.template_code.specs.Laws.{EachIsJudged, NoneIsBoth, FaultIsOne, EachIsFormed, NoneIsBothFormed, FormedIsLimited, FaultOfForm, RunsEndAlike, StepsAddUp, EffectsAreRuled, EffectsAreKinded, CostsRun, BoundsRun, CostsEnd, NoneEndsInZero, ConstantsAreValues, DataIsItsSize, ValuesAddUp, ToldKeepsValues};
+ghost use Rattle.template_code.specs.Laws.{EachIsJudged, NoneIsBoth, FaultIsOne, EachIsFormed, NoneIsBothFormed, FormedIsLimited, FaultOfForm, RunsEndAlike, StepsAddUp, EffectsAreRuled, EffectsAreKinded, CostsRun, BoundsRun, CostsEnd, NoneEndsInZero, ConstantsAreValues, DataIsItsSize, ValuesAddUp, ToldKeepsValues, JumpsLandEmpty, GoesOnInside, EachSlotIsBounded, CostsRise};
+ghost use Rattle.std.specs.Prelude.{FitsSigned};
+ghost use Rattle.std.specs.Int.{w64};
 
 /// One verdict on code: a fault, which is the only one, or that it is accepted; and so for the rules without V13.
 pub fn law_one_verdict()
@@ -36,6 +38,20 @@ pub fn law_running_budget()
     ensures bounds { BoundsRun }
     ensures end { CostsEnd }
     ensures trimmed { NoneEndsInZero }
+{}
+
+/// A run of well-formed code stays inside it and finds the slots that the table tells, and it may pass over
+/// instructions without spending more.
+pub fn law_jumps()
+    ensures land { JumpsLandEmpty }
+    ensures inside { GoesOnInside }
+    ensures bounded { EachSlotIsBounded }
+    ensures rise { CostsRise }
+{}
+
+/// A number of 64 bits is from -2^63 to 2^63 - 1: so is each that code pushes.
+pub fn law_number(_number: i64)
+    ensures { FitsSigned w64 _number }
 {}
 
 /// The value of a sum is the sum of the values, and a list that is told has the value of the bound.

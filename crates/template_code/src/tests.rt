@@ -5,6 +5,7 @@ use crate::instr::Instr;
 use crate::listing::listing;
 use data_tree::plain_text::PlainText;
 use data_tree::step::{Path, Step};
+use helper_set::helper::Helper;
 use std::alloc::{AllocError, Global};
 use std::test::Fail;
 
@@ -32,6 +33,20 @@ fn each_instruction_has_a_line(rt: HostRuntime) -> Result<(), Fail> {
         (
             &[Instr::Emit(10), Instr::Root(18446744073709551615)],
             "0 Emit 10\n1 Root 18446744073709551615\n",
+        ),
+        (
+            &[
+                Instr::Text(0),
+                Instr::Number(-5),
+                Instr::Number(i64::MAX),
+                Instr::Truth(true),
+                Instr::Truth(false),
+                Instr::Test,
+                Instr::Call(Helper::Not),
+                Instr::Jump(3),
+                Instr::Branch(4),
+            ],
+            "0 Text 0\n1 Number -5\n2 Number 9223372036854775807\n3 Truth true\n4 Truth false\n5 Test\n6 Call not\n7 Jump 3\n8 Branch 4\n",
         ),
         (
             &[Instr::Halt; 11],

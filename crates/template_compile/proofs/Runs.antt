@@ -7,7 +7,8 @@ use Rattle.data_tree.specs.Print.{print as printed}
 use Rattle.data_tree.specs.declared.step.Step.{Step}
 use Rattle.data_tree.proofs.Lookups.{at_nothing, at_empty_name}
 use Rattle.template_code.specs.Code.{StackCode}
-use Rattle.template_code.specs.Machine.{Value, a_datum, a_text, Loop, State, writes, leaves, moved, act, advance, Comes, Runs}
+use Rattle.helper_set.specs.Values.{Value, a_datum, a_text}
+use Rattle.template_code.specs.Machine.{Loop, State, writes, leaves, moved, act, advance, Comes, Runs}
 use Rattle.template_code.specs.Instructions.{Straight}
 use Rattle.template_code.proofs.RunFacts.{comes-add}
 use Rattle.template_code.specs.declared.instr.Instr.{Instr}

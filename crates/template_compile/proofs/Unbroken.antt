@@ -5,15 +5,16 @@ use Rattle.std.proofs.lemmas.Bool.{cases_lt, lt-ltb, ne_eqb, eq-eqb}
 use Rattle.std.proofs.lemmas.Option.{slice_get_within, slice_get_past}
 use Rattle.data_tree.specs.declared.step.Step.{Step}
 use Rattle.template_code.specs.Code.{StackCode}
-use Rattle.template_code.specs.WellFormed.{Entry, blank, entry_behind, broken_by, broken_beyond, broken_where, broken, IsWellFormed}
+use Rattle.template_code.specs.WellFormed.{Entry, blank, entry_behind, broken_by, broken_beyond, broken_where, broken, jumps_to, IsWellFormed}
 use Rattle.template_code.proofs.TableFacts.{entry_at, entry_at-next, IsTable-entry_at}
 use Rattle.template_code.specs.declared.instr.Instr.{Instr}
 use Rattle.template_code.specs.declared.instr.Instr.TheVariants.{Emit, Root, Show, Print, Halt}
-use Rattle.template_code.specs.declared.kind.Kind.{Kind}
+use Rattle.helper_set.specs.declared.kind.Kind.{Kind}
 use Rattle.template_tree.specs.Tree.{Part, reading, piece, print, Nodes, no_nodes, node}
 use Rattle.template_compile.specs.Compiled.{Seam, start, past, bare, part_code, nodes_code, code_of}
 use Rattle.template_compile.specs.Length.{code_length}
 use Rattle.template_compile.proofs.Stands.{Stands, stands-front, stands-back, stands-itself, length-code_of}
+use Rattle.template_compile.proofs.NoJumps.{code_of-no_jumps}
 use Rattle.template_compile.proofs.Covers.{Covers, covers-none, covers-one, covers-join}
 
 -- a place breaks nothing
@@ -28,7 +29,7 @@ record IsSoundTo (code : StackCode) (from to : ℕ) : Type 0 where
   sound : Covers (IsSound code) from to
   ends : entry_at code to ≡ blank
 
-module _ (code : StackCode) (short : length code.instrs ≤ 4096) where
+module _ (code : StackCode) (short : length code.instrs ≤ 4096) (no_jump : (place : ℕ) → jumps_to code place ≡ []) where
   sound_by : (place : ℕ) (i : Instr) (e : Entry) → slice_get code.instrs place ≡ Some i → entry_at code place ≡ e → broken_by code place i e ≡ None → IsSound code place
   sound_by place i e h at b = ap (broken code place) at ∙ (ap (λ o. broken_where code place o e) h ∙ b)
 
@@ -46,32 +47,32 @@ module _ (code : StackCode) (short : length code.instrs ≤ 4096) where
       let a = not_at_limit place (omega arith) in
       let b = not_last place lt in
       let n = lt-ltb t (length code.texts) (slice_get_within code.texts t bytes k) in
-      sound_by place (Emit t) blank h at (rw (a, n, b) refl)
+      sound_by place (Emit t) blank h at (rw (a, n, no_jump place, b) refl)
 
   root_sound : (place p : ℕ) (path : List Step) → slice_get code.instrs place ≡ Some (Root p) → slice_get code.paths p ≡ Some path → entry_at code place ≡ blank → suc place < length code.instrs → IsSound code place
   root_sound place p path h k at lt =
       let a = not_at_limit place (omega arith) in
       let b = not_last place lt in
       let n = lt-ltb p (length code.paths) (slice_get_within code.paths p path k) in
-      sound_by place (Root p) blank h at (rw (a, n, b) refl)
+      sound_by place (Root p) blank h at (rw (a, n, no_jump place, b) refl)
 
   show_sound : (place : ℕ) → slice_get code.instrs place ≡ Some Show → entry_at code place ≡ with_kinds (Kind.Data ∷ []) → suc place < length code.instrs → IsSound code place
   show_sound place h at lt =
       let a = not_at_limit place (omega arith) in
       let b = not_last place lt in
-      sound_by place Show (with_kinds (Kind.Data ∷ [])) h at (rw (a, b) refl)
+      sound_by place Show (with_kinds (Kind.Data ∷ [])) h at (rw (a, no_jump place, b) refl)
 
   print_sound : (place : ℕ) → slice_get code.instrs place ≡ Some Print → entry_at code place ≡ with_kinds (Kind.Text ∷ []) → suc place < length code.instrs → IsSound code place
   print_sound place h at lt =
       let a = not_at_limit place (omega arith) in
       let b = not_last place lt in
-      sound_by place Print (with_kinds (Kind.Text ∷ [])) h at (rw (a, b) refl)
+      sound_by place Print (with_kinds (Kind.Text ∷ [])) h at (rw (a, no_jump place, b) refl)
 
   halt_sound : (place : ℕ) → slice_get code.instrs place ≡ Some Halt → entry_at code place ≡ blank → suc place ≡ length code.instrs → IsSound code place
   halt_sound place h at last =
       let a = not_at_limit place (omega arith) in
       let b = eq-eqb (suc place) (length code.instrs) last in
-      sound_by place Halt blank h at (rw (a, b) refl)
+      sound_by place Halt blank h at (rw (a, no_jump place, b) refl)
 
   -- the same stretch, to a place of another name
   sound_to : (from to to' : ℕ) → to ≡ to' → IsSoundTo code from to → IsSoundTo code from to'
@@ -130,11 +131,12 @@ code_of-well_formed nodes le =
     let short : length code.instrs ≤ 4096 = omega (arith, long, le) in
     let here = stands-itself code in
     let end : suc (past start body).place ≡ length code.instrs = omega (arith, length-append body.instrs (bare (Halt ∷ [])).instrs) in
-    let parts = nodes_sound code short nodes start (stands-front code start body (bare (Halt ∷ [])) here) refl (omega (arith, end)) in
-    let last = halt_sound code short (past start body).place (stands-back code start body (bare (Halt ∷ [])) here).instrs.0 parts.ends end in
+    let none = code_of-no_jumps nodes in
+    let parts = nodes_sound code short none nodes start (stands-front code start body (bare (Halt ∷ [])) here) refl (omega (arith, end)) in
+    let last = halt_sound code short none (past start body).place (stands-back code start body (bare (Halt ∷ [])) here).instrs.0 parts.ends end in
     let whole = covers-join (IsSound code) 0 (past start body).place (suc (past start body).place) parts.sound (covers-one (IsSound code) (past start body).place last) in
     record {
       table = entry_at code;
       follows = IsTable-entry_at code;
-      unbroken = λ place. all_sound code short place (omega (arith, end)) (subst (Covers (IsSound code) 0) end whole);
+      unbroken = λ place. all_sound code short none place (omega (arith, end)) (subst (Covers (IsSound code) 0) end whole);
     }

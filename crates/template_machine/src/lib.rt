@@ -9,5 +9,6 @@ pub mod laws;
 mod machine;
 pub mod program;
 pub mod run;
+mod slot;
 #[cfg(test)]
 mod tests;

@@ -17,6 +17,7 @@ use data_tree::error_code::ErrorCode;
 use data_tree::plain_text::PlainText;
 use data_tree::request_data::RequestData;
 use data_tree::step::{Path, Step};
+use helper_set::helper::Helper;
 use std::alloc::{AllocError, Global};
 use std::process::Abort;
 use template_code::code::Code;
@@ -53,19 +54,22 @@ fn parts(alloc: Global) -> Result<Data, AllocError> {
     Ok(Data::Fields(fields))
 }
 
-fn root(alloc: Global) -> Result<Data, AllocError>
+fn root(alloc: Global, request: Data) -> Result<Data, AllocError>
     ensures { IfOk result (λ made. HasNoEmptyName (view made)) }
 {
-    let request = parts(alloc)?;
     let name = String::from_str(alloc, "request")?;
     Ok(Data::Fields(vec![in alloc; (name, request)]?))
 }
 
-fn hi_ann_once(alloc: Global) -> Result<RequestData, AllocError> {
-    match RequestData::new(root(alloc)?) {
+fn seen(alloc: Global, request: Data) -> Result<RequestData, AllocError> {
+    match RequestData::new(root(alloc, request)?) {
         Ok(request) => Ok(request),
         Err(_error) => Err(AllocError),
     }
+}
+
+fn hi_ann_once(alloc: Global) -> Result<RequestData, AllocError> {
+    seen(alloc, parts(alloc)?)
 }
 
 // What a template sees of `GET /hi/Ann`.
@@ -73,6 +77,20 @@ fn hi_ann(alloc: Global) -> Result<RequestData, AllocError> {
     match hi_ann_once(alloc) {
         Ok(request) => Ok(request),
         Err(_error) => hi_ann_once(alloc),
+    }
+}
+
+fn asked_once(alloc: Global, q: &str) -> Result<RequestData, AllocError> {
+    let name = String::from_str(alloc, "q")?;
+    let field = (name, text(alloc, q)?);
+    seen(alloc, Data::Fields(vec![in alloc; field]?))
+}
+
+// A request whose only part is `q`.
+fn asked(alloc: Global, q: &str) -> Result<RequestData, AllocError> {
+    match asked_once(alloc, q) {
+        Ok(request) => Ok(request),
+        Err(_error) => asked_once(alloc, q),
     }
 }
 
@@ -225,10 +243,18 @@ fn path_in_request(alloc: Global, name: &str) -> Result<Path, AllocError> {
 
 fn paths(alloc: Global) -> Result<Vec<Path>, AllocError> {
     let mut paths = Vec::new(alloc);
-    for name in ["method", "url"] {
+    for name in ["method", "url", "q"] {
         paths.push(path_in_request(alloc, name)?)?;
     }
     Ok(paths)
+}
+
+fn texts(alloc: Global) -> Result<Vec<PlainText>, AllocError> {
+    let mut texts = Vec::new(alloc);
+    for text in ["Q=", "none", ""] {
+        texts.push(PlainText::new(String::from_str(alloc, text)?))?;
+    }
+    Ok(texts)
 }
 
 fn code(alloc: Global, instrs: &[Instr]) -> Result<Code, AllocError> {
@@ -236,21 +262,7 @@ fn code(alloc: Global, instrs: &[Instr]) -> Result<Code, AllocError> {
     for instr in instrs {
         all.push(*instr)?;
     }
-    Ok(Code::new(all, Vec::new(alloc), paths(alloc)?))
-}
-
-// Shows the method, then the URL, and prints both.
-fn two_shown(alloc: Global) -> Result<Code, AllocError> {
-    let instrs = [
-        Instr::Root(0),
-        Instr::Show,
-        Instr::Root(1),
-        Instr::Show,
-        Instr::Print,
-        Instr::Print,
-        Instr::Halt,
-    ];
-    code(alloc, &instrs)
+    Ok(Code::new(all, texts(alloc)?, paths(alloc)?))
 }
 
 fn verified(alloc: Global, code: Code) -> Option<Verified> {
@@ -260,28 +272,160 @@ fn verified(alloc: Global, code: Code) -> Option<Verified> {
     }
 }
 
-fn verified_pair(alloc: Global) -> Result<Verified, AllocError> {
-    let code = match two_shown(alloc) {
+fn verified_code(alloc: Global, instrs: &[Instr]) -> Result<Option<Verified>, AllocError> {
+    let code = match code(alloc, instrs) {
         Ok(code) => code,
-        Err(_error) => two_shown(alloc)?,
+        Err(_error) => code(alloc, instrs)?,
     };
-    verified(alloc, code).ok_or(AllocError)
+    Ok(verified(alloc, code))
+}
+
+// The code writes that text, in so many steps. Its budget is each instruction once, and these bytes.
+fn writes(
+    rt: &impl Abort,
+    alloc: Global,
+    request: &RequestData,
+    instrs: &[Instr],
+    want: &str,
+    steps: u128,
+    bytes: &[u64],
+) -> Result<(), AllocError> {
+    match verified_code(alloc, instrs)? {
+        None => assert!(rt; false, "refused: {want}"),
+        Some(verified) => {
+            let rendered = match run(alloc, &verified, request) {
+                Ok(rendered) => rendered,
+                Err(_error) => run(alloc, &verified, request)?,
+            };
+            assert_eq!(rt; verified.budget().steps(), [instrs.len() as u64].as_slice());
+            assert_eq!(rt; verified.budget().bytes(), bytes, "{want}");
+            assert_eq!(rt; rendered.text.as_str(), want);
+            assert_eq!(rt; rendered.steps, steps, "{want}");
+        }
+    }
+    Ok(())
 }
 
 #[test]
 fn the_last_text_that_was_shown_is_written_first(rt: HostRuntime) -> Result<(), AllocError> {
     let alloc = rt.alloc();
-    let verified = verified_pair(alloc)?;
+    let instrs = [
+        Instr::Root(0),
+        Instr::Show,
+        Instr::Root(1),
+        Instr::Show,
+        Instr::Print,
+        Instr::Print,
+        Instr::Halt,
+    ];
     let request = hi_ann(alloc)?;
-    let rendered = match run(alloc, &verified, &request) {
-        Ok(rendered) => rendered,
-        Err(_error) => run(alloc, &verified, &request)?,
+    writes(&rt, alloc, &request, &instrs, "/hi/AnnGET", 7, &[0, 2])
+}
+
+#[test]
+fn a_branch_goes_ahead_where_the_value_counts_as_false(rt: HostRuntime) -> Result<(), AllocError> {
+    let alloc = rt.alloc();
+    let either = [
+        Instr::Root(2),
+        Instr::Test,
+        Instr::Branch(8),
+        Instr::Emit(0),
+        Instr::Root(2),
+        Instr::Show,
+        Instr::Print,
+        Instr::Jump(9),
+        Instr::Emit(1),
+        Instr::Halt,
+    ];
+    let unless = [
+        Instr::Root(2),
+        Instr::Test,
+        Instr::Call(Helper::Not),
+        Instr::Branch(5),
+        Instr::Emit(1),
+        Instr::Halt,
+    ];
+    let a = asked(alloc, "a")?;
+    let empty = asked(alloc, "")?;
+    let absent = hi_ann(alloc)?;
+    writes(&rt, alloc, &a, &either, "Q=a", 9, &[6, 1])?;
+    writes(&rt, alloc, &empty, &either, "none", 5, &[6, 1])?;
+    writes(&rt, alloc, &absent, &either, "none", 5, &[6, 1])?;
+    writes(&rt, alloc, &a, &unless, "", 5, &[4])?;
+    writes(&rt, alloc, &empty, &unless, "none", 6, &[4])
+}
+
+// The code that does that with each value, one after the other.
+fn each(alloc: Global, values: &[&[Instr]], behind: &[Instr]) -> Result<Vec<Instr>, AllocError> {
+    let mut instrs = Vec::new(alloc);
+    for value in values {
+        instrs.extend_from_slice(value)?;
+        instrs.extend_from_slice(behind)?;
+    }
+    instrs.push(Instr::Halt)?;
+    Ok(instrs)
+}
+
+fn writes_each(
+    rt: &impl Abort,
+    alloc: Global,
+    values: &[&[Instr]],
+    behind: &[Instr],
+    want: &str,
+    bytes: u64,
+) -> Result<(), AllocError> {
+    let instrs = match each(alloc, values, behind) {
+        Ok(instrs) => instrs,
+        Err(_error) => each(alloc, values, behind)?,
     };
-    assert_eq!(rt; verified.budget().steps(), [7].as_slice());
-    assert_eq!(rt; verified.budget().bytes(), [0, 2].as_slice());
-    assert_eq!(rt; rendered.text.as_str(), "/hi/AnnGET");
-    assert_eq!(rt; rendered.steps, 7);
-    Ok(())
+    let request = asked(alloc, "a")?;
+    writes(
+        rt,
+        alloc,
+        &request,
+        &instrs,
+        want,
+        instrs.len() as u128,
+        &[bytes],
+    )
+}
+
+#[test]
+fn literals_print_as_they_are(rt: HostRuntime) -> Result<(), AllocError> {
+    let values: &[&[Instr]] = &[
+        &[Instr::Number(-5), Instr::Show],
+        &[Instr::Number(i64::MAX), Instr::Show],
+        &[Instr::Number(i64::MIN), Instr::Show],
+        &[Instr::Truth(true), Instr::Show],
+        &[Instr::Truth(false), Instr::Show],
+        &[Instr::Text(0)],
+    ];
+    let want = "-59223372036854775807-9223372036854775808truefalseQ=";
+    writes_each(&rt, rt.alloc(), values, &[Instr::Print], want, 72)
+}
+
+// By turns: false, true.
+#[test]
+fn nothing_a_zero_and_an_empty_text_count_as_false(rt: HostRuntime) -> Result<(), AllocError> {
+    let values: &[&[Instr]] = &[
+        &[Instr::Number(0)],
+        &[Instr::Number(-1)],
+        &[Instr::Truth(false)],
+        &[Instr::Truth(true)],
+        &[Instr::Text(2)],
+        &[Instr::Text(0)],
+        &[Instr::Root(1)],
+        &[Instr::Root(2)],
+        &[Instr::Root(1), Instr::Show],
+        &[Instr::Root(2), Instr::Show],
+        &[Instr::Truth(false), Instr::Test],
+        &[Instr::Truth(false), Instr::Show],
+        &[Instr::Number(0), Instr::Test],
+        &[Instr::Number(0), Instr::Show],
+    ];
+    let behind = [Instr::Test, Instr::Show, Instr::Print];
+    let want = "falsetruefalsetruefalsetruefalsetruefalsetruefalsetruefalsetrue";
+    writes_each(&rt, rt.alloc(), values, &behind, want, 70)
 }
 
 #[test]

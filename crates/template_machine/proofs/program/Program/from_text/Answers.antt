@@ -3,6 +3,7 @@ use Rattle.std.proofs.lemmas.Result.{err_from_is_err_and}
 use Rattle.template_tree.specs.Tree.{tree_of}
 use Rattle.template_compile.specs.Length.{code_length}
 use Rattle.template_machine.specs.Errors.{of_template, of_verify}
+use Rattle.template_machine.proofs.Programs.{program_of}
 use Rattle.template_machine.proofs.Refusals.{compile_error}
 use Rattle.template_machine.proofs.program.Program.from_text.Goals as goal
 
@@ -39,19 +40,7 @@ returns-in_err-verified-clause-never_refused c = λ place rule refused.
     absurd cc
 
 pub invariant_of-result : goal.invariant_of-result
-invariant_of-result c =
-    record {
-      tree = tree_of c.in_ok-template.template;
-      spelled = rw c.in_ok-source.ensures.ok c.in_ok-template.ensures.found;
-      translated = rw c.in_ok-verified.ensures.same c.in_ok-code.ensures.translated;
-      runs = rw c.in_ok-verified.ensures.same c.in_ok-code.ensures.runs;
-    }
+invariant_of-result c = program_of _ _ _ _ (tree_of c.in_ok-template.template) c.in_ok-source.ensures.ok c.in_ok-verified.ensures.same c.in_ok-template.ensures.found c.in_ok-code.ensures.translated c.in_ok-code.ensures.runs
 
 pub returns-clause-program : goal.returns-clause-program
-returns-clause-program c =
-    record {
-      tree = tree_of c.in_ok-template.template;
-      spelled = rw c.in_ok-source.ensures.ok c.in_ok-template.ensures.found;
-      translated = rw c.in_ok-verified.ensures.same c.in_ok-code.ensures.translated;
-      runs = rw c.in_ok-verified.ensures.same c.in_ok-code.ensures.runs;
-    }
+returns-clause-program c = program_of _ _ _ _ (tree_of c.in_ok-template.template) c.in_ok-source.ensures.ok c.in_ok-verified.ensures.same c.in_ok-template.ensures.found c.in_ok-code.ensures.translated c.in_ok-code.ensures.runs

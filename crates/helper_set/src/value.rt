@@ -1,0 +1,11 @@
+// The values that helpers are given and give.
+
+use data_tree::plain_text::PlainText;
+
+/// A value that isn't the request's data.
+#[derive(Debug, Drop)]
+pub enum HelperValue {
+    Text(PlainText),
+    Number(i64),
+    Truth(bool),
+}
