@@ -1,4 +1,4 @@
-pub mod ToldFacts
+pub mod PrintedFacts
 pub mod SumFacts
 pub mod StackFacts
 pub mod PopFacts

@@ -1,5 +1,2 @@
-pub mod Pass
-pub mod Slots
-pub mod Shape
-pub mod Finding
 pub mod Verdict
+pub mod Inner

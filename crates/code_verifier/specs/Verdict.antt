@@ -1,27 +1,21 @@
--- What is known of accepted code, and what an error tells of the code that was given.
+-- What is known of accepted code, and what an error says of the code that was given.
 use Rattle.std.specs.Prelude.{◌≡◌}
-use Rattle.data_tree.specs.declared.error_code.ErrorCode.{ErrorCode}
 use Rattle.template_code.specs.Code.{StackCode, HasTypedNumbers}
-use Rattle.template_code.specs.Bounds.{told}
+use Rattle.template_code.specs.Bounds.{as_printed}
 use Rattle.template_code.specs.Budget.{Cost, budget}
-use Rattle.template_code.specs.WellFormed.{IsWellFormed, IsWithinLimits, IsFault}
+use Rattle.template_code.specs.WellFormed.{IsWellFormed, IsWithinLimits, IsViolation}
 use Rattle.code_verifier.specs.declared.error.VerifyError.{VerifyError}
 use Rattle.code_verifier.specs.declared.error.VerifyError.TheVariants.{CodeRefused, OutOfMemory}
 
--- the code may run, and these are the lists of its budget
+-- the code is accepted, and these are the lists of its budget
 pub record IsVerified (code : StackCode) (lists : Cost) : Type 0 where
   pub well_formed : IsWellFormed code
   pub within_limits : IsWithinLimits code
   pub typed : HasTypedNumbers code
-  pub steps : lists.steps ≡ told (budget code).steps
-  pub bytes : lists.bytes ≡ told (budget code).bytes
+  pub steps : lists.steps ≡ as_printed (budget code).steps
+  pub bytes : lists.bytes ≡ as_printed (budget code).bytes
 
--- the code comes back; a refusal tells its fault
-abbrev pub IsToldOf : StackCode → VerifyError → Type 0
-IsToldOf code (CodeRefused back place rule) = (back ≡ code) × IsFault code place rule
-IsToldOf code (OutOfMemory back) = back ≡ code
-
--- what a user is told
-abbrev pub code_of : VerifyError → ErrorCode
-code_of (CodeRefused back place rule) = ErrorCode.CodeRefused
-code_of (OutOfMemory back) = ErrorCode.OutOfMemory
+-- the error hands the code back, and a refusal reports its violation
+abbrev pub IsVerifyErrorOf : StackCode → VerifyError → Type 0
+IsVerifyErrorOf code (CodeRefused back index rule) = (back ≡ code) × IsViolation code index rule
+IsVerifyErrorOf code (OutOfMemory back) = back ≡ code

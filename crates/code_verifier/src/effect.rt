@@ -1,15 +1,15 @@
-// What an instruction does to what is known of the stack.
+//! What an instruction does to what is known of the stack.
 ghost use Rattle.std.specs.Prelude.{◌≡◌, List, [], ◌∷◌, length, drop, slice_get, unwrap_or, IfOk, OnOk};
 ghost use Rattle.std.specs.List.{list_all};
 ghost use Rattle.helper_set.specs.Helpers.{result_kind};
-ghost use Rattle.template_code.specs.Bounds.{Bound, fits};
-ghost use Rattle.template_code.specs.Instructions.{pushes, behind};
-ghost use Rattle.template_code.specs.Budget.{top, helper_bound, pushed_bounds, bounds_behind, written_bound};
+ghost use Rattle.template_code.specs.Bounds.{Bound, constant, fits};
+ghost use Rattle.template_code.specs.Instructions.{pushes, slots_after};
+ghost use Rattle.template_code.specs.Budget.{top, helper_bound, pushed_bounds, bounds_after};
+ghost use Rattle.template_code.specs.Budget.{written_bound};
 ghost use Rattle.template_code.specs.declared.instr.Instr.TheVariants.{Call};
-ghost use Rattle.code_verifier.specs.Slots.{kinds_of, bounds_of};
+ghost use Rattle.code_verifier.specs.Inner.Slots.{kinds_of, bounds_of};
 
 use crate::polynomial::{Polynomial, is_within_limit};
-use crate::popped::popped_by;
 use crate::stack::Stack;
 use helper_set::helper::Helper;
 use helper_set::kind::Kind;
@@ -17,112 +17,96 @@ use helper_set::signature::signature;
 use std::alloc::{AllocError, Global};
 use template_code::code::Code;
 use template_code::instr::Instr;
+use template_code::limits::{MAX_NUMBER_LENGTH, MAX_TRUTH_LENGTH};
 
-/// How many bytes the decimal of a number of 64 bits has, at most.
-const NUMBER_LENGTH: u64 = 20;
-
-/// How many bytes the word for a truth has, at most.
-const TRUTH_LENGTH: u64 = 5;
-
-/// Whether the bound of each slot that an instruction pushes is within the limit.
+/// Whether the bound of each slot that an instruction pushes has coefficients that aren't too large.
 pub fn pushed_bounds_fit(code: &Code, instr: Instr, stack: &Stack) -> bool
     ensures { result ≡ list_all fits (pushed_bounds code.now instr (bounds_of stack.now)) }
 {
     match instr {
-        Instr::Emit(_)
-        | Instr::Root(_)
-        | Instr::Number(_)
-        | Instr::Truth(_)
-        | Instr::Test
-        | Instr::Call(Helper::Not)
-        | Instr::Print
-        | Instr::Jump(_)
-        | Instr::Branch(_)
-        | Instr::Halt => true,
         Instr::Text(text) => is_within_limit(text_length(code, text)),
         Instr::Show => match stack.top() {
             None => true,
             Some(slot) => slot.bound.fits(),
         },
+        Instr::Call(helper) => match helper {
+            Helper::Not => true,
+        },
+        _ => true,
     }
 }
 
-/// Takes an instruction's effect on the stack, and answers how many bytes it writes at most.
-pub fn follow(
+/// Changes the stack as an instruction does, and returns the number of bytes that it writes, at most.
+pub fn apply_effect(
     alloc: Global,
     code: &Code,
     instr: Instr,
     stack: &mut Stack,
 ) -> Result<Polynomial, AllocError>
-    ensures kinds { OnOk result (kinds_of stack.new ≡ behind instr (pushes instr) (kinds_of stack.old)) }
-    ensures bounds { OnOk result (bounds_of stack.new ≡ bounds_behind code.now instr (bounds_of stack.old)) }
+    ensures kinds { OnOk result (kinds_of stack.new ≡ slots_after instr (pushes instr) (kinds_of stack.old)) }
+    ensures bounds { OnOk result (bounds_of stack.new ≡ bounds_after code.now instr (bounds_of stack.old)) }
     ensures written { IfOk result (λ written. written ≡ written_bound code.now instr (bounds_of stack.old)) }
 {
+    let mut written = Polynomial::empty(alloc);
     match instr {
-        Instr::Emit(text) => Polynomial::constant(alloc, text_length(code, text)),
-        Instr::Root(_) => {
-            stack.push(Kind::Data, Polynomial::all_data(alloc)?)?;
-            Ok(Polynomial::nothing(alloc))
-        }
-        Instr::Text(text) => {
-            let bound = Polynomial::constant(alloc, text_length(code, text))?;
-            stack.push(Kind::Text, bound)?;
-            Ok(Polynomial::nothing(alloc))
-        }
-        Instr::Number(_) => {
-            stack.push(Kind::Number, Polynomial::constant(alloc, NUMBER_LENGTH)?)?;
-            Ok(Polynomial::nothing(alloc))
-        }
-        Instr::Truth(_) => {
-            stack.push(Kind::Truth, Polynomial::constant(alloc, TRUTH_LENGTH)?)?;
-            Ok(Polynomial::nothing(alloc))
-        }
+        Instr::Emit(text) => written = Polynomial::constant(alloc, text_length(code, text))?,
+        Instr::Root(_) => stack.push(Kind::Data, Polynomial::all_data(alloc)?)?,
+        Instr::Text(text) => push_constant(alloc, Kind::Text, text_length(code, text), stack)?,
+        Instr::Number(_) => push_constant(alloc, Kind::Number, MAX_NUMBER_LENGTH, stack)?,
+        Instr::Truth(_) => push_constant(alloc, Kind::Truth, MAX_TRUTH_LENGTH, stack)?,
         Instr::Show => {
             let bound = pop_bound(alloc, stack);
             stack.push(Kind::Text, bound)?;
-            Ok(Polynomial::nothing(alloc))
         }
         Instr::Test => {
-            stack.pop_some(1);
-            stack.push(Kind::Truth, Polynomial::constant(alloc, TRUTH_LENGTH)?)?;
-            Ok(Polynomial::nothing(alloc))
+            stack.pop_many(1);
+            push_constant(alloc, Kind::Truth, MAX_TRUTH_LENGTH, stack)?;
         }
-        Instr::Call(helper) => {
-            call(alloc, helper, stack)?;
-            Ok(Polynomial::nothing(alloc))
-        }
-        Instr::Print => Ok(pop_bound(alloc, stack)),
-        Instr::Branch(_) => {
-            stack.pop_some(1);
-            Ok(Polynomial::nothing(alloc))
-        }
-        Instr::Jump(_) | Instr::Halt => {
-            stack.clear();
-            Ok(Polynomial::nothing(alloc))
-        }
+        Instr::Call(helper) => call(alloc, helper, stack)?,
+        Instr::Print => written = pop_bound(alloc, stack),
+        Instr::Branch(_) => stack.pop_many(1),
+        Instr::Jump(_) | Instr::Halt => stack.clear(),
     }
+    Ok(written)
 }
 
-// Takes a helper's arguments, and pushes its result.
+// Adds a slot that prints as a text of at most that length, in bytes.
+fn push_constant(
+    alloc: Global,
+    kind: Kind,
+    length: u64,
+    stack: &mut Stack,
+) -> Result<(), AllocError>
+    ensures kinds { OnOk result (kinds_of stack.new ≡ kind ∷ kinds_of stack.old) }
+    ensures bounds { OnOk result (bounds_of stack.new ≡ constant length ∷ bounds_of stack.old) }
+{
+    let bound = Polynomial::constant(alloc, length)?;
+    stack.push(kind, bound)
+}
+
+// Takes a helper's arguments, and adds its result.
 fn call(alloc: Global, helper: Helper, stack: &mut Stack) -> Result<(), AllocError>
-    ensures kinds { OnOk result (kinds_of stack.new ≡ behind (Call helper) (result_kind helper ∷ []) (kinds_of stack.old)) }
-    ensures bounds { OnOk result (bounds_of stack.new ≡ behind (Call helper) (helper_bound helper (bounds_of stack.old) ∷ []) (bounds_of stack.old)) }
+    ensures kinds { OnOk result
+        (kinds_of stack.new ≡ slots_after (Call helper) (result_kind helper ∷ []) (kinds_of stack.old)) }
+    ensures bounds { OnOk result
+        (bounds_of stack.new
+        ≡ slots_after (Call helper) (helper_bound helper (bounds_of stack.old) ∷ []) (bounds_of stack.old)) }
 {
     let bound = helper_bound(alloc, helper)?;
-    stack.pop_some(popped_by(Instr::Call(helper)).count());
+    stack.pop_many(Instr::Call(helper).popped().count());
     stack.push(signature(helper).gives, bound)
 }
 
-// How long the text is that a helper's result prints as, at most.
+// The length of the text that a helper's result prints as, at most.
 fn helper_bound(alloc: Global, helper: Helper) -> Result<Polynomial, AllocError>
     ensures { IfOk result (λ bound. (bounds : List Bound) → bound ≡ helper_bound helper bounds) }
 {
     match helper {
-        Helper::Not => Polynomial::constant(alloc, TRUTH_LENGTH),
+        Helper::Not => Polynomial::constant(alloc, MAX_TRUTH_LENGTH),
     }
 }
 
-// How many bytes a text of the table has.
+// The length of a text of the code, in bytes.
 fn text_length(code: &Code, text: usize) -> u64
     ensures { result ≡ length (unwrap_or (slice_get code.now.texts text) []) }
 {
@@ -132,13 +116,13 @@ fn text_length(code: &Code, text: usize) -> u64
     }
 }
 
-// Takes the slot at the top, and answers its bound.
+// Takes the slot at the top, and returns its bound.
 fn pop_bound(alloc: Global, stack: &mut Stack) -> Polynomial
     ensures bound { result ≡ top (bounds_of stack.old) }
     ensures below { stack.new ≡ drop 1 stack.old }
 {
     match stack.pop() {
-        None => Polynomial::nothing(alloc),
+        None => Polynomial::empty(alloc),
         Some(slot) => slot.bound,
     }
 }

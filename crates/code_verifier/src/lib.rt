@@ -1,7 +1,6 @@
-// Who may run: one pass over stack code, which keeps what is known before the next place and no table. It
-// stands on `template_code`, whose definitions of well-formed code, faults and budgets its contracts cite;
-// `specs/Verdict.antt` says what is known of accepted code and what an error tells. `Pass`, `Shape`, `Slots` and `Finding`
-// are words of the private functions.
+//! Decides which code may run: one pass over stack code, which keeps what is known before the next instruction
+//! and no table. It uses `template_code`, whose definitions of well-formed code, violations and budgets
+//! its contracts cite; `specs/Verdict.antt` says what is known of accepted code and what an error says.
 #![tactic(auto)]
 
 pub mod budget;
@@ -9,12 +8,8 @@ mod effect;
 pub mod error;
 mod pass;
 mod polynomial;
-mod popped;
 mod rules;
 mod stack;
 mod targets;
-#[cfg(test)]
-mod tests;
 pub mod verified;
 pub mod verify;
-mod way;

@@ -1,14 +1,14 @@
-// Polynomials with coefficients of 64 bits.
-ghost use Rattle.std.specs.Prelude.{◌≡◌, ◌+◌, ◌-◌, ◌*◌, ◌≤◌, ◌^◌, ◌↔◌, cond, nat_le, [], ◌∷◌, Some, None, slice_index, IfOk, IfSome, IsNone};
+//! Polynomials with coefficients of 64 bits.
+ghost use Rattle.std.specs.Prelude.{◌≡◌, ◌+◌, ◌*◌, ◌≤◌, ◌^◌, ◌↔◌, cond, nat_le, [], ◌∷◌, Some, None, slice_index};
+ghost use Rattle.std.specs.Prelude.{IfOk, IfSome, IsNone};
 ghost use Rattle.std.specs.Option.{option_map};
 ghost use Rattle.template_code.specs.Bounds.{constant, all_data, plus, fits, value};
-ghost use Rattle.code_verifier.specs.Pass.{within};
+ghost use Rattle.template_code.specs.declared.limits.TheConstants.{MAX_COEFFICIENT};
+ghost use Rattle.code_verifier.specs.Inner.Pass.{within};
 
 use std::alloc::{AllocError, Global};
 use std::marker::Model;
-
-/// The largest coefficient of a bound or a budget.
-const LIMIT: u64 = 9_223_372_036_854_775_807;
+use template_code::limits::MAX_COEFFICIENT;
 
 /// A polynomial in the size of a request's data, seen as the list of its coefficients, the constant first.
 #[derive(Debug, Drop)]
@@ -25,8 +25,8 @@ impl Model for Polynomial {
 }
 
 impl Polynomial {
-    /// The polynomial without a coefficient.
-    pub fn nothing(alloc: Global) -> Polynomial
+    /// The list of a polynomial that is zero.
+    pub fn empty(alloc: Global) -> Polynomial
         ensures { result ≡ [] }
     {
         Polynomial {
@@ -34,8 +34,8 @@ impl Polynomial {
         }
     }
 
-    /// The polynomial without a coefficient, as it is told: `[0]`.
-    pub fn zero(alloc: Global) -> Result<Polynomial, AllocError>
+    /// The list of a polynomial that is zero, as it is printed: `[0]`.
+    pub fn zero_as_printed(alloc: Global) -> Result<Polynomial, AllocError>
         ensures { IfOk result (λ p. p ≡ 0 ∷ []) }
     {
         Ok(Polynomial {
@@ -70,16 +70,16 @@ impl Polynomial {
         self.coefficients.as_slice()
     }
 
-    /// Whether no coefficient is over the limit.
+    /// Whether no coefficient is over `MAX_COEFFICIENT`.
     pub fn fits(&self) -> bool
         ensures { result ≡ fits self.now }
     {
         self.coefficients
             .iter()
-            .all(|coefficient| *coefficient <= LIMIT)
+            .all(|coefficient| *coefficient <= MAX_COEFFICIENT)
     }
 
-    /// The sum, where no coefficient of it is over the limit.
+    /// The sum; none if a coefficient of it is too large.
     pub fn plus(&self, alloc: Global, other: &Polynomial) -> Result<Option<Polynomial>, AllocError>
         ensures { IfOk result (λ sum. sum ≡ within (plus self.now other.now)) }
     {
@@ -91,7 +91,7 @@ impl Polynomial {
         Ok(coefficients.map(|coefficients| Polynomial { coefficients }))
     }
 
-    /// The value, where 128 bits hold it.
+    /// The value, or none where it exceeds 128 bits.
     pub fn value_at(&self, size: u64) -> Option<u128>
         ensures value { IfSome result (λ at. at ≡ value self.now size) }
         ensures none { IsNone result ↔ (2 ^ 128 ≤ value self.now size) }
@@ -100,20 +100,19 @@ impl Polynomial {
     }
 }
 
-/// Whether a coefficient isn't over the limit.
 pub fn is_within_limit(coefficient: u64) -> bool
-    ensures { result ≡ nat_le coefficient (2 ^ 63 - 1) }
+    ensures { result ≡ nat_le coefficient MAX_COEFFICIENT }
 {
-    coefficient <= LIMIT
+    coefficient <= MAX_COEFFICIENT
 }
 
-// The sum, coefficient by coefficient, where none is over the limit.
+// The sum, coefficient by coefficient; none if one is too large.
 fn sum(alloc: Global, left: &[u64], right: &[u64]) -> Result<Option<Vec<u64>>, AllocError>
     ensures { IfOk result (λ sum. option_map (λ v. v.items) sum ≡ within (plus left.now right.now)) }
 {
     let mut sum = Vec::new(alloc);
-    for place in 0..left.len().max(right.len()) {
-        match limited_sum(coefficient(left, place), coefficient(right, place)) {
+    for index in 0..left.len().max(right.len()) {
+        match limited_sum(coefficient(left, index), coefficient(right, index)) {
             Some(both) => sum.push(both)?,
             None => return Ok(None),
         }
@@ -121,21 +120,21 @@ fn sum(alloc: Global, left: &[u64], right: &[u64]) -> Result<Option<Vec<u64>>, A
     Ok(Some(sum))
 }
 
-// The sum of two coefficients, where it isn't over the limit.
+// The sum of two coefficients, unless it is too large.
 fn limited_sum(left: u64, right: u64) -> Option<u64>
-    ensures { result ≡ cond (nat_le (left + right) (2 ^ 63 - 1)) (Some (left + right)) None }
+    ensures { result ≡ cond (nat_le (left + right) MAX_COEFFICIENT) (Some (left + right)) None }
 {
     match left.checked_add(right) {
-        Some(both) if both <= LIMIT => Some(both),
+        Some(both) if both <= MAX_COEFFICIENT => Some(both),
         _ => None,
     }
 }
 
-// The coefficient at a place, which is 0 behind the last one.
-fn coefficient(coefficients: &[u64], place: usize) -> u64
-    ensures { result ≡ slice_index coefficients.now place }
+// The coefficient with that index, which is 0 after the last one.
+fn coefficient(coefficients: &[u64], index: usize) -> u64
+    ensures { result ≡ slice_index coefficients.now index }
 {
-    coefficients.get(place).copied().unwrap_or(0)
+    coefficients.get(index).copied().unwrap_or(0)
 }
 
 // By Horner's rule, from the last coefficient on.

@@ -1,4 +1,4 @@
-// The stack at a place, as far as the code tells it.
+//! The slots that the pass keeps.
 ghost use Rattle.std.specs.Prelude.{◌≡◌, List, [], ◌∷◌, length, drop, OnOk, MatchOption};
 ghost use Rattle.code_verifier.specs.declared.stack.Slot.{Slot};
 
@@ -7,7 +7,7 @@ use helper_set::kind::Kind;
 use std::alloc::{AllocError, Global};
 use std::marker::Model;
 
-/// What is known of a slot: its kind, and how long the text is that it prints as, at most.
+/// What is known of a slot: its kind, and the length of the text that it prints as, at most.
 #[derive(Drop)]
 pub struct Slot {
     pub kind: Kind,
@@ -30,7 +30,6 @@ impl Model for Stack {
 }
 
 impl Stack {
-    /// No slot.
     pub fn new(alloc: Global) -> Stack
         ensures { result ≡ [] }
     {
@@ -39,16 +38,16 @@ impl Stack {
         }
     }
 
-    /// How many slots there are.
     pub fn depth(&self) -> usize
         ensures { result ≡ length self.now }
     {
         self.slots.len()
     }
 
-    /// The slot so far below the top.
+    /// The slot at that depth below the top.
     pub fn slot(&self, depth: usize) -> Option<&Slot>
-        ensures { MatchOption result (drop depth self.now ≡ []) (λ slot. (below : List Slot) × (drop depth self.now ≡ slot.now ∷ below)) }
+        ensures { MatchOption result (drop depth self.now ≡ [])
+            (λ slot. (below : List Slot) × (drop depth self.now ≡ slot.now ∷ below)) }
     {
         let count = self.depth();
         if depth < count {
@@ -65,7 +64,7 @@ impl Stack {
         self.slots.last()
     }
 
-    /// One more slot.
+    /// Adds a slot at the top.
     pub fn push(&mut self, kind: Kind, bound: Polynomial) -> Result<(), AllocError>
         ensures { OnOk result (self.new ≡ record { kind = kind; bound = bound } ∷ self.old) }
     {
@@ -80,8 +79,8 @@ impl Stack {
         self.slots.pop()
     }
 
-    /// Takes so many slots, as far as they are there.
-    pub fn pop_some(&mut self, count: usize)
+    /// Takes that many slots from the top, or all if there are fewer.
+    pub fn pop_many(&mut self, count: usize)
         ensures { self.new ≡ drop count self.old }
     {
         let left = self.depth().saturating_sub(count);

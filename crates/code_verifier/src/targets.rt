@@ -1,13 +1,13 @@
-// Where jumps lead to.
+//! The targets of jumps.
 ghost use Rattle.std.specs.Prelude.{◌≡◌, true, false, get_or, set, replicate, IfOk};
 
 use std::alloc::{AllocError, Global};
 use std::marker::Model;
 
-/// For each place whether a jump that was seen leads to it, seen as a list of truths.
+/// For each index whether a jump that was seen goes to it, seen as a list of truths.
 #[derive(Drop)]
 pub struct Targets {
-    met: Vec<bool>,
+    marks: Vec<bool>,
 }
 
 impl Model for Targets {
@@ -15,32 +15,32 @@ impl Model for Targets {
 
     ghost Value = { List Bool };
 
-    ghost view = { λ t. t.met.items };
+    ghost view = { λ t. t.marks.items };
 }
 
 impl Targets {
-    /// So many places, to none of which a jump leads.
-    pub fn new(alloc: Global, places: usize) -> Result<Targets, AllocError>
-        ensures { IfOk result (λ targets. targets ≡ replicate places false) }
+    /// Marks for `count` indices, none of which is a target.
+    pub fn new(alloc: Global, count: usize) -> Result<Targets, AllocError>
+        ensures { IfOk result (λ targets. targets ≡ replicate count false) }
     {
         Ok(Targets {
-            met: vec![in alloc; false; places]?,
+            marks: vec![in alloc; false; count]?,
         })
     }
 
-    /// A jump leads to that place; a place that isn't kept is passed over.
-    pub fn mark(&mut self, place: usize)
-        ensures { self.new ≡ set self.old place true }
+    /// Marks an index as a target, if there is a mark for it.
+    pub fn mark(&mut self, index: usize)
+        ensures { self.new ≡ set self.old index true }
     {
-        if place < self.met.len() {
-            self.met[place] = true;
+        if index < self.marks.len() {
+            self.marks[index] = true;
         }
     }
 
-    /// Whether a jump leads to that place.
-    pub fn is_met(&self, place: usize) -> bool
-        ensures { result ≡ get_or self.now place false }
+    /// Whether the index is a target.
+    pub fn is_target(&self, index: usize) -> bool
+        ensures { result ≡ get_or self.now index false }
     {
-        self.met.get(place).copied().unwrap_or(false)
+        self.marks.get(index).copied().unwrap_or(false)
     }
 }

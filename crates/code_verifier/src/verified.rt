@@ -1,16 +1,16 @@
-// Code that may run.
+//! Code that may run.
 ghost use Rattle.std.specs.Prelude.{◌≡◌};
 ghost use Rattle.template_code.specs.Budget.{budget};
 ghost use Rattle.template_code.specs.Code.{HasTypedNumbers};
 ghost use Rattle.template_code.specs.WellFormed.{IsWellFormed, IsWithinLimits};
-ghost use Rattle.template_code.specs.Bounds.{told};
+ghost use Rattle.template_code.specs.Bounds.{as_printed};
 ghost use Rattle.code_verifier.specs.Verdict.{IsVerified};
 
 use crate::budget::Budget;
 use std::marker::Model;
 use template_code::code::Code;
 
-/// Code that is well formed and within its limits, with its budget. Nothing else makes one than `verify`.
+/// Code that is well formed and within its limits, with its budget. Only `verify` makes one.
 #[derive(Debug, Drop)]
 pub struct Verified {
     code: Code,
@@ -29,7 +29,6 @@ impl Model for Verified {
 }
 
 impl Verified {
-    // With the budget that the pass found.
     pub(crate) fn new(code: Code, budget: Budget) -> Verified
         requires { IsVerified code budget }
         ensures { result ≡ code }
@@ -47,10 +46,9 @@ impl Verified {
         &self.code
     }
 
-    /// The budget of the code.
     pub fn budget(&self) -> &Budget
-        ensures steps { result.now.steps ≡ told (budget self.now).steps }
-        ensures bytes { result.now.bytes ≡ told (budget self.now).bytes }
+        ensures steps { result.now.steps ≡ as_printed (budget self.now).steps }
+        ensures bytes { result.now.bytes ≡ as_printed (budget self.now).bytes }
     {
         &self.budget
     }

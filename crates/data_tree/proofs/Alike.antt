@@ -1,5 +1,6 @@
 -- Two values with one JSON print alike: what a value prints as is read back from its JSON.
-use Rattle.std.proofs.Common.{◌≡◌, ℕ, zero, suc, ◌/◌, ◌%◌, ◌<◌, ◌≤◌, ℤ, pos, negsuc, Bool, true, false, if◌then◌else◌, ◌==◌, List, [], ◌∷◌, refl, sym, ap, ◌∙◌, arith, decimal}
+use Rattle.std.proofs.Common.{◌≡◌, ℕ, zero, suc, ◌/◌, ◌%◌, ◌<◌, ◌≤◌, ℤ, pos, negsuc, Bool, true, false}
+use Rattle.std.proofs.Common.{if◌then◌else◌, ◌==◌, List, [], ◌∷◌, refl, sym, ap, ◌∙◌, arith, decimal}
 use Rattle.std.specs.Fmt.{digit_glyph, digits_onto, digits, signed_decimal}
 use Rattle.std.proofs.lemmas.Bool.{ne_eqb}
 use Rattle.std.specs.Option.{unwrap_or}
@@ -12,7 +13,7 @@ use Rattle.data_tree.specs.Print.{print}
 use Rattle.data_tree.specs.Laws.{is_named}
 use Rattle.data_tree.proofs.LastText.{named_alike}
 
--- what stands in the JSON of a value that is no named text, printed: a text without its quotes, nothing for `null`
+-- what a value that is no named text prints as, by its JSON: a text without its quotes, nothing for `null`
 abbrev pub shown : List ℕ → List ℕ
 shown [] = []
 shown (b ∷ bs) = if b == 34 then unwrap_or (content plain bs) [] else (if b == 110 then [] else b ∷ bs)
@@ -32,13 +33,15 @@ either_begins false xs ys x y = y
 onto_begins : (k n : ℕ) (acc : List ℕ) → BeginsNumber acc → BeginsNumber (digits_onto k 10 false n acc)
 onto_begins zero n acc h = h
 onto_begins (suc k) n acc h =
-    either_begins (n / 10 == 0) (digit_glyph false (n % 10) ∷ acc) (digits_onto k 10 false (n / 10) (digit_glyph false (n % 10) ∷ acc)) (glyph (n % 10) (omega arith))
+    either_begins (n / 10 == 0) (digit_glyph false (n % 10) ∷ acc)
+    (digits_onto k 10 false (n / 10) (digit_glyph false (n % 10) ∷ acc)) (glyph (n % 10) (omega arith))
     (onto_begins k (n / 10) (digit_glyph false (n % 10) ∷ acc) (glyph (n % 10) (omega arith)))
 
 decimal_begins : (n : ℕ) → BeginsNumber (decimal n)
 unfolding digits
 decimal_begins n =
-    either_begins (n / 10 == 0) (digit_glyph false (n % 10) ∷ []) (digits_onto 63 10 false (n / 10) (digit_glyph false (n % 10) ∷ [])) (glyph (n % 10) (omega arith))
+    either_begins (n / 10 == 0) (digit_glyph false (n % 10) ∷ [])
+    (digits_onto 63 10 false (n / 10) (digit_glyph false (n % 10) ∷ [])) (glyph (n % 10) (omega arith))
     (onto_begins 63 (n / 10) (digit_glyph false (n % 10) ∷ []) (glyph (n % 10) (omega arith)))
 
 shown_number : (s : List ℕ) → BeginsNumber s → shown s ≡ s

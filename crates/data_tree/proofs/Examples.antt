@@ -3,7 +3,8 @@ use Rattle.std.proofs.Common.{◌≡◌, ◌-◌, ◌^◌, pos, negsuc, false, [
 use Rattle.json.specs.Print.{escape_byte, quoted}
 use Rattle.std.specs.Fmt.{digits}
 use Rattle.std.specs.Int.Signed.{le_z_yes, lt_z_yes, clash_ℤ}
-use Rattle.data_tree.specs.Tree.{Tree, nothing, truth, number, text, list, fields, named, no_items, item, no_members, member}
+use Rattle.data_tree.specs.Tree.{Tree, Members, nothing, truth, number, text, list, fields, named, no_items, item}
+use Rattle.data_tree.specs.Tree.{no_members, member}
 use Rattle.data_tree.specs.Json.{json, size}
 use Rattle.data_tree.specs.Print.{print}
 use Rattle.data_tree.specs.Parts.{items, keys}
@@ -134,15 +135,20 @@ empty_object = refl
 empty_named : json (named [] no_items no_members) ≡ codes "{\"fields\":{},\"items\":[],\"text\":\"\"}"
 empty_named = refl
 
-nested : json (list (item (fields (member (codes "a") (list no_items) (member (codes "b") nothing no_members))) (item (truth false) no_items))) ≡ codes "[{\"a\":[],\"b\":null},false]"
+abbrev a_and_b : Tree
+a_and_b = fields (member (codes "a") (list no_items) (member (codes "b") nothing no_members))
+
+nested : json (list (item a_and_b (item (truth false) no_items))) ≡ codes "[{\"a\":[],\"b\":null},false]"
 unfolding escape_byte
 nested = refl
 
 -- ---- look-up
 
--- an index on an object finds the name that spells it, not the place
+-- an index on an object finds the name that spells it, not the item of that index
 abbrev ten_and_one : Tree
-ten_and_one = fields (member (codes "0x") (text (codes "first")) (member (codes "1") (text (codes "one")) (member (codes "10") (text (codes "ten")) no_members)))
+ten_and_one =
+    fields (member (codes "0x") (text (codes "first"))
+    (member (codes "1") (text (codes "one")) (member (codes "10") (text (codes "ten")) no_members)))
 
 index_by_name : at (Index 1 ∷ []) ten_and_one ≡ text (codes "one")
 unfolding digits
@@ -152,9 +158,9 @@ index_ten_by_name : at (Index 10 ∷ []) ten_and_one ≡ text (codes "ten")
 unfolding digits
 index_ten_by_name = refl
 
-no_index_by_place : at (Index 0 ∷ []) ten_and_one ≡ nothing
+no_item_of_that_index : at (Index 0 ∷ []) ten_and_one ≡ nothing
 unfolding digits
-no_index_by_place = refl
+no_item_of_that_index = refl
 
 index_past_the_end : at (Index 2 ∷ []) one_a ≡ nothing
 index_past_the_end = refl
@@ -174,7 +180,10 @@ keys_in_order = refl
 -- ---- why two values with one JSON need not print alike where one of them is a named text
 
 abbrev its_object : Tree
-its_object = fields (member (codes "fields") (fields no_members) (member (codes "items") (list (item (text (codes "hi")) (item (text (codes "Ann")) no_items))) (member (codes "text") (text (codes "/hi/Ann")) no_members)))
+its_object =
+    fields (member (codes "fields") (fields no_members)
+    (member (codes "items") (list (item (text (codes "hi")) (item (text (codes "Ann")) no_items)))
+    (member (codes "text") (text (codes "/hi/Ann")) no_members)))
 
 one_json : json its_object ≡ json hi_ann
 unfolding escape_byte
@@ -198,7 +207,10 @@ past_the_least h = clash_ℤ (lt_z_yes tt) h.0
 past_the_greatest : IsWellFormed (number (pos (2 ^ 64))) → ⊥
 past_the_greatest h = clash_ℤ (lt_z_yes tt) h.1
 
-in_byte_order : IsWellFormed (fields (member [] nothing (member (codes "B") nothing (member (codes "a") nothing (member (codes "a0") nothing no_members)))))
+abbrev from_a : Members
+from_a = member (codes "a") nothing (member (codes "a0") nothing no_members)
+
+in_byte_order : IsWellFormed (fields (member [] nothing (member (codes "B") nothing from_a)))
 in_byte_order = ((refl, (refl, (refl, tt))), (tt, (tt, (tt, (tt, tt)))))
 
 out_of_order : IsWellFormed (fields (member (codes "b") nothing (member (codes "a") nothing no_members))) → ⊥
@@ -217,5 +229,6 @@ named_names h = absurd (cc (h.1.0))
 named_value : IsWellFormed (named [] no_items (member (codes "a") (number (pos (2 ^ 64))) no_members)) → ⊥
 named_value h = clash_ℤ (lt_z_yes tt) h.2.0.1
 
-within_a_list : IsWellFormed (list (item (fields (member (codes "a") (number (pos (2 ^ 64))) no_members)) no_items)) → ⊥
+within_a_list : IsWellFormed (list (item (fields (member (codes "a") (number (pos (2 ^ 64))) no_members)) no_items))
+    → ⊥
 within_a_list h = clash_ℤ (lt_z_yes tt) h.0.1.0.1

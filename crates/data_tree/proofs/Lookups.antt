@@ -1,15 +1,19 @@
 -- What a path finds: nothing, or a part that is no larger; and how paths go together.
-use Rattle.std.proofs.Common.{◌≡◌, ℕ, zero, suc, ◌+◌, ◌≤◌, Bool, true, false, IsTrue, if◌then◌else◌, List, [], ◌∷◌, ◌++◌, length, ap, ◌∙◌, refl, inl, inr, arith, length-append, codes, decimal, bytes_eq, max, sum_by, slice_get, Some}
+use Rattle.std.proofs.Common.{◌≡◌, ℕ, zero, suc, ◌+◌, ◌≤◌, Bool, true, false, IsTrue, if◌then◌else◌, List, [], ◌∷◌}
+use Rattle.std.proofs.Common.{◌++◌, length, ap, ◌∙◌, refl, inl, inr, arith, length-append, codes, decimal, bytes_eq}
+use Rattle.std.proofs.Common.{max, sum_by, slice_get, Some}
 use Rattle.json.specs.Print.{quoted}
-use Rattle.data_tree.specs.Tree.{Tree, nothing, truth, number, text, list, fields, named, Items, no_items, item, Members, no_members, member}
+use Rattle.data_tree.specs.Tree.{Tree, nothing, truth, number, text, list, fields, named, Items, no_items, item}
+use Rattle.data_tree.specs.Tree.{Members, no_members, member}
 use Rattle.data_tree.specs.Json.{json, items_json, members_json, comma_if, size}
 use Rattle.data_tree.specs.Print.{print}
 use Rattle.data_tree.specs.Parts.{items, keys}
-use Rattle.data_tree.specs.LookUp.{nth, under, after, at, is_nothing, HasNoEmptyName}
+use Rattle.data_tree.specs.LookUp.{nth, under, after, at, is_nothing, EmptyNameFindsNothing}
 use Rattle.data_tree.specs.Laws.{IsNothingOrWithin}
 use Rattle.data_tree.specs.declared.step.Step.{Step}
 use Rattle.data_tree.specs.declared.step.Step.TheVariants.{Name, Index}
-use Rattle.data_tree.proofs.Sizes.{length_list, length_fields, length_named, length_print, length_items, length_key, size_sum, size_item}
+use Rattle.data_tree.proofs.Sizes.{length_list, length_fields, length_named, length_print, length_items, length_key}
+use Rattle.data_tree.proofs.Sizes.{size_sum, size_item}
 
 -- ---- paths
 
@@ -43,18 +47,31 @@ within_more m n t (inr h) le = inr (omega arith)
 pub within_self : (t : Tree) → IsNothingOrWithin (size t) t
 within_self t = inr (omega arith)
 
-either_within : (first : Bool) (t u : Tree) (n : ℕ) → size t ≤ n → IsNothingOrWithin n u → IsNothingOrWithin n (if first then t else u)
+either_within : (first : Bool) (t u : Tree) (n : ℕ) → size t ≤ n → IsNothingOrWithin n u
+    → IsNothingOrWithin n (if first then t else u)
 either_within true t u n le h = inr le
 either_within false t u n le h = h
 
 nth_within : (later : Bool) (n : ℕ) (ts : Items) → IsNothingOrWithin (length (items_json later ts) + 1) (nth n ts)
 nth_within later n no_items = inl refl
 nth_within later zero (item t ts) =
-    inr (omega (arith, length-append (comma_if later) (json t ++ items_json true ts), length-append (json t) (items_json true ts)))
+    inr (omega (
+      arith,
+      length-append (comma_if later) (json t ++ items_json true ts),
+      length-append (json t)
+          (items_json true ts),
+    ))
 nth_within later (suc n) (item t ts) =
-    within_more _ _ (nth n ts) (nth_within true n ts) (omega (arith, length-append (comma_if later) (json t ++ items_json true ts), length-append (json t) (items_json true ts)))
+    within_more _ _ (nth n ts) (nth_within true n ts)
+    (omega (
+      arith,
+      length-append (comma_if later) (json t ++ items_json true ts),
+      length-append (json t)
+          (items_json true ts),
+    ))
 
-under_within : (later : Bool) (name : List ℕ) (ms : Members) → IsNothingOrWithin (length (members_json later ms)) (under name ms)
+under_within : (later : Bool) (name : List ℕ) (ms : Members)
+    → IsNothingOrWithin (length (members_json later ms)) (under name ms)
 under_within later name no_members = inl refl
 under_within later name (member k t ms) =
     let before = length-append (comma_if later) (quoted k ++ (codes ":" ++ (json t ++ members_json true ms))) in
@@ -70,15 +87,19 @@ size_after (Name name) (truth b) = inl refl
 size_after (Name name) (number n) = inl refl
 size_after (Name name) (text s) = inl refl
 size_after (Name name) (list ts) = inl refl
-size_after (Name name) (fields ms) = within_more _ _ (under name ms) (under_within false name ms) (omega (arith, length_fields ms))
-size_after (Name name) (named s ts ms) = within_more _ _ (under name ms) (under_within false name ms) (omega (arith, length_named s ts ms))
+size_after (Name name) (fields ms) =
+    within_more _ _ (under name ms) (under_within false name ms) (omega (arith, length_fields ms))
+size_after (Name name) (named s ts ms) =
+    within_more _ _ (under name ms) (under_within false name ms) (omega (arith, length_named s ts ms))
 size_after (Index n) nothing = inl refl
 size_after (Index n) (truth b) = inl refl
 size_after (Index n) (number m) = inl refl
 size_after (Index n) (text s) = inl refl
 size_after (Index n) (list ts) = within_more _ _ (nth n ts) (nth_within false n ts) (omega (arith, length_list ts))
-size_after (Index n) (fields ms) = within_more _ _ (under (decimal n) ms) (under_within false (decimal n) ms) (omega (arith, length_fields ms))
-size_after (Index n) (named s ts ms) = within_more _ _ (nth n ts) (nth_within false n ts) (omega (arith, length_named s ts ms))
+size_after (Index n) (fields ms) =
+    within_more _ _ (under (decimal n) ms) (under_within false (decimal n) ms) (omega (arith, length_fields ms))
+size_after (Index n) (named s ts ms) =
+    within_more _ _ (nth n ts) (nth_within false n ts) (omega (arith, length_named s ts ms))
 
 -- a step keeps a limit
 pub within_after : (limit : ℕ) (s : Step) (t : Tree) → IsNothingOrWithin limit t → IsNothingOrWithin limit (after s t)
@@ -86,12 +107,14 @@ within_after limit s t (inl e) = inl (ap (after s) e ∙ after_nothing s)
 within_after limit s t (inr le) = within_more _ _ (after s t) (size_after s t) le
 
 -- a path keeps a limit
-pub within_at : (limit : ℕ) (steps : List Step) (t : Tree) → IsNothingOrWithin limit t → IsNothingOrWithin limit (at steps t)
+pub within_at : (limit : ℕ) (steps : List Step) (t : Tree) → IsNothingOrWithin limit t
+    → IsNothingOrWithin limit (at steps t)
 within_at limit [] t h = h
 within_at limit (s ∷ steps) t h = within_at limit steps (after s t) (within_after limit s t h)
 
 -- an item keeps a limit
-pub within_item : (limit : ℕ) (t : Tree) (i : ℕ) (u : Tree) → slice_get (items t) i ≡ Some u → IsNothingOrWithin limit t → IsNothingOrWithin limit u
+pub within_item : (limit : ℕ) (t : Tree) (i : ℕ) (u : Tree) → slice_get (items t) i ≡ Some u
+    → IsNothingOrWithin limit t → IsNothingOrWithin limit u
 within_item limit t i u found (inl e) = absurd (cc (found, ap (λ v. slice_get (items v) i) e))
 within_item limit t i u found (inr le) = inr (omega (arith, size_item t i u found))
 
@@ -111,7 +134,8 @@ within_sum limit t (inl e) = omega (arith, ap (λ v. sum_by size (items v)) e)
 within_sum limit t (inr le) = omega (arith, size_sum t)
 
 -- the name of an item is no longer than the limit
-pub within_key : (limit : ℕ) (t : Tree) (i : ℕ) (k : List ℕ) → slice_get (keys t) i ≡ Some k → IsNothingOrWithin limit t → length k ≤ limit
+pub within_key : (limit : ℕ) (t : Tree) (i : ℕ) (k : List ℕ) → slice_get (keys t) i ≡ Some k
+    → IsNothingOrWithin limit t → length k ≤ limit
 within_key limit t i k found (inl e) = absurd (cc (found, ap (λ v. slice_get (keys v) i) e))
 within_key limit t i k found (inr le) = omega (arith, length_key t i k found)
 
@@ -142,7 +166,8 @@ pub size_sum_at : (steps : List Step) (t : Tree) → sum_by size (items (at step
 size_sum_at steps t = within_sum (size t) (at steps t) (size_at steps t)
 
 -- the names of the items of what a path finds are no longer than the value's size
-pub length_key_at : (steps : List Step) (t : Tree) (i : ℕ) (k : List ℕ) → slice_get (keys (at steps t)) i ≡ Some k → length k ≤ size t
+pub length_key_at : (steps : List Step) (t : Tree) (i : ℕ) (k : List ℕ) → slice_get (keys (at steps t)) i ≡ Some k
+    → length k ≤ size t
 length_key_at steps t i k found = within_key (size t) (at steps t) i k found (size_at steps t)
 
 -- ---- the empty name
@@ -157,9 +182,9 @@ is_nothing_sound (fields ms) h = absurd (cc h)
 is_nothing_sound (named s ts ms) h = absurd (cc h)
 
 -- where no name is empty, the empty name finds nothing
-pub at_empty_name : (t : Tree) → HasNoEmptyName t → at (Name [] ∷ []) t ≡ nothing
+pub at_empty_name : (t : Tree) → EmptyNameFindsNothing t → at (Name [] ∷ []) t ≡ nothing
 at_empty_name t h = is_nothing_sound (at (Name [] ∷ []) t) h
 
 -- so does each path that begins with it
-pub at_empty_name_first : (steps : List Step) (t : Tree) → HasNoEmptyName t → at (Name [] ∷ steps) t ≡ nothing
+pub at_empty_name_first : (steps : List Step) (t : Tree) → EmptyNameFindsNothing t → at (Name [] ∷ steps) t ≡ nothing
 at_empty_name_first steps t h = ap (at steps) (at_empty_name t h) ∙ at_nothing steps

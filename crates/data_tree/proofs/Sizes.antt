@@ -1,14 +1,17 @@
 -- A value's parts are no larger than the value.
-use Rattle.std.proofs.Common.{◌≡◌, ℕ, zero, suc, ◌+◌, ◌≤◌, Bool, true, false, cond, List, [], ◌∷◌, ◌++◌, length, Some, refl, ap, arith, length-append, slice_get, codes}
+use Rattle.std.proofs.Common.{◌≡◌, ℕ, zero, suc, ◌+◌, ◌≤◌, Bool, true, false, cond, List, [], ◌∷◌, ◌++◌, length}
+use Rattle.std.proofs.Common.{Some, refl, ap, arith, length-append, slice_get, codes}
 use Rattle.std.specs.List.{sum_by}
 use Rattle.std.proofs.lemmas.List.Sums.{sum_by-cons}
 use Rattle.json.specs.Print.{escape_byte, escape, quoted}
-use Rattle.data_tree.specs.Tree.{Tree, nothing, truth, number, text, list, fields, named, Items, no_items, item, Members, no_members, member}
+use Rattle.data_tree.specs.Tree.{Tree, nothing, truth, number, text, list, fields, named, Items, no_items, item}
+use Rattle.data_tree.specs.Tree.{Members, no_members, member}
 use Rattle.data_tree.specs.Json.{json, items_json, members_json, comma_if, size}
 use Rattle.data_tree.specs.Print.{print}
 use Rattle.data_tree.specs.Parts.{trees_of, values_of, names_of, items, keys}
 
-escape_byte_by : (short control : Bool) (y : ℕ) (xs ys zs : List ℕ) → 1 ≤ length (cond short (92 ∷ xs) (cond control (92 ∷ ys) (y ∷ zs)))
+escape_byte_by : (short control : Bool) (y : ℕ) (xs ys zs : List ℕ)
+    → 1 ≤ length (cond short (92 ∷ xs) (cond control (92 ∷ ys) (y ∷ zs)))
 escape_byte_by true control y xs ys zs = omega arith
 escape_byte_by false true y xs ys zs = omega arith
 escape_byte_by false false y xs ys zs = omega arith
@@ -41,7 +44,7 @@ size_items no_items = omega arith
 size_items (item t ts) =
     omega (arith, sum_by-cons size t (trees_of ts), length-append (json t) (items_json true ts), size_later_items ts)
 
--- the sizes of members, each counted with what stands before it
+-- the sizes of members, each counted with what is before it
 pub size_members : (later : Bool) (ms : Members) → sum_by size (values_of ms) ≤ length (members_json later ms)
 size_members later no_members = omega arith
 size_members later (member k t ms) =
@@ -55,7 +58,8 @@ size_members later (member k t ms) =
     )
 
 -- each name takes its bytes
-pub length_name : (later : Bool) (ms : Members) (i : ℕ) (k : List ℕ) → slice_get (names_of ms) i ≡ Some k → length k ≤ length (members_json later ms)
+pub length_name : (later : Bool) (ms : Members) (i : ℕ) (k : List ℕ) → slice_get (names_of ms) i ≡ Some k
+    → length k ≤ length (members_json later ms)
 length_name later no_members i k found = absurd cc
 length_name later (member j t ms) zero k found =
     omega (
@@ -87,11 +91,13 @@ length_fields ms = omega (arith, length-append (members_json false ms) (codes "}
 
 -- a named text's JSON is that of its text, its items and its fields, and 32 bytes
 pub length_named : (s : List ℕ) (ts : Items) (ms : Members)
-    → length (json (named s ts ms)) ≡ length (quoted s) + length (items_json false ts) + length (members_json false ms) + 32
+    → length (json (named s ts ms)) ≡ length (quoted s) + length (items_json false ts) + length
+    (members_json false ms) + 32
 length_named s ts ms =
     omega (
       arith,
-      length-append (members_json false ms) (codes "},\"items\":[" ++ (items_json false ts ++ (codes "],\"text\":" ++ (quoted s ++ codes "}")))),
+      length-append (members_json false ms)
+          (codes "},\"items\":[" ++ (items_json false ts ++ (codes "],\"text\":" ++ (quoted s ++ codes "}")))),
       length-append (items_json false ts) (codes "],\"text\":" ++ (quoted s ++ codes "}")),
       length-append (quoted s) (codes "}"),
     )

@@ -1,14 +1,17 @@
 -- A value, level by level, beside its tree and its parts.
-use Rattle.std.proofs.Common.{◌≡◌, ℕ, zero, suc, List, [], ◌∷◌, length, map, Vec, String, Global, string_bytes, Option, None, Some, option_map, Bor, not, nat_eq, false, arith, refl, sym, ap, ◌∙◌, rules}
+use Rattle.std.proofs.Common.{◌≡◌, ◌⊎◌, inl, inr, ℕ, zero, suc, List, [], ◌∷◌, length, map, Vec, String, Global}
+use Rattle.std.proofs.Common.{string_bytes, Option, None, Some, option_map, Bor, not, nat_eq, false, arith, refl}
+use Rattle.std.proofs.Common.{sym, ap, ◌∙◌, rules}
 use Rattle.std.specs.Option.{option_copied, option_map_or}
 use Rattle.std.specs.List.{slice_get}
 use Rattle.std.proofs.lemmas.Option.{slice_get-map}
 use Rattle.std.proofs.lemmas.Bool.Decides.{nat_tests}
 use Rattle.data_tree.specs.Print.{is_true}
-use Rattle.data_tree.specs.LookUp.{nth}
+use Rattle.data_tree.specs.LookUp.{nth, under, after}
 use Rattle.data_tree.specs.Tree.{Tree, nothing, list, fields, named, items_of, view, items_view, members_view}
 use Rattle.data_tree.specs.Parts.{items, keys, trees_of, values_of, names_of}
 use Rattle.data_tree.specs.declared.data.Data.{Data, List as ListData, Fields, Named, the_lemmas}
+use Rattle.data_tree.specs.declared.step.Step.TheVariants.{Name, Index}
 
 abbrev pub Field : Type 0
 Field = String Global × Data
@@ -19,53 +22,91 @@ view-List v = search (rules, the_lemmas)
 pub view-Fields : (v : Vec (String Global × Data) Global) → view (Fields v) ≡ fields (members_view v.items)
 view-Fields v = search (rules, the_lemmas)
 
-pub view-Named : (s : String Global) (v : Vec Data Global) (w : Vec (String Global × Data) Global) → view (Named s v w) ≡ named (string_bytes s) (items_view v.items) (members_view w.items)
+pub view-Named
+    : (s : String Global) (v : Vec Data Global) (w : Vec (String Global × Data) Global)
+    → view (Named s v w) ≡ named (string_bytes s) (items_view v.items) (members_view w.items)
 view-Named s v w = search (rules, the_lemmas)
 
-pub trees_of-items_of : (ts : List Tree) → trees_of (items_of ts) ≡ ts
+-- ---- items and names
+
+trees_of-items_of : (ts : List Tree) → trees_of (items_of ts) ≡ ts
 trees_of-items_of [] = refl
 trees_of-items_of (t ∷ ts) = ap (λ us. t ∷ us) (trees_of-items_of ts)
 
-pub values_of-members_view : (fs : List Field) → values_of (members_view fs) ≡ map (λ (f : Field). view f.1) fs
+values_of-members_view : (fs : List Field) → values_of (members_view fs) ≡ map (λ (f : Field). view f.1) fs
 values_of-members_view [] = refl
 values_of-members_view (f ∷ fs) = ap (λ us. view f.1 ∷ us) (values_of-members_view fs)
 
-pub names_of-members_view : (fs : List Field) → names_of (members_view fs) ≡ map (λ (f : Field). string_bytes f.0) fs
+names_of-members_view : (fs : List Field) → names_of (members_view fs) ≡ map (λ (f : Field). string_bytes f.0) fs
 names_of-members_view [] = refl
 names_of-members_view (f ∷ fs) = ap (λ us. string_bytes f.0 ∷ us) (names_of-members_view fs)
 
-pub items-List : (v : Vec Data Global) → items (view (ListData v)) ≡ map view v.items
-items-List v = ap items (view-List v) ∙ trees_of-items_of (map view v.items)
+-- the value is a list or a named text, with these items
+abbrev pub HasItems : Data → Vec Data Global → Type 0
+HasItems d v =
+    (d ≡ ListData v) ⊎ ((s : String Global) × (w : Vec (String Global × Data) Global) × (d ≡ Named s v w))
 
-pub items-Named : (s : String Global) (v : Vec Data Global) (w : Vec (String Global × Data) Global) → items (view (Named s v w)) ≡ map view v.items
-items-Named s v w = ap items (view-Named s v w) ∙ trees_of-items_of (map view v.items)
+-- the value is an object or a named text, with these members
+abbrev pub HasMembers : Data → Vec (String Global × Data) Global → Type 0
+HasMembers d w = (d ≡ Fields w) ⊎ ((s : String Global) × (v : Vec Data Global) × (d ≡ Named s v w))
 
-pub items-Fields : (v : Vec (String Global × Data) Global) → items (view (Fields v)) ≡ map (λ (f : Field). view f.1) v.items
+pub items-HasItems : (d : Data) (v : Vec Data Global) → HasItems d v → items (view d) ≡ map view v.items
+items-HasItems d v (inl e) = ap items (ap view e ∙ view-List v) ∙ trees_of-items_of (map view v.items)
+items-HasItems d v (inr n) = ap items (ap view n.2 ∙ view-Named n.0 v n.1) ∙ trees_of-items_of (map view v.items)
+
+pub items-Fields
+    : (v : Vec (String Global × Data) Global) → items (view (Fields v)) ≡ map (λ (f : Field). view f.1) v.items
 items-Fields v = ap items (view-Fields v) ∙ values_of-members_view v.items
 
-pub keys-Fields : (v : Vec (String Global × Data) Global) → keys (view (Fields v)) ≡ map (λ (f : Field). string_bytes f.0) v.items
+pub keys-Fields
+    : (v : Vec (String Global × Data) Global) → keys (view (Fields v)) ≡ map (λ (f : Field). string_bytes f.0) v.items
 keys-Fields v = ap keys (view-Fields v) ∙ names_of-members_view v.items
 
-pub view-copied : (r : Option (Bor Data)) → option_map (λ (x : Bor Data). view x.now) r ≡ option_map view (option_copied r)
+view-copied : (r : Option (Bor Data)) → option_map (λ (x : Bor Data). view x.now) r ≡ option_map view (option_copied r)
 view-copied None = refl
 view-copied (Some x) = refl
 
--- what an element of a list of values stands for
-pub view_of_element : (r : Option (Bor Data)) (xs : List Data) (k : ℕ) → option_copied r ≡ slice_get xs k → option_map (λ (x : Bor Data). view x.now) r ≡ slice_get (map view xs) k
+-- the tree of an element of a list of values
+pub view_of_element
+    : (r : Option (Bor Data)) (xs : List Data) (k : ℕ) → option_copied r ≡ slice_get xs k
+    → option_map (λ (x : Bor Data). view x.now) r ≡ slice_get (map view xs) k
 view_of_element r xs k e = view-copied r ∙ ap (option_map view) e ∙ sym (slice_get-map view xs k)
 
-found-copied : (r : Option (Bor Data)) → option_map_or (λ (x : Bor Data). view x.now) r nothing ≡ option_map_or (λ t. t) (option_map view (option_copied r)) nothing
+-- ---- a step
+
+pub after-HasItems
+    : (k : ℕ) (d : Data) (v : Vec Data Global) → HasItems d v → after (Index k) (view d) ≡ nth k (items_view v.items)
+after-HasItems k d v (inl e) = ap (after (Index k)) (ap view e ∙ view-List v)
+after-HasItems k d v (inr n) = ap (after (Index k)) (ap view n.2 ∙ view-Named n.0 v n.1)
+
+pub after-HasMembers
+    : (name : List ℕ) (d : Data) (w : Vec (String Global × Data) Global) → HasMembers d w
+    → after (Name name) (view d) ≡ under name (members_view w.items)
+after-HasMembers name d w (inl e) = ap (after (Name name)) (ap view e ∙ view-Fields w)
+after-HasMembers name d w (inr n) = ap (after (Name name)) (ap view n.2 ∙ view-Named n.0 n.1 w)
+
+found-copied
+    : (r : Option (Bor Data))
+    → option_map_or (λ (x : Bor Data). view x.now) r nothing
+    ≡ option_map_or (λ t. t) (option_map view (option_copied r)) nothing
 found-copied None = refl
 found-copied (Some x) = refl
 
-found-nth : (xs : List Data) (k : ℕ) → option_map_or (λ t. t) (option_map view (slice_get xs k)) nothing ≡ nth k (items_view xs)
+found-nth
+    : (xs : List Data) (k : ℕ)
+    → option_map_or (λ t. t) (option_map view (slice_get xs k)) nothing ≡ nth k (items_view xs)
 found-nth [] k = refl
 found-nth (x ∷ xs) zero = refl
 found-nth (x ∷ xs) (suc k) = found-nth xs k
 
 -- an element of a list of values, or Nothing, is what an index finds
-pub nth_of_element : (r : Option (Bor Data)) (xs : List Data) (k : ℕ) → option_copied r ≡ slice_get xs k → option_map_or (λ (x : Bor Data). view x.now) r nothing ≡ nth k (items_view xs)
-nth_of_element r xs k e = found-copied r ∙ ap (λ o. option_map_or (λ t. t) (option_map view o) nothing) e ∙ found-nth xs k
+pub nth_of_element
+    : (r : Option (Bor Data)) (xs : List Data) (k : ℕ) → option_copied r ≡ slice_get xs k
+    → option_map_or (λ (x : Bor Data). view x.now) r nothing ≡ nth k (items_view xs)
+nth_of_element r xs k e =
+    found-copied r ∙ ap (λ o. option_map_or (λ t. t) (option_map view o) nothing) e ∙ found-nth xs k
+
+-- ---- an empty list
 
 pub suc_is_not_zero : (n : ℕ) → nat_eq (suc n) 0 ≡ false
 suc_is_not_zero n = grind (arith, nat_tests)

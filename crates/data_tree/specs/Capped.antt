@@ -1,4 +1,4 @@
--- A count that stops at the greatest number of 64 bits.
+-- A count that saturates at the greatest number of 64 bits.
 use Rattle.std.specs.Prelude.{ℕ, ◌-◌, ◌^◌, min}
 
 abbrev pub capped : ℕ → ℕ

@@ -1,14 +1,15 @@
--- The compact JSON text of a tree (RFC 8259, with the escapes and without the blanks of `serde_json`), and its size.
+-- The compact JSON text of a tree (RFC 8259, with no blanks and with the escapes of `serde_json`), and its size.
 use Rattle.std.specs.Prelude.{ℕ, ◌+◌, Bool, true, false, List, [], ◌++◌, length, codes}
 use Rattle.std.specs.Fmt.{signed_decimal}
 use Rattle.json.specs.Print.{quoted}
-use Rattle.data_tree.specs.Tree.{Tree, nothing, truth, number, text, list, fields, named, Items, no_items, item, Members, no_members, member}
+use Rattle.data_tree.specs.Tree.{Tree, nothing, truth, number, text, list, fields, named, Items, no_items, item}
+use Rattle.data_tree.specs.Tree.{Members, no_members, member}
 
 abbrev pub truth_text : Bool → List ℕ
 truth_text true = codes "true"
 truth_text false = codes "false"
 
--- a comma, where something stands before
+-- a comma before each part but the first
 abbrev pub comma_if : Bool → List ℕ
 comma_if true = codes ","
 comma_if false = []

@@ -1,11 +1,11 @@
 pub mod Tree
 pub mod Json
 pub mod Print
-pub mod Tokens
 pub mod Parts
 pub mod LookUp
+pub mod Digits
 pub mod WellFormed
 pub mod Capped
-pub mod ErrorCode
 pub mod RequestData
 pub mod Laws
+pub mod Inner

@@ -1,6 +1,6 @@
 -- The items of a value, as a loop goes over them, and the names that they have.
 use Rattle.std.specs.Prelude.{ℕ, List, [], ◌∷◌}
-use Rattle.data_tree.specs.Tree.{Tree, nothing, truth, number, text, list, fields, named, Items, no_items, item, Members, no_members, member}
+use Rattle.data_tree.specs.Tree.{Tree, list, fields, named, Items, no_items, item, Members, no_members, member}
 
 abbrev pub trees_of : Items → List Tree
 trees_of no_items = []
@@ -16,20 +16,12 @@ names_of (member k t ms) = k ∷ names_of ms
 
 -- a list's elements, an object's values, a named text's items
 abbrev pub items : Tree → List Tree
-items nothing = []
-items (truth b) = []
-items (number n) = []
-items (text s) = []
 items (list ts) = trees_of ts
 items (fields ms) = values_of ms
 items (named s ts ms) = trees_of ts
+items t = []
 
 -- the names of the items: an object's alone have some
 abbrev pub keys : Tree → List (List ℕ)
-keys nothing = []
-keys (truth b) = []
-keys (number n) = []
-keys (text s) = []
-keys (list ts) = []
 keys (fields ms) = names_of ms
-keys (named s ts ms) = []
+keys t = []

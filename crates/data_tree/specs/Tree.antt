@@ -1,4 +1,4 @@
--- What a `Data` stands for: a finite tree of texts, numbers and truths.
+-- The tree of a `Data`: texts, numbers, truths, lists and objects.
 use Rattle.std.specs.Prelude.{ℕ, ℤ, Bool, List, [], ◌∷◌, map, String, string_bytes}
 use Rattle.std.specs.declared.alloc.Global.{Global}
 use Rattle.data_tree.specs.declared.data.Data.{Data, fold-Data}
@@ -42,7 +42,7 @@ view_step (Data-F.List v) = list (items_of v.items)
 view_step (Data-F.Fields v) = fields (members_of v.items)
 view_step (Data-F.Named s v w) = named (string_bytes s) (items_of v.items) (members_of w.items)
 
--- the tree that a value stands for
+-- the tree of a value
 abbrev pub view : Data → Tree
 view = fold-Data Tree view_step
 

@@ -1,9 +1,11 @@
--- What each tree of data keeps: an object's names in byte order, each once, and numbers from -2^63 to 2^64 - 1.
+-- The rules that whoever makes a value keeps: an object's names in byte order, each once, and numbers from -2^63 to
+-- 2^64 - 1.
 use Rattle.std.specs.Prelude.{◌≡◌, ℕ, ◌-◌, ◌^◌, pos, negsuc, ◌≤ℤ◌, List, [], ◌∷◌}
 use Rattle.std.specs.Ordering.{nat_cmp}
 use Rattle.std.specs.declared.cmp.Ordering.TheVariants.{Less}
 use Rattle.std.specs.Cmp.Lexicographic.{slice_cmp}
-use Rattle.data_tree.specs.Tree.{Tree, nothing, truth, number, text, list, fields, named, Items, no_items, item, Members, no_members, member}
+use Rattle.data_tree.specs.Tree.{Tree, nothing, truth, number, text, list, fields, named, Items, no_items, item}
+use Rattle.data_tree.specs.Tree.{Members, no_members, member}
 use Rattle.data_tree.specs.Parts.{names_of}
 
 abbrev pub IsAscending : List (List ℕ) → Type 0
@@ -18,15 +20,15 @@ abbrev mutual
   IsWellFormed (number n) = (negsuc (2 ^ 63 - 1) ≤ℤ n) × (n ≤ℤ pos (2 ^ 64 - 1))
   IsWellFormed (text s) = Unit {0}
   IsWellFormed (list ts) = AreWellFormed ts
-  IsWellFormed (fields ms) = IsAscending (names_of ms) × HaveWellFormed ms
-  IsWellFormed (named s ts ms) = AreWellFormed ts × IsAscending (names_of ms) × HaveWellFormed ms
+  IsWellFormed (fields ms) = IsAscending (names_of ms) × HaveWellFormedValues ms
+  IsWellFormed (named s ts ms) = AreWellFormed ts × IsAscending (names_of ms) × HaveWellFormedValues ms
 
-  -- the items are
+  -- so are the items
   pub AreWellFormed : Items → Type 0
   AreWellFormed no_items = Unit {0}
   AreWellFormed (item t ts) = IsWellFormed t × AreWellFormed ts
 
-  -- the values are
-  pub HaveWellFormed : Members → Type 0
-  HaveWellFormed no_members = Unit {0}
-  HaveWellFormed (member name t ms) = IsWellFormed t × HaveWellFormed ms
+  -- so are the values
+  pub HaveWellFormedValues : Members → Type 0
+  HaveWellFormedValues no_members = Unit {0}
+  HaveWellFormedValues (member name t ms) = IsWellFormed t × HaveWellFormedValues ms

@@ -1,4 +1,4 @@
-// The value that all else is made of.
+// The value that all else is made of: texts, numbers, lists and objects.
 
 /// A finite value: what a template sees of a request, or a JSON document.
 ///

@@ -1,11 +1,11 @@
-// The values that templates, JSON documents and requests are made of: a finite tree (`Data`), the steps
-// that lead into it (`Step`, `Path`), and what it looks like as text. It stands on `json`, whose `quoted`
-// is what a text is between quotes, and `itoa`. Its contracts cite `specs/Tree.antt` (what a `Data`
-// stands for), `Json`, `Print`, `Parts` and `LookUp`.
+// The values that templates, JSON documents and requests are made of: a finite tree (`Data`), the steps that lead
+// into it (`Step`, `Path`), and its text. JSON strings are escaped as the crate `json` does.
+//
+// Contracts cite `specs/Tree.antt` (the tree of a `Data`), `Json`, `Print`, `Parts`, `LookUp` and `Digits`.
 #![tactic(auto)]
 
-// Texts, names and codes.
-pub mod error_code;
+// Texts and steps.
+pub mod digits;
 pub mod plain_text;
 pub mod step;
 
@@ -21,5 +21,3 @@ pub mod request_data;
 
 // What holds of all values.
 pub mod laws;
-#[cfg(test)]
-mod tests;

@@ -5,7 +5,7 @@ ghost use Rattle.data_tree.specs.Tree.{view, nothing, items_view, members_view};
 ghost use Rattle.data_tree.specs.LookUp.{at, after, nth, under};
 
 use crate::data::Data;
-use crate::parts::element;
+use crate::parts::item_at;
 use crate::step::Step;
 use itoa::Buffer;
 
@@ -18,10 +18,7 @@ impl Data {
     {
         let mut here = self;
         for step in steps {
-            match after(here, step) {
-                None => return None,
-                Some(next) => here = next,
-            }
+            here = after(here, step)?;
         }
         Some(here)
     }
@@ -32,13 +29,17 @@ fn after<'v>(value: &'v Data, step: &Step) -> Option<&'v Data>
 {
     match step {
         Step::Name(name) => match value {
-            Data::Fields(fields) => under(fields.as_slice(), name.as_str()),
-            Data::Named { fields, .. } => under(fields.as_slice(), name.as_str()),
+            Data::Fields(fields) | Data::Named { fields, .. } => under(
+                fields.as_slice(),
+                name.as_str(),
+            ),
             _ => None,
         },
         Step::Index(index) => match value {
-            Data::List(items) => element(items.as_slice(), *index as usize),
-            Data::Named { items, .. } => element(items.as_slice(), *index as usize),
+            Data::List(items) | Data::Named { items, .. } => item_at(
+                items.as_slice(),
+                *index as usize,
+            ),
             Data::Fields(fields) => under(fields.as_slice(), Buffer::new().format(*index)),
             _ => None,
         },

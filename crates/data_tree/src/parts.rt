@@ -7,11 +7,11 @@ ghost use Rattle.data_tree.specs.Parts.{items, keys};
 
 use crate::data::Data;
 
-// The element of that place, if there is one.
-pub(crate) fn element<T>(items: &[T], place: usize) -> Option<&T>
-    ensures { option_copied result ≡ slice_get items.now place }
+// The item of that index, if there is one.
+pub(crate) fn item_at<T>(items: &[T], index: usize) -> Option<&T>
+    ensures { option_copied result ≡ slice_get items.now index }
 {
-    items.get(place)
+    items.get(index)
 }
 
 impl Data {
@@ -24,50 +24,45 @@ impl Data {
             Data::Nothing => false,
             Data::Truth(truth) => *truth,
             Data::Number(number) => *number != 0,
-            Data::Text(text) => !text.is_empty(),
+            Data::Text(text) | Data::Named { text, .. } => !text.is_empty(),
             Data::List(items) => !items.is_empty(),
             Data::Fields(_) => true,
-            Data::Named { text, .. } => !text.is_empty(),
         }
     }
 
-    /// How many items a loop goes over: a list's elements, an object's values, a named text's items.
+    /// How many items a loop goes over: a list's, an object's values, or a named text's.
     pub fn items_len(&self) -> usize
         ensures { result ≡ length (items (view self.now)) }
     {
         match self {
-            Data::List(items) => items.len(),
+            Data::List(items) | Data::Named { items, .. } => items.len(),
             Data::Fields(fields) => fields.len(),
-            Data::Named { items, .. } => items.len(),
             _ => 0,
         }
     }
 
-    /// The item of that place, from 0.
-    pub fn item(&self, place: usize) -> Option<&Data>
-        ensures { option_map (λ found. view found.now) result ≡ slice_get (items (view self.now)) place }
+    /// The item of that index, from 0.
+    pub fn item(&self, index: usize) -> Option<&Data>
+        ensures { option_map (λ found. view found.now) result ≡ slice_get (items (view self.now)) index }
     {
         match self {
-            Data::List(items) => element(items.as_slice(), place),
-            Data::Fields(fields) => match element(fields.as_slice(), place) {
-                Some((_, value)) => Some(value),
-                None => None,
-            },
-            Data::Named { items, .. } => element(items.as_slice(), place),
+            Data::List(items) | Data::Named { items, .. } => item_at(items.as_slice(), index),
+            Data::Fields(fields) => {
+                let (_name, value) = item_at(fields.as_slice(), index)?;
+                Some(value)
+            }
             _ => None,
         }
     }
 
-    /// The name of the item of that place: an object's items alone have one.
-    pub fn key(&self, place: usize) -> Option<&str>
-        ensures { option_map (λ found. found.now) result ≡ slice_get (keys (view self.now)) place }
+    /// The name of the item of that index: an object's items alone have one.
+    pub fn key(&self, index: usize) -> Option<&str>
+        ensures { option_map (λ found. found.now) result ≡ slice_get (keys (view self.now)) index }
     {
         let Data::Fields(fields) = self else {
             return None;
         };
-        match element(fields.as_slice(), place) {
-            Some((name, _)) => Some(name.as_str()),
-            None => None,
-        }
+        let (name, _value) = item_at(fields.as_slice(), index)?;
+        Some(name.as_str())
     }
 }

@@ -1,8 +1,8 @@
-// What a value looks like as text: a text as it stands, a list or an object as its compact JSON text.
+// What a value prints as: a text as it is, a list or an object as its compact JSON text.
 ghost use Rattle.std.specs.Prelude.{◌≡◌, [], ◌∷◌, ◌++◌, OnOk, OnErr, string_bytes, codes};
 ghost use Rattle.json.specs.Token.{Token};
 ghost use Rattle.data_tree.specs.Json.{json};
-ghost use Rattle.data_tree.specs.Tokens.{tree_tokens, items_tokens, members_tokens};
+ghost use Rattle.data_tree.specs.Inner.Tokens.{tree_tokens, items_tokens, members_tokens};
 ghost use Rattle.data_tree.specs.Tree.{view, items_view, members_view};
 
 use crate::data::Data;
@@ -18,7 +18,7 @@ impl Data {
     /// Nothing prints as the empty text, a `Text` and a `Named` as their text, and a list or an object as
     /// its compact JSON text. Each byte is read and written once, straight into `out`; for a list or an
     /// object the writer also clears some spare room ahead, 16 KiB at most. The recursion is as deep as
-    /// lists, objects and named texts nest in the value. Where memory is refused, `out` keeps the text that
+    /// lists, objects and named texts nest in the value. Where an allocation fails, `out` keeps the text that
     /// it had.
     pub fn print_into(&self, alloc: Global, out: &mut String) -> Result<(), AllocError>
         ensures ok { OnOk result
@@ -41,7 +41,7 @@ impl Data {
     /// Appends the value's compact JSON text, of whatever case it is: `null` for Nothing, a text between
     /// quotes, a named text as an object of its fields, items and text.
     ///
-    /// It costs what `print_into` of a list costs. Where memory is refused, `out` keeps the text that it had.
+    /// It costs what `print_into` of a list costs. Where an allocation fails, `out` keeps the text that it had.
     pub fn json_into(&self, alloc: Global, out: &mut String) -> Result<(), AllocError>
         ensures ok { OnOk result
             (string_bytes out.new ≡ string_bytes out.old ++ json (view self.now)) }

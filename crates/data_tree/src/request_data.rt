@@ -2,20 +2,21 @@
 ghost use Rattle.std.specs.Prelude.{◌≤◌};
 ghost use Rattle.data_tree.specs.Tree.{view};
 ghost use Rattle.data_tree.specs.Json.{size};
-ghost use Rattle.data_tree.specs.LookUp.{HasNoEmptyName};
+ghost use Rattle.data_tree.specs.LookUp.{EmptyNameFindsNothing};
+ghost use Rattle.data_tree.specs.declared.request_data.TheConstants.{SIZE_LIMIT};
 
 use crate::data::Data;
-use crate::error_code::ErrorCode;
+use error_code::error_code::ErrorCode;
 
-/// The most that a request's data may take: bytes of its compact JSON text, plus 1.
+/// The largest size that the data of a request may have: bytes of its compact JSON text, plus 1.
 pub const SIZE_LIMIT: u64 = 16_777_216;
 
-/// What a template sees of one request: a value within the limit, whose root has no field of the empty name.
+/// What a template sees of one request: a value within the limit, in whose root the empty name finds nothing.
 #[derive(Debug, Drop)]
 pub struct RequestData {
     root: Data,
-    ghost within_limit: { size (view root) ≤ 16777216 },
-    ghost no_empty_name: { HasNoEmptyName (view root) },
+    ghost within_limit: { size (view root) ≤ SIZE_LIMIT },
+    ghost no_empty_name: { EmptyNameFindsNothing (view root) },
 }
 
 /// Why there is no data for a request.
@@ -23,7 +24,7 @@ pub struct RequestData {
 pub enum DataError {
     /// The value is over the limit; here it is again.
     TooLarge(Data),
-    /// Memory was refused while the value was made; `RequestData::new` itself takes none.
+    /// While the value was made; `RequestData::new` itself takes no memory.
     OutOfMemory,
 }
 
@@ -31,12 +32,12 @@ impl RequestData {
     ghost use Rattle.std.specs.Prelude.{◌≡◌, ◌≤◌, ◌<◌, MatchResult};
     ghost use Rattle.data_tree.specs.Tree.{view};
     ghost use Rattle.data_tree.specs.Json.{size};
-    ghost use Rattle.data_tree.specs.LookUp.{HasNoEmptyName};
+    ghost use Rattle.data_tree.specs.LookUp.{EmptyNameFindsNothing};
     ghost use Rattle.data_tree.specs.RequestData.{root_of};
 
     /// Takes the value over, where it is within the limit. Takes no memory.
     pub fn new(root: Data) -> Result<RequestData, DataError>
-        requires { HasNoEmptyName (view root) }
+        requires { EmptyNameFindsNothing (view root) }
         ensures { MatchResult result
             (λ made. (root_of made ≡ view root) × (size (view root) ≤ SIZE_LIMIT))
             (λ error. (error ≡ DataError.TooLarge root) × (SIZE_LIMIT < size (view root))) }
@@ -51,7 +52,7 @@ impl RequestData {
     pub fn root(&self) -> &Data
         ensures tree { view result.now ≡ root_of self.now }
         ensures within_limit { size (root_of self.now) ≤ SIZE_LIMIT }
-        ensures no_empty_name { HasNoEmptyName (root_of self.now) }
+        ensures no_empty_name { EmptyNameFindsNothing (root_of self.now) }
     {
         &self.root
     }
@@ -59,11 +60,11 @@ impl RequestData {
 
 impl DataError {
     ghost use Rattle.std.specs.Prelude.{◌≡◌};
-    ghost use Rattle.data_tree.specs.RequestData.{code_of};
+    ghost use Rattle.data_tree.specs.RequestData.{error_code_of};
 
-    /// The code that a user is told.
-    pub fn code(&self) -> ErrorCode
-        ensures { result ≡ code_of self.now }
+    /// The code that is reported.
+    pub fn error_code(&self) -> ErrorCode
+        ensures { result ≡ error_code_of self.now }
     {
         match self {
             DataError::TooLarge(_) => ErrorCode::TooLarge,

@@ -42,7 +42,7 @@ fn json_len(value: &Data) -> u64
     }
 }
 
-// Brackets round what has a comma before each part: the first comma isn't there, if there is a part.
+// Brackets round parts that were counted with a comma before each: the first part has none.
 fn bracketed_len(count: usize, len: u64) -> u64
     ensures { result ≡ (if nat_eq count 0 then 2 else capped (len + 1)) }
 {
@@ -87,7 +87,7 @@ fn quoted_len(text: &str) -> u64
     len
 }
 
-// How many bytes stand for a byte between quotes.
+// The bytes that a byte is escaped as.
 #[tactic(auto, unfolding(json::specs::Print::escape_byte))]
 fn escaped_len(byte: u8) -> u64
     ensures { result ≡ length (escape_byte byte) }

@@ -10,7 +10,7 @@ use std::marker::Model;
 pub enum Step {
     /// To the field of that name.
     Name(PlainText),
-    /// To the item of that place, the first being 0; in `Fields` to the value named by the number in decimal.
+    /// To the item of that index, from 0; in `Fields` to the value named by the number in decimal.
     Index(u32),
 }
 

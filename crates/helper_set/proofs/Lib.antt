@@ -1,1 +1,1 @@
--- No lemma is wanted so far.
+-- This crate needs no lemma.

@@ -1,9 +1,9 @@
-// The helpers.
+//! The helpers, by name.
 
-/// A helper, by its name.
+/// A helper.
 #[derive(Clone, Copy, Debug, PartialEq, Eq)]
 pub enum Helper {
-    /// Of a truth the other one.
+    /// Logical negation of a truth.
     Not,
 }
 
@@ -11,7 +11,7 @@ impl Helper {
     ghost use Rattle.std.specs.Prelude.{◌≡◌};
     ghost use Rattle.helper_set.specs.Helpers.{name_of};
 
-    /// The name that a template and a listing use.
+    /// The name in templates and listings.
     pub fn name(&self) -> &'static str
         ensures { result.now ≡ name_of self.now }
     {

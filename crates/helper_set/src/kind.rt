@@ -1,15 +1,15 @@
-// The kinds of values.
+//! The kinds of values.
 
 /// What a slot of the stack holds.
 #[derive(Clone, Copy, Debug, PartialEq, Eq)]
 pub enum Kind {
     /// A value of the request's data.
     Data,
-    /// A text, which is written as it stands.
+    /// A text.
     Text,
     /// A whole number.
     Number,
-    /// Yes or no.
+    /// True or false.
     Truth,
 }
 
@@ -21,11 +21,12 @@ impl Kind {
     pub fn is(self, other: Kind) -> bool
         ensures { result ≡ same_kind self other }
     {
-        match self {
-            Kind::Data => matches!(other, Kind::Data),
-            Kind::Text => matches!(other, Kind::Text),
-            Kind::Number => matches!(other, Kind::Number),
-            Kind::Truth => matches!(other, Kind::Truth),
-        }
+        matches!(
+            (self, other),
+            (Kind::Data, Kind::Data)
+                | (Kind::Text, Kind::Text)
+                | (Kind::Number, Kind::Number)
+                | (Kind::Truth, Kind::Truth)
+        )
     }
 }

@@ -1,48 +1,50 @@
-// What helpers take and give.
+//! What helpers take and give.
 ghost use Rattle.std.specs.Prelude.{◌≡◌};
 ghost use Rattle.std.specs.List.{list_any};
 ghost use Rattle.helper_set.specs.Values.{same_kind};
-ghost use Rattle.helper_set.specs.Helpers.{argument_kinds, result_kind, parameter_kinds, wanted_kinds};
+ghost use Rattle.helper_set.specs.Helpers.{parameter_kinds, signature_of};
 
 use crate::helper::Helper;
 use crate::kind::Kind;
 
-/// What an argument may be.
+/// Which kinds of values an argument may have; so also which a slot may have that an instruction pops.
 #[derive(Clone, Copy, Debug, PartialEq, Eq)]
 pub enum Parameter {
-    /// A value of that kind.
+    /// Every kind.
+    Any,
+    /// A value of the request's data, a number or a truth.
+    NoText,
+    /// That kind.
     Of(Kind),
-    /// A value of the request's data, or a text.
-    DataOrText,
 }
 
 impl Parameter {
-    /// Whether a value of that kind will do.
-    pub fn takes(self, kind: Kind) -> bool
+    /// Whether a value of that kind is accepted.
+    pub fn accepts(self, kind: Kind) -> bool
         ensures { result ≡ list_any (same_kind kind) (parameter_kinds self) }
     {
         match self {
-            Parameter::Of(wanted) => kind.is(wanted),
-            Parameter::DataOrText => kind.is(Kind::Data) || kind.is(Kind::Text),
+            Parameter::Any => true,
+            Parameter::NoText => !kind.is(Kind::Text),
+            Parameter::Of(expected) => kind.is(expected),
         }
     }
 }
 
-/// What a helper takes, of one argument or of two, and the kind of what it gives.
+/// What a helper takes, one argument or two, and the kind of its result.
 #[derive(Clone, Copy, Debug, PartialEq, Eq)]
-pub struct HelperKinds {
+pub struct HelperSignature {
     pub first: Parameter,
     pub second: Option<Parameter>,
     pub gives: Kind,
 }
 
 /// The signature of a helper.
-pub fn signature(helper: Helper) -> HelperKinds
-    ensures takes { wanted_kinds result ≡ argument_kinds helper }
-    ensures gives { result.gives ≡ result_kind helper }
+pub fn signature(helper: Helper) -> HelperSignature
+    ensures { result ≡ signature_of helper }
 {
     match helper {
-        Helper::Not => HelperKinds {
+        Helper::Not => HelperSignature {
             first: Parameter::Of(Kind::Truth),
             second: None,
             gives: Kind::Truth,

@@ -1,4 +1,4 @@
-// The values that helpers are given and give.
+//! The values that helpers take and give.
 
 use data_tree::plain_text::PlainText;
 

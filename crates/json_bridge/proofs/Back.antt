@@ -1,5 +1,7 @@
 -- The JSON text of a tree reads back as the tree, where no named text is in it and it nests at most 127 deep.
-use Rattle.std.proofs.Common.{◌≡◌, ℕ, ◌-◌, ◌^◌, ◌<◌, ◌≤◌, nat_lt, ℤ, pos, negsuc, List, [], ◌∷◌, ◌++◌, Option, Some, None, option_map, option_and_then, T, Bool, true, false, cond, Less, Greater, nat_cmp, refl, sym, ap, ◌∙◌, arith, append-nil}
+use Rattle.std.proofs.Common.{◌≡◌, ℕ, ◌-◌, ◌^◌, ◌<◌, ◌≤◌, nat_lt, ℤ, pos, negsuc, List, [], ◌∷◌, ◌++◌, Option, Some}
+use Rattle.std.proofs.Common.{None, option_map, option_and_then, T, Bool, true, false, cond, Less, Greater, nat_cmp}
+use Rattle.std.proofs.Common.{refl, sym, ap, ◌∙◌, arith, append-nil}
 use Rattle.std.proofs.lemmas.Bool.{or_parts, leb-true, true≢false}
 use Rattle.std.proofs.lemmas.Cmp.{nat_list_cmp_total}
 use Rattle.std.specs.Cmp.Lexicographic.{slice_cmp}
@@ -22,12 +24,13 @@ use Rattle.data_tree.proofs.Numerals.{IsNumber-signed_decimal_wide}
 use Rattle.data_tree.proofs.Printed.{print-tree_tokens}
 use Rattle.data_tree.specs.Json as text
 use Rattle.data_tree.specs.Parts.{names_of}
-use Rattle.data_tree.specs.Tokens as tokens
+use Rattle.data_tree.specs.Inner.Tokens as tokens
 use Rattle.data_tree.specs.Tree as tree
 use Rattle.data_tree.specs.Tree.{Tree}
-use Rattle.data_tree.specs.WellFormed.{IsAscending, IsWellFormed, AreWellFormed, HaveWellFormed}
+use Rattle.data_tree.specs.WellFormed.{IsAscending, IsWellFormed, AreWellFormed, HaveWellFormedValues}
 use Rattle.json_bridge.specs.Reading as spec
-use Rattle.json_bridge.specs.Writing.{has_named, items_have_named, members_have_named, depth, items_depth, members_depth}
+use Rattle.json_bridge.specs.Writing.{has_named, items_have_named, members_have_named, depth, items_depth}
+use Rattle.json_bridge.specs.Writing.{members_depth}
 
 -- ---- the tree as JSON, and as the value that it reads as
 
@@ -79,7 +82,8 @@ mutual
   tokens_for (tree.fields ms) h = ap (λ us. Token.begin_object ∷ us) (members_tokens_for ms h)
   tokens_for (tree.named s ts ms) h = absurd (true≢false h)
 
-  items_tokens_for : (ts : tree.Items) → items_have_named ts ≡ false → tokens.items_tokens ts ≡ written.items_tokens (items_for ts)
+  items_tokens_for : (ts : tree.Items) → items_have_named ts ≡ false
+      → tokens.items_tokens ts ≡ written.items_tokens (items_for ts)
   items_tokens_for tree.no_items h = refl
   items_tokens_for (tree.item t ts) h =
       let p = or_parts (has_named t) (items_have_named ts) h in
@@ -87,7 +91,8 @@ mutual
       let rest = items_tokens_for ts p.1 in
       (λ i. first i ++ rest i)
 
-  members_tokens_for : (ms : tree.Members) → members_have_named ms ≡ false → tokens.members_tokens ms ≡ written.members_tokens (members_for ms)
+  members_tokens_for : (ms : tree.Members) → members_have_named ms ≡ false
+      → tokens.members_tokens ms ≡ written.members_tokens (members_for ms)
   members_tokens_for tree.no_members h = refl
   members_tokens_for (tree.member k t ms) h =
       let p = or_parts (has_named t) (members_have_named ms) h in
@@ -108,8 +113,10 @@ above_signed : (n : ℕ) → negsuc (2 ^ 63 - 1) ≤ℤ negsuc n → n < 2 ^ 63
 above_signed n h = omega (arith, leb-true n (2 ^ 63 - 1) (true_of _ h.le))
 
 number_written : (n : ℤ) → IsWellFormed (tree.number n) → IsNumber (signed_decimal n)
-number_written (pos n) h = IsNumber-signed_decimal_wide (pos n) (record { sfits = omega (arith, below_unsigned n h.1) })
-number_written (negsuc n) h = IsNumber-signed_decimal_wide (negsuc n) (record { sfits = omega (arith, above_signed n h.0) })
+number_written (pos n) h =
+    IsNumber-signed_decimal_wide (pos n) (record { sfits = omega (arith, below_unsigned n h.1) })
+number_written (negsuc n) h =
+    IsNumber-signed_decimal_wide (negsuc n) (record { sfits = omega (arith, above_signed n h.0) })
 
 number_read : (n : ℤ) → IsWellFormed (tree.number n) → number_of (signed_decimal n) ≡ Some (of_integer n)
 number_read (pos n) h = number_of-decimal n (below_unsigned n h.1)
@@ -137,7 +144,7 @@ mutual
   items_have_numbers tree.no_items h = tt
   items_have_numbers (tree.item t ts) h = (has_numbers t h.0, items_have_numbers ts h.1)
 
-  members_have_numbers : (ms : tree.Members) → HaveWellFormed ms → written.MembersHaveNumbers (members_for ms)
+  members_have_numbers : (ms : tree.Members) → HaveWellFormedValues ms → written.MembersHaveNumbers (members_for ms)
   members_have_numbers tree.no_members h = tt
   members_have_numbers (tree.member k t ms) h = (has_numbers t h.0, members_have_numbers ms h.1)
 
@@ -161,7 +168,7 @@ mutual
   members_depth_for tree.no_members = omega arith
   members_depth_for (tree.member k t ms) = omega (arith, depth_for t, members_depth_for ms)
 
--- ---- its names: each goes behind those that are there
+-- ---- its names: each goes after those that are there
 
 abbrev join : value.Members → value.Members → value.Members
 join value.no_members rest = rest
@@ -176,11 +183,13 @@ abbrev AreAbove : tree.Members → value.Members → Type 0
 AreAbove tree.no_members found = Unit {0}
 AreAbove (tree.member k t ms) found = IsAbove k found × AreAbove ms found
 
-put_above : (k : List ℕ) (d : value.Data) (found : value.Members) → IsAbove k found → value.put k d found ≡ join found (value.member k d value.no_members)
+put_above : (k : List ℕ) (d : value.Data) (found : value.Members) → IsAbove k found
+    → value.put k d found ≡ join found (value.member k d value.no_members)
 put_above k d value.no_members h = refl
 put_above k d (value.member l e ms) h = rw h.0 (ap (value.member l e) (put_above k d ms h.1))
 
-above_join : (name k : List ℕ) (d : value.Data) (found : value.Members) → IsAbove name found → slice_cmp nat_cmp name k ≡ Greater → IsAbove name (join found (value.member k d value.no_members))
+above_join : (name k : List ℕ) (d : value.Data) (found : value.Members) → IsAbove name found
+    → slice_cmp nat_cmp name k ≡ Greater → IsAbove name (join found (value.member k d value.no_members))
 above_join name k d value.no_members h is = (is, tt)
 above_join name k d (value.member l e ms) h is = (h.0, above_join name k d ms h.1 is)
 
@@ -188,10 +197,15 @@ greater_of : (a b : List ℕ) → slice_cmp nat_cmp a b ≡ Less → slice_cmp n
 greater_of a b e = nat_list_cmp_total.antisymm b a ∙ ap ordering_reverse e
 
 -- later names are above an earlier one
-above_first : (k : List ℕ) (d : value.Data) (found : value.Members) (ms : tree.Members) → IsAscending (k ∷ names_of ms) → AreAbove ms found → AreAbove ms (join found (value.member k d value.no_members))
+above_first : (k : List ℕ) (d : value.Data) (found : value.Members) (ms : tree.Members)
+    → IsAscending (k ∷ names_of ms) → AreAbove ms found
+    → AreAbove ms (join found (value.member k d value.no_members))
 above_first k d found tree.no_members h above = tt
-above_first k d found (tree.member l t ms) h above =
-    (above_join l k d found above.0 (greater_of k l h.0), above_first k d found ms (without_next k l (names_of ms) h) above.1)
+above_first k d found (tree.member l t ms) h above = (
+  above_join l k d found above.0 (greater_of k l h.0),
+  above_first k d found ms
+      (without_next k l (names_of ms) h) above.1,
+)
   where
     without_next : (a b : List ℕ) (names : List (List ℕ)) → IsAscending (a ∷ b ∷ names) → IsAscending (a ∷ names)
     without_next a b [] h = tt
@@ -201,7 +215,8 @@ none_above : (ms : tree.Members) → AreAbove ms value.no_members
 none_above tree.no_members = tt
 none_above (tree.member k t ms) = (tt, none_above ms)
 
-join_last : (found : value.Members) (k : List ℕ) (d : value.Data) (rest : value.Members) → join (join found (value.member k d value.no_members)) rest ≡ join found (value.member k d rest)
+join_last : (found : value.Members) (k : List ℕ) (d : value.Data) (rest : value.Members)
+    → join (join found (value.member k d value.no_members)) rest ≡ join found (value.member k d rest)
 join_last value.no_members k d rest = refl
 join_last (value.member l e ms) k d rest = ap (value.member l e) (join_last ms k d rest)
 
@@ -222,27 +237,32 @@ mutual
   read_for (tree.number n) plain h = ap (option_map value.number) (number_read n h)
   read_for (tree.text s) plain h = refl
   read_for (tree.list ts) plain h = ap (option_map value.array) (read_items ts plain h)
-  read_for (tree.fields ms) plain h = ap (option_map value.object) (read_members ms value.no_members plain h.0 h.1 (none_above ms))
+  read_for (tree.fields ms) plain h =
+      ap (option_map value.object) (read_members ms value.no_members plain h.0 h.1 (none_above ms))
   read_for (tree.named s ts ms) plain h = absurd (true≢false plain)
 
-  read_items : (ts : tree.Items) → items_have_named ts ≡ false → AreWellFormed ts → of_items (items_for ts) ≡ Some (value_items ts)
+  read_items : (ts : tree.Items) → items_have_named ts ≡ false → AreWellFormed ts
+      → of_items (items_for ts) ≡ Some (value_items ts)
   read_items tree.no_items plain h = refl
   read_items (tree.item t ts) plain h =
       let p = or_parts (has_named t) (items_have_named ts) plain in
       rw (read_for t p.0 h.0, read_items ts p.1 h.1) refl
 
-  read_members : (ms : tree.Members) (found : value.Members) → members_have_named ms ≡ false → IsAscending (names_of ms) → HaveWellFormed ms → AreAbove ms found
+  read_members : (ms : tree.Members) (found : value.Members) → members_have_named ms ≡ false
+      → IsAscending (names_of ms) → HaveWellFormedValues ms → AreAbove ms found
       → of_members (members_for ms) found ≡ Some (join found (value_members ms))
   read_members tree.no_members found plain order h above = ap Some (sym (join_none found))
   read_members (tree.member k t ms) found plain order h above =
       let p = or_parts (has_named t) (members_have_named ms) plain in
       let d = value_for t in
       let last = put_above k d found above.0 in
-      let later = read_members ms (join found (value.member k d value.no_members)) p.1 (ascending_tail k (names_of ms) order) h.1 (above_first k d found ms order above.1) in
+      let later =
+      read_members ms (join found (value.member k d value.no_members)) p.1
+      (ascending_tail k (names_of ms) order) h.1 (above_first k d found ms order above.1) in
       rw (read_for t p.0 h.0, last) (later ∙ ap Some (join_last found k d (value_members ms)))
 
 mutual
-  tree_again : (t : Tree) → has_named t ≡ false → spec.tree_of (value_for t) ≡ Some t
+  tree_again : (t : Tree) → has_named t ≡ false → spec.tree_of_value (value_for t) ≡ Some t
   tree_again tree.nothing plain = refl
   tree_again (tree.truth b) plain = refl
   tree_again (tree.number n) plain = ap (option_map tree.number) (whole_again n)
@@ -270,14 +290,20 @@ Whole = Option (json.Json × List Token)
 abbrev all_of : Whole → Option json.Json
 all_of o = option_and_then (λ p. json.if_last p.0 p.1) o
 
-json_again : (j : json.Json) → written.HasNumbers j → written.depth j ≤ max_depth → all_of (json.value max_depth (lexed (print (written.json_tokens j)))) ≡ Some j
+json_again : (j : json.Json) → written.HasNumbers j → written.depth j ≤ max_depth
+    → all_of (json.value max_depth (lexed (print (written.json_tokens j)))) ≡ Some j
 json_again j numbers shallow =
     let ts = written.json_tokens j in
-    ap (λ us. all_of (json.value max_depth us)) (tokens-print ts (ArePrintable-json_tokens j numbers) ∙ sym (append-nil ts)) ∙ ap all_of (value-json_tokens j max_depth [] shallow)
+    ap (λ us. all_of (json.value max_depth us))
+    (tokens-print ts (ArePrintable-json_tokens j numbers) ∙ sym (append-nil ts)) ∙ ap all_of
+    (value-json_tokens j max_depth [] shallow)
 
-pub reads_back : (t : Tree) → IsWellFormed t → has_named t ≡ false → depth t ≤ 127 → spec.tree_of_text (text.json t) ≡ Some t
+pub reads_back : (t : Tree) → IsWellFormed t → has_named t ≡ false → depth t ≤ 127
+    → spec.tree_of_text (text.json t) ≡ Some t
 reads_back t formed plain shallow =
-    let printed : text.json t ≡ print (written.json_tokens (json_for t)) = sym (print-tree_tokens t) ∙ ap print (tokens_for t plain) in
+    let printed : text.json t ≡ print (written.json_tokens (json_for t)) =
+    sym (print-tree_tokens t) ∙ ap print (tokens_for t plain) in
     ap spec.tree_of_text printed
-    ∙ ap (λ o. option_and_then spec.tree_of (option_and_then of_json o)) (json_again (json_for t) (has_numbers t formed) (omega (arith, depth_for t, shallow)))
-    ∙ ap (option_and_then spec.tree_of) (read_for t plain formed) ∙ tree_again t plain
+    ∙ ap (λ o. option_and_then spec.tree_of_value (option_and_then of_json o))
+    (json_again (json_for t) (has_numbers t formed) (omega (arith, depth_for t, shallow)))
+    ∙ ap (option_and_then spec.tree_of_value) (read_for t plain formed) ∙ tree_again t plain

@@ -9,8 +9,10 @@ use Rattle.json_bridge.specs.Reading.{tree_of_text}
 pub record AreTexts : Type 0 where
   pub null : tree_of_text (codes "null") ≡ Some nothing
   pub one_a : tree_of_text (codes "[1,\"a\"]") ≡ Some (list (item (number (pos 1)) (item (text (codes "a")) no_items)))
-  pub blanks : tree_of_text (codes " [ true , { } ] ") ≡ Some (list (item (truth true) (item (fields no_members) no_items)))
-  pub byte_order : tree_of_text (codes "{\"b\":1,\"B\":null}") ≡ Some (fields (member (codes "B") nothing (member (codes "b") (number (pos 1)) no_members)))
+  pub blanks : tree_of_text (codes " [ true , { } ] ")
+      ≡ Some (list (item (truth true) (item (fields no_members) no_items)))
+  pub byte_order : tree_of_text (codes "{\"b\":1,\"B\":null}")
+      ≡ Some (fields (member (codes "B") nothing (member (codes "b") (number (pos 1)) no_members)))
   pub least : tree_of_text (codes "-9223372036854775808") ≡ Some (number (negsuc (2 ^ 63 - 1)))
   pub past_signed : tree_of_text (codes "9223372036854775808") ≡ Some (number (pos (2 ^ 63)))
   pub greatest : tree_of_text (codes "18446744073709551615") ≡ Some (number (pos (2 ^ 64 - 1)))
@@ -20,7 +22,8 @@ pub record AreTexts : Type 0 where
   pub point : tree_of_text (codes "1.0") ≡ None
   pub exponent : tree_of_text (codes "[1e2]") ≡ None
   pub too_large : tree_of_text (codes "1e400") ≡ None
-  pub last_counts : tree_of_text (codes "{\"a\":2.5,\"a\":1}") ≡ Some (fields (member (codes "a") (number (pos 1)) no_members))
+  pub last_counts : tree_of_text (codes "{\"a\":2.5,\"a\":1}")
+      ≡ Some (fields (member (codes "a") (number (pos 1)) no_members))
   pub last_is_none : tree_of_text (codes "{\"a\":1,\"a\":2.5}") ≡ None
   pub no_text : tree_of_text [] ≡ None
   pub comma : tree_of_text (codes "[1,]") ≡ None

@@ -1,17 +1,14 @@
 -- The trees whose JSON text reads back as themselves: no named text is in them, and they nest at most 127 deep.
 use Rattle.std.specs.Prelude.{ℕ, suc, max, Bool, true, false, ◌||◌}
-use Rattle.data_tree.specs.Tree.{Tree, nothing, truth, number, text, list, fields, named, Items, no_items, item, Members, no_members, member}
+use Rattle.data_tree.specs.Tree.{Tree, list, fields, named, Items, no_items, item, Members, no_members, member}
 
 abbrev mutual
   -- a named text, whose JSON text is that of an object, is in it
   pub has_named : Tree → Bool
-  has_named nothing = false
-  has_named (truth b) = false
-  has_named (number n) = false
-  has_named (text s) = false
   has_named (list ts) = items_have_named ts
   has_named (fields ms) = members_have_named ms
   has_named (named s ts ms) = true
+  has_named t = false
 
   pub items_have_named : Items → Bool
   items_have_named no_items = false
@@ -24,13 +21,10 @@ abbrev mutual
 -- how deep lists and objects nest
 abbrev mutual
   pub depth : Tree → ℕ
-  depth nothing = 0
-  depth (truth b) = 0
-  depth (number n) = 0
-  depth (text s) = 0
   depth (list ts) = suc (items_depth ts)
   depth (fields ms) = suc (members_depth ms)
   depth (named s ts ms) = suc (suc (max (items_depth ts) (members_depth ms)))
+  depth t = 0
 
   pub items_depth : Items → ℕ
   items_depth no_items = 0

@@ -1,6 +1,7 @@
-// JSON texts and values: the value of a text, the text of a value, and paths into values (`$.a[0]`). It
-// stands on `data_tree` and on the toolchain's `serde_json`, which reads the texts. Its contracts cite
-// `specs/Reading.antt` (which tree a text is), `Writing` (which trees read back) and `Path` (which text
+// JSON texts and values: the value of a text, the text of a value, and paths into values (`$.a[0]`). Texts are read by
+// the toolchain's `serde_json`.
+//
+// Contracts cite `specs/Reading.antt` (which tree a text is), `Writing` (which trees read back) and `Path` (which text
 // spells which path).
 #![tactic(auto)]
 
@@ -9,10 +10,9 @@ pub mod read;
 pub mod write;
 
 // Paths.
+pub mod error;
 pub mod json_path;
 mod next_step;
 
 // What holds of all texts.
 pub mod laws;
-#[cfg(test)]
-mod tests;

@@ -1,13 +1,32 @@
 // The step that a text begins with.
 ghost use Rattle.std.specs.Prelude.{◌≡◌, ◌<◌, length, IfOk};
-ghost use Rattle.std.specs.Str.{all_ascii_digits};
 ghost use Rattle.json_bridge.specs.Path.{is_name_byte};
-ghost use Rattle.data_tree.specs.declared.step.Step.TheVariants.{Name};
-ghost use Rattle.json_bridge.specs.NextStep.{name_at, past_name, cut_at, after_byte, is_index, dotted, quoted, indexed, bracketed, next_step, part_view, parts_view, found_view};
+ghost use Rattle.json_bridge.specs.Inner.NextStep.{name_at, cut_at, after_byte, step_view, part_view, parts_view};
+ghost use Rattle.json_bridge.specs.Inner.NextStep.{dotted, quoted, indexed, bracketed, next_step, found_view};
 
+use data_tree::digits::index_of;
 use data_tree::plain_text::PlainText;
 use data_tree::step::Step;
 use std::alloc::{AllocError, Global};
+
+/// A step as a text spells it.
+#[derive(Clone, Copy)]
+pub enum StepText<'a> {
+    Name(&'a str),
+    Index(u32),
+}
+
+impl StepText<'_> {
+    /// The step, with its name copied.
+    pub fn to_step(&self, alloc: Global) -> Result<Step, AllocError>
+        ensures { IfOk result (λ step. step ≡ step_view self.now) }
+    {
+        match self {
+            StepText::Name(name) => Ok(Step::Name(PlainText::new(String::from_str(alloc, name)?))),
+            StepText::Index(index) => Ok(Step::Index(*index)),
+        }
+    }
+}
 
 /// What follows the ASCII character that the text begins with, if it does.
 pub fn after_byte(text: &str, mark: char) -> Option<&str>
@@ -17,7 +36,7 @@ pub fn after_byte(text: &str, mark: char) -> Option<&str>
     text.strip_prefix(mark)
 }
 
-/// What stands before the first such ASCII character, and after it.
+/// What is before the first such ASCII character, and what follows it.
 fn cut_at(text: &str, mark: char) -> Option<(&str, &str)>
     requires { mark < 128 }
     ensures { parts_view result ≡ cut_at mark text.now }
@@ -44,88 +63,50 @@ fn name_length(text: &[u8]) -> usize
     text.len()
 }
 
-fn is_digits(text: &[u8]) -> bool
-    ensures { result ≡ all_ascii_digits text.now }
-{
-    let mut rest = text;
-    while let [byte, after @ ..] = rest {
-        if !byte.is_ascii_digit() {
-            return false;
-        }
-        rest = after;
-    }
-    true
-}
-
-// One to nine digits, with no `0` before another.
-fn is_index(text: &[u8]) -> bool
-    ensures { result ≡ is_index text.now }
-{
-    0 < text.len() && text.len() <= 9 && is_digits(text) && (text.len() == 1 || text[0] != b'0')
-}
-
 /// What follows a `.`: a name.
-fn dotted<'a>(alloc: Global, text: &'a str) -> Result<Option<(Step, &'a str)>, AllocError>
-    ensures { IfOk result (λ found. found_view found ≡ dotted text.now) }
+fn dotted(text: &str) -> Option<(StepText<'_>, &str)>
+    ensures { found_view result ≡ dotted text.now }
 {
     let (name, rest) = text.split_at(name_length(text.as_bytes()));
     if name.is_empty() {
-        return Ok(None);
+        return None;
     }
-    Ok(Some((named(alloc, name)?, rest)))
+    Some((StepText::Name(name), rest))
 }
 
 /// What follows a `['`: a text up to the next `'`, and a `]`.
-fn quoted<'a>(alloc: Global, text: &'a str) -> Result<Option<(Step, &'a str)>, AllocError>
-    ensures { IfOk result (λ found. found_view found ≡ quoted text.now) }
+fn quoted(text: &str) -> Option<(StepText<'_>, &str)>
+    ensures { found_view result ≡ quoted text.now }
 {
-    let Some((name, rest)) = cut_at(text, '\'') else {
-        return Ok(None);
-    };
-    let Some(rest) = after_byte(rest, ']') else {
-        return Ok(None);
-    };
-    Ok(Some((named(alloc, name)?, rest)))
+    let (name, rest) = cut_at(text, '\'')?;
+    let rest = after_byte(rest, ']')?;
+    Some((StepText::Name(name), rest))
 }
 
 /// What follows a `[`: a number and a `]`.
-fn indexed(text: &str) -> Option<(Step, &str)>
+fn indexed(text: &str) -> Option<(StepText<'_>, &str)>
     ensures { found_view result ≡ indexed text.now }
 {
     let (digits, rest) = cut_at(text, ']')?;
-    if !is_index(digits.as_bytes()) {
-        return None;
-    }
-    match digits.parse::<u32>() {
-        Ok(index) => Some((Step::Index(index), rest)),
-        Err(_) => unreachable!(),
-    }
+    let index = index_of(digits)?;
+    Some((StepText::Index(index), rest))
 }
 
-fn bracketed<'a>(alloc: Global, text: &'a str) -> Result<Option<(Step, &'a str)>, AllocError>
-    ensures { IfOk result (λ found. found_view found ≡ bracketed text.now) }
+fn bracketed(text: &str) -> Option<(StepText<'_>, &str)>
+    ensures { found_view result ≡ bracketed text.now }
 {
     match after_byte(text, '\'') {
-        Some(rest) => quoted(alloc, rest),
-        None => Ok(indexed(text)),
+        Some(rest) => quoted(rest),
+        None => indexed(text),
     }
 }
 
 /// The step that a text begins with, and what follows it, if it begins with one.
-pub fn next_step<'a>(alloc: Global, text: &'a str) -> Result<Option<(Step, &'a str)>, AllocError>
-    ensures { IfOk result (λ found. found_view found ≡ next_step text.now) }
+pub fn next_step(text: &str) -> Option<(StepText<'_>, &str)>
+    ensures { found_view result ≡ next_step text.now }
 {
-    if let Some(rest) = after_byte(text, '.') {
-        return dotted(alloc, rest);
+    match after_byte(text, '.') {
+        Some(rest) => dotted(rest),
+        None => bracketed(after_byte(text, '[')?),
     }
-    match after_byte(text, '[') {
-        Some(rest) => bracketed(alloc, rest),
-        None => Ok(None),
-    }
-}
-
-fn named(alloc: Global, name: &str) -> Result<Step, AllocError>
-    ensures { IfOk result (λ step. step ≡ Name name.now) }
-{
-    Ok(Step::Name(PlainText::new(String::from_str(alloc, name)?)))
 }

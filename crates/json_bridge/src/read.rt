@@ -3,7 +3,7 @@ ghost use Rattle.std.specs.Prelude.{◌≡◌, IfOk, IfSome, option_map};
 ghost use Rattle.data_tree.specs.Tree as tree;
 ghost use Rattle.data_tree.specs.WellFormed.{IsWellFormed};
 ghost use Rattle.serde_json.specs.View.{view, number_view, items_view, members_view};
-ghost use Rattle.json_bridge.specs.Reading.{whole_number, tree_of, items_of, members_of, tree_of_text};
+ghost use Rattle.json_bridge.specs.Reading.{whole_number, tree_of_value, items_of, members_of, tree_of_text};
 
 use data_tree::data::Data;
 use serde_json::{Map, Number, Value};
@@ -37,7 +37,7 @@ fn whole_number(number: &Number) -> Option<i128>
 
 #[cycle(data_of)]
 fn data_of(alloc: Global, value: &Value) -> Result<Option<Data>, AllocError>
-    ensures { IfOk result (λ found. option_map tree.view found ≡ tree_of (view value.now)) }
+    ensures { IfOk result (λ found. option_map tree.view found ≡ tree_of_value (view value.now)) }
 {
     match value {
         Value::Null => Ok(Some(Data::Nothing)),

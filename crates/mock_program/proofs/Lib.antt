@@ -1,5 +1,6 @@
-pub mod Asked
-pub mod Judged
-pub mod Mistakes
-pub mod Refusals
-pub mod Written
+pub mod OneStream
+pub mod ParserAnswers
+pub mod ParserErrors
+pub mod PartsWritten
+pub mod RenderArguments
+pub mod RequestRefusals

@@ -1,6 +1,5 @@
 pub mod CommandLine
+pub mod Inner
 pub mod Lines
 pub mod Output
-pub mod Parser
 pub mod Rendering
-pub mod Views

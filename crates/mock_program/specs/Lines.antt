@@ -1,8 +1,8 @@
 -- The lines that a command writes.
 use Rattle.std.specs.Prelude.{ℕ, List, [], ◌∷◌, ◌++◌, codes, decimal, flat_map, Option, None, Some}
-use Rattle.data_tree.specs.ErrorCode.{number_of, title_of}
-use Rattle.data_tree.specs.declared.error_code.ErrorCode.{ErrorCode}
-use Rattle.mock_program.specs.declared.fault.Fault.{Fault}
+use Rattle.error_code.specs.Codes.{number_of, title_of}
+use Rattle.error_code.specs.declared.error_code.ErrorCode.{ErrorCode}
+use Rattle.mock_program.specs.declared.error.CommandError.{CommandError}
 
 -- a comma and a number
 abbrev pub next_number : ℕ → List ℕ
@@ -13,22 +13,24 @@ abbrev pub numbers_text : List ℕ → List ℕ
 numbers_text [] = codes "[]"
 numbers_text (n ∷ ns) = codes "[" ++ (decimal n ++ (flat_map next_number ns ++ codes "]"))
 
--- what was taken, and the coefficients of what is allowed
+-- how many were taken, and the coefficients of how many are allowed, as `steps 5 of [5]`
 abbrev pub measure_line : List ℕ → ℕ → List ℕ → List ℕ
-measure_line name taken budget = name ++ (codes " " ++ (decimal taken ++ (codes " of " ++ (numbers_text budget ++ codes "\n"))))
+measure_line name taken budget =
+    name ++ (codes " " ++ (decimal taken ++ (codes " of " ++ (numbers_text budget ++ codes "\n"))))
 
--- where in the template a fault stands, for a fault of the template
-abbrev pub place_text : Option ℕ → List ℕ
-place_text None = []
-place_text (Some at) = codes " at " ++ decimal at
+-- the byte offset of the error, for an error in a template
+abbrev pub offset_text : Option ℕ → List ℕ
+offset_text None = []
+offset_text (Some at) = codes " at " ++ decimal at
 
-abbrev pub fault_line : Fault → List ℕ
-fault_line f = codes "error " ++ (decimal (number_of f.code) ++ (place_text f.at ++ (codes ": " ++ (title_of f.code ++ codes "\n"))))
+-- as `error 20 at 6: unclosed tag`
+abbrev pub error_line : CommandError → List ℕ
+error_line e =
+    codes "error " ++ (decimal (number_of e.code)
+    ++ (offset_text e.at ++ (codes ": " ++ (title_of e.code ++ codes "\n"))))
 
--- the fault where memory was refused
-abbrev pub out_of_memory : Fault
+abbrev pub out_of_memory : CommandError
 out_of_memory = record { code = ErrorCode.OutOfMemory; at = None }
 
--- what is told of words that aren't UTF-8
-abbrev pub bad_words_line : List ℕ
-bad_words_line = codes "error: the words of the command line aren't UTF-8\n"
+abbrev pub not_utf8_line : List ℕ
+not_utf8_line = codes "error: the arguments aren't UTF-8\n"

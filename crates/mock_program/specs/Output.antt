@@ -1,5 +1,5 @@
--- What a writer holds behind a write that may fail, where what it holds is known.
-use Rattle.std.specs.Prelude.{◌≡◌, ◌≢◌, ◌⊎◌, ℕ, List, [], ◌++◌, Option, Result, MatchResult}
+-- What a writer holds after a write that may fail, where it is known what the writer holds.
+use Rattle.std.specs.Prelude.{◌≡◌, ◌≢◌, ◌≤◌, ◌⊎◌, ℕ, List, [], ◌++◌, Option, Result, MatchResult}
 use Rattle.std.specs.Io.KnownBytes.{Appends}
 
 -- a front part of the bytes was written, and not all of them
@@ -17,3 +17,11 @@ AppendsFront old new bytes = Appends old new bytes ⊎ AppendsPart old new bytes
 -- all of the bytes at `Ok`, and not all of them at `Err`
 abbrev pub Writes : {T E : Type 0} → Result T E → Option (List ℕ) → Option (List ℕ) → List ℕ → Type 0
 Writes r old new bytes = MatchResult r (λ _. Appends old new bytes) (λ _. AppendsPart old new bytes)
+
+-- The exit status of a command, and that it left standard output or standard error as it was: standard error where it
+-- succeeded, standard output where the arguments were invalid.
+pub record WritesOneStream {O E : Type 0} (out out' : O) (err err' : E) (status : ℕ) : Type 0 where
+  pub range : status ≤ 2
+  pub success : status ≡ 0 → err' ≡ err
+  pub invalid : status ≡ 2 → out' ≡ out
+  pub one_of_both : (out' ≡ out) ⊎ (err' ≡ err)

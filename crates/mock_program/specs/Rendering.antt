@@ -1,24 +1,24 @@
--- What `mock render` tells of a template, a method and a target: a report, or why there is none.
+-- What `mock render` prints for a template, a method and a target, and which errors it reports.
 use Rattle.std.specs.Prelude.{◌≡◌, ℕ, ◌<◌, ◌⊎◌, List, [], ◌++◌, length, codes, Option, None}
 use Rattle.std.specs.Io.KnownBytes.{Appends}
 use Rattle.data_tree.specs.Tree.{Tree}
 use Rattle.data_tree.specs.Json.{size}
 use Rattle.data_tree.specs.declared.request_data.TheConstants.{SIZE_LIMIT}
-use Rattle.data_tree.specs.declared.error_code.ErrorCode.{ErrorCode}
+use Rattle.error_code.specs.declared.error_code.ErrorCode.{ErrorCode}
 use Rattle.mock_request.specs.Target.{IsTarget, HasUrl}
 use Rattle.mock_request.specs.RequestTree.{request_tree}
-use Rattle.template_code.specs.Bounds.{told}
+use Rattle.template_code.specs.Bounds.{as_printed}
 use Rattle.template_code.specs.Budget.{budget}
 use Rattle.template_code.specs.Machine.{Runs}
 use Rattle.template_machine.specs.Safe.{IsSafe}
 use Rattle.template_machine.specs.Program.{ProgramParts, IsProgram, IsProgramText, IsMeant}
-use Rattle.template_machine.specs.Errors.{IsTold, code_of, place_of}
+use Rattle.template_machine.specs.Errors.{IsErrorOf, error_code_of, offset_of}
 use Rattle.template_machine.specs.declared.error.ProgramError.{ProgramError}
-use Rattle.mock_program.specs.Lines.{measure_line, fault_line, out_of_memory}
+use Rattle.mock_program.specs.Lines.{measure_line, error_line, out_of_memory}
 use Rattle.mock_program.specs.Output.{AppendsPart, AppendsFront}
-use Rattle.mock_program.specs.declared.fault.Fault.{Fault}
+use Rattle.mock_program.specs.declared.error.CommandError.{CommandError}
 
--- the coefficients of what is allowed, what the run took, and what it wrote
+-- the coefficients of both budgets, the steps that the run took, and the text that it wrote
 pub record Report : Type 0 where
   pub step_budget : List ℕ
   pub byte_budget : List ℕ
@@ -36,53 +36,76 @@ report_text r =
 abbrev pub plain_data : List ℕ → List ℕ → Tree
 plain_data method url = request_tree (record { method = method; url = url; headers = []; body = [] })
 
+-- the data of a request for the URL that the target asks for
+abbrev pub IsDataOf : List ℕ → List ℕ → Tree → Type 0
+IsDataOf method target root = (url : List ℕ) × IsTarget target url × (root ≡ plain_data method url)
+
 -- what a run of a program over a root gave: the text is what its source means, the steps are those of the run, and the
 -- budgets are the program's own
 pub record IsRun (program : ProgramParts) (root : Tree) (r : Report) : Type 0 where
-  pub meant : IsMeant program.source root r.steps r.text
+  pub meant : IsMeant program.source root r.text
   pub ran : Runs program.code root r.steps r.text
-  pub step_budget : r.step_budget ≡ told (budget program.code).steps
-  pub byte_budget : r.byte_budget ≡ told (budget program.code).bytes
+  pub step_budget : r.step_budget ≡ as_printed (budget program.code).steps
+  pub byte_budget : r.byte_budget ≡ as_printed (budget program.code).bytes
 
--- the report of a run for that request, of the program of that template, whose code is safe
+-- the report of a run of the template's program, whose code is safe, for that request
 pub record IsReport (template method target : List ℕ) (r : Report) : Type 0 where
-  pub url : List ℕ
-  pub asked : IsTarget target url
+  pub root : Tree
+  pub asked : IsDataOf method target root
   pub program : ProgramParts
   pub source : program.source ≡ template
   pub whole : IsProgram program
   pub safe : IsSafe program.code
-  pub run : IsRun program (plain_data method url) r
+  pub run : IsRun program root r
+
+-- such a report as it is printed
+abbrev pub IsReportText : List ℕ → List ℕ → List ℕ → List ℕ → Type 0
+IsReportText template method target text =
+    (report : Report) × IsReport template method target report × (text ≡ report_text report)
 
 -- the template is no program, and this says why
-abbrev pub IsTemplateFault : List ℕ → Fault → Type 0
-IsTemplateFault template f = (e : ProgramError) × IsTold template e × (f ≡ record { code = code_of e; at = place_of e })
+abbrev pub RefusesTemplate : List ℕ → CommandError → Type 0
+RefusesTemplate template error =
+    (e : ProgramError) × IsErrorOf template e × (error ≡ record { code = error_code_of e; at = offset_of e })
 
--- the template is a program, and the target asks for no URL
-abbrev pub IsUrlFault : List ℕ → List ℕ → Fault → Type 0
-IsUrlFault template target f = IsProgramText template × (¬ (HasUrl target)) × (f ≡ record { code = ErrorCode.BadUrl; at = None })
+-- the target asks for no URL
+abbrev pub RefusesUrl : List ℕ → CommandError → Type 0
+RefusesUrl target error = (¬ (HasUrl target)) × (error ≡ record { code = ErrorCode.BadUrl; at = None })
 
--- the template is a program, and the data of the request is over its limit
-abbrev pub IsDataFault : List ℕ → List ℕ → List ℕ → Fault → Type 0
-IsDataFault template method target f =
-    IsProgramText template × ((url : List ℕ) × IsTarget target url × (SIZE_LIMIT < size (plain_data method url))) × (f ≡ record { code = ErrorCode.TooLarge; at = None })
+-- the data of the request is over its limit
+abbrev pub RefusesData : List ℕ → List ℕ → CommandError → Type 0
+RefusesData method target error =
+    ((root : Tree) × IsDataOf method target root × (SIZE_LIMIT < size root))
+    × (error ≡ record { code = ErrorCode.TooLarge; at = None })
 
--- the first fault, in this order; memory may run out at any moment
-abbrev pub IsRefusal : List ℕ → List ℕ → List ℕ → Fault → Type 0
-IsRefusal template method target f =
-    IsTemplateFault template f ⊎ IsUrlFault template target f ⊎ IsDataFault template method target f ⊎ (f ≡ out_of_memory)
+-- the first error, where the template is judged before the request; memory may run out at any moment
+abbrev pub IsRefusal : List ℕ → List ℕ → List ℕ → CommandError → Type 0
+IsRefusal template method target error =
+    RefusesTemplate template error
+    ⊎ (IsProgramText template × (RefusesUrl target error ⊎ RefusesData method target error))
+    ⊎ (error ≡ out_of_memory)
 
--- the report of a rendering was written to the end
+-- the whole report was written
 abbrev pub ShowsReport : List ℕ → List ℕ → List ℕ → Option (List ℕ) → Option (List ℕ) → Type 0
 ShowsReport template method target old new =
-    (report : Report) × IsReport template method target report × Appends old new (report_text report)
+    (text : List ℕ) × IsReportText template method target text × Appends old new text
 
--- the report of a rendering was begun, and the writer refused the rest
+-- the report was begun, and the writer refused the rest
 abbrev pub BreaksOff : List ℕ → List ℕ → List ℕ → Option (List ℕ) → Option (List ℕ) → Type 0
 BreaksOff template method target old new =
-    (report : Report) × IsReport template method target report × AppendsPart old new (report_text report)
+    (text : List ℕ) × IsReportText template method target text × AppendsPart old new text
 
--- a fault was told, as far as the writer took its line
-abbrev pub TellsFault : List ℕ → List ℕ → List ℕ → Option (List ℕ) → Option (List ℕ) → Type 0
-TellsFault template method target old new =
-    (fault : Fault) × IsRefusal template method target fault × AppendsFront old new (fault_line fault)
+-- an error was reported, as far as the writer took its line
+abbrev pub ReportsError : List ℕ → List ℕ → List ℕ → Option (List ℕ) → Option (List ℕ) → Type 0
+ReportsError template method target old new =
+    (error : CommandError) × IsRefusal template method target error × AppendsFront old new (error_line error)
+
+-- How a rendering ends, by what standard output and standard error hold before and after it, and the exit status: the
+-- report is on standard output (0), an error is on standard error (1), or standard output took a part of the report
+-- (1). Each time the other of both is as it was.
+abbrev pub Renders : {O E : Type 0} → (O → Option (List ℕ)) → (E → Option (List ℕ)) → List ℕ → List ℕ → List ℕ
+    → O → O → E → E → ℕ → Type 0
+Renders out_holds err_holds template method target out out' err err' status =
+    ((status ≡ 0) × ShowsReport template method target (out_holds out) (out_holds out') × (err' ≡ err))
+    ⊎ ((status ≡ 1) × ReportsError template method target (err_holds err) (err_holds err') × (out' ≡ out))
+    ⊎ ((status ≡ 1) × BreaksOff template method target (out_holds out) (out_holds out') × (err' ≡ err))

@@ -1,14 +1,14 @@
-// The commands of `mock`, for the program and for tests: what a command writes, and the status that it ends
-// with. It stands on `template_machine` and `mock_request`. Its contracts cite `specs/CommandLine.antt` (which
-// words ask for what), `Rendering` (what `mock render` tells), `Lines` (its lines) and `Output` (what stands
-// behind a write that may fail).
+//! The commands of `mock`, for the program and for tests: what a command writes, and its exit status. It uses
+//! `template_machine` and `mock_request`. Its contracts cite `specs/CommandLine.antt` (which arguments ask for what),
+//! `Rendering` (what `mock render` prints), `Lines` (the lines of it) and `Output` (what a writer holds after a write
+//! that may fail).
 #![tactic(auto)]
 
+pub mod arguments;
 pub mod command_line;
-mod fault;
+pub mod error;
 mod lines;
-pub mod no_words;
 mod output;
+mod parser;
 pub mod render;
-#[cfg(test)]
-mod tests;
+mod status;

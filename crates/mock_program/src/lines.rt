@@ -1,4 +1,4 @@
-// The lines in front of a rendered text.
+//! The lines in front of a rendered text.
 ghost use Rattle.std.specs.Prelude.{◌≡◌, ◌++◌, IfOk, OnOk, string_bytes};
 ghost use Rattle.mock_program.specs.Lines.{next_number, numbers_text, measure_line};
 

@@ -1,19 +1,19 @@
-// Writing to a writer of which nothing is known: what it holds behind a failed write is told as well.
+//! Writing to a writer of which nothing is known, with what it holds after an error.
 ghost use Rattle.std.specs.Prelude.{flat_map};
 ghost use Rattle.mock_program.specs.Output.{Writes};
 
 use std::io;
 use std::io::{ErrorKind, Write};
 
-/// How often an interrupted write is made again.
-const INTERRUPTIONS: u32 = 100_000_000;
+/// How many interruptions of a write are followed by a retry.
+const RETRIES: u32 = 100_000_000;
 
-/// Writes the bytes. Behind an error a front part of them stands, and never all of them.
+/// Writes the bytes. After an error the writer has a front part of them, and never all of them.
 pub(crate) fn put<W: Write>(out: &mut W, bytes: &[u8]) -> io::Result<()>
     ensures { Writes result (W.contents out.old) (W.contents out.new) bytes.now }
 {
     let mut rest = bytes;
-    let mut retries = INTERRUPTIONS;
+    let mut retries = RETRIES;
     while !rest.is_empty() {
         match out.write(rest) {
             Ok(0) => return Err(io::Error::from(ErrorKind::WriteZero)),
@@ -29,15 +29,12 @@ pub(crate) fn put<W: Write>(out: &mut W, bytes: &[u8]) -> io::Result<()>
     Ok(())
 }
 
-/// Writes the texts, one behind the other. Takes no memory.
+/// Writes the texts, one after the other. Takes no memory.
 pub(crate) fn put_all<W: Write>(out: &mut W, texts: &[&str]) -> io::Result<()>
     ensures { Writes result (W.contents out.old) (W.contents out.new) (flat_map (λ text. text.now) texts.now) }
 {
     for text in texts {
-        match put(out, text.as_bytes()) {
-            Ok(()) => {}
-            Err(error) => return Err(error),
-        }
+        put(out, text.as_bytes())?;
     }
     Ok(())
 }

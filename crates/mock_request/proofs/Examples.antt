@@ -14,11 +14,16 @@ use Rattle.mock_request.specs.Authority.{authority_of, host_of, port_of}
 
 -- ---- names and values by name
 
-two_values : values_of (codes "q") ((codes "q", codes "a") ∷ (codes "p", codes "x") ∷ (codes "q", codes "b") ∷ []) ≡ codes "a" ∷ codes "b" ∷ []
+two_values
+    : values_of (codes "q") ((codes "q", codes "a") ∷ (codes "p", codes "x") ∷ (codes "q", codes "b") ∷ [])
+    ≡ codes "a" ∷ codes "b" ∷ []
 two_values = refl
 
 -- byte order, and not the order of lengths or of the alphabet
-names_in_byte_order : names_in ((codes "b", []) ∷ (codes "a", []) ∷ (codes "b", []) ∷ (codes "aa", []) ∷ (codes "B", []) ∷ ([], []) ∷ []) ≡ [] ∷ codes "B" ∷ codes "a" ∷ codes "aa" ∷ codes "b" ∷ []
+names_in_byte_order
+    : names_in
+    ((codes "b", []) ∷ (codes "a", []) ∷ (codes "b", []) ∷ (codes "aa", []) ∷ (codes "B", []) ∷ ([], []) ∷ [])
+    ≡ [] ∷ codes "B" ∷ codes "a" ∷ codes "aa" ∷ codes "b" ∷ []
 names_in_byte_order = refl
 
 a_name_twice : grouped ((codes "q", codes "a") ∷ (codes "p", []) ∷ (codes "q", codes "b") ∷ [])
@@ -38,7 +43,9 @@ unfolding form_urlencoded_on_literals utf8_lossy utf8_valid_len is_utf8 chars en
 query_decoded = refl
 
 -- empty pieces are no pairs; a name may lack a value, and a value a name
-query_odd : query_pairs (codes "/??&&=v&a+b&c=d=e") ≡ (codes "?", []) ∷ ([], codes "v") ∷ (codes "a b", []) ∷ (codes "c", codes "d=e") ∷ []
+query_odd
+    : query_pairs (codes "/??&&=v&a+b&c=d=e")
+    ≡ (codes "?", []) ∷ ([], codes "v") ∷ (codes "a b", []) ∷ (codes "c", codes "d=e") ∷ []
 unfolding form_urlencoded_on_literals utf8_lossy utf8_valid_len is_utf8 chars encode
 query_odd = refl
 
@@ -65,7 +72,8 @@ host_and_cookies =
     record { name = codes "cookie"; value = codes "a=1" } ∷ record { name = codes "host"; value = codes "h:81" }
     ∷ record { name = codes "cookie"; value = codes "b=2;a=3" } ∷ record { name = codes "host"; value = codes "i" } ∷ []
 
-cookies_of_all_headers : cookie_pairs host_and_cookies ≡ (codes "a", codes "1") ∷ (codes "b", codes "2") ∷ (codes "a", codes "3") ∷ []
+cookies_of_all_headers
+    : cookie_pairs host_and_cookies ≡ (codes "a", codes "1") ∷ (codes "b", codes "2") ∷ (codes "a", codes "3") ∷ []
 unfolding utf8_lossy utf8_valid_len is_utf8 chars encode
 cookies_of_all_headers = refl
 

@@ -1,5 +1,6 @@
 -- What one more header adds.
-use Rattle.std.proofs.Common.{◌≡◌, ℕ, ◌+◌, ◌<◌, length, take, drop, get_or, Bool, true, false, if◌then◌else◌, List, [], ◌∷◌, ◌++◌, map, append-nil, sym, refl, ap, ◌∙◌, codes}
+use Rattle.std.proofs.Common.{◌≡◌, ℕ, ◌+◌, ◌<◌, length, take, drop, get_or, Bool, true, false, if◌then◌else◌, List}
+use Rattle.std.proofs.Common.{[], ◌∷◌, ◌++◌, map, append-nil, sym, refl, ap, ◌∙◌, codes}
 use Rattle.std.specs.List.{filter, flat_map}
 use Rattle.std.specs.Str.{bytes_eq}
 use Rattle.std.specs.Str.Lossy.{utf8_lossy}
@@ -14,25 +15,41 @@ use Rattle.mock_request.specs.HeaderFields.{header_pairs, texts_of}
 use Rattle.mock_request.specs.Cookies.{cookies_in, cookie_pairs}
 use Rattle.mock_request.specs.Authority.{authority_of}
 
-pub texts_of-append : (name : List ℕ) (before after : List Header) → texts_of name (before ++ after) ≡ texts_of name before ++ texts_of name after
+pub texts_of-append
+    : (name : List ℕ) (before after : List Header)
+    → texts_of name (before ++ after) ≡ texts_of name before ++ texts_of name after
 texts_of-append name before after =
     ap (values_of name) (map-append (λ header. (header.name, utf8_lossy header.value)) before after)
-    ∙ ap (map (λ pair. pair.1)) (filter-append (λ pair. bytes_eq name pair.0) (header_pairs before) (header_pairs after))
-    ∙ map-append (λ pair. pair.1) (filter (λ pair. bytes_eq name pair.0) (header_pairs before)) (filter (λ pair. bytes_eq name pair.0) (header_pairs after))
+    ∙ ap (map (λ pair. pair.1))
+    (filter-append (λ pair. bytes_eq name pair.0) (header_pairs before) (header_pairs after))
+    ∙ map-append (λ pair. pair.1)
+    (filter (λ pair. bytes_eq name pair.0) (header_pairs before))
+    (filter (λ pair. bytes_eq name pair.0) (header_pairs after))
 
-texts_of_one : (name : List ℕ) (header : Header) (headers : List Header) → bytes_eq name header.name ≡ true → texts_of name (header ∷ headers) ≡ utf8_lossy header.value ∷ texts_of name headers
+texts_of_one
+    : (name : List ℕ) (header : Header) (headers : List Header) → bytes_eq name header.name ≡ true
+    → texts_of name (header ∷ headers) ≡ utf8_lossy header.value ∷ texts_of name headers
 texts_of_one name header headers named = rw named refl
 
-texts_of_other : (name : List ℕ) (header : Header) (headers : List Header) → bytes_eq name header.name ≡ false → texts_of name (header ∷ headers) ≡ texts_of name headers
+texts_of_other
+    : (name : List ℕ) (header : Header) (headers : List Header) → bytes_eq name header.name ≡ false
+    → texts_of name (header ∷ headers) ≡ texts_of name headers
 texts_of_other name header headers other = rw other refl
 
 -- ---- the headers that a loop went over
 
-pub more_headers : (headers : List (List ℕ × FieldValue)) (i : ℕ) (field : List ℕ × FieldValue) → i < length headers → field ≡ get_or headers i field → headers_of (take (i + 1) headers) ≡ headers_of (take i headers) ++ header_of field ∷ []
+pub more_headers
+    : (headers : List (List ℕ × FieldValue)) (i : ℕ) (field : List ℕ × FieldValue) → i < length headers
+    → field ≡ get_or headers i field
+    → headers_of (take (i + 1) headers) ≡ headers_of (take i headers) ++ header_of field ∷ []
 more_headers headers i field within is =
-    ap headers_of (take_more headers i field within ∙ ap (λ h. take i headers ++ h ∷ []) (sym is)) ∙ map-append header_of (take i headers) (field ∷ [])
+    ap headers_of (take_more headers i field within ∙ ap (λ h. take i headers ++ h ∷ []) (sym is))
+    ∙ map-append header_of (take i headers) (field ∷ [])
 
-pub split_headers : (headers : List (List ℕ × FieldValue)) (i : ℕ) (field : List ℕ × FieldValue) → i < length headers → field ≡ get_or headers i field → headers_of (take i headers) ++ header_of field ∷ headers_of (drop (i + 1) headers) ≡ headers_of headers
+pub split_headers
+    : (headers : List (List ℕ × FieldValue)) (i : ℕ) (field : List ℕ × FieldValue) → i < length headers
+    → field ≡ get_or headers i field
+    → headers_of (take i headers) ++ header_of field ∷ headers_of (drop (i + 1) headers) ≡ headers_of headers
 split_headers headers i field within is =
     sym (map-append header_of (take i headers) (field ∷ drop (i + 1) headers))
     ∙ ap (λ h. headers_of (take i headers ++ h ∷ drop (i + 1) headers)) is
@@ -40,30 +57,46 @@ split_headers headers i field within is =
     ∙ ap headers_of (take-append-drop i headers)
 
 -- the code asks whether the name is the literal, the definition whether the literal is the name
-pub other_way_round : (literal name read : List ℕ) (b : Bool) → read ≡ name → b ≡ bytes_eq read literal → bytes_eq literal name ≡ b
-other_way_round literal name read b same asked = nat_list_eq_equiv.symm literal name ∙ ap (λ n. bytes_eq n literal) (sym same) ∙ sym asked
+pub other_way_round
+    : (literal name read : List ℕ) (b : Bool) → read ≡ name → b ≡ bytes_eq read literal → bytes_eq literal name ≡ b
+other_way_round literal name read b same asked =
+    nat_list_eq_equiv.symm literal name ∙ ap (λ n. bytes_eq n literal) (sym same) ∙ sym asked
 
 -- ---- the first `host` header
 
-pub none_more : (name : List ℕ) (before : List Header) (header : Header) → texts_of name before ≡ [] → bytes_eq name header.name ≡ false → texts_of name (before ++ header ∷ []) ≡ []
+pub none_more
+    : (name : List ℕ) (before : List Header) (header : Header) → texts_of name before ≡ []
+    → bytes_eq name header.name ≡ false → texts_of name (before ++ header ∷ []) ≡ []
 none_more name before header none other =
-    texts_of-append name before (header ∷ []) ∙ ap (λ ts. ts ++ texts_of name (header ∷ [])) none ∙ texts_of_other name header [] other
+    texts_of-append name before (header ∷ []) ∙ ap (λ ts. ts ++ texts_of name (header ∷ [])) none
+    ∙ texts_of_other name header [] other
 
-pub first_found : (before after : List Header) (header : Header) → texts_of (codes "host") before ≡ [] → bytes_eq (codes "host") header.name ≡ true → authority_of (before ++ header ∷ after) ≡ utf8_lossy header.value
+pub first_found
+    : (before after : List Header) (header : Header) → texts_of (codes "host") before ≡ []
+    → bytes_eq (codes "host") header.name ≡ true → authority_of (before ++ header ∷ after) ≡ utf8_lossy header.value
 first_found before after header none named =
-    ap first_of (texts_of-append (codes "host") before (header ∷ after) ∙ ap (λ ts. ts ++ texts_of (codes "host") (header ∷ after)) none ∙ texts_of_one (codes "host") header after named)
+    ap first_of (
+    texts_of-append (codes "host") before (header ∷ after)
+    ∙ ap (λ ts. ts ++ texts_of (codes "host") (header ∷ after)) none
+    ∙ texts_of_one (codes "host") header after named
+    )
 
 -- ---- cookies
 
-pub cookies_more : (before : List Header) (header : Header) → bytes_eq (codes "cookie") header.name ≡ true → cookie_pairs (before ++ header ∷ []) ≡ cookie_pairs before ++ cookies_in (utf8_lossy header.value)
+pub cookies_more
+    : (before : List Header) (header : Header) → bytes_eq (codes "cookie") header.name ≡ true
+    → cookie_pairs (before ++ header ∷ []) ≡ cookie_pairs before ++ cookies_in (utf8_lossy header.value)
 cookies_more before header named =
     ap (flat_map cookies_in) (texts_of-append (codes "cookie") before (header ∷ []))
     ∙ flat_map-append cookies_in (texts_of (codes "cookie") before) (texts_of (codes "cookie") (header ∷ []))
     ∙ ap (λ ts. cookie_pairs before ++ flat_map cookies_in ts) (texts_of_one (codes "cookie") header [] named)
     ∙ ap (λ ps. cookie_pairs before ++ ps) (append-nil (cookies_in (utf8_lossy header.value)))
 
-pub no_cookies_more : (before : List Header) (header : Header) → bytes_eq (codes "cookie") header.name ≡ false → cookie_pairs (before ++ header ∷ []) ≡ cookie_pairs before
+pub no_cookies_more
+    : (before : List Header) (header : Header) → bytes_eq (codes "cookie") header.name ≡ false
+    → cookie_pairs (before ++ header ∷ []) ≡ cookie_pairs before
 no_cookies_more before header other =
     ap (flat_map cookies_in) (texts_of-append (codes "cookie") before (header ∷ []))
-    ∙ ap (λ ts. flat_map cookies_in (texts_of (codes "cookie") before ++ ts)) (texts_of_other (codes "cookie") header [] other)
+    ∙ ap (λ ts. flat_map cookies_in (texts_of (codes "cookie") before ++ ts))
+    (texts_of_other (codes "cookie") header [] other)
     ∙ ap (flat_map cookies_in) (append-nil (texts_of (codes "cookie") before))

@@ -1,24 +1,37 @@
--- The cookies that the `cookie` headers of a request bring (RFC 6265, section 4.2.1, read leniently).
-use Rattle.std.specs.Prelude.{ℕ, Bool, ◌&&◌, List, [], ◌∷◌, reverse, Option, None, Some, ◌==◌, if◌then◌else◌, codes}
+-- The cookies that the `cookie` headers of a request bring (RFC 6265, section 4.2.1, read leniently: any piece with
+-- a name and an equals sign is a cookie).
+use Rattle.std.specs.Prelude.{ℕ, Bool, ◌&&◌, List, [], ◌∷◌, reverse, Option, None, Some, ◌==◌, if◌then◌else◌}
+use Rattle.std.specs.Prelude.{codes}
 use Rattle.std.specs.List.{before_first, after_first, slice_split, list_any, filter_map, flat_map}
 use Rattle.data_tree.specs.Print.{is_not_empty}
 use Rattle.mock_request.specs.Request.{Header}
 use Rattle.mock_request.specs.HeaderFields.{texts_of}
 
+-- b' '
+abbrev pub space : ℕ
+space = 32
+
+-- b';'
+abbrev pub semicolon : ℕ
+semicolon = 59
+
+-- b'='
+abbrev pub equals_sign : ℕ
+equals_sign = 61
+
 abbrev pub is_semicolon : ℕ → Bool
-is_semicolon b = b == 59
+is_semicolon b = b == semicolon
 
 abbrev pub is_equals_sign : ℕ → Bool
-is_equals_sign b = b == 61
+is_equals_sign b = b == equals_sign
 
--- without the spaces (U+0020 alone) before it
 abbrev pub without_leading_spaces : List ℕ → List ℕ
 without_leading_spaces [] = []
-without_leading_spaces (b ∷ bs) = if b == 32 then without_leading_spaces bs else b ∷ bs
+without_leading_spaces (b ∷ bs) = if b == space then without_leading_spaces bs else b ∷ bs
 
--- without the spaces round it
-abbrev pub trimmed : List ℕ → List ℕ
-trimmed piece = reverse (without_leading_spaces (reverse (without_leading_spaces piece)))
+-- without the spaces at both ends; other white space stays
+abbrev pub without_spaces_around : List ℕ → List ℕ
+without_spaces_around piece = reverse (without_leading_spaces (reverse (without_leading_spaces piece)))
 
 -- a name and a value on the two sides of the first `=`; without one, or with no name, it is no cookie
 abbrev pub cookie_in : List ℕ → Option (List ℕ × List ℕ)
@@ -28,7 +41,7 @@ cookie_in piece =
 
 -- the cookies between the semicolons of a header's text
 abbrev pub cookies_in : List ℕ → List (List ℕ × List ℕ)
-cookies_in text = filter_map (λ piece. cookie_in (trimmed piece)) (slice_split is_semicolon text)
+cookies_in text = filter_map (λ piece. cookie_in (without_spaces_around piece)) (slice_split is_semicolon text)
 
 -- those of all `cookie` headers, in order
 abbrev pub cookie_pairs : List Header → List (List ℕ × List ℕ)

@@ -1,6 +1,5 @@
--- Names and values, as they came, put together by name: what a template sees of a query, of headers and of cookies.
-use Rattle.std.specs.Prelude.{ℕ, List, [], ◌∷◌, map, String, string_bytes}
-use Rattle.std.specs.declared.alloc.Global.{Global}
+-- Names and values, grouped by name: what a template sees of a query, of headers and of cookies.
+use Rattle.std.specs.Prelude.{ℕ, List, [], ◌∷◌, map}
 use Rattle.std.specs.List.{filter}
 use Rattle.std.specs.Str.{bytes_eq}
 use Rattle.std.specs.Ordering.{nat_cmp, match_ordering}
@@ -11,14 +10,7 @@ abbrev pub texts : List (List ℕ) → Items
 texts [] = no_items
 texts (t ∷ ts) = item (text t) (texts ts)
 
--- a name and its value
-abbrev pub pair_of : String Global × String Global → List ℕ × List ℕ
-pair_of pair = (string_bytes pair.0, string_bytes pair.1)
-
-abbrev pub pairs_of : List (String Global × String Global) → List (List ℕ × List ℕ)
-pairs_of pairs = map pair_of pairs
-
--- one more name at its place in byte order, unless it is there
+-- one more name among names in byte order, unless it is there
 abbrev pub with_name : List ℕ → List (List ℕ) → List (List ℕ)
 with_name name [] = name ∷ []
 with_name name (n ∷ ns) =
@@ -29,11 +21,11 @@ abbrev pub names_in : List (List ℕ × List ℕ) → List (List ℕ)
 names_in [] = []
 names_in (pair ∷ pairs) = with_name pair.0 (names_in pairs)
 
--- all values of a name, in the order in which they came
+-- all values of a name, in the order of the pairs
 abbrev pub values_of : List ℕ → List (List ℕ × List ℕ) → List (List ℕ)
 values_of name pairs = map (λ pair. pair.1) (filter (λ pair. bytes_eq name pair.0) pairs)
 
--- the first of the values; of none the empty text, as for a request with no `host` header (a name of the pairs has one)
+-- the first of the values, and the empty text where there is none, as in a request with no `host` header
 abbrev pub first_of : List (List ℕ) → List ℕ
 first_of [] = []
 first_of (v ∷ vs) = v
@@ -47,6 +39,6 @@ abbrev pub fields_under : List (List ℕ) → List (List ℕ × List ℕ) → Me
 fields_under [] pairs = no_members
 fields_under (name ∷ names) pairs = member name (values_tree (values_of name pairs)) (fields_under names pairs)
 
--- per name, in byte order, its first value and all its values
+-- the names in byte order, each with its first value and all its values
 abbrev pub grouped : List (List ℕ × List ℕ) → Tree
 grouped pairs = fields (fields_under (names_in pairs) pairs)

@@ -8,3 +8,4 @@ pub mod HeaderFields
 pub mod Cookies
 pub mod Authority
 pub mod RequestTree
+pub mod Inner

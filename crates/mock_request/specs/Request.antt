@@ -2,11 +2,13 @@
 use Rattle.std.specs.Prelude.{ℕ, List, map}
 use Rattle.http_header.specs.FieldValue.{FieldValue}
 
--- texts are their bytes, and a name is in lower case
+-- The bytes of a header's name and value. Any name can be a `Header`'s here. Those of a `Snapshot` are in lower
+-- case, since each comes from a `HeaderName` of `http_header`, whose invariant keeps that.
 pub record Header : Type 0 where
   pub name : List ℕ
   pub value : List ℕ
 
+-- all texts are their bytes
 pub record Request : Type 0 where
   pub method : List ℕ
   pub url : List ℕ

@@ -40,7 +40,7 @@ request_tree request =
     (member (codes "request") (fields (request_fields request))
     no_members))
 
--- the tree is over the limit, and comes back; or memory ran out
+-- the tree is over the limit, and is given back; or memory ran out
 abbrev pub IsRefusal : Tree → DataError → Type 0
 IsRefusal tree (TooLarge root) = (view root ≡ tree) × (SIZE_LIMIT < size tree)
 IsRefusal tree OutOfMemory = Unit {0}

@@ -21,7 +21,7 @@ IsAuthorityByte b = (b ≢ slash) × (b ≢ question_mark)
 abbrev pub IsAuthority : List ℕ → Type 0
 IsAuthority bs = (bs ≢ []) × All IsAuthorityByte bs
 
--- the end, a path or a query: what may stand behind an authority
+-- the end, a path or a query: what may follow an authority
 abbrev pub MayFollowAuthority : List ℕ → Type 0
 MayFollowAuthority [] = Unit {0}
 MayFollowAuthority (b ∷ bs) = (b ≡ slash) ⊎ (b ≡ question_mark)
@@ -40,8 +40,8 @@ pub record IsAbsoluteForm (target url : List ℕ) : Type 0 where
   pub authority : List ℕ
   pub rest : List ℕ
   pub spelled : target ≡ codes "http://" ++ (authority ++ rest)
-  pub named : IsAuthority authority
-  pub ended : MayFollowAuthority rest
+  pub authority_named : IsAuthority authority
+  pub authority_ends : MayFollowAuthority rest
   pub rooted : IsRootedForm rest url
 
 -- the target asks for the URL

@@ -9,15 +9,15 @@ is_slash b = b == slash
 abbrev pub is_question_mark : ℕ → Bool
 is_question_mark b = b == question_mark
 
--- what stands before the first question mark
+-- what is before the first question mark
 abbrev pub path_of : List ℕ → List ℕ
 path_of url = before_first is_question_mark url
 
--- what stands behind it, where there is one
+-- what follows it, where there is one
 abbrev pub query_of : List ℕ → Option (List ℕ)
 query_of url = if list_any is_question_mark url then Some (after_first is_question_mark url) else None
 
--- the pieces between slashes behind the leading one; a slash alone has none
+-- the pieces between slashes after the leading one; a slash alone has none
 abbrev pub segments_of : List ℕ → List (List ℕ)
 segments_of [] = []
 segments_of (leading ∷ []) = []

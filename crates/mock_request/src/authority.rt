@@ -1,4 +1,4 @@
-// The host and the port that a request names.
+// The host and the port in a request's `host` header.
 ghost use Rattle.std.specs.Prelude.{◌≡◌, IfOk, if◌then◌else◌, string_bytes, Some, None};
 ghost use Rattle.std.specs.Str.Parse.{digits_value};
 ghost use Rattle.mock_request.specs.Authority.{authority_of, is_port, host_of, port_of};
@@ -7,8 +7,11 @@ ghost use Rattle.mock_request.specs.Request.{headers_of};
 use http_header::{HeaderName, HeaderValue};
 use std::alloc::{AllocError, Global};
 
-// HTTP's own port.
+// The port of a request that names none: HTTP's.
 const DEFAULT_PORT: u16 = 80;
+
+// The most digits of a port.
+const PORT_DIGITS: usize = 5;
 
 /// The text of the first `host` header, empty where there is none.
 pub(crate) fn authority(
@@ -25,7 +28,7 @@ pub(crate) fn authority(
     Ok(String::new(alloc))
 }
 
-/// The host, and the port behind the last colon or else HTTP's own.
+/// The host, and the port after the last colon or else the default one.
 pub(crate) fn host_and_port(authority: &str) -> (&str, u16)
     ensures host { result.0.now ≡ host_of authority.now }
     ensures port { result.1 ≡ port_of authority.now }
@@ -39,12 +42,12 @@ pub(crate) fn host_and_port(authority: &str) -> (&str, u16)
     }
 }
 
-// 1 to 5 digits of at most 65535.
+// The number, where the text is a port.
 fn port(digits: &str) -> Option<u16>
     ensures { result ≡ (if is_port digits.now then Some (digits_value 10 digits.now) else None) }
 {
-    // `parse` alone would take a sign and more zeros.
-    if digits.len() > 5 || digits.starts_with('+') {
+    // `parse` alone would take a sign and more leading zeros.
+    if digits.len() > PORT_DIGITS || digits.starts_with('+') {
         return None;
     }
     digits.parse::<u16>().ok()

@@ -1,8 +1,9 @@
 // The cookies of a request.
 ghost use Rattle.std.specs.Prelude.{◌≡◌, ◌++◌, option_map, IfOk, OnOk};
 ghost use Rattle.data_tree.specs.Tree.{view};
-ghost use Rattle.mock_request.specs.Cookies.{trimmed, cookie_in, cookies_in, cookie_pairs};
-ghost use Rattle.mock_request.specs.Grouped.{grouped, pairs_of};
+ghost use Rattle.mock_request.specs.Cookies.{without_spaces_around, cookie_in, cookies_in, cookie_pairs};
+ghost use Rattle.mock_request.specs.Grouped.{grouped};
+ghost use Rattle.mock_request.specs.Inner.Views.{pairs_of};
 ghost use Rattle.mock_request.specs.Request.{headers_of};
 
 use crate::grouped::grouped;
@@ -10,7 +11,7 @@ use data_tree::data::Data;
 use http_header::{HeaderName, HeaderValue};
 use std::alloc::{AllocError, Global};
 
-/// Per name of a cookie its values.
+/// The values of each cookie's name.
 pub(crate) fn cookie_fields(
     alloc: Global,
     headers: &[(HeaderName, HeaderValue)],
@@ -37,7 +38,7 @@ fn cookie_pairs(
     Ok(pairs)
 }
 
-// Appends the cookies between the semicolons.
+// Appends the cookies of one header's text.
 fn push_cookies(
     alloc: Global,
     text: &str,
@@ -46,7 +47,7 @@ fn push_cookies(
     ensures { OnOk result (pairs_of pairs.new.items ≡ pairs_of pairs.old.items ++ cookies_in text.now) }
 {
     for piece in text.split(';') {
-        if let Some((name, value)) = cookie(trim_spaces(piece)) {
+        if let Some((name, value)) = cookie(without_spaces_around(piece)) {
             pairs.push((
                 String::from_str(alloc, name)?,
                 String::from_str(alloc, value)?,
@@ -67,8 +68,9 @@ fn cookie(piece: &str) -> Option<(&str, &str)>
     Some((name, value))
 }
 
-fn trim_spaces(piece: &str) -> &str
-    ensures { result.now ≡ trimmed piece.now }
+// Spaces alone (U+0020), as cookies have them: a tab stays.
+fn without_spaces_around(piece: &str) -> &str
+    ensures { result.now ≡ without_spaces_around piece.now }
 {
     piece.trim_start_matches(' ').trim_end_matches(' ')
 }

@@ -1,23 +1,24 @@
-// Names and values, as they came, put together by name.
+// Names and values, grouped by name.
 ghost use Rattle.std.specs.Prelude.{◌≡◌, ℕ, List, [], map, is_some, IfOk, string_bytes};
 ghost use Rattle.std.specs.BTreeMap.{get_by_text};
 ghost use Rattle.std.specs.List.{list_any};
 ghost use Rattle.std.specs.Option.{option_map_or};
 ghost use Rattle.std.specs.Str.{bytes_eq};
 ghost use Rattle.data_tree.specs.Tree.{view};
-ghost use Rattle.mock_request.specs.Grouped.{first_of, grouped, pairs_of, values_of, values_tree};
+ghost use Rattle.mock_request.specs.Grouped.{first_of, grouped, values_of, values_tree};
+ghost use Rattle.mock_request.specs.Inner.Views.{pairs_of};
 
 use data_tree::data::Data;
 use std::alloc::{AllocError, Global};
 use std::collections::BTreeMap;
 
-/// Per name, in byte order, its first value and all its values.
+/// The names in byte order, each with its first value and all its values.
 pub(crate) fn grouped(alloc: Global, pairs: Vec<(String, String)>) -> Result<Data, AllocError>
     ensures { IfOk result (λ made. view made ≡ grouped (pairs_of pairs.items)) }
 {
     let mut fields = Vec::new(alloc);
     for (name, values) in by_name(alloc, pairs)? {
-        fields.push((name, named(alloc, values)?))?;
+        fields.push((name, values_data(alloc, values)?))?;
     }
     Ok(Data::Fields(fields))
 }
@@ -42,7 +43,7 @@ fn by_name(
 }
 
 // The first value and all values.
-fn named(alloc: Global, values: Vec<String>) -> Result<Data, AllocError>
+fn values_data(alloc: Global, values: Vec<String>) -> Result<Data, AllocError>
     ensures { IfOk result (λ made. view made ≡ values_tree (map string_bytes values.items)) }
 {
     let text = first(alloc, &values)?;

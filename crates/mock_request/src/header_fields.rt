@@ -1,8 +1,9 @@
 // The headers of a request as names and texts.
 ghost use Rattle.std.specs.Prelude.{◌≡◌, IfOk};
 ghost use Rattle.data_tree.specs.Tree.{view};
-ghost use Rattle.mock_request.specs.Grouped.{grouped, pairs_of};
+ghost use Rattle.mock_request.specs.Grouped.{grouped};
 ghost use Rattle.mock_request.specs.HeaderFields.{header_pairs};
+ghost use Rattle.mock_request.specs.Inner.Views.{pairs_of};
 ghost use Rattle.mock_request.specs.Request.{headers_of};
 
 use crate::grouped::grouped;
@@ -10,7 +11,7 @@ use data_tree::data::Data;
 use http_header::{HeaderName, HeaderValue};
 use std::alloc::{AllocError, Global};
 
-/// Per name of a header its texts.
+/// The texts of each header's name.
 pub(crate) fn header_fields(
     alloc: Global,
     headers: &[(HeaderName, HeaderValue)],

@@ -1,22 +1,25 @@
-// What came in, and the data that templates see of it: a request as it was received (`Snapshot`), and the
-// tree that `request_data` makes of it. It stands on `data_tree`, on `http_header`'s names and values, and
-// on `form_urlencoded`, which reads queries. Its contracts cite `specs/Target.antt` (which URL a target asks
-// for), `Url` (a URL's parts) and `RequestTree` (the tree: `Query`, `HeaderFields`, `Cookies`, `Authority`
-// and `Grouped` are its parts).
+//! A request as it was received (`Snapshot`), and the data that templates see of it (`request_data`). It uses
+//! `data_tree` for that data, `http_header` for names and values of headers, and `form_urlencoded` to read queries.
+//! Contracts cite `specs/Target.antt` (which URL a target asks for), `Url` (a URL's parts) and `RequestTree` (the
+//! data: `Query`, `HeaderFields`, `Cookies`, `Authority` and `Grouped` are its parts).
 #![tactic(auto)]
 
-pub mod laws;
-pub mod path_template;
-pub mod request_data;
+// The request.
+pub mod error;
 pub mod snapshot;
-pub mod snapshot_error;
 mod target;
 
-// The parts of the tree.
+// Its data.
+pub mod path_template;
+pub mod request_data;
+
+// The parts of the data.
 mod authority;
 mod cookies;
 mod grouped;
 mod header_fields;
+mod object;
 mod query;
-#[cfg(test)]
-mod tests;
+
+// What holds of all targets and URLs.
+pub mod laws;

@@ -2,7 +2,8 @@
 ghost use Rattle.std.specs.Prelude.{◌≡◌, map, IfOk};
 ghost use Rattle.data_tree.specs.Tree.{view};
 ghost use Rattle.form_urlencoded.specs.Form.{parse};
-ghost use Rattle.mock_request.specs.Grouped.{grouped, pairs_of};
+ghost use Rattle.mock_request.specs.Grouped.{grouped};
+ghost use Rattle.mock_request.specs.Inner.Views.{pairs_of};
 ghost use Rattle.mock_request.specs.Query.{query_pairs, text_pair};
 
 use crate::grouped::grouped;
@@ -10,14 +11,14 @@ use crate::snapshot::Snapshot;
 use data_tree::data::Data;
 use std::alloc::{AllocError, Global};
 
-/// Per name of the query its values.
+/// The values of each name in the query.
 pub(crate) fn query_fields(alloc: Global, snapshot: &Snapshot) -> Result<Data, AllocError>
     ensures { IfOk result (λ made. view made ≡ grouped (query_pairs snapshot.now.url)) }
 {
     grouped(alloc, query_pairs(alloc, snapshot)?)
 }
 
-// The decoded pairs of what stands behind the first `?` of a request's URL.
+// The decoded pairs of the query, none where the URL has no query.
 fn query_pairs(alloc: Global, snapshot: &Snapshot) -> Result<Vec<(String, String)>, AllocError>
     ensures { IfOk result (λ pairs. pairs_of pairs.items ≡ query_pairs snapshot.now.url) }
 {

@@ -1,19 +1,20 @@
 // The data that a template sees of a request.
-ghost use Rattle.std.specs.Prelude.{◌≡◌, ◌≤◌, ◌∷◌, ◌++◌, IfOk, OnOk, IfErr, string_bytes, pos, codes};
+ghost use Rattle.std.specs.Prelude.{◌≡◌, ◌≤◌, ◌∷◌, ◌++◌, IfOk, OnOk, IfErr, pos, codes};
 ghost use Rattle.std.specs.Str.Lossy.{utf8_lossy};
-ghost use Rattle.data_tree.specs.Tree.{Tree, number, text, no_members, fields, view, items_view, members_view};
+ghost use Rattle.std.specs.List.{slice_split};
+ghost use Rattle.data_tree.specs.Tree.{number, text, no_members, fields, view, items_view, members_view};
 ghost use Rattle.data_tree.specs.Json.{size};
 ghost use Rattle.data_tree.specs.RequestData.{root_of};
+ghost use Rattle.data_tree.specs.WellFormed.{IsWellFormed};
 ghost use Rattle.mock_request.specs.Target.{slash, IsRooted};
-ghost use Rattle.std.specs.List.{slice_split};
 ghost use Rattle.mock_request.specs.Url.{segments_of, is_slash};
 ghost use Rattle.mock_request.specs.Grouped.{texts};
 ghost use Rattle.mock_request.specs.RequestTree.{path_tree, request_fields, request_tree, IsRefusal};
-ghost use Rattle.data_tree.specs.WellFormed.{IsWellFormed};
 
 use crate::authority::{authority, host_and_port};
 use crate::cookies::cookie_fields;
 use crate::header_fields::header_fields;
+use crate::object::Object;
 use crate::path_template::PathTemplate;
 use crate::query::query_fields;
 use crate::snapshot::Snapshot;
@@ -21,8 +22,8 @@ use data_tree::data::Data;
 use data_tree::request_data::{DataError, RequestData, SIZE_LIMIT};
 use std::alloc::{AllocError, Global};
 
-/// The data of a request, where it is within the limit of `RequestData`; the path template's names go with
-/// the path.
+/// The data of a request, where it is within `RequestData`'s limit. A path template names segments of the path
+/// (there is no such template yet).
 pub fn request_data(
     alloc: Global,
     snapshot: &Snapshot,
@@ -33,10 +34,10 @@ pub fn request_data(
     ensures well_formed { IfOk result (λ made. IsWellFormed (root_of made)) }
     ensures refusal { IfErr result (IsRefusal (request_tree snapshot.now)) }
 {
-    match root(alloc, snapshot, template) {
-        Ok(root) => RequestData::new(root),
-        Err(_error) => Err(DataError::OutOfMemory),
-    }
+    let Ok(root) = root(alloc, snapshot, template) else {
+        return Err(DataError::OutOfMemory);
+    };
+    RequestData::new(root)
 }
 
 fn root(
@@ -46,10 +47,10 @@ fn root(
 ) -> Result<Data, AllocError>
     ensures { IfOk result (λ root. view root ≡ request_tree snapshot.now) }
 {
-    Ok(Data::Fields(vec![in alloc;
-        field(alloc, "json", Data::Nothing)?,
-        field(alloc, "request", request(alloc, snapshot, template)?)?,
-    ]?))
+    let mut root = Object::new(alloc);
+    root.push("json", Data::Nothing)?;
+    root.push("request", request(alloc, snapshot, template)?)?;
+    Ok(root.into_data())
 }
 
 fn request(
@@ -63,24 +64,20 @@ fn request(
     let authority = authority(alloc, headers)?;
     let (host, port) = host_and_port(authority.as_str());
     let path = snapshot.path();
-    Ok(Data::Fields(vec![in alloc;
-        field(alloc, "baseUrl", base_url(alloc, authority.as_str())?)?,
-        field(alloc, "body", lossy_text(alloc, snapshot.body())?)?,
-        field(alloc, "cookies", cookie_fields(alloc, headers)?)?,
-        field(alloc, "headers", header_fields(alloc, headers)?)?,
-        field(alloc, "host", text(alloc, host)?)?,
-        field(alloc, "method", text(alloc, snapshot.method())?)?,
-        field(
-            alloc,
-            "path",
-            named(alloc, path, bindings(alloc, template))?
-        )?,
-        field(alloc, "pathSegments", named(alloc, path, Vec::new(alloc))?)?,
-        field(alloc, "port", number(port))?,
-        field(alloc, "query", query_fields(alloc, snapshot)?)?,
-        field(alloc, "scheme", text(alloc, "http")?)?,
-        field(alloc, "url", text(alloc, snapshot.url())?)?,
-    ]?))
+    let mut made = Object::new(alloc);
+    made.push("baseUrl", base_url(alloc, authority.as_str())?)?;
+    made.push("body", lossy_text(alloc, snapshot.body())?)?;
+    made.push("cookies", cookie_fields(alloc, headers)?)?;
+    made.push("headers", header_fields(alloc, headers)?)?;
+    made.push_text("host", host)?;
+    made.push_text("method", snapshot.method())?;
+    made.push("path", path_data(alloc, path, bindings(alloc, template))?)?;
+    made.push("pathSegments", path_data(alloc, path, Vec::new(alloc))?)?;
+    made.push("port", number(port))?;
+    made.push("query", query_fields(alloc, snapshot)?)?;
+    made.push_text("scheme", "http")?;
+    made.push_text("url", snapshot.url())?;
+    Ok(made.into_data())
 }
 
 fn base_url(alloc: Global, authority: &str) -> Result<Data, AllocError>
@@ -103,12 +100,6 @@ fn lossy_text(alloc: Global, bytes: &[u8]) -> Result<Data, AllocError>
     Ok(Data::Text(String::from_utf8_lossy(alloc, bytes)?))
 }
 
-fn field(alloc: Global, name: &str, value: Data) -> Result<(String, Data), AllocError>
-    ensures { IfOk result (λ made. (string_bytes made.0 ≡ name.now) × (made.1 ≡ value)) }
-{
-    Ok((String::from_str(alloc, name)?, value))
-}
-
 fn text(alloc: Global, content: &str) -> Result<Data, AllocError>
     ensures { IfOk result (λ made. view made ≡ text content.now) }
 {
@@ -125,7 +116,8 @@ fn bindings(alloc: Global, template: Option<&PathTemplate>) -> Vec<(String, Data
     }
 }
 
-fn named(alloc: Global, path: &str, bindings: Vec<(String, Data)>) -> Result<Data, AllocError>
+// A path with its segments and what a template names in it.
+fn path_data(alloc: Global, path: &str, bindings: Vec<(String, Data)>) -> Result<Data, AllocError>
     requires { IsRooted path.now }
     ensures { IfOk result (λ made. view made ≡ path_tree path.now (members_view bindings.items)) }
 {
@@ -136,31 +128,30 @@ fn named(alloc: Global, path: &str, bindings: Vec<(String, Data)>) -> Result<Dat
     })
 }
 
-// The pieces between slashes behind the leading one; a slash alone has none.
 fn segments(alloc: Global, path: &str) -> Result<Vec<Data>, AllocError>
     requires { IsRooted path.now }
     ensures { IfOk result (λ made. items_view made.items ≡ texts (segments_of path.now)) }
 {
-    let behind = behind_slash(path);
-    if behind.is_empty() {
+    let rest = after_slash(path);
+    if rest.is_empty() {
         return Ok(Vec::new(alloc));
     }
-    pieces(alloc, behind)
+    pieces(alloc, rest)
 }
 
-fn behind_slash(path: &str) -> &str
+fn after_slash(path: &str) -> &str
     requires { IsRooted path.now }
     ensures { path.now ≡ slash ∷ result.now }
 {
     path.strip_prefix('/').unwrap_or("")
 }
 
-fn pieces(alloc: Global, behind: &str) -> Result<Vec<Data>, AllocError>
-    ensures { IfOk result (λ made. items_view made.items
-        ≡ texts (slice_split is_slash behind.now)) }
+// The pieces between slashes.
+fn pieces(alloc: Global, rest: &str) -> Result<Vec<Data>, AllocError>
+    ensures { IfOk result (λ made. items_view made.items ≡ texts (slice_split is_slash rest.now)) }
 {
     let mut pieces = Vec::new(alloc);
-    for piece in behind.split('/') {
+    for piece in rest.split('/') {
         pieces.push(text(alloc, piece)?)?;
     }
     Ok(pieces)

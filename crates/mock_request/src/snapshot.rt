@@ -1,21 +1,21 @@
 // A request as it was received.
-ghost use Rattle.std.specs.Prelude.{◌≡◌, ◌≤◌, ◌<◌, ◌↔◌, length, IfOk, OnOk, IsErrOf, MatchOption, None, Some};
+ghost use Rattle.std.specs.Prelude.{◌≡◌, ◌≤◌, ◌<◌, ◌↔◌, length, IfOk, OnOk, IsErrOf};
 ghost use Rattle.std.specs.Option.{option_copied};
 ghost use Rattle.mock_request.specs.Target.{IsTarget, HasUrl, IsRooted};
 ghost use Rattle.mock_request.specs.Request.{headers_of};
 ghost use Rattle.mock_request.specs.Url.{path_of, query_of};
 
-use crate::snapshot_error::SnapshotError;
+use crate::error::SnapshotError;
 use crate::target::{path_and_query, rooted};
 use bytes::Bytes;
 use http_header::{HeaderName, HeaderValue};
 use std::alloc::{AllocError, Global};
 use std::marker::Model;
 
-/// How many bytes the body of a request may have.
+/// The most bytes that the body of a request may have (1 MiB).
 pub const BODY_LIMIT: usize = 1_048_576;
 
-/// A request as it was received: its method, its URL (path and query as they came), its headers in their
+/// A request as it was received: its method, its URL (path and query as they were received), its headers in their
 /// order, and its body.
 #[derive(Debug, Drop)]
 pub struct Snapshot {
@@ -33,15 +33,19 @@ impl Model for Snapshot {
 
     ghost Value = { Request };
 
-    ghost view = { λ s. record { method = string_bytes s.method; url = string_bytes s.url; headers = headers_of s.headers.items; body = s.body } };
+    ghost view = { λ s. record {
+      method = string_bytes s.method;
+      url = string_bytes s.url;
+      headers = headers_of s.headers.items;
+      body = s.body;
+    } };
 
     ghost invariant = { λ s. IsRooted (string_bytes s.url) × (length s.body ≤ BODY_LIMIT) };
 }
 
 impl Snapshot {
-    /// Takes a request. Its target may be in origin form or in absolute form (RFC 9112, section 3.2), and the
-    /// headers and the body are taken over without copying them. Refused are a target of another form and
-    /// then a body of more than `BODY_LIMIT` bytes.
+    /// Takes a request. Its target may be in origin form or in absolute form (RFC 9112, section 3.2); the headers
+    /// and the body are taken over without a copy.
     pub fn new(
         alloc: Global,
         method: &str,
@@ -50,11 +54,15 @@ impl Snapshot {
         body: Bytes,
     ) -> Result<Snapshot, SnapshotError>
         ensures url { IfOk result (λ request. IsTarget target.now request.url) }
-        ensures kept { IfOk result (λ request. request
-            ≡ record { method = method.now; url = request.url; headers = headers_of headers.items; body = body }) }
+        ensures kept { IfOk result (λ request. request ≡ record {
+          method = method.now;
+          url = request.url;
+          headers = headers_of headers.items;
+          body = body;
+        }) }
         ensures within { OnOk result (length body ≤ 1048576) }
 
-        // A bad target is told before a body that is too large.
+        // A bad target is reported before a body that is too large.
         ensures bad_url { IsErrOf result SnapshotError.BadUrl ↔ ¬ (HasUrl target.now) }
         ensures too_large { IsErrOf result SnapshotError.BodyTooLarge
             ↔ (HasUrl target.now × (1048576 < length body)) }
@@ -71,14 +79,14 @@ impl Snapshot {
         })
     }
 
-    /// The method as it came.
+    /// The method as it was received.
     pub fn method(&self) -> &str
         ensures { result.now ≡ self.now.method }
     {
         self.method.as_str()
     }
 
-    /// The path and the query as they came.
+    /// The path and the query as they were received.
     pub fn url(&self) -> &str
         ensures value { result.now ≡ self.now.url }
         ensures rooted { IsRooted result.now }
@@ -97,7 +105,7 @@ impl Snapshot {
         }
     }
 
-    /// What stands behind the first `?` of the URL, if there is one.
+    /// What follows the first `?` of the URL, if there is one.
     pub fn query(&self) -> Option<&str>
         ensures { option_copied result ≡ query_of self.now.url }
     {
@@ -105,7 +113,7 @@ impl Snapshot {
         Some(query)
     }
 
-    /// The headers in their order, each name in lower case.
+    /// The headers in their order; a `HeaderName` is in lower case.
     pub fn headers(&self) -> &[(HeaderName, HeaderValue)]
         ensures { headers_of result.now ≡ self.now.headers }
     {

@@ -1,10 +1,10 @@
-// What a request's target asks for.
+// The URL that a request's target asks for.
 ghost use Rattle.std.specs.Prelude.{◌≡◌, ℕ, ◌↔◌, List, ◌++◌, All, IsSome, IfSome, IfOk, string_bytes};
 ghost use Rattle.mock_request.specs.Target.{IsTarget, IsRootedForm, HasUrl, IsAuthorityByte, MayFollowAuthority};
 
 use std::alloc::{AllocError, Global};
 
-/// The target's path and query, still without the slash that an absolute form may lack.
+/// The path and the query as they are in the target: an absolute form may lack the slash.
 pub(crate) fn path_and_query(target: &str) -> Option<&str>
     ensures found { IsSome result ↔ HasUrl target.now }
     ensures text { IfSome result (λ text.
@@ -32,7 +32,7 @@ pub(crate) fn rooted(alloc: Global, text: &str) -> Result<String, AllocError>
     Ok(url)
 }
 
-// What stands before the first slash or question mark, and the rest.
+// What is before the first slash or question mark, and the rest.
 fn split_authority(text: &str) -> (&str, &str)
     ensures whole { text.now ≡ result.0.now ++ result.1.now }
     ensures authority { All IsAuthorityByte result.0.now }

@@ -1,5 +1,6 @@
 -- The values of bounds.
-use Rattle.std.proofs.Common.{◌≡◌, ℕ, zero, suc, ◌+◌, ◌≤◌, ◌^◌, Bool, true, false, List, [], ◌∷◌, length, pos, negsuc, ℤ, Some, refl, ap, ◌∙◌, arith}
+use Rattle.std.proofs.Common.{◌≡◌, ℕ, zero, suc, ◌+◌, ◌≤◌, ◌^◌, Bool, true, false, List, [], ◌∷◌, length, pos}
+use Rattle.std.proofs.Common.{negsuc, ℤ, Some, refl, ap, ◌∙◌, arith}
 use Rattle.std.specs.Prelude.{slice_get, unwrap_or, FitsSigned, decimal}
 use Rattle.std.specs.Fmt.{signed_decimal}
 use Rattle.std.specs.Int.{w64}
@@ -7,7 +8,7 @@ use Rattle.std.proofs.lemmas.Fmt.{length-decimal-le}
 use Rattle.data_tree.specs.Json.{truth_text}
 use Rattle.template_code.specs.Code.{StackCode}
 use Rattle.template_code.specs.Budget.{text_bound, number_bound, truth_bound}
-use Rattle.template_code.specs.Bounds.{Bound, constant, all_data, plus, value, told}
+use Rattle.template_code.specs.Bounds.{Bound, constant, all_data, plus, value, as_printed}
 
 pub value-constant : (c n : ℕ) → value (constant c) n ≡ c
 value-constant zero n = refl
@@ -21,9 +22,9 @@ value-plus [] qs n = omega arith
 value-plus (p ∷ ps) [] n = omega arith
 value-plus (p ∷ ps) (q ∷ qs) n = rw (value-plus ps qs n) (grind arith)
 
-pub value-told : (ps : Bound) (n : ℕ) → value (told ps) n ≡ value ps n
-value-told [] n = grind arith
-value-told (p ∷ ps) n = refl
+pub value-as_printed : (ps : Bound) (n : ℕ) → value (as_printed ps) n ≡ value ps n
+value-as_printed [] n = grind arith
+value-as_printed (p ∷ ps) n = refl
 
 pub plus-empty : (ps : Bound) → plus ps [] ≡ ps
 plus-empty [] = refl
@@ -39,8 +40,10 @@ plus-assoc (p ∷ ps) (q ∷ qs) (r ∷ rs) =
 
 -- what is printed keeps to the bounds of literals
 
-pub text-within : (code : StackCode) (t : ℕ) (text : List ℕ) (n : ℕ) → slice_get code.texts t ≡ Some text → value (text_bound code t) n ≡ length text
-text-within code t text n h = value-constant (length (unwrap_or (slice_get code.texts t) [])) n ∙ ap (λ o. length (unwrap_or o [])) h
+pub text-within : (code : StackCode) (t : ℕ) (text : List ℕ) (n : ℕ) → slice_get code.texts t ≡ Some text →
+    value (text_bound code t) n ≡ length text
+text-within code t text n h = value-constant (length (unwrap_or (slice_get code.texts t) [])) n
+    ∙ ap (λ o. length (unwrap_or o [])) h
 
 decimal-short : (m : ℕ) → m ≤ 2 ^ 63 → length (decimal m) ≤ 19
 decimal-short m h = length-decimal-le 19 m (omega arith) (omega (arith, h)) (omega (arith, h))

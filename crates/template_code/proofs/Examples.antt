@@ -7,10 +7,12 @@ use Rattle.helper_set.specs.declared.helper.Helper.TheVariants.{Not}
 use Rattle.template_code.specs.Code.{StackCode}
 use Rattle.template_code.specs.Machine.{advance, first, IsTrap, State, Runs}
 use Rattle.template_code.specs.Budget.{budget}
-use Rattle.template_code.specs.Bounds.{told}
+use Rattle.template_code.specs.Bounds.{as_printed}
 use Rattle.template_code.specs.WellFormed.{Entry, broken_by, verdict}
 use Rattle.template_code.specs.declared.instr.Instr.{Instr}
-use Rattle.template_code.specs.declared.instr.Instr.TheVariants.{Emit, Root, Text, Number, Truth, Show, Test, Call, Print, Jump, Branch, Halt}
+use Rattle.template_code.specs.declared.limits.TheConstants.{MAX_INSTRUCTIONS}
+use Rattle.template_code.specs.declared.instr.Instr.TheVariants.{Emit, Root, Text, Number, Truth, Show, Test, Call}
+use Rattle.template_code.specs.declared.instr.Instr.TheVariants.{Print, Jump, Branch, Halt}
 use Rattle.template_code.specs.declared.rule.Rule.{Rule}
 use Rattle.template_code.specs.declared.rule.Rule.TheVariants.{V1, V2, V3, V5, V6, V7, V8, V12, V13}
 use Rattle.template_code.proofs.TableFacts.{entry_at}
@@ -20,9 +22,9 @@ abbrev with_tables : List Instr → StackCode
 with_tables is = record { instrs = is; texts = [] ∷ []; paths = [] ∷ [] }
 
 abbrev judged : List Instr → ℕ → Option Rule
-judged is place = verdict (with_tables is) place (entry_at (with_tables is) place)
+judged is index = verdict (with_tables is) index (entry_at (with_tables is) index)
 
--- the verdicts on the first n places
+-- the verdicts at the first n indices
 abbrev verdicts : List Instr → ℕ → List (Option Rule)
 verdicts is zero = []
 verdicts is (suc n) = verdicts is n ++ judged is n ∷ []
@@ -34,7 +36,7 @@ budget_of_one_value : budget one_value ≡ record { steps = 4 ∷ []; bytes = 0 
 budget_of_one_value = refl
 
 run_of_one_value : Runs one_value (text (codes "Ann")) 4 (codes "Ann")
-run_of_one_value = (record { place = 3; stack = []; loops = []; output = codes "Ann" }, (3, refl, refl, refl), refl)
+run_of_one_value = (record { index = 3; stack = []; loops = []; output = codes "Ann" }, (3, refl, refl, refl), refl)
 
 abbrev hello : StackCode
 hello = record { instrs = Emit 0 ∷ Root 0 ∷ Show ∷ Print ∷ Halt ∷ []; texts = codes "Hello " ∷ []; paths = [] ∷ [] }
@@ -46,8 +48,8 @@ budget_of_hello = refl
 budget_of_nothing : budget (with_tables (Halt ∷ [])) ≡ record { steps = 1 ∷ []; bytes = [] }
 budget_of_nothing = refl
 
-told_of_nothing : told (budget (with_tables (Halt ∷ []))).bytes ≡ 0 ∷ []
-told_of_nothing = refl
+printed_of_nothing : as_printed (budget (with_tables (Halt ∷ []))).bytes ≡ 0 ∷ []
+printed_of_nothing = refl
 
 abbrev is_halt : Option Instr → Bool
 is_halt None = false
@@ -58,18 +60,29 @@ is_halt (Some i) = false
 abbrev unshown : StackCode
 unshown = with_tables (Root 0 ∷ Print ∷ Halt ∷ [])
 
-trap_of_unshown : (root : Tree) → (s : State) × (advance unshown root 1 first ≡ Some s) × (s.place ≡ 1) × IsTrap unshown root s
-trap_of_unshown root =
-    (record { place = 1; stack = a_datum root ∷ []; loops = []; output = [] }, refl, refl, (refl, λ h. true≢false (sym (ap is_halt h))))
+trap_of_unshown : (root : Tree) → (s : State) × (advance unshown root 1 first ≡ Some s) × (s.index ≡ 1)
+    × IsTrap unshown root s
+trap_of_unshown root = (
+  record { index = 1; stack = a_datum root ∷ []; loops = []; output = [] },
+  refl,
+  refl,
+  (refl, λ h. true≢false (sym (ap is_halt h))),
+)
 
--- behind the last instruction there is no step
+-- after the last instruction there is no step
 abbrev endless : StackCode
 endless = with_tables (Emit 0 ∷ [])
 
-trap_of_endless : (root : Tree) → (s : State) × (advance endless root 1 first ≡ Some s) × (s.place ≡ 1) × IsTrap endless root s
-trap_of_endless root = (record { place = 1; stack = []; loops = []; output = [] }, refl, refl, (refl, λ h. true≢false (sym (ap is_halt h))))
+trap_of_endless : (root : Tree) → (s : State) × (advance endless root 1 first ≡ Some s) × (s.index ≡ 1)
+    × IsTrap endless root s
+trap_of_endless root = (
+  record { index = 1; stack = []; loops = []; output = [] },
+  refl,
+  refl,
+  (refl, λ h. true≢false (sym (ap is_halt h))),
+)
 
--- accepted: no verdict at a place, nor behind the last
+-- accepted: no verdict at any index, nor after the last instruction
 one_value_accepted : verdicts (Root 0 ∷ Show ∷ Print ∷ Halt ∷ []) 5 ≡ None ∷ None ∷ None ∷ None ∷ None ∷ []
 one_value_accepted = refl
 
@@ -82,9 +95,9 @@ slots_32_accepted = refl
 no_code : verdicts [] 2 ≡ Some V1 ∷ None ∷ []
 no_code = refl
 
--- whatever stands there
-place_4096 : (code : StackCode) (i : Instr) (e : Entry) → broken_by code 4096 i e ≡ Some V1
-place_4096 code i e = refl
+-- whatever the instruction is
+index_4096 : (code : StackCode) (i : Instr) (e : Entry) → broken_by code MAX_INSTRUCTIONS i e ≡ Some V1
+index_4096 code i e = refl
 
 text_past_the_table : verdicts (Emit 1 ∷ Halt ∷ []) 1 ≡ Some V2 ∷ []
 text_past_the_table = refl
@@ -116,7 +129,7 @@ no_end = refl
 early_end : verdicts (Halt ∷ Halt ∷ []) 1 ≡ Some V12 ∷ []
 early_end = refl
 
--- a place that breaks several rules: the least is told
+-- where one instruction breaks several rules the first is reported
 path_before_end : verdicts (Root 1 ∷ []) 1 ≡ Some V2 ∷ []
 path_before_end = refl
 
@@ -140,27 +153,33 @@ text_below_data = refl
 abbrev one_text : List ℕ → StackCode
 one_text bytes = record { instrs = Emit 0 ∷ Halt ∷ []; texts = bytes ∷ []; paths = [] }
 
-too_long : (bytes : List ℕ) → length bytes ≡ 2 ^ 63 → verdict (one_text bytes) 0 (entry_at (one_text bytes) 0) ≡ Some V13
+too_long : (bytes : List ℕ) → length bytes ≡ 2 ^ 63 → verdict (one_text bytes) 0 (entry_at (one_text bytes) 0)
+    ≡ Some V13
 too_long bytes h = rw h refl
 
-just_fits : (bytes : List ℕ) → length bytes ≡ 2 ^ 63 - 1 → verdict (one_text bytes) 0 (entry_at (one_text bytes) 0) ≡ None
+just_fits : (bytes : List ℕ) → length bytes ≡ 2 ^ 63 - 1 →
+    verdict (one_text bytes) 0 (entry_at (one_text bytes) 0) ≡ None
 just_fits bytes h = rw h refl
 
--- one at the last place: a broken rule on places comes before
-too_long_at_the_end : (bytes : List ℕ) → length bytes ≡ 2 ^ 63 → verdict (record { instrs = Emit 0 ∷ []; texts = bytes ∷ []; paths = [] }) 0 (entry_at (record { instrs = Emit 0 ∷ []; texts = bytes ∷ []; paths = [] }) 0) ≡ Some V12
+-- at the last index V12 comes before V13
+too_long_at_the_end : (bytes : List ℕ) → length bytes ≡ 2 ^ 63 →
+    verdict (record { instrs = Emit 0 ∷ []; texts = bytes ∷ []; paths = [] }) 0
+    (entry_at (record { instrs = Emit 0 ∷ []; texts = bytes ∷ []; paths = [] }) 0) ≡ Some V12
 too_long_at_the_end bytes h = refl
 
 -- two that fit, of which the second takes the budget over the limit
 abbrev two_texts : List ℕ → StackCode
 two_texts bytes = record { instrs = Emit 0 ∷ Emit 0 ∷ Halt ∷ []; texts = bytes ∷ []; paths = [] }
 
-first_fits : (bytes : List ℕ) → length bytes ≡ 2 ^ 62 → verdict (two_texts bytes) 0 (entry_at (two_texts bytes) 0) ≡ None
+first_fits : (bytes : List ℕ) → length bytes ≡ 2 ^ 62 → verdict (two_texts bytes) 0 (entry_at (two_texts bytes) 0)
+    ≡ None
 first_fits bytes h = rw h refl
 
-second_is_too_much : (bytes : List ℕ) → length bytes ≡ 2 ^ 62 → verdict (two_texts bytes) 1 (entry_at (two_texts bytes) 1) ≡ Some V13
+second_is_too_much : (bytes : List ℕ) → length bytes ≡ 2 ^ 62 →
+    verdict (two_texts bytes) 1 (entry_at (two_texts bytes) 1) ≡ Some V13
 second_is_too_much bytes h = rw h refl
 
--- a jump goes ahead, and stays in the code
+-- a jump goes to a later instruction of the code
 jump_to_itself : verdicts (Jump 0 ∷ Halt ∷ []) 1 ≡ Some V3 ∷ []
 jump_to_itself = refl
 
@@ -176,18 +195,19 @@ branch_past_the_end = refl
 jump_at_the_end : verdicts (Jump 1 ∷ []) 1 ≡ Some V3 ∷ []
 jump_at_the_end = refl
 
--- what stands behind a jump is judged too, without a slot
-print_behind_a_jump : verdicts (Jump 2 ∷ Print ∷ Halt ∷ []) 3 ≡ None ∷ Some V5 ∷ None ∷ []
-print_behind_a_jump = refl
+-- the instruction after a jump is judged too, with an empty stack
+print_after_a_jump : verdicts (Jump 2 ∷ Print ∷ Halt ∷ []) 3 ≡ None ∷ Some V5 ∷ None ∷ []
+print_after_a_jump = refl
 
 slot_left_at_a_jump : verdicts (Root 0 ∷ Jump 2 ∷ Halt ∷ []) 3 ≡ None ∷ Some V8 ∷ None ∷ []
 slot_left_at_a_jump = refl
 
-slot_left_behind_a_branch : verdicts (Root 0 ∷ Truth true ∷ Branch 3 ∷ Halt ∷ []) 3 ≡ None ∷ None ∷ Some V8 ∷ []
-slot_left_behind_a_branch = refl
+slot_left_after_a_branch : verdicts (Root 0 ∷ Truth true ∷ Branch 3 ∷ Halt ∷ []) 3 ≡ None ∷ None ∷ Some V8 ∷ []
+slot_left_after_a_branch = refl
 
--- a slot where a jump leads to
-slot_at_a_target : verdicts (Truth true ∷ Branch 3 ∷ Root 0 ∷ Show ∷ Print ∷ Halt ∷ []) 4 ≡ None ∷ None ∷ None ∷ Some V8 ∷ []
+-- a slot where a jump goes to
+slot_at_a_target : verdicts (Truth true ∷ Branch 3 ∷ Root 0 ∷ Show ∷ Print ∷ Halt ∷ []) 4
+    ≡ None ∷ None ∷ None ∷ Some V8 ∷ []
 slot_at_a_target = refl
 
 branch_of_data : verdicts (Root 0 ∷ Branch 2 ∷ Halt ∷ []) 2 ≡ None ∷ Some V6 ∷ []
@@ -217,7 +237,7 @@ budget_over_a_text : budget over_a_text ≡ record { steps = 4 ∷ []; bytes = 3
 budget_over_a_text = refl
 
 run_over_a_text : Runs over_a_text nothing 4 (codes "abc")
-run_over_a_text = (record { place = 3; stack = []; loops = []; output = codes "abc" }, (3, refl, refl, refl), refl)
+run_over_a_text = (record { index = 3; stack = []; loops = []; output = codes "abc" }, (3, refl, refl, refl), refl)
 
 -- where a value counts as true, two bytes and the value, else four bytes
 abbrev if_value : StackCode
@@ -234,21 +254,21 @@ judged_to code (suc n) = judged_to code n ++ verdict code n (entry_at code n) �
 if_value_accepted : judged_to if_value 11 ≡ replicate 11 None
 if_value_accepted = refl
 
-budget_of_if_value : told (budget if_value).steps ≡ 10 ∷ []
+budget_of_if_value : as_printed (budget if_value).steps ≡ 10 ∷ []
 budget_of_if_value = refl
 
-bytes_of_if_value : told (budget if_value).bytes ≡ 6 ∷ 1 ∷ []
+bytes_of_if_value : as_printed (budget if_value).bytes ≡ 6 ∷ 1 ∷ []
 bytes_of_if_value = refl
 
 run_where_true : Runs if_value (text (codes "a")) 9 (codes "Q=a")
-run_where_true = (record { place = 9; stack = []; loops = []; output = codes "Q=a" }, (8, refl, refl, refl), refl)
+run_where_true = (record { index = 9; stack = []; loops = []; output = codes "Q=a" }, (8, refl, refl, refl), refl)
 
 run_where_false : Runs if_value nothing 5 (codes "none")
-run_where_false = (record { place = 9; stack = []; loops = []; output = codes "none" }, (4, refl, refl, refl), refl)
+run_where_false = (record { index = 9; stack = []; loops = []; output = codes "none" }, (4, refl, refl, refl), refl)
 
 -- a literal number has the bound of any number
-bytes_of_a_number : told (budget (with_tables (Number (pos 5) ∷ Show ∷ Print ∷ Halt ∷ []))).bytes ≡ 20 ∷ []
+bytes_of_a_number : as_printed (budget (with_tables (Number (pos 5) ∷ Show ∷ Print ∷ Halt ∷ []))).bytes ≡ 20 ∷ []
 bytes_of_a_number = refl
 
-bytes_of_a_truth : told (budget (with_tables (Root 0 ∷ Test ∷ Show ∷ Print ∷ Halt ∷ []))).bytes ≡ 5 ∷ []
+bytes_of_a_truth : as_printed (budget (with_tables (Root 0 ∷ Test ∷ Show ∷ Print ∷ Halt ∷ []))).bytes ≡ 5 ∷ []
 bytes_of_a_truth = refl

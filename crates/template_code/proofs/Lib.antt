@@ -6,6 +6,6 @@ pub mod BudgetFacts
 pub mod CostFacts
 pub mod TrimFacts
 pub mod TableFacts
-pub mod FaultFacts
+pub mod ViolationFacts
 pub mod FormFacts
 pub mod StepFacts

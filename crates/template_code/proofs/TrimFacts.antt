@@ -4,9 +4,10 @@ use Rattle.std.specs.Prelude.{slice_get, unwrap_or}
 use Rattle.helper_set.specs.declared.helper.Helper.TheVariants.{Not}
 use Rattle.template_code.specs.Code.{StackCode}
 use Rattle.template_code.specs.Bounds.{Bound, ends_in_zero, constant, plus}
-use Rattle.template_code.specs.Budget.{budget, bounds_behind, region, written_bound}
+use Rattle.template_code.specs.Budget.{budget, bounds_after, region, written_bound}
 use Rattle.template_code.specs.declared.instr.Instr.{Instr}
-use Rattle.template_code.specs.declared.instr.Instr.TheVariants.{Emit, Root, Text, Number, Truth, Show, Test, Call, Print, Jump, Branch, Halt}
+use Rattle.template_code.specs.declared.instr.Instr.TheVariants.{Emit, Root, Text, Number, Truth, Show, Test, Call}
+use Rattle.template_code.specs.declared.instr.Instr.TheVariants.{Print, Jump, Branch, Halt}
 
 abbrev IsTrimmed : Bound → Type 0
 IsTrimmed ps = ends_in_zero ps ≡ false
@@ -35,44 +36,40 @@ trimmed-below zero bounds h = h
 trimmed-below (suc n) [] h = tt
 trimmed-below (suc n) (b ∷ bs) h = trimmed-below n bs h.1
 
-trimmed-behind : (code : StackCode) (i : Instr) (bounds : List Bound) → AllTrimmed bounds → AllTrimmed (bounds_behind code i bounds)
-trimmed-behind code (Emit t) bounds h = h
-trimmed-behind code (Root p) bounds h = (refl, h)
-trimmed-behind code (Text t) bounds h = (trimmed-constant (length (unwrap_or (slice_get code.texts t) [])), h)
-trimmed-behind code (Number n) bounds h = (refl, h)
-trimmed-behind code (Truth b) bounds h = (refl, h)
-trimmed-behind code Show [] h = (refl, tt)
-trimmed-behind code Show (b ∷ bs) h = h
-trimmed-behind code Test bounds h = (refl, trimmed-below 1 bounds h)
-trimmed-behind code (Call Not) bounds h = (refl, trimmed-below 1 bounds h)
-trimmed-behind code Print [] h = tt
-trimmed-behind code Print (b ∷ bs) h = h.1
-trimmed-behind code (Jump a) bounds h = tt
-trimmed-behind code (Branch a) bounds h = trimmed-below 1 bounds h
-trimmed-behind code Halt bounds h = tt
+trimmed-slots_after : (code : StackCode) (i : Instr) (bounds : List Bound) → AllTrimmed bounds →
+    AllTrimmed (bounds_after code i bounds)
+trimmed-slots_after code (Emit t) bounds h = h
+trimmed-slots_after code (Root p) bounds h = (refl, h)
+trimmed-slots_after code (Text t) bounds h = (trimmed-constant (length (unwrap_or (slice_get code.texts t) [])), h)
+trimmed-slots_after code (Number n) bounds h = (refl, h)
+trimmed-slots_after code (Truth b) bounds h = (refl, h)
+trimmed-slots_after code Show [] h = (refl, tt)
+trimmed-slots_after code Show (b ∷ bs) h = h
+trimmed-slots_after code Test bounds h = (refl, trimmed-below 1 bounds h)
+trimmed-slots_after code (Call Not) bounds h = (refl, trimmed-below 1 bounds h)
+trimmed-slots_after code Print [] h = tt
+trimmed-slots_after code Print (b ∷ bs) h = h.1
+trimmed-slots_after code (Jump a) bounds h = tt
+trimmed-slots_after code (Branch a) bounds h = trimmed-below 1 bounds h
+trimmed-slots_after code Halt bounds h = tt
 
-trimmed-written : (code : StackCode) (i : Instr) (bounds : List Bound) → AllTrimmed bounds → IsTrimmed (written_bound code i bounds)
+trimmed-written : (code : StackCode) (i : Instr) (bounds : List Bound) → AllTrimmed bounds →
+    IsTrimmed (written_bound code i bounds)
 trimmed-written code (Emit t) bounds h = trimmed-constant (length (unwrap_or (slice_get code.texts t) []))
-trimmed-written code (Root p) bounds h = refl
-trimmed-written code (Text t) bounds h = refl
-trimmed-written code (Number n) bounds h = refl
-trimmed-written code (Truth b) bounds h = refl
-trimmed-written code Show bounds h = refl
-trimmed-written code Test bounds h = refl
-trimmed-written code (Call h) bounds k = refl
 trimmed-written code Print [] h = refl
 trimmed-written code Print (b ∷ bs) h = h.0
-trimmed-written code (Jump a) bounds h = refl
-trimmed-written code (Branch a) bounds h = refl
-trimmed-written code Halt bounds h = refl
+trimmed-written code i bounds h = refl
 
-region-trimmed : (code : StackCode) (is : List Instr) (bounds : List Bound) → AllTrimmed bounds → IsTrimmed (region code is bounds).steps × IsTrimmed (region code is bounds).bytes
+region-trimmed : (code : StackCode) (is : List Instr) (bounds : List Bound) → AllTrimmed bounds →
+    IsTrimmed (region code is bounds).steps × IsTrimmed (region code is bounds).bytes
 region-trimmed code [] bounds h = (refl, refl)
 region-trimmed code (i ∷ is) bounds h =
-    let rest = region-trimmed code is (bounds_behind code i bounds) (trimmed-behind code i bounds h) in (
-      trimmed-plus (constant 1) (region code is (bounds_behind code i bounds)).steps refl rest.0,
-      trimmed-plus (written_bound code i bounds) (region code is (bounds_behind code i bounds)).bytes (trimmed-written code i bounds h) rest.1,
+    let rest = region-trimmed code is (bounds_after code i bounds) (trimmed-slots_after code i bounds h) in (
+      trimmed-plus (constant 1) (region code is (bounds_after code i bounds)).steps refl rest.0,
+      trimmed-plus (written_bound code i bounds) (region code is (bounds_after code i bounds)).bytes
+          (trimmed-written code i bounds h) rest.1,
     )
 
-pub budget-trimmed : (code : StackCode) → (ends_in_zero (budget code).steps ≡ false) × (ends_in_zero (budget code).bytes ≡ false)
+pub budget-trimmed : (code : StackCode) → (ends_in_zero (budget code).steps ≡ false)
+    × (ends_in_zero (budget code).bytes ≡ false)
 budget-trimmed code = region-trimmed code code.instrs [] tt

@@ -1,8 +1,9 @@
--- Bounds and budgets as polynomials in n, the size of a request's data: lists of coefficients, the constant first.
-use Rattle.std.specs.Prelude.{ℕ, zero, suc, ◌+◌, ◌-◌, ◌*◌, ◌^◌, nat_eq, nat_le, Bool, false, List, [], ◌∷◌}
+-- Bounds and budgets: polynomials in n, the size of a request's data, as lists of coefficients, the constant first.
+use Rattle.std.specs.Prelude.{ℕ, zero, suc, ◌+◌, ◌*◌, nat_eq, nat_le, Bool, false, List, [], ◌∷◌}
 use Rattle.std.specs.List.{list_all}
+use Rattle.template_code.specs.declared.limits.TheConstants.{MAX_COEFFICIENT}
 
--- no list of a bound or a budget ends in a zero (a law says so)
+-- no list of a bound or of a budget ends in a zero, as a law says
 abbrev pub Bound : Type 0
 Bound = List ℕ
 
@@ -30,11 +31,11 @@ abbrev pub value : Bound → ℕ → ℕ
 value [] n = 0
 value (p ∷ ps) n = p + n * value ps n
 
--- no coefficient is over 2^63 - 1
+-- no coefficient is too large
 abbrev pub fits : Bound → Bool
-fits ps = list_all (λ p. nat_le p (2 ^ 63 - 1)) ps
+fits ps = list_all (λ p. nat_le p MAX_COEFFICIENT) ps
 
--- as it is told: with a coefficient also where it is zero
-abbrev pub told : Bound → List ℕ
-told [] = 0 ∷ []
-told (p ∷ ps) = p ∷ ps
+-- as it is printed: with a coefficient also where the polynomial is zero
+abbrev pub as_printed : Bound → List ℕ
+as_printed [] = 0 ∷ []
+as_printed (p ∷ ps) = p ∷ ps

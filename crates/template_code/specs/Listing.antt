@@ -1,10 +1,11 @@
--- Code as text: a line for each instruction, its place, a space, its name and its operand.
+-- Code as text: for each instruction a line with its index, a space, its name and its operand.
 use Rattle.std.specs.Prelude.{ℕ, suc, List, [], ◌∷◌, ◌++◌, codes, decimal}
 use Rattle.std.specs.Fmt.{signed_decimal}
 use Rattle.data_tree.specs.Json.{truth_text}
 use Rattle.helper_set.specs.Helpers.{name_of}
 use Rattle.template_code.specs.declared.instr.Instr.{Instr}
-use Rattle.template_code.specs.declared.instr.Instr.TheVariants.{Emit, Root, Text, Number, Truth, Show, Test, Call, Print, Jump, Branch, Halt}
+use Rattle.template_code.specs.declared.instr.Instr.TheVariants.{Emit, Root, Text, Number, Truth, Show, Test, Call}
+use Rattle.template_code.specs.declared.instr.Instr.TheVariants.{Print, Jump, Branch, Halt}
 
 abbrev pub instr_text : Instr → List ℕ
 instr_text (Emit t) = codes "Emit " ++ decimal t
@@ -22,9 +23,9 @@ instr_text Halt = codes "Halt"
 
 -- a line, with the line feed that ends it
 abbrev pub line : ℕ → Instr → List ℕ
-line place i = decimal place ++ (codes " " ++ (instr_text i ++ codes "\n"))
+line index i = decimal index ++ (codes " " ++ (instr_text i ++ codes "\n"))
 
--- the lines of instructions that stand from a place on
+-- the lines of instructions, the first of which has that index
 abbrev pub lines_from : ℕ → List Instr → List ℕ
-lines_from place [] = []
-lines_from place (i ∷ is) = line place i ++ lines_from (suc place) is
+lines_from index [] = []
+lines_from index (i ∷ is) = line index i ++ lines_from (suc index) is

@@ -1,13 +1,14 @@
-// Code as plain data.
+//! Code as plain data.
 ghost use Rattle.std.specs.Prelude.{◌≡◌};
+ghost use Rattle.template_code.specs.Instructions.{names_entries};
 
 use crate::instr::Instr;
 use data_tree::plain_text::PlainText;
 use data_tree::step::Path;
 use std::marker::Model;
 
-/// Instructions, and the tables of texts and paths that they name by place. It may be any list of
-/// instructions, also one that no run gets through.
+/// Instructions, and the texts and paths that they name by index: any list of instructions, well formed or
+/// not.
 #[derive(Debug, Drop)]
 pub struct Code {
     instrs: Vec<Instr>,
@@ -37,24 +38,32 @@ impl Code {
         }
     }
 
-    /// The instructions, the first at place 0.
     pub fn instrs(&self) -> &[Instr]
         ensures { result.now ≡ self.now.instrs }
     {
         self.instrs.as_slice()
     }
 
-    /// The table of texts.
     pub fn texts(&self) -> &[PlainText]
         ensures { result.now ≡ self.now.texts }
     {
         self.texts.as_slice()
     }
 
-    /// The table of paths.
     pub fn paths(&self) -> &[Path]
         ensures { result.now ≡ self.now.paths }
     {
         self.paths.as_slice()
+    }
+
+    /// Whether the text or the path that an instruction names is there.
+    pub fn has_entries_of(&self, instr: Instr) -> bool
+        ensures { result ≡ names_entries self.now instr }
+    {
+        match instr {
+            Instr::Emit(text) | Instr::Text(text) => text < self.texts.len(),
+            Instr::Root(path) => path < self.paths.len(),
+            _ => true,
+        }
     }
 }

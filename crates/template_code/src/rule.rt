@@ -1,24 +1,24 @@
-// The rules that code is judged by.
+//! The rules that code is judged by.
 
-/// A rule that well-formed code keeps, in the order in which faults are told.
+/// A rule that well-formed code keeps. Where one instruction breaks several, the first of them is reported.
 #[derive(Clone, Copy, Debug, PartialEq, Eq)]
 pub enum Rule {
-    /// The code is empty, or has an instruction at place 4,096.
+    /// There is an instruction, and there are at most `MAX_INSTRUCTIONS`.
     V1,
-    /// A place in a table is out of range.
+    /// A text or a path that an instruction names is in the code's table.
     V2,
-    /// A jump to a place that isn't behind its own, or isn't in the code.
+    /// A jump goes to a later instruction of the code.
     V3,
-    /// Fewer slots than are popped.
+    /// As many slots as are popped are on the stack.
     V5,
-    /// A slot of a wrong kind is popped.
+    /// Each slot that is popped has a kind that the instruction accepts.
     V6,
-    /// A 33rd slot.
+    /// There are never more than `MAX_SLOTS` slots.
     V7,
-    /// The stack isn't empty where it has to be: where a jump leads to, or behind what a jump or `Halt` pops.
+    /// The stack is empty where a jump goes to, and after what a jump, a branch or `Halt` pops.
     V8,
-    /// `Halt` before the last place, or another instruction there.
+    /// The last instruction is `Halt`, and no other one is.
     V12,
-    /// A coefficient of a bound or a budget is over 2^63 - 1.
+    /// No coefficient of a bound or of a budget is over `MAX_COEFFICIENT`.
     V13,
 }

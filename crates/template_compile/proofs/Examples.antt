@@ -1,22 +1,30 @@
 -- Worked examples, which the checker computes.
-use Rattle.std.specs.Prelude.{◌≡◌, [], ◌∷◌, codes}
+use Rattle.std.specs.Prelude.{◌≡◌, List, [], ◌∷◌, codes}
 use Rattle.std.proofs.Common.{refl}
 use Rattle.data_tree.specs.Tree.{Tree, text, fields, named, no_items, item, no_members, member}
+use Rattle.data_tree.specs.declared.step.Step.{Step}
 use Rattle.data_tree.specs.declared.step.Step.TheVariants.{Name, Index}
 use Rattle.template_code.specs.declared.instr.Instr.TheVariants.{Emit, Root, Show, Print, Halt}
-use Rattle.template_tree.specs.Tree.{reading, piece, print, Nodes, no_nodes, node}
+use Rattle.template_tree.specs.Tree.{reading, piece, print, Nodes, no_nodes, first_node}
 use Rattle.template_words.specs.declared.reference.Reference.{Reference}
-use Rattle.template_compile.specs.Compiled.{code_of}
-use Rattle.template_compile.specs.Length.{code_length, text_bytes}
-use Rattle.template_compile.specs.Meaning.{template_text}
+use Rattle.template_compile.specs.Compiled.{stack_code}
+use Rattle.template_compile.specs.Length.{code_length}
+use Rattle.template_tree.specs.Meaning.{template_text}
 
--- what `GET /hi/Ann` is, in part
+-- the path of `GET /hi/Ann`
+abbrev ann_path : Tree
+ann_path = named (codes "/hi/Ann") (item (text (codes "hi")) (item (text (codes "Ann")) no_items)) no_members
+
 abbrev ann : Tree
-ann = fields (member (codes "request") (fields (member (codes "path") (named (codes "/hi/Ann") (item (text (codes "hi")) (item (text (codes "Ann")) no_items)) no_members) no_members)) no_members)
+ann = fields (member (codes "request") (fields (member (codes "path") ann_path no_members)) no_members)
+
+-- `request.path.[1]`
+abbrev second_segment : List Step
+second_segment = Name (codes "request") ∷ Name (codes "path") ∷ Index 1 ∷ []
 
 -- `Hello {{request.path.[1]}}`
 abbrev hello : Nodes
-hello = node (piece (codes "Hello ")) (node (print (reading (Reference.Root (Name (codes "request") ∷ Name (codes "path") ∷ Index 1 ∷ [])))) no_nodes)
+hello = first_node (piece (codes "Hello ")) (first_node (print (reading (Reference.Root second_segment))) no_nodes)
 
 text_of_hello : template_text hello ann [] ≡ codes "Hello Ann"
 text_of_hello = refl
@@ -24,53 +32,58 @@ text_of_hello = refl
 length_of_hello : code_length hello ≡ 5
 length_of_hello = refl
 
-bytes_of_hello : text_bytes hello ≡ 6
-bytes_of_hello = refl
-
-code_of_hello : code_of hello ≡ record {
+code_of_hello : stack_code hello ≡ record {
   instrs = Emit 0 ∷ Root 0 ∷ Show ∷ Print ∷ Halt ∷ [];
   texts = codes "Hello " ∷ [];
-  paths = (Name (codes "request") ∷ Name (codes "path") ∷ Index 1 ∷ []) ∷ [];
+  paths = second_segment ∷ [];
 }
 code_of_hello = refl
 
 text_of_nothing : template_text no_nodes ann [] ≡ []
 text_of_nothing = refl
 
-code_of_nothing : code_of no_nodes ≡ record { instrs = Halt ∷ []; texts = []; paths = [] }
+code_of_nothing : stack_code no_nodes ≡ record { instrs = Halt ∷ []; texts = []; paths = [] }
 code_of_nothing = refl
 
 -- `one {{! a comment }}two`
 abbrev two_pieces : Nodes
-two_pieces = node (piece (codes "one ")) (node (piece (codes "two")) no_nodes)
+two_pieces = first_node (piece (codes "one ")) (first_node (piece (codes "two")) no_nodes)
 
 text_of_two_pieces : template_text two_pieces ann [] ≡ codes "one two"
 text_of_two_pieces = refl
 
-code_of_two_pieces : code_of two_pieces ≡ record { instrs = Emit 0 ∷ Emit 1 ∷ Halt ∷ []; texts = codes "one " ∷ codes "two" ∷ []; paths = [] }
+code_of_two_pieces : stack_code two_pieces ≡ record {
+  instrs = Emit 0 ∷ Emit 1 ∷ Halt ∷ [];
+  texts = codes "one " ∷ codes "two" ∷ [];
+  paths = [];
+}
 code_of_two_pieces = refl
 
 -- `{{name}}` and `{{../name}}`
 abbrev here : Nodes
-here = node (print (reading (Reference.Item 0 (Name (codes "name") ∷ [])))) no_nodes
+here = first_node (print (reading (Reference.Item 0 (Name (codes "name") ∷ [])))) no_nodes
 
 abbrev further_out : Nodes
-further_out = node (print (reading (Reference.Item 1 (Name (codes "name") ∷ [])))) no_nodes
+further_out = first_node (print (reading (Reference.Item 1 (Name (codes "name") ∷ [])))) no_nodes
 
--- outside of loops they are Nothing
-text_outside : template_text (node (piece (codes "a")) here) (fields (member (codes "name") (text (codes "Bo")) no_members)) [] ≡ codes "a"
-text_outside = refl
-
-code_outside : code_of here ≡ record { instrs = Root 0 ∷ Show ∷ Print ∷ Halt ∷ []; texts = []; paths = (Name [] ∷ []) ∷ [] }
-code_outside = refl
-
--- within two, they are read from the items of these
 abbrev named_Al : Tree
 named_Al = fields (member (codes "name") (text (codes "Al")) no_members)
 
 abbrev named_Bo : Tree
 named_Bo = fields (member (codes "name") (text (codes "Bo")) no_members)
 
+-- outside of loops they are Nothing
+text_outside : template_text (first_node (piece (codes "a")) here) named_Bo [] ≡ codes "a"
+text_outside = refl
+
+code_outside : stack_code here ≡ record {
+  instrs = Root 0 ∷ Show ∷ Print ∷ Halt ∷ [];
+  texts = [];
+  paths = (Name [] ∷ []) ∷ [];
+}
+code_outside = refl
+
+-- within two, they are read from the items of these
 text_inside : template_text here ann (named_Al ∷ named_Bo ∷ []) ≡ codes "Al"
 text_inside = refl
 

@@ -1,4 +1,4 @@
-pub mod Meaning
 pub mod Length
 pub mod Compiled
-pub mod Errors
+pub mod Correct
+pub mod Inner

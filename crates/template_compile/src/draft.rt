@@ -1,4 +1,4 @@
-// Code that is being written.
+//! Code that is being written.
 ghost use Rattle.std.specs.Prelude.{◌≡◌, OnOk};
 
 use data_tree::plain_text::PlainText;
@@ -8,7 +8,7 @@ use std::marker::Model;
 use template_code::code::Code;
 use template_code::instr::Instr;
 
-/// The instructions and the entries so far.
+/// The instructions and the entries of the tables so far.
 #[derive(Drop)]
 pub struct Draft {
     instrs: Vec<Instr>,
@@ -26,7 +26,8 @@ impl Model for Draft {
 
 impl Draft {
     ghost use Rattle.std.specs.Prelude.{[], ◌∷◌};
-    ghost use Rattle.template_compile.specs.Compiled.{no_code, joined, bare, past, start, emit_code, root_code};
+    ghost use Rattle.template_compile.specs.Compiled.{no_code, appended, without_tables, emit_code, root_code};
+    ghost use Rattle.template_compile.specs.Inner.Drafts.{extended_by};
 
     /// No code.
     pub fn new(alloc: Global) -> Draft
@@ -41,7 +42,7 @@ impl Draft {
 
     /// Writes a text, which becomes a new entry.
     pub fn emit(&mut self, text: PlainText) -> Result<(), AllocError>
-        ensures { OnOk result (self.new ≡ joined self.old (emit_code text (past start self.old))) }
+        ensures { OnOk result (self.new ≡ extended_by self.old (emit_code text)) }
     {
         self.instrs.push(Instr::Emit(self.texts.len()))?;
         self.texts.push(text)?;
@@ -50,16 +51,16 @@ impl Draft {
 
     /// Pushes what a path finds in the root. The path becomes a new entry.
     pub fn root(&mut self, path: Path) -> Result<(), AllocError>
-        ensures { OnOk result (self.new ≡ joined self.old (root_code path (past start self.old))) }
+        ensures { OnOk result (self.new ≡ extended_by self.old (root_code path)) }
     {
         self.instrs.push(Instr::Root(self.paths.len()))?;
         self.paths.push(path)?;
         Ok(())
     }
 
-    /// An instruction without operands.
+    /// An instruction that needs no new entry.
     pub fn push(&mut self, instr: Instr) -> Result<(), AllocError>
-        ensures { OnOk result (self.new ≡ joined self.old (bare (instr ∷ []))) }
+        ensures { OnOk result (self.new ≡ appended self.old (without_tables (instr ∷ []))) }
     {
         self.instrs.push(instr)?;
         Ok(())

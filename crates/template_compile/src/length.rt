@@ -1,21 +1,20 @@
-// How many instructions code has.
+//! How many instructions code has.
 ghost use Rattle.std.specs.Prelude.{◌≡◌, ◌<◌, ◌↔◌, IsTrue};
-ghost use Rattle.template_compile.specs.Length.{term_length, part_length, code_length};
-ghost use Rattle.template_tree.specs.Tree.{term_view, node_view, nodes_view};
+ghost use Rattle.template_code.specs.declared.limits.TheConstants.{MAX_INSTRUCTIONS};
+ghost use Rattle.template_compile.specs.Length.{expression_length, node_length, code_length};
+ghost use Rattle.template_tree.specs.Tree.{expression_view, node_view, nodes_view};
 
+use template_code::limits::MAX_INSTRUCTIONS;
 use template_tree::template::{Expression, Node};
 
-// Code of more instructions is refused.
-const MAX_LENGTH: usize = 4096;
-
-/// Whether the code of these nodes, with the `Halt` behind it, has more than 4,096 instructions.
+/// Whether the code of these nodes, with its `Halt`, has more than `MAX_INSTRUCTIONS` instructions.
 pub fn is_too_long(nodes: &[Node]) -> bool
-    ensures { IsTrue result ↔ 4096 < code_length (nodes_view nodes.now) }
+    ensures { IsTrue result ↔ MAX_INSTRUCTIONS < code_length (nodes_view nodes.now) }
 {
     let mut length = 1;
     for node in nodes {
         length += node_length(node);
-        if length > MAX_LENGTH {
+        if length > MAX_INSTRUCTIONS {
             return true;
         }
     }
@@ -23,7 +22,7 @@ pub fn is_too_long(nodes: &[Node]) -> bool
 }
 
 fn node_length(node: &Node) -> usize
-    ensures { result ≡ part_length (node_view node.now) }
+    ensures { result ≡ node_length (node_view node.now) }
 {
     match node {
         Node::Piece(_) => 1,
@@ -32,7 +31,7 @@ fn node_length(node: &Node) -> usize
 }
 
 fn expression_length(expression: &Expression) -> usize
-    ensures { result ≡ term_length (term_view expression.now) }
+    ensures { result ≡ expression_length (expression_view expression.now) }
 {
     match expression {
         Expression::Reference(_) => 1,

@@ -1,12 +1,9 @@
-// The compiler: from a template's tree to stack code. It stands on `template_tree`, on `template_words`, which has
-// the paths of a tree, and on `template_code`. Its contract cites `specs/Meaning.antt` (what a template means, which
-// knows nothing of code), `Length` (how many instructions its code has), `Compiled` (the code that each part has)
-// and `Errors`.
+//! The compiler: from a template's tree to stack code. It uses `template_tree`, `template_words` (the paths of a tree)
+//! and `template_code`. The contract of `compile` cites `specs/Length.antt` (how many instructions a template's code
+//! has), `Compiled` (the code of each node) and `Correct` (that it writes what the template means).
 #![tactic(auto)]
 
 pub mod compiler;
 mod draft;
 pub mod error;
 mod length;
-#[cfg(test)]
-mod tests;

@@ -1,29 +1,64 @@
--- What a text that is a program is never refused for.
-use Rattle.std.proofs.Common.{◌≡◌, ℕ, List, refl, sym, ap, ◌∙◌}
+-- The errors of a text on the way to its program, and the text that its program writes.
+use Rattle.std.proofs.Common.{◌≡◌, ℕ, ◌<◌, ◌≤◌, List, length, refl, sym, ap, ◌∙◌, arith}
 use Rattle.data_tree.specs.Tree.{Tree}
-use Rattle.data_tree.specs.LookUp.{HasNoEmptyName}
+use Rattle.data_tree.specs.LookUp.{EmptyNameFindsNothing}
 use Rattle.template_code.specs.Machine.{first, Runs}
 use Rattle.template_code.proofs.RunFacts.{ends_alike}
+use Rattle.template_code.specs.Code.{StackCode}
+use Rattle.template_code.specs.WellFormed.{IsWellFormed}
+use Rattle.template_code.specs.declared.limits.TheConstants.{MAX_INSTRUCTIONS}
+use Rattle.template_code.proofs.FormFacts.{formed-few}
+use Rattle.template_tree.specs.Tree.{Nodes}
+use Rattle.template_tree.specs.Grammar.{Spells, IsParseError}
+use Rattle.template_tree.specs.declared.error.ParseError.{ParseError}
+use Rattle.template_tree.specs.declared.error.ParseError.TheVariants as parse
+use Rattle.template_compile.specs.Compiled.{stack_code}
 use Rattle.template_compile.specs.Length.{code_length}
+use Rattle.template_compile.proofs.HasCode.{length-stack_code}
 use Rattle.template_compile.specs.declared.error.CompileError.{CompileError}
 use Rattle.template_compile.specs.declared.error.CompileError.TheVariants as compile
 use Rattle.template_machine.specs.Program.{ProgramParts, IsProgram, IsMeant}
-use Rattle.template_machine.specs.Errors.{of_compile}
-use Rattle.template_machine.specs.declared.error.ProgramError.TheVariants.{OutOfMemory}
+use Rattle.template_machine.specs.Inner.Conversions.{of_parse, of_compile}
+use Rattle.template_machine.specs.Inner.Programs.{IsOnlyErrorOf}
 
 -- a run of a program's code is the run that writes its text
-pub run_means : (p : ProgramParts) (root : Tree) (steps : ℕ) (text : List ℕ) → IsProgram p → HasNoEmptyName root → Runs p.code root steps text → IsMeant p.source root steps text
+pub run_means :
+    (p : ProgramParts) (root : Tree) (steps : ℕ) (text : List ℕ)
+    → IsProgram p → EmptyNameFindsNothing root → Runs p.code root steps text → IsMeant p.source root text
 run_means p root steps text program clean run =
-    let wanted = program.runs root clean in
-    let same = ends_alike p.code root first steps (code_length program.tree) run.0 wanted.0 run.1 wanted.1 in
+    let meant = program.runs root clean in
+    let same = ends_alike p.code root first steps meant.0 run.0 meant.1.0 run.1 meant.1.1 in
     record {
       tree = program.tree;
       spelled = program.spelled;
-      long = same.0;
-      same = sym run.2 ∙ (ap (λ s. s.output) same.1 ∙ wanted.2);
+      same = sym run.2 ∙ (ap (λ s. s.output) same.1 ∙ meant.1.2);
     }
 
--- a compiler's error, where the code isn't too long
-pub compile_error : (e : CompileError) → (e ≡ compile.TooLong → ⊥) → of_compile e ≡ OutOfMemory
-compile_error compile.TooLong never = absurd (never refl)
-compile_error compile.OutOfMemory never = refl
+-- the parser's error
+pub parse_error :
+    (text : List ℕ) (e : ParseError)
+    → IsParseError text e → ((tree : Nodes) → Spells text tree → e ≡ parse.OutOfMemory)
+    → IsOnlyErrorOf text (of_parse e)
+parse_error text (parse.Template t) is only = record { reported = is; exactly = λ p. ap of_parse (only p.0 p.1) }
+parse_error text parse.OutOfMemory is only = record { reported = tt; exactly = λ p. refl }
+
+-- the compiler's error
+pub compile_error :
+    (text : List ℕ) (tree : Nodes) (e : CompileError)
+    → Spells text tree → ((other : Nodes) → Spells text other → tree ≡ other)
+    → (e ≡ compile.TooLong → MAX_INSTRUCTIONS < code_length tree)
+    → IsOnlyErrorOf text (of_compile e)
+compile_error text tree compile.TooLong spelled one long =
+    record {
+      reported = (tree, spelled, long refl);
+      exactly = λ p. let same = ap code_length (one p.0 p.1) in absurd (omega (arith, p.2, same, long refl));
+    }
+compile_error text tree compile.OutOfMemory spelled one long = record { reported = tt; exactly = λ p. refl }
+
+-- the code of a text is no longer than code may be
+pub short_code :
+    (code : StackCode) (tree : Nodes)
+    → IsWellFormed code → code ≡ stack_code tree → code_length tree ≤ MAX_INSTRUCTIONS
+short_code code tree well translated =
+    let same = ap (λ (c : StackCode). length c.instrs) translated in
+    omega (arith, formed-few code well, same, length-stack_code tree)

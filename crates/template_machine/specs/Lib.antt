@@ -1,4 +1,4 @@
-pub mod Safe
-pub mod Slots
 pub mod Program
 pub mod Errors
+pub mod Safe
+pub mod Inner

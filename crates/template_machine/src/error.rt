@@ -1,96 +1,73 @@
-// Why a text is no program.
-ghost use Rattle.template_machine.specs.declared.error.ProgramError.TheVariants.{OutOfMemory};
+//! Why a text is no program.
 
 use code_verifier::error::VerifyError;
-use data_tree::error_code::ErrorCode;
+use error_code::error_code::ErrorCode;
 use std::alloc::AllocError;
 use template_code::rule::Rule;
 use template_compile::error::CompileError;
-use template_tree::error::TemplateError;
+use template_tree::error::{ParseError, TemplateError};
 
-/// Why there is no program for a text, and the byte of the text at which the tag with the fault begins.
+/// Why there is no program for a text.
 #[derive(Clone, Copy, Debug)]
 pub enum ProgramError {
-    /// A tag has no close.
-    UnclosedTag { at: usize },
-    /// What a tag shows is spelled wrongly.
-    BadPath { at: usize },
-    /// A tag of a kind that isn't known.
-    UnsupportedTag { at: usize },
-    /// The text has more than 65,536 bytes, which is told at 65,536, or its code would have more than 4,096
-    /// instructions, which is told at 0.
-    TooLong { at: usize },
-    /// The verifier refused the code. `from_text` never says so.
-    CodeRefused { place: usize, rule: Rule },
+    Template(TemplateError),
+    /// The code would have more than `MAX_INSTRUCTIONS` instructions.
+    CodeTooLong,
+    /// The instruction with this index breaks this rule of the verifier. `from_text` never gives it.
+    CodeRefused { index: usize, rule: Rule },
     OutOfMemory,
 }
 
 impl ProgramError {
     ghost use Rattle.std.specs.Prelude.{◌≡◌};
-    ghost use Rattle.data_tree.specs.ErrorCode.{title_of};
-    ghost use Rattle.template_machine.specs.Errors.{code_of, place_of};
+    ghost use Rattle.template_machine.specs.Errors.{error_code_of, offset_of};
 
-    /// Its code.
-    pub fn code(&self) -> ErrorCode
-        ensures { result ≡ code_of self.now }
+    pub fn error_code(&self) -> ErrorCode
+        ensures { result ≡ error_code_of self.now }
     {
         match self {
-            ProgramError::UnclosedTag { .. } => ErrorCode::UnclosedTag,
-            ProgramError::BadPath { .. } => ErrorCode::BadPath,
-            ProgramError::UnsupportedTag { .. } => ErrorCode::UnsupportedTag,
-            ProgramError::TooLong { .. } => ErrorCode::TooLong,
+            ProgramError::Template(error) => error.error_code(),
+            ProgramError::CodeTooLong => ErrorCode::TooLong,
             ProgramError::CodeRefused { .. } => ErrorCode::CodeRefused,
             ProgramError::OutOfMemory => ErrorCode::OutOfMemory,
         }
     }
 
-    /// Its title.
-    pub fn title(&self) -> &'static str
-        ensures { result.now ≡ title_of (code_of self.now) }
-    {
-        self.code().title()
-    }
-
-    /// The byte of the text, where the fault has a place in it.
+    /// The byte of the text at which the error is reported: 0 for code that is too long.
     pub fn at(&self) -> Option<usize>
-        ensures { result ≡ place_of self.now }
+        ensures { result ≡ offset_of self.now }
     {
         match self {
-            ProgramError::UnclosedTag { at }
-            | ProgramError::BadPath { at }
-            | ProgramError::UnsupportedTag { at }
-            | ProgramError::TooLong { at } => Some(*at),
+            ProgramError::Template(error) => Some(error.at),
+            ProgramError::CodeTooLong => Some(0),
             ProgramError::CodeRefused { .. } | ProgramError::OutOfMemory => None,
         }
     }
 }
 
-impl From<TemplateError> for ProgramError {
+impl From<ParseError> for ProgramError {
     ghost use Rattle.std.specs.Prelude.{◌≡◌};
-    ghost use Rattle.template_machine.specs.Errors.{of_template};
+    ghost use Rattle.template_machine.specs.Inner.Conversions.{of_parse};
 
-    ghost from_gives = { λ told error. error ≡ of_template told };
+    ghost from_gives = { λ lower error. error ≡ of_parse lower };
 
-    fn from(told: TemplateError) -> ProgramError {
-        match told {
-            TemplateError::UnclosedTag { at } => ProgramError::UnclosedTag { at },
-            TemplateError::BadPath { at } => ProgramError::BadPath { at },
-            TemplateError::UnsupportedTag { at } => ProgramError::UnsupportedTag { at },
-            TemplateError::TooLong { at } => ProgramError::TooLong { at },
-            TemplateError::OutOfMemory => ProgramError::OutOfMemory,
+    fn from(lower: ParseError) -> ProgramError {
+        match lower {
+            ParseError::Template(error) => ProgramError::Template(error),
+            ParseError::OutOfMemory => ProgramError::OutOfMemory,
         }
     }
 }
 
 impl From<CompileError> for ProgramError {
     ghost use Rattle.std.specs.Prelude.{◌≡◌};
-    ghost use Rattle.template_machine.specs.Errors.{of_compile};
+    ghost use Rattle.template_machine.specs.Inner.Conversions.{of_compile};
 
-    ghost from_gives = { λ told error. error ≡ of_compile told };
+    ghost from_gives = { λ lower error. error ≡ of_compile lower };
 
-    fn from(told: CompileError) -> ProgramError {
-        match told {
-            CompileError::TooLong => ProgramError::TooLong { at: 0 },
+    fn from(lower: CompileError) -> ProgramError {
+        match lower {
+            CompileError::TooLong => ProgramError::CodeTooLong,
             CompileError::OutOfMemory => ProgramError::OutOfMemory,
         }
     }
@@ -98,17 +75,17 @@ impl From<CompileError> for ProgramError {
 
 impl From<VerifyError> for ProgramError {
     ghost use Rattle.std.specs.Prelude.{◌≡◌};
-    ghost use Rattle.template_machine.specs.Errors.{of_verify};
+    ghost use Rattle.template_machine.specs.Inner.Conversions.{of_verify};
 
-    ghost from_gives = { λ told error. error ≡ of_verify told };
+    ghost from_gives = { λ lower error. error ≡ of_verify lower };
 
-    fn from(told: VerifyError) -> ProgramError {
-        match told {
+    fn from(lower: VerifyError) -> ProgramError {
+        match lower {
             VerifyError::CodeRefused {
                 code: _,
-                place,
+                index,
                 rule,
-            } => ProgramError::CodeRefused { place, rule },
+            } => ProgramError::CodeRefused { index, rule },
             VerifyError::OutOfMemory { code: _ } => ProgramError::OutOfMemory,
         }
     }
@@ -116,6 +93,7 @@ impl From<VerifyError> for ProgramError {
 
 impl From<AllocError> for ProgramError {
     ghost use Rattle.std.specs.Prelude.{◌≡◌};
+    ghost use Rattle.template_machine.specs.declared.error.ProgramError.TheVariants.{OutOfMemory};
 
     ghost from_gives = { λ _ error. error ≡ OutOfMemory };
 

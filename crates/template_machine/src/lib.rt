@@ -1,7 +1,6 @@
-// Programs: templates that are compiled and verified, and the machine that runs them. It stands on the
-// parser, the compiler and the verifier. `specs/Safe.antt` says what holds of all code that the verifier
-// accepts, `Program` what a program is and what rendering it gives; what the machine does is
-// `template_code`'s `Machine`, what a template means `template_compile`'s `Meaning`.
+//! Programs: templates that are compiled and verified, and the machine that runs them. It uses the parser, the compiler
+//! and the verifier. `specs/Program.antt` says what a program is and what rendering it gives, `Errors` when an error is
+//! true of a text, `Safe` what holds of all code that the verifier accepts.
 #![tactic(auto)]
 
 pub mod error;
@@ -10,5 +9,4 @@ mod machine;
 pub mod program;
 pub mod run;
 mod slot;
-#[cfg(test)]
-mod tests;
+mod value;

@@ -1,12 +1,13 @@
-// Programs: templates that are compiled and verified, ready to be rendered.
+//! Programs: templates that are compiled and verified, ready to be rendered.
 ghost use Rattle.std.specs.Prelude.{◌≡◌, ◌≤◌, ℕ, length, string_bytes, IfOk, IfErr, OnOk, IsErrOf};
 ghost use Rattle.data_tree.specs.Json.{size};
 ghost use Rattle.data_tree.specs.RequestData.{root_of};
-ghost use Rattle.template_code.specs.Bounds.{value, told};
+ghost use Rattle.template_code.specs.Bounds.{value, as_printed};
 ghost use Rattle.template_code.specs.Budget.{budget};
 ghost use Rattle.template_code.specs.Machine.{Runs};
 ghost use Rattle.template_code.specs.declared.rule.Rule.{Rule};
-ghost use Rattle.template_machine.specs.Errors.{IsTold};
+ghost use Rattle.template_machine.specs.Errors.{IsErrorOf};
+ghost use Rattle.template_machine.specs.Inner.Programs.{IsCodeOf, IsOnlyErrorOf};
 ghost use Rattle.template_machine.specs.Program.{IsProgram, IsProgramText, IsMeant};
 ghost use Rattle.template_machine.specs.Safe.{IsSafe};
 ghost use Rattle.template_machine.specs.declared.error.ProgramError.TheVariants.{CodeRefused, OutOfMemory};
@@ -41,26 +42,30 @@ impl Model for Program {
 }
 
 impl Program {
-    /// The program of a template's text, where the text is one.
+    /// The program of a template's text. Work and memory grow with the text's length.
     ///
-    /// Else the text's first fault is told, and code that would be too long only where there is no other. Work
-    /// and memory grow with the text's length; where memory is refused, that is told.
+    /// A text that is no template is refused by its first error, and a template whose code would be too long by that.
     pub fn from_text(alloc: Global, text: &str) -> Result<Program, ProgramError>
         ensures source { IfOk result (λ program. program.source ≡ text.now) }
         ensures program { IfOk result IsProgram }
         ensures ok { OnOk result (IsProgramText text.now) }
         ensures exactly { IsProgramText text.now → IfErr result (λ error. error ≡ OutOfMemory) }
-        ensures told { IfErr result (λ error. IsTold text.now error) }
-        ensures never_refused { (place : ℕ) (rule : Rule) → IsErrOf result (CodeRefused place rule) → ⊥ }
+        ensures reported { IfErr result (λ error. IsErrorOf text.now error) }
+        ensures never_refused { (index : ℕ) (rule : Rule) → IsErrOf result (CodeRefused index rule) → ⊥ }
     {
-        let template = parse(alloc, text)?;
-        let code = compile(alloc, &template)?;
-        let verified = verify(alloc, code)?;
+        let verified = verified_code(alloc, text)?;
         let source = String::from_str(alloc, text)?;
-        Ok(Program { source, verified })
+        Ok(Program::new(source, verified))
     }
 
-    /// The text.
+    fn new(source: String, verified: Verified) -> Program
+        requires { IsProgram (record { source = string_bytes source; code = verified }) }
+        ensures source { result.source ≡ string_bytes source }
+        ensures program { IsProgram result }
+    {
+        Program { source, verified }
+    }
+
     pub fn source(&self) -> &str
         ensures { result.now ≡ self.now.source }
     {
@@ -69,16 +74,25 @@ impl Program {
 
     /// How many steps a rendering takes and how many bytes it writes, at most.
     pub fn budget(&self) -> &Budget
-        ensures steps { result.now.steps ≡ told (budget self.now.code).steps }
-        ensures bytes { result.now.bytes ≡ told (budget self.now.code).bytes }
+        ensures steps { result.now.steps ≡ as_printed (budget self.now.code).steps }
+        ensures bytes { result.now.bytes ≡ as_printed (budget self.now.code).bytes }
     {
         self.verified.budget()
     }
 }
 
+fn verified_code(alloc: Global, text: &str) -> Result<Verified, ProgramError>
+    ensures ok { IfOk result (λ code. IsCodeOf text.now code) }
+    ensures err { IfErr result (λ error. IsOnlyErrorOf text.now error) }
+{
+    let template = parse(alloc, text)?;
+    let code = compile(alloc, template)?;
+    Ok(verify(alloc, code)?)
+}
+
 /// The text that a program's source means over a request's data, and the steps of its run.
 ///
-/// The only error is that memory for the text is refused.
+/// The only error is that memory for the text runs out.
 pub fn render(
     alloc: Global,
     program: &Program,
@@ -86,13 +100,13 @@ pub fn render(
 ) -> Result<Rendered, AllocError>
     ensures safe { IsSafe program.now.code }
     ensures meant { IfOk result
-        (λ rendered. IsMeant program.now.source (root_of request.now) rendered.steps (string_bytes rendered.text)) }
+        (λ rendered. IsMeant program.now.source (root_of request.now) (string_bytes rendered.text)) }
     ensures run { IfOk result
         (λ rendered. Runs program.now.code (root_of request.now) rendered.steps (string_bytes rendered.text)) }
     ensures steps { IfOk result
         (λ rendered. rendered.steps ≤ value (budget program.now.code).steps (size (root_of request.now))) }
-    ensures bytes { IfOk result
-        (λ rendered. length (string_bytes rendered.text) ≤ value (budget program.now.code).bytes (size (root_of request.now))) }
+    ensures bytes { IfOk result (λ rendered.
+        length (string_bytes rendered.text) ≤ value (budget program.now.code).bytes (size (root_of request.now))) }
 {
     run(alloc, &program.verified, request)
 }

@@ -1,69 +1,82 @@
 -- A piece of text goes up to the next mark, or to the end.
-use Rattle.std.proofs.Common.{◌≡◌, ℕ, zero, suc, ◌<◌, ◌≤◌, ◌==◌, inl, inr, List, [], ◌∷◌, ◌++◌, length, take, drop, codes, Option, Some, None, IfSome, Result, Ok, Err, refl, sym, ap, subst, ◌∙◌, arith, append_assoc, length-append, length-drop}
+use Rattle.std.proofs.Common.{◌≡◌, ℕ, zero, suc, ◌<◌, ◌≤◌, ◌==◌, inl, inr, List, [], ◌∷◌, ◌++◌, length, take, drop}
+use Rattle.std.proofs.Common.{codes, Option, Some, None, IfSome, Result, Ok, Err, refl, sym, ap, subst, ◌∙◌, arith}
+use Rattle.std.proofs.Common.{append_assoc, length-append, length-drop}
 use Rattle.std.specs.List.{ends_with}
 use Rattle.std.proofs.lemmas.Bool.{cond_both, both_ways}
 use Rattle.std.proofs.lemmas.List.{append-nil, take-append-drop, drop-append-le, length-take-le}
-use Rattle.template_words.specs.declared.fault.Fault.{Fault}
+use Rattle.template_words.specs.declared.error.TagError.{TagError}
 use Rattle.template_tree.specs.Laws.{IsPiece}
-use Rattle.template_words.specs.Marks.{begins, place_of}
+use Rattle.template_words.specs.Marks.{begins, offset_of}
 use Rattle.template_tree.specs.Tags.{Tag, comment, shown, tag_of}
-use Rattle.template_tree.specs.Tokens.{part_token, token, fault, ended, print_next, closed_next, tag_next, escaped, last_text_next, next_at, next_of, term_of}
-use Rattle.template_tree.specs.Tree.{Term, piece}
+use Rattle.template_tree.specs.Tokens.{node_token, token, tag_error, ended, print_next, closed_next, tag_next}
+use Rattle.template_tree.specs.Tokens.{error_after_backslash, last_text_next, next_at, next_of, expression_of}
+use Rattle.template_tree.specs.Tree.{Expression, piece}
 use Rattle.template_words.proofs.Closes.{Marks, marks}
-use Rattle.template_words.proofs.Finding.{begins_own, place_none}
+use Rattle.template_words.proofs.Finding.{begins_own, offset_none}
 
-same_piece : (a b x y : List ℕ) → token (part_token (piece a)) x ≡ token (part_token (piece b)) y → (a ≡ b) × (x ≡ y)
+same_piece : (a b x y : List ℕ) → token (node_token (piece a)) x ≡ token (node_token (piece b)) y → (a ≡ b) × (x ≡ y)
 same_piece a b x y e = (cc, cc)
 
 -- the same piece and rest under other names
-renamed : (text a b x y : List ℕ) → token (part_token (piece a)) x ≡ token (part_token (piece b)) y → IsPiece text a x → IsPiece text b y
+renamed : (text a b x y : List ℕ) → token (node_token (piece a)) x ≡ token (node_token (piece b)) y
+    → IsPiece text a x → IsPiece text b y
 renamed text a b x y e h =
     let p = same_piece a b x y e in
     let P : List ℕ → Type 0 = λ q. IsPiece text q x in
     let Q : List ℕ → Type 0 = λ r. IsPiece text b r in
     subst Q p.1 (subst P p.0 h)
 
-no_print : (text p rest more : List ℕ) (term : Result Term Fault) → print_next text term rest ≡ token (part_token (piece p)) more → ⊥
+no_print : (text p rest more : List ℕ) (term : Result Expression TagError)
+    → print_next text term rest ≡ token (node_token (piece p)) more → ⊥
 no_print text p rest more (Ok term) e = cc
 no_print text p rest more (Err f) e = cc
 
-no_closed : (text p rest more : List ℕ) (tag : Tag) → closed_next text tag rest ≡ token (part_token (piece p)) more → ⊥
+no_closed : (text p rest more : List ℕ) (tag : Tag) → closed_next text tag rest ≡ token (node_token (piece p)) more → ⊥
 no_closed text p rest more comment e = cc
-no_closed text p rest more (shown opening content) e = no_print text p rest more (term_of opening content) e
+no_closed text p rest more (shown opening content) e = no_print text p rest more (expression_of opening content) e
 
-no_tag : (text p more : List ℕ) (o : Option (Tag × List ℕ)) → tag_next text o ≡ token (part_token (piece p)) more → ⊥
+no_tag : (text p more : List ℕ) (o : Option (Tag × List ℕ)) → tag_next text o ≡ token (node_token (piece p)) more → ⊥
 no_tag text p more None e = cc
 no_tag text p more (Some x) e = no_closed text p x.1 more x.0 e
 
 -- before the first mark there is none
-before_first : (mark text : List ℕ) (n : ℕ) → 0 < length mark → Marks mark text n → place_of mark (take n text) ≡ None
-before_first mark text n some m = place_none mark (take n text) some none
+before_first : (mark text : List ℕ) (n : ℕ) → 0 < length mark → Marks mark text n → offset_of mark (take n text) ≡ None
+before_first mark text n some m = offset_none mark (take n text) some none
   where
     none : (i : ℕ) → i ≤ length (take n text) → (rest : List ℕ) → drop i (take n text) ≡ mark ++ rest → ⊥
     none i le rest e =
         let long : length (take n text) ≡ n = length-take-le n text (omega (arith, m.inside)) in
         let whole : drop i text ≡ drop i (take n text ++ drop n text) = ap (drop i) (sym (take-append-drop n text)) in
-        let apart : drop i (take n text ++ drop n text) ≡ drop i (take n text) ++ drop n text = drop-append-le i (take n text) (drop n text) le in
-        let here : drop i text ≡ mark ++ (rest ++ drop n text) = whole ∙ (apart ∙ (ap (λ x. x ++ drop n text) e ∙ append_assoc mark rest (drop n text))) in
-        let before : i < n = omega (arith, some, long, le, length-append mark rest, ap length e, length-drop i (take n text)) in
-        both_ways (begins mark (drop i text)) (m.first i before) (ap (begins mark) here ∙ begins_own mark (rest ++ drop n text))
+        let apart : drop i (take n text ++ drop n text) ≡ drop i (take n text) ++ drop n text =
+        drop-append-le i (take n text) (drop n text) le in
+        let here : drop i text ≡ mark ++ (rest ++ drop n text) =
+        whole ∙ (apart ∙ (ap (λ x. x ++ drop n text) e ∙ append_assoc mark rest (drop n text))) in
+        let before : i < n =
+        omega (arith, some, long, le, length-append mark rest, ap length e, length-drop i (take n text)) in
+        both_ways (begins mark (drop i text)) (m.first i before)
+        (ap (begins mark) here ∙ begins_own mark (rest ++ drop n text))
 
-last_piece : (text p rest : List ℕ) → place_of (codes "{{") text ≡ None → last_text_next text ≡ token (part_token (piece p)) rest → IsPiece text p rest
+last_piece : (text p rest : List ℕ) → offset_of (codes "{{") text ≡ None
+    → last_text_next text ≡ token (node_token (piece p)) rest → IsPiece text p rest
 last_piece [] p rest none e = absurd (ended_differs e)
   where
-    ended_differs : ended ≡ token (part_token (piece p)) rest → ⊥
+    ended_differs : ended ≡ token (node_token (piece p)) rest → ⊥
     ended_differs q = cc
 last_piece (b ∷ bs) p rest none e =
-    renamed (b ∷ bs) (b ∷ bs) p [] rest e (record { split = sym (append-nil (b ∷ bs)); some = omega arith; unmarked = none; until = inl refl })
+    renamed (b ∷ bs) (b ∷ bs) p [] rest e
+    (record { split = sym (append-nil (b ∷ bs)); some = omega arith; unmarked = none; until = inl refl })
 
-piece_at : (text p rest : List ℕ) (o : Option ℕ) → place_of (codes "{{") text ≡ o → IfSome o (Marks (codes "{{") text) → next_at text o ≡ token (part_token (piece p)) rest → IsPiece text p rest
+piece_at : (text p rest : List ℕ) (o : Option ℕ) → offset_of (codes "{{") text ≡ o
+    → IfSome o (Marks (codes "{{") text) → next_at text o ≡ token (node_token (piece p)) rest → IsPiece text p rest
 piece_at text p rest None o h e = last_piece text p rest o e
 piece_at text p rest (Some zero) o h e = absurd (no_tag text p rest (tag_of text) e)
 piece_at text p rest (Some (suc n)) o h e =
     let front = take (suc n) text in
     let mark = drop (suc n) text in
-    cond_both (ends_with ◌==◌ front (codes "\\")) (fault (escaped (tag_of mark)) mark) (token (part_token (piece front)) mark) (λ x. x ≡ token (part_token (piece p)) rest → IsPiece text p rest)
-    (λ t q. absurd (fault_differs q))
+    cond_both (ends_with ◌==◌ front (codes "\\")) (tag_error (error_after_backslash (tag_of mark)) mark)
+    (token (node_token (piece front)) mark) (λ x. x ≡ token (node_token (piece p)) rest → IsPiece text p rest)
+    (λ t q. absurd (error_differs q))
     (λ f q. renamed text front p mark rest q (record {
       split = sym (take-append-drop (suc n) text);
       some = omega (arith, length-take-le (suc n) text (omega (arith, h.inside)));
@@ -72,9 +85,10 @@ piece_at text p rest (Some (suc n)) o h e =
     }))
     e
   where
-    fault_differs : fault (escaped (tag_of (drop (suc n) text))) (drop (suc n) text) ≡ token (part_token (piece p)) rest → ⊥
-    fault_differs q = cc
+    error_differs : tag_error (error_after_backslash (tag_of (drop (suc n) text))) (drop (suc n) text)
+        ≡ token (node_token (piece p)) rest → ⊥
+    error_differs q = cc
 
-pub whole_piece : (text p rest : List ℕ) → next_of text ≡ token (part_token (piece p)) rest → IsPiece text p rest
+pub whole_piece : (text p rest : List ℕ) → next_of text ≡ token (node_token (piece p)) rest → IsPiece text p rest
 unfolding next_of
-whole_piece text p rest e = piece_at text p rest (place_of (codes "{{") text) refl (marks (codes "{{") text) e
+whole_piece text p rest e = piece_at text p rest (offset_of (codes "{{") text) refl (marks (codes "{{") text) e

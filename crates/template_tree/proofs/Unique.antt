@@ -1,42 +1,50 @@
--- A text spells one tree at most, has one fault at most, and has one of the two.
-use Rattle.std.proofs.Common.{◌≡◌, ℕ, ◌<◌, List, [], ◌∷◌, length, refl, sym, ap, subst, ◌∙◌, arith}
+-- A text spells one tree at most, has one error at most, and never both.
+use Rattle.std.proofs.Common.{◌≡◌, ℕ, ◌<◌, ◌⊎◌, inl, inr, List, [], ◌∷◌, length, Result, Ok, Err, IfOk, IfErr}
+use Rattle.std.proofs.Common.{MatchResult, refl, sym, ap, subst, ◌∙◌, arith}
+use Rattle.template_tree.specs.declared.error.ParseError.{ParseError}
+use Rattle.template_tree.specs.declared.error.ParseError.TheVariants as kinds
+use Rattle.template_tree.specs.declared.template.Template.{Template}
 use Rattle.template_tree.specs.declared.error.TemplateError.{TemplateError}
-use Rattle.template_tree.specs.declared.error.TemplateError.TheVariants.{UnclosedTag, BadPath, UnsupportedTag, TooLong, OutOfMemory}
-use Rattle.template_words.specs.declared.fault.Fault.{Fault}
-use Rattle.template_words.specs.declared.fault.Fault.TheVariants.{Unclosed, Misspelled, Unsupported}
-use Rattle.template_tree.specs.Errors.{error_of}
-use Rattle.template_tree.specs.Grammar.{Level, Leads, without_comments, spell, Spells, FaultAt, IsFault, OrMemory}
-use Rattle.template_tree.specs.Tokens.{Token, part_token, Next, token, fault, ended, next_of}
-use Rattle.template_tree.specs.Tree.{Part, Nodes, no_nodes, node}
+use Rattle.template_tree.specs.declared.error.TemplateErrorKind.{TemplateErrorKind}
+use Rattle.template_tree.specs.declared.error.TemplateErrorKind.TheVariants.{Tag, TooLong}
+use Rattle.template_tree.specs.declared.parser.TheConstants.{TEXT_LIMIT}
+use Rattle.template_words.specs.declared.error.TagError.{TagError}
+use Rattle.template_tree.specs.Grammar.{Level, Leads, without_comments, spell, Spells, IsTagErrorAt, IsErrorAt}
+use Rattle.template_tree.specs.Grammar.{IsTemplateError, IsParseError}
+use Rattle.template_tree.specs.Tokens.{Token, node_token, Next, token, tag_error, ended, next_of}
+use Rattle.template_tree.specs.Tree.{Node, Nodes, no_nodes, first_node, tree_of}
 use Rattle.template_tree.proofs.Rows.{empty_ended}
 
--- no token stands here
+-- no token begins here
 abbrev Stops : List ℕ → Type 0
 Stops rest = (t : Token) (more : List ℕ) → next_of rest ≡ token t more → ⊥
 
 tokens_differ : (n : Next) (t : Token) (more : List ℕ) → n ≡ ended → n ≡ token t more → ⊥
 tokens_differ n t more p q = cc
 
-fault_differs : (n : Next) (t : Token) (more : List ℕ) (f : Fault) (mark : List ℕ) → n ≡ fault f mark → n ≡ token t more → ⊥
-fault_differs n t more f mark p q = cc
+error_differs : (n : Next) (t : Token) (more : List ℕ) (f : TagError) (mark : List ℕ) → n ≡ tag_error f mark
+    → n ≡ token t more → ⊥
+error_differs n t more f mark p q = cc
 
-fault_not_ended : (n : Next) (f : Fault) (mark : List ℕ) → n ≡ fault f mark → n ≡ ended → ⊥
-fault_not_ended n f mark p q = cc
+error_not_ended : (n : Next) (f : TagError) (mark : List ℕ) → n ≡ tag_error f mark → n ≡ ended → ⊥
+error_not_ended n f mark p q = cc
 
 stops_empty : Stops []
 stops_empty t more e = tokens_differ (next_of []) t more empty_ended e
 
-stops_fault : (rest mark : List ℕ) (f : Fault) → next_of rest ≡ fault f mark → Stops rest
-stops_fault rest mark f h t more e = fault_differs (next_of rest) t more f mark h e
+stops_error : (rest mark : List ℕ) (f : TagError) → next_of rest ≡ tag_error f mark → Stops rest
+stops_error rest mark f h t more e = error_differs (next_of rest) t more f mark h e
 
-same_token : (n : Next) (t u : Token) (more rest : List ℕ) → n ≡ token t more → n ≡ token u rest → (t ≡ u) × (more ≡ rest)
+same_token : (n : Next) (t u : Token) (more rest : List ℕ) → n ≡ token t more → n ≡ token u rest
+    → (t ≡ u) × (more ≡ rest)
 same_token n t u more rest p q = (cc, cc)
 
-same_fault : (n : Next) (f g : Fault) (a b : List ℕ) → n ≡ fault f a → n ≡ fault g b → (f ≡ g) × (a ≡ b)
-same_fault n f g a b p q = (cc, cc)
+same_error : (n : Next) (f g : TagError) (a b : List ℕ) → n ≡ tag_error f a → n ≡ tag_error g b → (f ≡ g) × (a ≡ b)
+same_error n f g a b p q = (cc, cc)
 
 -- rows of tokens from one text that stop are one row
-same_row : (ts us : List Token) (levels l m : List Level) (text rest left : List ℕ) → Leads ts levels text l rest → Leads us levels text m left → Stops rest → Stops left → (ts ≡ us) × (rest ≡ left)
+same_row : (ts us : List Token) (levels l m : List Level) (text rest left : List ℕ) → Leads ts levels text l rest
+    → Leads us levels text m left → Stops rest → Stops left → (ts ≡ us) × (rest ≡ left)
 same_row [] [] levels l m text rest left p q s u = (refl, sym p.1 ∙ q.1)
 same_row [] (t ∷ ts) levels l m text rest left p q s u = absurd (s t q.0 (ap next_of (sym p.1) ∙ q.1))
 same_row (t ∷ ts) [] levels l m text rest left p q s u = absurd (u t p.0 (ap next_of (sym q.1) ∙ p.1))
@@ -46,77 +54,76 @@ same_row (t ∷ ts) (v ∷ vs) levels l m text rest left p q s u =
     let ih = same_row ts vs levels l m p.0 rest left p.2 (subst P (sym e.1) q.2) s u in
     (ap (λ x. x ∷ ts) e.0 ∙ ap (λ xs. v ∷ xs) ih.0, ih.1)
 
-same_head : (p q : Part) (ts us : List Token) → part_token p ∷ ts ≡ part_token q ∷ us → (p ≡ q) × (ts ≡ us)
+same_head : (p q : Node) (ts us : List Token) → node_token p ∷ ts ≡ node_token q ∷ us → (p ≡ q) × (ts ≡ us)
 same_head p q ts us e = (cc, cc)
 
 same_tree : (a b : Nodes) → spell a [] ≡ spell b [] → a ≡ b
 same_tree no_nodes no_nodes e = refl
-same_tree no_nodes (node p b) e = cc
-same_tree (node p a) no_nodes e = cc
-same_tree (node p a) (node q b) e =
+same_tree no_nodes (first_node p b) e = cc
+same_tree (first_node p a) no_nodes e = cc
+same_tree (first_node p a) (first_node q b) e =
     let h = same_head p q (spell a []) (spell b []) e in
-    ap (λ x. node x a) h.0 ∙ ap (node q) (same_tree a b h.1)
+    ap (λ x. first_node x a) h.0 ∙ ap (first_node q) (same_tree a b h.1)
 
 pub one_tree : (text : List ℕ) (a b : Nodes) → Spells text a → Spells text b → a ≡ b
 one_tree text a b p q =
     let r = same_row p.tokens q.tokens [] [] [] text [] [] p.leads q.leads stops_empty stops_empty in
     same_tree a b (sym p.same ∙ (ap without_comments r.0 ∙ q.same))
 
-no_fault_at : (text : List ℕ) (a : Nodes) (f : Fault) (at : ℕ) → Spells text a → FaultAt text f at → ⊥
-no_fault_at text a f at p q =
-    let r = same_row p.tokens q.tokens [] [] q.levels text [] q.rest p.leads q.leads stops_empty (stops_fault q.rest q.mark f q.wrong) in
-    fault_not_ended (next_of q.rest) f q.mark q.wrong (ap next_of (sym r.1) ∙ empty_ended)
+no_error_at : (text : List ℕ) (a : Nodes) (f : TagError) (at : ℕ) → Spells text a → IsTagErrorAt text f at → ⊥
+no_error_at text a f at p q =
+    let r =
+    same_row p.tokens q.tokens [] [] q.levels text [] q.rest p.leads q.leads stops_empty
+    (stops_error q.rest q.mark f q.wrong) in
+    error_not_ended (next_of q.rest) f q.mark q.wrong (ap next_of (sym r.1) ∙ empty_ended)
 
-pub never_both : (text : List ℕ) (a : Nodes) (e : TemplateError) → Spells text a → IsFault text e → ⊥
-never_both text a (UnclosedTag at) p q = no_fault_at text a Unclosed at p q
-never_both text a (BadPath at) p q = no_fault_at text a Misspelled at p q
-never_both text a (UnsupportedTag at) p q = no_fault_at text a Unsupported at p q
-never_both text a (TooLong at) p q = omega (arith, p.short, q.0)
-never_both text a OutOfMemory p q = q
+never_both_at : (text : List ℕ) (a : Nodes) (kind : TemplateErrorKind) (at : ℕ) → Spells text a
+    → IsErrorAt text kind at → ⊥
+never_both_at text a (Tag e) at p q = no_error_at text a e at p q
+never_both_at text a TooLong at p q = omega (arith, p.short, q.0)
 
-same_fault_at : (text : List ℕ) (f g : Fault) (at by : ℕ) → FaultAt text f at → FaultAt text g by → error_of f at ≡ error_of g by
-same_fault_at text f g at by p q =
-    let r = same_row p.tokens q.tokens [] p.levels q.levels text p.rest q.rest p.leads q.leads (stops_fault p.rest p.mark f p.wrong) (stops_fault q.rest q.mark g q.wrong) in
-    let e = same_fault (next_of p.rest) f g p.mark q.mark p.wrong (ap next_of r.1 ∙ q.wrong) in
-    let n : at ≡ by = omega (arith, p.offset, q.offset, ap length e.1) in
-    ap (λ x. error_of x at) e.0 ∙ ap (error_of g) n
+pub never_both : (text : List ℕ) (a : Nodes) (e : TemplateError) → Spells text a → IsTemplateError text e → ⊥
+never_both text a e p q = never_both_at text a e.kind e.at p q
 
-short_and_long : (text : List ℕ) (f : Fault) (at : ℕ) → FaultAt text f at → 65536 < length text → ⊥
+same_tag_error : (text : List ℕ) (f g : TagError) (at by : ℕ) → IsTagErrorAt text f at → IsTagErrorAt text g by
+    → (f ≡ g) × (at ≡ by)
+same_tag_error text f g at by p q =
+    let r =
+    same_row p.tokens q.tokens [] p.levels q.levels text p.rest q.rest p.leads q.leads
+    (stops_error p.rest p.mark f p.wrong) (stops_error q.rest q.mark g q.wrong) in
+    let e = same_error (next_of p.rest) f g p.mark q.mark p.wrong (ap next_of r.1 ∙ q.wrong) in
+    (e.0, omega (arith, p.offset, q.offset, ap length e.1))
+
+short_and_long : (text : List ℕ) (f : TagError) (at : ℕ) → IsTagErrorAt text f at → TEXT_LIMIT < length text → ⊥
 short_and_long text f at p h = omega (arith, p.short, h)
 
-pub one_fault : (text : List ℕ) (d e : TemplateError) → IsFault text d → IsFault text e → d ≡ e
-one_fault text (UnclosedTag at) (UnclosedTag by) p q = same_fault_at text Unclosed Unclosed at by p q
-one_fault text (UnclosedTag at) (BadPath by) p q = same_fault_at text Unclosed Misspelled at by p q
-one_fault text (UnclosedTag at) (UnsupportedTag by) p q = same_fault_at text Unclosed Unsupported at by p q
-one_fault text (UnclosedTag at) (TooLong by) p q = absurd (short_and_long text Unclosed at p q.0)
-one_fault text (UnclosedTag at) OutOfMemory p q = absurd q
-one_fault text (BadPath at) (UnclosedTag by) p q = same_fault_at text Misspelled Unclosed at by p q
-one_fault text (BadPath at) (BadPath by) p q = same_fault_at text Misspelled Misspelled at by p q
-one_fault text (BadPath at) (UnsupportedTag by) p q = same_fault_at text Misspelled Unsupported at by p q
-one_fault text (BadPath at) (TooLong by) p q = absurd (short_and_long text Misspelled at p q.0)
-one_fault text (BadPath at) OutOfMemory p q = absurd q
-one_fault text (UnsupportedTag at) (UnclosedTag by) p q = same_fault_at text Unsupported Unclosed at by p q
-one_fault text (UnsupportedTag at) (BadPath by) p q = same_fault_at text Unsupported Misspelled at by p q
-one_fault text (UnsupportedTag at) (UnsupportedTag by) p q = same_fault_at text Unsupported Unsupported at by p q
-one_fault text (UnsupportedTag at) (TooLong by) p q = absurd (short_and_long text Unsupported at p q.0)
-one_fault text (UnsupportedTag at) OutOfMemory p q = absurd q
-one_fault text (TooLong at) (UnclosedTag by) p q = absurd (short_and_long text Unclosed by q p.0)
-one_fault text (TooLong at) (BadPath by) p q = absurd (short_and_long text Misspelled by q p.0)
-one_fault text (TooLong at) (UnsupportedTag by) p q = absurd (short_and_long text Unsupported by q p.0)
-one_fault text (TooLong at) (TooLong by) p q = ap TooLong (p.1 ∙ sym q.1)
-one_fault text (TooLong at) OutOfMemory p q = absurd q
-one_fault text OutOfMemory e p q = absurd p
+one_error_at : (text : List ℕ) (d e : TemplateErrorKind) (at by : ℕ) → IsErrorAt text d at → IsErrorAt text e by
+    → (d ≡ e) × (at ≡ by)
+one_error_at text (Tag f) (Tag g) at by p q = let e = same_tag_error text f g at by p q in (ap Tag e.0, e.1)
+one_error_at text (Tag f) TooLong at by p q = absurd (short_and_long text f at p q.0)
+one_error_at text TooLong (Tag g) at by p q = absurd (short_and_long text g by q p.0)
+one_error_at text TooLong TooLong at by p q = (refl, p.1 ∙ sym q.1)
 
-pub memory_alone : (text : List ℕ) (a : Nodes) (e : TemplateError) → Spells text a → OrMemory (IsFault text) e → e ≡ OutOfMemory
-memory_alone text a (UnclosedTag at) p q = absurd (never_both text a (UnclosedTag at) p q)
-memory_alone text a (BadPath at) p q = absurd (never_both text a (BadPath at) p q)
-memory_alone text a (UnsupportedTag at) p q = absurd (never_both text a (UnsupportedTag at) p q)
-memory_alone text a (TooLong at) p q = absurd (never_both text a (TooLong at) p q)
-memory_alone text a OutOfMemory p q = refl
+pub one_error : (text : List ℕ) (d e : TemplateError) → IsTemplateError text d → IsTemplateError text e → d ≡ e
+one_error text d e p q =
+    let same = one_error_at text d.kind e.kind d.at e.at p q in
+    let P : ℕ → TemplateError = λ at. record { kind = e.kind; at = at } in
+    let Q : TemplateErrorKind → TemplateError = λ kind. record { kind = kind; at = d.at } in
+    ap Q same.0 ∙ ap P same.1
 
-pub this_or_memory : (text : List ℕ) (d e : TemplateError) → IsFault text d → OrMemory (IsFault text) e → OrMemory (λ x. x ≡ d) e
-this_or_memory text d (UnclosedTag at) p q = one_fault text (UnclosedTag at) d q p
-this_or_memory text d (BadPath at) p q = one_fault text (BadPath at) d q p
-this_or_memory text d (UnsupportedTag at) p q = one_fault text (UnsupportedTag at) d q p
-this_or_memory text d (TooLong at) p q = one_fault text (TooLong at) d q p
-this_or_memory text d OutOfMemory p q = tt
+-- an answer that is right spells the one tree, or has the one error
+pub every_tree : (text : List ℕ) (r : Result Template ParseError)
+    → IfOk r (λ template. Spells text (tree_of template)) → IfErr r (IsParseError text) → (tree : Nodes)
+    → Spells text tree → MatchResult r (λ template. tree_of template ≡ tree) (λ e. e ≡ kinds.OutOfMemory)
+every_tree text (Ok template) found wrong tree h = one_tree text (tree_of template) tree found h
+every_tree text (Err (kinds.Template error)) found wrong tree h = absurd (never_both text tree error h wrong)
+every_tree text (Err kinds.OutOfMemory) found wrong tree h = refl
+
+pub every_error : (text : List ℕ) (r : Result Template ParseError)
+    → IfOk r (λ template. Spells text (tree_of template)) → IfErr r (IsParseError text) → (error : TemplateError)
+    → IsTemplateError text error
+    → MatchResult r (λ template. ⊥) (λ e. (e ≡ kinds.Template error) ⊎ (e ≡ kinds.OutOfMemory))
+every_error text (Ok template) found wrong error h = never_both text (tree_of template) error found h
+every_error text (Err (kinds.Template other)) found wrong error h =
+    inl (ap kinds.Template (one_error text other error wrong h))
+every_error text (Err kinds.OutOfMemory) found wrong error h = inr refl

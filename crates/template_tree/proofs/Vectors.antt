@@ -1,62 +1,162 @@
 -- The examples, computed.
 use Rattle.std.proofs.Common.{◌≡◌, ℕ, ◌≤◌, List, [], ◌∷◌, length, None, codes, refl, ap, arith}
 use Rattle.data_tree.specs.declared.step.Step.TheVariants.{Name, Index}
-use Rattle.template_words.specs.declared.fault.Fault.{Fault}
+use Rattle.template_tree.specs.declared.parser.TheConstants.{TEXT_LIMIT}
+use Rattle.template_words.specs.declared.error.TagError.{TagError}
 use Rattle.template_words.specs.declared.reference.Reference.TheVariants.{Root, Item}
 use Rattle.template_tree.specs.Examples.{AreExamples, text_before}
-use Rattle.template_tree.specs.Grammar.{Spells, FaultAt}
-use Rattle.template_words.specs.Marks.{place_of}
-use Rattle.template_words.specs.Paths.{path_from, step_of}
+use Rattle.template_tree.specs.Grammar.{Spells, IsTagErrorAt}
+use Rattle.template_words.specs.Marks.{offset_of}
+use Rattle.template_words.specs.Paths.{reference_from, step_of}
 use Rattle.template_tree.specs.Tags.{tag_of}
-use Rattle.template_tree.specs.Tokens.{comment_token, part_token, fault, next_at, next_of, term_of}
+use Rattle.template_tree.specs.Tokens.{comment_token, node_token, tag_error, next_at, next_of, expression_of}
 use Rattle.template_tree.specs.Tree.{no_nodes, piece, print, reading}
 
--- a fault at the start of a text
-at_start : (text : List ℕ) (f : Fault) → length text ≤ 65536 → next_of text ≡ fault f text → FaultAt text f 0
-at_start text f short e = record { short = short; tokens = []; levels = []; rest = text; mark = text; leads = (refl, refl); wrong = e; offset = omega arith }
+-- an error at the start of a text
+at_start : (text : List ℕ) (f : TagError) → length text ≤ TEXT_LIMIT → next_of text ≡ tag_error f text
+    → IsTagErrorAt text f 0
+at_start text f short e =
+    record {
+      short = short;
+      tokens = [];
+      levels = [];
+      rest = text;
+      mark = text;
+      leads =
+          (refl, refl);
+      wrong = e;
+      offset = omega arith;
+    }
 
-longest : (b : ℕ) (bs : List ℕ) → length (b ∷ bs) ≡ 65536 → place_of (codes "{{") (b ∷ bs) ≡ None → Spells (b ∷ bs) (text_before (b ∷ bs) no_nodes)
+longest : (b : ℕ) (bs : List ℕ) → length (b ∷ bs) ≡ TEXT_LIMIT → offset_of (codes "{{") (b ∷ bs) ≡ None
+    → Spells (b ∷ bs) (text_before (b ∷ bs) no_nodes)
 unfolding next_of
-longest b bs long none = record { short = omega (arith, long); tokens = part_token (piece (b ∷ bs)) ∷ []; leads = ([], ap (next_at (b ∷ bs)) none, (refl, refl)); same = refl }
+longest b bs long none =
+    record {
+      short = omega (arith, long);
+      tokens = node_token (piece (b ∷ bs)) ∷ [];
+      leads =
+          ([], ap (next_at (b ∷ bs)) none, (refl, refl));
+      same = refl;
+    }
 
 pub are_examples : AreExamples
-unfolding next_of tag_of term_of path_from step_of
+unfolding next_of tag_of expression_of reference_from step_of
 are_examples = record {
   empty = record { short = omega arith; tokens = []; leads = (refl, refl); same = refl };
-  text_alone = record { short = omega arith; tokens = part_token (piece (codes "a } {b")) ∷ []; leads = ([], refl, (refl, refl)); same = refl };
+  text_alone =
+      record {
+        short = omega arith;
+        tokens = node_token (piece (codes "a } {b")) ∷ [];
+        leads =
+            ([], refl, (refl, refl));
+        same = refl;
+      };
   path = record {
     short = omega arith;
-    tokens = part_token (piece (codes "Hello ")) ∷ part_token (print (reading (Root (Name (codes "request") ∷ Name (codes "path") ∷ Index 1 ∷ [])))) ∷ part_token (piece (codes "!")) ∷ [];
+    tokens =
+        node_token (piece (codes "Hello ")) ∷ node_token
+        (print (reading (Root (Name (codes "request") ∷ Name (codes "path") ∷ Index 1 ∷ [])))) ∷ node_token
+        (piece (codes "!")) ∷ [];
     leads = (codes "{{request.path.[1]}}!", refl, (codes "!", refl, ([], refl, (refl, refl))));
     same = refl;
   };
-  three_braces = record { short = omega arith; tokens = part_token (print (reading (Item 0 (Name (codes "x") ∷ Name (codes "a b") ∷ [])))) ∷ []; leads = ([], refl, (refl, refl)); same = refl };
+  three_braces =
+      record {
+        short = omega arith;
+        tokens = node_token
+            (print (reading (Item 0 (Name (codes "x") ∷ Name (codes "a b") ∷ [])))) ∷ [];
+        leads =
+            ([], refl, (refl, refl));
+        same = refl;
+      };
   outer_item = record {
     short = omega arith;
-    tokens = part_token (print (reading (Item 1 (Name (codes "x") ∷ [])))) ∷ part_token (print (reading (Item 1 []))) ∷ [];
+    tokens =
+        node_token (print (reading (Item 1 (Name (codes "x") ∷ [])))) ∷ node_token
+        (print (reading (Item 1 []))) ∷ [];
     leads = (codes "{{..}}", refl, ([], refl, (refl, refl)));
     same = refl;
   };
-  header = record { short = omega arith; tokens = part_token (print (reading (Root (Name (codes "request") ∷ Name (codes "headers") ∷ Name (codes "x-id") ∷ [])))) ∷ []; leads = ([], refl, (refl, refl)); same = refl };
+  header =
+      record {
+        short = omega arith;
+        tokens = node_token
+            (print (reading
+            (Root (Name (codes "request") ∷ Name (codes "headers") ∷ Name (codes "x-id") ∷ [])))) ∷ [];
+        leads = (
+          [],
+          refl,
+          (refl, refl),
+        );
+        same = refl;
+      };
   comment = record {
     short = omega arith;
-    tokens = part_token (piece (codes "a")) ∷ comment_token ∷ part_token (piece (codes "b")) ∷ comment_token ∷ [];
-    leads = (codes "{{!-- }} --}}b{{!}}", refl, (codes "b{{!}}", refl, (codes "{{!}}", refl, ([], refl, (refl, refl)))));
+    tokens = node_token (piece (codes "a")) ∷ comment_token ∷ node_token (piece (codes "b")) ∷ comment_token ∷ [];
+    leads = (
+      codes "{{!-- }} --}}b{{!}}",
+      refl,
+      (codes "b{{!}}", refl, (codes "{{!}}", refl, ([], refl, (refl, refl)))),
+    );
     same = refl;
   };
-  no_close = at_start (codes "{{x") Fault.Unclosed (omega arith) refl;
-  no_close_of_three = at_start (codes "{{{x}}") Fault.Unclosed (omega arith) refl;
-  no_close_of_comment = record { short = omega arith; tokens = part_token (piece (codes "a")) ∷ []; levels = []; rest = codes "{{!-- x }}"; mark = codes "{{!-- x }}"; leads = (codes "{{!-- x }}", refl, (refl, refl)); wrong = refl; offset = refl };
-  hidden_close = at_start (codes "{{\"}}") Fault.Unclosed (omega arith) refl;
-  literal_alone = at_start (codes "{{\"}}\"}}") Fault.Unsupported (omega arith) refl;
-  open_bracket = at_start (codes "{{request.path.[}}") Fault.Misspelled (omega arith) refl;
-  leading_zero = record { short = omega arith; tokens = part_token (print (reading (Item 0 (Name (codes "x") ∷ Name (codes "01") ∷ [])))) ∷ []; leads = ([], refl, (refl, refl)); same = refl };
-  slash_in_name = record { short = omega arith; tokens = part_token (piece (195 ∷ 169 ∷ [])) ∷ []; levels = []; rest = codes "{{a/b}}"; mark = codes "{{a/b}}"; leads = (codes "{{a/b}}", refl, (refl, refl)); wrong = refl; offset = refl };
-  partial = at_start (codes "{{> p}}") Fault.Unsupported (omega arith) refl;
-  escape = record { short = omega arith; tokens = []; levels = []; rest = codes "\\{{x}}"; mark = codes "{{x}}"; leads = (refl, refl); wrong = refl; offset = refl };
-  empty_tag = at_start (codes "{{}}") Fault.Unsupported (omega arith) refl;
-  first_fault = at_start (codes "{{a!}}{{x") Fault.Misspelled (omega arith) refl;
-  order_in_a_tag = at_start (codes "{{a! 1}}") Fault.Unsupported (omega arith) refl;
+  no_close = at_start (codes "{{x") TagError.UnclosedTag (omega arith) refl;
+  no_close_of_three = at_start (codes "{{{x}}") TagError.UnclosedTag (omega arith) refl;
+  no_close_of_comment =
+      record {
+        short = omega arith;
+        tokens = node_token
+            (piece (codes "a")) ∷ [];
+        levels = [];
+        rest = codes "{{!-- x }}";
+        mark = codes "{{!-- x }}";
+        leads =
+            (codes "{{!-- x }}", refl, (refl, refl));
+        wrong = refl;
+        offset = refl;
+      };
+  hidden_close = at_start (codes "{{\"}}") TagError.UnclosedTag (omega arith) refl;
+  literal_alone = at_start (codes "{{\"}}\"}}") TagError.UnsupportedTag (omega arith) refl;
+  open_bracket = at_start (codes "{{request.path.[}}") TagError.BadPath (omega arith) refl;
+  leading_zero =
+      record {
+        short = omega arith;
+        tokens = node_token
+            (print (reading (Item 0 (Name (codes "x") ∷ Name (codes "01") ∷ [])))) ∷ [];
+        leads =
+            ([], refl, (refl, refl));
+        same = refl;
+      };
+  slash_in_name =
+      record {
+        short = omega arith;
+        tokens = node_token
+            (piece (195 ∷ 169 ∷ [])) ∷ [];
+        levels = [];
+        rest = codes "{{a/b}}";
+        mark = codes "{{a/b}}";
+        leads =
+            (codes "{{a/b}}", refl, (refl, refl));
+        wrong = refl;
+        offset = refl;
+      };
+  partial = at_start (codes "{{> p}}") TagError.UnsupportedTag (omega arith) refl;
+  escape =
+      record {
+        short = omega arith;
+        tokens = [];
+        levels = [];
+        rest = codes "\\{{x}}";
+        mark = codes "{{x}}";
+        leads =
+            (refl, refl);
+        wrong = refl;
+        offset = refl;
+      };
+  empty_tag = at_start (codes "{{}}") TagError.UnsupportedTag (omega arith) refl;
+  first_error = at_start (codes "{{a!}}{{x") TagError.BadPath (omega arith) refl;
+  order_in_a_tag = at_start (codes "{{a! 1}}") TagError.UnsupportedTag (omega arith) refl;
   longest = longest;
   longer = λ text long. (omega (arith, long), refl);
 }

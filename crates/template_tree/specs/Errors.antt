@@ -1,29 +1,13 @@
--- The code and the place of an error.
-use Rattle.std.specs.Prelude.{ℕ, Option, Some, None}
-use Rattle.data_tree.specs.declared.error_code.ErrorCode.{ErrorCode}
-use Rattle.data_tree.specs.declared.error_code.ErrorCode.TheVariants as codes
+-- The code of a template's error.
+use Rattle.error_code.specs.declared.error_code.ErrorCode.{ErrorCode}
 use Rattle.template_tree.specs.declared.error.TemplateError.{TemplateError}
-use Rattle.template_tree.specs.declared.error.TemplateError.TheVariants.{UnclosedTag, BadPath, UnsupportedTag, TooLong, OutOfMemory}
-use Rattle.template_words.specs.declared.fault.Fault.{Fault}
-use Rattle.template_words.specs.declared.fault.Fault.TheVariants.{Unclosed, Misspelled, Unsupported}
+use Rattle.template_tree.specs.declared.error.TemplateErrorKind.{TemplateErrorKind}
+use Rattle.template_tree.specs.declared.error.TemplateErrorKind.TheVariants.{Tag, TooLong}
+use Rattle.template_words.specs.Errors as tags
 
-abbrev pub code_of : TemplateError → ErrorCode
-code_of (UnclosedTag at) = codes.UnclosedTag
-code_of (BadPath at) = codes.BadPath
-code_of (UnsupportedTag at) = codes.UnsupportedTag
-code_of (TooLong at) = codes.TooLong
-code_of OutOfMemory = codes.OutOfMemory
+abbrev pub error_code_of_kind : TemplateErrorKind → ErrorCode
+error_code_of_kind (Tag error) = tags.error_code_of error
+error_code_of_kind TooLong = ErrorCode.TooLong
 
--- the byte of the text at which it is
-abbrev pub place_in_text : TemplateError → Option ℕ
-place_in_text (UnclosedTag at) = Some at
-place_in_text (BadPath at) = Some at
-place_in_text (UnsupportedTag at) = Some at
-place_in_text (TooLong at) = Some at
-place_in_text OutOfMemory = None
-
--- a tag's fault, told as an error
-abbrev pub error_of : Fault → ℕ → TemplateError
-error_of Unclosed at = UnclosedTag at
-error_of Misspelled at = BadPath at
-error_of Unsupported at = UnsupportedTag at
+abbrev pub error_code_of : TemplateError → ErrorCode
+error_code_of error = error_code_of_kind error.kind

@@ -2,7 +2,8 @@ pub mod Tree
 pub mod Tags
 pub mod Tokens
 pub mod Grammar
+pub mod Meaning
 pub mod Errors
-pub mod Views
 pub mod Laws
 pub mod Examples
+pub mod Inner

@@ -1,11 +1,12 @@
--- A tag of a text: its marks, and what stands between them.
-use Rattle.std.specs.Prelude.{ℕ, ◌==◌, Bool, true, false, ◌||◌, List, [], ◌∷◌, drop, Option, Some, None, if◌then◌else◌, codes}
+-- Where a tag of a text ends, and of which kind it is (Handlebars' `{{ }}`, `{{{ }}}`, `{{! }}`, `{{!-- --}}`).
+use Rattle.std.specs.Prelude.{ℕ, ◌==◌, Bool, false, ◌||◌, List, [], ◌∷◌, drop, Option, Some, None}
+use Rattle.std.specs.Prelude.{if◌then◌else◌, codes}
 use Rattle.std.specs.List.{list_any}
 use Rattle.std.specs.Str.{bytes_eq}
 use Rattle.template_words.specs.declared.mode.Mode.TheVariants.{Start}
 use Rattle.template_tree.specs.declared.tags.Opening.{Opening}
 use Rattle.template_tree.specs.declared.tags.Opening.TheVariants.{Double, Triple}
-use Rattle.template_words.specs.Marks.{begins, place_of, close_from, around}
+use Rattle.template_words.specs.Marks.{begins, offset_of, close_from, around}
 use Rattle.template_words.specs.Words.{is_nil, has_break, is_literal_word, is_helper}
 
 -- a comment, or what is shown: the bytes between the marks
@@ -26,7 +27,7 @@ abbrev pub comment_close : List ℕ → List ℕ
 comment_close body = if begins (codes "--") body then codes "--}}" else codes "}}"
 
 abbrev pub comment_of : List ℕ → Option (Tag × List ℕ)
-comment_of body = comment_tag (around (comment_close body) body (place_of (comment_close body) body))
+comment_of body = comment_tag (around (comment_close body) body (offset_of (comment_close body) body))
 
 abbrev pub shown_of : Opening → List ℕ → List ℕ → Option (Tag × List ℕ)
 shown_of opening close body = shown_tag opening (around close body (close_from close Start body))
@@ -51,4 +52,5 @@ is_else Triple text = false
 -- something other than one word that may be a path
 abbrev pub is_unsupported : Opening → List ℕ → Bool
 is_unsupported opening text =
-    is_nil text || is_marked opening text || has_break Start text || is_literal_word text || is_helper text || is_else opening text
+    is_nil text || is_marked opening text || has_break Start text
+    || is_literal_word text || is_helper text || is_else opening text

@@ -1,59 +1,62 @@
--- The tokens of a text: pieces of text and tags, in turn.
-use Rattle.std.specs.Prelude.{ℕ, zero, suc, ◌==◌, List, [], ◌∷◌, take, drop, Option, Some, None, Result, Ok, Err, if◌then◌else◌, codes}
+-- The tokens of a text: pieces of text, and tags. A tag right after `\`, which Handlebars escapes, is unsupported.
+use Rattle.std.specs.Prelude.{ℕ, zero, suc, ◌==◌, List, [], ◌∷◌, take, drop, Option, Some, None, Result, Ok, Err}
+use Rattle.std.specs.Prelude.{if◌then◌else◌, codes}
 use Rattle.std.specs.List.{ends_with}
-use Rattle.template_words.specs.declared.fault.Fault.{Fault}
-use Rattle.template_words.specs.declared.fault.Fault.TheVariants.{Unclosed, Unsupported}
+use Rattle.template_words.specs.declared.error.TagError.{TagError}
+use Rattle.template_words.specs.declared.error.TagError.TheVariants.{UnclosedTag, UnsupportedTag}
 use Rattle.template_tree.specs.declared.tags.Opening.{Opening}
-use Rattle.template_words.specs.Marks.{place_of}
-use Rattle.template_words.specs.Paths.{path_of}
+use Rattle.template_words.specs.Marks.{offset_of}
+use Rattle.template_words.specs.Paths.{reference_of}
 use Rattle.template_words.specs.Reading.{◌>>=◌}
 use Rattle.template_tree.specs.Tags.{Tag, comment, shown, tag_of, is_unsupported}
-use Rattle.template_tree.specs.Tree.{Term, reading, Part, piece, print}
-use Rattle.template_words.specs.Words.{trimmed}
+use Rattle.template_tree.specs.Tree.{Expression, reading, Node, piece, print}
+use Rattle.template_words.specs.Words.{trim_white_space}
 
--- a comment leaves no part of the tree
+-- a comment leaves no node
 pub data Token : Type 0 where
   comment_token : Token
-  part_token : Part → Token
+  node_token : Node → Token
 
--- what a text begins with: a token, before more text; a fault in a tag, before whose mark there may be
--- text; nothing, where the text is at its end
+-- what a text begins with: a token, before more text; a tag that can't be read, with its error and the text from
+-- its mark on, before which there may be text; nothing, where the text is at its end
 pub data Next : Type 0 where
   token : Token → List ℕ → Next
-  fault : Fault → List ℕ → Next
+  tag_error : TagError → List ℕ → Next
   ended : Next
 
 -- what the content of a tag shows
-unfoldable pub term_of : Opening → List ℕ → Result Term Fault
-term_of opening content =
-    if is_unsupported opening (trimmed content) then Err Unsupported
-    else (path_of (trimmed content) >>= λ reference. Ok (reading reference))
+unfoldable pub expression_of : Opening → List ℕ → Result Expression TagError
+expression_of opening content =
+    if is_unsupported opening (trim_white_space content) then Err UnsupportedTag
+    else (reference_of (trim_white_space content) >>= λ reference. Ok (reading reference))
 
-abbrev pub print_next : List ℕ → Result Term Fault → List ℕ → Next
-print_next text (Ok term) rest = token (part_token (print term)) rest
-print_next text (Err f) rest = fault f text
+abbrev pub print_next : List ℕ → Result Expression TagError → List ℕ → Next
+print_next text (Ok expression) rest = token (node_token (print expression)) rest
+print_next text (Err e) rest = tag_error e text
 
 abbrev pub closed_next : List ℕ → Tag → List ℕ → Next
 closed_next text comment rest = token comment_token rest
-closed_next text (shown opening content) rest = print_next text (term_of opening content) rest
+closed_next text (shown opening content) rest = print_next text (expression_of opening content) rest
 
 -- at a text that begins with a tag's mark
 abbrev pub tag_next : List ℕ → Option (Tag × List ℕ) → Next
-tag_next text None = fault Unclosed text
+tag_next text None = tag_error UnclosedTag text
 tag_next text (Some x) = closed_next text x.0 x.1
 
--- the fault of a tag behind `\`
-abbrev pub escaped : Option (Tag × List ℕ) → Fault
-escaped None = Unclosed
-escaped (Some x) = Unsupported
+-- the error of a tag right after `\`
+abbrev pub error_after_backslash : Option (Tag × List ℕ) → TagError
+error_after_backslash None = UnclosedTag
+error_after_backslash (Some x) = UnsupportedTag
 
 -- text before a tag's mark
 abbrev pub text_next : List ℕ → List ℕ → Next
-text_next front mark = if ends_with ◌==◌ front (codes "\\") then fault (escaped (tag_of mark)) mark else token (part_token (piece front)) mark
+text_next front mark =
+    if ends_with ◌==◌ front (codes "\\") then tag_error (error_after_backslash (tag_of mark)) mark
+    else token (node_token (piece front)) mark
 
 abbrev pub last_text_next : List ℕ → Next
 last_text_next [] = ended
-last_text_next (b ∷ bs) = token (part_token (piece (b ∷ bs))) []
+last_text_next (b ∷ bs) = token (node_token (piece (b ∷ bs))) []
 
 abbrev pub next_at : List ℕ → Option ℕ → Next
 next_at text None = last_text_next text
@@ -62,4 +65,4 @@ next_at text (Some (suc n)) = text_next (take (suc n) text) (drop (suc n) text)
 
 -- what the text begins with
 unfoldable pub next_of : List ℕ → Next
-next_of text = next_at text (place_of (codes "{{") text)
+next_of text = next_at text (offset_of (codes "{{") text)

@@ -1,68 +1,76 @@
 // Why a text is no template.
 
-use data_tree::error_code::ErrorCode;
-use template_words::fault::Fault;
+use error_code::error_code::ErrorCode;
+use std::alloc::{AllocError, AllocFailed};
+use template_words::error::TagError;
 
-/// What is wrong with a template's text, and the byte at which the tag with the fault begins.
+/// What is wrong with a template's text.
 #[derive(Clone, Copy, Debug)]
-pub enum TemplateError {
-    /// A tag has no close.
-    UnclosedTag { at: usize },
-    /// What a tag shows is spelled wrongly.
-    BadPath { at: usize },
-    /// A tag of a kind that isn't known.
-    UnsupportedTag { at: usize },
-    /// The text has more than 65,536 bytes: that many are before the place.
-    TooLong { at: usize },
-    OutOfMemory,
+pub enum TemplateErrorKind {
+    /// A tag can't be read.
+    Tag(TagError),
+    /// The text has more than `TEXT_LIMIT` bytes.
+    TooLong,
+}
+
+/// The first error of a template's text.
+#[derive(Clone, Copy, Debug)]
+pub struct TemplateError {
+    pub kind: TemplateErrorKind,
+    /// The byte of the text at which the tag begins, or `TEXT_LIMIT` where the text is too long.
+    pub at: usize,
 }
 
 impl TemplateError {
     ghost use Rattle.std.specs.Prelude.{◌≡◌};
-    ghost use Rattle.data_tree.specs.ErrorCode.{title_of};
-    ghost use Rattle.template_tree.specs.Errors.{code_of, place_in_text, error_of};
+    ghost use Rattle.template_tree.specs.Errors.{error_code_of};
 
-    /// The error of a tag with that fault, which begins there.
-    pub(crate) fn of(fault: Fault, at: usize) -> TemplateError
-        ensures { result ≡ error_of fault at }
+    pub fn error_code(&self) -> ErrorCode
+        ensures { result ≡ error_code_of self.now }
     {
-        match fault {
-            Fault::Unclosed => TemplateError::UnclosedTag { at },
-            Fault::Misspelled => TemplateError::BadPath { at },
-            Fault::Unsupported => TemplateError::UnsupportedTag { at },
+        match self.kind {
+            TemplateErrorKind::Tag(error) => error.error_code(),
+            TemplateErrorKind::TooLong => ErrorCode::TooLong,
         }
     }
+}
 
-    /// Its code.
-    pub fn code(&self) -> ErrorCode
-        ensures { result ≡ code_of self.now }
-    {
-        match self {
-            TemplateError::UnclosedTag { at: _ } => ErrorCode::UnclosedTag,
-            TemplateError::BadPath { at: _ } => ErrorCode::BadPath,
-            TemplateError::UnsupportedTag { at: _ } => ErrorCode::UnsupportedTag,
-            TemplateError::TooLong { at: _ } => ErrorCode::TooLong,
-            TemplateError::OutOfMemory => ErrorCode::OutOfMemory,
-        }
+/// Why `parse` gives no template.
+#[derive(Clone, Copy, Debug)]
+pub enum ParseError {
+    Template(TemplateError),
+    OutOfMemory,
+}
+
+impl From<TemplateError> for ParseError {
+    ghost use Rattle.std.specs.Prelude.{◌≡◌};
+    ghost use Rattle.template_tree.specs.declared.error.ParseError.TheVariants.{Template};
+
+    ghost from_gives = { λ error e. e ≡ Template error };
+
+    fn from(error: TemplateError) -> ParseError {
+        ParseError::Template(error)
     }
+}
 
-    /// Its title.
-    pub fn title(&self) -> &'static str
-        ensures { result.now ≡ title_of (code_of self.now) }
-    {
-        self.code().title()
+impl From<AllocError> for ParseError {
+    ghost use Rattle.std.specs.Prelude.{◌≡◌};
+    ghost use Rattle.template_tree.specs.declared.error.ParseError.TheVariants.{OutOfMemory};
+
+    ghost from_gives = { λ _ e. e ≡ OutOfMemory };
+
+    fn from(_error: AllocError) -> ParseError {
+        ParseError::OutOfMemory
     }
+}
 
-    /// The byte of the text, where the fault has a place in it.
-    pub fn at(&self) -> Option<usize>
-        ensures { result ≡ place_in_text self.now }
-    {
-        match self {
-            TemplateError::UnclosedTag { at } => Some(*at),
-            TemplateError::BadPath { at } => Some(*at),
-            TemplateError::UnsupportedTag { at } => Some(*at),
-            TemplateError::TooLong { at } => Some(*at),
-            TemplateError::OutOfMemory => None,
-        }
+impl<T: Drop> From<AllocFailed<T>> for ParseError {
+    ghost use Rattle.std.specs.Prelude.{◌≡◌};
+    ghost use Rattle.template_tree.specs.declared.error.ParseError.TheVariants.{OutOfMemory};
+
+    ghost from_gives = { λ _ e. e ≡ OutOfMemory };
+
+    fn from(_error: AllocFailed<T>) -> ParseError {
+        ParseError::OutOfMemory
     }
 }

@@ -1,19 +1,30 @@
 // Reading a text as a template.
-ghost use Rattle.std.specs.Prelude.{◌≡◌, ◌≤◌, ◌<◌, length, MatchResult, IfOk, IfErr, IsErrOf};
-ghost use Rattle.template_tree.specs.Grammar.{Spells, IsFault, OrMemory};
+ghost use Rattle.std.specs.Prelude.{◌≡◌, ◌≤◌, ◌<◌, ◌⊎◌, length, MatchResult, IfOk, IfErr, IsErrOf};
+ghost use Rattle.template_tree.specs.Grammar.{Spells, IsTemplateError, IsParseError};
+ghost use Rattle.template_tree.specs.Inner.Views.{token_view, IsNextError};
 ghost use Rattle.template_tree.specs.Tokens.{token, next_of};
 ghost use Rattle.template_tree.specs.Tree.{Nodes, tree_of, nodes_view};
-ghost use Rattle.template_tree.specs.Views.{token_view, Tells};
+ghost use Rattle.template_tree.specs.declared.parser.TheConstants.{TEXT_LIMIT};
 
-use crate::error::TemplateError;
+use crate::error::{ParseError, TemplateError, TemplateErrorKind};
 use crate::template::{Node, Template};
-use crate::tokens::{Token, escaped, piece_token, tag_token};
+use crate::tokens::{Token, error_after_backslash, piece_token, tag_token};
 use std::alloc::Global;
-use template_words::fault::ReadError;
-use template_words::marks::mark_place;
+use template_words::error::{ReadError, TagError};
+use template_words::marks::mark_offset;
 
-/// How many bytes a template's text may have.
-const TEXT_LIMIT: usize = 65_536;
+/// The most bytes of a template's text.
+pub const TEXT_LIMIT: usize = 65_536;
+
+/// The error of a tag that begins at that byte.
+fn tag_error(error: TagError, at: usize) -> ParseError
+    ensures { result ≡ ParseError.Template (record { kind = TemplateErrorKind.Tag error; at = at }) }
+{
+    ParseError::Template(TemplateError {
+        kind: TemplateErrorKind::Tag(error),
+        at,
+    })
+}
 
 /// The token that what is left of a text begins with, and what follows it.
 #[tactic(auto, unfolding(crate::specs::Tokens::next_of))]
@@ -21,74 +32,69 @@ fn read_token<'a>(
     alloc: Global,
     text_length: usize,
     rest: &'a str,
-) -> Result<(Token, &'a str), TemplateError>
+) -> Result<(Token, &'a str), ParseError>
     requires some { 0 < length rest.now }
     requires left { length rest.now ≤ text_length }
-    requires short { text_length ≤ 65536 }
-    ensures { MatchResult result (λ x. next_of rest.now ≡ token (token_view x.0) x.1.now) (λ e. Tells text_length (next_of rest.now) e) }
+    requires short { text_length ≤ TEXT_LIMIT }
+    ensures { MatchResult result
+        (λ x. next_of rest.now ≡ token (token_view x.0) x.1.now)
+        (IsNextError text_length (next_of rest.now)) }
 {
-    match mark_place(rest) {
-        None => match piece_token(alloc, rest) {
-            Ok(token) => Ok((token, "")),
-            Err(_error) => Err(TemplateError::OutOfMemory),
-        },
+    match mark_offset(rest) {
+        None => Ok((piece_token(alloc, rest)?, "")),
         Some(0) => match tag_token(alloc, rest) {
             Ok(found) => Ok(found),
-            Err(ReadError::Memory) => Err(TemplateError::OutOfMemory),
-            Err(ReadError::Wrong(fault)) => Err(TemplateError::of(fault, text_length - rest.len())),
+            Err(ReadError::OutOfMemory) => Err(ParseError::OutOfMemory),
+            Err(ReadError::Tag(error)) => Err(tag_error(error, text_length - rest.len())),
         },
-        Some(place) => {
-            let (front, mark) = rest.split_at(place);
+        Some(offset) => {
+            let (front, mark) = rest.split_at(offset);
             if front.ends_with("\\") {
-                return Err(TemplateError::of(escaped(mark), text_length - mark.len()));
+                return Err(tag_error(error_after_backslash(mark), text_length - mark.len()));
             }
-            match piece_token(alloc, front) {
-                Ok(token) => Ok((token, mark)),
-                Err(_error) => Err(TemplateError::OutOfMemory),
-            }
+            Ok((piece_token(alloc, front)?, mark))
         }
     }
 }
 
 /// The nodes that a text spells.
-fn read_nodes(alloc: Global, text: &str) -> Result<Vec<Node>, TemplateError>
-    requires { length text.now ≤ 65536 }
-    ensures { MatchResult result (λ nodes. Spells text.now (nodes_view nodes.items)) (OrMemory (IsFault text.now)) }
+fn read_nodes(alloc: Global, text: &str) -> Result<Vec<Node>, ParseError>
+    requires { length text.now ≤ TEXT_LIMIT }
+    ensures { MatchResult result (λ nodes. Spells text.now (nodes_view nodes.items)) (IsParseError text.now) }
 {
     let mut nodes = Vec::new(alloc);
     let mut rest = text;
     while !rest.is_empty() {
-        let (token, after) = match read_token(alloc, text.len(), rest) {
-            Ok(read) => read,
-            Err(error) => return Err(error),
-        };
+        let (token, after) = read_token(alloc, text.len(), rest)?;
         match token {
             Token::Comment => {}
-            Token::Node(node) => match nodes.push(node) {
-                Ok(()) => {}
-                Err(_error) => return Err(TemplateError::OutOfMemory),
-            },
+            Token::Node(node) => nodes.push(node)?,
         }
         rest = after;
     }
     Ok(nodes)
 }
 
-/// The template that a text spells, or what is wrong with it: its first fault, with the byte at which that tag
-/// begins. A text of more than 65,536 bytes is refused before any memory is taken.
-pub fn parse(alloc: Global, text: &str) -> Result<Template, TemplateError>
+/// The template that a text spells, or its first error. A text of more than `TEXT_LIMIT` bytes is refused before
+/// any memory is taken.
+pub fn parse(alloc: Global, text: &str) -> Result<Template, ParseError>
     ensures found { IfOk result (λ template. Spells text.now (tree_of template)) }
-    ensures wrong { IfErr result (OrMemory (IsFault text.now)) }
+    ensures wrong { IfErr result (IsParseError text.now) }
+
     // However little memory there is.
-    ensures too_long { 65536 < length text.now → IsErrOf result (TemplateError.TooLong 65536) }
-    ensures every_tree { (tree : Nodes) → Spells text.now tree → MatchResult result (λ template. tree_of template ≡ tree) (λ e. e ≡ TemplateError.OutOfMemory) }
-    ensures every_fault { (fault : TemplateError) → IsFault text.now fault → MatchResult result (λ template. ⊥) (OrMemory (λ e. e ≡ fault)) }
+    ensures too_long { TEXT_LIMIT < length text.now →
+        IsErrOf result (ParseError.Template (record { kind = TemplateErrorKind.TooLong; at = TEXT_LIMIT })) }
+
+    ensures every_tree { (tree : Nodes) → Spells text.now tree →
+        MatchResult result (λ template. tree_of template ≡ tree) (λ e. e ≡ ParseError.OutOfMemory) }
+    ensures every_error { (error : TemplateError) → IsTemplateError text.now error →
+        MatchResult result (λ template. ⊥) (λ e. (e ≡ ParseError.Template error) ⊎ (e ≡ ParseError.OutOfMemory)) }
 {
     if text.len() > TEXT_LIMIT {
-        return Err(TemplateError::TooLong { at: TEXT_LIMIT });
+        return Err(ParseError::Template(TemplateError {
+            kind: TemplateErrorKind::TooLong,
+            at: TEXT_LIMIT,
+        }));
     }
-    match read_nodes(alloc, text) {
-        Ok(nodes) => Ok(Template::new(nodes)),
-        Err(error) => Err(error),
-    }
+    read_nodes(alloc, text).map(Template::new)
 }

@@ -1,8 +1,8 @@
-// A tag of a text: what stands between its marks.
-ghost use Rattle.std.specs.Prelude.{◌≡◌, true, codes};
+// Finding a tag's end, and what kind of tag it is.
+ghost use Rattle.std.specs.Prelude.{◌≡◌, ◌<◌, true, codes, length, slice_index};
 ghost use Rattle.template_words.specs.Marks.{begins};
 ghost use Rattle.template_tree.specs.Tags.{tag_of, comment_of, shown_of, is_marked, is_else, is_unsupported};
-ghost use Rattle.template_tree.specs.Views.{tag_rest_view};
+ghost use Rattle.template_tree.specs.Inner.Views.{tag_rest_view};
 
 use template_words::marks::{after_mark, around_close, around_mark};
 use template_words::words::{has_break, is_helper, is_literal_word};
@@ -16,7 +16,7 @@ pub enum Opening {
     Triple,
 }
 
-/// What stands between the marks of a tag.
+/// The text between the marks of a tag.
 #[derive(Clone, Copy)]
 pub enum TagText<'a> {
     Comment,
@@ -30,28 +30,17 @@ fn comment_of<'a>(body: &'a str) -> Option<(TagText<'a>, &'a str)>
         Some(_) => "--}}",
         None => "}}",
     };
-    match around_mark(body, close) {
-        None => None,
-        Some((_, rest)) => Some((TagText::Comment, rest)),
-    }
+    let (_, rest) = around_mark(body, close)?;
+    Some((TagText::Comment, rest))
 }
 
-fn shown_triple<'a>(body: &'a str) -> Option<(TagText<'a>, &'a str)>
-    ensures { tag_rest_view result ≡ shown_of Opening.Triple (codes "}}}") body.now }
+fn shown_of<'a>(opening: Opening, close: &str, body: &'a str) -> Option<(TagText<'a>, &'a str)>
+    requires some { 0 < length close.now }
+    requires ascii { slice_index close.now 0 < 128 }
+    ensures { tag_rest_view result ≡ shown_of opening close.now body.now }
 {
-    match around_close(body, "}}}") {
-        None => None,
-        Some((content, rest)) => Some((TagText::Shown(Opening::Triple, content), rest)),
-    }
-}
-
-fn shown_double<'a>(body: &'a str) -> Option<(TagText<'a>, &'a str)>
-    ensures { tag_rest_view result ≡ shown_of Opening.Double (codes "}}") body.now }
-{
-    match around_close(body, "}}") {
-        None => None,
-        Some((content, rest)) => Some((TagText::Shown(Opening::Double, content), rest)),
-    }
+    let (content, rest) = around_close(body, close)?;
+    Some((TagText::Shown(opening, content), rest))
 }
 
 /// The tag that the text begins with, and what follows it. There is none where it isn't closed.
@@ -63,9 +52,9 @@ pub fn tag_at<'a>(text: &'a str) -> Option<(TagText<'a>, &'a str)>
     if let Some(body) = after_mark(text, "{{!") {
         comment_of(body)
     } else if let Some(body) = after_mark(text, "{{{") {
-        shown_triple(body)
+        shown_of(Opening::Triple, "}}}", body)
     } else if let Some(body) = after_mark(text, "{{") {
-        shown_double(body)
+        shown_of(Opening::Double, "}}", body)
     } else {
         unreachable!()
     }

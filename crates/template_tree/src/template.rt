@@ -10,10 +10,10 @@ pub enum Expression {
     Reference(Reference),
 }
 
-/// A part of a template.
+/// A part of a template, in order with the others.
 #[derive(Debug, Drop)]
 pub enum Node {
-    /// Text, which is written as it stands.
+    /// Text, which is written as it is.
     Piece(PlainText),
     /// The printed text of a value.
     Print(Expression),
@@ -29,17 +29,17 @@ impl Template {
     ghost use Rattle.std.specs.Prelude.{◌≡◌};
     ghost use Rattle.template_tree.specs.Tree.{tree_of, nodes_view};
 
-    /// Takes the parts over, without copying them.
+    /// Takes the nodes over, without copying them.
     pub(crate) fn new(nodes: Vec<Node>) -> Template
         ensures { tree_of result ≡ nodes_view nodes.items }
     {
         Template { nodes }
     }
 
-    /// Its parts, in order.
-    pub fn nodes(&self) -> &[Node]
-        ensures { nodes_view result.now ≡ tree_of self.now }
+    /// Its nodes in order, which are handed over.
+    pub fn into_nodes(self) -> Vec<Node>
+        ensures { nodes_view result.items ≡ tree_of self }
     {
-        self.nodes.as_slice()
+        self.nodes
     }
 }

@@ -1,7 +1,9 @@
-pub mod Reading
+pub mod Bytes
+pub mod Errors
 pub mod Marks
 pub mod Modes
 pub mod Words
 pub mod Paths
-pub mod Views
+pub mod Reading
 pub mod Laws
+pub mod Inner

@@ -1,5 +1,6 @@
--- Where marks and closes stand in a text.
-use Rattle.std.specs.Prelude.{ℕ, suc, ◌+◌, ◌==◌, Bool, ◌&&◌, not, List, [], ◌∷◌, length, take, drop, Option, Some, None, option_map, if◌then◌else◌}
+-- Where the marks and the closes of tags are in a text.
+use Rattle.std.specs.Prelude.{ℕ, suc, ◌+◌, ◌==◌, Bool, ◌&&◌, not, List, [], ◌∷◌, length, take, drop, Option, Some}
+use Rattle.std.specs.Prelude.{None, option_map, if◌then◌else◌}
 use Rattle.std.specs.List.{starts_with}
 use Rattle.template_words.specs.declared.mode.Mode.{Mode}
 use Rattle.template_words.specs.Modes.{mode_after, is_literal}
@@ -8,19 +9,19 @@ use Rattle.template_words.specs.Modes.{mode_after, is_literal}
 abbrev pub begins : List ℕ → List ℕ → Bool
 begins mark text = starts_with ◌==◌ text mark
 
--- the place where the mark first stands in the text
-abbrev pub place_of : List ℕ → List ℕ → Option ℕ
-place_of mark [] = None
-place_of mark (b ∷ bs) = if begins mark (b ∷ bs) then Some 0 else option_map suc (place_of mark bs)
+-- the byte offset of the first such mark in the text
+abbrev pub offset_of : List ℕ → List ℕ → Option ℕ
+offset_of mark [] = None
+offset_of mark (b ∷ bs) = if begins mark (b ∷ bs) then Some 0 else option_map suc (offset_of mark bs)
 
--- the place where the close first stands outside of literals, in what is left of a tag's text
+-- the byte offset of the first close outside of literals, in what is left of a tag's text
 abbrev pub close_from : List ℕ → Mode → List ℕ → Option ℕ
 close_from close mode [] = None
 close_from close mode (b ∷ bs) =
     if not (is_literal mode) && begins close (b ∷ bs) then Some 0
     else option_map suc (close_from close (mode_after mode b) bs)
 
--- what stands before a mark that stands there, and after it
+-- the text before a mark at that offset, and after it
 abbrev pub around : List ℕ → List ℕ → Option ℕ → Option (List ℕ × List ℕ)
 around mark text None = None
 around mark text (Some n) = Some (take n text, drop (n + length mark) text)

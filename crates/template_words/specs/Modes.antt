@@ -1,31 +1,32 @@
--- Where a tag's bytes stand: in literals, in brackets or outside of both. A quote opens a literal only
--- right after white space, `(` or the opening mark, and not after a `[` until a `]` has come.
+-- Which bytes of a tag are in literals, in brackets or outside of both (Handlebars' literals and segment literals).
+-- A quote opens a literal only right after white space, `(` or the opening mark, and not between `[` and `]`.
 use Rattle.std.specs.Prelude.{ℕ, ◌==◌, Bool, true, false, ◌||◌, List, [], ◌∷◌, if◌then◌else◌}
+use Rattle.template_words.specs.Bytes.{tab, line_feed, carriage_return, space, double_quote, single_quote}
+use Rattle.template_words.specs.Bytes.{open_parenthesis, open_bracket, close_bracket}
 use Rattle.template_words.specs.declared.mode.Mode.{Mode}
 use Rattle.template_words.specs.declared.mode.Mode.TheVariants.{Start, Word, Bracket, Literal}
 
--- space, tab, line feed, carriage return
+-- white space
 abbrev pub is_blank : ℕ → Bool
-is_blank b = (b == 32) || (b == 9) || (b == 10) || (b == 13)
+is_blank b = (b == space) || (b == tab) || (b == line_feed) || (b == carriage_return)
 
--- `"` or `'`
 abbrev pub is_quote : ℕ → Bool
-is_quote b = (b == 34) || (b == 39)
+is_quote b = (b == double_quote) || (b == single_quote)
 
--- the mode behind a byte that opens or closes no literal and closes no bracket: `[`, white space or `(`, another
-abbrev pub behind : ℕ → Mode
-behind b = if b == 91 then Bracket else if is_blank b || (b == 40) then Start else Word
+-- the mode after a byte that opens or closes no literal and closes no bracket
+abbrev pub mode_of_byte : ℕ → Mode
+mode_of_byte b = if b == open_bracket then Bracket else if is_blank b || (b == open_parenthesis) then Start else Word
 
 abbrev pub mode_after : Mode → ℕ → Mode
-mode_after Start b = if is_quote b then Literal b else behind b
-mode_after Word b = behind b
-mode_after Bracket b = if b == 93 then Word else Bracket
+mode_after Start b = if is_quote b then Literal b else mode_of_byte b
+mode_after Word b = mode_of_byte b
+mode_after Bracket b = if b == close_bracket then Word else Bracket
 mode_after (Literal quote) b = if b == quote then Word else Literal quote
 
--- the mode behind the bytes of a tag
-abbrev pub mode_behind : Mode → List ℕ → Mode
-mode_behind mode [] = mode
-mode_behind mode (b ∷ bs) = mode_behind (mode_after mode b) bs
+-- the mode after the bytes of a tag
+abbrev pub mode_after_bytes : Mode → List ℕ → Mode
+mode_after_bytes mode [] = mode
+mode_after_bytes mode (b ∷ bs) = mode_after_bytes (mode_after mode b) bs
 
 abbrev pub is_literal : Mode → Bool
 is_literal Start = false

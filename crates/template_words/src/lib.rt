@@ -1,14 +1,12 @@
-// The words of templates, below the tags that they stand in: finding marks and closes in a text, telling literals
-// and names of helpers, and reading a word as a path. It stands on `data_tree`, whose paths a `Reference` holds. Its
-// contracts cite `specs/Marks.antt` (where marks and closes stand), `Words` (what a word is), `Paths` (which word
-// spells which path) and `Reading` (what a call answers that may find a fault or run out of memory).
+// Reads what is between the marks of a template's tags: finds marks and closes in a text, knows literals and names of
+// helpers, and reads a word as a path. Tags as a whole, and templates, are `template_tree`'s.
 #![tactic(auto)]
 
-// What is read, and what is wrong with it.
-pub mod fault;
+// What is read, and why it isn't.
+pub mod error;
 pub mod reference;
 
-// Where bytes and marks stand.
+// Marks and closes.
 pub mod marks;
 mod mode;
 
@@ -18,5 +16,3 @@ pub mod words;
 
 // What holds of the definitions.
 pub mod laws;
-#[cfg(test)]
-mod tests;

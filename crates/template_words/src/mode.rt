@@ -1,17 +1,17 @@
-// Where a place in a tag stands.
+// Whether a byte of a tag is in a literal, in brackets or outside of both.
 ghost use Rattle.std.specs.Prelude.{◌≡◌};
-ghost use Rattle.template_words.specs.Modes.{is_blank, is_quote, behind, mode_after, is_literal, is_outside};
+ghost use Rattle.template_words.specs.Modes.{is_blank, is_quote, mode_of_byte, mode_after, is_literal, is_outside};
 
-/// What a byte of a tag comes behind.
+/// What comes before a byte of a tag.
 #[derive(Clone, Copy, Debug)]
 pub enum Mode {
     /// The opening mark, white space or `(`: a quote opens a literal here.
     Start,
     /// Anything else outside of literals and brackets.
     Word,
-    /// A `[` whose `]` is yet to come.
+    /// A `[`, with no `]` since.
     Bracket,
-    /// The quote, which is held, of a literal that is open.
+    /// This quote, which opened a literal that is still open.
     Literal(u8),
 }
 
@@ -28,8 +28,8 @@ fn is_quote(byte: u8) -> bool
     byte == b'"' || byte == b'\''
 }
 
-fn behind(byte: u8) -> Mode
-    ensures { result ≡ behind byte }
+fn mode_of_byte(byte: u8) -> Mode
+    ensures { result ≡ mode_of_byte byte }
 {
     if byte == b'[' {
         Mode::Bracket
@@ -41,7 +41,7 @@ fn behind(byte: u8) -> Mode
 }
 
 impl Mode {
-    /// The mode behind one more byte.
+    /// The mode after one more byte.
     pub fn after(self, byte: u8) -> Mode
         ensures { result ≡ mode_after self byte }
     {
@@ -50,10 +50,10 @@ impl Mode {
                 if is_quote(byte) {
                     Mode::Literal(byte)
                 } else {
-                    behind(byte)
+                    mode_of_byte(byte)
                 }
             }
-            Mode::Word => behind(byte),
+            Mode::Word => mode_of_byte(byte),
             Mode::Bracket => {
                 if byte == b']' {
                     Mode::Word
@@ -71,27 +71,16 @@ impl Mode {
         }
     }
 
-    /// Inside of a literal.
     pub fn is_literal(self) -> bool
         ensures { result ≡ is_literal self }
     {
-        match self {
-            Mode::Start => false,
-            Mode::Word => false,
-            Mode::Bracket => false,
-            Mode::Literal(_) => true,
-        }
+        matches!(self, Mode::Literal(_))
     }
 
     /// Outside of literals and brackets.
     pub fn is_outside(self) -> bool
         ensures { result ≡ is_outside self }
     {
-        match self {
-            Mode::Start => true,
-            Mode::Word => true,
-            Mode::Bracket => false,
-            Mode::Literal(_) => false,
-        }
+        matches!(self, Mode::Start | Mode::Word)
     }
 }

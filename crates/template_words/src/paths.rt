@@ -1,12 +1,20 @@
-// A word read as a path.
-ghost use Rattle.std.specs.Prelude.{◌≡◌, ◌==◌, ◌+◌, ◌<◌, ◌^◌, false, ◌∷◌, [], length, take, drop, slice_index, MatchOption, IfSome, IfNone};
-ghost use Rattle.template_words.specs.Paths.{is_name_byte, all_name_bytes, is_name, is_index, step_named, step_of, in_bracket, is_cut, parts_of, all_steps, is_step, begins_with_step, rest_of_steps, is_reserved, in_lower_case, names_header, header_in_lower_case, placed, path_below, path_of};
+// Reading a word as a path.
+ghost use Rattle.std.specs.Prelude.{◌≡◌, ◌+◌, ◌<◌, ◌^◌, false, ◌∷◌, [], length, take, drop, slice_index};
+ghost use Rattle.std.specs.Prelude.{MatchOption, IfSome, IfNone};
+ghost use Rattle.std.specs.List.{list_all};
+ghost use Rattle.template_words.specs.Bytes.{dot};
+ghost use Rattle.template_words.specs.Paths.{is_name_byte, is_name, step_named, step_of, next_in_bracket, is_separator};
+ghost use Rattle.template_words.specs.Paths.{parts_of, all_steps, is_step, begins_with_step};
+ghost use Rattle.template_words.specs.Paths.{rest_of_steps, is_reserved};
+ghost use Rattle.template_words.specs.Paths.{in_lower_case, names_header, header_in_lower_case};
+ghost use Rattle.template_words.specs.Paths.{reference_at, reference_below, reference_of};
 ghost use Rattle.template_words.specs.Reading.{Gives};
 
-use crate::fault::{Fault, ReadError};
+use crate::error::{ReadError, TagError};
 use crate::marks::after_mark;
 use crate::reference::Reference;
-use crate::words::{enclosed, is_digits};
+use crate::words::enclosed;
+use data_tree::digits::index_of;
 use data_tree::plain_text::PlainText;
 use data_tree::step::{Path, Step};
 use std::alloc::Global;
@@ -18,54 +26,25 @@ fn is_name_byte(byte: u8) -> bool
     !b" \t\r\n!\"#%&'()*+,./;<=>@[\\]^`{|}~".contains(&byte)
 }
 
-fn all_name_bytes(text: &[u8]) -> bool
-    ensures { result ≡ all_name_bytes text.now }
+fn all_name_bytes(text: &str) -> bool
+    ensures { result ≡ list_all is_name_byte text.now }
 {
-    let mut rest = text;
-    while let [byte, after @ ..] = rest {
-        if !is_name_byte(*byte) {
-            return false;
-        }
-        rest = after;
-    }
-    true
+    text.as_bytes().iter().all(|byte| is_name_byte(*byte))
 }
 
 fn is_name(text: &str) -> bool
     ensures { result ≡ is_name text.now }
 {
-    !text.is_empty() && all_name_bytes(text.as_bytes())
+    !text.is_empty() && all_name_bytes(text)
 }
 
-fn begins_with_zero(text: &[u8]) -> bool
-    ensures { result ≡ (slice_index text.now 0 == 48) }
-{
-    match text {
-        [] => false,
-        [byte, ..] => *byte == b'0',
-    }
-}
-
-fn is_index(text: &str) -> bool
-    ensures { result ≡ is_index text.now }
-{
-    0 < text.len()
-        && text.len() <= 9
-        && is_digits(text.as_bytes())
-        && (text.len() == 1 || !begins_with_zero(text.as_bytes()))
-}
-
-/// The step that a name or a bracketed text stands for.
+/// The step that a name, or the text in brackets, spells.
 fn step_named(alloc: Global, text: &str) -> Result<Step, ReadError>
     ensures { Gives (λ step. step) result (Ok (step_named text.now)) }
 {
-    if is_index(text) {
-        match text.parse::<u32>() {
-            Ok(index) => Ok(Step::Index(index)),
-            Err(_) => unreachable!(),
-        }
-    } else {
-        Ok(Step::Name(PlainText::new(String::from_str(alloc, text)?)))
+    match index_of(text) {
+        Some(index) => Ok(Step::Index(index)),
+        None => Ok(Step::Name(PlainText::new(String::from_str(alloc, text)?))),
     }
 }
 
@@ -75,65 +54,59 @@ fn step_of(alloc: Global, text: &str) -> Result<Step, ReadError>
 {
     match enclosed(text, "[", "]") {
         Some(inner) => step_named(alloc, inner),
-        None => {
-            if is_name(text) {
-                step_named(alloc, text)
-            } else {
-                Err(ReadError::Wrong(Fault::Misspelled))
-            }
-        }
+        None if is_name(text) => step_named(alloc, text),
+        None => Err(ReadError::Tag(TagError::BadPath)),
     }
 }
 
-fn in_bracket(inside: bool, byte: u8) -> bool
-    ensures { result ≡ in_bracket inside byte }
+fn next_in_bracket(inside: bool, byte: u8) -> bool
+    ensures { result ≡ next_in_bracket inside byte }
 {
     if inside { byte != b']' } else { byte == b'[' }
 }
 
-fn is_cut(inside: bool, byte: u8) -> bool
-    ensures { result ≡ is_cut inside byte }
+fn is_separator(inside: bool, byte: u8) -> bool
+    ensures { result ≡ is_separator inside byte }
 {
     if inside { false } else { byte == b'.' }
 }
 
-/// The place of the first dot outside of brackets.
-fn dot_place(text: &[u8]) -> Option<usize>
+/// The byte offset of the first dot outside of brackets.
+fn dot_offset(text: &[u8]) -> Option<usize>
     ensures none { IfNone result (parts_of false text.now ≡ text.now ∷ []) }
     ensures inside { IfSome result (λ n. n < length text.now) }
-    ensures dot { IfSome result (λ n. slice_index text.now n ≡ 46) }
-    ensures parts { IfSome result (λ n. parts_of false text.now ≡ take n text.now ∷ parts_of false (drop (n + 1) text.now)) }
+    ensures dot { IfSome result (λ n. slice_index text.now n ≡ dot) }
+    ensures parts { IfSome result
+        (λ n. parts_of false text.now ≡ take n text.now ∷ parts_of false (drop (n + 1) text.now)) }
 {
+    // A loop, since brackets open and close.
     let mut inside = false;
     let mut at = 0;
     let mut rest = text;
     while let [byte, after @ ..] = rest {
-        if is_cut(inside, *byte) {
+        if is_separator(inside, *byte) {
             return Some(at);
         }
-        inside = in_bracket(inside, *byte);
+        inside = next_in_bracket(inside, *byte);
         at += 1;
         rest = after;
     }
     None
 }
 
-/// What stands before that dot, and after it.
+/// The text before that dot, and after it.
 fn around_dot<'a>(text: &'a str) -> Option<(&'a str, &'a str)>
-    ensures parts { MatchOption result (parts_of false text.now ≡ text.now ∷ []) (λ x. parts_of false text.now ≡ x.0.now ∷ parts_of false x.1.now) }
+    ensures parts { MatchOption result (parts_of false text.now ≡ text.now ∷ [])
+        (λ x. parts_of false text.now ≡ x.0.now ∷ parts_of false x.1.now) }
     ensures shorter { IfSome result (λ x. length x.1.now < length text.now) }
 {
-    match dot_place(text.as_bytes()) {
-        None => None,
-        Some(place) => {
-            let (front, dotted) = text.split_at(place);
-            let (_, after) = dotted.split_at(1);
-            Some((front, after))
-        }
-    }
+    let offset = dot_offset(text.as_bytes())?;
+    let (front, dotted) = text.split_at(offset);
+    let (_, after) = dotted.split_at(1);
+    Some((front, after))
 }
 
-/// The steps that the parts between dots stand for.
+/// The steps that the parts between dots spell.
 fn steps_of(alloc: Global, text: &str) -> Result<Vec<Step>, ReadError>
     ensures { Gives (λ steps. steps.items) result (all_steps (parts_of false text.now)) }
 {
@@ -152,10 +125,7 @@ fn steps_of(alloc: Global, text: &str) -> Result<Vec<Step>, ReadError>
 fn is_step(step: &Step, name: &str) -> bool
     ensures { result ≡ is_step name.now step.now }
 {
-    match step {
-        Step::Name(text) => text.as_str() == name,
-        Step::Index(_) => false,
-    }
+    matches!(step, Step::Name(text) if text.as_str() == name)
 }
 
 fn begins_with_step(steps: &[Step], name: &str) -> bool
@@ -196,10 +166,7 @@ fn in_lower_case(step: Step) -> Step
 fn names_header(steps: &[Step]) -> bool
     ensures { result ≡ names_header steps.now }
 {
-    match steps {
-        [_, second, _, ..] => is_step(second, "headers"),
-        _ => false,
-    }
+    matches!(steps, [_, second, _, ..] if is_step(second, "headers"))
 }
 
 fn header_in_lower_case(mut steps: Vec<Step>) -> Vec<Step>
@@ -222,8 +189,8 @@ fn rest_of_steps(mut steps: Vec<Step>) -> Vec<Step>
     steps
 }
 
-fn placed(depth: u32, steps: Vec<Step>) -> Reference
-    ensures { result ≡ placed depth steps.items }
+fn reference_at(depth: u32, steps: Vec<Step>) -> Reference
+    ensures { result ≡ reference_at depth steps.items }
 {
     if begins_with_step(steps.as_slice(), "request") {
         Reference::Root(Path::new(header_in_lower_case(steps)))
@@ -240,9 +207,10 @@ fn placed(depth: u32, steps: Vec<Step>) -> Reference
     }
 }
 
-fn path_below(alloc: Global, depth: u32, text: &str) -> Result<Reference, ReadError>
+// What the rest of a word, after `depth` times `../`, refers to.
+fn reference_below(alloc: Global, depth: u32, text: &str) -> Result<Reference, ReadError>
     requires { depth + 1 < 2 ^ 32 }
-    ensures { Gives (λ reference. reference) result (path_below depth text.now) }
+    ensures { Gives (λ reference. reference) result (reference_below depth text.now) }
 {
     if text == "." {
         return Ok(Reference::Item {
@@ -257,19 +225,19 @@ fn path_below(alloc: Global, depth: u32, text: &str) -> Result<Reference, ReadEr
         });
     }
     if text.starts_with("[") {
-        return Err(ReadError::Wrong(Fault::Misspelled));
+        return Err(ReadError::Tag(TagError::BadPath));
     }
     let steps = steps_of(alloc, text)?;
     if is_reserved(steps.as_slice()) {
-        return Err(ReadError::Wrong(Fault::Unsupported));
+        return Err(ReadError::Tag(TagError::UnsupportedTag));
     }
-    Ok(placed(depth, steps))
+    Ok(reference_at(depth, steps))
 }
 
-/// The path that a word spells.
-pub fn path_of(alloc: Global, text: &str) -> Result<Reference, ReadError>
+/// What a word refers to.
+pub fn reference_of(alloc: Global, text: &str) -> Result<Reference, ReadError>
     requires { length text.now < 2 ^ 31 }
-    ensures { Gives (λ reference. reference) result (path_of text.now) }
+    ensures { Gives (λ reference. reference) result (reference_of text.now) }
 {
     let mut depth = 0;
     let mut rest = text;
@@ -277,5 +245,5 @@ pub fn path_of(alloc: Global, text: &str) -> Result<Reference, ReadError>
         depth += 1;
         rest = after;
     }
-    path_below(alloc, depth, rest)
+    reference_below(alloc, depth, rest)
 }

@@ -7,6 +7,7 @@ use data_tree::step::Path;
 pub enum Reference {
     /// From the request's root.
     Root(Path),
-    /// From the item of the loop so many out, 0 being the innermost. Outside of that many loops it finds nothing.
+    /// From the item of the `depth`-th enclosing loop, 0 being the innermost. It finds nothing where fewer
+    /// loops are open.
     Item { depth: u32, steps: Path },
 }

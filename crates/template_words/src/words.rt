@@ -1,12 +1,18 @@
 // What a word in a tag is, before it is read as a path.
 ghost use Rattle.std.specs.Prelude.{◌≡◌, ◌<◌, ◌≤◌, length};
-ghost use Rattle.std.specs.Str.{all_ascii_digits};
-ghost use Rattle.template_words.specs.Words.{without_leading_blanks, without_trailing_blanks, trimmed, is_break, has_break, enclosed, is_short_digits, is_whole_number, is_literal_word, is_own_helper, is_other_helper, is_helper};
-ghost use Rattle.template_words.specs.Views.{part_view};
+ghost use Rattle.template_words.specs.Words.{without_leading_blanks, without_trailing_blanks, trim_white_space};
+ghost use Rattle.template_words.specs.Words.{is_break, has_break, enclosed, is_short_digits, is_whole_number};
+ghost use Rattle.template_words.specs.Words.{is_literal_word};
+ghost use Rattle.template_words.specs.Words.{is_text_helper, is_value_helper, is_foreign_helper, is_helper};
+ghost use Rattle.template_words.specs.Inner.Views.{part_view};
 ghost use Rattle.template_words.specs.declared.mode.Mode.TheVariants.{Start};
 
 use crate::marks::{after_mark, around_mark};
 use crate::mode::{Mode, is_blank};
+use data_tree::digits::is_digits;
+
+/// The most digits of a number in a tag, so that it fits into 64 bits.
+pub const NUMBER_DIGITS: usize = 18;
 
 fn without_leading_blanks(text: &str) -> &str
     ensures { result.now ≡ without_leading_blanks text.now }
@@ -34,10 +40,10 @@ fn without_trailing_blanks(text: &str) -> &str
     rest
 }
 
-/// The content of a tag without the white space at its ends.
+/// The content of a tag without the white space at its ends. White space of other scripts than ASCII stays.
 #[tactic(auto, using(crate::proofs::Lengths::trimmed_short))]
-pub fn trimmed(text: &str) -> &str
-    ensures value { result.now ≡ trimmed text.now }
+pub fn trim_white_space(text: &str) -> &str
+    ensures value { result.now ≡ trim_white_space text.now }
     ensures shorter { length result.now ≤ length text.now }
 {
     without_trailing_blanks(without_leading_blanks(text))
@@ -49,10 +55,11 @@ fn is_break(byte: u8) -> bool
     is_blank(byte) || byte == b'(' || byte == b')'
 }
 
-/// Whether white space or a parenthesis stands outside of literals and brackets.
+/// Whether white space or a parenthesis is outside of literals and brackets.
 pub fn has_break(text: &[u8]) -> bool
     ensures { result ≡ has_break Start text.now }
 {
+    // A loop, since each byte changes the mode.
     let mut mode = Mode::Start;
     let mut rest = text;
     while let [byte, after @ ..] = rest {
@@ -65,40 +72,23 @@ pub fn has_break(text: &[u8]) -> bool
     false
 }
 
-/// What stands between an opening mark at the front and the first closing mark, which is at the end.
+/// The text between an opening mark at the front and the first closing mark, which is at the end.
 pub(crate) fn enclosed<'a>(text: &'a str, open_mark: &str, close: &str) -> Option<&'a str>
     requires { 0 < length close.now }
     ensures { part_view result ≡ enclosed open_mark.now close.now text.now }
 {
-    match after_mark(text, open_mark) {
-        None => None,
-        Some(body) => match around_mark(body, close) {
-            None => None,
-            Some((inner, rest)) => { if rest.is_empty() { Some(inner) } else { None } }
-        },
-    }
-}
-
-pub(crate) fn is_digits(text: &[u8]) -> bool
-    ensures { result ≡ all_ascii_digits text.now }
-{
-    let mut rest = text;
-    while let [byte, after @ ..] = rest {
-        if !byte.is_ascii_digit() {
-            return false;
-        }
-        rest = after;
-    }
-    true
+    let body = after_mark(text, open_mark)?;
+    let (inner, rest) = around_mark(body, close)?;
+    if rest.is_empty() { Some(inner) } else { None }
 }
 
 fn is_short_digits(text: &str) -> bool
     ensures { result ≡ is_short_digits text.now }
 {
-    0 < text.len() && text.len() <= 18 && is_digits(text.as_bytes())
+    0 < text.len() && text.len() <= NUMBER_DIGITS && is_digits(text)
 }
 
-/// At most 18 digits, with a minus before them or not.
+/// Digits, with a minus before them or not.
 fn is_whole_number(text: &str) -> bool
     ensures { result ≡ is_whole_number text.now }
 {
@@ -108,7 +98,7 @@ fn is_whole_number(text: &str) -> bool
     }
 }
 
-/// A text, a number or a truth.
+/// A text in quotes, a number, `true` or `false`.
 pub fn is_literal_word(text: &str) -> bool
     ensures { result ≡ is_literal_word text.now }
 {
@@ -119,40 +109,36 @@ pub fn is_literal_word(text: &str) -> bool
         || text == "false"
 }
 
-/// A name of a helper that templates have here.
-fn is_own_helper(text: &str) -> bool
-    ensures { result ≡ is_own_helper text.now }
+/// A helper that changes a text.
+fn is_text_helper(text: &str) -> bool
+    ensures { result ≡ is_text_helper text.now }
 {
-    match text {
-        "upper"
-        | "lower"
-        | "trim"
-        | "size"
-        | "eq"
-        | "neq"
-        | "contains"
-        | "not"
-        | "base64"
-        | "urlEncode"
-        | "defaultIfEmpty"
-        | "jsonPath" => true,
-        _ => false,
-    }
+    matches!(text, "upper" | "lower" | "trim" | "base64" | "urlEncode")
 }
 
-/// A name of a helper that other implementations have.
-fn is_other_helper(text: &str) -> bool
-    ensures { result ≡ is_other_helper text.now }
+/// A helper that compares values, or finds one.
+fn is_value_helper(text: &str) -> bool
+    ensures { result ≡ is_value_helper text.now }
 {
-    match text {
-        "now" | "randomValue" | "xPath" | "math" | "lookup" | "log" => true,
-        _ => false,
-    }
+    matches!(
+        text,
+        "size" | "eq" | "neq" | "contains" | "not" | "defaultIfEmpty" | "jsonPath"
+    )
+}
+
+/// A helper that only other implementations of Handlebars have.
+fn is_foreign_helper(text: &str) -> bool
+    ensures { result ≡ is_foreign_helper text.now }
+{
+    matches!(
+        text,
+        "now" | "randomValue" | "xPath" | "math" | "lookup" | "log"
+    )
 }
 
 /// A name that a helper has, here or elsewhere.
 pub fn is_helper(text: &str) -> bool
     ensures { result ≡ is_helper text.now }
 {
-    is_own_helper(text) || is_other_helper(text)
+    is_text_helper(text) || is_value_helper(text) || is_foreign_helper(text)
 }

@@ -1,7 +1,7 @@
 use Rattle.std.specs.List.{list_all}
 use Rattle.template_code.specs.Bounds.{fits}
 use Rattle.template_code.specs.Budget.{plus_cost, cost_fits, cost, pushed_bounds}
-use Rattle.code_verifier.specs.Slots.{bounds_of}
+use Rattle.code_verifier.specs.Inner.Slots.{bounds_of}
 use Rattle.code_verifier.proofs.JudgeFacts.{by_rule, by_bounds, by_no_sum, by_sum}
 use Rattle.code_verifier.proofs.pass.judge.Goals as goal
 
@@ -9,7 +9,8 @@ pub returns-in-Some-clause-rule : goal.returns-in-Some-clause-rule
 returns-in-Some-clause-rule c nest =
     let code = c.args.code.now in
     let bounds = bounds_of c.args.known.now.stack in
-    by_rule _ (list_all fits (pushed_bounds code c.args.instr bounds)) (cost_fits (plus_cost c.args.known.now.budget (cost code c.args.instr bounds))) _ (c.in-Some.ensures nest)
+    by_rule _ (list_all fits (pushed_bounds code c.args.instr bounds))
+    (cost_fits (plus_cost c.args.known.now.budget (cost code c.args.instr bounds))) _ (c.in-Some.ensures nest)
 
 pub returns-then-not-pushed_bounds_fit-clause-rule :
     goal.returns-then-not-pushed_bounds_fit-clause-rule
@@ -18,8 +19,10 @@ returns-then-not-pushed_bounds_fit-clause-rule c nest =
 
 pub returns-in-None-clause-rule : goal.returns-in-None-clause-rule
 returns-in-None-clause-rule c nest =
-    by_no_sum _ _ c.args.known.now.budget _ _ _ (c.in_default.ensures nest) c.if-not-pushed_bounds_fit.ensures c.in_ok-written.ensures.written c.in_ok-with_step.ensures c.in-None.is
+    by_no_sum _ _ c.args.known.now.budget _ _ _ (c.in_default.ensures nest) c.if-not-pushed_bounds_fit.ensures
+    c.in_ok-written.ensures.written c.in_ok-with_step.ensures c.in-None.is
 
 pub returns-clause-rule : goal.returns-clause-rule
 returns-clause-rule c nest =
-    by_sum _ _ c.args.known.now.budget _ _ _ _ (c.in_default.ensures nest) c.if-not-pushed_bounds_fit.ensures c.in_ok-written.ensures.written c.in_ok-with_step.ensures c.in-Some-2.is
+    by_sum _ _ c.args.known.now.budget _ _ _ _ (c.in_default.ensures nest) c.if-not-pushed_bounds_fit.ensures
+    c.in_ok-written.ensures.written c.in_ok-with_step.ensures c.in-Some-2.is

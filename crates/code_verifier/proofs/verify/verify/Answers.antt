@@ -1,8 +1,9 @@
-use Rattle.template_code.specs.WellFormed.{IsFault}
-use Rattle.template_code.proofs.FaultFacts.{never_both}
+use Rattle.template_code.specs.WellFormed.{IsViolation}
+use Rattle.template_code.proofs.ViolationFacts.{never_both}
 use Rattle.code_verifier.proofs.verify.verify.Goals as goal
 
-pub returns-in-Ok-Fault-clause-only : goal.returns-in-Ok-Fault-clause-only
-returns-in-Ok-Fault-clause-only c formed within =
-    let fault : IsFault c.args.code c.in-Ok-Fault.place c.in-Ok-Fault.rule = rw c.in-Ok-Fault.field-0-is at c.in-Ok-Fault.ensures in
-    absurd (never_both c.args.code c.in-Ok-Fault.place c.in-Ok-Fault.rule fault formed within)
+pub returns-in-Ok-Violation-clause-only : goal.returns-in-Ok-Violation-clause-only
+returns-in-Ok-Violation-clause-only c formed within =
+    let violation : IsViolation c.args.code c.in-Ok-Violation.index c.in-Ok-Violation.rule =
+    rw c.in-Ok-Violation.field-0-is at c.in-Ok-Violation.ensures in
+    absurd (never_both c.args.code c.in-Ok-Violation.index c.in-Ok-Violation.rule violation formed within)

@@ -1,11 +1,15 @@
-use Rattle.std.proofs.Common.{◌∙◌}
-use Rattle.data_tree.proofs.Views.{view-List, view-Named, nth_of_element}
+use Rattle.std.proofs.Common.{◌∙◌, sym}
+use Rattle.data_tree.proofs.Views.{after-HasItems, after-HasMembers, nth_of_element}
 use Rattle.data_tree.proofs.look_up.after.Goals as goal
 
 pub returns-in-List : goal.returns-in-List
 returns-in-List c =
-    rw (c.in-Index.is, c.in-List.is, view-List c.in-List.items) (nth_of_element c.element.result c.in-List.items.items c.in-Index.index (c.element.ensures ∙ rw c.as_slice-in-List.ensures.value))
+    let items = c.in-List.items in
+    rw (c.in-Index.is, after-HasItems c.in-Index.index c.args.value.now items c.in-List.is)
+    (nth_of_element c.item_at.result items.items c.in-Index.index
+    (c.item_at.ensures ∙ rw c.as_slice-in-List.ensures.value))
 
-pub returns-in-Named-value : goal.returns-in-Named-value
-returns-in-Named-value c =
-    rw (c.in-Index.is, c.in-Named-value.is, view-Named c.in-Named-value.text c.in-Named-value.items c.in-Named-value.fields) (nth_of_element c.element-in-Named-value.result c.in-Named-value.items.items c.in-Index.index (c.element-in-Named-value.ensures ∙ rw c.as_slice-in-Named-value.ensures.value))
+pub returns-in-Fields : goal.returns-in-Fields
+returns-in-Fields c =
+    rw (c.in-Name.is, c.under.ensures, c.as_str.ensures, c.as_slice.ensures.value)
+    (sym (after-HasMembers c.in-Name.name c.args.value.now c.in-Fields.fields c.in-Fields.is))

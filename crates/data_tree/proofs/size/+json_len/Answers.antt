@@ -8,17 +8,26 @@ use Rattle.data_tree.proofs.size.+json_len.Goals as goal
 
 pub json_len-returns-in-List : goal.json_len-returns-in-List
 json_len-returns-in-List t c =
-    rw (c.in-List.is, view-List c.in-List.items, c.bracketed_len.ensures, c.len.ensures, c.items_len.ensures) (list_length c.in-List.items.items _ (search rules))
+    rw (c.in-List.is, view-List c.in-List.items, c.bracketed_len.ensures, c.len.ensures, c.items_len.ensures)
+    (list_length c.in-List.items.items _ (search rules))
 
 pub json_len-returns-in-Fields : goal.json_len-returns-in-Fields
 json_len-returns-in-Fields t c =
-    rw (c.in-Fields.is, view-Fields c.in-Fields.fields, c.bracketed_len-in-Fields.ensures, c.len-in-Fields.ensures, c.members_len.ensures) (fields_length c.in-Fields.fields.items _ (search rules))
+    rw (c.in-Fields.is, view-Fields c.in-Fields.fields)
+    (rw (c.bracketed_len-in-Fields.ensures, c.len-in-Fields.ensures, c.members_len.ensures)
+    (fields_length c.in-Fields.fields.items _ (search rules)))
 
 pub json_len-returns-in-Named : goal.json_len-returns-in-Named
 json_len-returns-in-Named t c =
     let n = c.in-Named in
     let ms = members_view n.fields.items in
     let ts = items_view n.items.items in
-    let f : c.bracketed_len-in-Named.result ≡ capped (length (json (fields ms))) = c.bracketed_len-in-Named.ensures ∙ rw (c.len-in-Named.ensures, c.members_len-in-Named.ensures) (fields_length n.fields.items _ (search rules)) in
-    let i : c.bracketed_len-in-Named-2.result ≡ capped (length (json (list ts))) = c.bracketed_len-in-Named-2.ensures ∙ rw (c.len-in-Named-2.ensures, c.items_len-in-Named.ensures) (list_length n.items.items _ (search rules)) in
-    rw (n.is, view-Named n.text n.items n.fields, c.saturating_add-in-Named-2.ensures, c.saturating_add-in-Named.ensures, c.saturating_add.ensures, f, i, c.quoted_len-in-Named.ensures, c.as_str-in-Named.ensures.value) (named_length _ ts ms)
+    let f : c.bracketed_len-in-Named.result ≡ capped (length (json (fields ms))) =
+    c.bracketed_len-in-Named.ensures ∙ rw (c.len-in-Named.ensures, c.members_len-in-Named.ensures)
+    (fields_length n.fields.items _ (search rules)) in
+    let i : c.bracketed_len-in-Named-2.result ≡ capped (length (json (list ts))) =
+    c.bracketed_len-in-Named-2.ensures ∙ rw (c.len-in-Named-2.ensures, c.items_len-in-Named.ensures)
+    (list_length n.items.items _ (search rules)) in
+    rw (n.is, view-Named n.text n.items n.fields)
+    (rw (c.saturating_add-in-Named-2.ensures, c.saturating_add-in-Named.ensures, c.saturating_add.ensures)
+    (rw (f, i, c.quoted_len-in-Named.ensures, c.as_str-in-Named.ensures.value) (named_length _ ts ms)))

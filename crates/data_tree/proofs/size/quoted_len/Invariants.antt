@@ -7,5 +7,6 @@ use Rattle.data_tree.proofs.size.quoted_len.Given as goal
 abbrev pub invariant-loop-byte : goal.invariant-loop-byte
 invariant-loop-byte l = record {
   fits : l.len < 2 ^ 64;
-  whole : capped (l.len + length (escape (drop l.byte-index l.byte-items))) ≡ capped (2 + length (escape l.byte-items));
+  whole : capped (l.len + length (escape (drop l.byte-index l.byte-items)))
+      ≡ capped (2 + length (escape l.byte-items));
 }

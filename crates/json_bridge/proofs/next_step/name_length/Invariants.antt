@@ -1,5 +1,5 @@
 use Rattle.std.proofs.Common.{◌≡◌, ◌+◌, ◌≤◌, length}
-use Rattle.json_bridge.specs.NextStep.{name_at}
+use Rattle.json_bridge.specs.Inner.NextStep.{name_at}
 use Rattle.json_bridge.proofs.next_step.name_length.Given as goal
 
 -- what has been passed is name bytes alone

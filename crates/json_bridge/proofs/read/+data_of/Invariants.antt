@@ -6,7 +6,11 @@ use Rattle.json_bridge.proofs.read.+data_of.Given as goal
 
 -- what is found, followed by what is left, is the whole
 abbrev pub invariant-list_of-loop-item : goal.invariant-list_of-loop-item
-invariant-list_of-loop-item l = items_of (seen.items_view l.items.items) ≡ option_map (items_before l.found.items) (items_of (seen.items_view (drop l.item-index l.item-items)))
+invariant-list_of-loop-item l =
+    items_of (seen.items_view l.items.items) ≡ option_map (items_before l.found.items)
+    (items_of (seen.items_view (drop l.item-index l.item-items)))
 
 abbrev pub invariant-fields_of-loop-name : goal.invariant-fields_of-loop-name
-invariant-fields_of-loop-name l = members_of (seen.members_view l.members.entries) ≡ option_map (members_before l.found.items) (members_of (seen.members_view l.name-iterator))
+invariant-fields_of-loop-name l =
+    members_of (seen.members_view l.members.entries) ≡ option_map (members_before l.found.items)
+    (members_of (seen.members_view l.name-iterator))

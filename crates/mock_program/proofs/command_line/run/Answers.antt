@@ -1,58 +1,75 @@
 use Rattle.std.proofs.Common.{◌≡◌, refl, ap, ◌∙◌, [], ◌∷◌, sym, map, string_bytes, inl, inr, subst}
 use Rattle.clap.specs.Words.{HasKind, kind_of}
-use Rattle.mock_program.specs.CommandLine.{IsRenderOf, marked_words, render_words}
-use Rattle.mock_program.specs.Parser.{IsHelp, answers_to}
+use Rattle.mock_program.specs.Inner.Arguments.{parser_arguments, render_arguments}
+use Rattle.mock_program.specs.Inner.Parser.{IsHelp, IsRenderOf, answers_to}
 use Rattle.mock_program.specs.Lines.{out_of_memory}
-use Rattle.mock_program.proofs.Asked.{marked_is}
-use Rattle.mock_program.proofs.Mistakes.{fails_by_help, fails_by_mistake}
+use Rattle.mock_program.proofs.OneStream.{of_rendering}
+use Rattle.mock_program.proofs.ParserErrors.{fails_by_help, fails_by_mistake}
+use Rattle.mock_program.proofs.RenderArguments.{parser_arguments-render}
 use Rattle.mock_program.proofs.command_line.run.Goals as goal
 
-pub returns-in-Ok-Some-clause-shown : goal.returns-in-Ok-Some-clause-shown
-returns-in-Ok-Some-clause-shown g c = λ template method target asks zero.
-    let words : map (λ word. word.now) c.as_slice.result.now ≡ render_words template method target =
-    ap (map (λ word. word.now)) c.as_slice.ensures.value ∙ c.in-Ok.ensures ∙ marked_is (map string_bytes c.args.words.now) template method target asks in
-    c.perform.ensures.shown template method target (subst (λ o. IsRenderOf o template method target) c.in-Ok-Some.field-0-is (c.in-Ok-Some.ensures.ok template method target words)) zero
+pub returns-in-Ok-Some-clause-rendering : goal.returns-in-Ok-Some-clause-rendering
+returns-in-Ok-Some-clause-rendering g c = λ template method target asks.
+    let arguments : map (λ argument. argument.now) c.as_slice.result.now ≡ render_arguments template method target =
+    ap (map (λ argument. argument.now)) c.as_slice.ensures.value ∙ c.in-Ok.ensures ∙ parser_arguments-render
+    (map string_bytes c.args.arguments.now) template method target asks in
+    let (t, m, u) =
+    subst (λ o. IsRenderOf o template method target) c.in-Ok-Some.field-0-is
+    (c.in-Ok-Some.ensures.ok template method target arguments) in
+    rw (← t, ← m, ← u) c.render_to.ensures
 
-pub returns-in-Ok-Some-clause-refused : goal.returns-in-Ok-Some-clause-refused
-returns-in-Ok-Some-clause-refused g c = λ template method target asks one.
-    let words : map (λ word. word.now) c.as_slice.result.now ≡ render_words template method target =
-    ap (map (λ word. word.now)) c.as_slice.ensures.value ∙ c.in-Ok.ensures ∙ marked_is (map string_bytes c.args.words.now) template method target asks in
-    c.perform.ensures.refused template method target (subst (λ o. IsRenderOf o template method target) c.in-Ok-Some.field-0-is (c.in-Ok-Some.ensures.ok template method target words)) one
+pub returns-in-Ok-None-clause-rendering : goal.returns-in-Ok-None-clause-rendering
+returns-in-Ok-None-clause-rendering g c = λ template method target asks.
+    let arguments : map (λ argument. argument.now) c.as_slice.result.now ≡ render_arguments template method target =
+    ap (map (λ argument. argument.now)) c.as_slice.ensures.value ∙ c.in-Ok.ensures ∙ parser_arguments-render
+    (map string_bytes c.args.arguments.now) template method target asks in
+    absurd (subst (λ o. IsRenderOf o template method target) c.in-Ok-None.field-0-is
+    (c.in-Ok-None.ensures.ok template method target arguments))
 
-pub returns-in-Ok-None-clause-refused : goal.returns-in-Ok-None-clause-refused
-returns-in-Ok-None-clause-refused g c = λ template method target asks one.
-    let words : map (λ word. word.now) c.as_slice.result.now ≡ render_words template method target =
-    ap (map (λ word. word.now)) c.as_slice.ensures.value ∙ c.in-Ok.ensures ∙ marked_is (map string_bytes c.args.words.now) template method target asks in
-    absurd (subst (λ o. IsRenderOf o template method target) c.in-Ok-None.field-0-is (c.in-Ok-None.ensures.ok template method target words))
+pub returns-clause-rendering : goal.returns-clause-rendering
+returns-clause-rendering g c = λ template method target asks.
+    let arguments : map (λ argument. argument.now) c.as_slice.result.now ≡ render_arguments template method target =
+    ap (map (λ argument. argument.now)) c.as_slice.ensures.value ∙ c.in-Ok.ensures ∙ parser_arguments-render
+    (map string_bytes c.args.arguments.now) template method target asks in
+    let (one, as_reported, same) =
+    c.write_parser_message.ensures.no_memory (c.in-Err.ensures.err template method target arguments) in
+    inr (inl (one, (out_of_memory, inr (inr refl), as_reported), same))
 
-pub returns-clause-refused : goal.returns-clause-refused
-returns-clause-refused g c = λ template method target asks one.
-    let words : map (λ word. word.now) c.as_slice.result.now ≡ render_words template method target =
-    ap (map (λ word. word.now)) c.as_slice.ensures.value ∙ c.in-Ok.ensures ∙ marked_is (map string_bytes c.args.words.now) template method target asks in
-    let (one, told, kept) = c.explained.ensures.no_memory (c.in-Err.ensures.err template method target words) in
-    inl ((out_of_memory, inr (inr (inr refl)), told), kept)
+pub returns-in-Ok-Some-clause-streams : goal.returns-in-Ok-Some-clause-streams
+returns-in-Ok-Some-clause-streams g c =
+    of_rendering g.O.Write.contents g.E.Write.contents _ _ _ _ _ _ _ _ c.render_to.ensures
 
-pub returns-in-Ok-Some-clause-bad_words : goal.returns-in-Ok-Some-clause-bad_words
-returns-in-Ok-Some-clause-bad_words g c = λ bad.
-    let words : map (λ word. word.now) c.as_slice.result.now ≡ marked_words (map string_bytes c.args.words.now) = ap (map (λ word. word.now)) c.as_slice.ensures.value ∙ c.in-Ok.ensures in
-    absurd ((fails_by_mistake (map string_bytes c.args.words.now) bad).0 (ap answers_to (sym words) ∙ c.in-Ok-Some.ensures.kinds))
+pub returns-in-Ok-Some-clause-invalid : goal.returns-in-Ok-Some-clause-invalid
+returns-in-Ok-Some-clause-invalid g c = λ invalid.
+    let arguments : map (λ argument. argument.now) c.as_slice.result.now
+    ≡ parser_arguments (map string_bytes c.args.arguments.now) =
+    ap (map (λ argument. argument.now)) c.as_slice.ensures.value ∙ c.in-Ok.ensures in
+    absurd ((fails_by_mistake (map string_bytes c.args.arguments.now) invalid).0
+    (ap answers_to (sym arguments) ∙ c.in-Ok-Some.ensures.kinds))
 
 pub returns-clause-help : goal.returns-clause-help
 returns-clause-help g c = λ calls.
-    let words : map (λ word. word.now) c.as_slice.result.now ≡ marked_words (map string_bytes c.args.words.now) = ap (map (λ word. word.now)) c.as_slice.ensures.value ∙ c.in-Ok.ensures in
-    let (k, help, alone) = fails_by_help (map string_bytes c.args.words.now) calls in
-    let has : HasKind (k ∷ []) c.in-Err.error = subst (λ ks. HasKind ks c.in-Err.error) (ap answers_to words ∙ alone) c.in-Err.ensures.kinds in
+    let arguments : map (λ argument. argument.now) c.as_slice.result.now
+    ≡ parser_arguments (map string_bytes c.args.arguments.now) =
+    ap (map (λ argument. argument.now)) c.as_slice.ensures.value ∙ c.in-Ok.ensures in
+    let (k, help, alone) = fails_by_help (map string_bytes c.args.arguments.now) calls in
+    let has : HasKind (k ∷ []) c.in-Err.error =
+    subst (λ ks. HasKind ks c.in-Err.error) (ap answers_to arguments ∙ alone) c.in-Err.ensures.kinds in
     elim has [
-      | inl none ↦ inr (c.explained.ensures.no_memory none).0
-      | inr (inl same) ↦ c.explained.ensures.help (subst IsHelp (sym same) help)
+      | inl none ↦ inr (c.write_parser_message.ensures.no_memory none).0
+      | inr (inl same) ↦ c.write_parser_message.ensures.help (subst IsHelp (sym same) help)
       | inr (inr never) ↦ absurd never
     ]
 
-pub returns-clause-bad_words : goal.returns-clause-bad_words
-returns-clause-bad_words g c = λ bad.
-    let words : map (λ word. word.now) c.as_slice.result.now ≡ marked_words (map string_bytes c.args.words.now) = ap (map (λ word. word.now)) c.as_slice.ensures.value ∙ c.in-Ok.ensures in
-    let has : HasKind (answers_to (marked_words (map string_bytes c.args.words.now))) c.in-Err.error = subst (λ ws. HasKind (answers_to ws) c.in-Err.error) words c.in-Err.ensures.kinds in
+pub returns-clause-invalid : goal.returns-clause-invalid
+returns-clause-invalid g c = λ invalid.
+    let arguments : map (λ argument. argument.now) c.as_slice.result.now
+    ≡ parser_arguments (map string_bytes c.args.arguments.now) =
+    ap (map (λ argument. argument.now)) c.as_slice.ensures.value ∙ c.in-Ok.ensures in
+    let has : HasKind (answers_to (parser_arguments (map string_bytes c.args.arguments.now))) c.in-Err.error =
+    subst (λ given. HasKind (answers_to given) c.in-Err.error) arguments c.in-Err.ensures.kinds in
     elim has [
-      | inl none ↦ inr (c.explained.ensures.no_memory none).0
-      | inr among ↦ c.explained.ensures.mistake ((fails_by_mistake (map string_bytes c.args.words.now) bad).1 (kind_of c.in-Err.error) among)
+      | inl none ↦ inr (c.write_parser_message.ensures.no_memory none).0
+      | inr among ↦ c.write_parser_message.ensures.mistake
+          ((fails_by_mistake (map string_bytes c.args.arguments.now) invalid).1 (kind_of c.in-Err.error) among)
     ]

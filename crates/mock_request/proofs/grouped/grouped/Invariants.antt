@@ -4,4 +4,6 @@ use Rattle.mock_request.proofs.GroupLemmas.{entry_tree}
 use Rattle.mock_request.proofs.grouped.grouped.Given as goal
 
 abbrev pub invariant-loop-name : goal.invariant-loop-name
-invariant-loop-name l = map (λ field. (field.0, view field.1)) l.fields.items ≡ map (entry_tree (λ values. map string_bytes values.items)) l.yielded
+invariant-loop-name l =
+    map (λ field. (field.0, view field.1)) l.fields.items ≡ map
+    (entry_tree (λ values. map string_bytes values.items)) l.yielded

@@ -4,8 +4,8 @@ use Rattle.data_tree.specs.WellFormed.{IsWellFormed}
 use Rattle.mock_request.proofs.TreeLemmas.{request_tree_well_formed}
 use Rattle.mock_request.proofs.request_data.request_data.Goals as goal
 
-pub returns-in-Ok-clause-well_formed : goal.returns-in-Ok-clause-well_formed
-returns-in-Ok-clause-well_formed c =
+pub returns-clause-well_formed : goal.returns-clause-well_formed
+returns-clause-well_formed c =
     MatchResult-weaker c.new.result c.new.ensures
     (λ made h. subst IsWellFormed (sym (h.0 ∙ c.in-Ok.ensures)) (request_tree_well_formed c.args.snapshot.now))
     (λ _ _. tt)

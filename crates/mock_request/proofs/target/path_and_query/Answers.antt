@@ -13,13 +13,21 @@ pub returns-then-is_empty-clause-found : goal.returns-then-is_empty-clause-found
 returns-then-is_empty-clause-found c =
     let text = c.in_ok-strip_prefix.field-0.now in
     let none = nil_from_length c.split_authority.result.0.now (eqb-true _ _ (sym c.if-is_empty.ensures)) in
-    let same : text ≡ c.split_authority.result.1.now = c.split_authority.ensures.whole ∙ ap (λ a. a ++ c.split_authority.result.1.now) none in
+    let same : text ≡ c.split_authority.result.1.now =
+    c.split_authority.ensures.whole ∙ ap (λ a. a ++ c.split_authority.result.1.now) none in
     let cut = c.in_ok-strip_prefix.ensures.cases in
-    (λ e. cc, λ has. absurd (has_no_authority c.args.target.now c.split_authority.result.1.now (cut.1.1 ∙ ap (λ t. codes "http://" ++ t) (sym cut.2 ∙ same)) c.split_authority.ensures.rest has))
+    let spelled = cut.1.1 ∙ ap (λ t. codes "http://" ++ t) (sym cut.2 ∙ same) in
+    let rest = c.split_authority.result.1.now in
+    let none = has_no_authority c.args.target.now rest spelled c.split_authority.ensures.rest in
+    (λ e. cc, λ has. absurd (none has))
 
 pub returns-clause-found : goal.returns-clause-found
 returns-clause-found c =
-    let cut = c.in_ok-strip_prefix.ensures.cases in (
-      λ _. has_url_absolute c.args.target.now c.split_authority.result.0.now c.split_authority.result.1.now (cut.1.1 ∙ ap (λ t. codes "http://" ++ t) (sym cut.2 ∙ c.split_authority.ensures.whole)) (not_nil c.split_authority.result.0.now c.if-is_empty.ensures, c.split_authority.ensures.authority) c.split_authority.ensures.rest,
-      λ _. refl,
-    )
+    let cut = c.in_ok-strip_prefix.ensures.cases in
+    let authority = c.split_authority.result.0.now in
+    let spelled = cut.1.1 ∙ ap (λ t. codes "http://" ++ t) (sym cut.2 ∙ c.split_authority.ensures.whole) in
+    let named = not_nil authority c.if-is_empty.ensures in
+    let url =
+    has_url_absolute c.args.target.now authority c.split_authority.result.1.now spelled
+    (named, c.split_authority.ensures.authority) c.split_authority.ensures.rest in
+    (λ _. url, λ _. refl)

@@ -1,30 +1,31 @@
 use Rattle.std.proofs.Common.{◌≡◌, ℕ, ◌<◌, ◌≤◌, ◌↔◌, arith}
 use Rattle.std.specs.Prelude.{Bool, true, false}
 use Rattle.template_tree.specs.Tree.{tree_of}
-use Rattle.template_compile.proofs.Stands.{length-code_of}
-use Rattle.template_compile.proofs.Runs.{code_of-runs}
-use Rattle.template_compile.proofs.Unbroken.{code_of-well_formed}
-use Rattle.template_compile.proofs.Limits.{code_of-within_limits}
-use Rattle.template_compile.proofs.Spelled.{spelled_bytes}
+use Rattle.template_compile.proofs.Runs.{stack_code-runs}
+use Rattle.template_compile.proofs.Unbroken.{stack_code-well_formed}
+use Rattle.template_compile.proofs.Limits.{stack_code-within_limits}
+use Rattle.template_tree.proofs.Bytes.{spelled_bytes}
 use Rattle.template_compile.proofs.compiler.compile.Goals as goal
 
 at_most : (b : Bool) (limit n : ℕ) → ((b ≡ true) ↔ (limit < n)) → b ≡ false → n ≤ limit
 at_most b limit n h e = grind arith
 
+pub returns-clause-runs : goal.returns-clause-runs
+returns-clause-runs c =
+    rw (c.in_ok-translate.ensures, c.into_nodes-nodes.ensures) (stack_code-runs (tree_of c.args.template))
+
 pub returns-clause-well_formed : goal.returns-clause-well_formed
 returns-clause-well_formed c =
-    rw (c.in_ok-translate.ensures, c.nodes-nodes.ensures) (code_of-well_formed (tree_of c.args.template.now) (at_most _ _ _ (rw c.nodes-nodes.ensures at c.is_too_long.ensures) c.if-is_too_long.false))
+    let short =
+    at_most _ _ _ (rw (c.as_slice.ensures.value, c.into_nodes-nodes.ensures) at c.is_too_long.ensures)
+    c.if-is_too_long.false in
+    rw (c.in_ok-translate.ensures, c.into_nodes-nodes.ensures) (stack_code-well_formed (tree_of c.args.template) short)
 
-pub returns-clause-long : goal.returns-clause-long
-returns-clause-long c = rw (c.in_ok-translate.ensures, c.nodes-nodes.ensures) (length-code_of (tree_of c.args.template.now))
-
-pub returns-clause-runs : goal.returns-clause-runs
-returns-clause-runs c = rw (c.in_ok-translate.ensures, c.nodes-nodes.ensures) (code_of-runs (tree_of c.args.template.now))
-
-pub returns-clause-limits : goal.returns-clause-limits
-returns-clause-limits c =
-    rw (c.in_ok-translate.ensures, c.nodes-nodes.ensures) (code_of-within_limits (tree_of c.args.template.now) (at_most _ _ _ (rw c.nodes-nodes.ensures at c.is_too_long.ensures) c.if-is_too_long.false))
-
-pub returns-clause-spelled : goal.returns-clause-spelled
-returns-clause-spelled c = λ text spells.
-    returns-clause-limits c (omega (arith, spelled_bytes text (tree_of c.args.template.now) spells, spells.short))
+pub returns-clause-within_limits : goal.returns-clause-within_limits
+returns-clause-within_limits c = λ text spells.
+    let short =
+    at_most _ _ _ (rw (c.as_slice.ensures.value, c.into_nodes-nodes.ensures) at c.is_too_long.ensures)
+    c.if-is_too_long.false in
+    let few = spelled_bytes text (tree_of c.args.template) spells in
+    rw (c.in_ok-translate.ensures, c.into_nodes-nodes.ensures)
+    (stack_code-within_limits (tree_of c.args.template) short (omega (arith, few, spells.short)))

@@ -12,6 +12,8 @@ returns-clause-meant c =
     let program : ProgramParts = record { source = string_bytes i.source; code = i.verified } in
     let root = root_of c.args.request.now in
     rw (← c.program.view_is)
-    (IfOk-weaker c.run.result (λ rendered. Runs i.verified root rendered.steps (string_bytes rendered.text)) (λ rendered. IsMeant program.source root rendered.steps (string_bytes rendered.text))
-    (λ rendered r. run_means program root rendered.steps (string_bytes rendered.text) c.program.invariant c.args.request.now.no_empty_name r)
+    (IfOk-weaker c.run.result (λ rendered. Runs i.verified root rendered.steps (string_bytes rendered.text))
+    (λ rendered. IsMeant program.source root (string_bytes rendered.text))
+    (λ rendered r. run_means program root rendered.steps (string_bytes rendered.text) c.program.invariant
+    c.args.request.now.no_empty_name r)
     c.run.ensures.run)

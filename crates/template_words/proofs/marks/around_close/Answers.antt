@@ -1,4 +1,4 @@
-use Rattle.std.proofs.Common.{◌≡◌, ◌<◌, Some, length, drop, true, ap, ◌∙◌}
+use Rattle.std.proofs.Common.{◌≡◌, ◌<◌, Some, length, drop, true, sym, ap, ◌∙◌}
 use Rattle.std.proofs.lemmas.Bool.{both_ways}
 use Rattle.template_words.specs.declared.mode.Mode.TheVariants.{Start}
 use Rattle.template_words.specs.Marks.{begins, close_from}
@@ -7,12 +7,25 @@ use Rattle.template_words.proofs.marks.around_close.Goals as goal
 
 pub split_at-requires : goal.split_at-requires
 split_at-requires c =
-    let e : close_from c.args.close.now Start c.args.text.now ≡ Some c.in-Some.place = cc in
-    let found = if_some (λ i. (i < length c.args.text.now) × (begins c.args.close.now (drop i c.args.text.now) ≡ true)) _ _ e (close_at c.args.close.now Start c.args.text.now) in
-    boundary_at c.args.close.now c.args.text.now c.in-Some.place found c.requires.some c.requires.ascii
+    let close = c.args.close.now in
+    let text = c.args.text.now in
+    let e : close_from close Start text ≡ Some c.in_ok-offset.offset =
+    ap (close_from close Start) (sym c.as_bytes.ensures.value) ∙
+    (ap (λ k. close_from k Start c.as_bytes.result.now) (sym c.as_bytes-2.ensures.value) ∙
+    (sym c.close_offset.ensures ∙ c.in_ok-offset.was)) in
+    let found =
+    if_some (λ i. (i < length text) × (begins close (drop i text) ≡ true)) _ _ e (close_at close Start text) in
+    boundary_at close text c.in_ok-offset.offset found c.requires.some c.requires.ascii
 
 pub unreachable-requires : goal.unreachable-requires
 unreachable-requires c =
-    let e : close_from c.args.close.now Start c.args.text.now ≡ Some c.in-Some.place = cc in
-    let found = if_some (λ i. (i < length c.args.text.now) × (begins c.args.close.now (drop i c.args.text.now) ≡ true)) _ _ e (close_at c.args.close.now Start c.args.text.now) in
-    both_ways (begins c.args.close.now c.split_at.result.1.now) c.in-None-after_mark.ensures (ap (begins c.args.close.now) c.split_at.ensures.back ∙ found.1)
+    let close = c.args.close.now in
+    let text = c.args.text.now in
+    let e : close_from close Start text ≡ Some c.in_ok-offset.offset =
+    ap (close_from close Start) (sym c.as_bytes.ensures.value) ∙
+    (ap (λ k. close_from k Start c.as_bytes.result.now) (sym c.as_bytes-2.ensures.value) ∙
+    (sym c.close_offset.ensures ∙ c.in_ok-offset.was)) in
+    let found =
+    if_some (λ i. (i < length text) × (begins close (drop i text) ≡ true)) _ _ e (close_at close Start text) in
+    both_ways (begins close c.split_at.result.1.now) c.in-None.ensures
+    (ap (begins close) c.split_at.ensures.back ∙ found.1)

@@ -5,6 +5,7 @@ use Rattle.template_words.proofs.words.enclosed.Goals as goal
 
 pub returns-then-is_empty : goal.returns-then-is_empty
 returns-then-is_empty c =
-    enclosed_yes c.args.open_mark.now c.args.close.now c.args.text.now c.in-Some.body.now c.in-Some-around_mark.inner.now c.in-Some-around_mark.rest.now
-    c.in-Some.ensures.0 c.in-Some.ensures.1 c.in-Some-around_mark.ensures
-    (eqb-true (length c.in-Some-around_mark.rest.now) 0 (sym c.is_empty.ensures ∙ c.if-is_empty.true))
+    enclosed_yes c.args.open_mark.now c.args.close.now c.args.text.now
+    c.in_ok-body.body.now c.in_ok-inner.inner.now c.in_ok-inner.rest.now
+    c.in_ok-body.ensures.0 c.in_ok-body.ensures.1 c.in_ok-inner.ensures
+    (eqb-true (length c.in_ok-inner.rest.now) 0 (sym c.is_empty.ensures ∙ c.if-is_empty.true))

@@ -1,0 +1,152 @@
+-- What the parser makes of arguments that ask for no rendering.
+use Rattle.std.proofs.Common.{◌≡◌, ◌≢◌, ◌⊎◌, ◌==◌, ℕ, Bool, true, false, List, [], ◌∷◌, length, codes, Option, Some}
+use Rattle.std.proofs.Common.{None, ◌||◌, if◌then◌else◌, refl, sym, ap, ap₂, ◌∙◌, inl, inr, is_some}
+use Rattle.std.specs.Prelude.{◌&&◌, option_and_then, option_map}
+use Rattle.std.specs.Option.{option_map_or}
+use Rattle.std.specs.Str.{bytes_eq}
+use Rattle.clap.specs.Walk.{Text, Walk, finished, idle, long_or_other, nothing_held, settled, short_or_plain}
+use Rattle.clap.specs.Walk.{subcommand_met, subcommand_or_other, trailing, walk, walk_from, walked}
+use Rattle.clap.specs.Lexer.{long_of, long_of_rest, short_of, short_of_rest, strip_byte}
+use Rattle.clap.specs.Simple.{App, built, entered, names_of}
+use Rattle.clap.specs.Kinds.{Kinds, or_else}
+use Rattle.clap.specs.Faults.{bundle_fault, check_fault, defaults_fault, entered_fault, fault_of, flag_word_fault}
+use Rattle.clap.specs.Faults.{is_simple_and_free, other_fault, settle_fault, step_fault, walk_fault}
+use Rattle.clap.specs.declared.error.kind.ErrorKind.TheVariants as kind
+use Rattle.clap.proofs.OnLiterals.{clap_on_literals}
+use Rattle.clap.proofs.FaultLemmas.{stopped_fault}
+use Rattle.clap.proofs.WalkLemmas.{walk_stopped}
+use Rattle.mock_program.specs.Inner.Parser.{answers_to, mock_app}
+
+pub is_judged : is_simple_and_free mock_app ≡ true
+is_judged = refl
+
+pub answers_are : (a : App) (arguments : List Text) → a ≡ mock_app → answers_to arguments ≡ fault_of a arguments
+unfolding answers_to
+answers_are a arguments e = ap (λ (m : App). fault_of m arguments) (sym e)
+
+abbrev app : App
+app = built mock_app
+
+-- where the walk over the arguments of the program ends, which come to `render`
+abbrev at_render : List Text → Walk
+at_render arguments = record (walk_from nothing_held) { stopped = Some (codes "render", arguments) }
+
+-- the fault after a walk that found none, by where it ended
+abbrev below : Walk → Kinds
+below end =
+    or_else (entered_fault app end.stopped)
+    (or_else (settle_fault app.top.rules app.top.args_override_self end.held)
+    (or_else (defaults_fault (settled app.top.rules end.held).rows app.top.rules)
+    (check_fault app.top (finished app.top.rules end.held) (is_some (entered app end.stopped)))))
+
+-- ---- arguments of the program
+
+pub help_of_mock : (rest : List Text)
+    → fault_of mock_app (codes "mock" ∷ codes "--help" ∷ rest) ≡ kind.DisplayHelp ∷ []
+unfolding clap_on_literals
+help_of_mock rest = refl
+
+pub short_help_of_mock : (rest : List Text)
+    → fault_of mock_app (codes "mock" ∷ codes "-h" ∷ rest) ≡ kind.DisplayHelp ∷ []
+unfolding clap_on_literals
+short_help_of_mock rest = refl
+
+pub version_of_mock : (rest : List Text)
+    → fault_of mock_app (codes "mock" ∷ codes "--version" ∷ rest) ≡ kind.DisplayVersion ∷ []
+unfolding clap_on_literals
+version_of_mock rest = refl
+
+pub no_command : fault_of mock_app (codes "mock" ∷ []) ≡ kind.MissingSubcommand ∷ []
+unfolding clap_on_literals
+no_command = refl
+
+pub empty_command : (rest : List Text)
+    → fault_of mock_app (codes "mock" ∷ [] ∷ rest) ≡ kind.UnknownArgument ∷ kind.InvalidSubcommand ∷ []
+unfolding clap_on_literals
+empty_command rest = refl
+
+-- the fault of a first argument, by the command that it names
+abbrev first_fault : Text → Option Text → Kinds
+first_fault argument met = or_else (other_fault app.top met argument nothing_held)
+    (step_fault app.top 1 (subcommand_or_other app.top.rules met idle 1 argument nothing_held).0
+    (subcommand_or_other app.top.rules met idle 1 argument nothing_held).1)
+
+names_none : (argument : Text) → bytes_eq (codes "render") argument ≡ false
+    → subcommand_met (names_of app) idle argument ≡ None
+names_none argument other =
+    ap (λ (t : Bool). option_map (λ (s : Text × List Text). s.0)
+    (if t || false then Some (codes "render", []) else None)) other
+
+-- the same, by whether the argument is two dashes, and by what it is as a long flag
+abbrev flag_fault : Text → Bool → Option (Text × Option Text) → Kinds
+flag_fault argument dashes long =
+    or_else
+    (if dashes then [] else flag_word_fault app.top.rules app.top.args_override_self long argument nothing_held)
+    (step_fault app.top 1
+    (if dashes then (nothing_held, trailing 1) else long_or_other app.top.rules idle argument long nothing_held).0
+    (if dashes then (nothing_held, trailing 1) else long_or_other app.top.rules idle argument long nothing_held).1)
+
+-- and by what it is as short flags, where it is no long one
+abbrev bundle_fault_of : Text → Option Text → Kinds
+bundle_fault_of argument short =
+    or_else (option_map_or
+    (λ flags. bundle_fault app.top.rules app.top.args_override_self flags nothing_held) short [])
+    (step_fault app.top 1 (short_or_plain app.top.rules idle argument short nothing_held).0
+    (short_or_plain app.top.rules idle argument short nothing_held).1)
+
+is_stray : (c : ℕ) (cs : List ℕ) → c == 45 ≡ false
+    → first_fault (c ∷ cs) None ≡ kind.UnknownArgument ∷ kind.InvalidSubcommand ∷ []
+unfolding clap_on_literals
+is_stray c cs dash =
+    let dashes : bytes_eq (c ∷ cs) (45 ∷ 45 ∷ []) ≡ false = ap (λ (t : Bool). t && bytes_eq cs (45 ∷ [])) dash in
+    let long : long_of (c ∷ cs) ≡ None =
+    ap (λ (t : Bool). option_and_then long_of_rest
+    (option_and_then (strip_byte 45) (if t then Some cs else None))) dash in
+    let short : short_of (c ∷ cs) ≡ None =
+    ap (λ (t : Bool). option_and_then short_of_rest (if t then Some cs else None)) dash in
+    ap₂ (flag_fault (c ∷ cs)) dashes long ∙ ap (bundle_fault_of (c ∷ cs)) short
+
+pub other_command : (c : ℕ) (cs : List ℕ) (rest : List Text) → bytes_eq (codes "render") (c ∷ cs) ≡ false
+    → c == 45 ≡ false
+    → fault_of mock_app (codes "mock" ∷ (c ∷ cs) ∷ rest) ≡ kind.UnknownArgument ∷ kind.InvalidSubcommand ∷ []
+unfolding clap_on_literals
+other_command c cs rest other dash =
+    ap (λ (k : Kinds). or_else
+    (or_else k (walk_fault app.top (names_of app)
+    (walked app.top.rules (names_of app) (walk_from nothing_held) (c ∷ cs)) rest))
+    (below (walk app.top.rules (names_of app) nothing_held ((c ∷ cs) ∷ rest))))
+    (ap (first_fault (c ∷ cs)) (names_none (c ∷ cs) other) ∙ is_stray c cs dash)
+
+-- ---- arguments of `render`
+
+of_render : (arguments : List Text)
+    → fault_of mock_app (codes "mock" ∷ codes "render" ∷ arguments) ≡ below (at_render arguments)
+unfolding clap_on_literals
+of_render arguments =
+    ap₂ (λ (k : Kinds) (end : Walk). or_else k (below end))
+    (stopped_fault app.top (names_of app) (walk_from nothing_held) (codes "render", []) arguments)
+    (sym (walk_stopped app.top.rules (names_of app) (walk_from nothing_held) (codes "render") [] arguments))
+
+pub help_of_render : (rest : List Text)
+    → fault_of mock_app (codes "mock" ∷ codes "render" ∷ codes "--help" ∷ rest) ≡ kind.DisplayHelp ∷ []
+unfolding clap_on_literals
+help_of_render rest = of_render (codes "--help" ∷ rest)
+
+pub short_help_of_render : (rest : List Text)
+    → fault_of mock_app (codes "mock" ∷ codes "render" ∷ codes "-h" ∷ rest) ≡ kind.DisplayHelp ∷ []
+unfolding clap_on_literals
+short_help_of_render rest = of_render (codes "-h" ∷ rest)
+
+pub nothing_given : fault_of mock_app (codes "mock" ∷ codes "render" ∷ []) ≡ kind.MissingRequiredArgument ∷ []
+unfolding clap_on_literals
+nothing_given = refl
+
+pub too_few_or_many : (given : List Text) → length given ≢ 3
+    → (fault_of mock_app (codes "mock" ∷ codes "render" ∷ codes "--" ∷ given) ≡ kind.MissingRequiredArgument ∷ [])
+    ⊎ (fault_of mock_app (codes "mock" ∷ codes "render" ∷ codes "--" ∷ given) ≡ kind.UnknownArgument ∷ [])
+unfolding clap_on_literals
+too_few_or_many [] count = inl refl
+too_few_or_many (a ∷ []) count = inl refl
+too_few_or_many (a ∷ b ∷ []) count = inl refl
+too_few_or_many (a ∷ b ∷ c ∷ []) count = absurd (count refl)
+too_few_or_many (a ∷ b ∷ c ∷ d ∷ rest) count = inr (of_render (codes "--" ∷ a ∷ b ∷ c ∷ d ∷ rest))

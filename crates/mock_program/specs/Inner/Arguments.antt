@@ -1,0 +1,25 @@
+-- The arguments that the parser is given for those of the command line, for private contracts.
+use Rattle.std.specs.Prelude.{ℕ, Bool, false, not, ◌||◌, if◌then◌else◌, List, [], ◌∷◌, ◌++◌, codes}
+use Rattle.std.specs.Str.{bytes_eq}
+
+abbrev pub is_flag : List ℕ → Bool
+is_flag argument =
+    bytes_eq argument (codes "-h") || (bytes_eq argument (codes "--help") || bytes_eq argument (codes "--"))
+
+-- there is a first argument, and it isn't a flag
+abbrev pub needs_delimiter : List (List ℕ) → Bool
+needs_delimiter [] = false
+needs_delimiter (first ∷ rest) = not (is_flag first)
+
+-- the `--` that ends the flags, so that the arguments after it are none
+abbrev pub delimiter : List (List ℕ) → List (List ℕ)
+delimiter arguments = if needs_delimiter arguments then codes "--" ∷ [] else []
+
+-- the arguments of a command with that delimiter before them
+abbrev pub parser_arguments : List (List ℕ) → List (List ℕ)
+parser_arguments (program ∷ command ∷ rest) = codes "mock" ∷ command ∷ (delimiter rest ++ rest)
+parser_arguments _ = codes "mock" ∷ []
+
+-- those of a rendering
+abbrev pub render_arguments : List ℕ → List ℕ → List ℕ → List (List ℕ)
+render_arguments template method target = codes "mock" ∷ codes "render" ∷ codes "--" ∷ template ∷ method ∷ target ∷ []

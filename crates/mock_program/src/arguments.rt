@@ -1,0 +1,81 @@
+//! The arguments of the command line: those that the parser is given for them, and what is reported where the system
+//! gives none.
+ghost use Rattle.std.specs.Prelude.{◌≡◌, ◌≢◌, ◌⊎◌, ◌++◌, IfOk, OnOk, map, string_bytes};
+ghost use Rattle.std.specs.IoError.{error_kind};
+ghost use Rattle.std.specs.Io.KnownBytes.{Appends};
+ghost use Rattle.mock_program.specs.Inner.Arguments.{delimiter, is_flag, needs_delimiter, parser_arguments};
+ghost use Rattle.mock_program.specs.Lines.{error_line, not_utf8_line, out_of_memory};
+ghost use Rattle.mock_program.specs.Output.{AppendsFront, AppendsPart};
+
+use crate::error::CommandError;
+use crate::output::put;
+use crate::status::{FAILURE, INVALID_ARGUMENTS};
+use error_code::error_code::ErrorCode;
+use std::alloc::{AllocError, Global};
+use std::io;
+use std::io::{ErrorKind, Write};
+
+/// Reports why the system gives no arguments, and gives the exit status: 2 for arguments that aren't UTF-8, 1 where
+/// memory is out or the report can't be written to the end.
+pub fn report_unreadable<E: Write>(error: &io::Error, err: &mut E) -> u8
+    ensures no_memory { error_kind error.now ≡ ErrorKind.OutOfMemory
+        → (result ≡ 1) × AppendsFront (E.contents err.old) (E.contents err.new) (error_line out_of_memory) }
+    ensures not_utf8 { error_kind error.now ≢ ErrorKind.OutOfMemory
+        → ((result ≡ 2) × Appends (E.contents err.old) (E.contents err.new) not_utf8_line)
+        ⊎ ((result ≡ 1) × AppendsPart (E.contents err.old) (E.contents err.new) not_utf8_line) }
+{
+    if let ErrorKind::OutOfMemory = error.kind() {
+        CommandError::from(ErrorCode::OutOfMemory).report(err);
+        return FAILURE;
+    }
+    match put(err, "error: the arguments aren't UTF-8\n".as_bytes()) {
+        Ok(()) => INVALID_ARGUMENTS,
+        Err(_error) => FAILURE,
+    }
+}
+
+/// The arguments with a `--` before the first that isn't a flag of its command: none after it is read as a flag.
+pub(crate) fn parser_arguments<'a>(
+    alloc: Global,
+    arguments: &'a [String],
+) -> Result<Vec<&'a str>, AllocError>
+    ensures { IfOk result (λ made. map (λ argument. argument.now) made.items
+        ≡ parser_arguments (map string_bytes arguments.now)) }
+{
+    let mut made = Vec::new(alloc);
+    made.push("mock")?;
+    if let [_, command, rest @ ..] = arguments {
+        made.push(command.as_str())?;
+        push_delimited(&mut made, rest)?;
+    }
+    Ok(made)
+}
+
+fn push_delimited<'a>(made: &mut Vec<&'a str>, arguments: &'a [String]) -> Result<(), AllocError>
+    ensures { OnOk result (map (λ argument. argument.now) made.new.items
+        ≡ map (λ argument. argument.now) made.old.items
+        ++ (delimiter (map string_bytes arguments.now) ++ map string_bytes arguments.now)) }
+{
+    if needs_delimiter(arguments) {
+        made.push("--")?;
+    }
+    for argument in arguments {
+        made.push(argument.as_str())?;
+    }
+    Ok(())
+}
+
+fn needs_delimiter(arguments: &[String]) -> bool
+    ensures { result ≡ needs_delimiter (map string_bytes arguments.now) }
+{
+    match arguments {
+        [] => false,
+        [first, ..] => !is_flag(first.as_str()),
+    }
+}
+
+fn is_flag(argument: &str) -> bool
+    ensures { result ≡ is_flag argument.now }
+{
+    argument == "-h" || argument == "--help" || argument == "--"
+}

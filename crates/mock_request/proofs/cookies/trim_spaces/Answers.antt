@@ -1,5 +1,0 @@
-use Rattle.mock_request.proofs.CookieLemmas.{spaces_cut}
-use Rattle.mock_request.proofs.cookies.trim_spaces.Goals as goal
-
-pub returns : goal.returns
-returns c = spaces_cut c.args.piece.now c.trim_start_matches.result.now c.trim_end_matches.result.now c.trim_start_matches.ensures.matches c.trim_end_matches.ensures.matches

@@ -1,5 +1,0 @@
-use Rattle.template_code.proofs.RunFacts.{ends_alike}
-use Rattle.template_code.proofs.laws.law_determined.Goals as goal
-
-pub returns : goal.returns
-returns c = ends_alike

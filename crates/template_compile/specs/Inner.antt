@@ -1,0 +1,2 @@
+-- Words for the contracts of private functions; no public contract cites them.
+pub mod Drafts

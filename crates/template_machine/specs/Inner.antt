@@ -1,0 +1,4 @@
+-- Words for the contracts of private functions and for views of private types; no public contract cites them.
+pub mod Conversions
+pub mod Programs
+pub mod Slots

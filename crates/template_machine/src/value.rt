@@ -1,0 +1,83 @@
+//! The values of the machine's stack that aren't texts. They borrow from the request's data.
+ghost use Rattle.std.specs.Prelude.{◌≡◌};
+ghost use Rattle.std.specs.Fmt.{signed_decimal};
+ghost use Rattle.data_tree.specs.Print.{print, is_not_empty};
+ghost use Rattle.data_tree.specs.Tree.{view};
+
+use data_tree::data::Data;
+use std::alloc::{AllocError, Global};
+
+/// A value that isn't a text.
+#[derive(Clone, Copy)]
+pub enum Value<'d> {
+    /// A value of the request's data; `None` is Nothing.
+    Datum(Option<&'d Data>),
+    Number(i64),
+    Truth(bool),
+}
+
+impl<'d> Value<'d> {
+    ghost use Rattle.std.specs.Prelude.{◌++◌, OnOk, string_bytes};
+    ghost use Rattle.helper_set.specs.Values.{text_of, truth_of};
+    ghost use Rattle.template_machine.specs.Inner.Slots.{value_view};
+
+    /// Whether it counts as true.
+    pub fn is_true(self) -> bool
+        ensures { result ≡ truth_of (value_view self.entry) }
+    {
+        match self {
+            Value::Datum(Some(found)) => found.is_true(),
+            Value::Datum(None) => false,
+            Value::Number(number) => number != 0,
+            Value::Truth(truth) => truth,
+        }
+    }
+
+    /// Whether it prints as a text that isn't empty.
+    #[tactic(auto, using(crate::proofs::Printed::truth_prints, crate::proofs::Printed::number_prints))]
+    pub fn prints(self) -> bool
+        ensures { result ≡ is_not_empty (text_of (value_view self.entry)) }
+    {
+        match self {
+            Value::Datum(Some(found)) => data_prints(found),
+            Value::Datum(None) => false,
+            Value::Number(_) | Value::Truth(_) => true,
+        }
+    }
+
+    /// Appends what it prints as.
+    pub fn print_into(self, alloc: Global, out: &mut String) -> Result<(), AllocError>
+        ensures { OnOk result (string_bytes out.new ≡ string_bytes out.old ++ text_of (value_view self.entry)) }
+    {
+        match self {
+            Value::Datum(Some(found)) => found.print_into(alloc, out),
+            Value::Datum(None) => Ok(()),
+            Value::Number(number) => {
+                let mut buffer = itoa::Buffer::new();
+                out.push_str(buffer.format(number))
+            }
+            Value::Truth(true) => out.push_str("true"),
+            Value::Truth(false) => out.push_str("false"),
+        }
+    }
+}
+
+#[tactic(auto, using(crate::proofs::Printed::truth_prints))]
+fn data_prints(found: &Data) -> bool
+    ensures { result ≡ is_not_empty (print (view found.now)) }
+{
+    match found {
+        Data::Nothing => false,
+        Data::Text(text) | Data::Named { text, .. } => !text.is_empty(),
+        Data::Number(number) => decimal_prints(*number),
+        Data::Truth(_) | Data::List(_) | Data::Fields(_) => true,
+    }
+}
+
+// Each number has a digit.
+#[tactic(auto, using(crate::proofs::Printed::wide_prints))]
+fn decimal_prints(_number: i128) -> bool
+    ensures { result ≡ is_not_empty (signed_decimal _number) }
+{
+    true
+}

@@ -1,5 +1,0 @@
-use Rattle.template_words.proofs.Closes as found
-use Rattle.template_words.proofs.laws.first_close.Goals as goal
-
-pub returns : goal.returns
-returns c = λ close text content rest some. found.first_close close text content rest some

@@ -1,0 +1,54 @@
+// Why a tag can't be read.
+ghost use Rattle.std.specs.Prelude.{◌≡◌};
+ghost use Rattle.template_words.specs.declared.error.ReadError.TheVariants.{OutOfMemory};
+
+use error_code::error_code::ErrorCode;
+use std::alloc::{AllocError, AllocFailed};
+
+/// What is wrong with a tag.
+#[derive(Clone, Copy, Debug)]
+pub enum TagError {
+    /// It has no close.
+    UnclosedTag,
+    /// Its path is spelled wrongly.
+    BadPath,
+    /// It is of a kind that templates don't have here.
+    UnsupportedTag,
+}
+
+impl TagError {
+    ghost use Rattle.template_words.specs.Errors.{error_code_of};
+
+    pub fn error_code(self) -> ErrorCode
+        ensures { result ≡ error_code_of self }
+    {
+        match self {
+            TagError::UnclosedTag => ErrorCode::UnclosedTag,
+            TagError::BadPath => ErrorCode::BadPath,
+            TagError::UnsupportedTag => ErrorCode::UnsupportedTag,
+        }
+    }
+}
+
+/// Why a part of a tag isn't read.
+#[derive(Debug, Drop)]
+pub enum ReadError {
+    OutOfMemory,
+    Tag(TagError),
+}
+
+impl From<AllocError> for ReadError {
+    ghost from_gives = { λ _ e. e ≡ OutOfMemory };
+
+    fn from(_error: AllocError) -> ReadError {
+        ReadError::OutOfMemory
+    }
+}
+
+impl<T: Drop> From<AllocFailed<T>> for ReadError {
+    ghost from_gives = { λ _ e. e ≡ OutOfMemory };
+
+    fn from(_error: AllocFailed<T>) -> ReadError {
+        ReadError::OutOfMemory
+    }
+}
