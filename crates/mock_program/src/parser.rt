@@ -19,7 +19,7 @@ n is the size of the request's data.
 Example:
   mock render 'Hello {{request.path.[1]}}' GET /hi/Ann
 
-A template that is `-h`, `--help` or `--` goes behind a `--`; all other words stand as they are.";
+A template that is `-h`, `--help` or `--` follows a `--`; all other arguments are taken as they are.";
 
 /// A rendering that is asked for, with its arguments as they are on the command line.
 #[derive(Clone, Copy)]

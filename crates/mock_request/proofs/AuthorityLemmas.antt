@@ -1,25 +1,24 @@
 -- How the code's cut at the last colon and its reading of digits meet the definition of a host and a port.
-use Rattle.std.proofs.Common.{eqb, leb, ◌≡◌, ◌≢◌, ℕ, ◌<◌, ◌≤◌, ◌^◌, ◌-◌, Bool, true, false, not, ◌&&◌, cond}
-use Rattle.std.proofs.Common.{if◌then◌else◌, List, [], ◌∷◌, ◌++◌, ◌⊎◌, Option, None, Some, Result, Ok, Err, pos}
-use Rattle.std.proofs.Common.{negsuc, length, take, drop, get_or, All, sym, refl, ap, ◌∙◌, subst, arith}
-use Rattle.std.specs.Result.{OkIff, result_ok}
+use Rattle.std.proofs.Common.{eqb, leb, ◌≡◌, ◌≢◌, ℕ, ◌<◌, ◌≤◌, Bool, true, false, not, cond}
+use Rattle.std.proofs.Common.{if◌then◌else◌, List, [], ◌∷◌, ◌++◌, None, Some, Result, Ok, Err, pos}
+use Rattle.std.proofs.Common.{length, take, drop, get_or, All, sym, refl, ap, ◌∙◌, subst, arith}
+use Rattle.std.specs.Result.{result_ok}
 use Rattle.std.specs.List.{before_last, after_last, list_any}
 use Rattle.std.specs.Str.{NoCharPasses, all_ascii_digits}
 use Rattle.std.specs.Str.Parse.{digits_value, ParsesUnsigned}
 use Rattle.std.specs.Str.Pattern.{RFindsChar, SplitsAroundMatch}
 use Rattle.std.specs.Char.{is_ascii_digit}
 use Rattle.std.proofs.lemmas.Bool.{eqb-true, and_parts, and_from, and_left, and_right, cond-true, cond-false}
-use Rattle.std.proofs.lemmas.Bool.{not_from_false, leb-true, ltb-true, le-leb, lt-ltb, lt-leb, cases_Bool}
+use Rattle.std.proofs.lemmas.Bool.{not_from_false, leb-true, ltb-true, le-leb, lt-ltb}
 use Rattle.std.proofs.lemmas.Bool.{false_from_ne_true}
-use Rattle.std.proofs.lemmas.Bool.Decides.{eqb_tells}
 use Rattle.std.proofs.lemmas.List.{get_or_default, take-append-drop}
-use Rattle.std.proofs.lemmas.List.Folds.{list_any_none}
 use Rattle.std.proofs.lemmas.Int.{ints}
 use Rattle.std.proofs.lemmas.Str.Pattern.{NoCharPasses-char, drop_at_char}
 use Rattle.std.proofs.lemmas.Str.Parse.{IsNumeralModel, numerals_by_value, tells_all_ascii_digits, parse_plain}
 use Rattle.data_tree.specs.Tree.{number}
 use Rattle.data_tree.specs.WellFormed.{IsWellFormed}
-use Rattle.mock_request.specs.Authority.{colon, default_port, greatest_port, port_digits, is_colon, is_port, has_port, host_of, port_of}
+use Rattle.mock_request.specs.Authority.{colon, default_port, greatest_port, port_digits}
+use Rattle.mock_request.specs.Authority.{is_colon, is_port, has_port, host_of, port_of}
 use Rattle.mock_request.proofs.LastLemmas.{before_last_at, after_last_at, any_at}
 use Rattle.mock_request.proofs.UrlLemmas.{lacks_char}
 
@@ -140,7 +139,8 @@ no_port_signed bs plus = false_from_ne_true _ (λ e. signed bs (port_parts bs e)
         ))
 
 pub port_read
-    : {E : Type 0} (bs : List ℕ) (r : Result ℕ E) → ParsesUnsigned 16 10 bs r → length bs ≤ port_digits → get_or bs 0 0 ≢ 43
+    : {E : Type 0} (bs : List ℕ) (r : Result ℕ E) → ParsesUnsigned 16 10 bs r → length bs ≤ port_digits
+    → get_or bs 0 0 ≢ 43
     → result_ok r ≡ (if is_port bs then Some (digits_value 10 bs) else None)
 port_read {E} bs (Ok n) parsed few plain =
     let is = parse_plain own {E = E} 16 bs (Ok n) parsed plain in
@@ -158,7 +158,8 @@ port_read {E} bs (Err e) parsed few plain =
 port_at_most : (text : List ℕ) → port_of text ≤ greatest_port
 port_at_most text = by (has_port text) refl
   where
-    by : (b : Bool) → has_port text ≡ b → cond b (digits_value 10 (after_last is_colon text)) default_port ≤ greatest_port
+    by : (b : Bool) → has_port text ≡ b
+        → cond b (digits_value 10 (after_last is_colon text)) default_port ≤ greatest_port
     by true e = (port_parts (after_last is_colon text) (and_parts _ _ e).1).small
     by false e = omega arith
 

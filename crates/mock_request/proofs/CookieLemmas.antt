@@ -1,12 +1,12 @@
 -- How the code's trimming and its cuts meet the definition of cookies.
-use Rattle.std.proofs.Common.{eqb, ◌≡◌, ◌≢◌, ℕ, ◌-◌, Bool, true, false, List, [], ◌∷◌, ◌++◌, ◌⊎◌, Option, None, Some}
-use Rattle.std.proofs.Common.{Bor, map, reverse, String, string_bytes, length, take, drop, sym, refl, ap, ◌∙◌, subst}
+use Rattle.std.proofs.Common.{eqb, ◌≡◌, ◌≢◌, ℕ, ◌-◌, true, false, List, [], ◌∷◌, ◌++◌, ◌⊎◌, None, Some}
+use Rattle.std.proofs.Common.{Bor, map, reverse, String, string_bytes, length, take, drop, sym, refl, ap, ◌∙◌}
 use Rattle.std.proofs.Common.{inl, inr, append_assoc, append-nil, arith}
 use Rattle.std.proofs.Math.Utf8.{encode}
 use Rattle.std.specs.declared.alloc.Global.{Global}
 use Rattle.std.specs.List.{filter_map, cons_option}
 use Rattle.std.specs.Str.Pattern.{FindsCharPrefix, FindsCharSuffix, CutsPrefixes, CutsSuffixes, IsFullyTrimmed}
-use Rattle.std.specs.Str.Pattern.{IsTrimStartMatches, IsTrimEndMatches, HasCharAt}
+use Rattle.std.specs.Str.Pattern.{IsTrimStartMatches, IsTrimEndMatches}
 use Rattle.std.proofs.lemmas.Bool.Decides.{eqb_tells}
 use Rattle.std.proofs.lemmas.List.{reverse-append, reverse-reverse, map-append, drop_all, take-append-drop}
 use Rattle.std.proofs.lemmas.List.Elements.{filter_map-append}
@@ -31,7 +31,8 @@ stays : (bs : List ℕ) → ((rest : List ℕ) → bs ≢ space ∷ rest) → wi
 stays [] other = refl
 stays (b ∷ bs) other = by (eqb_tells b space)
   where
-    by : ((eqb b space ≡ true) × (b ≡ space)) ⊎ ((eqb b space ≡ false) × (b ≢ space)) → without_leading_spaces (b ∷ bs) ≡ b ∷ bs
+    by : ((eqb b space ≡ true) × (b ≡ space)) ⊎ ((eqb b space ≡ false) × (b ≢ space))
+        → without_leading_spaces (b ∷ bs) ≡ b ∷ bs
     by (inl e) = absurd (other bs (ap (λ c. c ∷ bs) e.1))
     by (inr e) = rw e.0 refl
 

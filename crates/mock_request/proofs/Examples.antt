@@ -8,7 +8,6 @@ use Rattle.data_tree.specs.Tree.{text, fields, named, no_items, item, no_members
 use Rattle.mock_request.specs.Request.{Header}
 use Rattle.mock_request.specs.Grouped.{names_in, values_of, grouped}
 use Rattle.mock_request.specs.Query.{query_pairs}
-use Rattle.mock_request.specs.HeaderFields.{header_pairs}
 use Rattle.mock_request.specs.Cookies.{cookies_in, cookie_pairs}
 use Rattle.mock_request.specs.Authority.{authority_of, host_of, port_of}
 

@@ -9,6 +9,7 @@ ghost use Rattle.data_tree.specs.WellFormed.{IsWellFormed};
 ghost use Rattle.mock_request.specs.Target.{slash, IsRooted};
 ghost use Rattle.mock_request.specs.Url.{segments_of, is_slash};
 ghost use Rattle.mock_request.specs.Grouped.{texts};
+ghost use Rattle.mock_request.specs.Inner.Views.{entries_of, entries_to_headers};
 ghost use Rattle.mock_request.specs.RequestTree.{path_tree, request_fields, request_tree, IsRefusal};
 
 use crate::authority::{authority, host_and_port};
@@ -60,15 +61,10 @@ fn request(
 ) -> Result<Data, AllocError>
     ensures { IfOk result (λ made. view made ≡ fields (request_fields snapshot.now)) }
 {
-    let headers = snapshot.headers();
-    let authority = authority(alloc, headers)?;
+    let authority = authority(alloc, snapshot.headers())?;
     let (host, port) = host_and_port(authority.as_str());
     let path = snapshot.path();
-    let mut made = Object::new(alloc);
-    made.push("baseUrl", base_url(alloc, authority.as_str())?)?;
-    made.push("body", lossy_text(alloc, snapshot.body())?)?;
-    made.push("cookies", cookie_fields(alloc, headers)?)?;
-    made.push("headers", header_fields(alloc, headers)?)?;
+    let mut made = fields_to_headers(alloc, snapshot, authority.as_str())?;
     made.push_text("host", host)?;
     made.push_text("method", snapshot.method())?;
     made.push("path", path_data(alloc, path, bindings(alloc, template))?)?;
@@ -78,6 +74,24 @@ fn request(
     made.push_text("scheme", "http")?;
     made.push_text("url", snapshot.url())?;
     Ok(made.into_data())
+}
+
+// The fields from `baseUrl` to `headers`. (Twelve fields in one function take long to prove.)
+fn fields_to_headers(
+    alloc: Global,
+    snapshot: &Snapshot,
+    authority: &str,
+) -> Result<Object, AllocError>
+    ensures { IfOk result (λ made.
+        entries_of made.fields.items ≡ entries_to_headers snapshot.now authority.now) }
+{
+    let headers = snapshot.headers();
+    let mut made = Object::new(alloc);
+    made.push("baseUrl", base_url(alloc, authority)?)?;
+    made.push("body", lossy_text(alloc, snapshot.body())?)?;
+    made.push("cookies", cookie_fields(alloc, headers)?)?;
+    made.push("headers", header_fields(alloc, headers)?)?;
+    Ok(made)
 }
 
 fn base_url(alloc: Global, authority: &str) -> Result<Data, AllocError>

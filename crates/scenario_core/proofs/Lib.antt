@@ -1,0 +1,4 @@
+pub mod OrderedPairs
+pub mod EntryLemmas
+pub mod StateLemmas
+pub mod Moves

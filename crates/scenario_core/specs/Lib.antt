@@ -1,0 +1,4 @@
+pub mod Scenarios
+pub mod Known
+pub mod Errors
+pub mod Inner

@@ -1,0 +1,5 @@
+pub mod Patterns
+pub mod Matching
+pub mod Refusal
+pub mod Errors
+pub mod Inner

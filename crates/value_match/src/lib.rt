@@ -1,0 +1,10 @@
+// Does a value meet a value matcher: equal to, contains, matches a pattern and their negations, absent.
+// Its contracts cite `specs/Matching.antt` (when a value meets a matcher) and `specs/Patterns.antt` (what a pattern means).
+#![tactic(auto)]
+
+mod compiled;
+pub mod error;
+mod pattern;
+pub mod text;
+pub mod value_matcher;
+pub mod value_spec;

@@ -1,0 +1,119 @@
+// A pattern with what its searches write to. A `Matcher` of `regex` borrows its `Regex`, so that nothing could own both:
+// the searches here run on the crates below `regex`, and keep the states of the DFA that they make.
+ghost use Rattle.std.specs.Prelude.{◌≡◌, ◌≤◌, vec_len, length, is_some, IfOk, IfErr};
+ghost use Rattle.regex.specs.Patterns.{find_str};
+ghost use Rattle.regex.specs.Strings.{IsDefaultFailure};
+ghost use Rattle.regex_dfa.specs.Search.{IsForwardFor};
+ghost use Rattle.regex_hir.specs.Text.{is_boundary};
+ghost use Rattle.value_match.specs.Inner.Search.{attempt_in_text};
+ghost use Rattle.value_match.specs.Inner.Engine.{tree_of, IsReadFrom};
+
+use crate::compiled::Compiled;
+use regex::Error;
+use regex_dfa::{End, Forward};
+use regex_vm::PikeVm;
+use std::alloc::Global;
+
+pub(crate) struct Pattern {
+    pub(crate) compiled: Compiled,
+    forward: Forward,
+    /// Searches where the DFA gives up.
+    pikevm: PikeVm,
+    ghost runs: { IsForwardFor forward compiled.program.dfa },
+    ghost states: { pikevm.states ≡ vec_len compiled.program.dfa.nfa.states },
+}
+
+impl Pattern {
+    pub(crate) fn new(alloc: Global, source: &str) -> Result<Pattern, Error>
+        ensures read { IfOk result (λ p. IsReadFrom source.now p.compiled) }
+        ensures refused { IfErr result (IsDefaultFailure source.now) }
+    {
+        let compiled = Compiled::new(alloc, source)?;
+        let forward = Forward::new(alloc, &compiled.program.dfa, false)?;
+        let pikevm = PikeVm::new(alloc, &compiled.program.dfa.nfa)?;
+        Ok(Pattern {
+            compiled,
+            forward,
+            pikevm,
+        })
+    }
+
+    /// Whether it has a match in the text. It takes no memory but for the DFA, and does without where there is none.
+    pub(crate) fn is_match(&mut self, text: &str) -> bool
+        ensures found { result ≡ is_some (find_str (tree_of self.old.compiled) text.now 0) }
+        ensures same { self.new.compiled ≡ self.old.compiled }
+    {
+        search(&self.compiled, &mut self.forward, &mut self.pikevm, text)
+    }
+}
+
+// Written out, so that a caller's proof sees one call and not the drop of each field.
+impl Drop for Pattern {
+    fn drop(self) {
+        let Pattern {
+            compiled: _compiled,
+            forward: _forward,
+            pikevm: _pikevm,
+        } = self;
+    }
+}
+
+fn search(compiled: &Compiled, forward: &mut Forward, pikevm: &mut PikeVm, text: &str) -> bool
+    requires runs { IsForwardFor forward.old compiled.now.program.dfa }
+    requires states { pikevm.old.states ≡ vec_len compiled.now.program.dfa.nfa.states }
+    ensures found { result ≡ is_some (find_str (tree_of compiled.now) text.now 0) }
+    ensures runs { IsForwardFor forward.new compiled.now.program.dfa }
+    ensures states { pikevm.new ≡ pikevm.old }
+{
+    let hay = text.as_bytes();
+    for at in 0..=hay.len() {
+        if matches_at(compiled, forward, pikevm, hay, at) {
+            return true;
+        }
+        if compiled.anchored {
+            return false;
+        }
+    }
+    false
+}
+
+/// Whether a match starts at this byte. None starts inside a character.
+fn matches_at(
+    compiled: &Compiled,
+    forward: &mut Forward,
+    pikevm: &mut PikeVm,
+    hay: &[u8],
+    at: usize,
+) -> bool
+    requires runs { IsForwardFor forward.old compiled.now.program.dfa }
+    requires states { pikevm.old.states ≡ vec_len compiled.now.program.dfa.nfa.states }
+    requires within { at ≤ length hay.now }
+    ensures found { result ≡ is_some (attempt_in_text (tree_of compiled.now) hay.now at) }
+    ensures runs { IsForwardFor forward.new compiled.now.program.dfa }
+    ensures states { pikevm.new ≡ pikevm.old }
+{
+    if !is_cut(hay, at) {
+        return false;
+    }
+    match forward.find_end(&compiled.program.dfa, hay, at, hay.len(), true, true) {
+        End::At(_) => true,
+        End::NoMatch => false,
+        End::Idle(_) | End::GaveUp => pikevm.is_match(
+            &compiled.program.dfa.nfa,
+            hay,
+            at,
+            at,
+            hay.len(),
+        ),
+    }
+}
+
+/// Whether no character goes on at this byte.
+fn is_cut(hay: &[u8], at: usize) -> bool
+    ensures { result ≡ is_boundary hay.now at }
+{
+    if at >= hay.len() {
+        return true;
+    }
+    (hay[at] < 0x80) | (hay[at] > 0xBF)
+}
