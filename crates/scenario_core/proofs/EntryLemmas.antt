@@ -38,7 +38,8 @@ module _ (entries : List Entry) (name : List ℕ) (in_order : AreInOrder (pairs_
       rw add-one (rw (get_or-map pair_of entries i e, get_or-map pair_of entries (suc i) e) at next))
 
   found : (at : ℕ) → at < length entries →
-      ((e : Entry) → slice_cmp nat_cmp (string_bytes (get_or entries at e).name) name ≡ Equal) → IsAt (pairs_of entries) name at
+      ((e : Entry) → slice_cmp nat_cmp (string_bytes (get_or entries at e).name) name ≡ Equal) →
+      IsAt (pairs_of entries) name at
   found at lt equal = record {
     in_range = rw length_pairs lt;
     has_name = λ d. some_entry entries _ (omega arith) (λ e. rw (pair_at entries at e d lt)
@@ -46,7 +47,8 @@ module _ (entries : List Entry) (name : List ℕ) (in_order : AreInOrder (pairs_
   }
 
   absent : (at : ℕ) → at ≤ length entries →
-      IsBinarySearchResult (λ (e : Entry). slice_cmp nat_cmp (string_bytes e.name) name) entries (Err at) → IsGapFor (pairs_of entries) name at
+      IsBinarySearchResult (λ (e : Entry). slice_cmp nat_cmp (string_bytes e.name) name) entries (Err at) →
+      IsGapFor (pairs_of entries) name at
   absent at le parted =
       let sides = parted comparisons_rise in
       record {
@@ -64,10 +66,12 @@ module _ (entries : List Entry) (name : List ℕ) (in_order : AreInOrder (pairs_
   searched (Err at) in_range parted = record { found = tt; absent = absent at in_range parted }
 
 -- the pairs of edited entries are edited alike
-pub pairs-set : (entries : List Entry) (at : ℕ) (e : Entry) → pairs_of (set entries at e) ≡ set (pairs_of entries) at (pair_of e)
+pub pairs-set : (entries : List Entry) (at : ℕ) (e : Entry) →
+    pairs_of (set entries at e) ≡ set (pairs_of entries) at (pair_of e)
 pairs-set entries at e = map-set pair_of entries at e
 
-pub pairs-insert : (entries : List Entry) (at : ℕ) (e : Entry) → pairs_of (insert entries at e) ≡ insert (pairs_of entries) at (pair_of e)
+pub pairs-insert : (entries : List Entry) (at : ℕ) (e : Entry) →
+    pairs_of (insert entries at e) ≡ insert (pairs_of entries) at (pair_of e)
 pairs-insert entries at e =
     map-append pair_of (take at entries) (e ∷ drop at entries)
     ∙ ap₂ (λ xs ys. xs ++ pair_of e ∷ ys) (sym (take-map pair_of at entries)) (sym (drop-map pair_of at entries))
@@ -95,8 +99,10 @@ abbrev IsCopy : Entry → Entry → Type 0
 IsCopy e copy = (string_bytes copy.name ≡ string_bytes e.name) × (string_bytes copy.state ≡ string_bytes e.state)
 
 -- a copy of the entries has the same pairs
-pub pairs_of_clone : (entries copy : List Entry) → AllZip (λ (x y : Entry). IsCopy x y) entries copy → pairs_of copy ≡ pairs_of entries
+pub pairs_of_clone : (entries copy : List Entry) → AllZip (λ (x y : Entry). IsCopy x y) entries copy →
+    pairs_of copy ≡ pairs_of entries
 pairs_of_clone [] [] h = refl
 pairs_of_clone [] (f ∷ copy) h = absurd h
 pairs_of_clone (e ∷ entries) [] h = absurd h
-pairs_of_clone (e ∷ entries) (f ∷ copy) h = ap₂ (λ p ps. p ∷ ps) (λ i. (h.0.0 i, h.0.1 i)) (pairs_of_clone entries copy h.1)
+pairs_of_clone (e ∷ entries) (f ∷ copy) h =
+    ap₂ (λ p ps. p ∷ ps) (λ i. (h.0.0 i, h.0.1 i)) (pairs_of_clone entries copy h.1)

@@ -24,7 +24,8 @@ less_so Greater h = absurd h
 abbrev pub is_other : {K : Type 0} → (K → K → Ordering) → K → K → Bool
 is_other R k x = not (eq_by_cmp R k x)
 
-turned : {K : Type 0} {R : K → K → Ordering} → IsTotalOrder R → (x y : K) (r : Ordering) → R x y ≡ r → R y x ≡ ordering_reverse r
+turned : {K : Type 0} {R : K → K → Ordering} → IsTotalOrder R → (x y : K) (r : Ordering) → R x y ≡ r →
+    R y x ≡ ordering_reverse r
 turned o x y r e = o.antisymm y x ∙ ap ordering_reverse e
 
 module _ {K X : Type 0} {R : K → K → Ordering} (o : IsTotalOrder R) where
@@ -35,14 +36,19 @@ module _ {K X : Type 0} {R : K → K → Ordering} (o : IsTotalOrder R) where
   below_at x (e ∷ es) zero d h lt = less_so _ (first_so _ _ h)
   below_at x (e ∷ es) (suc at) d h lt = below_at x es at d (second_so _ _ h) (omega arith)
 
+  -- in order, the key at a later index is above the first
+  above_first : (e : K × X) (es : List (K × X)) (k : K) (at : ℕ) (d : K × X) → T (is_sorted R (e ∷ es)) →
+      at < length es → (get_or es at d).0 ≡ k → R k e.0 ≡ Greater
+  above_first e es k at d s lt is =
+      turned o e.0 k Less (subst (λ y. R e.0 y ≡ Less) is (below_at e.0 es at d (first_so _ _ s) lt))
+
   -- the value at the index of the key
   pub find_at : (es : List (K × X)) (k : K) (at : ℕ) (d : K × X) → T (is_sorted R es) → at < length es →
       (get_or es at d).0 ≡ k → find R k es ≡ Some (get_or es at d).1
   find_at [] k at d s lt e = absurd (omega arith)
   find_at (e ∷ es) k zero d s lt is = rw (is, tied_itself o k) refl
   find_at (e ∷ es) k (suc at) d s lt is =
-      let below : R e.0 k ≡ Less = subst (λ y. R e.0 y ≡ Less) is (below_at e.0 es at d (first_so _ _ s) (omega arith)) in
-      rw (turned o e.0 k Less below) (find_at es k at d (second_so _ _ s) (omega arith) is)
+      rw (above_first e es k at d s (omega arith) is) (find_at es k at d (second_so _ _ s) (omega arith) is)
 
   -- a new value at the index of the key
   pub put_at : (es : List (K × X)) (k : K) (v : X) (at : ℕ) (d : K × X) → T (is_sorted R es) → at < length es →
@@ -50,8 +56,8 @@ module _ {K X : Type 0} {R : K → K → Ordering} (o : IsTotalOrder R) where
   put_at [] k v at d s lt e = absurd (omega arith)
   put_at (e ∷ es) k v zero d s lt is = rw (is, tied_itself o k) refl
   put_at (e ∷ es) k v (suc at) d s lt is =
-      let below : R e.0 k ≡ Less = subst (λ y. R e.0 y ≡ Less) is (below_at e.0 es at d (first_so _ _ s) (omega arith)) in
-      rw (turned o e.0 k Less below) (ap (λ t. e ∷ t) (put_at es k v at d (second_so _ _ s) (omega arith) is))
+      rw (above_first e es k at d s (omega arith) is)
+      (ap (λ t. e ∷ t) (put_at es k v at d (second_so _ _ s) (omega arith) is))
 
   -- no key is the one for which there is a gap
   pub find_in_gap : (es : List (K × X)) (k : K) (at : ℕ) →
@@ -60,10 +66,12 @@ module _ {K X : Type 0} {R : K → K → Ordering} (o : IsTotalOrder R) where
   find_in_gap [] k at lower higher = refl
   find_in_gap (e ∷ es) k zero lower higher =
       rw (turned o e.0 k Greater (higher 0 e (omega arith) (omega arith)))
-      (find_in_gap es k zero (λ i d lt. absurd (omega arith)) (λ i d le lt. higher (suc i) d (omega arith) (omega arith)))
+      (find_in_gap es k zero (λ i d lt. absurd (omega arith))
+      (λ i d le lt. higher (suc i) d (omega arith) (omega arith)))
   find_in_gap (e ∷ es) k (suc at) lower higher =
       rw (turned o e.0 k Less (lower 0 e (omega arith)))
-      (find_in_gap es k at (λ i d lt. lower (suc i) d (omega arith)) (λ i d le lt. higher (suc i) d (omega arith) (omega arith)))
+      (find_in_gap es k at (λ i d lt. lower (suc i) d (omega arith))
+      (λ i d le lt. higher (suc i) d (omega arith) (omega arith)))
 
   -- a new pair in the gap for its key
   pub put_in_gap : (es : List (K × X)) (k : K) (v : X) (at : ℕ) →
@@ -72,7 +80,8 @@ module _ {K X : Type 0} {R : K → K → Ordering} (o : IsTotalOrder R) where
       insert es at (k, v) ≡ put R k v es
   put_in_gap [] k v zero lower higher le = refl
   put_in_gap [] k v (suc at) lower higher le = absurd (omega arith)
-  put_in_gap (e ∷ es) k v zero lower higher le = rw (turned o e.0 k Greater (higher 0 e (omega arith) (omega arith))) refl
+  put_in_gap (e ∷ es) k v zero lower higher le =
+      rw (turned o e.0 k Greater (higher 0 e (omega arith) (omega arith))) refl
   put_in_gap (e ∷ es) k v (suc at) lower higher le =
       rw (turned o e.0 k Less (lower 0 e (omega arith)))
       (ap (λ t. e ∷ t) (put_in_gap es k v at (λ i d lt. lower (suc i) d (omega arith))
@@ -92,12 +101,13 @@ module _ {K X : Type 0} {R : K → K → Ordering} (o : IsTotalOrder R) where
       let same : R k e.0 ≡ Equal = rw is (tied_itself o k) in
       rw same (all_other k es (subst (λ y. T (below_all R y es)) is (first_so _ _ s)))
   remove_at (e ∷ es) k (suc at) d s lt is =
-      let below : R e.0 k ≡ Less = subst (λ y. R e.0 y ≡ Less) is (below_at e.0 es at d (first_so _ _ s) (omega arith)) in
-      rw (turned o e.0 k Less below) (ap (λ t. e ∷ t) (remove_at es k at d (second_so _ _ s) (omega arith) is))
+      rw (above_first e es k at d s (omega arith) is)
+      (ap (λ t. e ∷ t) (remove_at es k at d (second_so _ _ s) (omega arith) is))
 
   -- in order, no key is lower than the one before it
   pub next_is_higher : (es : List (K × X)) (at : ℕ) (d : K × X) → T (is_sorted R es) → suc at < length es →
       is_lt (R (get_or es (suc at) d).0 (get_or es at d).0) ≡ false
   next_is_higher [] at d s lt = absurd (omega arith)
-  next_is_higher (e ∷ es) zero d s lt = ap is_lt (turned o e.0 _ Less (below_at e.0 es 0 d (first_so _ _ s) (omega arith)))
+  next_is_higher (e ∷ es) zero d s lt =
+      ap is_lt (turned o e.0 _ Less (below_at e.0 es 0 d (first_so _ _ s) (omega arith)))
   next_is_higher (e ∷ es) (suc at) d s lt = next_is_higher es at d (second_so _ _ s) (omega arith)

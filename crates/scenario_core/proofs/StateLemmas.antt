@@ -68,7 +68,8 @@ module _ (pairs : List Pair) (in_order : AreInOrder pairs) where
     put_moves state =
         let kept = is_sorted-put by_name nat_list_cmp_total name state pairs in_order in
         let after = λ (q : List ℕ). ap (λ o. unwrap_or o started)
-        (get-from_sorted by_name (put by_name name state pairs) q kept ∙ find-put by_name nat_list_cmp_total q name state pairs) in
+        (get-from_sorted by_name (put by_name name state pairs) q kept
+        ∙ find-put by_name nat_list_cmp_total q name state pairs) in
         record {
           in_order = kept;
           moves = record {
@@ -77,11 +78,14 @@ module _ (pairs : List Pair) (in_order : AreInOrder pairs) where
           };
         }
 
-    pub set_moves : (state : List ℕ) → IsAt pairs name at → (d : Pair) → IsMove pairs (set pairs at (name, state)) name state
+    pub set_moves : (state : List ℕ) → IsAt pairs name at → (d : Pair) →
+        IsMove pairs (set pairs at (name, state)) name state
     set_moves state is_at d =
-        rw (put_at nat_list_cmp_total pairs name state at d in_order is_at.in_range (is_at.has_name d)) (put_moves state)
+        rw (put_at nat_list_cmp_total pairs name state at d in_order is_at.in_range (is_at.has_name d))
+        (put_moves state)
 
-    pub insert_moves : (state : List ℕ) → IsGapFor pairs name at → IsMove pairs (insert pairs at (name, state)) name state
+    pub insert_moves : (state : List ℕ) → IsGapFor pairs name at →
+        IsMove pairs (insert pairs at (name, state)) name state
     insert_moves state gap =
         rw (put_in_gap nat_list_cmp_total pairs name state at gap.lower gap.higher gap.in_range) (put_moves state)
 

@@ -1,4 +1,4 @@
--- Which scenarios are known, and in which states each may be: those that mappings name (WireMock, "Stateful Behaviour").
+-- Which scenarios are known, and in which states each may be: those that mappings name.
 use Rattle.std.specs.Prelude.{◌≡◌, ◌⊎◌, ℕ, List, Any, Some, option_copied}
 use Rattle.scenario_core.specs.declared.known.KnownState.{KnownState}
 use Rattle.scenario_core.specs.Scenarios.{started}

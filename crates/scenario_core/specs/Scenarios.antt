@@ -1,4 +1,4 @@
--- The states of scenarios (WireMock's documentation, "Stateful Behaviour"): each is in `Started` until something moves it.
+-- The states of scenarios (WireMock's documentation, "Stateful Behaviour"): `Started` until something moves one.
 use Rattle.std.specs.Prelude.{◌≡◌, ◌≢◌, ℕ, List, codes, unwrap_or}
 use Rattle.std.specs.Ordering.{nat_cmp}
 use Rattle.std.specs.Cmp.Lexicographic.{slice_cmp}

@@ -22,7 +22,8 @@ depth_read tree names None h = absurd h
 depth_read tree names (Some x) h = h.0
 
 -- what is read is a pattern
-pub pattern_of_read : (source : List ℕ) (hir : Hir) (names : Names) → Reads default_config source hir names → IsPattern source
+pub pattern_of_read : (source : List ℕ) (hir : Hir) (names : Names) → Reads default_config source hir names →
+    IsPattern source
 unfolding Reads
 pattern_of_read source hir names given = depth_read (meaning hir) names _ given
 

@@ -15,7 +15,8 @@ use Rattle.value_match.specs.Inner.Search.{attempt_in_text}
 -- a search at one byte alone
 pub only_at : (f : Rest) (i : ℕ) → is_some (first_between f i i) ≡ is_some (f i)
 only_at f i = ⊎_elim
-    (λ none. ap is_some (first_between_none f i i (λ j low high. let same : j ≡ i = omega arith in rw same none)) ∙ sym (ap is_some none))
+    (λ none. ap is_some (first_between_none f i i (λ j low high. let same : j ≡ i = omega arith in rw same none))
+    ∙ sym (ap is_some none))
     (λ some. ap is_some (first_between_here f i i some.0 (omega arith) some.1) ∙ sym (ap is_some some.1))
     (option_cases (f i))
 
@@ -32,10 +33,12 @@ inner_some true o t e = e
 inner_some false o t e = absurd (none-some t e)
 
 module _ (re : Re) (hay : List ℕ) where
-  pub found_by_attempt : (i : ℕ) → i ≤ length hay → is_some (attempt_in_text re hay i) ≡ true → is_some (find_str re hay 0) ≡ true
+  pub found_by_attempt : (i : ℕ) → i ≤ length hay → is_some (attempt_in_text re hay i) ≡ true →
+      is_some (find_str re hay 0) ≡ true
   unfolding find_str
   found_by_attempt i le some = ⊎_elim
-      (λ none. absurd cc (ap is_some (none_of_first_between (attempt_in_text re hay) 0 (length hay) none i (omega arith) le)))
+      (λ none.
+      absurd cc (ap is_some (none_of_first_between (attempt_in_text re hay) 0 (length hay) none i (omega arith) le)))
       (λ found. ap is_some found.1)
       (option_cases (first_between (attempt_in_text re hay) 0 (length hay)))
 
@@ -44,7 +47,8 @@ module _ (re : Re) (hay : List ℕ) where
   not_found none = ap is_some (first_between_none (attempt_in_text re hay) 0 (length hay) (λ i low high. none i high))
 
   -- a pattern whose matches start at the first byte has none at a later one
-  pub none_later : IsAnchored true re → attempt_in_text re hay 0 ≡ None → (i : ℕ) → i ≤ length hay → attempt_in_text re hay i ≡ None
+  pub none_later : IsAnchored true re → attempt_in_text re hay 0 ≡ None → (i : ℕ) → i ≤ length hay →
+      attempt_in_text re hay i ≡ None
   none_later anchored none i le = ⊎_elim
       (λ here. here)
       (λ some.
@@ -60,8 +64,8 @@ module _ (re : Re) (hay : List ℕ) where
       (λ found. refuted starts (λ h. absurd cc (sym found ∙ not_found (λ i le. none_later (h is) none i le))))
 
   -- none below the byte and none there
-  pub none_from_start : (at : ℕ) → ((k : ℕ) → k < at → attempt_in_text re hay k ≡ None) → attempt_in_text re hay at ≡ None →
-      (k : ℕ) → k ≤ at → attempt_in_text re hay k ≡ None
+  pub none_from_start : (at : ℕ) → ((k : ℕ) → k < at → attempt_in_text re hay k ≡ None) →
+      attempt_in_text re hay at ≡ None → (k : ℕ) → k ≤ at → attempt_in_text re hay k ≡ None
   none_from_start at below here k le = elim (cases_lt k at) [
     | inl lt ↦ below k lt
     | inr ge ↦ let same : k ≡ at = omega arith in rw same here

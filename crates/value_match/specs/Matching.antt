@@ -1,4 +1,4 @@
--- When a value meets a value matcher (WireMock's documentation, "Request Matching"). Without a value only `absent` holds.
+-- When a value meets a value matcher (WireMock, "Request Matching"). Without a value only `absent` holds.
 use Rattle.std.specs.Prelude.{◌≡◌, ℕ, List, map, Option, Some, None}
 use Rattle.std.specs.Char.{to_ascii_lowercase}
 use Rattle.std.specs.Str.Iter.{HasSubslice}

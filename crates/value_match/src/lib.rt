@@ -1,5 +1,6 @@
 // Does a value meet a value matcher: equal to, contains, matches a pattern and their negations, absent.
-// Its contracts cite `specs/Matching.antt` (when a value meets a matcher) and `specs/Patterns.antt` (what a pattern means).
+// Its contracts cite `specs/Matching.antt` (when a value meets a matcher), `specs/Patterns.antt` (what a pattern means)
+// and `specs/Refusal.antt` (which matchers can be built).
 #![tactic(auto)]
 
 mod compiled;

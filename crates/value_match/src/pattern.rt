@@ -1,5 +1,5 @@
-// A pattern with what its searches write to. A `Matcher` of `regex` borrows its `Regex`, so that nothing could own both:
-// the searches here run on the crates below `regex`, and keep the states of the DFA that they make.
+// A pattern with what its searches write to. A `Matcher` of `regex` borrows its `Regex`, so no type can own both: the
+// searches here run on the crates below `regex`, and keep the states of the DFA that they make.
 ghost use Rattle.std.specs.Prelude.{◌≡◌, ◌≤◌, vec_len, length, is_some, IfOk, IfErr};
 ghost use Rattle.regex.specs.Patterns.{find_str};
 ghost use Rattle.regex.specs.Strings.{IsDefaultFailure};
@@ -38,7 +38,7 @@ impl Pattern {
         })
     }
 
-    /// Whether it has a match in the text. It takes no memory but for the DFA, and does without where there is none.
+    /// Whether it has a match in the text. Where there is no memory for the DFA, the NFA is searched.
     pub(crate) fn is_match(&mut self, text: &str) -> bool
         ensures found { result ≡ is_some (find_str (tree_of self.old.compiled) text.now 0) }
         ensures same { self.new.compiled ≡ self.old.compiled }

@@ -53,8 +53,8 @@ impl ValueMatcher {
         })
     }
 
-    /// Whether the value meets the matcher. It takes no memory but for the DFA of a pattern, and does without where there
-    /// is none.
+    /// Whether the value meets the matcher. Only the DFA of a pattern takes memory, and where there is none the search
+    /// goes on without it, more slowly.
     pub fn matches(&mut self, value: Option<&str>) -> Result<bool, AllocError>
         ensures answer { IfOk result (λ yes. IsTrue yes ↔ Matches self.old (option_copied value.entry)) }
         ensures same { self.new ≡ self.old }

@@ -26,4 +26,5 @@ pub record IsAt (pairs : List Pair) (name : List ℕ) (at : ℕ) : Type 0 where
 pub record IsGapFor (pairs : List Pair) (name : List ℕ) (at : ℕ) : Type 0 where
   pub in_range : at ≤ length pairs
   pub lower : (i : ℕ) (d : Pair) → i < at → slice_cmp nat_cmp (slice_index_or pairs i d).0 name ≡ Less
-  pub higher : (i : ℕ) (d : Pair) → at ≤ i → i < length pairs → slice_cmp nat_cmp (slice_index_or pairs i d).0 name ≡ Greater
+  pub higher : (i : ℕ) (d : Pair) → at ≤ i → i < length pairs →
+      slice_cmp nat_cmp (slice_index_or pairs i d).0 name ≡ Greater

@@ -11,14 +11,18 @@ returns-then-matches_at-clause-found c =
 
 pub returns-then-compiled-clause-found : goal.returns-then-compiled-clause-found
 returns-then-compiled-clause-found c =
+    let tree = tree_of c.args.compiled.now in
+    let hay = c.as_bytes-hay.result.now in
     let none = none_of_is_some _ (sym c.matches_at.ensures.found ∙ c.if-matches_at.false) in
     rw (← c.as_bytes-hay.ensures.value)
-    (sym (not_found_anchored (tree_of c.args.compiled.now) c.as_bytes-hay.result.now c.args.compiled.now.anchored c.args.compiled.now.starts c.if-compiled.true
-    (none_from_start (tree_of c.args.compiled.now) c.as_bytes-hay.result.now c.loop-at.at c.loop-at.invariant.none none 0 (omega arith))))
+    (sym (not_found_anchored tree hay c.args.compiled.now.anchored c.args.compiled.now.starts c.if-compiled.true
+    (none_from_start tree hay c.loop-at.at c.loop-at.invariant.none none 0 (omega arith))))
 
 pub returns-else-compiled-clause-found : goal.returns-else-compiled-clause-found
 returns-else-compiled-clause-found c =
+    let tree = tree_of c.args.compiled.now in
+    let hay = c.as_bytes-hay.result.now in
     let none = none_of_is_some _ (sym c.matches_at.ensures.found ∙ c.if-matches_at.false) in
     rw (← c.as_bytes-hay.ensures.value)
-    (sym (not_found (tree_of c.args.compiled.now) c.as_bytes-hay.result.now (λ i le.
-    none_from_start (tree_of c.args.compiled.now) c.as_bytes-hay.result.now c.loop-at.at c.loop-at.invariant.none none i (omega arith))))
+    (sym (not_found tree hay (λ i le.
+    none_from_start tree hay c.loop-at.at c.loop-at.invariant.none none i (omega arith))))

@@ -21,10 +21,12 @@ pub invariant_of-self-in-Err : goal.invariant_of-self-in-Err
 invariant_of-self-in-Err c =
     let gap = rw c.deref.ensures.value at c.in-Err.ensures.absent in
     rw c.in_ok-insert-in-Err.ensures.items
-    (move_by_insert _ c.self.invariant _ _ _ _ gap c.in_ok-name-in-Err.ensures.ok c.in_ok-state-in-Err.ensures.ok).in_order
+    (move_by_insert _ c.self.invariant _ _ _ _ gap c.in_ok-name-in-Err.ensures.ok
+    c.in_ok-state-in-Err.ensures.ok).in_order
 
 pub returns-in_ok-insert-in-Err-clause-ok : goal.returns-in_ok-insert-in-Err-clause-ok
 returns-in_ok-insert-in-Err-clause-ok c =
     let gap = rw c.deref.ensures.value at c.in-Err.ensures.absent in
     rw (c.in_ok-insert-in-Err.ensures.items, ← c.self.view_is)
-    (move_by_insert _ c.self.invariant _ _ _ _ gap c.in_ok-name-in-Err.ensures.ok c.in_ok-state-in-Err.ensures.ok).moves
+    (move_by_insert _ c.self.invariant _ _ _ _ gap c.in_ok-name-in-Err.ensures.ok
+    c.in_ok-state-in-Err.ensures.ok).moves

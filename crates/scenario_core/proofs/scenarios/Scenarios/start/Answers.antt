@@ -10,7 +10,8 @@ invariant_of-self c =
 pub returns-in-Ok : goal.returns-in-Ok
 returns-in-Ok c =
     let at = rw c.deref.ensures.value at c.in-Ok.ensures.found in
-    rw (c.remove-entry.ensures.items, ← c.self.view_is) (move_by_remove _ c.self.invariant _ _ c.remove-entry.result at).moves
+    rw (c.remove-entry.ensures.items, ← c.self.view_is)
+    (move_by_remove _ c.self.invariant _ _ c.remove-entry.result at).moves
 
 pub returns-in_default : goal.returns-in_default
 returns-in_default c =

@@ -2,7 +2,11 @@ use Rattle.scenario_core.proofs.EntryLemmas.{pairs_of_clone}
 use Rattle.scenario_core.proofs.scenarios.Scenarios.try_clone.Goals as goal
 
 pub invariant_of-result : goal.invariant_of-result
-invariant_of-result c = rw (pairs_of_clone c.self.inside.entries.items c.in_ok-clone.field-0.items c.in_ok-clone.ensures.cases.0) c.self.invariant
+invariant_of-result c =
+    let copied = pairs_of_clone c.self.inside.entries.items c.in_ok-clone.field-0.items c.in_ok-clone.ensures.cases.0 in
+    rw copied c.self.invariant
 
 pub returns : goal.returns
-returns c = rw (pairs_of_clone c.self.inside.entries.items c.in_ok-clone.field-0.items c.in_ok-clone.ensures.cases.0) c.self.view_is
+returns c =
+    let copied = pairs_of_clone c.self.inside.entries.items c.in_ok-clone.field-0.items c.in_ok-clone.ensures.cases.0 in
+    rw copied c.self.view_is

@@ -7,7 +7,8 @@ use Rattle.regex_compile.specs.declared.error.Error.TheVariants.{TooBig, Malform
 use Rattle.value_match.proofs.compiled.Compiled.new.Goals as goal
 
 -- a pattern gets any error of the compiler
-right_kind : (config : Config) (source : List ℕ) → IsPattern config source → (e : Error) → IsRightKind config source (of_compiler e)
+right_kind : (config : Config) (source : List ℕ) → IsPattern config source → (e : Error) →
+    IsRightKind config source (of_compiler e)
 right_kind config source read TooBig = read
 right_kind config source read Malformed = read
 right_kind config source read OutOfMemory = tt

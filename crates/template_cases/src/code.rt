@@ -1,0 +1,165 @@
+//! Stack code: its listing, the verifier's verdict on it and its runs. A row gives instructions, with a `;` between two,
+//! and texts and paths, with a `|` between two.
+
+use crate::programs::request;
+use crate::templates::{add_path, add_text};
+use case_table::row::{Row, add_cell};
+use code_verifier::budget::Budget;
+use code_verifier::error::VerifyError;
+use code_verifier::verified::Verified;
+use code_verifier::verify::verify;
+use data_tree::plain_text::PlainText;
+use data_tree::step::{Path, Step};
+use helper_set::helper::Helper;
+use std::alloc::{AllocError, Global};
+use template_code::code::Code;
+use template_code::instr::Instr;
+use template_code::listing::listing;
+use template_machine::run::run;
+
+/// The listing of the code, its texts and its paths.
+pub fn parts(alloc: Global, row: &Row) -> Result<String, AllocError> {
+    code_cells(alloc, &read_code(alloc, row)?)
+}
+
+/// The listing of code, its texts and its paths.
+pub fn code_cells(alloc: Global, code: &Code) -> Result<String, AllocError> {
+    let mut cells = String::new(alloc);
+    add_cell(&mut cells, listing(alloc, code)?.as_str())?;
+    add_tables(alloc, &mut cells, code)?;
+    Ok(cells)
+}
+
+fn add_tables(alloc: Global, cells: &mut String, code: &Code) -> Result<(), AllocError> {
+    cells.push('\t')?;
+    for text in code.texts() {
+        add_text(cells, text.as_str())?;
+    }
+    cells.push('\t')?;
+    for path in code.paths() {
+        cells.push('{')?;
+        add_path(alloc, cells, path)?;
+    }
+    Ok(())
+}
+
+/// The rule that the code breaks and at which instruction, or its budgets and what its run writes.
+pub fn verdict(alloc: Global, row: &Row) -> Result<String, AllocError> {
+    match verify(alloc, read_code(alloc, row)?) {
+        Ok(verified) => accepted(alloc, &verified, row.cell(3), row.cell(4)),
+        Err(error) => refused(alloc, error),
+    }
+}
+
+fn refused(alloc: Global, error: VerifyError) -> Result<String, AllocError> {
+    match error {
+        VerifyError::CodeRefused { code, index, rule } => {
+            let count = code.instrs().len();
+            format!(in alloc; "\t{rule:?}\t{index}\t{count}")
+        }
+        VerifyError::OutOfMemory { code: _code } => Err(AllocError),
+    }
+}
+
+fn accepted(
+    alloc: Global,
+    verified: &Verified,
+    method: &str,
+    url: &str,
+) -> Result<String, AllocError> {
+    let mut cells = lists(alloc, verified.budget())?;
+    cells.push_str(written(alloc, verified, method, url)?.as_str())?;
+    Ok(cells)
+}
+
+fn lists(alloc: Global, budget: &Budget) -> Result<String, AllocError> {
+    let (steps, bytes) = (budget.steps(), budget.bytes());
+    format!(in alloc; "\t{steps:?}\t{bytes:?}")
+}
+
+fn written(
+    alloc: Global,
+    verified: &Verified,
+    method: &str,
+    url: &str,
+) -> Result<String, AllocError> {
+    let data = request(alloc, method, url)?;
+    let rendered = run(alloc, verified, &data)?;
+    let (steps, text) = (rendered.steps, rendered.text.as_str());
+    format!(in alloc; "\t{steps}\t{text}")
+}
+
+fn read_code(alloc: Global, row: &Row) -> Result<Code, AllocError> {
+    Ok(Code::new(
+        read_instrs(alloc, row.cell(0))?,
+        read_texts(alloc, row.cell(1))?,
+        read_paths(alloc, row.cell(2))?,
+    ))
+}
+
+fn read_instrs(alloc: Global, text: &str) -> Result<Vec<Instr>, AllocError> {
+    let mut instrs = Vec::new(alloc);
+    for word in text.split(';') {
+        let (name, operand) = word.trim().split_once(' ').unwrap_or((word.trim(), ""));
+        if let Some(instr) = read_instr(name.as_bytes(), operand) {
+            instrs.push(instr)?;
+        }
+    }
+    Ok(instrs)
+}
+
+// By the letters in which the names differ.
+fn read_instr(name: &[u8], operand: &str) -> Option<Instr> {
+    match name {
+        [b'S', ..] => Some(Instr::Show),
+        [b'P', ..] => Some(Instr::Print),
+        [b'H', ..] => Some(Instr::Halt),
+        [b'C', ..] => Some(Instr::Call(Helper::Not)),
+        [b'N', ..] => Some(Instr::Number(operand.parse::<i64>().ok()?)),
+        [b'T', b'r', ..] => Some(Instr::Truth(operand == "true")),
+        [b'T', _, b's', ..] => Some(Instr::Test),
+        _ => with_index(name, operand.parse::<usize>().ok()?),
+    }
+}
+
+fn with_index(name: &[u8], index: usize) -> Option<Instr> {
+    match name {
+        [b'E', ..] => Some(Instr::Emit(index)),
+        [b'R', ..] => Some(Instr::Root(index)),
+        [b'T', ..] => Some(Instr::Text(index)),
+        [b'J', ..] => Some(Instr::Jump(index)),
+        [b'B', ..] => Some(Instr::Branch(index)),
+        _ => None,
+    }
+}
+
+fn read_texts(alloc: Global, text: &str) -> Result<Vec<PlainText>, AllocError> {
+    let mut texts = Vec::new(alloc);
+    for entry in text.split('|') {
+        texts.push(PlainText::new(String::from_str(alloc, entry)?))?;
+    }
+    Ok(texts)
+}
+
+fn read_paths(alloc: Global, text: &str) -> Result<Vec<Path>, AllocError> {
+    let mut paths = Vec::new(alloc);
+    for entry in text.split('|') {
+        paths.push(read_path(alloc, entry)?)?;
+    }
+    Ok(paths)
+}
+
+fn read_path(alloc: Global, text: &str) -> Result<Path, AllocError> {
+    let mut steps = Vec::new(alloc);
+    for word in text.split('.') {
+        steps.push(read_step(alloc, word)?)?;
+    }
+    Ok(Path::new(steps))
+}
+
+fn read_step(alloc: Global, word: &str) -> Result<Step, AllocError> {
+    if let Ok(index) = word.parse::<u32>() {
+        return Ok(Step::Index(index));
+    }
+    Ok(Step::Name(PlainText::new(String::from_str(alloc, word)?)))
+}

@@ -1,0 +1,33 @@
+//! Compares what templates, stack code and the commands of `mock_program` give with the tables in `data/`.
+#![tactic(auto)]
+
+mod code;
+mod commands;
+mod programs;
+mod table;
+mod templates;
+mod writer;
+
+use case_table::compare::compare_all;
+use std::io;
+use std::process::ExitCode;
+use table::Table;
+
+fn main(rt: HostRuntime) -> io::Result<ExitCode> {
+    compare_all(
+        &rt,
+        [
+            Table::Trees,
+            Table::Compiled,
+            Table::Listings,
+            Table::Codes,
+            Table::Programs,
+            Table::RenderText,
+            Table::Commands,
+            Table::Messages,
+            Table::BrokenOff,
+            Table::Unreadable,
+        ]
+        .as_slice(),
+    )
+}

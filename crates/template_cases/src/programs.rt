@@ -1,0 +1,40 @@
+//! Programs.
+
+use bytes::Bytes;
+use case_table::row::Row;
+use data_tree::request_data::RequestData;
+use mock_request::request_data::request_data;
+use mock_request::snapshot::Snapshot;
+use std::alloc::{AllocError, Global};
+use template_machine::program::{Program, render};
+
+/// The source of a template's program, its budget at a size of the data, and what it renders for a request. No text of
+/// the table has an error.
+pub fn program(alloc: Global, row: &Row) -> Result<String, AllocError> {
+    let program = Program::from_text(alloc, row.cell(0))
+        .ok()
+        .ok_or(AllocError)?;
+    let data = request(alloc, row.cell(1), row.cell(2))?;
+    let rendered = render(alloc, &program, &data)?;
+    cells(alloc, &program, row.cell(3), rendered.text.as_str())
+}
+
+fn cells(alloc: Global, program: &Program, size: &str, text: &str) -> Result<String, AllocError> {
+    let source = program.source();
+    let (steps, bytes) = budget_at(program, size.parse::<u64>().unwrap_or(0));
+    format!(in alloc; "\t{source}\t{steps}\t{bytes}\t{text}")
+}
+
+fn budget_at(program: &Program, size: u64) -> (u128, u128) {
+    program.budget().at(size).unwrap_or((0, 0))
+}
+
+/// The data of a request without headers and body. None in the tables is refused.
+pub fn request(alloc: Global, method: &str, url: &str) -> Result<RequestData, AllocError> {
+    let snapshot = snapshot(alloc, method, url).ok_or(AllocError)?;
+    request_data(alloc, &snapshot, None).ok().ok_or(AllocError)
+}
+
+fn snapshot(alloc: Global, method: &str, url: &str) -> Option<Snapshot> {
+    Snapshot::new(alloc, method, url, Vec::new(alloc), Bytes::new()).ok()
+}

@@ -1,0 +1,53 @@
+//! The tables, and which call each of them is about.
+
+use crate::{code, commands, programs, templates};
+use case_table::compare::CaseTable;
+use case_table::row::Row;
+use std::alloc::{AllocError, Global};
+
+/// A table, named for what it has in each row.
+#[derive(Clone, Copy)]
+pub enum Table {
+    Trees,
+    Compiled,
+    Listings,
+    Codes,
+    Programs,
+    /// Renderings that an independent program computed.
+    RenderText,
+    Commands,
+    Messages,
+    BrokenOff,
+    Unreadable,
+}
+
+impl CaseTable for Table {
+    fn file(self) -> &'static str {
+        match self {
+            Table::Trees => "trees.tsv",
+            Table::Compiled => "compiled.tsv",
+            Table::Listings => "listings.tsv",
+            Table::Codes => "codes.tsv",
+            Table::Programs => "programs.tsv",
+            Table::RenderText => "render_text.tsv",
+            Table::Commands => "commands.tsv",
+            Table::Messages => "messages.tsv",
+            Table::BrokenOff => "broken_off.tsv",
+            Table::Unreadable => "unreadable.tsv",
+        }
+    }
+
+    fn answer(self, alloc: Global, row: &Row) -> Result<String, AllocError> {
+        match self {
+            Table::Trees => templates::tree(alloc, row.cell(0)),
+            Table::Compiled => templates::compiled(alloc, row.cell(0)),
+            Table::Listings => code::parts(alloc, row),
+            Table::Codes => code::verdict(alloc, row),
+            Table::Programs => programs::program(alloc, row),
+            Table::RenderText | Table::Commands => commands::streams(alloc, row),
+            Table::Messages => commands::message(alloc, row, 100_000),
+            Table::BrokenOff => commands::message(alloc, row, 3),
+            Table::Unreadable => commands::unreadable(alloc, row.cell(0)),
+        }
+    }
+}

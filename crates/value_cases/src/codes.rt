@@ -1,0 +1,51 @@
+//! The codes of errors.
+
+use error_code::error_code::ErrorCode;
+use std::alloc::{AllocError, Global};
+
+const CODES: [ErrorCode; 29] = [
+    ErrorCode::BadDocument,
+    ErrorCode::NumberNotWhole,
+    ErrorCode::UnsupportedField,
+    ErrorCode::BadPattern,
+    ErrorCode::BadUrl,
+    ErrorCode::UnclosedTag,
+    ErrorCode::UnexpectedClose,
+    ErrorCode::UnknownHelper,
+    ErrorCode::WrongArguments,
+    ErrorCode::TooDeep,
+    ErrorCode::TooLong,
+    ErrorCode::BadPath,
+    ErrorCode::UnsupportedTag,
+    ErrorCode::CodeRefused,
+    ErrorCode::UnknownMapping,
+    ErrorCode::UnknownScenario,
+    ErrorCode::UnknownState,
+    ErrorCode::AlreadyRecording,
+    ErrorCode::NotRecording,
+    ErrorCode::BadTarget,
+    ErrorCode::RecordingFull,
+    ErrorCode::HistoryFull,
+    ErrorCode::TooManyMappings,
+    ErrorCode::UnknownAdminCall,
+    ErrorCode::OutOfMemory,
+    ErrorCode::TooLarge,
+    ErrorCode::OverBudget,
+    ErrorCode::UpstreamFailed,
+    ErrorCode::MomentOutOfRange,
+];
+
+/// The title and the HTTP status of the code with this number; 0 where no answer reports it.
+pub fn code(alloc: Global, number: &str) -> Result<String, AllocError> {
+    let number = number.parse::<u16>().unwrap_or(0);
+    for code in CODES {
+        if code.number() == number {
+            let title = code.title();
+            return match code.status() {
+                Some(status) => format!(in alloc; "\t{title}\t{status}"),
+                None => format!(in alloc; "\t{title}\tnone"),
+            };
+        }
+    }
+    Ok(String::new(alloc))
+}

@@ -1,0 +1,37 @@
+//! JSON texts and paths.
+
+use crate::values::cell_of;
+use data_tree::data::Data;
+use data_tree::step::Step;
+use json_bridge::json_path::{JsonPath, JsonPathError};
+use json_bridge::read::data_of_json;
+use std::alloc::{AllocError, Global};
+
+/// The JSON text of the text's value.
+pub fn value_of_text(alloc: Global, text: &str) -> Result<String, AllocError> {
+    let found = data_of_json(alloc, text)?;
+    match found {
+        Some(value) => cell_of(alloc, Some(&value)),
+        None => String::from_str(alloc, "\tnone"),
+    }
+}
+
+/// The steps of the path, as a list of names and indices.
+pub fn steps_of_path(alloc: Global, text: &str) -> Result<String, AllocError> {
+    match JsonPath::parse(alloc, text) {
+        Ok(path) => cell_of(alloc, Some(&list_of(alloc, path.steps())?)),
+        Err(JsonPathError::BadPath) => String::from_str(alloc, "\tbad path"),
+        Err(JsonPathError::OutOfMemory) => Err(AllocError),
+    }
+}
+
+fn list_of(alloc: Global, steps: &[Step]) -> Result<Data, AllocError> {
+    let mut items = Vec::new(alloc);
+    for step in steps {
+        match step {
+            Step::Name(name) => items.push(Data::Text(name.try_clone()?.into_string()))?,
+            Step::Index(index) => items.push(Data::Number(i128::from(*index)))?,
+        }
+    }
+    Ok(Data::List(items))
+}

@@ -1,0 +1,127 @@
+//! Requests, and the data that templates see of them. A row gives a method, a target, headers with a line feed between
+//! two, and a body whose characters are its bytes (ISO-8859-1).
+
+use crate::values::{cell_of, measured, path};
+use bytes::Bytes;
+use case_table::row::{Row, add_cell};
+use data_tree::request_data::RequestData;
+use http_header::{HeaderName, HeaderValue};
+use mock_request::request_data::request_data;
+use mock_request::snapshot::Snapshot;
+use mock_request::snapshot_error::SnapshotError;
+use std::alloc::{AllocError, Global};
+
+/// What the copy of a request gives back: its method, its URL, path and query, its headers and its body.
+pub fn kept(alloc: Global, row: &Row) -> Result<String, AllocError> {
+    match snapshot(alloc, row) {
+        Ok(request) => parts(alloc, &request.try_clone()?),
+        Err(error) => refused(alloc, error),
+    }
+}
+
+fn parts(alloc: Global, request: &Snapshot) -> Result<String, AllocError> {
+    let mut cells = String::new(alloc);
+    let query = request.query().unwrap_or("none");
+    for cell in [request.method(), request.url(), request.path(), query] {
+        add_cell(&mut cells, cell)?;
+    }
+    add_cell(&mut cells, "")?;
+    for (name, value) in request.headers() {
+        add_header(alloc, &mut cells, name.as_str(), value.as_bytes())?;
+    }
+    add_bytes(alloc, &mut cells, request.body().as_slice())?;
+    Ok(cells)
+}
+
+fn add_header(
+    alloc: Global,
+    cells: &mut String,
+    name: &str,
+    value: &[u8],
+) -> Result<(), AllocError> {
+    let value = String::from_utf8_lossy(alloc, value)?;
+    cells.push_str(format!(in alloc; "{name}: {value}\n")?.as_str())
+}
+
+fn add_bytes(alloc: Global, cells: &mut String, bytes: &[u8]) -> Result<(), AllocError> {
+    add_cell(cells, String::from_utf8_lossy(alloc, bytes)?.as_str())
+}
+
+fn refused(alloc: Global, error: SnapshotError) -> Result<String, AllocError> {
+    if error == SnapshotError::OutOfMemory {
+        return Err(AllocError);
+    }
+    let number = error.code().number();
+    format!(in alloc; "\terror {number}")
+}
+
+/// The JSON text of what the steps find in the data of a request.
+pub fn part(alloc: Global, row: &Row) -> Result<String, AllocError> {
+    match snapshot(alloc, row) {
+        Ok(request) => part_of(alloc, &request, row.cell(4)),
+        Err(error) => refused(alloc, error),
+    }
+}
+
+fn part_of(alloc: Global, request: &Snapshot, steps: &str) -> Result<String, AllocError> {
+    let path = path(alloc, steps)?;
+    let data = data(alloc, request)?;
+    cell_of(alloc, data.root().at(path.steps()))
+}
+
+// None of the requests' data is over the limit.
+fn data(alloc: Global, request: &Snapshot) -> Result<RequestData, AllocError> {
+    request_data(alloc, request, None).ok().ok_or(AllocError)
+}
+
+/// The size of the data of a request, or of what is handed back, after the error's number.
+pub fn size(alloc: Global, row: &Row) -> Result<String, AllocError> {
+    match snapshot(alloc, row) {
+        Ok(request) => {
+            let (error, size) = measured(request_data(alloc, &request, None));
+            format!(in alloc; "\t{error}\t{size}")
+        }
+        Err(error) => refused(alloc, error),
+    }
+}
+
+fn snapshot(alloc: Global, row: &Row) -> Result<Snapshot, SnapshotError> {
+    let headers = headers(alloc, row.cell(2))?;
+    let body = body(alloc, row.cell(3))?;
+    Snapshot::new(alloc, row.cell(0), row.cell(1), headers, body)
+}
+
+fn headers(alloc: Global, lines: &str) -> Result<Vec<(HeaderName, HeaderValue)>, AllocError> {
+    let mut headers = Vec::new(alloc);
+    for line in lines.lines() {
+        let (name, value) = line.split_once(": ").ok_or(AllocError)?;
+        headers.push(header(alloc, name, value)?)?;
+    }
+    Ok(headers)
+}
+
+fn header(alloc: Global, name: &str, value: &str) -> Result<(HeaderName, HeaderValue), AllocError> {
+    Ok((header_name(alloc, name)?, header_value(alloc, value)?))
+}
+
+fn header_name(alloc: Global, name: &str) -> Result<HeaderName, AllocError> {
+    match HeaderName::from_bytes(alloc, name.as_bytes()) {
+        Ok(name) => Ok(name),
+        Err(_error) => Err(AllocError),
+    }
+}
+
+fn header_value(alloc: Global, value: &str) -> Result<HeaderValue, AllocError> {
+    match HeaderValue::from_bytes(alloc, value.as_bytes()) {
+        Ok(value) => Ok(value),
+        Err(_error) => Err(AllocError),
+    }
+}
+
+fn body(alloc: Global, text: &str) -> Result<Bytes, AllocError> {
+    let mut body = Vec::new(alloc);
+    for letter in text.chars() {
+        body.push(u8::try_from(u32::from(letter)).unwrap_or(0))?;
+    }
+    Ok(Bytes::from_vec(body)?)
+}

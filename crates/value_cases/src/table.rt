@@ -1,0 +1,62 @@
+//! The tables, and which call each of them is about.
+
+use crate::{codes, helpers, json, requests, values};
+use case_table::compare::CaseTable;
+use case_table::row::Row;
+use std::alloc::{AllocError, Global};
+
+/// A table, named for what it has in each row.
+#[derive(Clone, Copy)]
+pub enum Table {
+    Codes,
+    Values,
+    Lookups,
+    Items,
+    Roots,
+    Texts,
+    Paths,
+    Requests,
+    Parts,
+    Sizes,
+    Helpers,
+    Signatures,
+    Parameters,
+}
+
+impl CaseTable for Table {
+    fn file(self) -> &'static str {
+        match self {
+            Table::Codes => "codes.tsv",
+            Table::Values => "values.tsv",
+            Table::Lookups => "lookups.tsv",
+            Table::Items => "items.tsv",
+            Table::Roots => "roots.tsv",
+            Table::Texts => "texts.tsv",
+            Table::Paths => "paths.tsv",
+            Table::Requests => "requests.tsv",
+            Table::Parts => "parts.tsv",
+            Table::Sizes => "sizes.tsv",
+            Table::Helpers => "helpers.tsv",
+            Table::Signatures => "signatures.tsv",
+            Table::Parameters => "parameters.tsv",
+        }
+    }
+
+    fn answer(self, alloc: Global, row: &Row) -> Result<String, AllocError> {
+        match self {
+            Table::Codes => codes::code(alloc, row.cell(0)),
+            Table::Values => values::described(alloc, row.cell(0)),
+            Table::Lookups => values::found(alloc, row.cell(0), row.cell(1)),
+            Table::Items => values::item(alloc, row.cell(0), row.cell(1)),
+            Table::Roots => values::root_size(alloc, row.cell(0)),
+            Table::Texts => json::value_of_text(alloc, row.cell(0)),
+            Table::Paths => json::steps_of_path(alloc, row.cell(0)),
+            Table::Requests => requests::kept(alloc, row),
+            Table::Parts => requests::part(alloc, row),
+            Table::Sizes => requests::size(alloc, row),
+            Table::Helpers => helpers::result(alloc, row.cell(0), row.cell(1)),
+            Table::Signatures => helpers::signature_of(alloc, row.cell(0)),
+            Table::Parameters => helpers::accepted(alloc, row.cell(0)),
+        }
+    }
+}

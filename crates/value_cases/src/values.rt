@@ -1,0 +1,157 @@
+//! What a value prints, its size, its items, and what steps find in it. A value is written as its JSON text, where an
+//! object of `fields`, `items` and `text` is a named text; steps are a list of names and indices.
+
+use case_table::row::add_cell;
+use data_tree::data::Data;
+use data_tree::plain_text::PlainText;
+use data_tree::request_data::{DataError, RequestData};
+use data_tree::step::{Path, Step};
+use json_bridge::read::data_of_json;
+use json_bridge::write::json_of;
+use std::alloc::{AllocError, Global};
+
+/// What the value prints, alone and in a list, its size, whether it counts as true, and how many items it has.
+pub fn described(alloc: Global, text: &str) -> Result<String, AllocError> {
+    let value = value(alloc, text)?;
+    let mut cells = String::new(alloc);
+    add_cell(&mut cells, printed(alloc, &value)?.as_str())?;
+    let (size, truth, items) = (value.size(), value.is_true(), value.items_len());
+    let list = Data::List(vec![in alloc; value]?);
+    add_cell(&mut cells, printed(alloc, &list)?.as_str())?;
+    add_cell(
+        &mut cells,
+        format!(in alloc; "{size}\t{truth}\t{items}")?.as_str(),
+    )?;
+    Ok(cells)
+}
+
+/// The JSON text of what the steps find.
+pub fn found(alloc: Global, text: &str, steps: &str) -> Result<String, AllocError> {
+    let value = value(alloc, text)?;
+    let path = path(alloc, steps)?;
+    cell_of(alloc, value.at(path.steps()))
+}
+
+/// The key and the JSON text of the item at the index.
+pub fn item(alloc: Global, text: &str, index: &str) -> Result<String, AllocError> {
+    let value = value(alloc, text)?;
+    let index = index.parse::<usize>().unwrap_or(0);
+    let mut cells = String::new(alloc);
+    add_cell(&mut cells, value.key(index).unwrap_or("none"))?;
+    add_item(alloc, &mut cells, value.item(index))?;
+    Ok(cells)
+}
+
+fn add_item(alloc: Global, cells: &mut String, item: Option<&Data>) -> Result<(), AllocError> {
+    match item {
+        Some(item) => add_cell(cells, json_of(alloc, item)?.as_str()),
+        None => add_cell(cells, "none"),
+    }
+}
+
+/// The size of a root that is this text, or of what is handed back, after the error's number.
+pub fn root_size(alloc: Global, text: &str) -> Result<String, AllocError> {
+    let (error, size) = measured(RequestData::new(Data::Text(String::from_str(alloc, text)?)));
+    format!(in alloc; "\t{error}\t{size}")
+}
+
+/// The error's number, or 0, and the size of the root.
+pub fn measured(made: Result<RequestData, DataError>) -> (u16, u64) {
+    match made {
+        Ok(made) => (0, made.root().size()),
+        Err(error) => {
+            let number = error.code().number();
+            match error {
+                DataError::TooLarge(root) => (number, root.size()),
+                DataError::OutOfMemory => (number, 0),
+            }
+        }
+    }
+}
+
+fn printed(alloc: Global, value: &Data) -> Result<String, AllocError> {
+    let mut out = String::new(alloc);
+    value.print_into(alloc, &mut out)?;
+    Ok(out)
+}
+
+/// A cell with the JSON text of what was found.
+pub fn cell_of(alloc: Global, found: Option<&Data>) -> Result<String, AllocError> {
+    let mut cells = String::new(alloc);
+    add_item(alloc, &mut cells, Some(found.unwrap_or(&Data::Nothing)))?;
+    Ok(cells)
+}
+
+/// The steps of a list of names and indices.
+pub fn path(alloc: Global, steps: &str) -> Result<Path, AllocError> {
+    let mut path = Vec::new(alloc);
+    if let Some(Data::List(items)) = data_of_json(alloc, steps)? {
+        for item in items {
+            path.push(step(item))?;
+        }
+    }
+    Path::new(path).try_clone()
+}
+
+// A number that is no index is the greatest one, which finds nothing in the tables.
+fn step(item: Data) -> Step {
+    match item {
+        Data::Text(name) => Step::Name(PlainText::new(name)),
+        Data::Number(index) if 0 <= index && index <= 4_294_967_295 => Step::Index(index as u32),
+        _ => Step::Index(u32::MAX),
+    }
+}
+
+fn value(alloc: Global, text: &str) -> Result<Data, AllocError> {
+    with_names(alloc, &data_of_json(alloc, text)?.unwrap_or(Data::Nothing))
+}
+
+// A copy in which each object of `fields`, `items` and `text` is a named text.
+#[cycle(with_names)]
+fn with_names(alloc: Global, value: &Data) -> Result<Data, AllocError> {
+    match value {
+        Data::Truth(truth) => Ok(Data::Truth(*truth)),
+        Data::Number(number) => Ok(Data::Number(*number)),
+        Data::Text(text) => Ok(Data::Text(text.clone()?)),
+        Data::List(items) => Ok(Data::List(each(alloc, items)?)),
+        Data::Fields(members) => object(alloc, members.as_slice()),
+        _ => Ok(Data::Nothing),
+    }
+}
+
+#[cycle(with_names)]
+fn object(alloc: Global, members: &[(String, Data)]) -> Result<Data, AllocError> {
+    match members {
+        [
+            (_, Data::Fields(fields)),
+            (_, Data::List(items)),
+            (name, Data::Text(text)),
+        ] if name.as_str() == "text" => Ok(Data::Named {
+            text: text.clone()?,
+            items: each(alloc, items)?,
+            fields: each_member(alloc, fields.as_slice())?,
+        }),
+        _ => Ok(Data::Fields(each_member(alloc, members)?)),
+    }
+}
+
+#[cycle(with_names)]
+fn each(alloc: Global, items: &Vec<Data>) -> Result<Vec<Data>, AllocError> {
+    let mut made = Vec::new(alloc);
+    for item in items {
+        made.push(with_names(alloc, item)?)?;
+    }
+    Ok(made)
+}
+
+#[cycle(with_names)]
+fn each_member(
+    alloc: Global,
+    members: &[(String, Data)],
+) -> Result<Vec<(String, Data)>, AllocError> {
+    let mut made = Vec::new(alloc);
+    for (name, member) in members {
+        made.push((name.clone()?, with_names(alloc, member)?))?;
+    }
+    Ok(made)
+}
