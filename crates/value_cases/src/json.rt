@@ -3,7 +3,8 @@
 use crate::values::cell_of;
 use data_tree::data::Data;
 use data_tree::step::Step;
-use json_bridge::json_path::{JsonPath, JsonPathError};
+use json_bridge::error::JsonPathError;
+use json_bridge::json_path::JsonPath;
 use json_bridge::read::data_of_json;
 use std::alloc::{AllocError, Global};
 

@@ -6,9 +6,9 @@ use bytes::Bytes;
 use case_table::row::{Row, add_cell};
 use data_tree::request_data::RequestData;
 use http_header::{HeaderName, HeaderValue};
+use mock_request::error::SnapshotError;
 use mock_request::request_data::request_data;
 use mock_request::snapshot::Snapshot;
-use mock_request::snapshot_error::SnapshotError;
 use std::alloc::{AllocError, Global};
 
 /// What the copy of a request gives back: its method, its URL, path and query, its headers and its body.
@@ -51,7 +51,7 @@ fn refused(alloc: Global, error: SnapshotError) -> Result<String, AllocError> {
     if error == SnapshotError::OutOfMemory {
         return Err(AllocError);
     }
-    let number = error.code().number();
+    let number = error.error_code().number();
     format!(in alloc; "\terror {number}")
 }
 

@@ -60,7 +60,7 @@ pub fn measured(made: Result<RequestData, DataError>) -> (u16, u64) {
     match made {
         Ok(made) => (0, made.root().size()),
         Err(error) => {
-            let number = error.code().number();
+            let number = error.error_code().number();
             match error {
                 DataError::TooLarge(root) => (number, root.size()),
                 DataError::OutOfMemory => (number, 0),
@@ -114,24 +114,8 @@ fn with_names(alloc: Global, value: &Data) -> Result<Data, AllocError> {
         Data::Number(number) => Ok(Data::Number(*number)),
         Data::Text(text) => Ok(Data::Text(text.clone()?)),
         Data::List(items) => Ok(Data::List(each(alloc, items)?)),
-        Data::Fields(members) => object(alloc, members.as_slice()),
+        Data::Fields(members) => Ok(object(alloc, each_member(alloc, members)?)),
         _ => Ok(Data::Nothing),
-    }
-}
-
-#[cycle(with_names)]
-fn object(alloc: Global, members: &[(String, Data)]) -> Result<Data, AllocError> {
-    match members {
-        [
-            (_, Data::Fields(fields)),
-            (_, Data::List(items)),
-            (name, Data::Text(text)),
-        ] if name.as_str() == "text" => Ok(Data::Named {
-            text: text.clone()?,
-            items: each(alloc, items)?,
-            fields: each_member(alloc, fields.as_slice())?,
-        }),
-        _ => Ok(Data::Fields(each_member(alloc, members)?)),
     }
 }
 
@@ -147,11 +131,54 @@ fn each(alloc: Global, items: &Vec<Data>) -> Result<Vec<Data>, AllocError> {
 #[cycle(with_names)]
 fn each_member(
     alloc: Global,
-    members: &[(String, Data)],
+    members: &Vec<(String, Data)>,
 ) -> Result<Vec<(String, Data)>, AllocError> {
     let mut made = Vec::new(alloc);
     for (name, member) in members {
         made.push((name.clone()?, with_names(alloc, member)?))?;
     }
     Ok(made)
+}
+
+// The object of these members, or the named text: in byte order the text is the last of its three members.
+fn object(alloc: Global, mut members: Vec<(String, Data)>) -> Data {
+    if members.len() != 3 || members[2].0.as_str() != "text" {
+        return Data::Fields(members);
+    }
+    let text = text_of(alloc, members.pop());
+    let items = items_of(alloc, members.pop());
+    let fields = fields_of(alloc, members.pop());
+    Data::Named {
+        text,
+        items,
+        fields,
+    }
+}
+
+fn text_of(alloc: Global, member: Option<(String, Data)>) -> String {
+    match value_of(member) {
+        Data::Text(text) => text,
+        _ => String::new(alloc),
+    }
+}
+
+fn items_of(alloc: Global, member: Option<(String, Data)>) -> Vec<Data> {
+    match value_of(member) {
+        Data::List(items) => items,
+        _ => Vec::new(alloc),
+    }
+}
+
+fn fields_of(alloc: Global, member: Option<(String, Data)>) -> Vec<(String, Data)> {
+    match value_of(member) {
+        Data::Fields(fields) => fields,
+        _ => Vec::new(alloc),
+    }
+}
+
+fn value_of(member: Option<(String, Data)>) -> Data {
+    match member {
+        Some((_name, value)) => value,
+        None => Data::Nothing,
+    }
 }
