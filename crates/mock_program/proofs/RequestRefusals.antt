@@ -5,7 +5,7 @@ use Rattle.data_tree.specs.Tree.{Tree}
 use Rattle.data_tree.specs.declared.request_data.DataError.{DataError}
 use Rattle.data_tree.specs.declared.request_data.DataError.TheVariants.{TooLarge}
 use Rattle.data_tree.specs.declared.request_data.DataError.TheVariants.{OutOfMemory as DataOutOfMemory}
-use Rattle.mock_request.specs.RequestTree as request_data
+use Rattle.request_data.specs.RequestTree as request_data
 use Rattle.mock_request.specs.SnapshotError as snapshot_error
 use Rattle.mock_request.specs.Target.{HasUrl}
 use Rattle.mock_request.specs.declared.error.SnapshotError.{SnapshotError}

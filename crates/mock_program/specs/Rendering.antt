@@ -6,7 +6,7 @@ use Rattle.data_tree.specs.Json.{size}
 use Rattle.data_tree.specs.declared.request_data.TheConstants.{SIZE_LIMIT}
 use Rattle.error_code.specs.declared.error_code.ErrorCode.{ErrorCode}
 use Rattle.mock_request.specs.Target.{IsTarget, HasUrl}
-use Rattle.mock_request.specs.RequestTree.{request_tree}
+use Rattle.request_data.specs.RequestTree.{request_tree}
 use Rattle.template_code.specs.Bounds.{as_printed}
 use Rattle.template_code.specs.Budget.{budget}
 use Rattle.template_code.specs.Machine.{Runs}

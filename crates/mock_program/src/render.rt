@@ -12,7 +12,7 @@ use crate::output::put;
 use crate::status::{FAILURE, SUCCESS};
 use bytes::Bytes;
 use data_tree::request_data::RequestData;
-use mock_request::request_data::request_data;
+use request_data::tree::request_data;
 use mock_request::snapshot::Snapshot;
 use std::alloc::{AllocError, Global};
 use std::io::Write;

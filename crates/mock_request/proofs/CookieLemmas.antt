@@ -12,7 +12,7 @@ use Rattle.std.proofs.lemmas.List.{reverse-append, reverse-reverse, map-append, 
 use Rattle.std.proofs.lemmas.List.Elements.{filter_map-append}
 use Rattle.std.proofs.lemmas.Str.Pattern.{drop_at_char}
 use Rattle.mock_request.specs.Cookies.{space, without_leading_spaces, without_spaces_around, cookie_in}
-use Rattle.mock_request.specs.Inner.Views.{pair_of, pairs_of}
+use Rattle.mock_request.specs.Values.{pair_of, pairs_of}
 
 -- ---- spaces at the start
 

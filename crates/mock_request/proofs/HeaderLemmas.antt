@@ -1,19 +1,18 @@
 -- What one more header adds.
-use Rattle.std.proofs.Common.{◌≡◌, ℕ, ◌+◌, ◌<◌, length, take, drop, get_or, Bool, true, false, List}
+use Rattle.std.proofs.Common.{◌≡◌, ℕ, ◌+◌, ◌<◌, length, take, get_or, Bool, true, false, List}
 use Rattle.std.proofs.Common.{[], ◌∷◌, ◌++◌, map, append-nil, sym, refl, ap, ◌∙◌, codes}
 use Rattle.std.specs.List.{filter, flat_map}
 use Rattle.std.specs.Str.{bytes_eq}
 use Rattle.std.specs.Str.Lossy.{utf8_lossy}
 use Rattle.std.proofs.lemmas.Cmp.{nat_list_eq_equiv}
-use Rattle.std.proofs.lemmas.List.{map-append, take_more, drop_more, take-append-drop}
+use Rattle.std.proofs.lemmas.List.{map-append, take_more}
 use Rattle.http_header.specs.FieldValue.{FieldValue}
 use Rattle.std.proofs.lemmas.List.Concat.{flat_map-append}
 use Rattle.std.proofs.lemmas.List.Elements.{filter-append}
 use Rattle.mock_request.specs.Request.{Header, header_of, headers_of}
-use Rattle.mock_request.specs.Grouped.{values_of, first_of}
+use Rattle.mock_request.specs.Values.{values_of}
 use Rattle.mock_request.specs.HeaderFields.{header_pairs, texts_of}
 use Rattle.mock_request.specs.Cookies.{cookies_in, cookie_pairs}
-use Rattle.mock_request.specs.Authority.{authority_of}
 
 pub texts_of-append
     : (name : List ℕ) (before after : List Header)
@@ -46,40 +45,11 @@ more_headers headers i field within is =
     ap headers_of (take_more headers i field within ∙ ap (λ h. take i headers ++ h ∷ []) (sym is))
     ∙ map-append header_of (take i headers) (field ∷ [])
 
-pub split_headers
-    : (headers : List (List ℕ × FieldValue)) (i : ℕ) (field : List ℕ × FieldValue) → i < length headers
-    → field ≡ get_or headers i field
-    → headers_of (take i headers) ++ header_of field ∷ headers_of (drop (i + 1) headers) ≡ headers_of headers
-split_headers headers i field within is =
-    sym (map-append header_of (take i headers) (field ∷ drop (i + 1) headers))
-    ∙ ap (λ h. headers_of (take i headers ++ h ∷ drop (i + 1) headers)) is
-    ∙ ap (λ hs. headers_of (take i headers ++ hs)) (sym (drop_more headers i field within))
-    ∙ ap headers_of (take-append-drop i headers)
-
 -- the code asks whether the name is the literal, the definition whether the literal is the name
 pub other_way_round
     : (literal name read : List ℕ) (b : Bool) → read ≡ name → b ≡ bytes_eq read literal → bytes_eq literal name ≡ b
 other_way_round literal name read b same asked =
     nat_list_eq_equiv.symm literal name ∙ ap (λ n. bytes_eq n literal) (sym same) ∙ sym asked
-
--- ---- the first `host` header
-
-pub none_more
-    : (name : List ℕ) (before : List Header) (header : Header) → texts_of name before ≡ []
-    → bytes_eq name header.name ≡ false → texts_of name (before ++ header ∷ []) ≡ []
-none_more name before header none other =
-    texts_of-append name before (header ∷ []) ∙ ap (λ ts. ts ++ texts_of name (header ∷ [])) none
-    ∙ texts_of_other name header [] other
-
-pub first_found
-    : (before after : List Header) (header : Header) → texts_of (codes "host") before ≡ []
-    → bytes_eq (codes "host") header.name ≡ true → authority_of (before ++ header ∷ after) ≡ utf8_lossy header.value
-first_found before after header none named =
-    ap first_of (
-    texts_of-append (codes "host") before (header ∷ after)
-    ∙ ap (λ ts. ts ++ texts_of (codes "host") (header ∷ after)) none
-    ∙ texts_of_one (codes "host") header after named
-    )
 
 -- ---- cookies
 

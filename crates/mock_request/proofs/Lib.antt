@@ -1,10 +1,6 @@
 pub mod TargetLemmas
 pub mod UrlLemmas
-pub mod GroupLemmas
-pub mod LastLemmas
-pub mod AuthorityLemmas
 pub mod HeaderLemmas
 pub mod CookieLemmas
 pub mod QueryLemmas
-pub mod TreeLemmas
 pub mod Examples

@@ -5,7 +5,7 @@ use Rattle.std.specs.declared.alloc.Global.{Global}
 use Rattle.std.specs.Str.Lossy.{utf8_lossy}
 use Rattle.std.proofs.lemmas.List.{map-append}
 use Rattle.form_urlencoded.specs.Form.{parse, raw_pairs, decode, DecodesTo}
-use Rattle.mock_request.specs.Inner.Views.{pair_of, pairs_of}
+use Rattle.mock_request.specs.Values.{pair_of, pairs_of}
 use Rattle.mock_request.specs.Query.{text_pair}
 
 -- the texts of pairs that are still encoded

@@ -1,6 +1,6 @@
 -- What follows from the definition of a URL's parts.
 use Rattle.std.proofs.Common.{◌≡◌, ℕ, ◌+◌, ◌<◌, Bool, true, false, not, ◌||◌, cond, if◌then◌else◌, ◌++◌, List, []}
-use Rattle.std.proofs.Common.{◌∷◌, ◌≢◌, map, Bor, unwrap_or, MatchOption, length, get_or, Option, None, Some, All}
+use Rattle.std.proofs.Common.{◌∷◌, MatchOption, length, get_or, None, Some, All}
 use Rattle.std.proofs.Common.{eqb, sym, refl, ap, ◌∙◌, arith}
 use Rattle.std.proofs.lemmas.Bool.{eqb-true, false≢true}
 use Rattle.std.proofs.lemmas.Bool.Decides.{nat_tests}
@@ -16,8 +16,6 @@ use Rattle.std.proofs.lemmas.List.Elements.{All-nil, All-cons, All-head, All-tai
 use Rattle.std.specs.Str.{NoCharPasses}
 use Rattle.mock_request.specs.Url.{is_slash, is_question_mark, path_of, query_of, segments_of}
 use Rattle.mock_request.specs.Target.{slash, question_mark, IsRooted}
-use Rattle.mock_request.specs.Grouped.{texts}
-use Rattle.data_tree.specs.Tree.{text, item, items_of}
 
 -- a text without a character has none of its bytes
 pub lacks_char : (c : ℕ) (bs : List ℕ) → NoCharPasses (λ d. eqb d c) bs → c < 128 → list_any (λ b. eqb b c) bs ≡ false
@@ -32,23 +30,6 @@ lacks_char c bs none ascii = list_any_none (λ b. eqb b c) bs all_other
 -- a URL without a question mark has no query
 pub query_of_none : (url : List ℕ) → NoCharPasses (λ d. eqb d question_mark) url → query_of url ≡ None
 query_of_none url none = rw (lacks_char question_mark url none (omega arith)) refl
-
--- the pieces that a loop went over, as items
-pub texts_from_pieces
-    : (pieces : List (Bor (List ℕ)))
-    → items_of (map (λ (piece : Bor (List ℕ)). text piece.now) pieces)
-    ≡ texts (map (λ (piece : Bor (List ℕ)). piece.now) pieces)
-texts_from_pieces [] = refl
-texts_from_pieces (piece ∷ pieces) = ap (item (text piece.now)) (texts_from_pieces pieces)
-
--- what follows a path's leading slash
-pub after_slash
-    : (path : List ℕ) (r : Option (Bor (List ℕ))) (none : Bor (List ℕ)) → IsRooted path
-    → MatchOption r ((rest : List ℕ) → path ≢ slash ∷ rest) (λ x. path ≡ slash ∷ x.now)
-    → path ≡ slash ∷ (unwrap_or r none).now
-after_slash [] None none rooted cut = absurd rooted
-after_slash (b ∷ bs) None none rooted cut = absurd (cut bs (ap (λ d. d ∷ bs) rooted))
-after_slash path (Some x) none rooted cut = cut
 
 -- ---- what the parts make together
 

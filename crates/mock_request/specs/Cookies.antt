@@ -1,9 +1,8 @@
 -- The cookies that the `cookie` headers of a request bring (RFC 6265, section 4.2.1, read leniently: any piece with
 -- a name and an equals sign is a cookie).
-use Rattle.std.specs.Prelude.{ℕ, Bool, ◌&&◌, List, [], ◌∷◌, reverse, Option, None, Some, ◌==◌, if◌then◌else◌}
-use Rattle.std.specs.Prelude.{codes}
+use Rattle.std.specs.Prelude.{ℕ, Bool, ◌&&◌, List, [], ◌∷◌, reverse, length, Option, None, Some, ◌==◌, nat_lt}
+use Rattle.std.specs.Prelude.{if◌then◌else◌, codes}
 use Rattle.std.specs.List.{before_first, after_first, slice_split, list_any, filter_map, flat_map}
-use Rattle.data_tree.specs.Print.{is_not_empty}
 use Rattle.mock_request.specs.Request.{Header}
 use Rattle.mock_request.specs.HeaderFields.{texts_of}
 
@@ -36,7 +35,7 @@ without_spaces_around piece = reverse (without_leading_spaces (reverse (without_
 -- a name and a value on the two sides of the first `=`; without one, or with no name, it is no cookie
 abbrev pub cookie_in : List ℕ → Option (List ℕ × List ℕ)
 cookie_in piece =
-    if list_any is_equals_sign piece && is_not_empty (before_first is_equals_sign piece)
+    if list_any is_equals_sign piece && nat_lt 0 (length (before_first is_equals_sign piece))
     then Some (before_first is_equals_sign piece, after_first is_equals_sign piece) else None
 
 -- the cookies between the semicolons of a header's text

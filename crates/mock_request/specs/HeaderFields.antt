@@ -2,7 +2,7 @@
 use Rattle.std.specs.Prelude.{ℕ, List, map}
 use Rattle.std.specs.Str.Lossy.{utf8_lossy}
 use Rattle.mock_request.specs.Request.{Header}
-use Rattle.mock_request.specs.Grouped.{values_of}
+use Rattle.mock_request.specs.Values.{values_of}
 
 -- the name, and the value read as UTF-8, with U+FFFD for what is not
 abbrev pub header_pair : Header → List ℕ × List ℕ

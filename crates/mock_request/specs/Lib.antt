@@ -2,10 +2,7 @@ pub mod Target
 pub mod Url
 pub mod Request
 pub mod SnapshotError
-pub mod Grouped
+pub mod Values
 pub mod Query
 pub mod HeaderFields
 pub mod Cookies
-pub mod Authority
-pub mod RequestTree
-pub mod Inner

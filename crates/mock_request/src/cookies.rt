@@ -1,33 +1,16 @@
 // The cookies of a request.
 ghost use Rattle.std.specs.Prelude.{◌≡◌, ◌++◌, option_map, IfOk, OnOk};
-ghost use Rattle.data_tree.specs.Tree.{view};
 ghost use Rattle.mock_request.specs.Cookies.{without_spaces_around, cookie_in, cookies_in, cookie_pairs};
-ghost use Rattle.mock_request.specs.Grouped.{grouped};
-ghost use Rattle.mock_request.specs.Inner.Views.{pairs_of};
-ghost use Rattle.mock_request.specs.Request.{headers_of};
+ghost use Rattle.mock_request.specs.Values.{pairs_of};
 
-use crate::grouped::grouped;
-use data_tree::data::Data;
-use http_header::{HeaderName, HeaderValue};
+use crate::snapshot::Snapshot;
 use std::alloc::{AllocError, Global};
 
-/// The values of each cookie's name.
-pub(crate) fn cookie_fields(
-    alloc: Global,
-    headers: &[(HeaderName, HeaderValue)],
-) -> Result<Data, AllocError>
-    ensures { IfOk result (λ made. view made ≡ grouped (cookie_pairs (headers_of headers.now))) }
+/// The names and values of the cookies in all `cookie` headers, in their order.
+pub fn cookie_pairs(alloc: Global, snapshot: &Snapshot) -> Result<Vec<(String, String)>, AllocError>
+    ensures { IfOk result (λ pairs. pairs_of pairs.items ≡ cookie_pairs snapshot.now.headers) }
 {
-    grouped(alloc, cookie_pairs(alloc, headers)?)
-}
-
-// The cookies of all `cookie` headers, in order.
-fn cookie_pairs(
-    alloc: Global,
-    headers: &[(HeaderName, HeaderValue)],
-) -> Result<Vec<(String, String)>, AllocError>
-    ensures { IfOk result (λ pairs. pairs_of pairs.items ≡ cookie_pairs (headers_of headers.now)) }
-{
+    let headers = snapshot.headers();
     let mut pairs = Vec::new(alloc);
     for (name, value) in headers {
         if name.as_str() == "cookie" {

@@ -1,25 +1,14 @@
 // The names and values of a query.
 ghost use Rattle.std.specs.Prelude.{◌≡◌, map, IfOk};
-ghost use Rattle.data_tree.specs.Tree.{view};
 ghost use Rattle.form_urlencoded.specs.Form.{parse};
-ghost use Rattle.mock_request.specs.Grouped.{grouped};
-ghost use Rattle.mock_request.specs.Inner.Views.{pairs_of};
 ghost use Rattle.mock_request.specs.Query.{query_pairs, text_pair};
+ghost use Rattle.mock_request.specs.Values.{pairs_of};
 
-use crate::grouped::grouped;
 use crate::snapshot::Snapshot;
-use data_tree::data::Data;
 use std::alloc::{AllocError, Global};
 
-/// The values of each name in the query.
-pub(crate) fn query_fields(alloc: Global, snapshot: &Snapshot) -> Result<Data, AllocError>
-    ensures { IfOk result (λ made. view made ≡ grouped (query_pairs snapshot.now.url)) }
-{
-    grouped(alloc, query_pairs(alloc, snapshot)?)
-}
-
-// The decoded pairs of the query, none where the URL has no query.
-fn query_pairs(alloc: Global, snapshot: &Snapshot) -> Result<Vec<(String, String)>, AllocError>
+/// The decoded names and values of the query in their order, none where the URL has no query.
+pub fn query_pairs(alloc: Global, snapshot: &Snapshot) -> Result<Vec<(String, String)>, AllocError>
     ensures { IfOk result (λ pairs. pairs_of pairs.items ≡ query_pairs snapshot.now.url) }
 {
     match snapshot.query() {

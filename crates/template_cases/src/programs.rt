@@ -3,7 +3,7 @@
 use bytes::Bytes;
 use case_table::row::Row;
 use data_tree::request_data::RequestData;
-use mock_request::request_data::request_data;
+use request_data::tree::request_data;
 use mock_request::snapshot::Snapshot;
 use std::alloc::{AllocError, Global};
 use template_machine::program::{Program, render};

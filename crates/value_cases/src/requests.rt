@@ -7,7 +7,7 @@ use case_table::row::{Row, add_cell};
 use data_tree::request_data::RequestData;
 use http_header::{HeaderName, HeaderValue};
 use mock_request::error::SnapshotError;
-use mock_request::request_data::request_data;
+use request_data::tree::request_data;
 use mock_request::snapshot::Snapshot;
 use std::alloc::{AllocError, Global};
 

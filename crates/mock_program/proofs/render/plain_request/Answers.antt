@@ -1,6 +1,6 @@
 use Rattle.std.proofs.Common.{◌≡◌, [], Err, refl, ap, ◌∙◌, length, arith}
 use Rattle.std.proofs.lemmas.Result.{err_from_is_err_and}
-use Rattle.mock_request.specs.RequestTree.{request_tree}
+use Rattle.request_data.specs.RequestTree.{request_tree}
 use Rattle.mock_program.specs.Rendering.{IsDataOf}
 use Rattle.mock_program.proofs.RequestRefusals.{of_data, of_snapshot}
 use Rattle.mock_program.proofs.render.plain_request.Goals as goal

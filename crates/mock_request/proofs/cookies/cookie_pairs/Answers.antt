@@ -1,7 +1,7 @@
 use Rattle.std.proofs.Common.{◌≡◌, ◌+◌, ◌++◌, [], ◌∷◌, take, ap, sym, ◌∙◌, codes, arith}
 use Rattle.std.specs.Str.Lossy.{utf8_lossy}
 use Rattle.mock_request.specs.Cookies.{cookies_in, cookie_pairs}
-use Rattle.mock_request.specs.Inner.Views.{pairs_of}
+use Rattle.mock_request.specs.Values.{pairs_of}
 use Rattle.mock_request.specs.Request.{header_of, headers_of}
 use Rattle.mock_request.proofs.HeaderLemmas.{cookies_more, no_cookies_more, more_headers, other_way_round}
 use Rattle.mock_request.proofs.cookies.cookie_pairs.Goals as goal
@@ -9,7 +9,7 @@ use Rattle.mock_request.proofs.cookies.cookie_pairs.Goals.{then-eq+in_ok-text+in
 
 pub loop-name-preserved : goal.loop-name-preserved
 loop-name-preserved c =
-    let headers = c.args.headers.now in
+    let headers = c.headers-headers.result.now in
     let i = c.loop-name.name-index in
     let field = c.loop-name-item.result in
     let before = headers_of (take i headers) in

@@ -1,6 +1,6 @@
 use Rattle.std.proofs.Common.{◌≡◌, take}
 use Rattle.mock_request.specs.Cookies.{cookie_pairs}
-use Rattle.mock_request.specs.Inner.Views.{pairs_of}
+use Rattle.mock_request.specs.Values.{pairs_of}
 use Rattle.mock_request.specs.Request.{headers_of}
 use Rattle.mock_request.proofs.cookies.cookie_pairs.Given as goal
 

@@ -4,7 +4,7 @@ use Rattle.std.proofs.lemmas.Iterator.Splits.{YieldsList-from_str_split}
 use Rattle.std.specs.List.{filter_map}
 use Rattle.std.specs.Str.Iter.{split_text, split_has_more, split_pattern}
 use Rattle.mock_request.specs.Cookies.{semicolon, cookie_in, without_spaces_around}
-use Rattle.mock_request.specs.Inner.Views.{pairs_of}
+use Rattle.mock_request.specs.Values.{pairs_of}
 use Rattle.mock_request.proofs.CookieLemmas.{cookie_pushed, no_cookie_pushed}
 use Rattle.mock_request.proofs.cookies.push_cookies.Goals as goal
 

@@ -1,5 +1,5 @@
 use Rattle.std.proofs.Common.{◌≡◌, ◌++◌}
-use Rattle.mock_request.specs.Inner.Views.{pairs_of}
+use Rattle.mock_request.specs.Values.{pairs_of}
 use Rattle.mock_request.proofs.CookieLemmas.{cookies_of}
 use Rattle.mock_request.proofs.cookies.push_cookies.Given as goal
 

@@ -1,5 +1,5 @@
 use Rattle.std.proofs.Common.{◌≡◌, take}
-use Rattle.mock_request.specs.Inner.Views.{pairs_of}
+use Rattle.mock_request.specs.Values.{pairs_of}
 use Rattle.mock_request.specs.HeaderFields.{header_pairs}
 use Rattle.mock_request.specs.Request.{headers_of}
 use Rattle.mock_request.proofs.header_fields.header_pairs.Given as goal

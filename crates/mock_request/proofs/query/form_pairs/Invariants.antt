@@ -1,7 +1,7 @@
 use Rattle.std.proofs.Common.{◌≡◌, ◌++◌}
 use Rattle.form_urlencoded.specs.Form.{raw_pairs}
 use Rattle.form_urlencoded.specs.Parse.{owned_pairs_left}
-use Rattle.mock_request.specs.Inner.Views.{pairs_of}
+use Rattle.mock_request.specs.Values.{pairs_of}
 use Rattle.mock_request.proofs.QueryLemmas.{texts_left}
 use Rattle.mock_request.proofs.query.form_pairs.Given as goal
 

@@ -1,9 +1,0 @@
-use Rattle.std.proofs.Common.{◌≡◌, map, string_bytes}
-use Rattle.data_tree.specs.Tree.{view}
-use Rattle.mock_request.proofs.GroupLemmas.{entry_tree}
-use Rattle.mock_request.proofs.grouped.grouped.Given as goal
-
-abbrev pub invariant-loop-name : goal.invariant-loop-name
-invariant-loop-name l =
-    map (λ field. (field.0, view field.1)) l.fields.items ≡ map
-    (entry_tree (λ values. map string_bytes values.items)) l.yielded

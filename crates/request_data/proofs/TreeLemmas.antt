@@ -1,0 +1,59 @@
+-- What a request's tree keeps.
+use Rattle.std.proofs.Common.{◌≡◌, ℕ, List, [], ◌∷◌, ◌++◌, String, string_bytes, refl, ap, ◌∙◌, rules}
+use Rattle.std.specs.declared.alloc.Global.{Global}
+use Rattle.data_tree.specs.declared.data.Data.{Data, Nothing, Text, the_lemmas}
+use Rattle.mock_request.specs.Request.{Request}
+use Rattle.request_data.specs.RequestTree.{path_tree, request_tree}
+use Rattle.data_tree.specs.Tree.{Tree, nothing, text, Members, no_members, member, view, members_view}
+use Rattle.mock_request.specs.Url.{path_of, segments_of}
+use Rattle.mock_request.specs.Query.{query_pairs}
+use Rattle.mock_request.specs.HeaderFields.{header_pairs}
+use Rattle.mock_request.specs.Cookies.{cookie_pairs}
+use Rattle.request_data.specs.Authority.{authority_of}
+use Rattle.request_data.specs.Inner.Views.{entries_of}
+use Rattle.data_tree.specs.WellFormed.{IsWellFormed}
+use Rattle.request_data.proofs.AuthorityLemmas.{port_well_formed}
+use Rattle.request_data.proofs.GroupLemmas.{texts_well_formed, grouped_well_formed}
+
+pub request_tree_well_formed : (request : Request) → IsWellFormed (request_tree request)
+request_tree_well_formed request =
+    let path : IsWellFormed (path_tree (path_of request.url) no_members) =
+    (texts_well_formed (segments_of (path_of request.url)), tt, tt) in
+    let port = port_well_formed (authority_of request.headers) in
+    let cookies = grouped_well_formed (cookie_pairs request.headers) in
+    let headers = grouped_well_formed (header_pairs request.headers) in
+    let query = grouped_well_formed (query_pairs request.url) in (
+      (refl, tt),
+      (
+        tt,
+        (
+          (
+            (refl, (refl, (refl, (refl, (refl, (refl, (refl, (refl, (refl, (refl, (refl, tt))))))))))),
+            (tt, (tt, (cookies, (headers, (tt, (tt, (path, (path, (port, (query, (tt, (tt, tt)))))))))))),
+          ),
+          tt,
+        ),
+      ),
+    )
+
+pub view-Nothing : view Nothing ≡ nothing
+view-Nothing = search (rules, the_lemmas)
+
+pub view-Text : (t : String Global) → view (Text t) ≡ text (string_bytes t)
+view-Text t = search (rules, the_lemmas)
+
+-- the members that entries make
+abbrev pub members_from : List (List ℕ × Tree) → Members
+members_from [] = no_members
+members_from (entry ∷ entries) = member entry.0 entry.1 (members_from entries)
+
+pub members_of_entries : (made : List (String Global × Data)) → members_view made ≡ members_from (entries_of made)
+members_of_entries [] = refl
+members_of_entries (field ∷ others) = ap (member (string_bytes field.0) (view field.1)) (members_of_entries others)
+
+-- one more field, whose value has that tree
+pub entry_more
+    : (name : List ℕ) {value tree : Tree} {old new before : List (List ℕ × Tree)}
+    → new ≡ old ++ (name, value) ∷ [] → old ≡ before → value ≡ tree → new ≡ before ++ (name, tree) ∷ []
+entry_more name {value} {tree} {old} {new} {before} pushed so_far same =
+    pushed ∙ ap (λ es. es ++ (name, value) ∷ []) so_far ∙ ap (λ t. before ++ (name, t) ∷ []) same

@@ -1,0 +1,4 @@
+pub mod Grouped
+pub mod Authority
+pub mod RequestTree
+pub mod Inner

@@ -1,0 +1,46 @@
+-- The data that a template sees of a request, and why there is none.
+use Rattle.std.specs.Prelude.{◌≡◌, ℕ, ◌<◌, List, ◌++◌, pos, codes}
+use Rattle.std.specs.Str.Lossy.{utf8_lossy}
+use Rattle.data_tree.specs.Tree.{Tree, nothing, number, text, fields, named, Members, no_members, member, view}
+use Rattle.data_tree.specs.Json.{size}
+use Rattle.data_tree.specs.declared.request_data.TheConstants.{SIZE_LIMIT}
+use Rattle.data_tree.specs.declared.request_data.DataError.{DataError}
+use Rattle.data_tree.specs.declared.request_data.DataError.TheVariants.{TooLarge, OutOfMemory}
+use Rattle.mock_request.specs.Request.{Request}
+use Rattle.mock_request.specs.Url.{path_of, segments_of}
+use Rattle.request_data.specs.Grouped.{texts, grouped}
+use Rattle.mock_request.specs.Query.{query_pairs}
+use Rattle.mock_request.specs.HeaderFields.{header_pairs}
+use Rattle.mock_request.specs.Cookies.{cookie_pairs}
+use Rattle.request_data.specs.Authority.{authority_of, host_of, port_of}
+
+-- a path, its segments, and what a path template binds in it
+abbrev pub path_tree : List ℕ → Members → Tree
+path_tree path bindings = named path (texts (segments_of path)) bindings
+
+abbrev pub request_fields : Request → Members
+request_fields request =
+    member (codes "baseUrl") (text (codes "http://" ++ authority_of request.headers))
+    (member (codes "body") (text (utf8_lossy request.body))
+    (member (codes "cookies") (grouped (cookie_pairs request.headers))
+    (member (codes "headers") (grouped (header_pairs request.headers))
+    (member (codes "host") (text (host_of (authority_of request.headers)))
+    (member (codes "method") (text request.method)
+    (member (codes "path") (path_tree (path_of request.url) no_members)
+    (member (codes "pathSegments") (path_tree (path_of request.url) no_members)
+    (member (codes "port") (number (pos (port_of (authority_of request.headers))))
+    (member (codes "query") (grouped (query_pairs request.url))
+    (member (codes "scheme") (text (codes "http"))
+    (member (codes "url") (text request.url)
+    no_members)))))))))))
+
+abbrev pub request_tree : Request → Tree
+request_tree request =
+    fields (member (codes "json") nothing
+    (member (codes "request") (fields (request_fields request))
+    no_members))
+
+-- the tree is over the limit, and is given back; or memory ran out
+abbrev pub IsRefusal : Tree → DataError → Type 0
+IsRefusal tree (TooLarge root) = (view root ≡ tree) × (SIZE_LIMIT < size tree)
+IsRefusal tree OutOfMemory = Unit {0}

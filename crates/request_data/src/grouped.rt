@@ -1,0 +1,68 @@
+// Names and values, grouped by name.
+ghost use Rattle.std.specs.Prelude.{◌≡◌, ℕ, List, [], map, is_some, IfOk, string_bytes};
+ghost use Rattle.std.specs.BTreeMap.{get_by_text};
+ghost use Rattle.std.specs.List.{list_any};
+ghost use Rattle.std.specs.Option.{option_map_or};
+ghost use Rattle.std.specs.Str.{bytes_eq};
+ghost use Rattle.data_tree.specs.Tree.{view};
+ghost use Rattle.mock_request.specs.Values.{first_of, pairs_of, values_of};
+ghost use Rattle.request_data.specs.Grouped.{grouped, values_tree};
+
+use data_tree::data::Data;
+use std::alloc::{AllocError, Global};
+use std::collections::BTreeMap;
+
+/// The names in byte order, each with its first value and all its values.
+pub(crate) fn grouped(alloc: Global, pairs: Vec<(String, String)>) -> Result<Data, AllocError>
+    ensures { IfOk result (λ made. view made ≡ grouped (pairs_of pairs.items)) }
+{
+    let mut fields = Vec::new(alloc);
+    for (name, values) in by_name(alloc, pairs)? {
+        fields.push((name, values_data(alloc, values)?))?;
+    }
+    Ok(Data::Fields(fields))
+}
+
+// All values of each name.
+fn by_name(
+    alloc: Global,
+    pairs: Vec<(String, String)>,
+) -> Result<BTreeMap<String, Vec<String>>, AllocError>
+    ensures values { IfOk result (λ groups. (name : List ℕ) →
+        option_map_or (λ values. map string_bytes values.items) (get_by_text groups name) []
+        ≡ values_of name (pairs_of pairs.items)) }
+    ensures names { IfOk result (λ groups. (name : List ℕ) →
+        is_some (get_by_text groups name)
+        ≡ list_any (λ pair. bytes_eq name pair.0) (pairs_of pairs.items)) }
+{
+    let mut groups: BTreeMap<String, Vec<String>> = BTreeMap::new(alloc);
+    for (name, value) in pairs {
+        groups.entry(name)?.or_default().push(value)?;
+    }
+    Ok(groups)
+}
+
+// The first value and all values.
+fn values_data(alloc: Global, values: Vec<String>) -> Result<Data, AllocError>
+    ensures { IfOk result (λ made. view made ≡ values_tree (map string_bytes values.items)) }
+{
+    let text = first(alloc, &values)?;
+    let mut items = Vec::new(alloc);
+    for value in values {
+        items.push(Data::Text(value))?;
+    }
+    Ok(Data::Named {
+        text,
+        items,
+        fields: Vec::new(alloc),
+    })
+}
+
+fn first(alloc: Global, values: &[String]) -> Result<String, AllocError>
+    ensures { IfOk result (λ made. string_bytes made ≡ first_of (map string_bytes values.now)) }
+{
+    match values.first() {
+        Some(first) => first.clone(),
+        None => Ok(String::new(alloc)),
+    }
+}

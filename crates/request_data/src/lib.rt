@@ -1,0 +1,12 @@
+//! The data that templates see of a request (`request_data`), a tree of `data_tree` made of a `Snapshot` of
+//! `mock_request`. Contracts cite `specs/RequestTree.antt` (the data, field by field), with `Grouped` (names with their
+//! values) and `Authority` (host and port) as its parts.
+#![tactic(auto)]
+
+pub mod path_template;
+pub mod tree;
+
+// The parts of the data.
+mod authority;
+mod grouped;
+mod object;

@@ -1,0 +1,48 @@
+// An object of the data, made field by field.
+ghost use Rattle.std.specs.Prelude.{◌≡◌, [], ◌∷◌, ◌++◌, OnOk};
+ghost use Rattle.data_tree.specs.Tree.{fields, text, view, members_view};
+ghost use Rattle.request_data.specs.Inner.Views.{entries_of};
+
+use data_tree::data::Data;
+use std::alloc::{AllocError, Global};
+
+/// The fields so far, which have to be pushed in byte order of their names.
+#[derive(Drop)]
+pub(crate) struct Object {
+    alloc: Global,
+    fields: Vec<(String, Data)>,
+}
+
+impl Object {
+    pub(crate) fn new(alloc: Global) -> Object
+        ensures { entries_of result.fields.items ≡ [] }
+    {
+        Object {
+            alloc,
+            fields: Vec::new(alloc),
+        }
+    }
+
+    pub(crate) fn push(&mut self, name: &str, value: Data) -> Result<(), AllocError>
+        ensures { OnOk result (entries_of self.new.fields.items
+            ≡ entries_of self.old.fields.items ++ (name.now, view value) ∷ []) }
+    {
+        self.fields
+            .push((String::from_str(self.alloc, name)?, value))?;
+        Ok(())
+    }
+
+    pub(crate) fn push_text(&mut self, name: &str, content: &str) -> Result<(), AllocError>
+        ensures { OnOk result (entries_of self.new.fields.items
+            ≡ entries_of self.old.fields.items ++ (name.now, text content.now) ∷ []) }
+    {
+        let value = Data::Text(String::from_str(self.alloc, content)?);
+        self.push(name, value)
+    }
+
+    pub(crate) fn into_data(self) -> Data
+        ensures { view result ≡ fields (members_view self.fields.items) }
+    {
+        Data::Fields(self.fields)
+    }
+}

@@ -1,0 +1,171 @@
+// The data that a template sees of a request.
+ghost use Rattle.std.specs.Prelude.{◌≡◌, ◌≤◌, ◌∷◌, ◌++◌, IfOk, OnOk, IfErr, pos, codes};
+ghost use Rattle.std.specs.List.{slice_split};
+ghost use Rattle.data_tree.specs.Tree.{number, text, no_members, fields, view, items_view, members_view};
+ghost use Rattle.data_tree.specs.Json.{size};
+ghost use Rattle.data_tree.specs.RequestData.{root_of};
+ghost use Rattle.data_tree.specs.WellFormed.{IsWellFormed};
+ghost use Rattle.mock_request.specs.Target.{slash, IsRooted};
+ghost use Rattle.mock_request.specs.Url.{segments_of, is_slash};
+ghost use Rattle.request_data.specs.Grouped.{texts};
+ghost use Rattle.mock_request.specs.HeaderFields.{header_pairs};
+ghost use Rattle.mock_request.specs.Values.{pairs_of};
+ghost use Rattle.request_data.specs.Inner.Views.{entries_of, entries_to_headers};
+ghost use Rattle.request_data.specs.RequestTree.{path_tree, request_fields, request_tree, IsRefusal};
+
+use crate::authority::{authority, host_and_port};
+use crate::grouped::grouped;
+use crate::object::Object;
+use crate::path_template::PathTemplate;
+use data_tree::data::Data;
+use data_tree::request_data::{DataError, RequestData, SIZE_LIMIT};
+use mock_request::body::body_text;
+use mock_request::cookies::cookie_pairs;
+use mock_request::header_fields::header_pairs;
+use mock_request::query::query_pairs;
+use mock_request::snapshot::Snapshot;
+use std::alloc::{AllocError, Global};
+
+/// The data of a request, where it is within `RequestData`'s limit. A path template names segments of the path
+/// (there is no such template yet).
+pub fn request_data(
+    alloc: Global,
+    snapshot: &Snapshot,
+    template: Option<&PathTemplate>,
+) -> Result<RequestData, DataError>
+    ensures tree { IfOk result (λ made. root_of made ≡ request_tree snapshot.now) }
+    ensures within { OnOk result (size (request_tree snapshot.now) ≤ SIZE_LIMIT) }
+    ensures well_formed { IfOk result (λ made. IsWellFormed (root_of made)) }
+    ensures refusal { IfErr result (IsRefusal (request_tree snapshot.now)) }
+{
+    let Ok(root) = root(alloc, snapshot, template) else {
+        return Err(DataError::OutOfMemory);
+    };
+    RequestData::new(root)
+}
+
+fn root(
+    alloc: Global,
+    snapshot: &Snapshot,
+    template: Option<&PathTemplate>,
+) -> Result<Data, AllocError>
+    ensures { IfOk result (λ root. view root ≡ request_tree snapshot.now) }
+{
+    let mut root = Object::new(alloc);
+    root.push("json", Data::Nothing)?;
+    root.push("request", request(alloc, snapshot, template)?)?;
+    Ok(root.into_data())
+}
+
+fn request(
+    alloc: Global,
+    snapshot: &Snapshot,
+    template: Option<&PathTemplate>,
+) -> Result<Data, AllocError>
+    ensures { IfOk result (λ made. view made ≡ fields (request_fields snapshot.now)) }
+{
+    let headers = header_pairs(alloc, snapshot)?;
+    let authority = String::from_str(alloc, authority(&headers))?;
+    let (host, port) = host_and_port(authority.as_str());
+    let path = snapshot.path();
+    let mut made = fields_to_headers(alloc, snapshot, authority.as_str(), headers)?;
+    made.push_text("host", host)?;
+    made.push_text("method", snapshot.method())?;
+    made.push("path", path_data(alloc, path, bindings(alloc, template))?)?;
+    made.push("pathSegments", path_data(alloc, path, Vec::new(alloc))?)?;
+    made.push("port", number(port))?;
+    made.push("query", grouped(alloc, query_pairs(alloc, snapshot)?)?)?;
+    made.push_text("scheme", "http")?;
+    made.push_text("url", snapshot.url())?;
+    Ok(made.into_data())
+}
+
+// The fields from `baseUrl` to `headers`. (Twelve fields in one function take long to prove.)
+fn fields_to_headers(
+    alloc: Global,
+    snapshot: &Snapshot,
+    authority: &str,
+    headers: Vec<(String, String)>,
+) -> Result<Object, AllocError>
+    requires { pairs_of headers.items ≡ header_pairs snapshot.now.headers }
+    ensures { IfOk result (λ made.
+        entries_of made.fields.items ≡ entries_to_headers snapshot.now authority.now) }
+{
+    let mut made = Object::new(alloc);
+    made.push("baseUrl", base_url(alloc, authority)?)?;
+    made.push("body", Data::Text(body_text(alloc, snapshot)?))?;
+    made.push("cookies", grouped(alloc, cookie_pairs(alloc, snapshot)?)?)?;
+    made.push("headers", grouped(alloc, headers)?)?;
+    Ok(made)
+}
+
+fn base_url(alloc: Global, authority: &str) -> Result<Data, AllocError>
+    ensures { IfOk result (λ made. view made ≡ text (codes "http://" ++ authority.now)) }
+{
+    let mut url = String::from_str(alloc, "http://")?;
+    url.push_str(authority)?;
+    Ok(Data::Text(url))
+}
+
+fn number(port: u16) -> Data
+    ensures { view result ≡ number (pos port) }
+{
+    Data::Number(i128::from(port))
+}
+
+fn text(alloc: Global, content: &str) -> Result<Data, AllocError>
+    ensures { IfOk result (λ made. view made ≡ text content.now) }
+{
+    Ok(Data::Text(String::from_str(alloc, content)?))
+}
+
+// What the template names in the path.
+fn bindings(alloc: Global, template: Option<&PathTemplate>) -> Vec<(String, Data)>
+    ensures { members_view result.items ≡ no_members }
+{
+    match template {
+        None => Vec::new(alloc),
+        Some(template) => match *template {},
+    }
+}
+
+// A path with its segments and what a template names in it.
+fn path_data(alloc: Global, path: &str, bindings: Vec<(String, Data)>) -> Result<Data, AllocError>
+    requires { IsRooted path.now }
+    ensures { IfOk result (λ made. view made ≡ path_tree path.now (members_view bindings.items)) }
+{
+    Ok(Data::Named {
+        text: String::from_str(alloc, path)?,
+        items: segments(alloc, path)?,
+        fields: bindings,
+    })
+}
+
+fn segments(alloc: Global, path: &str) -> Result<Vec<Data>, AllocError>
+    requires { IsRooted path.now }
+    ensures { IfOk result (λ made. items_view made.items ≡ texts (segments_of path.now)) }
+{
+    let rest = after_slash(path);
+    if rest.is_empty() {
+        return Ok(Vec::new(alloc));
+    }
+    pieces(alloc, rest)
+}
+
+fn after_slash(path: &str) -> &str
+    requires { IsRooted path.now }
+    ensures { path.now ≡ slash ∷ result.now }
+{
+    path.strip_prefix('/').unwrap_or("")
+}
+
+// The pieces between slashes.
+fn pieces(alloc: Global, rest: &str) -> Result<Vec<Data>, AllocError>
+    ensures { IfOk result (λ made. items_view made.items ≡ texts (slice_split is_slash rest.now)) }
+{
+    let mut pieces = Vec::new(alloc);
+    for piece in rest.split('/') {
+        pieces.push(text(alloc, piece)?)?;
+    }
+    Ok(pieces)
+}
