@@ -1,4 +1,4 @@
-// A text of a matcher.
+// A text that contracts see as its bytes.
 ghost use Rattle.std.specs.Prelude.{◌≡◌, ◌↔◌, IfOk, IsTrue, string_bytes};
 
 use std::alloc::AllocError;
@@ -23,6 +23,14 @@ impl Text {
         ensures { result.now ≡ self.now }
     {
         self.text.as_str()
+    }
+
+    /// Gives the text back without copying it.
+    pub fn into_string(self) -> String
+        ensures { string_bytes result ≡ self }
+    {
+        let Text { text } = self;
+        text
     }
 
     pub fn try_clone(&self) -> Result<Text, AllocError>
