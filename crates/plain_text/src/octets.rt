@@ -1,6 +1,7 @@
 // A run of bytes that contracts see as a list.
 ghost use Rattle.std.specs.Prelude.{◌≡◌, ◌↔◌, IfOk, IsTrue};
 
+use crate::plain::{Same, TryClone};
 use std::alloc::AllocError;
 use std::marker::Model;
 
@@ -45,6 +46,18 @@ impl Octets {
         ensures { IsTrue result ↔ (self.now ≡ other.now) }
     {
         self.as_slice() == other.as_slice()
+    }
+}
+
+impl TryClone for Octets {
+    fn try_clone(&self) -> Result<Octets, AllocError> {
+        Octets::try_clone(self)
+    }
+}
+
+impl Same for Octets {
+    fn same(&self, other: &Octets) -> bool {
+        Octets::same(self, other)
     }
 }
 
