@@ -5,6 +5,8 @@ pub mod Printed
 pub mod Numerals
 pub mod Sizes
 pub mod Lookups
+pub mod Formed
+pub mod Names
 pub mod LastText
 pub mod Alike
 pub mod Examples
