@@ -1,13 +1,12 @@
 // What a value prints as: a text as it is, a list or an object as its compact JSON text.
-ghost use Rattle.std.specs.Prelude.{◌≡◌, ◌++◌, OnOk, OnErr, IfOk, string_bytes};
+ghost use Rattle.std.specs.Prelude.{◌≡◌, ◌==◌, ◌++◌, length, OnOk, OnErr, IfOk, string_bytes};
 ghost use Rattle.std.specs.Bool.{OnTrue};
-ghost use Rattle.json.specs.Print.{quoted, escape};
+ghost use Rattle.json.specs.Print.{quoted, escape, escape_byte};
 ghost use Rattle.data_tree.specs.Json.{json, comma_if};
 ghost use Rattle.data_tree.specs.Tree.{view, list, fields, items_view, members_view};
 
 use crate::data::Data;
 use crate::draft::Draft;
-use crate::size::escaped_len;
 use json::Writer;
 use std::alloc::{AllocError, Global};
 use std::mem;
@@ -144,7 +143,14 @@ fn write_text(text: &str, alloc: Global, out: &mut Draft) -> Result<(), AllocErr
 fn is_plain(text: &str) -> bool
     ensures { OnTrue result (escape text.now ≡ text.now) }
 {
-    text.as_bytes().iter().all(|byte| escaped_len(*byte) == 1)
+    text.as_bytes().iter().all(|byte| is_plain_byte(*byte))
+}
+
+#[tactic(auto, unfolding(json::specs::Print::escape_byte))]
+fn is_plain_byte(byte: u8) -> bool
+    ensures { result ≡ (length (escape_byte byte) == 1) }
+{
+    b' ' <= byte && byte != b'"' && byte != b'\\'
 }
 
 // The text between quotes, by the writer of `json`.

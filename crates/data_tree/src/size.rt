@@ -89,7 +89,7 @@ fn quoted_len(text: &str) -> u64
 
 // The bytes that a byte is escaped as.
 #[tactic(auto, unfolding(json::specs::Print::escape_byte))]
-pub(crate) fn escaped_len(byte: u8) -> u64
+fn escaped_len(byte: u8) -> u64
     ensures { result ≡ length (escape_byte byte) }
 {
     match byte {

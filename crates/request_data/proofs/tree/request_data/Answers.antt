@@ -9,3 +9,7 @@ returns-clause-well_formed c =
     MatchResult-weaker c.new.result c.new.ensures
     (λ made h. subst IsWellFormed (sym (h.0 ∙ c.in-Ok.ensures)) (request_tree_well_formed c.args.snapshot.now))
     (λ _ _. tt)
+
+pub new-requires-clause-well_formed : goal.new-requires-clause-well_formed
+new-requires-clause-well_formed c =
+    subst IsWellFormed (sym c.in-Ok.ensures) (request_tree_well_formed c.args.snapshot.now)
