@@ -1,9 +1,10 @@
 -- What a request's tree keeps.
 use Rattle.std.proofs.Common.{◌≡◌, ℕ, List, [], ◌∷◌, ◌++◌, String, string_bytes, refl, ap, ◌∙◌, rules}
+use Rattle.std.specs.Str.Lossy.{utf8_lossy}
 use Rattle.std.specs.declared.alloc.Global.{Global}
 use Rattle.data_tree.specs.declared.data.Data.{Data, Nothing, Text, the_lemmas}
 use Rattle.mock_request.specs.Request.{Request}
-use Rattle.request_data.specs.RequestTree.{path_tree, request_tree}
+use Rattle.request_data.specs.RequestTree.{json_tree, path_tree, request_tree}
 use Rattle.data_tree.specs.Tree.{Tree, nothing, text, Members, no_members, member, view, members_view}
 use Rattle.mock_request.specs.Url.{path_of, segments_of}
 use Rattle.mock_request.specs.Query.{query_pairs}
@@ -15,8 +16,9 @@ use Rattle.data_tree.specs.WellFormed.{IsWellFormed}
 use Rattle.request_data.proofs.AuthorityLemmas.{port_well_formed}
 use Rattle.request_data.proofs.GroupLemmas.{texts_well_formed, grouped_well_formed}
 
-pub request_tree_well_formed : (request : Request) → IsWellFormed (request_tree request)
-request_tree_well_formed request =
+pub request_tree_well_formed
+    : (request : Request) → IsWellFormed (json_tree (utf8_lossy request.body)) → IsWellFormed (request_tree request)
+request_tree_well_formed request json =
     let path : IsWellFormed (path_tree (path_of request.url) no_members) =
     (texts_well_formed (segments_of (path_of request.url)), tt, tt) in
     let port = port_well_formed (authority_of request.headers) in
@@ -25,7 +27,7 @@ request_tree_well_formed request =
     let query = grouped_well_formed (query_pairs request.url) in (
       (refl, tt),
       (
-        tt,
+        json,
         (
           (
             (refl, (refl, (refl, (refl, (refl, (refl, (refl, (refl, (refl, (refl, (refl, tt))))))))))),

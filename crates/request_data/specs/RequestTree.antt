@@ -1,11 +1,12 @@
 -- The data that a template sees of a request, and why there is none.
-use Rattle.std.specs.Prelude.{◌≡◌, ℕ, ◌<◌, List, ◌++◌, pos, codes}
+use Rattle.std.specs.Prelude.{◌≡◌, ℕ, ◌<◌, List, ◌++◌, unwrap_or, pos, codes}
 use Rattle.std.specs.Str.Lossy.{utf8_lossy}
 use Rattle.data_tree.specs.Tree.{Tree, nothing, number, text, fields, named, Members, no_members, member, view}
 use Rattle.data_tree.specs.Json.{size}
 use Rattle.data_tree.specs.declared.request_data.TheConstants.{SIZE_LIMIT}
 use Rattle.data_tree.specs.declared.request_data.DataError.{DataError}
 use Rattle.data_tree.specs.declared.request_data.DataError.TheVariants.{TooLarge, OutOfMemory}
+use Rattle.json_bridge.specs.Reading.{tree_of_text}
 use Rattle.mock_request.specs.Request.{Request}
 use Rattle.mock_request.specs.Url.{path_of, segments_of}
 use Rattle.request_data.specs.Grouped.{texts, grouped}
@@ -13,6 +14,10 @@ use Rattle.mock_request.specs.Query.{query_pairs}
 use Rattle.mock_request.specs.HeaderFields.{header_pairs}
 use Rattle.mock_request.specs.Cookies.{cookie_pairs}
 use Rattle.request_data.specs.Authority.{authority_of, host_of, port_of}
+
+-- the tree of the body's text where that is JSON and each of its numbers is taken, else nothing
+abbrev pub json_tree : List ℕ → Tree
+json_tree bytes = unwrap_or (tree_of_text bytes) nothing
 
 -- a path, its segments, and what a path template binds in it
 abbrev pub path_tree : List ℕ → Members → Tree
@@ -36,7 +41,7 @@ request_fields request =
 
 abbrev pub request_tree : Request → Tree
 request_tree request =
-    fields (member (codes "json") nothing
+    fields (member (codes "json") (json_tree (utf8_lossy request.body))
     (member (codes "request") (fields (request_fields request))
     no_members))
 

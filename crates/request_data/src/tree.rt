@@ -1,5 +1,6 @@
 // The data that a template sees of a request.
-ghost use Rattle.std.specs.Prelude.{◌≡◌, ◌≤◌, ◌∷◌, ◌++◌, IfOk, OnOk, IfErr, pos, codes};
+ghost use Rattle.std.specs.Prelude.{◌≡◌, ◌≤◌, ◌∷◌, ◌++◌, IfOk, OnOk, IfErr, pos, codes, string_bytes};
+ghost use Rattle.std.specs.Str.Lossy.{utf8_lossy};
 ghost use Rattle.std.specs.List.{slice_split};
 ghost use Rattle.data_tree.specs.Tree.{number, text, no_members, fields, view, items_view, members_view};
 ghost use Rattle.data_tree.specs.Json.{size};
@@ -11,7 +12,7 @@ ghost use Rattle.request_data.specs.Grouped.{texts};
 ghost use Rattle.mock_request.specs.HeaderFields.{header_pairs};
 ghost use Rattle.mock_request.specs.Values.{pairs_of};
 ghost use Rattle.request_data.specs.Inner.Views.{entries_of, entries_to_headers};
-ghost use Rattle.request_data.specs.RequestTree.{path_tree, request_fields, request_tree, IsRefusal};
+ghost use Rattle.request_data.specs.RequestTree.{json_tree, path_tree, request_fields, request_tree, IsRefusal};
 
 use crate::authority::{authority, host_and_port};
 use crate::grouped::grouped;
@@ -19,6 +20,7 @@ use crate::object::Object;
 use crate::path_template::PathTemplate;
 use data_tree::data::Data;
 use data_tree::request_data::{DataError, RequestData, SIZE_LIMIT};
+use json_bridge::read::data_of_json;
 use mock_request::body::body_text;
 use mock_request::cookies::cookie_pairs;
 use mock_request::header_fields::header_pairs;
@@ -49,26 +51,38 @@ fn root(
     snapshot: &Snapshot,
     template: Option<&PathTemplate>,
 ) -> Result<Data, AllocError>
-    ensures { IfOk result (λ root. view root ≡ request_tree snapshot.now) }
+    ensures tree { IfOk result (λ root. view root ≡ request_tree snapshot.now) }
+    ensures well_formed { IfOk result (λ root. IsWellFormed (view root)) }
 {
+    let body = body_text(alloc, snapshot)?;
     let mut root = Object::new(alloc);
-    root.push("json", Data::Nothing)?;
-    root.push("request", request(alloc, snapshot, template)?)?;
+    root.push("json", json(alloc, body.as_str())?)?;
+    root.push("request", request(alloc, snapshot, template, body)?)?;
     Ok(root.into_data())
+}
+
+// The data of a JSON text, and `Nothing` of another.
+fn json(alloc: Global, text: &str) -> Result<Data, AllocError>
+    ensures tree { IfOk result (λ made. view made ≡ json_tree text.now) }
+    ensures well_formed { IfOk result (λ made. IsWellFormed (view made)) }
+{
+    Ok(data_of_json(alloc, text)?.unwrap_or(Data::Nothing))
 }
 
 fn request(
     alloc: Global,
     snapshot: &Snapshot,
     template: Option<&PathTemplate>,
+    body: String,
 ) -> Result<Data, AllocError>
+    requires { string_bytes body ≡ utf8_lossy snapshot.now.body }
     ensures { IfOk result (λ made. view made ≡ fields (request_fields snapshot.now)) }
 {
     let headers = header_pairs(alloc, snapshot)?;
     let authority = String::from_str(alloc, authority(&headers))?;
     let (host, port) = host_and_port(authority.as_str());
     let path = snapshot.path();
-    let mut made = fields_to_headers(alloc, snapshot, authority.as_str(), headers)?;
+    let mut made = fields_to_headers(alloc, snapshot, authority.as_str(), body, headers)?;
     made.push_text("host", host)?;
     made.push_text("method", snapshot.method())?;
     made.push("path", path_data(alloc, path, bindings(alloc, template))?)?;
@@ -85,15 +99,17 @@ fn fields_to_headers(
     alloc: Global,
     snapshot: &Snapshot,
     authority: &str,
+    body: String,
     headers: Vec<(String, String)>,
 ) -> Result<Object, AllocError>
-    requires { pairs_of headers.items ≡ header_pairs snapshot.now.headers }
+    requires body { string_bytes body ≡ utf8_lossy snapshot.now.body }
+    requires headers { pairs_of headers.items ≡ header_pairs snapshot.now.headers }
     ensures { IfOk result (λ made.
         entries_of made.fields.items ≡ entries_to_headers snapshot.now authority.now) }
 {
     let mut made = Object::new(alloc);
     made.push("baseUrl", base_url(alloc, authority)?)?;
-    made.push("body", Data::Text(body_text(alloc, snapshot)?))?;
+    made.push("body", Data::Text(body))?;
     made.push("cookies", grouped(alloc, cookie_pairs(alloc, snapshot)?)?)?;
     made.push("headers", grouped(alloc, headers)?)?;
     Ok(made)
