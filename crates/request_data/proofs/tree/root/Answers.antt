@@ -1,4 +1,4 @@
-use Rattle.std.proofs.Common.{◌≡◌, ap, subst, sym, ◌∙◌, codes}
+use Rattle.std.proofs.Common.{◌≡◌, option_copied, ap, subst, sym, ◌∙◌, codes}
 use Rattle.std.specs.Str.Lossy.{utf8_lossy}
 use Rattle.data_tree.specs.Tree.{Tree, fields, view}
 use Rattle.data_tree.specs.WellFormed.{IsWellFormed}
@@ -20,4 +20,4 @@ returns-clause-well_formed c =
     let json : view c.in_ok-json.field-0 ≡ json_tree (utf8_lossy c.args.snapshot.now.body) =
     c.in_ok-json.ensures.tree ∙ ap json_tree (c.as_str.ensures.value ∙ c.in_ok-body.ensures) in
     subst IsWellFormed (sym (returns-clause-tree c))
-    (request_tree_well_formed c.args.snapshot.now (subst IsWellFormed json c.in_ok-json.ensures.well_formed))
+    (request_tree_well_formed c.args.snapshot.now (option_copied c.args.template) (subst IsWellFormed json c.in_ok-json.ensures.well_formed))
