@@ -1,0 +1,4 @@
+pub mod Template
+pub mod Matching
+pub mod Errors
+pub mod Inner
