@@ -32,9 +32,9 @@ report_text r =
     ++ (measure_line (codes "bytes") (length r.text) r.byte_budget
     ++ (r.text ++ codes "\n"))
 
--- the data of a request without headers and body
+-- the data of a request without headers and body, and without a path template
 abbrev pub plain_data : List ℕ → List ℕ → Tree
-plain_data method url = request_tree (record { method = method; url = url; headers = []; body = [] })
+plain_data method url = request_tree (record { method = method; url = url; headers = []; body = [] }) None
 
 -- the data of a request for the URL that the target asks for
 abbrev pub IsDataOf : List ℕ → List ℕ → Tree → Type 0

@@ -16,11 +16,11 @@ use Rattle.std.proofs.lemmas.Bool.{false≢true}
 use Rattle.std.proofs.lemmas.Cmp.{nat_list_cmp_total}
 use Rattle.std.proofs.lemmas.Map.Text.{is_eq-slice_cmp}
 use Rattle.std.proofs.lemmas.Slice.Eq.{bytes_eq-Decides}
-use Rattle.data_tree.specs.Tree.{Tree, text, fields, item, items_of, members_of}
+use Rattle.data_tree.specs.Tree.{Tree, text, item, items_of, members_of}
 use Rattle.data_tree.specs.Parts.{names_of}
 use Rattle.data_tree.specs.WellFormed.{IsAscending, IsWellFormed, AreWellFormed, HaveWellFormedValues}
 use Rattle.mock_request.specs.Values.{values_of}
-use Rattle.request_data.specs.Grouped.{texts, with_name, names_in, values_tree, fields_under, grouped}
+use Rattle.request_data.specs.Grouped.{texts, with_name, names_in, members_under, values_tree, grouped, first_text, firsts}
 use Rattle.mock_request.specs.Values.{pairs_of}
 
 abbrev pub byte_order : List ℕ → List ℕ → Ordering
@@ -184,7 +184,7 @@ texts_from_values (value ∷ values) = ap (item (text (string_bytes value))) (te
 
 -- ---- a map's entries
 
-module _ {X : Type 0} (values : X → List (List ℕ)) where
+module _ {X : Type 0} (tree_of : List (List ℕ) → Tree) (values : X → List (List ℕ)) where
   abbrev pub name_of : String Global × X → List ℕ
   name_of entry = string_bytes entry.0
 
@@ -192,7 +192,7 @@ module _ {X : Type 0} (values : X → List (List ℕ)) where
   found name entries = lookup (is_at (λ k. slice_cmp nat_cmp name (string_bytes k))) entries
 
   abbrev pub entry_tree : String Global × X → String Global × Tree
-  entry_tree entry = (entry.0, values_tree (values entry.1))
+  entry_tree entry = (entry.0, tree_of (values entry.1))
 
   above_all
       : (key : String Global) (entries : List (String Global × X))
@@ -231,7 +231,7 @@ module _ {X : Type 0} (values : X → List (List ℕ)) where
   fields_of_entries
       : (pairs : List (List ℕ × List ℕ)) (entries : List (String Global × X))
       → IsStrictlySortedBy byte_order (map name_of entries) → HasValues pairs entries
-      → members_of (map entry_tree entries) ≡ fields_under (map name_of entries) pairs
+      → members_of (map entry_tree entries) ≡ members_under tree_of (map name_of entries) pairs
   unfolding IsStrictlySortedBy
   fields_of_entries pairs [] sorted each = refl
   fields_of_entries pairs (entry ∷ entries) sorted each =
@@ -259,13 +259,13 @@ module _ {X : Type 0} (values : X → List (List ℕ)) where
       → IsStrictlySortedBy string_cmp (keys_of entries)
       → ((name : List ℕ) → option_map_or values (found name entries) [] ≡ values_of name pairs)
       → ((name : List ℕ) → is_some (found name entries) ≡ list_any (λ pair. bytes_eq name pair.0) pairs)
-      → fields (members_of (map entry_tree entries)) ≡ grouped pairs
+      → members_of (map entry_tree entries) ≡ members_under tree_of (names_in pairs) pairs
   grouped_entries pairs entries sorted each among =
       let order = sorted_entries entries sorted in
       let names : map name_of entries ≡ names_in pairs =
       one_order (map name_of entries) (names_in pairs) order (sorted_names pairs)
       (λ name. sym (has_found name entries) ∙ among name ∙ sym (has_names name pairs)) in
-      ap fields (fields_of_entries pairs entries order (λ name _. each name) ∙ ap (λ ns. fields_under ns pairs) names)
+      fields_of_entries pairs entries order (λ name _. each name) ∙ ap (λ ns. members_under tree_of ns pairs) names
 
 -- ---- the trees are well formed
 
@@ -273,24 +273,37 @@ pub texts_well_formed : (ts : List (List ℕ)) → AreWellFormed (texts ts)
 texts_well_formed [] = tt
 texts_well_formed (t ∷ ts) = (tt, texts_well_formed ts)
 
-names_of_fields : (names : List (List ℕ)) (pairs : List (List ℕ × List ℕ)) → names_of (fields_under names pairs) ≡ names
-names_of_fields [] pairs = refl
-names_of_fields (name ∷ names) pairs = ap (λ ns. name ∷ ns) (names_of_fields names pairs)
-
 ascending : (names : List (List ℕ)) → IsStrictlySortedBy byte_order names → IsAscending names
 unfolding IsStrictlySortedBy
 ascending [] sorted = tt
 ascending (name ∷ []) sorted = tt
 ascending (name ∷ next ∷ names) sorted = (sorted.0.0, ascending (next ∷ names) sorted.1)
 
-fields_well_formed
-    : (names : List (List ℕ)) (pairs : List (List ℕ × List ℕ)) → HaveWellFormedValues (fields_under names pairs)
-fields_well_formed [] pairs = tt
-fields_well_formed (name ∷ names) pairs =
-    ((texts_well_formed (values_of name pairs), tt, tt), fields_well_formed names pairs)
+module _ (tree_of : List (List ℕ) → Tree) where
+  names_under
+      : (names : List (List ℕ)) (pairs : List (List ℕ × List ℕ)) → names_of (members_under tree_of names pairs) ≡ names
+  names_under [] pairs = refl
+  names_under (name ∷ names) pairs = ap (λ ns. name ∷ ns) (names_under names pairs)
+
+  values_well_formed
+      : ((values : List (List ℕ)) → IsWellFormed (tree_of values)) → (names : List (List ℕ))
+      → (pairs : List (List ℕ × List ℕ)) → HaveWellFormedValues (members_under tree_of names pairs)
+  values_well_formed each [] pairs = tt
+  values_well_formed each (name ∷ names) pairs = (each (values_of name pairs), values_well_formed each names pairs)
+
+  under_ascending
+      : (pairs : List (List ℕ × List ℕ)) → IsAscending (names_of (members_under tree_of (names_in pairs) pairs))
+  under_ascending pairs = rw (names_under (names_in pairs) pairs) (ascending (names_in pairs) (sorted_names pairs))
 
 pub grouped_well_formed : (pairs : List (List ℕ × List ℕ)) → IsWellFormed (grouped pairs)
 grouped_well_formed pairs = (
-  rw (names_of_fields (names_in pairs) pairs) (ascending (names_in pairs) (sorted_names pairs)),
-  fields_well_formed (names_in pairs) pairs,
+  under_ascending values_tree pairs,
+  values_well_formed values_tree (λ values. (texts_well_formed values, tt, tt)) (names_in pairs) pairs,
 )
+
+-- what a path template binds
+pub firsts_well_formed
+    : (pairs : List (List ℕ × List ℕ))
+    → IsAscending (names_of (firsts pairs)) × HaveWellFormedValues (firsts pairs)
+firsts_well_formed pairs =
+    (under_ascending first_text pairs, values_well_formed first_text (λ values. tt) (names_in pairs) pairs)

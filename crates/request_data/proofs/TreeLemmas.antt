@@ -1,9 +1,13 @@
 -- What a request's tree keeps.
-use Rattle.std.proofs.Common.{◌≡◌, ℕ, List, [], ◌∷◌, ◌++◌, String, string_bytes, refl, ap, ◌∙◌, rules}
+use Rattle.std.proofs.Common.{◌≡◌, ℕ, List, [], ◌∷◌, ◌++◌, String, string_bytes, Option, None, Some, refl, ap, ◌∙◌, rules}
+use Rattle.std.specs.Option.{option_map_or}
+use Rattle.std.specs.Str.Lossy.{utf8_lossy}
 use Rattle.std.specs.declared.alloc.Global.{Global}
 use Rattle.data_tree.specs.declared.data.Data.{Data, Nothing, Text, the_lemmas}
 use Rattle.mock_request.specs.Request.{Request}
-use Rattle.request_data.specs.RequestTree.{path_tree, request_tree}
+use Rattle.request_data.specs.RequestTree.{bound_in, json_tree, path_tree, request_tree}
+use Rattle.request_data.specs.Grouped.{firsts}
+use Rattle.path_template.specs.Matching.{bindings_of}
 use Rattle.data_tree.specs.Tree.{Tree, nothing, text, Members, no_members, member, view, members_view}
 use Rattle.mock_request.specs.Url.{path_of, segments_of}
 use Rattle.mock_request.specs.Query.{query_pairs}
@@ -11,25 +15,44 @@ use Rattle.mock_request.specs.HeaderFields.{header_pairs}
 use Rattle.mock_request.specs.Cookies.{cookie_pairs}
 use Rattle.request_data.specs.Authority.{authority_of}
 use Rattle.request_data.specs.Inner.Views.{entries_of}
-use Rattle.data_tree.specs.WellFormed.{IsWellFormed}
+use Rattle.data_tree.specs.WellFormed.{IsWellFormed, IsAscending, HaveWellFormedValues}
+use Rattle.data_tree.specs.Parts.{names_of}
 use Rattle.request_data.proofs.AuthorityLemmas.{port_well_formed}
-use Rattle.request_data.proofs.GroupLemmas.{texts_well_formed, grouped_well_formed}
+use Rattle.request_data.proofs.GroupLemmas.{texts_well_formed, grouped_well_formed, firsts_well_formed}
 
-pub request_tree_well_formed : (request : Request) → IsWellFormed (request_tree request)
-request_tree_well_formed request =
-    let path : IsWellFormed (path_tree (path_of request.url) no_members) =
-    (texts_well_formed (segments_of (path_of request.url)), tt, tt) in
+bound_well_formed
+    : (path : List ℕ) (template : Option (List ℕ))
+    → IsAscending (names_of (bound_in path template)) × HaveWellFormedValues (bound_in path template)
+bound_well_formed path None = (tt, tt)
+bound_well_formed path (Some template) = by (bindings_of template path)
+  where
+    by
+        : (found : Option (List (List ℕ × List ℕ)))
+        → IsAscending (names_of (option_map_or firsts found no_members))
+        × HaveWellFormedValues (option_map_or firsts found no_members)
+    by None = (tt, tt)
+    by (Some pairs) = firsts_well_formed pairs
+
+pub request_tree_well_formed
+    : (request : Request) (template : Option (List ℕ)) → IsWellFormed (json_tree (utf8_lossy request.body))
+    → IsWellFormed (request_tree request template)
+request_tree_well_formed request template json =
+    let bound = bound_well_formed (path_of request.url) template in
+    let parts = texts_well_formed (segments_of (path_of request.url)) in
+    let path : IsWellFormed (path_tree (path_of request.url) (bound_in (path_of request.url) template)) =
+    (parts, bound.0, bound.1) in
+    let segments : IsWellFormed (path_tree (path_of request.url) no_members) = (parts, tt, tt) in
     let port = port_well_formed (authority_of request.headers) in
     let cookies = grouped_well_formed (cookie_pairs request.headers) in
     let headers = grouped_well_formed (header_pairs request.headers) in
     let query = grouped_well_formed (query_pairs request.url) in (
       (refl, tt),
       (
-        tt,
+        json,
         (
           (
             (refl, (refl, (refl, (refl, (refl, (refl, (refl, (refl, (refl, (refl, (refl, tt))))))))))),
-            (tt, (tt, (cookies, (headers, (tt, (tt, (path, (path, (port, (query, (tt, (tt, tt)))))))))))),
+            (tt, (tt, (cookies, (headers, (tt, (tt, (path, (segments, (port, (query, (tt, (tt, tt)))))))))))),
           ),
           tt,
         ),

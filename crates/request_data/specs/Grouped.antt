@@ -1,4 +1,5 @@
--- Names and values, grouped by name: what a template sees of a query, of headers and of cookies.
+-- Names with values, grouped by name: what a template sees of a query, of headers, of cookies, and of what a path
+-- template binds.
 use Rattle.std.specs.Prelude.{ℕ, List, [], ◌∷◌}
 use Rattle.std.specs.Ordering.{nat_cmp, match_ordering}
 use Rattle.std.specs.Cmp.Lexicographic.{slice_cmp}
@@ -20,15 +21,23 @@ abbrev pub names_in : List (List ℕ × List ℕ) → List (List ℕ)
 names_in [] = []
 names_in (pair ∷ pairs) = with_name pair.0 (names_in pairs)
 
+-- each name with the tree of its values
+abbrev pub members_under : (List (List ℕ) → Tree) → List (List ℕ) → List (List ℕ × List ℕ) → Members
+members_under tree_of [] pairs = no_members
+members_under tree_of (name ∷ names) pairs =
+    member name (tree_of (values_of name pairs)) (members_under tree_of names pairs)
+
 -- the first value, all values, and no fields
 abbrev pub values_tree : List (List ℕ) → Tree
 values_tree values = named (first_of values) (texts values) no_members
 
--- each name with its values
-abbrev pub fields_under : List (List ℕ) → List (List ℕ × List ℕ) → Members
-fields_under [] pairs = no_members
-fields_under (name ∷ names) pairs = member name (values_tree (values_of name pairs)) (fields_under names pairs)
-
 -- the names in byte order, each with its first value and all its values
 abbrev pub grouped : List (List ℕ × List ℕ) → Tree
-grouped pairs = fields (fields_under (names_in pairs) pairs)
+grouped pairs = fields (members_under values_tree (names_in pairs) pairs)
+
+abbrev pub first_text : List (List ℕ) → Tree
+first_text values = text (first_of values)
+
+-- the names in byte order, each with its first value
+abbrev pub firsts : List (List ℕ × List ℕ) → Members
+firsts pairs = members_under first_text (names_in pairs) pairs

@@ -4,9 +4,9 @@ ghost use Rattle.std.specs.BTreeMap.{get_by_text};
 ghost use Rattle.std.specs.List.{list_any};
 ghost use Rattle.std.specs.Option.{option_map_or};
 ghost use Rattle.std.specs.Str.{bytes_eq};
-ghost use Rattle.data_tree.specs.Tree.{view};
+ghost use Rattle.data_tree.specs.Tree.{members_view, view};
 ghost use Rattle.mock_request.specs.Values.{first_of, pairs_of, values_of};
-ghost use Rattle.request_data.specs.Grouped.{grouped, values_tree};
+ghost use Rattle.request_data.specs.Grouped.{firsts, grouped, values_tree};
 
 use data_tree::data::Data;
 use std::alloc::{AllocError, Global};
@@ -21,6 +21,20 @@ pub(crate) fn grouped(alloc: Global, pairs: Vec<(String, String)>) -> Result<Dat
         fields.push((name, values_data(alloc, values)?))?;
     }
     Ok(Data::Fields(fields))
+}
+
+/// The names in byte order, each with its first value.
+pub(crate) fn firsts(
+    alloc: Global,
+    pairs: Vec<(String, String)>,
+) -> Result<Vec<(String, Data)>, AllocError>
+    ensures { IfOk result (λ made. members_view made.items ≡ firsts (pairs_of pairs.items)) }
+{
+    let mut fields = Vec::new(alloc);
+    for (name, values) in by_name(alloc, pairs)? {
+        fields.push((name, Data::Text(first(alloc, &values)?)))?;
+    }
+    Ok(fields)
 }
 
 // All values of each name.

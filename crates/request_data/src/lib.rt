@@ -3,7 +3,6 @@
 //! values) and `Authority` (host and port) as its parts.
 #![tactic(auto)]
 
-pub mod path_template;
 pub mod tree;
 
 // The parts of the data.

@@ -1,5 +1,6 @@
 // The data that a template sees of a request.
-ghost use Rattle.std.specs.Prelude.{◌≡◌, ◌≤◌, ◌∷◌, ◌++◌, IfOk, OnOk, IfErr, pos, codes};
+ghost use Rattle.std.specs.Prelude.{◌≡◌, ◌≤◌, ◌∷◌, ◌++◌, IfOk, OnOk, IfErr, pos, codes, string_bytes, option_copied};
+ghost use Rattle.std.specs.Str.Lossy.{utf8_lossy};
 ghost use Rattle.std.specs.List.{slice_split};
 ghost use Rattle.data_tree.specs.Tree.{number, text, no_members, fields, view, items_view, members_view};
 ghost use Rattle.data_tree.specs.Json.{size};
@@ -11,32 +12,33 @@ ghost use Rattle.request_data.specs.Grouped.{texts};
 ghost use Rattle.mock_request.specs.HeaderFields.{header_pairs};
 ghost use Rattle.mock_request.specs.Values.{pairs_of};
 ghost use Rattle.request_data.specs.Inner.Views.{entries_of, entries_to_headers};
-ghost use Rattle.request_data.specs.RequestTree.{path_tree, request_fields, request_tree, IsRefusal};
+ghost use Rattle.request_data.specs.RequestTree.{bound_in, json_tree, path_tree, request_fields, request_tree, IsRefusal};
 
 use crate::authority::{authority, host_and_port};
-use crate::grouped::grouped;
+use crate::grouped::{firsts, grouped};
 use crate::object::Object;
-use crate::path_template::PathTemplate;
 use data_tree::data::Data;
 use data_tree::request_data::{DataError, RequestData, SIZE_LIMIT};
+use json_bridge::read::data_of_json;
 use mock_request::body::body_text;
 use mock_request::cookies::cookie_pairs;
 use mock_request::header_fields::header_pairs;
 use mock_request::query::query_pairs;
 use mock_request::snapshot::Snapshot;
+use path_template::path_template::PathTemplate;
 use std::alloc::{AllocError, Global};
 
-/// The data of a request, where it is within `RequestData`'s limit. A path template names segments of the path
-/// (there is no such template yet).
+/// The data of a request, where it is within `RequestData`'s limit. A path template that the path
+/// matches names segments of it, in the fields of `request.path`.
 pub fn request_data(
     alloc: Global,
     snapshot: &Snapshot,
     template: Option<&PathTemplate>,
 ) -> Result<RequestData, DataError>
-    ensures tree { IfOk result (λ made. root_of made ≡ request_tree snapshot.now) }
-    ensures within { OnOk result (size (request_tree snapshot.now) ≤ SIZE_LIMIT) }
+    ensures tree { IfOk result (λ made. root_of made ≡ request_tree snapshot.now (option_copied template.entry)) }
+    ensures within { OnOk result (size (request_tree snapshot.now (option_copied template.entry)) ≤ SIZE_LIMIT) }
     ensures well_formed { IfOk result (λ made. IsWellFormed (root_of made)) }
-    ensures refusal { IfErr result (IsRefusal (request_tree snapshot.now)) }
+    ensures refusal { IfErr result (IsRefusal (request_tree snapshot.now (option_copied template.entry))) }
 {
     let Ok(root) = root(alloc, snapshot, template) else {
         return Err(DataError::OutOfMemory);
@@ -49,29 +51,41 @@ fn root(
     snapshot: &Snapshot,
     template: Option<&PathTemplate>,
 ) -> Result<Data, AllocError>
-    ensures { IfOk result (λ root. view root ≡ request_tree snapshot.now) }
+    ensures tree { IfOk result (λ root. view root ≡ request_tree snapshot.now (option_copied template.entry)) }
+    ensures well_formed { IfOk result (λ root. IsWellFormed (view root)) }
 {
+    let body = body_text(alloc, snapshot)?;
     let mut root = Object::new(alloc);
-    root.push("json", Data::Nothing)?;
-    root.push("request", request(alloc, snapshot, template)?)?;
+    root.push("json", json(alloc, body.as_str())?)?;
+    root.push("request", request(alloc, snapshot, template, body)?)?;
     Ok(root.into_data())
+}
+
+// The data of a JSON text, and `Nothing` of another.
+fn json(alloc: Global, text: &str) -> Result<Data, AllocError>
+    ensures tree { IfOk result (λ made. view made ≡ json_tree text.now) }
+    ensures well_formed { IfOk result (λ made. IsWellFormed (view made)) }
+{
+    Ok(data_of_json(alloc, text)?.unwrap_or(Data::Nothing))
 }
 
 fn request(
     alloc: Global,
     snapshot: &Snapshot,
     template: Option<&PathTemplate>,
+    body: String,
 ) -> Result<Data, AllocError>
-    ensures { IfOk result (λ made. view made ≡ fields (request_fields snapshot.now)) }
+    requires { string_bytes body ≡ utf8_lossy snapshot.now.body }
+    ensures { IfOk result (λ made. view made ≡ fields (request_fields snapshot.now (option_copied template.entry))) }
 {
     let headers = header_pairs(alloc, snapshot)?;
     let authority = String::from_str(alloc, authority(&headers))?;
     let (host, port) = host_and_port(authority.as_str());
     let path = snapshot.path();
-    let mut made = fields_to_headers(alloc, snapshot, authority.as_str(), headers)?;
+    let mut made = fields_to_headers(alloc, snapshot, authority.as_str(), body, headers)?;
     made.push_text("host", host)?;
     made.push_text("method", snapshot.method())?;
-    made.push("path", path_data(alloc, path, bindings(alloc, template))?)?;
+    made.push("path", path_data(alloc, path, bindings(alloc, template, path)?)?)?;
     made.push("pathSegments", path_data(alloc, path, Vec::new(alloc))?)?;
     made.push("port", number(port))?;
     made.push("query", grouped(alloc, query_pairs(alloc, snapshot)?)?)?;
@@ -85,15 +99,17 @@ fn fields_to_headers(
     alloc: Global,
     snapshot: &Snapshot,
     authority: &str,
+    body: String,
     headers: Vec<(String, String)>,
 ) -> Result<Object, AllocError>
-    requires { pairs_of headers.items ≡ header_pairs snapshot.now.headers }
+    requires body { string_bytes body ≡ utf8_lossy snapshot.now.body }
+    requires headers { pairs_of headers.items ≡ header_pairs snapshot.now.headers }
     ensures { IfOk result (λ made.
         entries_of made.fields.items ≡ entries_to_headers snapshot.now authority.now) }
 {
     let mut made = Object::new(alloc);
     made.push("baseUrl", base_url(alloc, authority)?)?;
-    made.push("body", Data::Text(body_text(alloc, snapshot)?))?;
+    made.push("body", Data::Text(body))?;
     made.push("cookies", grouped(alloc, cookie_pairs(alloc, snapshot)?)?)?;
     made.push("headers", grouped(alloc, headers)?)?;
     Ok(made)
@@ -119,13 +135,20 @@ fn text(alloc: Global, content: &str) -> Result<Data, AllocError>
     Ok(Data::Text(String::from_str(alloc, content)?))
 }
 
-// What the template names in the path.
-fn bindings(alloc: Global, template: Option<&PathTemplate>) -> Vec<(String, Data)>
-    ensures { members_view result.items ≡ no_members }
+// What the template binds in the path.
+fn bindings(
+    alloc: Global,
+    template: Option<&PathTemplate>,
+    path: &str,
+) -> Result<Vec<(String, Data)>, AllocError>
+    ensures { IfOk result (λ made. members_view made.items ≡ bound_in path.now (option_copied template.entry)) }
 {
-    match template {
-        None => Vec::new(alloc),
-        Some(template) => match *template {},
+    let Some(template) = template else {
+        return Ok(Vec::new(alloc));
+    };
+    match template.bindings(alloc, path)? {
+        Some(pairs) => firsts(alloc, pairs),
+        None => Ok(Vec::new(alloc)),
     }
 }
 

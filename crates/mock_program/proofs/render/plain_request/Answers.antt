@@ -1,4 +1,4 @@
-use Rattle.std.proofs.Common.{◌≡◌, [], Err, refl, ap, ◌∙◌, length, arith}
+use Rattle.std.proofs.Common.{◌≡◌, [], Err, None, refl, ap, ◌∙◌, length, arith}
 use Rattle.std.proofs.lemmas.Result.{err_from_is_err_and}
 use Rattle.request_data.specs.RequestTree.{request_tree}
 use Rattle.mock_program.specs.Rendering.{IsDataOf}
@@ -20,7 +20,7 @@ returns-in_err-request_data-clause-refusal c =
     let request = c.in_ok-snapshot.snapshot in
     let plain : request ≡ record { method = c.args.method.now; url = request.url; headers = []; body = [] } =
     c.in_ok-snapshot.ensures.kept ∙ rw (c.new.ensures.items, c.new-2.ensures) refl in
-    let asked : IsDataOf c.args.method.now c.args.target.now (request_tree request) =
-    (request.url, c.in_ok-snapshot.ensures.url, ap request_tree plain) in
+    let asked : IsDataOf c.args.method.now c.args.target.now (request_tree request None) =
+    (request.url, c.in_ok-snapshot.ensures.url, ap (λ r. request_tree r None) plain) in
     rw (p.1, p.2) (of_data c.args.method.now c.args.target.now
-    (request_tree request) c.in_err-request_data.field-0.0 asked c.in_err-request_data.ensures.refusal)
+    (request_tree request None) c.in_err-request_data.field-0.0 asked c.in_err-request_data.ensures.refusal)

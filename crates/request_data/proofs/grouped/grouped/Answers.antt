@@ -4,6 +4,7 @@ use Rattle.std.proofs.lemmas.List.{map-id}
 use Rattle.data_tree.proofs.Views.{view-Fields}
 use Rattle.data_tree.specs.Tree.{fields, members_of}
 use Rattle.mock_request.specs.Values.{pairs_of}
+use Rattle.request_data.specs.Grouped.{values_tree}
 use Rattle.request_data.proofs.GroupLemmas.{entry_tree, grouped_entries}
 use Rattle.request_data.proofs.grouped.grouped.Goals as goal
 
@@ -17,6 +18,8 @@ returns c =
     let whole : c.loop-name.yielded ≡ entries = sym (map-id c.loop-name.yielded) ∙ end.0 in
     view-Fields c.loop-name.fields
     ∙ ap (λ ms. fields (members_of ms)) c.loop-name.invariant
-    ∙ ap (λ es. fields (members_of (map (entry_tree (λ values. map string_bytes values.items)) es))) whole
-    ∙ grouped_entries (λ values. map string_bytes values.items) (pairs_of c.args.pairs.items) entries same.5
+    ∙ ap (λ es. fields (members_of (map (entry_tree values_tree (λ values. map string_bytes values.items)) es))) whole
+    ∙ ap fields (
+    grouped_entries values_tree (λ values. map string_bytes values.items) (pairs_of c.args.pairs.items) entries same.5
     c.in_ok-items.ensures.values c.in_ok-items.ensures.names
+    )

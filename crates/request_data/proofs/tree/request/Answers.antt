@@ -1,10 +1,10 @@
-use Rattle.std.proofs.Common.{◌≡◌, string_bytes, pos, ap, ◌∙◌, codes, refl}
+use Rattle.std.proofs.Common.{◌≡◌, option_copied, string_bytes, pos, ap, ◌∙◌, codes, refl}
 use Rattle.data_tree.specs.Tree.{fields, number, text, members_view}
 use Rattle.mock_request.specs.Values.{first_of, pairs_of, values_of}
 use Rattle.request_data.specs.Grouped.{grouped}
 use Rattle.request_data.specs.Authority.{authority_of, host_of, port_of}
 use Rattle.request_data.specs.Inner.Views.{entries_to_headers}
-use Rattle.request_data.specs.RequestTree.{path_tree}
+use Rattle.request_data.specs.RequestTree.{bound_in, path_tree}
 use Rattle.mock_request.specs.Url.{path_of}
 use Rattle.request_data.proofs.TreeLemmas.{entry_more, members_from, members_of_entries}
 use Rattle.request_data.proofs.tree.request.Goals as goal
@@ -26,8 +26,8 @@ returns c =
     let path =
     entry_more (codes "path") c.in_ok-push.ensures method (
     c.in_ok-path_data.ensures
-    ∙ ap (λ p. path_tree p (members_view c.bindings.result.items)) c.path-path.ensures.value
-    ∙ ap (path_tree (path_of request.url)) c.bindings.ensures
+    ∙ ap (path_tree c.path-path.result.now) c.in_ok-bindings.ensures
+    ∙ ap (λ p. path_tree p (bound_in p (option_copied c.args.template))) c.path-path.ensures.value
     ) in
     let segments =
     entry_more (codes "pathSegments") c.in_ok-push-2.ensures path (
