@@ -29,6 +29,7 @@ impl Model for PathTemplate {
 }
 
 impl PathTemplate {
+    /// The template that the text spells. A `?` and a text that doesn't begin with a slash are found without memory.
     pub fn parse(alloc: Global, text: &str) -> Result<PathTemplate, PathTemplateError>
         ensures ok { IfOk result (λ template. template ≡ text.now) }
         ensures spelled { OnOk result (IsTemplate text.now) }
