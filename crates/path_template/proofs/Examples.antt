@@ -21,7 +21,8 @@ name_bytes = refl
 -- a segment that isn't a name in braces and nothing else is literal, and so is the empty one
 literals
     : pieces_of (codes "/{a b}/{/x{a}/{a}x/{}/{a}}//{é}")
-    ≡ Literal (codes "{a b}") ∷ Literal (codes "{") ∷ Literal (codes "x{a}") ∷ Literal (codes "{a}x") ∷ Literal (codes "{}")
+    ≡ Literal (codes "{a b}") ∷ Literal (codes "{") ∷ Literal (codes "x{a}") ∷ Literal (codes "{a}x")
+    ∷ Literal (codes "{}")
     ∷ Literal (codes "{a}}") ∷ Literal [] ∷ Literal (codes "{é}") ∷ []
 literals = refl
 
@@ -35,7 +36,8 @@ names_apart = record {
   distinct = λ i j d lower within same. apart i j d lower within same;
 }
   where
-    apart : (i j : ℕ) (d : List ℕ) → i < j → j < 2 → get_or (codes "a" ∷ codes "c" ∷ []) i d ≡ get_or (codes "a" ∷ codes "c" ∷ []) j d → ⊥
+    apart : (i j : ℕ) (d : List ℕ) → i < j → j < 2
+        → get_or (codes "a" ∷ codes "c" ∷ []) i d ≡ get_or (codes "a" ∷ codes "c" ∷ []) j d → ⊥
     apart zero (suc zero) d lower within same = false≢true (ap (bytes_eq (codes "c")) same)
     apart i j d lower within same = absurd (omega arith)
 
