@@ -1,5 +1,6 @@
 -- The names that bindings have.
-use Rattle.std.proofs.Common.{◌≡◌, ℕ, Bool, true, false, if◌then◌else◌, List, [], ◌∷◌, map, Option, None, Some, option_map, refl, ap, ◌==◌}
+use Rattle.std.proofs.Common.{◌≡◌, ℕ, Bool, true, false, if◌then◌else◌, List, [], ◌∷◌, map, Option, None, Some}
+use Rattle.std.proofs.Common.{option_map, refl, ap, ◌==◌}
 use Rattle.std.specs.Option.{IfSome}
 use Rattle.std.specs.Str.{bytes_eq}
 use Rattle.mock_request.specs.Target.{slash}
@@ -33,7 +34,8 @@ have_names (Named name ∷ pieces) (segment ∷ segments) =
     by true (Some bindings) later = ap (λ names. name ∷ names) later
     by false o later = tt
 
-pub bindings_have_names : (template path : List ℕ) → HaveNames (names_of (pieces_of template)) (bindings_of template path)
+pub bindings_have_names : (template path : List ℕ)
+    → HaveNames (names_of (pieces_of template)) (bindings_of template path)
 bindings_have_names template [] = tt
 bindings_have_names template (b ∷ bs) = by (b == slash) (have_names (pieces_of template) (segments_of (b ∷ bs)))
   where

@@ -1,5 +1,6 @@
 -- The first segment of a path, and the others.
-use Rattle.std.proofs.Common.{◌≡◌, ◌≢◌, ℕ, ◌<◌, false, List, [], ◌∷◌, Bor, Option, None, Some, MatchOption, All, length, get_or, eqb, refl, ap, ◌∙◌, arith, lit<}
+use Rattle.std.proofs.Common.{◌≡◌, ◌≢◌, ℕ, ◌<◌, false, List, [], ◌∷◌, Bor, Option, None, Some, MatchOption, All}
+use Rattle.std.proofs.Common.{length, get_or, refl, ap, ◌∙◌, arith, lit<}
 use Rattle.std.specs.List.{slice_split}
 use Rattle.std.proofs.lemmas.Bool.Decides.{nat_tests}
 use Rattle.std.proofs.lemmas.List.{get_or_default}

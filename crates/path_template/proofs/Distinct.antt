@@ -1,5 +1,6 @@
 -- Names so far, and one more: are they distinct?
-use Rattle.std.proofs.Common.{◌≡◌, ◌≢◌, ℕ, zero, suc, ◌+◌, ◌<◌, Bool, true, false, ◌||◌, cond, List, [], ◌∷◌, ◌++◌, Bor, map, length, get_or, take, drop, refl, sym, ap, ◌∙◌, arith}
+use Rattle.std.proofs.Common.{◌≡◌, ◌≢◌, ℕ, zero, suc, ◌<◌, Bool, true, false, ◌||◌, cond, List, [], ◌∷◌, ◌++◌, Bor}
+use Rattle.std.proofs.Common.{map, length, get_or, take, drop, refl, sym, ap, ◌∙◌, arith}
 use Rattle.std.specs.List.{list_any, AllPairs}
 use Rattle.std.specs.Cmp.Lexicographic.{slice_cmp}
 use Rattle.std.specs.Ordering.{nat_cmp, is_eq}
@@ -33,7 +34,8 @@ has_more before name q = rw (is_eq-slice_cmp name q) (by (bytes_eq name q) refl 
         apart true h =
             absurd (false≢true (sym e ∙ (bytes_eq-Decides name q).1 (sym ((bytes_eq-Decides q name).0 h))))
 
-    by : (b : Bool) → bytes_eq name q ≡ b → (names : List (List ℕ)) → has q (names ++ name ∷ []) ≡ cond b true (has q names)
+    by : (b : Bool) → bytes_eq name q ≡ b → (names : List (List ℕ))
+        → has q (names ++ name ∷ []) ≡ cond b true (has q names)
     by true e [] = rw (turned true e) refl
     by false e [] = rw (turned false e) refl
     by true e (n ∷ names) = rw (by true e names) (or_true (bytes_eq q n))
@@ -43,7 +45,8 @@ has_more before name q = rw (is_eq-slice_cmp name q) (by (bytes_eq name q) refl 
         or_true false = refl
     by false e (n ∷ names) = rw (by false e names) refl
 
-other : (names : List (List ℕ)) (name : List ℕ) → has name names ≡ false → (k : ℕ) (d : List ℕ) → k < length names → get_or names k d ≢ name
+other : (names : List (List ℕ)) (name : List ℕ) → has name names ≡ false → (k : ℕ) (d : List ℕ)
+    → k < length names → get_or names k d ≢ name
 other [] name none k d within = absurd (omega arith)
 other (n ∷ names) name none zero d within = λ is. by (bytes_eq name n) refl none is
   where
@@ -62,13 +65,16 @@ other (n ∷ names) name none (suc k) d within =
 pub distinct_more
     : (before : List (List ℕ)) (name : List ℕ) → AreDistinct before → has name before ≡ false
     → AreDistinct (before ++ name ∷ [])
-distinct_more before name distinct none = all_pairs_push (λ one other. one ≢ other) before name distinct (other before name none)
+distinct_more before name distinct none =
+    all_pairs_push (λ one other. one ≢ other) before name distinct (other before name none)
 
-at_end : (names : List (List ℕ)) (name : List ℕ) (rest : List (List ℕ)) (d : List ℕ) → get_or (names ++ name ∷ rest) (length names) d ≡ name
+at_end : (names : List (List ℕ)) (name : List ℕ) (rest : List (List ℕ)) (d : List ℕ)
+    → get_or (names ++ name ∷ rest) (length names) d ≡ name
 at_end [] name rest d = refl
 at_end (n ∷ names) name rest d = at_end names name rest d
 
-within_whole : (names : List (List ℕ)) (name : List ℕ) (rest : List (List ℕ)) → length names < length (names ++ name ∷ rest)
+within_whole : (names : List (List ℕ)) (name : List ℕ) (rest : List (List ℕ))
+    → length names < length (names ++ name ∷ rest)
 within_whole [] name rest = omega arith
 within_whole (n ∷ names) name rest = omega (arith, within_whole names name rest)
 

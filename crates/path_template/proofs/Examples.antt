@@ -1,6 +1,5 @@
 -- Path templates, texts that are none, and paths that match or don't.
-use Rattle.std.proofs.Common.{◌≡◌, ℕ, zero, suc, ◌<◌, List, [], ◌∷◌, None, Some, length, get_or, refl, ap, codes, arith}
-use Rattle.std.specs.List.{Contains, AllPairs}
+use Rattle.std.proofs.Common.{◌≡◌, ℕ, zero, suc, ◌<◌, List, [], ◌∷◌, None, Some, get_or, refl, ap, codes, arith}
 use Rattle.std.specs.Str.{bytes_eq}
 use Rattle.std.proofs.lemmas.Bool.{false≢true}
 use Rattle.std.proofs.lemmas.List.Folds.{list_any_at}
@@ -22,7 +21,8 @@ name_bytes = refl
 -- a segment that isn't a name in braces and nothing else is literal, and so is the empty one
 literals
     : pieces_of (codes "/{a b}/{/x{a}/{a}x/{}/{a}}//{é}")
-    ≡ Literal (codes "{a b}") ∷ Literal (codes "{") ∷ Literal (codes "x{a}") ∷ Literal (codes "{a}x") ∷ Literal (codes "{}")
+    ≡ Literal (codes "{a b}") ∷ Literal (codes "{") ∷ Literal (codes "x{a}") ∷ Literal (codes "{a}x")
+    ∷ Literal (codes "{}")
     ∷ Literal (codes "{a}}") ∷ Literal [] ∷ Literal (codes "{é}") ∷ []
 literals = refl
 
@@ -36,7 +36,8 @@ names_apart = record {
   distinct = λ i j d lower within same. apart i j d lower within same;
 }
   where
-    apart : (i j : ℕ) (d : List ℕ) → i < j → j < 2 → get_or (codes "a" ∷ codes "c" ∷ []) i d ≡ get_or (codes "a" ∷ codes "c" ∷ []) j d → ⊥
+    apart : (i j : ℕ) (d : List ℕ) → i < j → j < 2
+        → get_or (codes "a" ∷ codes "c" ∷ []) i d ≡ get_or (codes "a" ∷ codes "c" ∷ []) j d → ⊥
     apart zero (suc zero) d lower within same = false≢true (ap (bytes_eq (codes "c")) same)
     apart i j d lower within same = absurd (omega arith)
 

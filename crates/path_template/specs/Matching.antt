@@ -1,5 +1,6 @@
 -- When a path matches a path template, and what the template's names are bound to.
-use Rattle.std.specs.Prelude.{ℕ, List, [], ◌∷◌, Option, None, Some, ◌==◌, if◌then◌else◌, map, option_map, option_and_then, IsSome, String, string_bytes}
+use Rattle.std.specs.Prelude.{ℕ, List, [], ◌∷◌, Option, None, Some, ◌==◌, if◌then◌else◌, map, option_map}
+use Rattle.std.specs.Prelude.{option_and_then, IsSome, String, string_bytes}
 use Rattle.std.specs.Str.{bytes_eq}
 use Rattle.std.specs.declared.alloc.Global.{Global}
 use Rattle.mock_request.specs.Target.{slash}

@@ -1,5 +1,6 @@
 // A path whose segments may be names in braces.
-ghost use Rattle.std.specs.Prelude.{◌≡◌, ◌↔◌, IfOk, OnOk, IsErrOf, IsTrue, MatchOption, None, option_map, option_copied};
+ghost use Rattle.std.specs.Prelude.{◌≡◌, ◌↔◌, IfOk, OnOk, IsErrOf, IsTrue, MatchOption, None, option_map};
+ghost use Rattle.std.specs.Prelude.{option_copied};
 ghost use Rattle.path_template.specs.Template.{IsTemplate};
 ghost use Rattle.path_template.specs.Matching.{Matches, bindings_of, binding_of, pairs_of};
 ghost use Rattle.path_template.specs.Inner.Walks.{bound_by};
@@ -29,6 +30,7 @@ impl Model for PathTemplate {
 }
 
 impl PathTemplate {
+    /// The template that the text spells. A `?` and a text that doesn't begin with a slash are found without memory.
     pub fn parse(alloc: Global, text: &str) -> Result<PathTemplate, PathTemplateError>
         ensures ok { IfOk result (λ template. template ≡ text.now) }
         ensures spelled { OnOk result (IsTemplate text.now) }

@@ -1,9 +1,11 @@
-use Rattle.std.proofs.Common.{◌≡◌, ℕ, suc, ◌∷◌, [], List, Bor, get_or, take, Bool, cond, true, false, not, add-one, refl, sym, ap, subst, ◌∙◌, arith}
+use Rattle.std.proofs.Common.{◌≡◌, ℕ, [], List, Bor, get_or, take, Bool, cond, true, false, not, add-one, refl, sym}
+use Rattle.std.proofs.Common.{ap, subst, ◌∙◌, arith}
 use Rattle.std.specs.Cmp.Lexicographic.{slice_cmp}
 use Rattle.std.specs.Ordering.{nat_cmp, is_eq}
 use Rattle.std.proofs.lemmas.Bool.{false≢true}
 use Rattle.std.proofs.lemmas.List.{take_all}
-use Rattle.path_template.proofs.Distinct.{AreDistinct, has, has_more, distinct_more, twice, texts, parts_from, more_from}
+use Rattle.path_template.proofs.Distinct.{AreDistinct, has, has_more, distinct_more, twice, texts, parts_from}
+use Rattle.path_template.proofs.Distinct.{more_from}
 use Rattle.path_template.proofs.names.are_distinct.Goals as goal
 
 abbrev no_name : Bor (List ℕ)
@@ -39,7 +41,8 @@ loop-name-preserved c =
     sym (c.loop-name.invariant.seen (get_or names i no_name))
     ∙ not_true _ (sym c.in_ok-insert.ensures.added ∙ c.if-not-branch.false) in
     rw add-one (record {
-      distinct = subst AreDistinct (sym more) (distinct_more (texts (take i names)) name c.loop-name.invariant.distinct none);
+      distinct = subst AreDistinct (sym more)
+          (distinct_more (texts (take i names)) name c.loop-name.invariant.distinct none);
       seen = λ q.
           (c.in_ok-insert.ensures.updates).0 q
           ∙ ap (cond (is_eq (slice_cmp nat_cmp name q.now)) true) (c.loop-name.invariant.seen q)
@@ -49,5 +52,8 @@ loop-name-preserved c =
 
 pub returns : goal.returns
 returns c =
-    let names = c.args.names.now in
-    (λ _. subst (λ ns. AreDistinct (texts ns)) (take_all c.loop-name.name-index names (omega arith)) c.loop-name.invariant.distinct, λ _. refl)
+    let names = c.args.names.now in (
+      λ _. subst (λ ns. AreDistinct (texts ns)) (take_all c.loop-name.name-index names (omega arith))
+          c.loop-name.invariant.distinct,
+      λ _. refl,
+    )

@@ -23,7 +23,8 @@ returns-then-not-is_name c =
     let segment = c.args.segment.now in
     let rest = c.in_ok-strip_prefix.field-0 in
     let opened = strip_prefix_char opening_brace segment (Some rest) c.in_ok-strip_prefix.ensures.cases (lit< tt) in
-    let closed = strip_suffix_char closing_brace rest.now (Some c.in_ok-name.name) c.in_ok-name.ensures.cases (lit< tt) in
+    let closed =
+    strip_suffix_char closing_brace rest.now (Some c.in_ok-name.name) c.in_ok-name.ensures.cases (lit< tt) in
     sym (no_name segment rest.now opened c.in_ok-name.name.now closed (cc))
 
 pub returns : goal.returns
@@ -31,5 +32,6 @@ returns c =
     let segment = c.args.segment.now in
     let rest = c.in_ok-strip_prefix.field-0 in
     let opened = strip_prefix_char opening_brace segment (Some rest) c.in_ok-strip_prefix.ensures.cases (lit< tt) in
-    let closed = strip_suffix_char closing_brace rest.now (Some c.in_ok-name.name) c.in_ok-name.ensures.cases (lit< tt) in
+    let closed =
+    strip_suffix_char closing_brace rest.now (Some c.in_ok-name.name) c.in_ok-name.ensures.cases (lit< tt) in
     sym (its_name segment rest.now opened c.in_ok-name.name.now closed (cc))

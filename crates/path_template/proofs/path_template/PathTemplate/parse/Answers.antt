@@ -1,4 +1,4 @@
-use Rattle.std.proofs.Common.{◌≡◌, map, sym, ap, subst, ◌∙◌, arith, lit<}
+use Rattle.std.proofs.Common.{◌≡◌, map, sym, ap, subst, ◌∙◌, lit<}
 use Rattle.std.proofs.lemmas.List.{get_or_default}
 use Rattle.std.proofs.lemmas.Str.Pattern.{contains_char}
 use Rattle.mock_request.specs.Target.{question_mark}
@@ -10,7 +10,8 @@ pub returns-clause-spelled : goal.returns-clause-spelled
 returns-clause-spelled c =
     let text = c.args.text.now in
     let names : texts c.deref.result.now ≡ names_of (pieces_of text) =
-    ap texts c.deref.ensures.value ∙ c.in_ok-names.ensures ∙ ap (λ ss. names_of (map piece_of ss)) (c.in-Some.ensures).1 in
+    ap texts c.deref.ensures.value ∙ c.in_ok-names.ensures
+    ∙ ap (λ ss. names_of (map piece_of ss)) (c.in-Some.ensures).1 in
     let absent = (contains_char question_mark text c.contains.result c.contains.ensures.cases (lit< tt)).1 in
     record {
       rooted = (c.in-Some.ensures).0;
