@@ -11,6 +11,9 @@ use json::Writer;
 use std::alloc::{AllocError, Global};
 use std::mem;
 
+// Bytes of a string that is looked at byte by byte.
+const SHORT: usize = 32;
+
 impl Data {
     ghost use Rattle.data_tree.specs.Print.{print};
 
@@ -127,13 +130,14 @@ fn write_comma_if(later: bool, out: &mut Draft) -> Result<(), AllocError>
     if later { out.push(",") } else { Ok(()) }
 }
 
-// A text between quotes. Most have nothing to be escaped.
+// A text between quotes. A short one in which nothing is to be escaped needs no memory but that of `out`; the writer
+// of `json` looks at many bytes of a long one at a time.
 fn write_text(text: &str, alloc: Global, out: &mut Draft) -> Result<(), AllocError>
     ensures ok { OnOk result (out.new.1 ≡ out.old.1 ++ quoted text.now) }
     ensures before { out.new.0 ≡ out.old.0 }
 {
-    if !is_plain(text) {
-        return out.push(escaped(text, alloc)?.as_str());
+    if text.len() > SHORT || !is_plain(text) {
+        return out.push(quoted(text, alloc)?.as_str());
     }
     out.push("\"")?;
     out.push(text)?;
@@ -153,11 +157,11 @@ fn is_plain_byte(byte: u8) -> bool
     b' ' <= byte && byte != b'"' && byte != b'\\'
 }
 
-// The text between quotes, by the writer of `json`.
-fn escaped(text: &str, alloc: Global) -> Result<String, AllocError>
+// The text between quotes, by the writer of `json`. It asks for room for a comma, too.
+fn quoted(text: &str, alloc: Global) -> Result<String, AllocError>
     ensures { IfOk result (λ made. string_bytes made ≡ quoted text.now) }
 {
-    let mut writer = Writer::new(Vec::new(alloc));
+    let mut writer = Writer::new(Vec::with_capacity(alloc, text.len().saturating_add(3))?);
     writer.string(text)?;
     // SAFETY: it is proved that the writer's bytes are UTF-8.
     Ok(unsafe { String::from_utf8_unchecked(writer.into_inner()) })

@@ -1,7 +1,7 @@
 use Rattle.std.proofs.Common.{◌≡◌, [], ◌∷◌, ◌++◌, ap, ◌∙◌, append-nil, rules}
 use Rattle.json.specs.Print.{print, print_from, quoted}
 use Rattle.json.specs.Token.{Token}
-use Rattle.data_tree.proofs.print.escaped.Goals as goal
+use Rattle.data_tree.proofs.print.quoted.Goals as goal
 
 pub returns : goal.returns
 unfolding print_from
