@@ -1,5 +1,5 @@
 -- Names in byte order, each once: a name that comes before others isn't one of them.
-use Rattle.std.proofs.Common.{◌≡◌, ◌&&◌, Bool, true, false, List, [], ◌∷◌, ℕ, Option, Some, None, if◌then◌else◌, is_some}
+use Rattle.std.proofs.Common.{◌≡◌, ◌&&◌, false, List, [], ◌∷◌, ℕ, Some, None, if◌then◌else◌, is_some}
 use Rattle.std.proofs.Common.{refl, sym, ap, ◌∙◌, nat_cmp, Less}
 use Rattle.std.proofs.lemmas.Cmp.{nat_list_cmp_total}
 use Rattle.std.proofs.lemmas.Map.Text.{is_eq-slice_cmp}

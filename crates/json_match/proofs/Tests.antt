@@ -1,5 +1,5 @@
 -- What a matcher's test answers is what the matcher means.
-use Rattle.std.proofs.Common.{◌≡◌, ◌↔◌, Bool, List, Option, Some, IfOk, IsSomeAnd, IsTrue, Result, Ok, Err, sym, ap, subst, ◌∙◌}
+use Rattle.std.proofs.Common.{◌≡◌, ◌↔◌, Bool, List, IfOk, IsSomeAnd, IsTrue, Result, Ok, Err, sym, ap, subst, ◌∙◌}
 use Rattle.std.specs.declared.alloc.AllocError.{AllocError}
 use Rattle.data_tree.specs.LookUp.{at}
 use Rattle.data_tree.specs.Tree.{Tree, view}
@@ -7,7 +7,6 @@ use Rattle.data_tree.specs.WellFormed.{IsWellFormed}
 use Rattle.data_tree.specs.declared.data.Data.{Data}
 use Rattle.data_tree.specs.declared.step.Step.{Step}
 use Rattle.json_bridge.proofs.Unique.{one_path}
-use Rattle.json_bridge.specs.Reading.{tree_of_text}
 use Rattle.json_match.specs.Inner.Test.{IsTestOf}
 use Rattle.json_match.specs.Inner.Walk as walk
 use Rattle.json_match.specs.Matching.{is_equal, is_something, Matches}

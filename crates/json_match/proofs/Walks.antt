@@ -1,6 +1,6 @@
 -- Going once over the members of two well formed objects compares them as `is_equal` does.
-use Rattle.std.proofs.Common.{◌≡◌, ◌&&◌, ◌||◌, Bool, true, false, List, [], ◌∷◌, ℕ, Option, Some, None, option_map, IfSome}
-use Rattle.std.proofs.Common.{if◌then◌else◌, is_some, refl, sym, ap, subst, ◌∙◌, nat_cmp, Less, Equal, Greater, Ordering}
+use Rattle.std.proofs.Common.{◌≡◌, ◌&&◌, ◌||◌, Bool, true, false, List, ◌∷◌, ℕ, Option, Some, None, option_map, IfSome}
+use Rattle.std.proofs.Common.{if◌then◌else◌, refl, sym, ap, subst, ◌∙◌, nat_cmp, Less, Equal, Greater, Ordering}
 use Rattle.std.proofs.Math.Bool.{and-false, and_assoc}
 use Rattle.std.proofs.lemmas.Cmp.{nat_list_cmp_total}
 use Rattle.std.proofs.lemmas.Map.Text.{is_eq-slice_cmp}
@@ -10,7 +10,7 @@ use Rattle.std.specs.Option.{option_map_or}
 use Rattle.std.specs.Ordering.{is_eq, ordering_reverse}
 use Rattle.std.specs.Str.{bytes_eq}
 use Rattle.data_tree.specs.Parts.{names_of}
-use Rattle.data_tree.specs.Tree.{Tree, list, fields, Items, no_items, item, Members, no_members, member, nothing, truth}
+use Rattle.data_tree.specs.Tree.{Tree, list, fields, Items, no_items, item, Members, no_members, member}
 use Rattle.data_tree.specs.WellFormed.{IsAscending, IsWellFormed, AreWellFormed, HaveWellFormedValues}
 use Rattle.json_match.specs.Inner.Walk as walk
 use Rattle.json_match.specs.Inner.Walk.{member_at}

@@ -1,9 +1,9 @@
-use Rattle.std.proofs.Common.{◌≡◌, ◌+◌, ◌∷◌, ◌⊎◌, inl, inr, true, false, drop, length, vec_len, ◌<◌, sym, ap, subst, ◌∙◌, arith, rules}
+use Rattle.std.proofs.Common.{◌≡◌, ◌+◌, ◌∷◌, inl, inr, true, drop, length, vec_len, ◌<◌, sym, ap, subst, ◌∙◌, arith, rules}
 use Rattle.std.proofs.lemmas.List.{drop_more}
-use Rattle.data_tree.specs.Tree.{view, items_view, members_view}
+use Rattle.data_tree.specs.Tree.{view, items_view}
 use Rattle.json_match.proofs.Lists.{unequal_lengths, other_lengths, as_they_take, none_takes, no_partner, partner}
 use Rattle.json_match.proofs.Lists.{all_taken, none_is_left, length-items_view, not_true, not_false}
-use Rattle.json_match.proofs.Takings.{takes_first, none_taken, no_first, the_first}
+use Rattle.json_match.proofs.Takings.{none_taken, no_first, the_first}
 use Rattle.json_match.specs.Inner.Taken.{left_of}
 use Rattle.json_match.specs.Inner.Walk.{is_equal, each_takes_one}
 use Rattle.json_match.proofs.compare.+is_equal.Goals as goal

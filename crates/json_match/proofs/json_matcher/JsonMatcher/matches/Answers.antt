@@ -1,4 +1,4 @@
-use Rattle.std.proofs.Common.{ap, sym, subst, ◌∙◌, IfOk, IsTrue, ◌↔◌}
+use Rattle.std.proofs.Common.{ap, subst, ◌∙◌, IfOk, IsTrue, ◌↔◌}
 use Rattle.data_tree.specs.LookUp.{at}
 use Rattle.data_tree.specs.Tree.{view}
 use Rattle.json_match.proofs.Tests.{matches_tree, matches_path}
