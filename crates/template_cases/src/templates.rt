@@ -24,9 +24,10 @@ fn refused(alloc: Global, error: TemplateError) -> Result<String, AllocError> {
 }
 
 fn parts(alloc: Global, template: Template) -> Result<String, AllocError> {
+    let nodes = template.into_nodes();
     let mut parts = String::from_str(alloc, "\t")?;
-    for node in template.into_nodes() {
-        add_node(alloc, &mut parts, &node)?;
+    for node in &nodes {
+        add_node(alloc, &mut parts, node)?;
     }
     Ok(parts)
 }
