@@ -53,17 +53,17 @@ fn add_paths(alloc: Global, cells: &mut String, code: &Code) -> Result<(), Alloc
 pub fn verdict(alloc: Global, row: &Row) -> Result<String, AllocError> {
     match verify(alloc, read_code(alloc, row)?) {
         Ok(verified) => accepted(alloc, &verified, row),
-        Err(error) => refused(alloc, error),
+        Err(error) => refused(alloc, &error),
     }
 }
 
-fn refused(alloc: Global, error: VerifyError) -> Result<String, AllocError> {
+fn refused(alloc: Global, error: &VerifyError) -> Result<String, AllocError> {
     match error {
         VerifyError::CodeRefused { code, index, rule } => {
             let count = code.instrs().len();
             format!(in alloc; "\t{rule:?}\t{index}\t{count}")
         }
-        VerifyError::OutOfMemory { code: _code } => Err(AllocError),
+        VerifyError::OutOfMemory { .. } => Err(AllocError),
     }
 }
 
@@ -105,16 +105,20 @@ fn read_code(alloc: Global, row: &Row) -> Result<Code, AllocError> {
 fn read_instrs(alloc: Global, text: &str) -> Result<Vec<Instr>, AllocError> {
     let mut instrs = Vec::new(alloc);
     for word in text.split(';') {
-        let (name, operand) = word.trim().split_once(' ').unwrap_or((word.trim(), ""));
-        if let Some(instr) = read_instr(name.as_bytes(), operand) {
+        if let Some(instr) = read_instr(word.trim()) {
             instrs.push(instr)?;
         }
     }
     Ok(instrs)
 }
 
+fn read_instr(word: &str) -> Option<Instr> {
+    let (name, operand) = word.split_once(' ').unwrap_or((word, ""));
+    with_operand(name.as_bytes(), operand)
+}
+
 // By the letters in which the names differ.
-fn read_instr(name: &[u8], operand: &str) -> Option<Instr> {
+fn with_operand(name: &[u8], operand: &str) -> Option<Instr> {
     match name {
         [b'S', ..] => Some(Instr::Show),
         [b'P', ..] => Some(Instr::Print),
@@ -141,7 +145,7 @@ fn with_index(name: &[u8], index: usize) -> Option<Instr> {
 fn read_texts(alloc: Global, text: &str) -> Result<Vec<PlainText>, AllocError> {
     let mut texts = Vec::new(alloc);
     for entry in text.split('|') {
-        texts.push(PlainText::new(String::from_str(alloc, entry)?))?;
+        texts.push(plain_text(alloc, entry)?)?;
     }
     Ok(texts)
 }
@@ -166,5 +170,9 @@ fn read_step(alloc: Global, word: &str) -> Result<Step, AllocError> {
     if let Ok(index) = word.parse::<u32>() {
         return Ok(Step::Index(index));
     }
-    Ok(Step::Name(PlainText::new(String::from_str(alloc, word)?)))
+    Ok(Step::Name(plain_text(alloc, word)?))
+}
+
+fn plain_text(alloc: Global, text: &str) -> Result<PlainText, AllocError> {
+    Ok(PlainText::new(String::from_str(alloc, text)?))
 }
