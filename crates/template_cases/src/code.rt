@@ -3,7 +3,8 @@
 
 use crate::programs::request;
 use crate::templates::{add_path, add_text};
-use case_table::row::{Row, add_cell};
+use case_table::cells::Cells;
+use case_table::row::Row;
 use code_verifier::budget::Budget;
 use code_verifier::error::VerifyError;
 use code_verifier::verified::Verified;
@@ -25,28 +26,23 @@ pub fn parts(alloc: Global, row: &Row) -> Result<String, AllocError> {
 
 /// The listing of code, its texts and its paths.
 pub fn code_cells(alloc: Global, code: &Code) -> Result<String, AllocError> {
-    let mut cells = String::new(alloc);
-    add_cell(&mut cells, listing(alloc, code)?.as_str())?;
-    add_texts(&mut cells, code)?;
-    add_paths(alloc, &mut cells, code)?;
-    Ok(cells)
+    let listing = listing(alloc, code)?;
+    let mut cells = Cells::new(alloc);
+    cells.add_cell(listing.as_str());
+    add_tables(&mut cells, code);
+    cells.finish()
 }
 
-fn add_texts(cells: &mut String, code: &Code) -> Result<(), AllocError> {
-    cells.push('\t')?;
+fn add_tables(cells: &mut Cells, code: &Code) {
+    cells.add("\t");
     for text in code.texts() {
-        add_text(cells, text.as_str())?;
+        add_text(cells, text.as_str());
     }
-    Ok(())
-}
-
-fn add_paths(alloc: Global, cells: &mut String, code: &Code) -> Result<(), AllocError> {
-    cells.push('\t')?;
+    cells.add("\t");
     for path in code.paths() {
-        cells.push('{')?;
-        add_path(alloc, cells, path)?;
+        cells.add("{");
+        add_path(cells, path);
     }
-    Ok(())
 }
 
 /// The rule that the code breaks and at which instruction, or its budgets and what its run writes.
@@ -105,20 +101,16 @@ fn read_code(alloc: Global, row: &Row) -> Result<Code, AllocError> {
 fn read_instrs(alloc: Global, text: &str) -> Result<Vec<Instr>, AllocError> {
     let mut instrs = Vec::new(alloc);
     for word in text.split(';') {
-        if let Some(instr) = read_instr(word.trim()) {
+        let (name, operand) = word.trim().split_once(' ').unwrap_or((word.trim(), ""));
+        if let Some(instr) = read_instr(name.as_bytes(), operand) {
             instrs.push(instr)?;
         }
     }
     Ok(instrs)
 }
 
-fn read_instr(word: &str) -> Option<Instr> {
-    let (name, operand) = word.split_once(' ').unwrap_or((word, ""));
-    with_operand(name.as_bytes(), operand)
-}
-
 // By the letters in which the names differ.
-fn with_operand(name: &[u8], operand: &str) -> Option<Instr> {
+fn read_instr(name: &[u8], operand: &str) -> Option<Instr> {
     match name {
         [b'S', ..] => Some(Instr::Show),
         [b'P', ..] => Some(Instr::Print),
@@ -145,7 +137,7 @@ fn with_index(name: &[u8], index: usize) -> Option<Instr> {
 fn read_texts(alloc: Global, text: &str) -> Result<Vec<PlainText>, AllocError> {
     let mut texts = Vec::new(alloc);
     for entry in text.split('|') {
-        texts.push(plain_text(alloc, entry)?)?;
+        texts.push(PlainText::new(String::from_str(alloc, entry)?))?;
     }
     Ok(texts)
 }
@@ -170,9 +162,5 @@ fn read_step(alloc: Global, word: &str) -> Result<Step, AllocError> {
     if let Ok(index) = word.parse::<u32>() {
         return Ok(Step::Index(index));
     }
-    Ok(Step::Name(plain_text(alloc, word)?))
-}
-
-fn plain_text(alloc: Global, text: &str) -> Result<PlainText, AllocError> {
-    Ok(PlainText::new(String::from_str(alloc, text)?))
+    Ok(Step::Name(PlainText::new(String::from_str(alloc, word)?)))
 }

@@ -19,10 +19,8 @@ pub fn described(alloc: Global, text: &str) -> Result<String, AllocError> {
     Ok(cells)
 }
 
-// Printed after what is there.
 fn add_printed(alloc: Global, cells: &mut String, value: Data) -> Result<(), AllocError> {
-    cells.push('\t')?;
-    value.print_into(alloc, cells)
+    add_cell(cells, printed(alloc, &value)?.as_str())
 }
 
 fn list(alloc: Global, text: &str) -> Result<Data, AllocError> {
@@ -79,6 +77,12 @@ pub fn measured(made: Result<RequestData, DataError>) -> (u16, u64) {
             }
         }
     }
+}
+
+fn printed(alloc: Global, value: &Data) -> Result<String, AllocError> {
+    let mut out = String::new(alloc);
+    value.print_into(alloc, &mut out)?;
+    Ok(out)
 }
 
 /// A cell with the JSON text of what was found.
