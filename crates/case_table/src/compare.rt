@@ -21,7 +21,7 @@ pub fn compare_all<T: CaseTable>(rt: &HostRuntime, tables: &[T]) -> io::Result<E
     let mut cases = 0u64;
     let mut differ = 0u64;
     for table in tables {
-        let text = fs::read_to_string(rt, table.file())?;
+        let text = read_again(rt, table.file())?;
         for line in text.lines() {
             if let Some(agrees) = agrees(rt, *table, line)? {
                 cases = cases.saturating_add(1);
@@ -31,6 +31,14 @@ pub fn compare_all<T: CaseTable>(rt: &HostRuntime, tables: &[T]) -> io::Result<E
     }
     println!(rt; "{cases} cases, {differ} differ")?;
     Ok(ExitCode::from(u8::from(cases == 0 || differ > 0)))
+}
+
+// Once more where memory ran out.
+fn read_again(rt: &HostRuntime, file: &str) -> io::Result<String> {
+    match fs::read_to_string(rt, file) {
+        Ok(text) => Ok(text),
+        Err(_error) => fs::read_to_string(rt, file),
+    }
 }
 
 /// How a line compares.
