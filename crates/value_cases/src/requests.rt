@@ -14,9 +14,14 @@ use std::alloc::{AllocError, Global};
 /// What the copy of a request gives back: its method, its URL, path and query, its headers and its body.
 pub fn kept(alloc: Global, row: &Row) -> Result<String, AllocError> {
     match snapshot(alloc, row) {
-        Ok(request) => parts(alloc, &request.try_clone()?),
+        Ok(request) => parts_of_copy(alloc, &request),
         Err(error) => refused(alloc, error),
     }
+}
+
+fn parts_of_copy(alloc: Global, request: &Snapshot) -> Result<String, AllocError> {
+    let copy = request.try_clone()?;
+    parts(alloc, &copy)
 }
 
 fn parts(alloc: Global, request: &Snapshot) -> Result<String, AllocError> {
@@ -25,12 +30,17 @@ fn parts(alloc: Global, request: &Snapshot) -> Result<String, AllocError> {
     for cell in [request.method(), request.url(), request.path(), query] {
         add_cell(&mut cells, cell)?;
     }
-    add_cell(&mut cells, "")?;
-    for (name, value) in request.headers() {
-        add_header(alloc, &mut cells, name.as_str(), value.as_bytes())?;
-    }
+    add_headers(alloc, &mut cells, request)?;
     add_bytes(alloc, &mut cells, request.body().as_slice())?;
     Ok(cells)
+}
+
+fn add_headers(alloc: Global, cells: &mut String, request: &Snapshot) -> Result<(), AllocError> {
+    cells.push('\t')?;
+    for (name, value) in request.headers() {
+        add_header(alloc, cells, name.as_str(), value.as_bytes())?;
+    }
+    Ok(())
 }
 
 fn add_header(
@@ -77,12 +87,14 @@ fn data(alloc: Global, request: &Snapshot) -> Result<RequestData, AllocError> {
 /// The size of the data of a request, or of what is handed back, after the error's number.
 pub fn size(alloc: Global, row: &Row) -> Result<String, AllocError> {
     match snapshot(alloc, row) {
-        Ok(request) => {
-            let (error, size) = measured(request_data(alloc, &request, None));
-            format!(in alloc; "\t{error}\t{size}")
-        }
+        Ok(request) => size_of(alloc, &request),
         Err(error) => refused(alloc, error),
     }
+}
+
+fn size_of(alloc: Global, request: &Snapshot) -> Result<String, AllocError> {
+    let (error, size) = measured(request_data(alloc, request, None));
+    format!(in alloc; "\t{error}\t{size}")
 }
 
 fn snapshot(alloc: Global, row: &Row) -> Result<Snapshot, SnapshotError> {
@@ -94,7 +106,7 @@ fn snapshot(alloc: Global, row: &Row) -> Result<Snapshot, SnapshotError> {
 fn headers(alloc: Global, lines: &str) -> Result<Vec<(HeaderName, HeaderValue)>, AllocError> {
     let mut headers = Vec::new(alloc);
     for line in lines.lines() {
-        let (name, value) = line.split_once(": ").ok_or(AllocError)?;
+        let (name, value) = line.split_once(": ").unwrap_or((line, ""));
         headers.push(header(alloc, name, value)?)?;
     }
     Ok(headers)
