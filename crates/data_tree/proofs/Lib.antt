@@ -3,8 +3,12 @@ pub mod Views
 pub mod Lengths
 pub mod Printed
 pub mod Numerals
+pub mod Escapes
+pub mod Drafts
 pub mod Sizes
 pub mod Lookups
+pub mod Formed
+pub mod Names
 pub mod LastText
 pub mod Alike
 pub mod Examples

@@ -1,7 +1,8 @@
 -- What a path finds: nothing, or a part that is no larger; and how paths go together.
 use Rattle.std.proofs.Common.{◌≡◌, ℕ, zero, suc, ◌+◌, ◌≤◌, Bool, true, false, IsTrue, if◌then◌else◌, List, [], ◌∷◌}
 use Rattle.std.proofs.Common.{◌++◌, length, ap, ◌∙◌, refl, inl, inr, arith, length-append, codes, decimal, bytes_eq}
-use Rattle.std.proofs.Common.{max, sum_by, slice_get, Some}
+use Rattle.std.proofs.Common.{◌<◌, max, sum_by, slice_get, get_or, drop, Some, sym}
+use Rattle.std.proofs.lemmas.List.{at_drop_more}
 use Rattle.json.specs.Print.{quoted}
 use Rattle.data_tree.specs.Tree.{Tree, nothing, truth, number, text, list, fields, named, Items, no_items, item}
 use Rattle.data_tree.specs.Tree.{Members, no_members, member}
@@ -35,6 +36,12 @@ at_append (s ∷ a) b t = at_append a b (after s t)
 -- one step more at the end
 pub at_last : (a : List Step) (s : Step) (t : Tree) → at (a ++ s ∷ []) t ≡ after s (at a t)
 at_last a s t = at_append a (s ∷ []) t
+
+-- a path from one of its steps on
+pub at_first : (steps : List Step) (i : ℕ) (s : Step) (t : Tree) → i < length steps → s ≡ get_or steps i s
+    → at (drop i steps) t ≡ at (drop (i + 1) steps) (after s t)
+at_first steps i s t within is =
+    at_drop_more (λ ss. at ss t) steps i s within ∙ ap (λ u. at (u ∷ drop (i + 1) steps) t) (sym is)
 
 -- ---- a value that is nothing or within a limit: what it prints, its items and what is found in it are so too
 

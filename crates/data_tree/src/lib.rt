@@ -13,6 +13,7 @@ pub mod step;
 pub mod data;
 pub mod look_up;
 pub mod parts;
+mod draft;
 pub mod print;
 pub mod size;
 

@@ -1,9 +1,10 @@
 // What a loop or a test asks of a value.
-ghost use Rattle.std.specs.Prelude.{◌≡◌, length, slice_get, option_map};
+ghost use Rattle.std.specs.Prelude.{◌≡◌, length, slice_get, option_map, IfSome};
 ghost use Rattle.std.specs.Option.{option_copied};
 ghost use Rattle.data_tree.specs.Tree.{view};
 ghost use Rattle.data_tree.specs.Print.{is_true};
 ghost use Rattle.data_tree.specs.Parts.{items, keys};
+ghost use Rattle.data_tree.specs.WellFormed.{IsWellFormed};
 
 use crate::data::Data;
 
@@ -43,7 +44,8 @@ impl Data {
 
     /// The item of that index, from 0.
     pub fn item(&self, index: usize) -> Option<&Data>
-        ensures { option_map (λ found. view found.now) result ≡ slice_get (items (view self.now)) index }
+        ensures found { option_map (λ found. view found.now) result ≡ slice_get (items (view self.now)) index }
+        ensures well_formed { IsWellFormed (view self.now) → IfSome result (λ found. IsWellFormed (view found.now)) }
     {
         match self {
             Data::List(items) | Data::Named { items, .. } => item_at(items.as_slice(), index),

@@ -1,11 +1,12 @@
 // What a value prints as: a text as it is, a list or an object as its compact JSON text.
-ghost use Rattle.std.specs.Prelude.{◌≡◌, [], ◌∷◌, ◌++◌, OnOk, OnErr, string_bytes, codes};
-ghost use Rattle.json.specs.Token.{Token};
-ghost use Rattle.data_tree.specs.Json.{json};
-ghost use Rattle.data_tree.specs.Inner.Tokens.{tree_tokens, items_tokens, members_tokens};
-ghost use Rattle.data_tree.specs.Tree.{view, items_view, members_view};
+ghost use Rattle.std.specs.Prelude.{◌≡◌, ◌==◌, ◌++◌, length, OnOk, OnErr, IfOk, string_bytes};
+ghost use Rattle.std.specs.Bool.{OnTrue};
+ghost use Rattle.json.specs.Print.{quoted, escape, escape_byte};
+ghost use Rattle.data_tree.specs.Json.{json, comma_if};
+ghost use Rattle.data_tree.specs.Tree.{view, list, fields, items_view, members_view};
 
 use crate::data::Data;
+use crate::draft::Draft;
 use json::Writer;
 use std::alloc::{AllocError, Global};
 use std::mem;
@@ -16,8 +17,8 @@ impl Data {
     /// Appends what the value prints as.
     ///
     /// Nothing prints as the empty text, a `Text` and a `Named` as their text, and a list or an object as
-    /// its compact JSON text. Each byte is read and written once, straight into `out`; for a list or an
-    /// object the writer also clears some spare room ahead, 16 KiB at most. The recursion is as deep as
+    /// its compact JSON text. Each byte is read and written once, straight into `out`, but for a string in which
+    /// something is to be escaped: that is escaped into a text of its own first. The recursion is as deep as
     /// lists, objects and named texts nest in the value. Where an allocation fails, `out` keeps the text that
     /// it had.
     pub fn print_into(&self, alloc: Global, out: &mut String) -> Result<(), AllocError>
@@ -47,107 +48,117 @@ impl Data {
             (string_bytes out.new ≡ string_bytes out.old ++ json (view self.now)) }
         ensures err { OnErr result (string_bytes out.new ≡ string_bytes out.old) }
     {
-        // The writer takes over the bytes of `out`, and gives them back whether or not it could write it all.
-        let start = out.len();
-        let text = mem::replace(out, String::new(alloc));
-        let mut writer = Writer::new(text.into_bytes());
-        let written = write_value(self, &mut writer);
-        let mut bytes = writer.into_inner();
-        if written.is_err() {
-            bytes.truncate(start);
-        }
-        // SAFETY: it is proved that the bytes are UTF-8. To check them would read all of `out` again.
-        *out = unsafe { String::from_utf8_unchecked(bytes) };
+        // The draft takes `out` over, and gives it back whether or not all of the value could be added.
+        let mut draft = Draft::new(mem::replace(out, String::new(alloc)));
+        let written = write_value(self, alloc, &mut draft);
+        *out = if written.is_ok() { draft.into_text() } else { draft.into_start() };
         written
     }
 }
 
 #[cycle(write)]
-fn write_value(value: &Data, out: &mut Writer) -> Result<(), AllocError>
-    ensures ok { OnOk result (out.new.tokens ≡ out.old.tokens ++ tree_tokens (view value.now)) }
-    ensures before { out.new.before ≡ out.old.before }
+fn write_value(value: &Data, alloc: Global, out: &mut Draft) -> Result<(), AllocError>
+    ensures ok { OnOk result (out.new.1 ≡ out.old.1 ++ json (view value.now)) }
+    ensures before { out.new.0 ≡ out.old.0 }
 {
     match value {
-        Data::Nothing => out.null(),
-        Data::Truth(truth) => out.boolean(*truth),
+        Data::Nothing => out.push("null"),
+        Data::Truth(true) => out.push("true"),
+        Data::Truth(false) => out.push("false"),
         Data::Number(number) => {
             let mut buffer = itoa::Buffer::new();
-            out.number(buffer.format(*number))
+            out.push(buffer.format(*number))
         }
-        Data::Text(text) => out.string(text.as_str()),
-        Data::List(items) => {
-            out.begin_array()?;
-            write_items(items, out)
-        }
-        Data::Fields(members) => {
-            out.begin_object()?;
-            write_members(members, out)
-        }
+        Data::Text(text) => write_text(text.as_str(), alloc, out),
+        Data::List(items) => write_items(items, alloc, out),
+        Data::Fields(members) => write_members(members, alloc, out),
         Data::Named {
             text,
             items,
             fields,
         } => {
-            begin_named(out)?;
-            write_members(fields, out)?;
-            begin_items(out)?;
-            write_items(items, out)?;
-            end_named(text.as_str(), out)
+            out.push("{\"fields\":")?;
+            write_members(fields, alloc, out)?;
+            out.push(",\"items\":")?;
+            write_items(items, alloc, out)?;
+            out.push(",\"text\":")?;
+            write_text(text.as_str(), alloc, out)?;
+            out.push("}")
         }
     }
 }
 
-// A named text is an object of three members: its fields, its items, its text.
-fn begin_named(out: &mut Writer) -> Result<(), AllocError>
-    ensures ok { OnOk result (out.new.tokens ≡ out.old.tokens
-        ++ Token.begin_object ∷ Token.key (codes "fields") ∷ Token.begin_object ∷ []) }
-    ensures before { out.new.before ≡ out.old.before }
-{
-    out.begin_object()?;
-    out.key("fields")?;
-    out.begin_object()
-}
-
-fn begin_items(out: &mut Writer) -> Result<(), AllocError>
-    ensures ok { OnOk result (out.new.tokens ≡ out.old.tokens
-        ++ Token.key (codes "items") ∷ Token.begin_array ∷ []) }
-    ensures before { out.new.before ≡ out.old.before }
-{
-    out.key("items")?;
-    out.begin_array()
-}
-
-fn end_named(text: &str, out: &mut Writer) -> Result<(), AllocError>
-    ensures ok { OnOk result (out.new.tokens ≡ out.old.tokens
-        ++ Token.key (codes "text") ∷ Token.string text.now ∷ Token.end_object ∷ []) }
-    ensures before { out.new.before ≡ out.old.before }
-{
-    out.key("text")?;
-    out.string(text)?;
-    out.end_object()
-}
-
 #[cycle(write)]
-fn write_items(items: &Vec<Data>, out: &mut Writer) -> Result<(), AllocError>
-    ensures ok { OnOk result
-        (out.new.tokens ≡ out.old.tokens ++ items_tokens (items_view items.now.items)) }
-    ensures before { out.new.before ≡ out.old.before }
+fn write_items(items: &Vec<Data>, alloc: Global, out: &mut Draft) -> Result<(), AllocError>
+    ensures ok { OnOk result (out.new.1 ≡ out.old.1 ++ json (list (items_view items.now.items))) }
+    ensures before { out.new.0 ≡ out.old.0 }
 {
+    out.push("[")?;
+    let mut later = false;
     for item in items {
-        write_value(item, out)?;
+        write_comma_if(later, out)?;
+        write_value(item, alloc, out)?;
+        later = true;
     }
-    out.end_array()
+    out.push("]")
 }
 
 #[cycle(write)]
-fn write_members(members: &Vec<(String, Data)>, out: &mut Writer) -> Result<(), AllocError>
-    ensures ok { OnOk result
-        (out.new.tokens ≡ out.old.tokens ++ members_tokens (members_view members.now.items)) }
-    ensures before { out.new.before ≡ out.old.before }
+fn write_members(members: &Vec<(String, Data)>, alloc: Global, out: &mut Draft) -> Result<(), AllocError>
+    ensures ok { OnOk result (out.new.1 ≡ out.old.1 ++ json (fields (members_view members.now.items))) }
+    ensures before { out.new.0 ≡ out.old.0 }
 {
+    out.push("{")?;
+    let mut later = false;
     for (name, member) in members {
-        out.key(name.as_str())?;
-        write_value(member, out)?;
+        write_comma_if(later, out)?;
+        write_text(name.as_str(), alloc, out)?;
+        out.push(":")?;
+        write_value(member, alloc, out)?;
+        later = true;
     }
-    out.end_object()
+    out.push("}")
+}
+
+fn write_comma_if(later: bool, out: &mut Draft) -> Result<(), AllocError>
+    ensures ok { OnOk result (out.new.1 ≡ out.old.1 ++ comma_if later) }
+    ensures before { out.new.0 ≡ out.old.0 }
+{
+    if later { out.push(",") } else { Ok(()) }
+}
+
+// A text between quotes. Most have nothing to be escaped.
+fn write_text(text: &str, alloc: Global, out: &mut Draft) -> Result<(), AllocError>
+    ensures ok { OnOk result (out.new.1 ≡ out.old.1 ++ quoted text.now) }
+    ensures before { out.new.0 ≡ out.old.0 }
+{
+    if !is_plain(text) {
+        return out.push(escaped(text, alloc)?.as_str());
+    }
+    out.push("\"")?;
+    out.push(text)?;
+    out.push("\"")
+}
+
+fn is_plain(text: &str) -> bool
+    ensures { OnTrue result (escape text.now ≡ text.now) }
+{
+    text.as_bytes().iter().all(|byte| is_plain_byte(*byte))
+}
+
+#[tactic(auto, unfolding(json::specs::Print::escape_byte))]
+fn is_plain_byte(byte: u8) -> bool
+    ensures { result ≡ (length (escape_byte byte) == 1) }
+{
+    b' ' <= byte && byte != b'"' && byte != b'\\'
+}
+
+// The text between quotes, by the writer of `json`.
+fn escaped(text: &str, alloc: Global) -> Result<String, AllocError>
+    ensures { IfOk result (λ made. string_bytes made ≡ quoted text.now) }
+{
+    let mut writer = Writer::new(Vec::new(alloc));
+    writer.string(text)?;
+    // SAFETY: it is proved that the writer's bytes are UTF-8.
+    Ok(unsafe { String::from_utf8_unchecked(writer.into_inner()) })
 }

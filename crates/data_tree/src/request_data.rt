@@ -3,6 +3,8 @@ ghost use Rattle.std.specs.Prelude.{◌≤◌};
 ghost use Rattle.data_tree.specs.Tree.{view};
 ghost use Rattle.data_tree.specs.Json.{size};
 ghost use Rattle.data_tree.specs.LookUp.{EmptyNameFindsNothing};
+ghost use Rattle.data_tree.specs.WellFormed.{IsWellFormed};
+ghost use Rattle.data_tree.specs.Inner.OneProof.{IsWellFormed-prop};
 ghost use Rattle.data_tree.specs.declared.request_data.TheConstants.{SIZE_LIMIT};
 
 use crate::data::Data;
@@ -11,11 +13,13 @@ use error_code::error_code::ErrorCode;
 /// The largest size that the data of a request may have: bytes of its compact JSON text, plus 1.
 pub const SIZE_LIMIT: u64 = 16_777_216;
 
-/// What a template sees of one request: a value within the limit, in whose root the empty name finds nothing.
+/// What a template sees of one request: a well-formed value within the limit, in whose root the empty name finds
+/// nothing.
 #[derive(Debug, Drop)]
 pub struct RequestData {
     root: Data,
     ghost within_limit: { size (view root) ≤ SIZE_LIMIT },
+    ghost well_formed: { IsWellFormed (view root) } by { IsWellFormed-prop (view root) },
     ghost no_empty_name: { EmptyNameFindsNothing (view root) },
 }
 
@@ -33,11 +37,13 @@ impl RequestData {
     ghost use Rattle.data_tree.specs.Tree.{view};
     ghost use Rattle.data_tree.specs.Json.{size};
     ghost use Rattle.data_tree.specs.LookUp.{EmptyNameFindsNothing};
+    ghost use Rattle.data_tree.specs.WellFormed.{IsWellFormed};
     ghost use Rattle.data_tree.specs.RequestData.{root_of};
 
     /// Takes the value over, where it is within the limit. Takes no memory.
     pub fn new(root: Data) -> Result<RequestData, DataError>
-        requires { EmptyNameFindsNothing (view root) }
+        requires well_formed { IsWellFormed (view root) }
+        requires no_empty_name { EmptyNameFindsNothing (view root) }
         ensures { MatchResult result
             (λ made. (root_of made ≡ view root) × (size (view root) ≤ SIZE_LIMIT))
             (λ error. (error ≡ DataError.TooLarge root) × (SIZE_LIMIT < size (view root))) }
@@ -52,6 +58,7 @@ impl RequestData {
     pub fn root(&self) -> &Data
         ensures tree { view result.now ≡ root_of self.now }
         ensures within_limit { size (root_of self.now) ≤ SIZE_LIMIT }
+        ensures well_formed { IsWellFormed (root_of self.now) }
         ensures no_empty_name { EmptyNameFindsNothing (root_of self.now) }
     {
         &self.root

@@ -6,6 +6,5 @@
 mod compiled;
 pub mod error;
 mod pattern;
-pub mod text;
 pub mod value_matcher;
 pub mod value_spec;

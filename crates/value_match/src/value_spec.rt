@@ -2,7 +2,7 @@
 ghost use Rattle.std.specs.Prelude.{◌≡◌, ◌↔◌, IfOk, IsTrue, option_copied};
 ghost use Rattle.value_match.specs.Refusal.{pattern_of};
 
-use crate::text::Text;
+use plain_text::text::Text;
 use std::alloc::AllocError;
 
 /// A value matcher as it was written.

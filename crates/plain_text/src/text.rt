@@ -1,6 +1,7 @@
-// A text of a matcher.
+// A text that contracts see as its bytes.
 ghost use Rattle.std.specs.Prelude.{◌≡◌, ◌↔◌, IfOk, IsTrue, string_bytes};
 
+use crate::plain::{Same, TryClone};
 use std::alloc::AllocError;
 use std::marker::Model;
 
@@ -25,6 +26,14 @@ impl Text {
         self.text.as_str()
     }
 
+    /// Gives the text back without copying it.
+    pub fn into_string(self) -> String
+        ensures { string_bytes result ≡ self }
+    {
+        let Text { text } = self;
+        text
+    }
+
     pub fn try_clone(&self) -> Result<Text, AllocError>
         ensures { IfOk result (λ copy. copy ≡ self.now) }
     {
@@ -37,6 +46,18 @@ impl Text {
         ensures { IsTrue result ↔ (self.now ≡ other.now) }
     {
         self.as_str() == other.as_str()
+    }
+}
+
+impl TryClone for Text {
+    fn try_clone(&self) -> Result<Text, AllocError> {
+        Text::try_clone(self)
+    }
+}
+
+impl Same for Text {
+    fn same(&self, other: &Text) -> bool {
+        Text::same(self, other)
     }
 }
 

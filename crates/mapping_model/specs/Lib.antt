@@ -1,0 +1,4 @@
+pub mod MappingId
+pub mod Status
+pub mod Body
+pub mod Priority

@@ -1,0 +1,90 @@
+// A stub mapping.
+ghost use Rattle.std.specs.Prelude.{◌≡◌, ◌↔◌, IfOk, IsTrue};
+ghost use Rattle.mapping_model.specs.Priority.{priority_of};
+
+use crate::mapping_id::MappingId;
+use crate::option_text::{same_option, try_clone_option};
+use crate::request_spec::RequestSpec;
+use crate::scenario_spec::ScenarioSpec;
+use crate::version::Version;
+use plain_text::text::Text;
+use std::alloc::AllocError;
+
+/// The priority of a mapping that has none of its own.
+pub const DEFAULT_PRIORITY: i32 = 5;
+
+/// A stub mapping as it was written.
+#[derive(Drop)]
+pub struct MappingSpec {
+    /// Absent until the event that adds the mapping gives it one.
+    pub id: Option<MappingId>,
+    pub name: Option<Text>,
+    /// The lower number wins.
+    pub priority: Option<i32>,
+    pub scenario: Option<ScenarioSpec>,
+    pub request: RequestSpec,
+    pub response: Version,
+}
+
+impl MappingSpec {
+    /// The priority, or the default one.
+    pub fn priority_number(&self) -> i32
+        ensures { result ≡ priority_of self.now.priority }
+    {
+        self.priority.unwrap_or(DEFAULT_PRIORITY)
+    }
+
+    /// Shares the response.
+    pub fn try_clone(&self) -> Result<MappingSpec, AllocError>
+        ensures { IfOk result (λ copy. copy ≡ self.now) }
+    {
+        Ok(MappingSpec {
+            id: self.id,
+            name: try_clone_option(&self.name)?,
+            priority: self.priority,
+            scenario: try_clone_scenario(&self.scenario)?,
+            request: self.request.try_clone()?,
+            response: self.response.try_clone()?,
+        })
+    }
+
+    pub fn same(&self, other: &MappingSpec) -> bool
+        ensures { IsTrue result ↔ (self.now ≡ other.now) }
+    {
+        same_id(self.id, other.id)
+            && same_option(&self.name, &other.name)
+            && self.priority == other.priority
+            && same_scenario(&self.scenario, &other.scenario)
+            && self.request.same(&other.request)
+            && self.response.same(&other.response)
+    }
+}
+
+fn same_id(a: Option<MappingId>, b: Option<MappingId>) -> bool
+    ensures { IsTrue result ↔ (a ≡ b) }
+{
+    match (a, b) {
+        (Some(a), Some(b)) => a.same(b),
+        (None, None) => true,
+        _ => false,
+    }
+}
+
+fn try_clone_scenario(scenario: &Option<ScenarioSpec>) -> Result<Option<ScenarioSpec>, AllocError>
+    ensures { IfOk result (λ copy. copy ≡ scenario.now) }
+{
+    match scenario {
+        Some(scenario) => Ok(Some(scenario.try_clone()?)),
+        None => Ok(None),
+    }
+}
+
+fn same_scenario(a: &Option<ScenarioSpec>, b: &Option<ScenarioSpec>) -> bool
+    ensures { IsTrue result ↔ (a.now ≡ b.now) }
+{
+    match (a, b) {
+        (Some(a), Some(b)) => a.same(b),
+        (None, None) => true,
+        _ => false,
+    }
+}

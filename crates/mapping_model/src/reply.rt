@@ -1,0 +1,60 @@
+// What a request is answered with.
+ghost use Rattle.std.specs.Prelude.{◌≡◌, ◌↔◌, IfOk, IsTrue};
+
+use crate::field_name::FieldName;
+use bytes::Bytes;
+use plain_text::items::Items;
+use plain_text::octets::Octets;
+use plain_text::plain::{Same, TryClone};
+use std::alloc::AllocError;
+
+/// A header line of a reply.
+#[derive(Drop)]
+pub struct ReplyHeader {
+    pub name: FieldName,
+    pub value: Octets,
+}
+
+impl TryClone for ReplyHeader {
+    fn try_clone(&self) -> Result<ReplyHeader, AllocError> {
+        Ok(ReplyHeader {
+            name: self.name.try_clone()?,
+            value: self.value.try_clone()?,
+        })
+    }
+}
+
+impl Same for ReplyHeader {
+    fn same(&self, other: &ReplyHeader) -> bool {
+        self.name.same(&other.name) && self.value.same(&other.value)
+    }
+}
+
+/// A reply: a stub's, the server's own, or that of an upstream, which may have any status.
+#[derive(Drop)]
+pub struct Reply {
+    pub status: u16,
+    pub headers: Items<ReplyHeader>,
+    pub body: Bytes,
+}
+
+impl Reply {
+    /// Shares the body.
+    pub fn try_clone(&self) -> Result<Reply, AllocError>
+        ensures { IfOk result (λ copy. copy ≡ self.now) }
+    {
+        Ok(Reply {
+            status: self.status,
+            headers: self.headers.try_clone()?,
+            body: self.body.clone()?,
+        })
+    }
+
+    pub fn same(&self, other: &Reply) -> bool
+        ensures { IsTrue result ↔ (self.now ≡ other.now) }
+    {
+        self.status == other.status
+            && self.headers.same(&other.headers)
+            && self.body.as_slice() == other.body.as_slice()
+    }
+}
