@@ -1,5 +1,5 @@
-//! Compares what the calls of `data_tree`, `json_bridge`, `mock_request`, `helper_set` and `error_code` answer with the
-//! tables in `data/`.
+//! Compares what the calls of `data_tree`, `json_bridge`, `mock_request`, `request_data`, `helper_set` and `error_code`
+//! answer with the tables in `data/`.
 #![tactic(auto)]
 
 mod codes;
@@ -27,6 +27,8 @@ fn main(rt: HostRuntime) -> io::Result<ExitCode> {
             Table::Paths,
             Table::Requests,
             Table::Parts,
+            Table::Printed,
+            Table::Bindings,
             Table::Sizes,
             Table::Helpers,
             Table::Signatures,

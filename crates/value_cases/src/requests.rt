@@ -1,14 +1,16 @@
 //! Requests, and the data that templates see of them. A row gives a method, a target, headers with a line feed between
 //! two, and a body whose characters are its bytes (ISO-8859-1).
 
-use crate::values::{cell_of, measured, path};
+use crate::values::{cell_of, measured, path, printed};
 use bytes::Bytes;
 use case_table::row::{Row, add_cell};
+use data_tree::data::Data;
 use data_tree::request_data::RequestData;
 use http_header::{HeaderName, HeaderValue};
 use mock_request::error::SnapshotError;
 use request_data::tree::request_data;
 use mock_request::snapshot::Snapshot;
+use path_template::path_template::PathTemplate;
 use std::alloc::{AllocError, Global};
 
 /// What the copy of a request gives back: its method, its URL, path and query, its headers and its body.
@@ -77,6 +79,47 @@ fn part_of(alloc: Global, request: &Snapshot, steps: &str) -> Result<String, All
     let path = path(alloc, steps)?;
     let data = data(alloc, request)?;
     cell_of(alloc, data.root().at(path.steps()))
+}
+
+/// What prints where the steps find something in the data of a request.
+pub fn printed_part(alloc: Global, row: &Row) -> Result<String, AllocError> {
+    match snapshot(alloc, row) {
+        Ok(request) => printed_of(alloc, &request, row.cell(4)),
+        Err(error) => refused(alloc, error),
+    }
+}
+
+fn printed_of(alloc: Global, request: &Snapshot, steps: &str) -> Result<String, AllocError> {
+    let path = path(alloc, steps)?;
+    let data = data(alloc, request)?;
+    let mut cells = String::new(alloc);
+    let found = data.root().at(path.steps()).unwrap_or(&Data::Nothing);
+    add_cell(&mut cells, printed(alloc, found)?.as_str())?;
+    Ok(cells)
+}
+
+/// The JSON texts of the path and of its segments in the data of a request, with what a path template binds in it.
+pub fn bindings(alloc: Global, row: &Row) -> Result<String, AllocError> {
+    match plain_request(alloc, row.cell(0)) {
+        Ok(request) => paths_of(alloc, &request, row.cell(1)),
+        Err(error) => refused(alloc, error),
+    }
+}
+
+fn plain_request(alloc: Global, target: &str) -> Result<Snapshot, SnapshotError> {
+    Snapshot::new(alloc, "GET", target, Vec::new(alloc), Bytes::new())
+}
+
+// All templates of the table are well formed.
+fn paths_of(alloc: Global, request: &Snapshot, template: &str) -> Result<String, AllocError> {
+    let template = PathTemplate::parse(alloc, template).ok().ok_or(AllocError)?;
+    let data = request_data(alloc, request, Some(&template)).ok().ok_or(AllocError)?;
+    let mut cells = String::new(alloc);
+    for steps in [r#"["request","path"]"#, r#"["request","pathSegments"]"#] {
+        let path = path(alloc, steps)?;
+        cells.push_str(cell_of(alloc, data.root().at(path.steps()))?.as_str())?;
+    }
+    Ok(cells)
 }
 
 // None of the requests' data is over the limit.

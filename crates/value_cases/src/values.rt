@@ -79,7 +79,8 @@ pub fn measured(made: Result<RequestData, DataError>) -> (u16, u64) {
     }
 }
 
-fn printed(alloc: Global, value: &Data) -> Result<String, AllocError> {
+/// What the value prints.
+pub fn printed(alloc: Global, value: &Data) -> Result<String, AllocError> {
     let mut out = String::new(alloc);
     value.print_into(alloc, &mut out)?;
     Ok(out)
