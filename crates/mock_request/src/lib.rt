@@ -5,6 +5,7 @@
 #![tactic(auto)]
 
 // The request.
+mod block;
 pub mod error;
 pub mod snapshot;
 mod target;
