@@ -15,6 +15,7 @@ pub mod body;
 pub mod cookies;
 pub mod header_fields;
 pub mod query;
+pub mod request_values;
 
 // What holds of all targets and URLs.
 pub mod laws;

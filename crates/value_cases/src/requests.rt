@@ -2,7 +2,6 @@
 //! two, and a body whose characters are its bytes (ISO-8859-1).
 
 use crate::values::{cell_of, measured, path};
-use bytes::Bytes;
 use case_table::row::{Row, add_cell};
 use data_tree::request_data::RequestData;
 use http_header::{HeaderName, HeaderValue};
@@ -26,10 +25,12 @@ fn parts(alloc: Global, request: &Snapshot) -> Result<String, AllocError> {
         add_cell(&mut cells, cell)?;
     }
     add_cell(&mut cells, "")?;
-    for (name, value) in request.headers() {
-        add_header(alloc, &mut cells, name.as_str(), value.as_bytes())?;
+    for index in 0..request.header_count() {
+        if let Some((name, value)) = request.header(index) {
+            add_header(alloc, &mut cells, name, value)?;
+        }
     }
-    add_bytes(alloc, &mut cells, request.body().as_slice())?;
+    add_bytes(alloc, &mut cells, request.body())?;
     Ok(cells)
 }
 
@@ -88,7 +89,7 @@ pub fn size(alloc: Global, row: &Row) -> Result<String, AllocError> {
 fn snapshot(alloc: Global, row: &Row) -> Result<Snapshot, SnapshotError> {
     let headers = headers(alloc, row.cell(2))?;
     let body = body(alloc, row.cell(3))?;
-    Snapshot::new(alloc, row.cell(0), row.cell(1), headers, body)
+    Snapshot::new(alloc, row.cell(0), row.cell(1), &headers, &body)
 }
 
 fn headers(alloc: Global, lines: &str) -> Result<Vec<(HeaderName, HeaderValue)>, AllocError> {
@@ -118,10 +119,10 @@ fn header_value(alloc: Global, value: &str) -> Result<HeaderValue, AllocError> {
     }
 }
 
-fn body(alloc: Global, text: &str) -> Result<Bytes, AllocError> {
+fn body(alloc: Global, text: &str) -> Result<Vec<u8>, AllocError> {
     let mut body = Vec::new(alloc);
     for letter in text.chars() {
         body.push(u8::try_from(u32::from(letter)).unwrap_or(0))?;
     }
-    Ok(Bytes::from_vec(body)?)
+    Ok(body)
 }
