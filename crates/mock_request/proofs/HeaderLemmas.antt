@@ -1,5 +1,5 @@
 -- What one more header adds.
-use Rattle.std.proofs.Common.{◌≡◌, ℕ, ◌+◌, ◌<◌, length, take, get_or, Bool, true, false, List}
+use Rattle.std.proofs.Common.{◌≡◌, ℕ, ◌+◌, ◌<◌, length, take, Bool, true, false, List}
 use Rattle.std.proofs.Common.{[], ◌∷◌, ◌++◌, map, append-nil, sym, refl, ap, subst, ◌∙◌, codes}
 use Rattle.std.specs.List.{filter, flat_map, slice_get}
 use Rattle.std.specs.Prelude.{Some, All, MatchOption}

@@ -1,5 +1,5 @@
 -- Where the parts of a request are in a snapshot's block.
-use Rattle.std.proofs.Common.{◌≡◌, ℕ, zero, suc, ◌+◌, ◌*◌, ◌-◌, ◌<◌, ◌≤◌, List, [], ◌∷◌, ◌++◌, length, get_or, take, refl, sym, ap, subst, ◌∙◌, arith, All}
+use Rattle.std.proofs.Common.{◌≡◌, ℕ, zero, suc, ◌+◌, ◌*◌, ◌<◌, ◌≤◌, List, [], ◌∷◌, ◌++◌, length, get_or, take, refl, sym, ap, subst, ◌∙◌, arith, All}
 use Rattle.std.specs.Prelude.{slice_get, Some, IsUtf8}
 use Rattle.std.proofs.lemmas.List.{map-append, take_more, append_assoc}
 use Rattle.http_header.specs.FieldValue.{FieldValue}

@@ -19,8 +19,11 @@ pub const BODY_LIMIT: usize = 1_048_576;
 
 // Where the parts of a request are in its block: method, URL, body, and then a name and a value for each header.
 const METHOD: usize = 0;
+
 const URL: usize = 1;
+
 const BODY: usize = 2;
+
 const HEADERS: usize = 3;
 
 /// A request as it was received: its method, its URL (path and query as they were received), its headers in their
@@ -111,7 +114,10 @@ impl Snapshot {
           body = body.now;
         }) }
     {
-        let fixed = method.len().saturating_add(url.len()).saturating_add(body.len());
+        let fixed = method
+            .len()
+            .saturating_add(url.len())
+            .saturating_add(body.len());
         let total = headers_len(headers).saturating_add(fixed);
         let mut parts = Block::with_room(alloc, HEADERS + 2 * headers.len(), total)?;
         parts.push(method.as_bytes())?;
@@ -197,10 +203,7 @@ impl Snapshot {
 }
 
 // Appends the name and the value of each header.
-fn push_headers(
-    parts: &mut Block,
-    headers: &[(HeaderName, HeaderValue)],
-) -> Result<(), AllocError>
+fn push_headers(parts: &mut Block, headers: &[(HeaderName, HeaderValue)]) -> Result<(), AllocError>
     ensures parts { OnOk result (parts.new ≡ parts.old ++ fields_of (headers_of headers.now)) }
     ensures names { OnOk result (All (λ header. IsHeaderName header.name) (headers_of headers.now)) }
 {
@@ -215,7 +218,9 @@ fn push_headers(
 fn headers_len(headers: &[(HeaderName, HeaderValue)]) -> usize {
     let mut total: usize = 0;
     for (name, value) in headers {
-        total = total.saturating_add(name.as_bytes().len()).saturating_add(value.len());
+        total = total
+            .saturating_add(name.as_bytes().len())
+            .saturating_add(value.len());
     }
     total
 }

@@ -6,6 +6,7 @@ use case_table::row::{Row, add_cell};
 use data_tree::request_data::RequestData;
 use http_header::{HeaderName, HeaderValue};
 use mock_request::error::SnapshotError;
+use mock_request::request_values::RequestValues;
 use request_data::tree::request_data;
 use mock_request::snapshot::Snapshot;
 use std::alloc::{AllocError, Global};
@@ -32,6 +33,44 @@ fn parts(alloc: Global, request: &Snapshot) -> Result<String, AllocError> {
     }
     add_bytes(alloc, &mut cells, request.body())?;
     Ok(cells)
+}
+
+/// What matchers see of a request: the names and values of its query, of its cookies and of its headers, a line each,
+/// and the text of its body. The characters of the row's headers, too, are bytes.
+pub fn named_values(alloc: Global, row: &Row) -> Result<String, AllocError> {
+    let headers = headers(alloc, row.cell(2), Bytes::OfCharacters)?;
+    let body = bytes(alloc, row.cell(3))?;
+    match Snapshot::new(alloc, row.cell(0), row.cell(1), &headers, &body) {
+        Ok(request) => values_of(alloc, &RequestValues::read(alloc, &request)?),
+        Err(error) => refused(alloc, error),
+    }
+}
+
+fn values_of(alloc: Global, values: &RequestValues<'_>) -> Result<String, AllocError> {
+    let mut cells = String::new(alloc);
+    add_cell(&mut cells, values.snapshot().method())?;
+    add_pairs(alloc, &mut cells, values.query())?;
+    add_pairs(alloc, &mut cells, values.cookies())?;
+    add_cell(&mut cells, "")?;
+    for index in 0..values.header_count() {
+        if let Some((name, text)) = values.header(index) {
+            cells.push_str(format!(in alloc; "{name}={text}\n")?.as_str())?;
+        }
+    }
+    add_cell(&mut cells, values.body_text())?;
+    Ok(cells)
+}
+
+fn add_pairs(
+    alloc: Global,
+    cells: &mut String,
+    pairs: &[(String, String)],
+) -> Result<(), AllocError> {
+    add_cell(cells, "")?;
+    for (name, value) in pairs {
+        cells.push_str(format!(in alloc; "{name}={value}\n")?.as_str())?;
+    }
+    Ok(())
 }
 
 fn add_header(
@@ -87,22 +126,36 @@ pub fn size(alloc: Global, row: &Row) -> Result<String, AllocError> {
 }
 
 fn snapshot(alloc: Global, row: &Row) -> Result<Snapshot, SnapshotError> {
-    let headers = headers(alloc, row.cell(2))?;
-    let body = body(alloc, row.cell(3))?;
+    let headers = headers(alloc, row.cell(2), Bytes::OfText)?;
+    let body = bytes(alloc, row.cell(3))?;
     Snapshot::new(alloc, row.cell(0), row.cell(1), &headers, &body)
 }
 
-fn headers(alloc: Global, lines: &str) -> Result<Vec<(HeaderName, HeaderValue)>, AllocError> {
+// How a row's text gives bytes: in UTF-8, or a byte for each character (ISO-8859-1).
+#[derive(Clone, Copy)]
+enum Bytes {
+    OfText,
+    OfCharacters,
+}
+
+fn headers(
+    alloc: Global,
+    lines: &str,
+    read: Bytes,
+) -> Result<Vec<(HeaderName, HeaderValue)>, AllocError> {
     let mut headers = Vec::new(alloc);
     for line in lines.lines() {
         let (name, value) = line.split_once(": ").ok_or(AllocError)?;
-        headers.push(header(alloc, name, value)?)?;
+        headers.push((header_name(alloc, name)?, value_read(alloc, value, read)?))?;
     }
     Ok(headers)
 }
 
-fn header(alloc: Global, name: &str, value: &str) -> Result<(HeaderName, HeaderValue), AllocError> {
-    Ok((header_name(alloc, name)?, header_value(alloc, value)?))
+fn value_read(alloc: Global, value: &str, read: Bytes) -> Result<HeaderValue, AllocError> {
+    match read {
+        Bytes::OfText => header_value(alloc, value.as_bytes()),
+        Bytes::OfCharacters => header_value(alloc, bytes(alloc, value)?.as_slice()),
+    }
 }
 
 fn header_name(alloc: Global, name: &str) -> Result<HeaderName, AllocError> {
@@ -112,17 +165,18 @@ fn header_name(alloc: Global, name: &str) -> Result<HeaderName, AllocError> {
     }
 }
 
-fn header_value(alloc: Global, value: &str) -> Result<HeaderValue, AllocError> {
-    match HeaderValue::from_bytes(alloc, value.as_bytes()) {
+fn header_value(alloc: Global, value: &[u8]) -> Result<HeaderValue, AllocError> {
+    match HeaderValue::from_bytes(alloc, value) {
         Ok(value) => Ok(value),
         Err(_error) => Err(AllocError),
     }
 }
 
-fn body(alloc: Global, text: &str) -> Result<Vec<u8>, AllocError> {
-    let mut body = Vec::new(alloc);
+// A byte for each character.
+fn bytes(alloc: Global, text: &str) -> Result<Vec<u8>, AllocError> {
+    let mut bytes = Vec::new(alloc);
     for letter in text.chars() {
-        body.push(u8::try_from(u32::from(letter)).unwrap_or(0))?;
+        bytes.push(u8::try_from(u32::from(letter)).unwrap_or(0))?;
     }
-    Ok(body)
+    Ok(bytes)
 }

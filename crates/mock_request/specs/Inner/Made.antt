@@ -13,7 +13,7 @@ pub record AreValues (values : Inside) : Type 0 where
   pub query : pairs_of values.query.items ≡ query_pairs values.snapshot.now.url
   pub cookies : pairs_of values.cookies.items ≡ cookie_pairs values.snapshot.now.headers
   pub headers : MatchOption values.made_headers
-    (All (λ header. IsUtf8 header.value) values.snapshot.now.headers)
-    (λ pairs. pairs_of pairs.items ≡ header_pairs values.snapshot.now.headers)
+      (All (λ header. IsUtf8 header.value) values.snapshot.now.headers)
+      (λ pairs. pairs_of pairs.items ≡ header_pairs values.snapshot.now.headers)
   pub body : MatchOption values.made_body (IsUtf8 values.snapshot.now.body)
-    (λ text. string_bytes text ≡ utf8_lossy values.snapshot.now.body)
+      (λ text. string_bytes text ≡ utf8_lossy values.snapshot.now.body)

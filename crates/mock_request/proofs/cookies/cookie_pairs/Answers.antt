@@ -1,6 +1,4 @@
-use Rattle.std.proofs.Common.{◌≡◌, ◌<◌, ◌+◌, ◌++◌, ◌∷◌, [], length, take, ap, sym, ◌∙◌, codes, arith, refl}
-use Rattle.std.specs.Prelude.{Some, None}
-use Rattle.std.specs.Str.Lossy.{utf8_lossy}
+use Rattle.std.proofs.Common.{◌<◌, ◌++◌, [], length, take, ap, sym, ◌∙◌, codes, arith, refl}
 use Rattle.std.proofs.lemmas.Option.{slice_get-get_or}
 use Rattle.mock_request.specs.Request.{Header}
 use Rattle.mock_request.specs.Cookies.{cookies_in, cookie_pairs}

@@ -1,5 +1,5 @@
-use Rattle.std.proofs.Common.{◌≡◌, ◌<◌, ◌+◌, ◌++◌, ◌∷◌, [], length, take, ap, sym, ◌∙◌, arith, refl}
-use Rattle.std.specs.Prelude.{Some, None, string_bytes}
+use Rattle.std.proofs.Common.{◌≡◌, ◌<◌, ◌++◌, ◌∷◌, [], length, take, ap, sym, ◌∙◌, arith, refl}
+use Rattle.std.specs.Prelude.{string_bytes}
 use Rattle.std.specs.Str.Lossy.{utf8_lossy}
 use Rattle.std.proofs.lemmas.List.{map-append}
 use Rattle.std.proofs.lemmas.Option.{slice_get-get_or}
@@ -22,7 +22,7 @@ loop-index-preserved c =
           let one = pairs_more (take i headers) header in
           let two = ap pairs_of w.in_ok-push.ensures.items ∙ map-append pair_of c.loop-index.pairs.items _ in
           let same : (string_bytes w.in_ok-from_str.field-0, string_bytes w.in_ok-from_utf8_lossy.field-0)
-            ≡ (w.in-Some.name.now, utf8_lossy w.in-Some.value.now) =
+          ≡ (w.in-Some.name.now, utf8_lossy w.in-Some.value.now) =
           rw (w.in_ok-from_str.ensures.ok, w.in_ok-from_utf8_lossy.ensures.lossy) refl in
           ap (λ v. pairs_of v.items) w.pairs-is
           ∙ two

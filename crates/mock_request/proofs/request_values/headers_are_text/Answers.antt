@@ -1,4 +1,4 @@
-use Rattle.std.proofs.Common.{◌<◌, length, arith, refl, subst, All}
+use Rattle.std.proofs.Common.{arith, refl, subst, All}
 use Rattle.std.specs.Str.{IsUtf8}
 use Rattle.std.proofs.lemmas.List.{take_all}
 use Rattle.mock_request.proofs.HeaderLemmas.{more_text}

@@ -1,7 +1,7 @@
-use Rattle.std.proofs.Common.{◌≡◌, ◌++◌, ◌∷◌, [], ◌+◌, take, All, arith}
+use Rattle.std.proofs.Common.{◌≡◌, ◌++◌, ◌∷◌, [], ◌+◌, take, arith}
 use Rattle.std.proofs.lemmas.List.Elements.{All-push}
 use Rattle.http_header.specs.FieldName.{IsHeaderName}
-use Rattle.mock_request.specs.Request.{Header, header_of, headers_of}
+use Rattle.mock_request.specs.Request.{header_of, headers_of}
 use Rattle.mock_request.proofs.PartsLemmas.{more_headers, more_fields}
 use Rattle.mock_request.proofs.snapshot.push_headers.Goals as goal
 
@@ -15,7 +15,7 @@ loop-name-preserved c =
     more_headers headers i field (omega arith) c.loop-name-item.is in
     record {
       parts = rw more (more_fields _ _ _ _ before (header_of field) _ _ c.loop-name.invariant.parts
-        c.in_ok-push.ensures.ok c.in_ok-push-2.ensures.ok c.as_bytes.ensures.value c.as_bytes-in-loop-name.ensures.value);
+          c.in_ok-push.ensures.ok c.in_ok-push-2.ensures.ok c.as_bytes.ensures.value c.as_bytes-in-loop-name.ensures.value);
       names = rw more (All-push (λ header. IsHeaderName header.name) before (header_of field) c.loop-name.invariant.names
-        c.as_bytes.ensures.valid);
+          c.as_bytes.ensures.valid);
     }

@@ -1,4 +1,4 @@
-use Rattle.std.proofs.Common.{◌≡◌, ◌<◌, length, get_or, arith}
+use Rattle.std.proofs.Common.{◌<◌, length, arith}
 use Rattle.std.proofs.lemmas.List.{get_or_read}
 use Rattle.mock_request.proofs.BlockLemmas.{bounds, part_at, length_parts}
 use Rattle.mock_request.proofs.block.Block.part.Goals as goal

@@ -1,4 +1,4 @@
-use Rattle.std.proofs.Common.{◌<◌, length, arith, add-one, refl, sym, subst}
+use Rattle.std.proofs.Common.{arith, add-one, refl, sym, subst}
 use Rattle.std.proofs.lemmas.Option.{slice_get_past}
 use Rattle.http_header.specs.FieldName.{IsHeaderName}
 use Rattle.mock_request.specs.Inner.Parts.{request_in}

@@ -1,6 +1,6 @@
-use Rattle.std.proofs.Common.{◌≡◌, refl, subst, sym, ◌∙◌, ap}
+use Rattle.std.proofs.Common.{◌≡◌, refl, ◌∙◌, ap}
 use Rattle.mock_request.specs.Request.{Request, headers_of}
-use Rattle.mock_request.specs.Inner.Parts.{parts_of, request_in, AreParts}
+use Rattle.mock_request.specs.Inner.Parts.{parts_of, request_in}
 use Rattle.mock_request.proofs.PartsLemmas.{are_parts, request_in-parts}
 use Rattle.mock_request.proofs.snapshot.Snapshot.of_url.Goals as goal
 
@@ -15,8 +15,15 @@ request c = record {
 pushed : (c : goal.In_ok-push_headers) → c.push_headers.new.parts ≡ parts_of (request c)
 unfolding request
 pushed c =
-    rw (c.in_ok-push_headers.ensures.parts, c.in_ok-push-3.ensures.ok, c.in_ok-push-2.ensures.ok, c.in_ok-push.ensures.ok,
-      c.in_ok-parts.ensures, c.as_bytes.ensures.value, c.as_bytes-2.ensures.value) refl
+    rw (
+      c.in_ok-push_headers.ensures.parts,
+      c.in_ok-push-3.ensures.ok,
+      c.in_ok-push-2.ensures.ok,
+      c.in_ok-push.ensures.ok,
+      c.in_ok-parts.ensures,
+      c.as_bytes.ensures.value,
+      c.as_bytes-2.ensures.value,
+    ) refl
 
 pub invariant_of-result : goal.invariant_of-result
 unfolding request
