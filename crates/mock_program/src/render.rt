@@ -10,7 +10,6 @@ use crate::error::CommandError;
 use crate::lines::measure_line;
 use crate::output::put;
 use crate::status::{FAILURE, SUCCESS};
-use bytes::Bytes;
 use data_tree::request_data::RequestData;
 use request_data::tree::request_data;
 use mock_request::snapshot::Snapshot;
@@ -41,7 +40,7 @@ fn plain_request(alloc: Global, method: &str, target: &str) -> Result<RequestDat
     ensures refusal { IfErr result (λ error. RefusesUrl target.now error ⊎ RefusesData method.now target.now error
         ⊎ (error ≡ out_of_memory)) }
 {
-    let snapshot = Snapshot::new(alloc, method, target, Vec::new(alloc), Bytes::new())?;
+    let snapshot = Snapshot::new(alloc, method, target, &[], &[])?;
     Ok(request_data(alloc, &snapshot, None)?)
 }
 

@@ -1,17 +1,20 @@
 -- What one more header adds.
-use Rattle.std.proofs.Common.{◌≡◌, ℕ, ◌+◌, ◌<◌, length, take, get_or, Bool, true, false, List}
-use Rattle.std.proofs.Common.{[], ◌∷◌, ◌++◌, map, append-nil, sym, refl, ap, ◌∙◌, codes}
-use Rattle.std.specs.List.{filter, flat_map}
+use Rattle.std.proofs.Common.{◌≡◌, ℕ, ◌+◌, ◌<◌, length, take, Bool, true, false, List}
+use Rattle.std.proofs.Common.{[], ◌∷◌, ◌++◌, map, append-nil, sym, refl, ap, subst, ◌∙◌, codes}
+use Rattle.std.specs.List.{filter, flat_map, slice_get}
+use Rattle.std.specs.Prelude.{Some, All, MatchOption}
 use Rattle.std.specs.Str.{bytes_eq}
 use Rattle.std.specs.Str.Lossy.{utf8_lossy}
 use Rattle.std.proofs.lemmas.Cmp.{nat_list_eq_equiv}
 use Rattle.std.proofs.lemmas.List.{map-append, take_more}
-use Rattle.http_header.specs.FieldValue.{FieldValue}
+use Rattle.std.specs.Str.{IsUtf8}
+use Rattle.std.proofs.lemmas.Option.{get_or_from_slice_get, slice_get-get_or, slice_get_within}
+use Rattle.std.proofs.lemmas.List.Elements.{All-more}
 use Rattle.std.proofs.lemmas.List.Concat.{flat_map-append}
 use Rattle.std.proofs.lemmas.List.Elements.{filter-append}
-use Rattle.mock_request.specs.Request.{Header, header_of, headers_of}
+use Rattle.mock_request.specs.Request.{Header}
 use Rattle.mock_request.specs.Values.{values_of}
-use Rattle.mock_request.specs.HeaderFields.{header_pairs, texts_of}
+use Rattle.mock_request.specs.HeaderFields.{header_pair, header_pairs, texts_of}
 use Rattle.mock_request.specs.Cookies.{cookies_in, cookie_pairs}
 
 pub texts_of-append
@@ -37,13 +40,34 @@ texts_of_other name header headers other = rw other refl
 
 -- ---- the headers that a loop went over
 
-pub more_headers
-    : (headers : List (List ℕ × FieldValue)) (i : ℕ) (field : List ℕ × FieldValue) → i < length headers
-    → field ≡ get_or headers i field
-    → headers_of (take (i + 1) headers) ≡ headers_of (take i headers) ++ header_of field ∷ []
-more_headers headers i field within is =
-    ap headers_of (take_more headers i field within ∙ ap (λ h. take i headers ++ h ∷ []) (sym is))
-    ∙ map-append header_of (take i headers) (field ∷ [])
+pub more_taken
+    : (headers : List Header) (i : ℕ) (header : Header) → i < length headers → Some header ≡ slice_get headers i
+    → take (i + 1) headers ≡ take i headers ++ header ∷ []
+more_taken headers i header within is =
+    take_more headers i header within
+    ∙ ap (λ h. take i headers ++ h ∷ []) (get_or_from_slice_get headers i header header (sym is))
+
+pub pairs_more
+    : (before : List Header) (header : Header)
+    → header_pairs (before ++ header ∷ []) ≡ header_pairs before ++ header_pair header ∷ []
+pairs_more before header = map-append header_pair before (header ∷ [])
+
+-- ---- headers whose values are UTF-8
+
+pub text_at
+    : (headers : List Header) (i : ℕ) (header : Header) → All (λ h. IsUtf8 h.value) headers
+    → Some header ≡ slice_get headers i → IsUtf8 header.value
+text_at headers i header all here =
+    let within = slice_get_within headers i header (sym here) in
+    subst (λ h. IsUtf8 h.value) (get_or_from_slice_get headers i header header (sym here)) (all i header within)
+
+pub more_text
+    : (headers : List Header) (i : ℕ) → i < length headers → All (λ h. IsUtf8 h.value) (take i headers)
+    → MatchOption (slice_get headers i) ⊥ (λ h. IsUtf8 h.value) → All (λ h. IsUtf8 h.value) (take (i + 1) headers)
+more_text headers i within all here =
+    let empty : Header = record { name = []; value = [] } in
+    All-more (λ h. IsUtf8 h.value) headers i empty within all
+    (subst (λ o. MatchOption o ⊥ (λ h. IsUtf8 h.value)) (slice_get-get_or headers i empty within) here)
 
 -- the code asks whether the name is the literal, the definition whether the literal is the name
 pub other_way_round

@@ -1,3 +1,5 @@
+mod BlockLemmas
+mod PartsLemmas
 pub mod TargetLemmas
 pub mod UrlLemmas
 pub mod HeaderLemmas

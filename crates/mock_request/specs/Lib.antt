@@ -6,3 +6,4 @@ pub mod Values
 pub mod Query
 pub mod HeaderFields
 pub mod Cookies
+pub mod Inner

@@ -2,8 +2,8 @@
 use Rattle.std.specs.Prelude.{ℕ, List, map}
 use Rattle.http_header.specs.FieldValue.{FieldValue}
 
--- The bytes of a header's name and value. Any name can be a `Header`'s here. Those of a `Snapshot` are in lower
--- case, since each comes from a `HeaderName` of `http_header`, whose invariant keeps that.
+-- The bytes of a header's name and value. Any name can be a `Header`'s here; those of a `Snapshot` are in lower case
+-- (clause `lower_case` of `Snapshot::header`).
 pub record Header : Type 0 where
   pub name : List ℕ
   pub value : List ℕ

@@ -10,12 +10,13 @@ use std::alloc::{AllocError, Global};
 pub fn cookie_pairs(alloc: Global, snapshot: &Snapshot) -> Result<Vec<(String, String)>, AllocError>
     ensures { IfOk result (λ pairs. pairs_of pairs.items ≡ cookie_pairs snapshot.now.headers) }
 {
-    let headers = snapshot.headers();
     let mut pairs = Vec::new(alloc);
-    for (name, value) in headers {
-        if name.as_str() == "cookie" {
-            let text = String::from_utf8_lossy(alloc, value.as_bytes())?;
-            push_cookies(alloc, text.as_str(), &mut pairs)?;
+    for index in 0..snapshot.header_count() {
+        if let Some((name, value)) = snapshot.header(index) {
+            if name == "cookie" {
+                let text = String::from_utf8_lossy(alloc, value)?;
+                push_cookies(alloc, text.as_str(), &mut pairs)?;
+            }
         }
     }
     Ok(pairs)

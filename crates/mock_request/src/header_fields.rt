@@ -10,13 +10,14 @@ use std::alloc::{AllocError, Global};
 pub fn header_pairs(alloc: Global, snapshot: &Snapshot) -> Result<Vec<(String, String)>, AllocError>
     ensures { IfOk result (λ pairs. pairs_of pairs.items ≡ header_pairs snapshot.now.headers) }
 {
-    let headers = snapshot.headers();
     let mut pairs = Vec::new(alloc);
-    for (name, value) in headers {
-        pairs.push((
-            String::from_str(alloc, name.as_str())?,
-            String::from_utf8_lossy(alloc, value.as_bytes())?,
-        ))?;
+    for index in 0..snapshot.header_count() {
+        if let Some((name, value)) = snapshot.header(index) {
+            pairs.push((
+                String::from_str(alloc, name)?,
+                String::from_utf8_lossy(alloc, value)?,
+            ))?;
+        }
     }
     Ok(pairs)
 }

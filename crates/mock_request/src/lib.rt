@@ -5,6 +5,7 @@
 #![tactic(auto)]
 
 // The request.
+mod block;
 pub mod error;
 pub mod snapshot;
 mod target;
@@ -14,6 +15,7 @@ pub mod body;
 pub mod cookies;
 pub mod header_fields;
 pub mod query;
+pub mod request_values;
 
 // What holds of all targets and URLs.
 pub mod laws;

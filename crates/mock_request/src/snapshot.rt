@@ -1,13 +1,15 @@
 // A request as it was received.
-ghost use Rattle.std.specs.Prelude.{◌≡◌, ◌≤◌, ◌<◌, ◌↔◌, length, IfOk, OnOk, IsErrOf};
-ghost use Rattle.std.specs.Option.{option_copied};
-ghost use Rattle.mock_request.specs.Target.{IsTarget, HasUrl, IsRooted};
+ghost use Rattle.std.specs.Prelude.{◌≡◌, ◌++◌, ◌≤◌, ◌<◌, ◌↔◌, length, slice_get, All, IfSome, IfOk, OnOk, IsErrOf};
+ghost use Rattle.std.specs.Option.{option_copied, option_map};
+ghost use Rattle.http_header.specs.FieldName.{IsHeaderName};
+ghost use Rattle.mock_request.specs.Target.{IsTarget, HasUrl, IsRooted, IsRootedForm};
 ghost use Rattle.mock_request.specs.Request.{headers_of};
 ghost use Rattle.mock_request.specs.Url.{path_of, query_of};
+ghost use Rattle.mock_request.specs.Inner.Parts.{fields_of};
 
+use crate::block::Block;
 use crate::error::SnapshotError;
 use crate::target::{path_and_query, rooted};
-use bytes::Bytes;
 use http_header::{HeaderName, HeaderValue};
 use std::alloc::{AllocError, Global};
 use std::marker::Model;
@@ -15,75 +17,121 @@ use std::marker::Model;
 /// The most bytes that the body of a request may have (1 MiB).
 pub const BODY_LIMIT: usize = 1_048_576;
 
+// Where the parts of a request are in its block: method, URL, body, and then a name and a value for each header.
+const METHOD: usize = 0;
+
+const URL: usize = 1;
+
+const BODY: usize = 2;
+
+const HEADERS: usize = 3;
+
 /// A request as it was received: its method, its URL (path and query as they were received), its headers in their
-/// order, and its body.
+/// order, and its body. It owns all of them, in two allocations.
 #[derive(Debug, Drop)]
 pub struct Snapshot {
-    method: String,
-    url: String,
-    headers: Vec<(HeaderName, HeaderValue)>,
-    body: Bytes,
+    parts: Block,
 }
 
 impl Model for Snapshot {
-    ghost use Rattle.std.specs.Prelude.{◌≤◌, length, string_bytes};
-    ghost use Rattle.mock_request.specs.Request.{Request, headers_of};
-    ghost use Rattle.mock_request.specs.Target.{IsRooted};
-    ghost use Rattle.mock_request.specs.declared.snapshot.TheConstants.{BODY_LIMIT};
+    ghost use Rattle.mock_request.specs.Request.{Request};
+    ghost use Rattle.mock_request.specs.Inner.Parts.{request_in, AreParts};
 
     ghost Value = { Request };
 
-    ghost view = { λ s. record {
-      method = string_bytes s.method;
-      url = string_bytes s.url;
-      headers = headers_of s.headers.items;
-      body = s.body;
-    } };
+    ghost view = { λ s. request_in s.parts };
 
-    ghost invariant = { λ s. IsRooted (string_bytes s.url) × (length s.body ≤ BODY_LIMIT) };
+    ghost invariant = { λ s. AreParts s.parts };
 }
 
 impl Snapshot {
-    /// Takes a request. Its target may be in origin form or in absolute form (RFC 9112, section 3.2); the headers
-    /// and the body are taken over without a copy.
+    /// Copies a request. Its target may be in origin form or in absolute form (RFC 9112, section 3.2).
     pub fn new(
         alloc: Global,
         method: &str,
         target: &str,
-        headers: Vec<(HeaderName, HeaderValue)>,
-        body: Bytes,
+        headers: &[(HeaderName, HeaderValue)],
+        body: &[u8],
     ) -> Result<Snapshot, SnapshotError>
         ensures url { IfOk result (λ request. IsTarget target.now request.url) }
         ensures kept { IfOk result (λ request. request ≡ record {
           method = method.now;
           url = request.url;
-          headers = headers_of headers.items;
-          body = body;
+          headers = headers_of headers.now;
+          body = body.now;
         }) }
-        ensures within { OnOk result (length body ≤ 1048576) }
+        ensures within { OnOk result (length body.now ≤ 1048576) }
 
         // A bad target is reported before a body that is too large.
         ensures bad_url { IsErrOf result SnapshotError.BadUrl ↔ ¬ (HasUrl target.now) }
         ensures too_large { IsErrOf result SnapshotError.BodyTooLarge
-            ↔ (HasUrl target.now × (1048576 < length body)) }
+            ↔ (HasUrl target.now × (1048576 < length body.now)) }
     {
         let text = path_and_query(target).ok_or(SnapshotError::BadUrl)?;
         if body.len() > BODY_LIMIT {
             return Err(SnapshotError::BodyTooLarge);
         }
-        Ok(Snapshot {
-            method: String::from_str(alloc, method)?,
-            url: rooted(alloc, text)?,
-            headers,
-            body,
-        })
+        Ok(Snapshot::of_text(alloc, method, text, headers, body)?)
+    }
+
+    // A copy of the request for the URL of that path and query.
+    fn of_text(
+        alloc: Global,
+        method: &str,
+        text: &str,
+        headers: &[(HeaderName, HeaderValue)],
+        body: &[u8],
+    ) -> Result<Snapshot, AllocError>
+        requires { length body.now ≤ BODY_LIMIT }
+        ensures url { IfOk result (λ request. IsRootedForm text.now request.url) }
+        ensures kept { IfOk result (λ request. request ≡ record {
+          method = method.now;
+          url = request.url;
+          headers = headers_of headers.now;
+          body = body.now;
+        }) }
+    {
+        if text.starts_with('/') {
+            return Snapshot::of_url(alloc, method, text, headers, body);
+        }
+        let url = rooted(alloc, text)?;
+        Snapshot::of_url(alloc, method, url.as_str(), headers, body)
+    }
+
+    fn of_url(
+        alloc: Global,
+        method: &str,
+        url: &str,
+        headers: &[(HeaderName, HeaderValue)],
+        body: &[u8],
+    ) -> Result<Snapshot, AllocError>
+        requires rooted { IsRooted url.now }
+        requires within { length body.now ≤ BODY_LIMIT }
+        ensures { IfOk result (λ request. request ≡ record {
+          method = method.now;
+          url = url.now;
+          headers = headers_of headers.now;
+          body = body.now;
+        }) }
+    {
+        let fixed = method
+            .len()
+            .saturating_add(url.len())
+            .saturating_add(body.len());
+        let total = headers_len(headers).saturating_add(fixed);
+        let mut parts = Block::with_room(alloc, HEADERS + 2 * headers.len(), total)?;
+        parts.push(method.as_bytes())?;
+        parts.push(url.as_bytes())?;
+        parts.push(body)?;
+        push_headers(&mut parts, headers)?;
+        Ok(Snapshot { parts })
     }
 
     /// The method as it was received.
     pub fn method(&self) -> &str
         ensures { result.now ≡ self.now.method }
     {
-        self.method.as_str()
+        self.parts.text(METHOD)
     }
 
     /// The path and the query as they were received.
@@ -91,7 +139,7 @@ impl Snapshot {
         ensures value { result.now ≡ self.now.url }
         ensures rooted { IsRooted result.now }
     {
-        self.url.as_str()
+        self.parts.text(URL)
     }
 
     /// The URL up to the first `?`.
@@ -113,30 +161,66 @@ impl Snapshot {
         Some(query)
     }
 
-    /// The headers in their order; a `HeaderName` is in lower case.
-    pub fn headers(&self) -> &[(HeaderName, HeaderValue)]
-        ensures { headers_of result.now ≡ self.now.headers }
+    /// How many headers there are.
+    #[tactic(auto, using(crate::proofs::PartsLemmas::header_count))]
+    pub fn header_count(&self) -> usize
+        ensures { result ≡ length self.now.headers }
     {
-        self.headers.as_slice()
+        (self.parts.len() - HEADERS) / 2
+    }
+
+    /// The name and the value of the header at that index.
+    #[tactic(auto, using(crate::proofs::PartsLemmas::header_count, crate::proofs::PartsLemmas::header_at))]
+    pub fn header(&self, index: usize) -> Option<(&str, &[u8])>
+        ensures value { option_map (λ header. record { name = header.0.now; value = header.1.now }) result
+            ≡ slice_get self.now.headers index }
+        ensures lower_case { IfSome result (λ header. IsHeaderName header.0.now) }
+    {
+        let count = (self.parts.len() - HEADERS) / 2;
+        if index >= count {
+            return None;
+        }
+        let name = HEADERS + 2 * index;
+        Some((self.parts.text(name), self.parts.part(name + 1)))
     }
 
     /// The body, `BODY_LIMIT` bytes at most.
-    pub fn body(&self) -> &Bytes
+    pub fn body(&self) -> &[u8]
         ensures value { result.now ≡ self.now.body }
         ensures within { length result.now ≤ BODY_LIMIT }
     {
-        &self.body
+        self.parts.part(BODY)
     }
 
-    /// A copy, which shares the body.
+    /// A copy.
     pub fn try_clone(&self) -> Result<Snapshot, AllocError>
         ensures { IfOk result (λ copy. copy ≡ self.now) }
     {
         Ok(Snapshot {
-            method: self.method.clone()?,
-            url: self.url.clone()?,
-            headers: self.headers.clone()?,
-            body: self.body.clone()?,
+            parts: self.parts.try_clone()?,
         })
     }
+}
+
+// Appends the name and the value of each header.
+fn push_headers(parts: &mut Block, headers: &[(HeaderName, HeaderValue)]) -> Result<(), AllocError>
+    ensures parts { OnOk result (parts.new ≡ parts.old ++ fields_of (headers_of headers.now)) }
+    ensures names { OnOk result (All (λ header. IsHeaderName header.name) (headers_of headers.now)) }
+{
+    for (name, value) in headers {
+        parts.push(name.as_bytes())?;
+        parts.push(value.as_bytes())?;
+    }
+    Ok(())
+}
+
+// The bytes of all names and values, as far as they can be counted: it is the room that is taken for them.
+fn headers_len(headers: &[(HeaderName, HeaderValue)]) -> usize {
+    let mut total: usize = 0;
+    for (name, value) in headers {
+        total = total
+            .saturating_add(name.as_bytes().len())
+            .saturating_add(value.len());
+    }
+    total
 }

@@ -1,6 +1,5 @@
 //! Programs.
 
-use bytes::Bytes;
 use case_table::row::Row;
 use data_tree::request_data::RequestData;
 use request_data::tree::request_data;
@@ -46,5 +45,5 @@ pub fn request(alloc: Global, method: &str, url: &str) -> Result<RequestData, Al
 }
 
 fn snapshot(alloc: Global, method: &str, url: &str) -> Option<Snapshot> {
-    Snapshot::new(alloc, method, url, Vec::new(alloc), Bytes::new()).ok()
+    Snapshot::new(alloc, method, url, &[], &[]).ok()
 }

@@ -26,6 +26,7 @@ fn main(rt: HostRuntime) -> io::Result<ExitCode> {
             Table::Texts,
             Table::Paths,
             Table::Requests,
+            Table::NamedValues,
             Table::Parts,
             Table::Printed,
             Table::Bindings,

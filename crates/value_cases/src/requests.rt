@@ -2,12 +2,12 @@
 //! two, and a body whose characters are its bytes (ISO-8859-1).
 
 use crate::values::{cell_of, measured, path, printed};
-use bytes::Bytes;
 use case_table::row::{Row, add_cell};
 use data_tree::data::Data;
 use data_tree::request_data::RequestData;
 use http_header::{HeaderName, HeaderValue};
 use mock_request::error::SnapshotError;
+use mock_request::request_values::RequestValues;
 use request_data::tree::request_data;
 use mock_request::snapshot::Snapshot;
 use path_template::path_template::PathTemplate;
@@ -33,14 +33,54 @@ fn parts(alloc: Global, request: &Snapshot) -> Result<String, AllocError> {
         add_cell(&mut cells, cell)?;
     }
     add_headers(alloc, &mut cells, request)?;
-    add_bytes(alloc, &mut cells, request.body().as_slice())?;
+    add_bytes(alloc, &mut cells, request.body())?;
     Ok(cells)
 }
 
 fn add_headers(alloc: Global, cells: &mut String, request: &Snapshot) -> Result<(), AllocError> {
-    cells.push('\t')?;
-    for (name, value) in request.headers() {
-        add_header(alloc, cells, name.as_str(), value.as_bytes())?;
+    add_cell(cells, "")?;
+    for index in 0..request.header_count() {
+        if let Some((name, value)) = request.header(index) {
+            add_header(alloc, cells, name, value)?;
+        }
+    }
+    Ok(())
+}
+
+/// What matchers see of a request: the names and values of its query, of its cookies and of its headers, a line each,
+/// and the text of its body. The characters of the row's headers, too, are bytes.
+pub fn named_values(alloc: Global, row: &Row) -> Result<String, AllocError> {
+    let headers = headers(alloc, row.cell(2), Bytes::OfCharacters)?;
+    let body = bytes(alloc, row.cell(3))?;
+    match Snapshot::new(alloc, row.cell(0), row.cell(1), &headers, &body) {
+        Ok(request) => values_of(alloc, &RequestValues::read(alloc, &request)?),
+        Err(error) => refused(alloc, error),
+    }
+}
+
+fn values_of(alloc: Global, values: &RequestValues<'_>) -> Result<String, AllocError> {
+    let mut cells = String::new(alloc);
+    add_cell(&mut cells, values.snapshot().method())?;
+    add_pairs(alloc, &mut cells, values.query())?;
+    add_pairs(alloc, &mut cells, values.cookies())?;
+    add_cell(&mut cells, "")?;
+    for index in 0..values.header_count() {
+        if let Some((name, text)) = values.header(index) {
+            cells.push_str(format!(in alloc; "{name}={text}\n")?.as_str())?;
+        }
+    }
+    add_cell(&mut cells, values.body_text())?;
+    Ok(cells)
+}
+
+fn add_pairs(
+    alloc: Global,
+    cells: &mut String,
+    pairs: &[(String, String)],
+) -> Result<(), AllocError> {
+    add_cell(cells, "")?;
+    for (name, value) in pairs {
+        cells.push_str(format!(in alloc; "{name}={value}\n")?.as_str())?;
     }
     Ok(())
 }
@@ -107,7 +147,8 @@ pub fn bindings(alloc: Global, row: &Row) -> Result<String, AllocError> {
 }
 
 fn plain_request(alloc: Global, target: &str) -> Result<Snapshot, SnapshotError> {
-    Snapshot::new(alloc, "GET", target, Vec::new(alloc), Bytes::new())
+    let headers = Vec::new(alloc);
+    Snapshot::new(alloc, "GET", target, &headers, &[])
 }
 
 // All templates of the table are well formed.
@@ -141,22 +182,36 @@ fn size_of(alloc: Global, request: &Snapshot) -> Result<String, AllocError> {
 }
 
 fn snapshot(alloc: Global, row: &Row) -> Result<Snapshot, SnapshotError> {
-    let headers = headers(alloc, row.cell(2))?;
-    let body = body(alloc, row.cell(3))?;
-    Snapshot::new(alloc, row.cell(0), row.cell(1), headers, body)
+    let headers = headers(alloc, row.cell(2), Bytes::OfText)?;
+    let body = bytes(alloc, row.cell(3))?;
+    Snapshot::new(alloc, row.cell(0), row.cell(1), &headers, &body)
 }
 
-fn headers(alloc: Global, lines: &str) -> Result<Vec<(HeaderName, HeaderValue)>, AllocError> {
+// How a row's text gives bytes: in UTF-8, or a byte for each character (ISO-8859-1).
+#[derive(Clone, Copy)]
+enum Bytes {
+    OfText,
+    OfCharacters,
+}
+
+fn headers(
+    alloc: Global,
+    lines: &str,
+    read: Bytes,
+) -> Result<Vec<(HeaderName, HeaderValue)>, AllocError> {
     let mut headers = Vec::new(alloc);
     for line in lines.lines() {
         let (name, value) = line.split_once(": ").unwrap_or((line, ""));
-        headers.push(header(alloc, name, value)?)?;
+        headers.push((header_name(alloc, name)?, value_read(alloc, value, read)?))?;
     }
     Ok(headers)
 }
 
-fn header(alloc: Global, name: &str, value: &str) -> Result<(HeaderName, HeaderValue), AllocError> {
-    Ok((header_name(alloc, name)?, header_value(alloc, value)?))
+fn value_read(alloc: Global, value: &str, read: Bytes) -> Result<HeaderValue, AllocError> {
+    match read {
+        Bytes::OfText => header_value(alloc, value.as_bytes()),
+        Bytes::OfCharacters => header_value(alloc, bytes(alloc, value)?.as_slice()),
+    }
 }
 
 fn header_name(alloc: Global, name: &str) -> Result<HeaderName, AllocError> {
@@ -166,17 +221,18 @@ fn header_name(alloc: Global, name: &str) -> Result<HeaderName, AllocError> {
     }
 }
 
-fn header_value(alloc: Global, value: &str) -> Result<HeaderValue, AllocError> {
-    match HeaderValue::from_bytes(alloc, value.as_bytes()) {
+fn header_value(alloc: Global, value: &[u8]) -> Result<HeaderValue, AllocError> {
+    match HeaderValue::from_bytes(alloc, value) {
         Ok(value) => Ok(value),
         Err(_error) => Err(AllocError),
     }
 }
 
-fn body(alloc: Global, text: &str) -> Result<Bytes, AllocError> {
-    let mut body = Vec::new(alloc);
+// A byte for each character.
+fn bytes(alloc: Global, text: &str) -> Result<Vec<u8>, AllocError> {
+    let mut bytes = Vec::new(alloc);
     for letter in text.chars() {
-        body.push(u8::try_from(u32::from(letter)).unwrap_or(0))?;
+        bytes.push(u8::try_from(u32::from(letter)).unwrap_or(0))?;
     }
-    Ok(Bytes::from_vec(body)?)
+    Ok(bytes)
 }

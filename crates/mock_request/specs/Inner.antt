@@ -1,0 +1,3 @@
+pub mod Block
+pub mod Parts
+pub mod Made
