@@ -1,10 +1,12 @@
 -- Lists and objects that grow at their end, an item or a member at a time.
 use Rattle.std.proofs.Common.{◌≡◌, ℕ, List, [], ◌∷◌, ◌++◌, Option, Some, None, option_map, String, Global}
-use Rattle.std.proofs.Common.{string_bytes, refl, sym, ap, ◌∙◌}
+use Rattle.std.proofs.Common.{string_bytes, length, refl, sym, ap, ◌∙◌, arith}
 use Rattle.data_tree.specs.declared.data.Data.{Data}
 use Rattle.data_tree.specs.Tree.{Tree, Items, no_items, item, Members, no_members, member, view, items_view}
 use Rattle.data_tree.specs.Tree.{members_view}
 use Rattle.serde_json.specs.Data as value
+use Rattle.serde_json.specs.View as seen
+use Rattle.serde_json.specs.declared.value.Value.{Value}
 use Rattle.json_bridge.specs.Reading.{tree_of_value, items_of, members_of}
 
 -- the values found, and then what is left
@@ -46,6 +48,11 @@ pub item_read
 item_read found pushed d x xs taken is =
     ap (option_map (items_before found)) (item_taken x xs (view d) taken) ∙ one_more found d (items_of xs)
     ∙ ap (λ ds. option_map (items_before ds) (items_of xs)) (sym is)
+
+-- no item is left
+pub no_item_left : (xs : List Value) → length xs ≡ 0 → items_of (seen.items_view xs) ≡ Some no_items
+no_item_left [] none = refl
+no_item_left (x ∷ xs) none = absurd (omega (arith, none))
 
 -- ---- the same of members
 

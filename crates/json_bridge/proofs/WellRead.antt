@@ -249,12 +249,9 @@ mutual
       (members_well_formed ms h.1))
       (spec.tree_of_value d) (tree_well_formed d h.0)
 
-pub found_well_formed : (r : Result (Option Data) AllocError) (s : List ℕ) (d : value.Data) → read s ≡ Some d
-    → IfOk r (λ found. option_map view found ≡ spec.tree_of_value d)
-    → IfOk r (λ found. IfSome found (λ x. IsWellFormed (view x)))
-found_well_formed (Err e) s d is h = tt
-found_well_formed (Ok None) s d is h = tt
-found_well_formed (Ok (Some x)) s d is h =
+pub found_well_formed : (s : List ℕ) (d : value.Data) (found : Data) → read s ≡ Some d
+    → Some (view found) ≡ spec.tree_of_value d → IsWellFormed (view found)
+found_well_formed s d found is h =
     let formed : IfSome (read s) IsRead = read_is_read s in
     let read_d : IfSome (Some d) IsRead = subst (λ o. IfSome o IsRead) is formed in
     subst (λ o. IfSome o IsWellFormed) (sym h) (tree_well_formed d read_d)

@@ -1,0 +1,4 @@
+pub mod Matching
+pub mod Refusal
+pub mod Errors
+pub mod Inner
