@@ -3,5 +3,6 @@
 //! the files, compares and reports.
 #![tactic(auto)]
 
+pub mod cells;
 pub mod compare;
 pub mod row;

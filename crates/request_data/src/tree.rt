@@ -85,7 +85,10 @@ fn request(
     let mut made = fields_to_headers(alloc, snapshot, authority.as_str(), body, headers)?;
     made.push_text("host", host)?;
     made.push_text("method", snapshot.method())?;
-    made.push("path", path_data(alloc, path, bindings(alloc, template, path)?)?)?;
+    made.push(
+        "path",
+        path_data(alloc, path, bindings(alloc, template, path)?)?,
+    )?;
     made.push("pathSegments", path_data(alloc, path, Vec::new(alloc))?)?;
     made.push("port", number(port))?;
     made.push("query", grouped(alloc, query_pairs(alloc, snapshot)?)?)?;

@@ -3,12 +3,14 @@
 
 use crate::programs::request;
 use crate::templates::{add_path, add_text};
-use case_table::row::{Row, add_cell};
+use case_table::cells::Cells;
+use case_table::row::Row;
 use code_verifier::budget::Budget;
 use code_verifier::error::VerifyError;
 use code_verifier::verified::Verified;
 use code_verifier::verify::verify;
 use data_tree::plain_text::PlainText;
+use data_tree::request_data::RequestData;
 use data_tree::step::{Path, Step};
 use helper_set::helper::Helper;
 use std::alloc::{AllocError, Global};
@@ -24,51 +26,46 @@ pub fn parts(alloc: Global, row: &Row) -> Result<String, AllocError> {
 
 /// The listing of code, its texts and its paths.
 pub fn code_cells(alloc: Global, code: &Code) -> Result<String, AllocError> {
-    let mut cells = String::new(alloc);
-    add_cell(&mut cells, listing(alloc, code)?.as_str())?;
-    add_tables(alloc, &mut cells, code)?;
-    Ok(cells)
+    let listing = listing(alloc, code)?;
+    let mut cells = Cells::new(alloc);
+    cells.add_cell(listing.as_str());
+    add_tables(&mut cells, code);
+    cells.finish()
 }
 
-fn add_tables(alloc: Global, cells: &mut String, code: &Code) -> Result<(), AllocError> {
-    cells.push('\t')?;
+fn add_tables(cells: &mut Cells, code: &Code) {
+    cells.add("\t");
     for text in code.texts() {
-        add_text(cells, text.as_str())?;
+        add_text(cells, text.as_str());
     }
-    cells.push('\t')?;
+    cells.add("\t");
     for path in code.paths() {
-        cells.push('{')?;
-        add_path(alloc, cells, path)?;
+        cells.add("{");
+        add_path(cells, path);
     }
-    Ok(())
 }
 
 /// The rule that the code breaks and at which instruction, or its budgets and what its run writes.
 pub fn verdict(alloc: Global, row: &Row) -> Result<String, AllocError> {
     match verify(alloc, read_code(alloc, row)?) {
-        Ok(verified) => accepted(alloc, &verified, row.cell(3), row.cell(4)),
-        Err(error) => refused(alloc, error),
+        Ok(verified) => accepted(alloc, &verified, row),
+        Err(error) => refused(alloc, &error),
     }
 }
 
-fn refused(alloc: Global, error: VerifyError) -> Result<String, AllocError> {
+fn refused(alloc: Global, error: &VerifyError) -> Result<String, AllocError> {
     match error {
         VerifyError::CodeRefused { code, index, rule } => {
             let count = code.instrs().len();
             format!(in alloc; "\t{rule:?}\t{index}\t{count}")
         }
-        VerifyError::OutOfMemory { code: _code } => Err(AllocError),
+        VerifyError::OutOfMemory { .. } => Err(AllocError),
     }
 }
 
-fn accepted(
-    alloc: Global,
-    verified: &Verified,
-    method: &str,
-    url: &str,
-) -> Result<String, AllocError> {
+fn accepted(alloc: Global, verified: &Verified, row: &Row) -> Result<String, AllocError> {
     let mut cells = lists(alloc, verified.budget())?;
-    cells.push_str(written(alloc, verified, method, url)?.as_str())?;
+    add_run(alloc, &mut cells, verified, row)?;
     Ok(cells)
 }
 
@@ -77,14 +74,18 @@ fn lists(alloc: Global, budget: &Budget) -> Result<String, AllocError> {
     format!(in alloc; "\t{steps:?}\t{bytes:?}")
 }
 
-fn written(
+fn add_run(
     alloc: Global,
+    cells: &mut String,
     verified: &Verified,
-    method: &str,
-    url: &str,
-) -> Result<String, AllocError> {
-    let data = request(alloc, method, url)?;
-    let rendered = run(alloc, verified, &data)?;
+    row: &Row,
+) -> Result<(), AllocError> {
+    let data = request(alloc, row.cell(3), row.cell(4))?;
+    cells.push_str(written(alloc, verified, &data)?.as_str())
+}
+
+fn written(alloc: Global, verified: &Verified, data: &RequestData) -> Result<String, AllocError> {
+    let rendered = run(alloc, verified, data)?;
     let (steps, text) = (rendered.steps, rendered.text.as_str());
     format!(in alloc; "\t{steps}\t{text}")
 }

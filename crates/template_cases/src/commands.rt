@@ -16,10 +16,10 @@ struct Outcome {
     status: u8,
 }
 
-// Once more where memory ran out.
+// Once more where memory ran out, which a stream with less room reports in part.
 fn run_command(alloc: Global, arguments: &[String], room: usize) -> Result<Outcome, AllocError> {
     let outcome = run_once(alloc, arguments, room)?;
-    if outcome.out.taken.is_empty() && text(&outcome.err) == "error 50: out of memory\n" {
+    if outcome.out.taken.is_empty() && "error 50: out of memory\n".starts_with(text(&outcome.err)) {
         return run_once(alloc, arguments, room);
     }
     Ok(outcome)

@@ -13,18 +13,28 @@ pub fn program(alloc: Global, row: &Row) -> Result<String, AllocError> {
     let program = Program::from_text(alloc, row.cell(0))
         .ok()
         .ok_or(AllocError)?;
-    let data = request(alloc, row.cell(1), row.cell(2))?;
-    let rendered = render(alloc, &program, &data)?;
-    cells(alloc, &program, row.cell(3), rendered.text.as_str())
+    answer_of(alloc, &program, row)
 }
 
-fn cells(alloc: Global, program: &Program, size: &str, text: &str) -> Result<String, AllocError> {
-    let source = program.source();
-    let (steps, bytes) = budget_at(program, size.parse::<u64>().unwrap_or(0));
+fn answer_of(alloc: Global, program: &Program, row: &Row) -> Result<String, AllocError> {
+    let data = request(alloc, row.cell(1), row.cell(2))?;
+    cells(alloc, program, row.cell(3), &data)
+}
+
+fn cells(
+    alloc: Global,
+    program: &Program,
+    size: &str,
+    data: &RequestData,
+) -> Result<String, AllocError> {
+    let rendered = render(alloc, program, data)?;
+    let (source, text) = (program.source(), rendered.text.as_str());
+    let (steps, bytes) = budget_at(program, size);
     format!(in alloc; "\t{source}\t{steps}\t{bytes}\t{text}")
 }
 
-fn budget_at(program: &Program, size: u64) -> (u128, u128) {
+fn budget_at(program: &Program, size: &str) -> (u128, u128) {
+    let size = size.parse::<u64>().unwrap_or(0);
     program.budget().at(size).unwrap_or((0, 0))
 }
 

@@ -1,6 +1,7 @@
 //! Templates: how they are read, and their code.
 
 use crate::code::code_cells;
+use case_table::cells::Cells;
 use data_tree::step::{Path, Step};
 use std::alloc::{AllocError, Global};
 use template_compile::compiler::compile;
@@ -24,59 +25,61 @@ fn refused(alloc: Global, error: TemplateError) -> Result<String, AllocError> {
 }
 
 fn parts(alloc: Global, template: Template) -> Result<String, AllocError> {
-    let mut parts = String::from_str(alloc, "\t")?;
-    for node in template.into_nodes() {
-        add_node(alloc, &mut parts, &node)?;
+    let nodes = template.into_nodes();
+    let mut cells = Cells::new(alloc);
+    cells.add("\t");
+    for node in &nodes {
+        add_node(&mut cells, node);
     }
-    Ok(parts)
+    cells.finish()
 }
 
-fn add_node(alloc: Global, parts: &mut String, node: &Node) -> Result<(), AllocError> {
+fn add_node(cells: &mut Cells, node: &Node) {
     match node {
-        Node::Piece(piece) => add_text(parts, piece.as_str()),
-        Node::Print(Expression::Reference(reference)) => add_reference(alloc, parts, reference),
+        Node::Piece(piece) => add_text(cells, piece.as_str()),
+        Node::Print(Expression::Reference(reference)) => add_reference(cells, reference),
     }
 }
 
 /// Appends a text between bars.
-pub fn add_text(parts: &mut String, text: &str) -> Result<(), AllocError> {
-    parts.push('|')?;
-    parts.push_str(text)?;
-    parts.push('|')
+pub fn add_text(cells: &mut Cells, text: &str) {
+    cells.add("|");
+    cells.add(text);
+    cells.add("|");
 }
 
-fn add_reference(
-    alloc: Global,
-    parts: &mut String,
-    reference: &Reference,
-) -> Result<(), AllocError> {
+fn add_reference(cells: &mut Cells, reference: &Reference) {
     match reference {
         Reference::Root(path) => {
-            parts.push_str("{root")?;
-            add_path(alloc, parts, path)
+            cells.add("{root");
+            add_path(cells, path);
         }
         Reference::Item { depth, steps } => {
-            parts.push_str(format!(in alloc; "{{item {depth}")?.as_str())?;
-            add_path(alloc, parts, steps)
+            cells.add("{item ");
+            cells.add_number(*depth);
+            add_path(cells, steps);
         }
     }
 }
 
 /// Appends each step after a slash, an index after `#`, and a closing brace.
-pub fn add_path(alloc: Global, parts: &mut String, path: &Path) -> Result<(), AllocError> {
+pub fn add_path(cells: &mut Cells, path: &Path) {
     for step in path.steps() {
-        add_step(alloc, parts, step)?;
+        add_step(cells, step);
     }
-    parts.push('}')
+    cells.add("}");
 }
 
-fn add_step(alloc: Global, parts: &mut String, step: &Step) -> Result<(), AllocError> {
+fn add_step(cells: &mut Cells, step: &Step) {
     match step {
         Step::Name(name) => {
-            parts.push('/')?;
-            parts.push_str(name.as_str())
+            cells.add("/");
+            cells.add(name.as_str());
         }
-        Step::Index(index) => parts.push_str(format!(in alloc; "/#{index}")?.as_str()),
+        Step::Index(index) => {
+            cells.add("/#");
+            cells.add_number(*index);
+        }
     }
 }
 

@@ -20,10 +20,15 @@ pub fn value_of_text(alloc: Global, text: &str) -> Result<String, AllocError> {
 /// The steps of the path, as a list of names and indices.
 pub fn steps_of_path(alloc: Global, text: &str) -> Result<String, AllocError> {
     match JsonPath::parse(alloc, text) {
-        Ok(path) => cell_of(alloc, Some(&list_of(alloc, path.steps())?)),
+        Ok(path) => steps_cell(alloc, path.steps()),
         Err(JsonPathError::BadPath) => String::from_str(alloc, "\tbad path"),
         Err(JsonPathError::OutOfMemory) => Err(AllocError),
     }
+}
+
+fn steps_cell(alloc: Global, steps: &[Step]) -> Result<String, AllocError> {
+    let list = list_of(alloc, steps)?;
+    cell_of(alloc, Some(&list))
 }
 
 fn list_of(alloc: Global, steps: &[Step]) -> Result<Data, AllocError> {

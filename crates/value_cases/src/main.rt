@@ -1,5 +1,5 @@
-//! Compares what the calls of `data_tree`, `json_bridge`, `mock_request`, `helper_set` and `error_code` answer with the
-//! tables in `data/`.
+//! Compares what the calls of `data_tree`, `json_bridge`, `mock_request`, `request_data`, `helper_set` and `error_code`
+//! answer with the tables in `data/`.
 #![tactic(auto)]
 
 mod codes;
@@ -28,6 +28,8 @@ fn main(rt: HostRuntime) -> io::Result<ExitCode> {
             Table::Requests,
             Table::NamedValues,
             Table::Parts,
+            Table::Printed,
+            Table::Bindings,
             Table::Sizes,
             Table::Helpers,
             Table::Signatures,

@@ -1,22 +1,29 @@
 //! Requests, and the data that templates see of them. A row gives a method, a target, headers with a line feed between
 //! two, and a body whose characters are its bytes (ISO-8859-1).
 
-use crate::values::{cell_of, measured, path};
+use crate::values::{cell_of, measured, path, printed};
 use case_table::row::{Row, add_cell};
+use data_tree::data::Data;
 use data_tree::request_data::RequestData;
 use http_header::{HeaderName, HeaderValue};
 use mock_request::error::SnapshotError;
 use mock_request::request_values::RequestValues;
 use request_data::tree::request_data;
 use mock_request::snapshot::Snapshot;
+use path_template::path_template::PathTemplate;
 use std::alloc::{AllocError, Global};
 
 /// What the copy of a request gives back: its method, its URL, path and query, its headers and its body.
 pub fn kept(alloc: Global, row: &Row) -> Result<String, AllocError> {
     match snapshot(alloc, row) {
-        Ok(request) => parts(alloc, &request.try_clone()?),
+        Ok(request) => parts_of_copy(alloc, &request),
         Err(error) => refused(alloc, error),
     }
+}
+
+fn parts_of_copy(alloc: Global, request: &Snapshot) -> Result<String, AllocError> {
+    let copy = request.try_clone()?;
+    parts(alloc, &copy)
 }
 
 fn parts(alloc: Global, request: &Snapshot) -> Result<String, AllocError> {
@@ -25,22 +32,25 @@ fn parts(alloc: Global, request: &Snapshot) -> Result<String, AllocError> {
     for cell in [request.method(), request.url(), request.path(), query] {
         add_cell(&mut cells, cell)?;
     }
-    add_cell(&mut cells, "")?;
-    for index in 0..request.header_count() {
-        if let Some((name, value)) = request.header(index) {
-            add_header(alloc, &mut cells, name, value)?;
-        }
-    }
+    add_headers(alloc, &mut cells, request)?;
     add_bytes(alloc, &mut cells, request.body())?;
     Ok(cells)
+}
+
+fn add_headers(alloc: Global, cells: &mut String, request: &Snapshot) -> Result<(), AllocError> {
+    cells.push('\t')?;
+    for index in 0..request.header_count() {
+        if let Some((name, value)) = request.header(index) {
+            add_header(alloc, cells, name, value)?;
+        }
+    }
+    Ok(())
 }
 
 /// What matchers see of a request: the names and values of its query, of its cookies and of its headers, a line each,
 /// and the text of its body. The characters of the row's headers, too, are bytes.
 pub fn named_values(alloc: Global, row: &Row) -> Result<String, AllocError> {
-    let headers = headers(alloc, row.cell(2), Bytes::OfCharacters)?;
-    let body = bytes(alloc, row.cell(3))?;
-    match Snapshot::new(alloc, row.cell(0), row.cell(1), &headers, &body) {
+    match snapshot_of(alloc, row, Encoding::Latin1) {
         Ok(request) => values_of(alloc, &RequestValues::read(alloc, &request)?),
         Err(error) => refused(alloc, error),
     }
@@ -51,12 +61,7 @@ fn values_of(alloc: Global, values: &RequestValues<'_>) -> Result<String, AllocE
     add_cell(&mut cells, values.snapshot().method())?;
     add_pairs(alloc, &mut cells, values.query())?;
     add_pairs(alloc, &mut cells, values.cookies())?;
-    add_cell(&mut cells, "")?;
-    for index in 0..values.header_count() {
-        if let Some((name, text)) = values.header(index) {
-            cells.push_str(format!(in alloc; "{name}={text}\n")?.as_str())?;
-        }
-    }
+    add_texts(alloc, &mut cells, values)?;
     add_cell(&mut cells, values.body_text())?;
     Ok(cells)
 }
@@ -66,11 +71,29 @@ fn add_pairs(
     cells: &mut String,
     pairs: &[(String, String)],
 ) -> Result<(), AllocError> {
-    add_cell(cells, "")?;
+    cells.push('\t')?;
     for (name, value) in pairs {
-        cells.push_str(format!(in alloc; "{name}={value}\n")?.as_str())?;
+        add_pair(alloc, cells, name.as_str(), value.as_str())?;
     }
     Ok(())
+}
+
+fn add_texts(
+    alloc: Global,
+    cells: &mut String,
+    values: &RequestValues<'_>,
+) -> Result<(), AllocError> {
+    cells.push('\t')?;
+    for index in 0..values.header_count() {
+        if let Some((name, text)) = values.header(index) {
+            add_pair(alloc, cells, name, text)?;
+        }
+    }
+    Ok(())
+}
+
+fn add_pair(alloc: Global, cells: &mut String, name: &str, value: &str) -> Result<(), AllocError> {
+    cells.push_str(format!(in alloc; "{name}={value}\n")?.as_str())
 }
 
 fn add_header(
@@ -109,6 +132,47 @@ fn part_of(alloc: Global, request: &Snapshot, steps: &str) -> Result<String, All
     cell_of(alloc, data.root().at(path.steps()))
 }
 
+/// What prints where the steps find something in the data of a request.
+pub fn printed_part(alloc: Global, row: &Row) -> Result<String, AllocError> {
+    match snapshot(alloc, row) {
+        Ok(request) => printed_of(alloc, &request, row.cell(4)),
+        Err(error) => refused(alloc, error),
+    }
+}
+
+fn printed_of(alloc: Global, request: &Snapshot, steps: &str) -> Result<String, AllocError> {
+    let path = path(alloc, steps)?;
+    let data = data(alloc, request)?;
+    let mut cells = String::new(alloc);
+    let found = data.root().at(path.steps()).unwrap_or(&Data::Nothing);
+    add_cell(&mut cells, printed(alloc, found)?.as_str())?;
+    Ok(cells)
+}
+
+/// The JSON texts of the path and of its segments in the data of a request, with what a path template binds in it.
+pub fn bindings(alloc: Global, row: &Row) -> Result<String, AllocError> {
+    match plain_request(alloc, row.cell(0)) {
+        Ok(request) => paths_of(alloc, &request, row.cell(1)),
+        Err(error) => refused(alloc, error),
+    }
+}
+
+fn plain_request(alloc: Global, target: &str) -> Result<Snapshot, SnapshotError> {
+    Snapshot::new(alloc, "GET", target, &[], &[])
+}
+
+// All templates of the table are well formed.
+fn paths_of(alloc: Global, request: &Snapshot, template: &str) -> Result<String, AllocError> {
+    let template = PathTemplate::parse(alloc, template).ok().ok_or(AllocError)?;
+    let data = request_data(alloc, request, Some(&template)).ok().ok_or(AllocError)?;
+    let mut cells = String::new(alloc);
+    for steps in [r#"["request","path"]"#, r#"["request","pathSegments"]"#] {
+        let path = path(alloc, steps)?;
+        cells.push_str(cell_of(alloc, data.root().at(path.steps()))?.as_str())?;
+    }
+    Ok(cells)
+}
+
 // None of the requests' data is over the limit.
 fn data(alloc: Global, request: &Snapshot) -> Result<RequestData, AllocError> {
     request_data(alloc, request, None).ok().ok_or(AllocError)
@@ -117,44 +181,56 @@ fn data(alloc: Global, request: &Snapshot) -> Result<RequestData, AllocError> {
 /// The size of the data of a request, or of what is handed back, after the error's number.
 pub fn size(alloc: Global, row: &Row) -> Result<String, AllocError> {
     match snapshot(alloc, row) {
-        Ok(request) => {
-            let (error, size) = measured(request_data(alloc, &request, None));
-            format!(in alloc; "\t{error}\t{size}")
-        }
+        Ok(request) => size_of(alloc, &request),
         Err(error) => refused(alloc, error),
     }
 }
 
-fn snapshot(alloc: Global, row: &Row) -> Result<Snapshot, SnapshotError> {
-    let headers = headers(alloc, row.cell(2), Bytes::OfText)?;
-    let body = bytes(alloc, row.cell(3))?;
-    Snapshot::new(alloc, row.cell(0), row.cell(1), &headers, &body)
+fn size_of(alloc: Global, request: &Snapshot) -> Result<String, AllocError> {
+    let (error, size) = measured(request_data(alloc, request, None));
+    format!(in alloc; "\t{error}\t{size}")
 }
 
-// How a row's text gives bytes: in UTF-8, or a byte for each character (ISO-8859-1).
+fn snapshot(alloc: Global, row: &Row) -> Result<Snapshot, SnapshotError> {
+    snapshot_of(alloc, row, Encoding::Utf8)
+}
+
+// How the values of a row's headers give bytes. (Those of its body are always ISO-8859-1.)
 #[derive(Clone, Copy)]
-enum Bytes {
-    OfText,
-    OfCharacters,
+enum Encoding {
+    Utf8,
+    Latin1,
+}
+
+fn snapshot_of(alloc: Global, row: &Row, values: Encoding) -> Result<Snapshot, SnapshotError> {
+    let headers = headers(alloc, row.cell(2), values)?;
+    let body = latin1(alloc, row.cell(3))?;
+    Snapshot::new(alloc, row.cell(0), row.cell(1), &headers, &body)
 }
 
 fn headers(
     alloc: Global,
     lines: &str,
-    read: Bytes,
+    values: Encoding,
 ) -> Result<Vec<(HeaderName, HeaderValue)>, AllocError> {
     let mut headers = Vec::new(alloc);
     for line in lines.lines() {
-        let (name, value) = line.split_once(": ").ok_or(AllocError)?;
-        headers.push((header_name(alloc, name)?, value_read(alloc, value, read)?))?;
+        let (name, value) = line.split_once(": ").unwrap_or((line, ""));
+        headers.push(header(alloc, name, value, values)?)?;
     }
     Ok(headers)
 }
 
-fn value_read(alloc: Global, value: &str, read: Bytes) -> Result<HeaderValue, AllocError> {
-    match read {
-        Bytes::OfText => header_value(alloc, value.as_bytes()),
-        Bytes::OfCharacters => header_value(alloc, bytes(alloc, value)?.as_slice()),
+fn header(
+    alloc: Global,
+    name: &str,
+    value: &str,
+    values: Encoding,
+) -> Result<(HeaderName, HeaderValue), AllocError> {
+    let name = header_name(alloc, name)?;
+    match values {
+        Encoding::Utf8 => Ok((name, header_value(alloc, value.as_bytes())?)),
+        Encoding::Latin1 => Ok((name, header_value(alloc, &latin1(alloc, value)?)?)),
     }
 }
 
@@ -173,7 +249,7 @@ fn header_value(alloc: Global, value: &[u8]) -> Result<HeaderValue, AllocError> 
 }
 
 // A byte for each character.
-fn bytes(alloc: Global, text: &str) -> Result<Vec<u8>, AllocError> {
+fn latin1(alloc: Global, text: &str) -> Result<Vec<u8>, AllocError> {
     let mut bytes = Vec::new(alloc);
     for letter in text.chars() {
         bytes.push(u8::try_from(u32::from(letter)).unwrap_or(0))?;

@@ -12,17 +12,24 @@ use std::alloc::{AllocError, Global};
 
 /// What the value prints, alone and in a list, its size, whether it counts as true, and how many items it has.
 pub fn described(alloc: Global, text: &str) -> Result<String, AllocError> {
-    let value = value(alloc, text)?;
     let mut cells = String::new(alloc);
-    add_cell(&mut cells, printed(alloc, &value)?.as_str())?;
-    let (size, truth, items) = (value.size(), value.is_true(), value.items_len());
-    let list = Data::List(vec![in alloc; value]?);
-    add_cell(&mut cells, printed(alloc, &list)?.as_str())?;
-    add_cell(
-        &mut cells,
-        format!(in alloc; "{size}\t{truth}\t{items}")?.as_str(),
-    )?;
+    add_printed(alloc, &mut cells, value(alloc, text)?)?;
+    add_printed(alloc, &mut cells, list(alloc, text)?)?;
+    add_measures(alloc, &mut cells, value(alloc, text)?)?;
     Ok(cells)
+}
+
+fn add_printed(alloc: Global, cells: &mut String, value: Data) -> Result<(), AllocError> {
+    add_cell(cells, printed(alloc, &value)?.as_str())
+}
+
+fn list(alloc: Global, text: &str) -> Result<Data, AllocError> {
+    Ok(Data::List(vec![in alloc; value(alloc, text)?]?))
+}
+
+fn add_measures(alloc: Global, cells: &mut String, value: Data) -> Result<(), AllocError> {
+    let (size, truth, items) = (value.size(), value.is_true(), value.items_len());
+    cells.push_str(format!(in alloc; "\t{size}\t{truth}\t{items}")?.as_str())
 }
 
 /// The JSON text of what the steps find.
@@ -35,7 +42,10 @@ pub fn found(alloc: Global, text: &str, steps: &str) -> Result<String, AllocErro
 /// The key and the JSON text of the item at the index.
 pub fn item(alloc: Global, text: &str, index: &str) -> Result<String, AllocError> {
     let value = value(alloc, text)?;
-    let index = index.parse::<usize>().unwrap_or(0);
+    item_of(alloc, &value, index.parse::<usize>().unwrap_or(0))
+}
+
+fn item_of(alloc: Global, value: &Data, index: usize) -> Result<String, AllocError> {
     let mut cells = String::new(alloc);
     add_cell(&mut cells, value.key(index).unwrap_or("none"))?;
     add_item(alloc, &mut cells, value.item(index))?;
@@ -69,7 +79,8 @@ pub fn measured(made: Result<RequestData, DataError>) -> (u16, u64) {
     }
 }
 
-fn printed(alloc: Global, value: &Data) -> Result<String, AllocError> {
+/// What the value prints.
+pub fn printed(alloc: Global, value: &Data) -> Result<String, AllocError> {
     let mut out = String::new(alloc);
     value.print_into(alloc, &mut out)?;
     Ok(out)

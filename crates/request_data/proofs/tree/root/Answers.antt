@@ -1,8 +1,8 @@
 use Rattle.std.proofs.Common.{◌≡◌, option_copied, ap, subst, sym, ◌∙◌, codes}
 use Rattle.std.specs.Str.Lossy.{utf8_lossy}
-use Rattle.data_tree.specs.Tree.{Tree, fields, view}
+use Rattle.data_tree.specs.Tree.{fields, view}
 use Rattle.data_tree.specs.WellFormed.{IsWellFormed}
-use Rattle.request_data.specs.RequestTree.{json_tree, request_tree}
+use Rattle.request_data.specs.RequestTree.{json_tree}
 use Rattle.request_data.proofs.TreeLemmas.{entry_more, members_from, members_of_entries, request_tree_well_formed}
 use Rattle.request_data.proofs.tree.root.Goals as goal
 
