@@ -1,5 +1,6 @@
 -- Where the parts of a request are in a snapshot's block.
-use Rattle.std.proofs.Common.{◌≡◌, ℕ, zero, suc, ◌+◌, ◌*◌, ◌<◌, ◌≤◌, List, [], ◌∷◌, ◌++◌, length, get_or, take, refl, sym, ap, subst, ◌∙◌, arith, All}
+use Rattle.std.proofs.Common.{◌≡◌, ℕ, zero, suc, ◌+◌, ◌*◌, ◌<◌, ◌≤◌, refl, sym, ap, subst, ◌∙◌, arith}
+use Rattle.std.proofs.Common.{List, [], ◌∷◌, ◌++◌, length, get_or, take, All}
 use Rattle.std.specs.Prelude.{slice_get, Some, IsUtf8}
 use Rattle.std.proofs.lemmas.List.{map-append, take_more, append_assoc}
 use Rattle.http_header.specs.FieldValue.{FieldValue}
@@ -79,7 +80,9 @@ pub record At (headers : List Header) (index at : ℕ) (fields : List (List ℕ)
 pub field_at : (headers : List Header) (index at : ℕ) → at ≡ 2 * index → index < length headers
     → All (λ header. IsHeaderName header.name) headers → At headers index at (fields_of headers)
 field_at [] index at e i names = absurd (omega arith)
-field_at (header ∷ headers) zero zero e i names = record { within = omega arith; found = refl; name = names 0 header (omega arith); text = IsUtf8-from_token header.name (names 0 header (omega arith)).0.0 }
+field_at (header ∷ headers) zero zero e i names =
+    let name : IsHeaderName header.name = names 0 header (omega arith) in
+    record { within = omega arith; found = refl; name = name; text = IsUtf8-from_token header.name name.0.0 }
 field_at (header ∷ headers) zero (suc at) e i names = absurd (omega arith)
 field_at (header ∷ headers) (suc index) zero e i names = absurd (omega arith)
 field_at (header ∷ headers) (suc index) (suc zero) e i names = absurd (omega arith)

@@ -38,7 +38,7 @@ fn parts(alloc: Global, request: &Snapshot) -> Result<String, AllocError> {
 }
 
 fn add_headers(alloc: Global, cells: &mut String, request: &Snapshot) -> Result<(), AllocError> {
-    add_cell(cells, "")?;
+    cells.push('\t')?;
     for index in 0..request.header_count() {
         if let Some((name, value)) = request.header(index) {
             add_header(alloc, cells, name, value)?;
@@ -50,9 +50,7 @@ fn add_headers(alloc: Global, cells: &mut String, request: &Snapshot) -> Result<
 /// What matchers see of a request: the names and values of its query, of its cookies and of its headers, a line each,
 /// and the text of its body. The characters of the row's headers, too, are bytes.
 pub fn named_values(alloc: Global, row: &Row) -> Result<String, AllocError> {
-    let headers = headers(alloc, row.cell(2), Bytes::OfCharacters)?;
-    let body = bytes(alloc, row.cell(3))?;
-    match Snapshot::new(alloc, row.cell(0), row.cell(1), &headers, &body) {
+    match snapshot_of(alloc, row, Encoding::Latin1) {
         Ok(request) => values_of(alloc, &RequestValues::read(alloc, &request)?),
         Err(error) => refused(alloc, error),
     }
@@ -63,12 +61,7 @@ fn values_of(alloc: Global, values: &RequestValues<'_>) -> Result<String, AllocE
     add_cell(&mut cells, values.snapshot().method())?;
     add_pairs(alloc, &mut cells, values.query())?;
     add_pairs(alloc, &mut cells, values.cookies())?;
-    add_cell(&mut cells, "")?;
-    for index in 0..values.header_count() {
-        if let Some((name, text)) = values.header(index) {
-            cells.push_str(format!(in alloc; "{name}={text}\n")?.as_str())?;
-        }
-    }
+    add_texts(alloc, &mut cells, values)?;
     add_cell(&mut cells, values.body_text())?;
     Ok(cells)
 }
@@ -78,11 +71,29 @@ fn add_pairs(
     cells: &mut String,
     pairs: &[(String, String)],
 ) -> Result<(), AllocError> {
-    add_cell(cells, "")?;
+    cells.push('\t')?;
     for (name, value) in pairs {
-        cells.push_str(format!(in alloc; "{name}={value}\n")?.as_str())?;
+        add_pair(alloc, cells, name.as_str(), value.as_str())?;
     }
     Ok(())
+}
+
+fn add_texts(
+    alloc: Global,
+    cells: &mut String,
+    values: &RequestValues<'_>,
+) -> Result<(), AllocError> {
+    cells.push('\t')?;
+    for index in 0..values.header_count() {
+        if let Some((name, text)) = values.header(index) {
+            add_pair(alloc, cells, name, text)?;
+        }
+    }
+    Ok(())
+}
+
+fn add_pair(alloc: Global, cells: &mut String, name: &str, value: &str) -> Result<(), AllocError> {
+    cells.push_str(format!(in alloc; "{name}={value}\n")?.as_str())
 }
 
 fn add_header(
@@ -147,8 +158,7 @@ pub fn bindings(alloc: Global, row: &Row) -> Result<String, AllocError> {
 }
 
 fn plain_request(alloc: Global, target: &str) -> Result<Snapshot, SnapshotError> {
-    let headers = Vec::new(alloc);
-    Snapshot::new(alloc, "GET", target, &headers, &[])
+    Snapshot::new(alloc, "GET", target, &[], &[])
 }
 
 // All templates of the table are well formed.
@@ -182,35 +192,45 @@ fn size_of(alloc: Global, request: &Snapshot) -> Result<String, AllocError> {
 }
 
 fn snapshot(alloc: Global, row: &Row) -> Result<Snapshot, SnapshotError> {
-    let headers = headers(alloc, row.cell(2), Bytes::OfText)?;
-    let body = bytes(alloc, row.cell(3))?;
-    Snapshot::new(alloc, row.cell(0), row.cell(1), &headers, &body)
+    snapshot_of(alloc, row, Encoding::Utf8)
 }
 
-// How a row's text gives bytes: in UTF-8, or a byte for each character (ISO-8859-1).
+// How the values of a row's headers give bytes. (Those of its body are always ISO-8859-1.)
 #[derive(Clone, Copy)]
-enum Bytes {
-    OfText,
-    OfCharacters,
+enum Encoding {
+    Utf8,
+    Latin1,
+}
+
+fn snapshot_of(alloc: Global, row: &Row, values: Encoding) -> Result<Snapshot, SnapshotError> {
+    let headers = headers(alloc, row.cell(2), values)?;
+    let body = latin1(alloc, row.cell(3))?;
+    Snapshot::new(alloc, row.cell(0), row.cell(1), &headers, &body)
 }
 
 fn headers(
     alloc: Global,
     lines: &str,
-    read: Bytes,
+    values: Encoding,
 ) -> Result<Vec<(HeaderName, HeaderValue)>, AllocError> {
     let mut headers = Vec::new(alloc);
     for line in lines.lines() {
         let (name, value) = line.split_once(": ").unwrap_or((line, ""));
-        headers.push((header_name(alloc, name)?, value_read(alloc, value, read)?))?;
+        headers.push(header(alloc, name, value, values)?)?;
     }
     Ok(headers)
 }
 
-fn value_read(alloc: Global, value: &str, read: Bytes) -> Result<HeaderValue, AllocError> {
-    match read {
-        Bytes::OfText => header_value(alloc, value.as_bytes()),
-        Bytes::OfCharacters => header_value(alloc, bytes(alloc, value)?.as_slice()),
+fn header(
+    alloc: Global,
+    name: &str,
+    value: &str,
+    values: Encoding,
+) -> Result<(HeaderName, HeaderValue), AllocError> {
+    let name = header_name(alloc, name)?;
+    match values {
+        Encoding::Utf8 => Ok((name, header_value(alloc, value.as_bytes())?)),
+        Encoding::Latin1 => Ok((name, header_value(alloc, &latin1(alloc, value)?)?)),
     }
 }
 
@@ -229,7 +249,7 @@ fn header_value(alloc: Global, value: &[u8]) -> Result<HeaderValue, AllocError> 
 }
 
 // A byte for each character.
-fn bytes(alloc: Global, text: &str) -> Result<Vec<u8>, AllocError> {
+fn latin1(alloc: Global, text: &str) -> Result<Vec<u8>, AllocError> {
     let mut bytes = Vec::new(alloc);
     for letter in text.chars() {
         bytes.push(u8::try_from(u32::from(letter)).unwrap_or(0))?;

@@ -26,7 +26,8 @@ loop-index-preserved c =
           rw (w.in_ok-from_str.ensures.ok, w.in_ok-from_utf8_lossy.ensures.lossy) refl in
           ap (λ v. pairs_of v.items) w.pairs-is
           ∙ two
-          ∙ ap (λ ps. ps ++ pair_of (w.in_ok-from_str.field-0, w.in_ok-from_utf8_lossy.field-0) ∷ []) c.loop-index.invariant
+          ∙ ap (λ ps. ps ++ pair_of (w.in_ok-from_str.field-0, w.in_ok-from_utf8_lossy.field-0) ∷ [])
+          c.loop-index.invariant
           ∙ ap (λ p. header_pairs (take i headers) ++ p ∷ []) same
           ∙ sym one
           ∙ ap header_pairs (sym more)

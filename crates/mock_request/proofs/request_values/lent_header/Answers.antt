@@ -9,7 +9,8 @@ use Rattle.mock_request.proofs.HeaderLemmas.{text_at}
 use Rattle.mock_request.proofs.request_values.lent_header.Goals as goal
 
 pub from_utf8_unchecked-requires : goal.from_utf8_unchecked-requires
-from_utf8_unchecked-requires c = text_at c.args.snapshot.now.headers c.args.index _ c.requires c.in_ok-name.ensures.value
+from_utf8_unchecked-requires c =
+    text_at c.args.snapshot.now.headers c.args.index _ c.requires c.in_ok-name.ensures.value
 
 pub returns : goal.returns
 returns c =

@@ -15,7 +15,8 @@ loop-name-preserved c =
     more_headers headers i field (omega arith) c.loop-name-item.is in
     record {
       parts = rw more (more_fields _ _ _ _ before (header_of field) _ _ c.loop-name.invariant.parts
-          c.in_ok-push.ensures.ok c.in_ok-push-2.ensures.ok c.as_bytes.ensures.value c.as_bytes-in-loop-name.ensures.value);
-      names = rw more (All-push (λ header. IsHeaderName header.name) before (header_of field) c.loop-name.invariant.names
-          c.as_bytes.ensures.valid);
+          c.in_ok-push.ensures.ok c.in_ok-push-2.ensures.ok
+          c.as_bytes.ensures.value c.as_bytes-in-loop-name.ensures.value);
+      names = rw more (All-push (λ header. IsHeaderName header.name) before (header_of field)
+          c.loop-name.invariant.names c.as_bytes.ensures.valid);
     }

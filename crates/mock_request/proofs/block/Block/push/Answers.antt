@@ -1,4 +1,5 @@
-use Rattle.std.proofs.Common.{◌≡◌, ◌+◌, ◌++◌, ◌∷◌, [], length, length-append, ap, ◌∙◌, arith, IsOk, OnOk, Result, Ok, Err}
+use Rattle.std.proofs.Common.{◌≡◌, ◌+◌, ◌++◌, ◌∷◌, [], length, length-append, ap, ◌∙◌, arith}
+use Rattle.std.proofs.Common.{IsOk, OnOk, Result, Ok, Err}
 use Rattle.mock_request.proofs.BlockLemmas.{AreEnds-append, parts-append}
 use Rattle.mock_request.proofs.block.Block.push.Goals as goal
 
@@ -24,7 +25,8 @@ ends c =
 pub invariant_of-self-2 : goal.invariant_of-self-2
 invariant_of-self-2 c =
     rw (bytes c, ends c, length-append)
-    (AreEnds-append 0 c.self.inside.ends.items (length c.self.inside.bytes.items) (length c.args.part.now) c.self.invariant)
+    (AreEnds-append 0 c.self.inside.ends.items (length c.self.inside.bytes.items) (length c.args.part.now)
+    c.self.invariant)
 
 pub returns-clause-ok : goal.returns-clause-ok
 returns-clause-ok c =

@@ -29,7 +29,8 @@ pub invariant_of-result : goal.invariant_of-result
 unfolding request
 invariant_of-result c =
     rw (pushed c)
-    (are_parts (request c) c.utf8.method c.utf8.url c.requires.rooted c.requires.within c.in_ok-push_headers.ensures.names)
+    (are_parts (request c) c.utf8.method c.utf8.url c.requires.rooted c.requires.within
+    c.in_ok-push_headers.ensures.names)
 
 pub returns : goal.returns
 unfolding request
