@@ -1,11 +1,10 @@
 -- What `serde_json` reads is well formed: its whole numbers fit, and an object's names are in byte order, each once.
 use Rattle.std.proofs.Common.{◌≡◌, ℕ, zero, suc, ◌-◌, ◌^◌, ◌<◌, ◌≤◌, ◌==◌, ◌&&◌, nat_lt, nat_le, ℤ, pos, negsuc}
 use Rattle.std.proofs.Common.{List, [], ◌∷◌, drop, slice_index, Option, Some, None, option_map, option_and_then, T}
-use Rattle.std.proofs.Common.{Bool, true, false, cond, IfSome, IfOk, Result, Ok, Err, Ordering, Less, Equal}
+use Rattle.std.proofs.Common.{Bool, true, false, cond, IfSome, Ordering, Less, Equal}
 use Rattle.std.proofs.Common.{Greater, Float, nat_cmp, refl, sym, ap, subst, ◌∙◌, arith}
 use Rattle.std.proofs.lemmas.Bool.{and_parts, ltb-true, leb-true, le-leb}
 use Rattle.std.proofs.lemmas.Cmp.{nat_list_cmp_total}
-use Rattle.std.specs.declared.alloc.AllocError.{AllocError}
 use Rattle.std.specs.Cmp.Lexicographic.{slice_cmp}
 use Rattle.std.specs.Ordering.{match_ordering, ordering_reverse}
 use Rattle.std.specs.Option.{option_or}
