@@ -20,5 +20,5 @@ returns-in-Path c = record {
       (matches_path c.self.inside.spec c.self.inside.test c.in-Path.path (view c.args.actual.now)
       c.finds_something.result c.self.invariant c.in-Path.is
       (c.finds_something.ensures ∙ ap is_something
-      (c.at.ensures ∙ ap (λ steps. at steps (view c.args.actual.now)) c.steps.ensures)));
+      (c.at.ensures.found ∙ ap (λ steps. at steps (view c.args.actual.now)) c.steps.ensures)));
 }
