@@ -104,6 +104,7 @@ impl<'a> RequestValues<'a> {
     {
         match &self.made_body {
             Some(text) => text.as_str(),
+            // `made_body` has looked at its bytes.
             None => unsafe { str::from_utf8_unchecked(self.snapshot.body()) },
         }
     }
@@ -116,6 +117,7 @@ fn made_header(pairs: &[(String, String)], index: usize) -> Option<(&str, &str)>
     Some((name.as_str(), text.as_str()))
 }
 
+// `made_headers` has looked at the bytes of all values.
 fn lent_header(snapshot: &Snapshot, index: usize) -> Option<(&str, &str)>
     requires { All (λ header. IsUtf8 header.value) snapshot.now.headers }
     ensures { option_map (λ pair. (pair.0.now, pair.1.now)) result

@@ -38,7 +38,7 @@ fn parts(alloc: Global, request: &Snapshot) -> Result<String, AllocError> {
 }
 
 fn add_headers(alloc: Global, cells: &mut String, request: &Snapshot) -> Result<(), AllocError> {
-    cells.push('\t')?;
+    add_cell(cells, "")?;
     for index in 0..request.header_count() {
         if let Some((name, value)) = request.header(index) {
             add_header(alloc, cells, name, value)?;
@@ -71,7 +71,7 @@ fn add_pairs(
     cells: &mut String,
     pairs: &[(String, String)],
 ) -> Result<(), AllocError> {
-    cells.push('\t')?;
+    add_cell(cells, "")?;
     for (name, value) in pairs {
         add_pair(alloc, cells, name.as_str(), value.as_str())?;
     }
@@ -83,7 +83,7 @@ fn add_texts(
     cells: &mut String,
     values: &RequestValues<'_>,
 ) -> Result<(), AllocError> {
-    cells.push('\t')?;
+    add_cell(cells, "")?;
     for index in 0..values.header_count() {
         if let Some((name, text)) = values.header(index) {
             add_pair(alloc, cells, name, text)?;
