@@ -1,5 +1,5 @@
 -- A text that began to grow can be cut where it began.
-use Rattle.std.proofs.Common.{◌≡◌, ℕ, ◌≤◌, Bool, true, false, if◌then◌else◌, List, ◌++◌, length, take, sym, subst, arith}
+use Rattle.std.proofs.Common.{ℕ, ◌≤◌, Bool, true, false, if◌then◌else◌, List, ◌++◌, length, take, sym, subst, arith}
 use Rattle.std.proofs.Common.{length-append, IsUtf8}
 use Rattle.std.proofs.lemmas.List.{take-append-le}
 

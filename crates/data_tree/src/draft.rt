@@ -4,7 +4,7 @@ ghost use Rattle.std.specs.Prelude.{◌≡◌, [], ◌++◌, OnOk, OnErr, string
 use std::alloc::AllocError;
 use std::marker::Model;
 
-/// A text, cut where it began to grow: contracts see what it was, and what was added.
+/// A text and the byte at which it began to grow. Contracts see what it was, and what was added.
 #[derive(Drop)]
 pub(crate) struct Draft {
     text: String,

@@ -11,9 +11,9 @@ pub mod step;
 
 // The value, and what is asked of it.
 pub mod data;
+mod draft;
 pub mod look_up;
 pub mod parts;
-mod draft;
 pub mod print;
 pub mod size;
 

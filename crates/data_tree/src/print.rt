@@ -11,7 +11,7 @@ use json::Writer;
 use std::alloc::{AllocError, Global};
 use std::mem;
 
-// Bytes of a string that is looked at byte by byte.
+// A string of more bytes isn't looked at byte by byte.
 const SHORT: usize = 32;
 
 impl Data {
@@ -20,10 +20,10 @@ impl Data {
     /// Appends what the value prints as.
     ///
     /// Nothing prints as the empty text, a `Text` and a `Named` as their text, and a list or an object as
-    /// its compact JSON text. Each byte is read and written once, straight into `out`, but for a string in which
-    /// something is to be escaped: that is escaped into a text of its own first. The recursion is as deep as
-    /// lists, objects and named texts nest in the value. Where an allocation fails, `out` keeps the text that
-    /// it had.
+    /// its compact JSON text, which is written straight into `out`, but for a string that is long or in which
+    /// something is to be escaped: that is put between quotes in a text of its own first. The recursion is as
+    /// deep as lists, objects and named texts nest in the value. Where an allocation fails, `out` keeps the text
+    /// that it had.
     pub fn print_into(&self, alloc: Global, out: &mut String) -> Result<(), AllocError>
         ensures ok { OnOk result
             (string_bytes out.new ≡ string_bytes out.old ++ print (view self.now)) }
@@ -54,7 +54,11 @@ impl Data {
         // The draft takes `out` over, and gives it back whether or not all of the value could be added.
         let mut draft = Draft::new(mem::replace(out, String::new(alloc)));
         let written = write_value(self, alloc, &mut draft);
-        *out = if written.is_ok() { draft.into_text() } else { draft.into_start() };
+        *out = if written.is_ok() {
+            draft.into_text()
+        } else {
+            draft.into_start()
+        };
         written
     }
 }
@@ -107,7 +111,11 @@ fn write_items(items: &Vec<Data>, alloc: Global, out: &mut Draft) -> Result<(), 
 }
 
 #[cycle(write)]
-fn write_members(members: &Vec<(String, Data)>, alloc: Global, out: &mut Draft) -> Result<(), AllocError>
+fn write_members(
+    members: &Vec<(String, Data)>,
+    alloc: Global,
+    out: &mut Draft,
+) -> Result<(), AllocError>
     ensures ok { OnOk result (out.new.1 ≡ out.old.1 ++ json (fields (members_view members.now.items))) }
     ensures before { out.new.0 ≡ out.old.0 }
 {
@@ -130,8 +138,8 @@ fn write_comma_if(later: bool, out: &mut Draft) -> Result<(), AllocError>
     if later { out.push(",") } else { Ok(()) }
 }
 
-// A text between quotes. A short one in which nothing is to be escaped needs no memory but that of `out`; the writer
-// of `json` looks at many bytes of a long one at a time.
+// A text between quotes. A short one in which nothing is to be escaped takes no memory but in `out`; of a long one the
+// writer of `json` looks at many bytes at a time.
 fn write_text(text: &str, alloc: Global, out: &mut Draft) -> Result<(), AllocError>
     ensures ok { OnOk result (out.new.1 ≡ out.old.1 ++ quoted text.now) }
     ensures before { out.new.0 ≡ out.old.0 }

@@ -8,6 +8,7 @@ mod json;
 mod requests;
 mod table;
 mod values;
+mod well_formed;
 
 use case_table::compare::compare_all;
 use std::io;

@@ -1,6 +1,7 @@
 //! What a value prints, its size, its items, and what steps find in it. A value is written as its JSON text, where an
 //! object of `fields`, `items` and `text` is a named text; steps are a list of names and indices.
 
+use crate::well_formed::is_well_formed;
 use case_table::row::add_cell;
 use data_tree::data::Data;
 use data_tree::plain_text::PlainText;
@@ -36,6 +37,9 @@ fn add_measures(alloc: Global, cells: &mut String, value: Data) -> Result<(), Al
 pub fn found(alloc: Global, text: &str, steps: &str) -> Result<String, AllocError> {
     let value = value(alloc, text)?;
     let path = path(alloc, steps)?;
+    if !is_well_formed(&value) {
+        return format!(in alloc; "\tnot well formed");
+    }
     cell_of(alloc, value.at(path.steps()))
 }
 

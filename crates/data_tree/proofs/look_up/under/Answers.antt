@@ -7,7 +7,7 @@ pub returns-in-Ok : goal.returns-in-Ok
 returns-in-Ok c =
     let name = c.args.name.now in
     let ended = c.in-Ok.ensures.position (λ f. order (name_of f) name)
-        (always_returns_same _ _ _ (λ a r f k. search (rules, of_calls))) in
+    (always_returns_same _ _ _ (λ a r f k. search (rules, of_calls))) in
     let field = c.index-fields-index.result in
     sym (under_found name c.args.fields.now c.in-Ok.index field c.requires c.in-Ok.ensures.bound (ended field))
 
@@ -15,5 +15,5 @@ pub returns-in-Err : goal.returns-in-Err
 returns-in-Err c =
     let name = c.args.name.now in
     let ended = c.in-Err.ensures.position (λ f. order (name_of f) name)
-        (always_returns_same _ _ _ (λ a r f k. search (rules, of_calls))) in
+    (always_returns_same _ _ _ (λ a r f k. search (rules, of_calls))) in
     sym (under_absent name c.args.fields.now c.in-Err.field-0 c.requires ended)

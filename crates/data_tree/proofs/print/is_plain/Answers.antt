@@ -1,4 +1,4 @@
-use Rattle.std.proofs.Common.{◌≡◌, true, ◌∙◌, sym, rules, tests, of_calls}
+use Rattle.std.proofs.Common.{◌≡◌, ◌∙◌, sym, rules, tests, of_calls}
 use Rattle.std.proofs.lemmas.Bool.{OnTrue_from}
 use Rattle.std.proofs.lemmas.Iterator.Search.{all_from_yields_List}
 use Rattle.std.proofs.lemmas.Iterator.{YieldsList-from_slice}
