@@ -2,60 +2,50 @@
 
 use crate::values::cell_of;
 use data_tree::data::Data;
+use data_tree::plain_text::PlainText;
 use helper_set::apply::apply;
 use helper_set::helper::Helper;
 use helper_set::kind::Kind;
 use helper_set::signature::{HelperSignature, Parameter, signature};
-use helper_set::value::HelperValue;
+use helper_set::value::{MadeValue, Value};
 use json_bridge::read::data_of_json;
 use std::alloc::{AllocError, Global};
 
-/// The JSON text of what the helper makes of the argument, a JSON text.
-pub fn result(alloc: Global, name: &str, argument: &str) -> Result<String, AllocError> {
-    match data_of_json(alloc, argument)? {
-        Some(Data::Truth(truth)) if name == Helper::Not.name() => not(alloc, truth),
-        _ => Ok(String::new(alloc)),
+/// The JSON text of what the helper makes of the arguments, JSON texts: a text is given as a text, `true` and `false`
+/// as truths where the helper takes a truth, and all else as data.
+pub fn result(
+    alloc: Global,
+    name: &str,
+    first: &str,
+    second: &str,
+) -> Result<String, AllocError> {
+    let first = data_of_json(alloc, first)?;
+    let second = data_of_json(alloc, second)?;
+    match Helper::from_name(name) {
+        None | Some(Helper::JsonPath) => Ok(String::new(alloc)),
+        Some(helper) => applied(alloc, helper, first.as_ref(), second.as_ref()),
     }
 }
 
-fn not(alloc: Global, truth: bool) -> Result<String, AllocError> {
-    let made = apply(alloc, Helper::Not, &[HelperValue::Truth(truth)])?;
-    cell_of(alloc, Some(&data_of(made)))
-}
-
-fn data_of(value: HelperValue) -> Data {
-    match value {
-        HelperValue::Text(text) => Data::Text(text.into_string()),
-        HelperValue::Number(number) => Data::Number(i128::from(number)),
-        HelperValue::Truth(truth) => Data::Truth(truth),
+fn applied(
+    alloc: Global,
+    helper: Helper,
+    first: Option<&Data>,
+    second: Option<&Data>,
+) -> Result<String, AllocError> {
+    let signature = signature(helper);
+    let first = value_of(signature.first, first);
+    match signature.second {
+        None => answer(alloc, helper, &[first]),
+        Some(parameter) => answer(alloc, helper, &[first, value_of(parameter, second)]),
     }
 }
 
-/// What the helper accepts as its first and its second argument, and the kind that it gives.
-pub fn signature_of(alloc: Global, name: &str) -> Result<String, AllocError> {
-    if name != Helper::Not.name() {
-        return Ok(String::new(alloc));
+// As the parameter takes it.
+fn value_of<'a>(parameter: Parameter, data: Option<&'a Data>) -> Value<'a> {
+    match data {
+        Some(Data::Text(text)) if parameter.accepts(Kind::Text) => Value::Text(text.as_str()),
+        Some(Data::Truth(truth)) if parameter.accepts(Kind::Truth) => Value::Truth(*truth),
+        _ => Value::Datum(data),
     }
-    let HelperSignature {
-        first,
-        second,
-        gives,
-    } = signature(Helper::Not);
-    format!(in alloc; "\t{first:?}\t{second:?}\t{gives:?}")
-}
-
-/// The kinds that a parameter accepts: each, all but text, or a truth.
-pub fn accepted(alloc: Global, name: &str) -> Result<String, AllocError> {
-    let parameter = match name {
-        "Any" => Parameter::Any,
-        "NoText" => Parameter::NoText,
-        _ => Parameter::Of(Kind::Truth),
-    };
-    let mut kinds = String::from_str(alloc, "\t")?;
-    for kind in [Kind::Data, Kind::Text, Kind::Number, Kind::Truth] {
-        if parameter.accepts(kind) {
-            kinds.push_str(format!(in alloc; " {kind:?}")?.as_str())?;
-        }
-    }
-    Ok(kinds)
 }
