@@ -1,7 +1,7 @@
 -- Where a part of a sum has a coefficient that is too large, the sum has one.
 use Rattle.std.proofs.Common.{◌≡◌, ℕ, zero, suc, ◌+◌, ◌<◌, ◌≤◌, nat_le, Bool, true, false, List, [], ◌∷◌, take, drop, map}
-use Rattle.std.proofs.Common.{Option, Some, None, refl, sym, ap, subst, ◌∙◌, ⊎_elim, ◌-◌, arith}
-use Rattle.std.specs.Prelude.{◌&&◌, if◌then◌else◌, is_some}
+use Rattle.std.proofs.Common.{Some, None, refl, sym, ap, subst, ⊎_elim, ◌-◌, arith}
+use Rattle.std.specs.Prelude.{if◌then◌else◌, is_some}
 use Rattle.std.specs.Result.{OnOk}
 use Rattle.std.specs.declared.result.Result.{Result}
 use Rattle.std.specs.declared.result.Result.TheVariants.{Ok, Err}
@@ -13,7 +13,6 @@ use Rattle.std.proofs.lemmas.Option.{none-some, same_Some}
 use Rattle.template_code.specs.Bounds.{Bound, plus, times, sum_of, fits}
 use Rattle.template_code.specs.Budget.{top}
 use Rattle.template_code.specs.declared.limits.TheConstants.{MAX_COEFFICIENT}
-use Rattle.template_code.proofs.BoundFacts.{plus-empty}
 use Rattle.code_verifier.specs.Inner.Pass.{within}
 use Rattle.code_verifier.specs.Inner.Slots.{bounds_of, kinds_of}
 use Rattle.code_verifier.specs.declared.stack.Slot.{Slot}

@@ -1,5 +1,5 @@
 -- The steps that are found are those that the text spells.
-use Rattle.std.proofs.Common.{◌≡◌, ℕ, zero, suc, ◌≤◌, ◌<◌, List, [], ◌∷◌, ◌++◌, length, Option, Some, None, refl, sym}
+use Rattle.std.proofs.Common.{◌≡◌, ℕ, zero, suc, ◌≤◌, List, [], ◌∷◌, length, Option, Some, None, refl, sym}
 use Rattle.std.proofs.Common.{ap, subst, ◌∙◌, arith, ◌↔◌}
 use Rattle.std.specs.Prelude.{option_map, option_and_then}
 use Rattle.data_tree.specs.declared.step.Step.{Step}

@@ -105,11 +105,7 @@ fn looked_up<'a>(alloc: Global, root: &'a Data, path: Slot<'a>) -> Result<Slot<'
 }
 
 // None is Nothing, also where the text spells no path.
-fn found_by<'a>(
-    alloc: Global,
-    root: &'a Data,
-    text: &str,
-) -> Result<Option<&'a Data>, AllocError>
+fn found_by<'a>(alloc: Global, root: &'a Data, text: &str) -> Result<Option<&'a Data>, AllocError>
     ensures { IfOk result (λ found. found_view found ≡ found_by (view root.now) text.now) }
 {
     match JsonPath::parse(alloc, text) {

@@ -36,7 +36,7 @@ impl CaseTable for Table {
             Table::Requests => "requests.tsv",
             Table::Parts => "parts.tsv",
             Table::Sizes => "sizes.tsv",
-            Table::Helpers => "helpers.tsv",
+            Table::Helpers => "helper_results.tsv",
             Table::Signatures => "signatures.tsv",
             Table::Parameters => "parameters.tsv",
         }
@@ -54,7 +54,7 @@ impl CaseTable for Table {
             Table::Requests => requests::kept(alloc, row),
             Table::Parts => requests::part(alloc, row),
             Table::Sizes => requests::size(alloc, row),
-            Table::Helpers => helpers::result(alloc, row.cell(0), row.cell(1)),
+            Table::Helpers => helpers::result(alloc, row.cell(0), row.cell(1), row.cell(2)),
             Table::Signatures => helpers::signature_of(alloc, row.cell(0)),
             Table::Parameters => helpers::accepted(alloc, row.cell(0)),
         }

@@ -7,7 +7,7 @@ use Rattle.code_verifier.proofs.effect.plus_bound.Goals as goal
 pub returns-in-None : goal.returns-in-None
 returns-in-None c =
     let e : c.empty.result ≡ top (drop c.args.depth (bounds_of c.args.stack.now)) =
-        c.empty.ensures ∙ no-bound c.args.depth c.args.stack.now c.in-None.ensures in
+    c.empty.ensures ∙ no-bound c.args.depth c.args.stack.now c.in-None.ensures in
     rw e at c.plus-in-None.ensures
 
 pub returns-in-Some : goal.returns-in-Some
