@@ -1,5 +1,6 @@
 pub mod PrintedFacts
 pub mod SumFacts
+pub mod GrowthFacts
 pub mod StackFacts
 pub mod PopFacts
 pub mod JudgeFacts

@@ -1,38 +1,43 @@
 //! What an instruction does to what is known of the stack.
-ghost use Rattle.std.specs.Prelude.{◌≡◌, List, [], ◌∷◌, length, drop, slice_get, unwrap_or, IfOk, OnOk};
+ghost use Rattle.std.specs.Prelude.{◌≡◌, true, if◌then◌else◌, List, [], ◌∷◌, length, take, drop, slice_get};
+ghost use Rattle.std.specs.Prelude.{unwrap_or, IfOk, OnOk};
 ghost use Rattle.std.specs.List.{list_all};
 ghost use Rattle.helper_set.specs.Helpers.{result_kind};
-ghost use Rattle.template_code.specs.Bounds.{Bound, constant, fits};
+ghost use Rattle.template_code.specs.Bounds.{Bound, constant, plus, times, sum_of, fits};
 ghost use Rattle.template_code.specs.Instructions.{pushes, slots_after};
 ghost use Rattle.template_code.specs.Budget.{top, helper_bound, pushed_bounds, bounds_after};
 ghost use Rattle.template_code.specs.Budget.{written_bound};
 ghost use Rattle.template_code.specs.declared.instr.Instr.TheVariants.{Call};
+ghost use Rattle.code_verifier.specs.Inner.Pass.{within};
 ghost use Rattle.code_verifier.specs.Inner.Slots.{kinds_of, bounds_of};
 
 use crate::polynomial::{Polynomial, is_within_limit};
 use crate::stack::Stack;
 use helper_set::helper::Helper;
 use helper_set::kind::Kind;
-use helper_set::signature::signature;
+use helper_set::limits::{MAX_NUMBER_LENGTH, MAX_TRUTH_LENGTH};
+use helper_set::signature::{Growth, signature};
 use std::alloc::{AllocError, Global};
 use template_code::code::Code;
 use template_code::instr::Instr;
-use template_code::limits::{MAX_NUMBER_LENGTH, MAX_TRUTH_LENGTH};
 
 /// Whether the bound of each slot that an instruction pushes has coefficients that aren't too large.
-pub fn pushed_bounds_fit(code: &Code, instr: Instr, stack: &Stack) -> bool
-    ensures { result ≡ list_all fits (pushed_bounds code.now instr (bounds_of stack.now)) }
+pub fn pushed_bounds_fit(
+    alloc: Global,
+    code: &Code,
+    instr: Instr,
+    stack: &Stack,
+) -> Result<bool, AllocError>
+    ensures { IfOk result (λ fit. fit ≡ list_all fits (pushed_bounds code.now instr (bounds_of stack.now))) }
 {
     match instr {
-        Instr::Text(text) => is_within_limit(text_length(code, text)),
+        Instr::Text(text) => Ok(is_within_limit(text_length(code, text))),
         Instr::Show => match stack.top() {
-            None => true,
-            Some(slot) => slot.bound.fits(),
+            None => Ok(true),
+            Some(slot) => Ok(slot.bound.fits()),
         },
-        Instr::Call(helper) => match helper {
-            Helper::Not => true,
-        },
-        _ => true,
+        Instr::Call(helper) => Ok(helper_bound(alloc, helper, stack)?.is_some()),
+        _ => Ok(true),
     }
 }
 
@@ -43,6 +48,7 @@ pub fn apply_effect(
     instr: Instr,
     stack: &mut Stack,
 ) -> Result<Polynomial, AllocError>
+    requires { list_all fits (pushed_bounds code.now instr (bounds_of stack.old)) ≡ true }
     ensures kinds { OnOk result (kinds_of stack.new ≡ slots_after instr (pushes instr) (kinds_of stack.old)) }
     ensures bounds { OnOk result (bounds_of stack.new ≡ bounds_after code.now instr (bounds_of stack.old)) }
     ensures written { IfOk result (λ written. written ≡ written_bound code.now instr (bounds_of stack.old)) }
@@ -86,23 +92,105 @@ fn push_constant(
 
 // Takes a helper's arguments, and adds its result.
 fn call(alloc: Global, helper: Helper, stack: &mut Stack) -> Result<(), AllocError>
+    requires { fits (helper_bound helper (bounds_of stack.old)) ≡ true }
     ensures kinds { OnOk result
         (kinds_of stack.new ≡ slots_after (Call helper) (result_kind helper ∷ []) (kinds_of stack.old)) }
     ensures bounds { OnOk result
         (bounds_of stack.new
         ≡ slots_after (Call helper) (helper_bound helper (bounds_of stack.old) ∷ []) (bounds_of stack.old)) }
 {
-    let bound = helper_bound(alloc, helper)?;
-    stack.pop_many(Instr::Call(helper).popped().count());
-    stack.push(signature(helper).gives, bound)
+    match helper_bound(alloc, helper, stack)? {
+        None => unreachable!(),
+        Some(bound) => {
+            stack.pop_many(Instr::Call(helper).popped().count());
+            stack.push(signature(helper).gives, bound)
+        }
+    }
 }
 
-// The length of the text that a helper's result prints as, at most.
-fn helper_bound(alloc: Global, helper: Helper) -> Result<Polynomial, AllocError>
-    ensures { IfOk result (λ bound. (bounds : List Bound) → bound ≡ helper_bound helper bounds) }
+// The length of the text that a helper's result prints as, at most; none if a coefficient is too large.
+fn helper_bound(
+    alloc: Global,
+    helper: Helper,
+    stack: &Stack,
+) -> Result<Option<Polynomial>, AllocError>
+    ensures { IfOk result (λ bound. bound ≡ within (helper_bound helper (bounds_of stack.now))) }
 {
-    match helper {
-        Helper::Not => Polynomial::constant(alloc, MAX_TRUTH_LENGTH),
+    let signature = signature(helper);
+    match signature.gives {
+        Kind::Data => Ok(Some(Polynomial::all_data(alloc)?)),
+        Kind::Text | Kind::Number | Kind::Truth => {
+            grown(alloc, signature.growth, signature.second.is_some(), stack)
+        }
+    }
+}
+
+// The bound of a result that grows from its arguments, one or two.
+fn grown(
+    alloc: Global,
+    growth: Growth,
+    has_two: bool,
+    stack: &Stack,
+) -> Result<Option<Polynomial>, AllocError>
+    ensures { IfOk result (λ bound. bound ≡ within (plus (times growth.times
+        (sum_of (take (if has_two then 2 else 1) (bounds_of stack.now)))) (constant growth.plus))) }
+{
+    match scaled(alloc, growth.times, has_two, stack)? {
+        None => Ok(None),
+        Some(scaled) => scaled.plus(alloc, &Polynomial::constant(alloc, growth.plus)?),
+    }
+}
+
+// That many times the arguments' bounds; a result that doesn't grow needs none of them to fit.
+fn scaled(
+    alloc: Global,
+    count: u64,
+    has_two: bool,
+    stack: &Stack,
+) -> Result<Option<Polynomial>, AllocError>
+    ensures { IfOk result (λ bound. bound
+        ≡ within (times count (sum_of (take (if has_two then 2 else 1) (bounds_of stack.now))))) }
+{
+    if count == 0 {
+        return Ok(Some(Polynomial::empty(alloc)));
+    }
+    match argument_bounds(alloc, has_two, stack)? {
+        None => Ok(None),
+        Some(sum) => sum.times(alloc, count),
+    }
+}
+
+// The sum of the bounds of the one slot or the two at the top.
+fn argument_bounds(
+    alloc: Global,
+    has_two: bool,
+    stack: &Stack,
+) -> Result<Option<Polynomial>, AllocError>
+    ensures { IfOk result
+        (λ sum. sum ≡ within (sum_of (take (if has_two then 2 else 1) (bounds_of stack.now)))) }
+{
+    let empty = Polynomial::empty(alloc);
+    if !has_two {
+        return plus_bound(alloc, stack, 0, &empty);
+    }
+    match plus_bound(alloc, stack, 1, &empty)? {
+        None => Ok(None),
+        Some(below) => plus_bound(alloc, stack, 0, &below),
+    }
+}
+
+// The sum of the bound of the slot at that depth, if there is one, and another.
+fn plus_bound(
+    alloc: Global,
+    stack: &Stack,
+    depth: usize,
+    other: &Polynomial,
+) -> Result<Option<Polynomial>, AllocError>
+    ensures { IfOk result (λ sum. sum ≡ within (plus (top (drop depth (bounds_of stack.now))) other.now)) }
+{
+    match stack.slot(depth) {
+        None => Polynomial::empty(alloc).plus(alloc, other),
+        Some(slot) => slot.bound.plus(alloc, other),
     }
 }
 

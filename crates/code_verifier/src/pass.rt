@@ -90,7 +90,8 @@ fn judge(
     if let Some(rule) = broken_rule(code, index, instr, &known.stack, &known.targets) {
         return Ok(Some(rule));
     }
-    if !pushed_bounds_fit(code, instr, &known.stack) {
+    let fit = pushed_bounds_fit(alloc, code, instr, &known.stack)?;
+    if !fit {
         return Ok(Some(Rule::V13));
     }
     let written = apply_effect(alloc, code, instr, &mut known.stack)?;

@@ -2,7 +2,7 @@
 ghost use Rattle.std.specs.Prelude.{◌≡◌, ◌+◌, ◌*◌, ◌≤◌, ◌^◌, ◌↔◌, cond, nat_le, [], ◌∷◌, Some, None, slice_index};
 ghost use Rattle.std.specs.Prelude.{IfOk, IfSome, IsNone};
 ghost use Rattle.std.specs.Option.{option_map};
-ghost use Rattle.template_code.specs.Bounds.{constant, all_data, plus, fits, value};
+ghost use Rattle.template_code.specs.Bounds.{constant, all_data, plus, times, fits, value};
 ghost use Rattle.template_code.specs.declared.limits.TheConstants.{MAX_COEFFICIENT};
 ghost use Rattle.code_verifier.specs.Inner.Pass.{within};
 
@@ -89,6 +89,21 @@ impl Polynomial {
             other.coefficients.as_slice(),
         )?;
         Ok(coefficients.map(|coefficients| Polynomial { coefficients }))
+    }
+
+    /// That many times the polynomial; none if a coefficient is too large. It is summed up, since no helper's result
+    /// grows more than threefold.
+    pub fn times(&self, alloc: Global, count: u64) -> Result<Option<Polynomial>, AllocError>
+        ensures { IfOk result (λ product. product ≡ within (times count self.now)) }
+    {
+        let mut product = Polynomial::empty(alloc);
+        for done in 0..count {
+            match self.plus(alloc, &product)? {
+                None => return Ok(None),
+                Some(sum) => product = sum,
+            }
+        }
+        Ok(Some(product))
     }
 
     /// The value, or none where it exceeds 128 bits.

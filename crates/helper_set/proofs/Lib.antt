@@ -1,1 +1,5 @@
--- This crate needs no lemma.
+pub mod Escapes
+pub mod Contained
+pub mod Counts
+pub mod Results
+pub mod Lengths

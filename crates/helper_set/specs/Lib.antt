@@ -1,2 +1,4 @@
 pub mod Values
+pub mod Texts
 pub mod Helpers
+pub mod Views

@@ -4,6 +4,7 @@ pub mod Cuts
 pub mod Indexes
 pub mod Next
 pub mod Unique
+pub mod Found
 pub mod WellRead
 pub mod Back
 pub mod Vectors

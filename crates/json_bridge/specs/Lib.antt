@@ -1,5 +1,6 @@
 pub mod Reading
 pub mod Writing
 pub mod Path
+pub mod PathFound
 pub mod Examples
 pub mod Inner

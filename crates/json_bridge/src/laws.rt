@@ -1,12 +1,18 @@
 // Laws over the definitions that the calls of this crate cite, so the functions do nothing.
-ghost use Rattle.std.specs.Prelude.{◌≡◌, ℕ, List};
+ghost use Rattle.std.specs.Prelude.{◌≡◌, ◌↔◌, ℕ, List, Some};
 ghost use Rattle.data_tree.specs.declared.step.Step.{Step};
 ghost use Rattle.json_bridge.specs.Path.{SpellsPath};
+ghost use Rattle.json_bridge.specs.PathFound.{path_of};
 ghost use Rattle.json_bridge.specs.Examples.{AreTexts, ArePaths};
 
 /// A text spells one path at most.
 pub fn law_a_text_spells_one_path()
     ensures { (text : List ℕ) (a b : List Step) → SpellsPath text a → SpellsPath text b → a ≡ b }
+{}
+
+/// The path that is found is the one that the text spells.
+pub fn law_the_spelled_path_is_found()
+    ensures { (text : List ℕ) (path : List Step) → (path_of text ≡ Some path) ↔ SpellsPath text path }
 {}
 
 /// Texts with their trees, and texts that have none.

@@ -115,7 +115,7 @@ fn read_instr(name: &[u8], operand: &str) -> Option<Instr> {
         [b'S', ..] => Some(Instr::Show),
         [b'P', ..] => Some(Instr::Print),
         [b'H', ..] => Some(Instr::Halt),
-        [b'C', ..] => Some(Instr::Call(Helper::Not)),
+        [b'C', ..] => Some(Instr::Call(Helper::from_name(operand)?)),
         [b'N', ..] => Some(Instr::Number(operand.parse::<i64>().ok()?)),
         [b'T', b'r', ..] => Some(Instr::Truth(operand == "true")),
         [b'T', _, b's', ..] => Some(Instr::Test),

@@ -21,6 +21,7 @@ fn main(rt: HostRuntime) -> io::Result<ExitCode> {
             Table::Compiled,
             Table::Listings,
             Table::Codes,
+            Table::HelperCodes,
             Table::Programs,
             Table::RenderText,
             Table::Commands,

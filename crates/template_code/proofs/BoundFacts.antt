@@ -1,5 +1,5 @@
 -- The values of bounds.
-use Rattle.std.proofs.Common.{◌≡◌, ℕ, zero, suc, ◌+◌, ◌≤◌, ◌^◌, Bool, true, false, List, [], ◌∷◌, length, pos}
+use Rattle.std.proofs.Common.{◌≡◌, ℕ, zero, suc, ◌+◌, ◌*◌, ◌≤◌, ◌^◌, Bool, true, false, List, [], ◌∷◌, length, pos}
 use Rattle.std.proofs.Common.{negsuc, ℤ, Some, refl, ap, ◌∙◌, arith}
 use Rattle.std.specs.Prelude.{slice_get, unwrap_or, FitsSigned, decimal}
 use Rattle.std.specs.Fmt.{signed_decimal}
@@ -8,7 +8,7 @@ use Rattle.std.proofs.lemmas.Fmt.{length-decimal-le}
 use Rattle.data_tree.specs.Json.{truth_text}
 use Rattle.template_code.specs.Code.{StackCode}
 use Rattle.template_code.specs.Budget.{text_bound, number_bound, truth_bound}
-use Rattle.template_code.specs.Bounds.{Bound, constant, all_data, plus, value, as_printed}
+use Rattle.template_code.specs.Bounds.{Bound, constant, all_data, plus, times, value, as_printed}
 
 pub value-constant : (c n : ℕ) → value (constant c) n ≡ c
 value-constant zero n = refl
@@ -21,6 +21,10 @@ pub value-plus : (ps qs : Bound) (n : ℕ) → value (plus ps qs) n ≡ value ps
 value-plus [] qs n = omega arith
 value-plus (p ∷ ps) [] n = omega arith
 value-plus (p ∷ ps) (q ∷ qs) n = rw (value-plus ps qs n) (grind arith)
+
+pub value-times : (k : ℕ) (ps : Bound) (n : ℕ) → value (times k ps) n ≡ k * value ps n
+value-times zero ps n = grind arith
+value-times (suc k) ps n = value-plus ps (times k ps) n ∙ rw (value-times k ps n) (grind arith)
 
 pub value-as_printed : (ps : Bound) (n : ℕ) → value (as_printed ps) n ≡ value ps n
 value-as_printed [] n = grind arith

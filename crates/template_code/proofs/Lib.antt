@@ -1,5 +1,6 @@
 mod Examples
 pub mod RunFacts
+pub mod CallFacts
 pub mod MachineFacts
 pub mod BoundFacts
 pub mod BudgetFacts

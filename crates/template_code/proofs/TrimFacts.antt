@@ -1,10 +1,13 @@
 -- No list of a budget ends in a zero.
-use Rattle.std.proofs.Common.{◌≡◌, ℕ, zero, suc, ◌+◌, List, [], ◌∷◌, length, drop, false, nat_eq, refl, arith}
+use Rattle.std.proofs.Common.{◌≡◌, ℕ, zero, suc, ◌+◌, List, [], ◌∷◌, length, take, drop, false, nat_eq, refl, arith}
 use Rattle.std.specs.Prelude.{slice_get, unwrap_or}
-use Rattle.helper_set.specs.declared.helper.Helper.TheVariants.{Not}
+use Rattle.helper_set.specs.Helpers.{argument_kinds, result_kind, signature_of}
+use Rattle.helper_set.specs.declared.kind.Kind.{Kind}
+use Rattle.helper_set.specs.declared.signature.Growth.{Growth}
 use Rattle.template_code.specs.Code.{StackCode}
-use Rattle.template_code.specs.Bounds.{Bound, ends_in_zero, constant, plus}
-use Rattle.template_code.specs.Budget.{budget, bounds_after, region, written_bound}
+use Rattle.template_code.specs.Bounds.{Bound, ends_in_zero, constant, plus, times, sum_of}
+use Rattle.template_code.specs.Budget.{budget, bounds_after, bound_by, region, written_bound}
+use Rattle.template_code.specs.Instructions.{pops}
 use Rattle.template_code.specs.declared.instr.Instr.{Instr}
 use Rattle.template_code.specs.declared.instr.Instr.TheVariants.{Emit, Root, Text, Number, Truth, Show, Test, Call}
 use Rattle.template_code.specs.declared.instr.Instr.TheVariants.{Print, Jump, Branch, Halt}
@@ -36,6 +39,32 @@ trimmed-below zero bounds h = h
 trimmed-below (suc n) [] h = tt
 trimmed-below (suc n) (b ∷ bs) h = trimmed-below n bs h.1
 
+trimmed-first : (n : ℕ) (bounds : List Bound) → AllTrimmed bounds → AllTrimmed (take n bounds)
+trimmed-first zero bounds h = tt
+trimmed-first (suc n) [] h = tt
+trimmed-first (suc n) (b ∷ bs) h = (h.0, trimmed-first n bs h.1)
+
+trimmed-times : (k : ℕ) (ps : Bound) → IsTrimmed ps → IsTrimmed (times k ps)
+trimmed-times zero ps h = refl
+trimmed-times (suc k) ps h = trimmed-plus ps (times k ps) h (trimmed-times k ps h)
+
+trimmed-sum_of : (bounds : List Bound) → AllTrimmed bounds → IsTrimmed (sum_of bounds)
+trimmed-sum_of [] h = refl
+trimmed-sum_of (b ∷ bs) h = trimmed-plus b (sum_of bs) h.0 (trimmed-sum_of bs h.1)
+
+trimmed-grown : (g : Growth) (bounds : List Bound) → AllTrimmed bounds →
+    IsTrimmed (plus (times g.times (sum_of bounds)) (constant g.plus))
+trimmed-grown g bounds h =
+    trimmed-plus (times g.times (sum_of bounds)) (constant g.plus)
+    (trimmed-times g.times (sum_of bounds) (trimmed-sum_of bounds h)) (trimmed-constant g.plus)
+
+trimmed-bound_by : (kind : Kind) (g : Growth) (bounds : List Bound) → AllTrimmed bounds →
+    IsTrimmed (bound_by kind g bounds)
+trimmed-bound_by Kind.Data g bounds h = refl
+trimmed-bound_by Kind.Text g bounds h = trimmed-grown g bounds h
+trimmed-bound_by Kind.Number g bounds h = trimmed-grown g bounds h
+trimmed-bound_by Kind.Truth g bounds h = trimmed-grown g bounds h
+
 trimmed-slots_after : (code : StackCode) (i : Instr) (bounds : List Bound) → AllTrimmed bounds →
     AllTrimmed (bounds_after code i bounds)
 trimmed-slots_after code (Emit t) bounds h = h
@@ -46,7 +75,11 @@ trimmed-slots_after code (Truth b) bounds h = (refl, h)
 trimmed-slots_after code Show [] h = (refl, tt)
 trimmed-slots_after code Show (b ∷ bs) h = h
 trimmed-slots_after code Test bounds h = (refl, trimmed-below 1 bounds h)
-trimmed-slots_after code (Call Not) bounds h = (refl, trimmed-below 1 bounds h)
+trimmed-slots_after code (Call f) bounds h = (
+  trimmed-bound_by (result_kind f) (signature_of f).growth (take (length (argument_kinds f)) bounds)
+      (trimmed-first (length (argument_kinds f)) bounds h),
+  trimmed-below (length (pops (Call f))) bounds h,
+)
 trimmed-slots_after code Print [] h = tt
 trimmed-slots_after code Print (b ∷ bs) h = h.1
 trimmed-slots_after code (Jump a) bounds h = tt

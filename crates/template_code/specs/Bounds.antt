@@ -26,6 +26,15 @@ plus [] qs = qs
 plus (p ∷ ps) [] = p ∷ ps
 plus (p ∷ ps) (q ∷ qs) = (p + q) ∷ plus ps qs
 
+-- that many times a polynomial
+abbrev pub times : ℕ → Bound → Bound
+times zero ps = []
+times (suc k) ps = plus ps (times k ps)
+
+abbrev pub sum_of : List Bound → Bound
+sum_of [] = []
+sum_of (b ∷ bs) = plus b (sum_of bs)
+
 -- the value at n
 abbrev pub value : Bound → ℕ → ℕ
 value [] n = 0

@@ -1,12 +1,14 @@
 -- The cost of instructions, and the budget of code: the steps that a run takes and the bytes that it writes, at most.
 use Rattle.std.specs.Prelude.{ℕ, Bool, ◌&&◌, List, [], ◌∷◌, length, slice_get, unwrap_or, take}
+use Rattle.helper_set.specs.Helpers.{argument_kinds, result_kind, signature_of}
 use Rattle.helper_set.specs.declared.helper.Helper.{Helper}
-use Rattle.helper_set.specs.declared.helper.Helper.TheVariants.{Not}
+use Rattle.helper_set.specs.declared.kind.Kind.{Kind}
+use Rattle.helper_set.specs.declared.limits.TheConstants.{MAX_NUMBER_LENGTH, MAX_TRUTH_LENGTH}
+use Rattle.helper_set.specs.declared.signature.Growth.{Growth}
 use Rattle.template_code.specs.Code.{StackCode}
 use Rattle.template_code.specs.Instructions.{slots_after}
-use Rattle.template_code.specs.Bounds.{Bound, constant, all_data, plus, fits}
+use Rattle.template_code.specs.Bounds.{Bound, constant, all_data, plus, times, sum_of, fits}
 use Rattle.template_code.specs.declared.instr.Instr.{Instr}
-use Rattle.template_code.specs.declared.limits.TheConstants.{MAX_NUMBER_LENGTH, MAX_TRUTH_LENGTH}
 use Rattle.template_code.specs.declared.instr.Instr.TheVariants.{Emit, Root, Text, Number, Truth, Show, Test, Call}
 use Rattle.template_code.specs.declared.instr.Instr.TheVariants.{Print}
 
@@ -37,10 +39,16 @@ truth_bound = constant MAX_TRUTH_LENGTH
 abbrev pub text_bound : StackCode → ℕ → Bound
 text_bound code t = constant (length (unwrap_or (slice_get code.texts t) []))
 
+-- what data prints as is within the size of all data; another result grows from its arguments
+abbrev pub bound_by : Kind → Growth → List Bound → Bound
+bound_by Kind.Data growth arguments = all_data
+bound_by kind growth arguments = plus (times growth.times (sum_of arguments)) (constant growth.plus)
+
 -- the length of the text that a helper's result prints as, at most, given the bounds of the stack, whose first ones are
 -- those of its arguments, the last argument first
 abbrev pub helper_bound : Helper → List Bound → Bound
-helper_bound Not bounds = truth_bound
+helper_bound h bounds =
+    bound_by (result_kind h) (signature_of h).growth (take (length (argument_kinds h)) bounds)
 
 -- for each slot that is pushed, the top first, the length of the text that it prints as, at most, given the bounds of
 -- the stack

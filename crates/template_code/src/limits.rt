@@ -8,9 +8,3 @@ pub const MAX_SLOTS: usize = 32;
 
 /// The largest coefficient of a bound or of a budget, 2^63 - 1.
 pub const MAX_COEFFICIENT: u64 = 9_223_372_036_854_775_807;
-
-/// The length of the decimal of a number of 64 bits, at most, in bytes.
-pub const MAX_NUMBER_LENGTH: u64 = 20;
-
-/// The length of the word for a truth, at most, in bytes.
-pub const MAX_TRUTH_LENGTH: u64 = 5;

@@ -1,4 +1,6 @@
 pub mod Printed
+pub mod CallProgress
+pub mod Calls
 pub mod Progress
 pub mod Reached
 pub mod Safety

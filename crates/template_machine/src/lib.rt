@@ -3,7 +3,9 @@
 //! true of a text, `Safe` what holds of all code that the verifier accepts.
 #![tactic(auto)]
 
+mod call;
 pub mod error;
+mod held;
 pub mod laws;
 mod machine;
 pub mod program;

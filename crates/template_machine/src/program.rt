@@ -93,10 +93,10 @@ fn verified_code(alloc: Global, text: &str) -> Result<Verified, ProgramError>
 /// The text that a program's source means over a request's data, and the steps of its run.
 ///
 /// The only error is that memory for the text runs out.
-pub fn render(
+pub fn render<'a>(
     alloc: Global,
-    program: &Program,
-    request: &RequestData,
+    program: &'a Program,
+    request: &'a RequestData,
 ) -> Result<Rendered, AllocError>
     ensures safe { IsSafe program.now.code }
     ensures meant { IfOk result

@@ -1,28 +1,30 @@
-//! The slots of the machine's stack. They borrow from the request's data and from the code: nothing is copied but
-//! what is printed, and the text of a value is made where it is printed.
+//! The slots of the machine's stack. They borrow from the request's data and from the code, and own the texts that
+//! helpers made. The text of a value is made where it is printed, or where a helper reads it.
 ghost use Rattle.std.specs.Prelude.{◌≡◌};
 
 use crate::value::Value;
 use std::alloc::{AllocError, Global};
 
 /// A text.
-#[derive(Clone, Copy)]
-pub enum Text<'c, 'd> {
+#[derive(Drop)]
+pub enum Text<'a> {
     /// A text of the code.
-    Literal(&'c str),
+    Literal(&'a str),
     /// The text that the value prints as.
-    Rendered(Value<'d>),
+    Rendered(Value<'a>),
+    /// A text that a helper made.
+    Made(String),
 }
 
 /// A slot of the stack.
-#[derive(Clone, Copy)]
-pub enum Slot<'c, 'd> {
-    Value(Value<'d>),
-    Text(Text<'c, 'd>),
+#[derive(Drop)]
+pub enum Slot<'a> {
+    Value(Value<'a>),
+    Text(Text<'a>),
 }
 
 // Fills the entries of a stack that aren't in use.
-impl<'c, 'd> Default for Slot<'c, 'd> {
+impl<'a> Default for Slot<'a> {
     ghost use Rattle.std.specs.Prelude.{None};
     ghost use Rattle.template_machine.specs.declared.slot.Slot.TheVariants as slots;
     ghost use Rattle.template_machine.specs.declared.value.Value.TheVariants.{Datum};
@@ -34,7 +36,7 @@ impl<'c, 'd> Default for Slot<'c, 'd> {
     }
 }
 
-impl<'c, 'd> Text<'c, 'd> {
+impl<'a> Text<'a> {
     ghost use Rattle.std.specs.Prelude.{◌++◌, OnOk, string_bytes};
     ghost use Rattle.template_machine.specs.Inner.Slots.{text_view};
 
@@ -45,11 +47,12 @@ impl<'c, 'd> Text<'c, 'd> {
         match self {
             Text::Literal(text) => out.push_str(text),
             Text::Rendered(value) => value.print_into(alloc, out),
+            Text::Made(text) => out.push_str(text.as_str()),
         }
     }
 }
 
-impl<'c, 'd> Slot<'c, 'd> {
+impl<'a> Slot<'a> {
     ghost use Rattle.helper_set.specs.Values.{truth_of};
     ghost use Rattle.template_machine.specs.Inner.Slots.{slot_view};
 
@@ -61,6 +64,7 @@ impl<'c, 'd> Slot<'c, 'd> {
             Slot::Value(value) => value.is_true(),
             Slot::Text(Text::Literal(text)) => !text.is_empty(),
             Slot::Text(Text::Rendered(value)) => value.prints(),
+            Slot::Text(Text::Made(text)) => !text.is_empty(),
         }
     }
 }

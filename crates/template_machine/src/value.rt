@@ -9,14 +9,14 @@ use std::alloc::{AllocError, Global};
 
 /// A value that isn't a text.
 #[derive(Clone, Copy)]
-pub enum Value<'d> {
+pub enum Value<'a> {
     /// A value of the request's data; `None` is Nothing.
-    Datum(Option<&'d Data>),
+    Datum(Option<&'a Data>),
     Number(i64),
     Truth(bool),
 }
 
-impl<'d> Value<'d> {
+impl<'a> Value<'a> {
     ghost use Rattle.std.specs.Prelude.{◌++◌, OnOk, string_bytes};
     ghost use Rattle.helper_set.specs.Values.{text_of, truth_of};
     ghost use Rattle.template_machine.specs.Inner.Slots.{value_view};

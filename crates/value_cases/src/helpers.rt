@@ -1,54 +1,106 @@
 //! Helpers: what they take, and what they give.
 
-use crate::values::cell_of;
+use crate::values::{cell_of, value};
 use data_tree::data::Data;
 use helper_set::apply::apply;
 use helper_set::helper::Helper;
 use helper_set::kind::Kind;
-use helper_set::signature::{HelperSignature, Parameter, signature};
-use helper_set::value::HelperValue;
+use helper_set::signature::{Growth, HelperSignature, Parameter, signature};
+use helper_set::value::{MadeValue, Value};
 use json_bridge::read::data_of_json;
 use std::alloc::{AllocError, Global};
+use std::borrow::CowStr;
 
-/// The JSON text of what the helper makes of the argument, a JSON text.
-pub fn result(alloc: Global, name: &str, argument: &str) -> Result<String, AllocError> {
-    match data_of_json(alloc, argument)? {
-        Some(Data::Truth(truth)) if name == Helper::Not.name() => not(alloc, truth),
+/// The JSON text of what the helper makes of the arguments, JSON texts: a text is given as a text, `true` and `false`
+/// to `not` as truths, and all else as data.
+pub fn result(
+    alloc: Global,
+    name: &str,
+    first: &str,
+    second: &str,
+) -> Result<String, AllocError> {
+    let data = first;
+    let first = data_of_json(alloc, first)?;
+    let second = data_of_json(alloc, second)?;
+    match (Helper::from_name(name), first, second) {
+        (Some(Helper::Not), Some(Data::Truth(truth)), _) => {
+            cell(alloc, apply(alloc, Helper::Not, &[Value::Truth(truth)])?)
+        }
+        (Some(helper), Some(Data::Text(first)), Some(Data::Text(second))) => {
+            of_texts(alloc, helper, first.as_str(), second.as_str())
+        }
+        (Some(helper), Some(Data::Text(text)), _) => of_text(alloc, helper, text.as_str()),
+        (Some(Helper::Size), _, _) => size(alloc, &value(alloc, data)?),
         _ => Ok(String::new(alloc)),
     }
 }
 
-fn not(alloc: Global, truth: bool) -> Result<String, AllocError> {
-    let made = apply(alloc, Helper::Not, &[HelperValue::Truth(truth)])?;
-    cell_of(alloc, Some(&data_of(made)))
-}
-
-fn data_of(value: HelperValue) -> Data {
-    match value {
-        HelperValue::Text(text) => Data::Text(text.into_string()),
-        HelperValue::Number(number) => Data::Number(i128::from(number)),
-        HelperValue::Truth(truth) => Data::Truth(truth),
+fn of_text(alloc: Global, helper: Helper, text: &str) -> Result<String, AllocError> {
+    let text = Value::Text(text);
+    match helper {
+        Helper::Upper => cell(alloc, apply(alloc, Helper::Upper, &[text])?),
+        Helper::Lower => cell(alloc, apply(alloc, Helper::Lower, &[text])?),
+        Helper::Trim => cell(alloc, apply(alloc, Helper::Trim, &[text])?),
+        Helper::Size => cell(alloc, apply(alloc, Helper::Size, &[text])?),
+        Helper::Base64 => cell(alloc, apply(alloc, Helper::Base64, &[text])?),
+        Helper::UrlEncode => cell(alloc, apply(alloc, Helper::UrlEncode, &[text])?),
+        _ => Ok(String::new(alloc)),
     }
 }
 
-/// What the helper accepts as its first and its second argument, and the kind that it gives.
+fn of_texts(
+    alloc: Global,
+    helper: Helper,
+    first: &str,
+    second: &str,
+) -> Result<String, AllocError> {
+    let (first, second) = (Value::Text(first), Value::Text(second));
+    match helper {
+        Helper::Eq => cell(alloc, apply(alloc, Helper::Eq, &[first, second])?),
+        Helper::Neq => cell(alloc, apply(alloc, Helper::Neq, &[first, second])?),
+        Helper::Contains => cell(alloc, apply(alloc, Helper::Contains, &[first, second])?),
+        Helper::DefaultIfEmpty => {
+            cell(alloc, apply(alloc, Helper::DefaultIfEmpty, &[first, second])?)
+        }
+        _ => Ok(String::new(alloc)),
+    }
+}
+
+fn size(alloc: Global, data: &Data) -> Result<String, AllocError> {
+    cell(alloc, apply(alloc, Helper::Size, &[Value::Datum(Some(data))])?)
+}
+
+fn cell(alloc: Global, made: MadeValue<'_>) -> Result<String, AllocError> {
+    let data = match made {
+        MadeValue::Text(CowStr::Owned(text)) => Data::Text(text),
+        MadeValue::Text(CowStr::Borrowed(text)) => Data::Text(String::from_str(alloc, text)?),
+        MadeValue::Number(number) => Data::Number(i128::from(number)),
+        MadeValue::Truth(truth) => Data::Truth(truth),
+    };
+    cell_of(alloc, Some(&data))
+}
+
+/// What the helper accepts as its first and its second argument, the kind that it gives, and how its result grows.
 pub fn signature_of(alloc: Global, name: &str) -> Result<String, AllocError> {
-    if name != Helper::Not.name() {
-        return Ok(String::new(alloc));
-    }
+    let Some(helper) = Helper::from_name(name) else {
+        return String::from_str(alloc, "\tnone");
+    };
     let HelperSignature {
         first,
         second,
         gives,
-    } = signature(Helper::Not);
-    format!(in alloc; "\t{first:?}\t{second:?}\t{gives:?}")
+        growth,
+    } = signature(helper);
+    let Growth { times, plus } = growth;
+    format!(in alloc; "\t{first:?}\t{second:?}\t{gives:?}\t{times}\t{plus}")
 }
 
-/// The kinds that a parameter accepts: each, all but text, or a truth.
+/// The kinds that a parameter accepts: each, all but text, data or text, or a truth.
 pub fn accepted(alloc: Global, name: &str) -> Result<String, AllocError> {
     let parameter = match name {
         "Any" => Parameter::Any,
         "NoText" => Parameter::NoText,
+        "DataOrText" => Parameter::DataOrText,
         _ => Parameter::Of(Kind::Truth),
     };
     let mut kinds = String::from_str(alloc, "\t")?;

@@ -42,7 +42,7 @@ impl CaseTable for Table {
             Table::Printed => "printed.tsv",
             Table::Bindings => "bindings.tsv",
             Table::Sizes => "sizes.tsv",
-            Table::Helpers => "helpers.tsv",
+            Table::Helpers => "helper_results.tsv",
             Table::Signatures => "signatures.tsv",
             Table::Parameters => "parameters.tsv",
         }
@@ -63,7 +63,7 @@ impl CaseTable for Table {
             Table::Printed => requests::printed_part(alloc, row),
             Table::Bindings => requests::bindings(alloc, row),
             Table::Sizes => requests::size(alloc, row),
-            Table::Helpers => helpers::result(alloc, row.cell(0), row.cell(1)),
+            Table::Helpers => helpers::result(alloc, row.cell(0), row.cell(1), row.cell(2)),
             Table::Signatures => helpers::signature_of(alloc, row.cell(0)),
             Table::Parameters => helpers::accepted(alloc, row.cell(0)),
         }

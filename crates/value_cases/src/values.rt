@@ -117,7 +117,7 @@ fn step(item: Data) -> Step {
     }
 }
 
-fn value(alloc: Global, text: &str) -> Result<Data, AllocError> {
+pub fn value(alloc: Global, text: &str) -> Result<Data, AllocError> {
     with_names(alloc, &data_of_json(alloc, text)?.unwrap_or(Data::Nothing))
 }
 

@@ -1,0 +1,7 @@
+use Rattle.std.proofs.Common.{◌≡◌, Some}
+use Rattle.template_code.specs.Bounds.{times}
+use Rattle.code_verifier.specs.Inner.Pass.{within}
+use Rattle.code_verifier.proofs.polynomial.Polynomial.times.Given as goal
+
+abbrev pub invariant-loop-done : goal.invariant-loop-done
+invariant-loop-done l = Some l.product ≡ within (times l.done l.self)

@@ -1,0 +1,159 @@
+//! The result of a helper, from the slots that it takes.
+ghost use Rattle.std.specs.Prelude.{◌≡◌, true, false, [], ◌∷◌, Some, IfOk, IfSome};
+ghost use Rattle.data_tree.specs.LookUp.{at};
+ghost use Rattle.data_tree.specs.Tree.{Tree, view};
+ghost use Rattle.data_tree.specs.WellFormed.{IsWellFormed};
+ghost use Rattle.helper_set.specs.Values.{kind_of, a_datum, text_of};
+ghost use Rattle.helper_set.specs.Helpers.{argument_kinds, fit, is_looked_up};
+ghost use Rattle.helper_set.specs.Views.{value_view, made_view};
+ghost use Rattle.helper_set.specs.declared.kind.Kind.{Kind};
+ghost use Rattle.template_code.specs.Machine.{result_of, found_by, json_path};
+ghost use Rattle.template_machine.specs.Inner.Slots.{slot_view, found_view, held_view};
+
+use crate::held::{Held, hold};
+use crate::slot::{Slot, Text};
+use crate::value::Value;
+use data_tree::data::Data;
+use data_tree::plain_text::PlainText;
+use data_tree::step::Step;
+use helper_set::apply::apply;
+use helper_set::helper::Helper;
+use helper_set::value::{MadeValue, Value as Argument};
+use json_bridge::error::JsonPathError;
+use json_bridge::json_path::JsonPath;
+use std::alloc::{AllocError, Global};
+use std::borrow::CowStr;
+
+/// The result of a helper that takes one argument, over any root.
+pub fn result_of_one<'a>(
+    alloc: Global,
+    helper: Helper,
+    argument: Slot<'a>,
+) -> Result<Slot<'a>, AllocError>
+    requires { fit (argument_kinds helper) (kind_of (slot_view argument) ∷ []) ≡ true }
+    ensures { IfOk result
+        (λ made. (root : Tree) → result_of root helper (slot_view argument.entry ∷ []) ≡ Some (slot_view made)) }
+{
+    let held = hold(alloc, &argument)?;
+    let made = apply_to_one(alloc, helper, held.argument())?;
+    slot_of(alloc, made)
+}
+
+/// The result of a helper that takes two arguments.
+pub fn result_of_two<'a>(
+    alloc: Global,
+    root: &'a Data,
+    helper: Helper,
+    first: Slot<'a>,
+    second: Slot<'a>,
+) -> Result<Slot<'a>, AllocError>
+    requires well_formed { IsWellFormed (view root.now) }
+    requires arguments { fit (argument_kinds helper) (kind_of (slot_view first) ∷ kind_of (slot_view second) ∷ []) ≡ true }
+    ensures { IfOk result
+        (λ made. result_of (view root.now) helper (slot_view first.entry ∷ slot_view second.entry ∷ [])
+        ≡ Some (slot_view made)) }
+{
+    if let Helper::JsonPath = helper {
+        return looked_up(alloc, root, second);
+    }
+    let first = hold(alloc, &first)?;
+    let second = hold(alloc, &second)?;
+    let made = apply_to_two(alloc, helper, first.argument(), second.argument())?;
+    slot_of(alloc, made)
+}
+
+fn apply_to_one<'a>(
+    alloc: Global,
+    helper: Helper,
+    argument: Argument<'a>,
+) -> Result<MadeValue<'a>, AllocError>
+    requires { fit (argument_kinds helper) (kind_of (value_view argument) ∷ []) ≡ true }
+    ensures { IfOk result (λ made. (root : Tree) →
+        result_of root helper (value_view argument.entry ∷ []) ≡ Some (made_view made)) }
+{
+    let arguments = [argument];
+    apply(alloc, helper, &arguments)
+}
+
+fn apply_to_two<'a>(
+    alloc: Global,
+    helper: Helper,
+    first: Argument<'a>,
+    second: Argument<'a>,
+) -> Result<MadeValue<'a>, AllocError>
+    requires applied { is_looked_up helper ≡ false }
+    requires fitting { fit (argument_kinds helper) (kind_of (value_view first) ∷ kind_of (value_view second) ∷ [])
+        ≡ true }
+    ensures { IfOk result (λ made. (root : Tree) →
+        result_of root helper (value_view first.entry ∷ value_view second.entry ∷ []) ≡ Some (made_view made)) }
+{
+    let arguments = [first, second];
+    apply(alloc, helper, &arguments)
+}
+
+// What the path that an argument spells finds in the body's data.
+fn looked_up<'a>(alloc: Global, root: &'a Data, path: Slot<'a>) -> Result<Slot<'a>, AllocError>
+    requires well_formed { IsWellFormed (view root.now) }
+    requires text { kind_of (slot_view path) ≡ Kind.Text }
+    ensures { IfOk result (λ found.
+        slot_view found ≡ a_datum (found_by (view root.now) (text_of (slot_view path.entry)))) }
+{
+    match hold(alloc, &path)? {
+        Held::Text(text) => {
+            let found = found_by(alloc, root, text.as_str())?;
+            Ok(Slot::Value(Value::Datum(found)))
+        }
+        Held::Value(_) => unreachable!(),
+    }
+}
+
+// None is Nothing, also where the text spells no path.
+fn found_by<'a>(alloc: Global, root: &'a Data, text: &str) -> Result<Option<&'a Data>, AllocError>
+    requires { IsWellFormed (view root.now) }
+    ensures { IfOk result (λ found. found_view found ≡ found_by (view root.now) text.now) }
+{
+    match JsonPath::parse(alloc, text) {
+        Ok(path) => {
+            let json = json_of(alloc, root)?;
+            Ok(found_in(json, &path))
+        }
+        Err(JsonPathError::BadPath) => Ok(None),
+        Err(JsonPathError::OutOfMemory) => Err(AllocError),
+    }
+}
+
+// The body's data.
+fn json_of<'a>(alloc: Global, root: &'a Data) -> Result<Option<&'a Data>, AllocError>
+    requires { IsWellFormed (view root.now) }
+    ensures found { IfOk result (λ json. found_view json ≡ at json_path (view root.now)) }
+    ensures well_formed { IfOk result (λ json. IfSome json (λ d. IsWellFormed (view d.now))) }
+{
+    let name = PlainText::new(String::from_str(alloc, "json")?);
+    let steps = [Step::Name(name)];
+    Ok(root.at(&steps))
+}
+
+#[tactic(auto, using(data_tree::proofs::Lookups::at_nothing))]
+fn found_in<'a>(value: Option<&'a Data>, path: &JsonPath) -> Option<&'a Data>
+    requires { IfSome value (λ d. IsWellFormed (view d.now)) }
+    ensures { found_view result ≡ at path.now (found_view value.entry) }
+{
+    match value {
+        Some(value) => value.at(path.steps()),
+        None => None,
+    }
+}
+
+// The slot that owns a result. A text that is a part of an argument is copied, since the argument's slot is gone.
+fn slot_of<'a>(alloc: Global, made: MadeValue<'_>) -> Result<Slot<'a>, AllocError>
+    ensures { IfOk result (λ slot. slot_view slot ≡ made_view made.entry) }
+{
+    match made {
+        MadeValue::Text(CowStr::Owned(text)) => Ok(Slot::Text(Text::Made(text))),
+        MadeValue::Text(CowStr::Borrowed(text)) => {
+            Ok(Slot::Text(Text::Made(String::from_str(alloc, text)?)))
+        }
+        MadeValue::Number(number) => Ok(Slot::Value(Value::Number(number))),
+        MadeValue::Truth(truth) => Ok(Slot::Value(Value::Truth(truth))),
+    }
+}

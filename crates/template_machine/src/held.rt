@@ -1,0 +1,59 @@
+//! The arguments of a helper: values that it can read. What is borrowed already stays so; a text is made only where
+//! a number, a truth, a list or an object prints it.
+ghost use Rattle.std.specs.Prelude.{◌≡◌, IfOk};
+ghost use Rattle.std.specs.Cow.{cow_str_bytes};
+ghost use Rattle.helper_set.specs.Values.{text_of};
+ghost use Rattle.helper_set.specs.Views as helpers;
+ghost use Rattle.template_machine.specs.Inner.Slots.{value_view, text_view, slot_view, held_view};
+
+use crate::slot::{Slot, Text};
+use crate::value::Value;
+use data_tree::data::Data;
+use helper_set::value::Value as Argument;
+use std::alloc::{AllocError, Global};
+use std::borrow::CowStr;
+
+/// A slot, with its text at hand.
+#[derive(Drop)]
+pub enum Held<'a> {
+    Value(Value<'a>),
+    Text(CowStr<'a, Global>),
+}
+
+/// A slot's value, or its text.
+pub fn hold<'a>(alloc: Global, slot: &'a Slot<'a>) -> Result<Held<'a>, AllocError>
+    ensures { IfOk result (λ held. held_view held ≡ slot_view slot.now) }
+{
+    match slot {
+        Slot::Value(value) => Ok(Held::Value(*value)),
+        Slot::Text(Text::Literal(text)) => Ok(Held::Text(CowStr::Borrowed(text))),
+        Slot::Text(Text::Made(text)) => Ok(Held::Text(CowStr::Borrowed(text.as_str()))),
+        Slot::Text(Text::Rendered(value)) => Ok(Held::Text(printed(alloc, *value)?)),
+    }
+}
+
+// The text that a value prints as.
+fn printed<'a>(alloc: Global, value: Value<'a>) -> Result<CowStr<'a, Global>, AllocError>
+    ensures { IfOk result (λ text. cow_str_bytes text ≡ text_of (value_view value.entry)) }
+{
+    if let Value::Datum(Some(Data::Text(text) | Data::Named { text, .. })) = value {
+        return Ok(CowStr::Borrowed(text.as_str()));
+    }
+    let mut text = String::new(alloc);
+    value.print_into(alloc, &mut text)?;
+    Ok(CowStr::Owned(text))
+}
+
+impl Held<'_> {
+    /// The same, as a helper takes it.
+    pub fn argument(&self) -> Argument<'_>
+        ensures { helpers.value_view result ≡ held_view self.now }
+    {
+        match self {
+            Held::Value(Value::Datum(found)) => Argument::Datum(*found),
+            Held::Value(Value::Number(number)) => Argument::Number(*number),
+            Held::Value(Value::Truth(truth)) => Argument::Truth(*truth),
+            Held::Text(text) => Argument::Text(text.as_str()),
+        }
+    }
+}
