@@ -52,7 +52,7 @@ pub fn law_steps_follow_one_another()
     ensures { (first then : List Step) (t : Tree) → at (first ++ then) t ≡ at then (at first t) }
 {}
 
-/// Where no field has the empty name, steps that begin with it find nothing.
+/// Where the empty name finds nothing, steps that begin with it find nothing.
 #[tactic(auto, using(crate::proofs::Lookups::at_empty_name_first))]
 pub fn law_the_empty_name_finds_nothing()
     ensures { (steps : List Step) (t : Tree) → EmptyNameFindsNothing t → at (Name [] ∷ steps) t ≡ nothing }

@@ -1,7 +1,8 @@
 // The values that templates, JSON documents and requests are made of: a finite tree (`Data`), the steps that lead
 // into it (`Step`, `Path`), and its text. JSON strings are escaped as the crate `json` does.
 //
-// Contracts cite `specs/Tree.antt` (the tree of a `Data`), `Json`, `Print`, `Parts`, `LookUp` and `Digits`.
+// Contracts cite `specs/Tree.antt` (the tree of a `Data`), `Json`, `Print`, `Parts`, `LookUp`, `Digits`,
+// `WellFormed` (the rules that each value keeps), `RequestData` and `Capped`.
 #![tactic(auto)]
 
 // Texts and steps.

@@ -14,9 +14,9 @@ pub record AreTexts : Type 0 where
   pub byte_order : tree_of_text (codes "{\"b\":1,\"B\":null}")
       ≡ Some (fields (member (codes "B") nothing (member (codes "b") (number (pos 1)) no_members)))
   pub least : tree_of_text (codes "-9223372036854775808") ≡ Some (number (negsuc (2 ^ 63 - 1)))
-  pub past_signed : tree_of_text (codes "9223372036854775808") ≡ Some (number (pos (2 ^ 63)))
+  pub above_signed : tree_of_text (codes "9223372036854775808") ≡ Some (number (pos (2 ^ 63)))
   pub greatest : tree_of_text (codes "18446744073709551615") ≡ Some (number (pos (2 ^ 64 - 1)))
-  pub past_greatest : tree_of_text (codes "18446744073709551616") ≡ None
+  pub above_greatest : tree_of_text (codes "18446744073709551616") ≡ None
   pub below_least : tree_of_text (codes "-9223372036854775809") ≡ None
   pub minus_zero : tree_of_text (codes "-0") ≡ None
   pub point : tree_of_text (codes "1.0") ≡ None

@@ -1,10 +1,7 @@
--- Which text spells which path: `$`, then steps `.name`, `['text']` and `[n]`. `$`, `['text']` and `[n]` are
--- notation of
--- JSONPath (RFC 9535, sections 2.2 and 2.3), but `['text']` has no escapes: in `$['a\b']` both bytes `\` and `b`
--- are of
--- the name, where the RFC reads a backspace. Names after a dot are this product's own: `$.0` and `$.b-c` are paths
--- here,
--- and not in the RFC's notation.
+-- Which text spells which path: `$`, then steps `.name`, `['text']` and `[n]`. These are notation of JSONPath
+-- (RFC 9535, sections 2.2 and 2.3), but `['text']` has no escapes: in `$['a\b']` both bytes `\` and `b` are of the
+-- name, where the RFC reads a backspace. Which names may follow a dot is this product's own: `$.0` and `$.b-c` are
+-- paths here, and not in the RFC's notation.
 use Rattle.std.specs.Prelude.{◌≡◌, ◌⊎◌, ℕ, ◌^◌, ◌<◌, ◌==◌, ◌||◌, not, Bool, IsTrue, List, [], ◌∷◌, ◌++◌, length}
 use Rattle.std.specs.Prelude.{decimal}
 use Rattle.std.specs.Char.{is_ascii_alphanumeric}

@@ -1,5 +1,5 @@
 -- The tree of a JSON text (RFC 8259): of the value that `serde_json` reads it as, nested 127 deep at most, where
--- its numbers are whole and fit 64 bits.
+-- each of its numbers is one that `as_i64` or `as_u64` gives.
 use Rattle.std.specs.Prelude.{ℕ, ℤ, pos, List, Option, Some, IsSome, option_map}
 use Rattle.std.specs.Prelude.{option_and_then}
 use Rattle.std.specs.Option.{option_or}
@@ -31,10 +31,10 @@ abbrev mutual
   members_of value.no_members = Some no_members
   members_of (value.member k d ms) = option_and_then (λ t. option_map (member k t) (members_of ms)) (tree_of_value d)
 
--- `serde_json` reads the text, which nests 127 deep at most; its numbers may be any
+-- `serde_json` reads the text, which nests 127 deep at most; its numbers may be any that a float can hold
 abbrev pub IsJson : List ℕ → Type 0
 IsJson s = IsSome (read s)
 
--- the tree of a text, where it is JSON and each number of it is whole and fits 64 bits
+-- the tree of a text, where it is JSON and `as_i64` or `as_u64` gives each number of it
 abbrev pub tree_of_text : List ℕ → Option Tree
 tree_of_text s = option_and_then tree_of_value (read s)

@@ -6,9 +6,9 @@ use std::alloc::AllocError;
 /// Why a text has no value.
 #[derive(Clone, Copy, Debug, PartialEq, Eq)]
 pub enum JsonError {
-    /// The text isn't JSON, or nests over 127 deep.
+    /// The text isn't JSON, nests over 127 deep, or has a number that is too large for a float.
     NotJson,
-    /// The text is JSON, but a number in it isn't whole or doesn't fit 64 bits.
+    /// The text is JSON, but a number in it isn't written as a whole number, or doesn't fit 64 bits.
     NumberNotWhole,
     OutOfMemory,
 }

@@ -10,7 +10,7 @@ abbrev pub IsNotJson : JsonSpec → Type 0
 IsNotJson (EqualTo expected any_order more) = ¬ (IsJson expected)
 IsNotJson (Path path) = ⊥
 
--- its expected text is JSON, but a number in it isn't whole or doesn't fit 64 bits
+-- its expected text is JSON, but a number in it isn't written as a whole number, or doesn't fit 64 bits
 abbrev pub HasNumberNotWhole : JsonSpec → Type 0
 HasNumberNotWhole (EqualTo expected any_order more) = IsJson expected × (tree_of_text expected ≡ None)
 HasNumberNotWhole (Path path) = ⊥

@@ -8,9 +8,9 @@ use std::alloc::AllocError;
 /// Why no matcher is built.
 #[derive(Clone, Copy, Debug, PartialEq, Eq)]
 pub enum JsonMatchError {
-    /// The expected text isn't JSON, or nests over 127 deep.
+    /// The expected text isn't JSON, nests over 127 deep, or has a number that is too large for a float.
     NotJson,
-    /// A number in the expected text isn't whole or doesn't fit 64 bits.
+    /// A number in the expected text isn't written as a whole number, or doesn't fit 64 bits.
     NumberNotWhole,
     /// The path isn't one.
     BadPath,

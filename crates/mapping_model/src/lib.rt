@@ -1,7 +1,7 @@
-// What a stub mapping is: its id, its priority and scenario, the requests that it matches and the response that it gives,
-// and what a reply is. What can't be served can't be built: a status is 200 to 599, a header's name a token, a response has
-// 100 header lines at most, a template is a verified program. Its contracts cite `specs/MappingId.antt` (generated ids),
-// `specs/Priority.antt` and `specs/Status.antt`.
+// What a stub mapping is: its id, its priority and scenario, the requests that it matches and the response that it
+// gives; and what a reply is. What a mapping can't serve can't be built: a status is 200 to 599, a header's name a
+// token, a response has 100 header lines at most, a template is a verified program. Its contracts cite
+// `specs/MappingId.antt` (generated ids), `specs/Priority.antt`, `specs/Status.antt` and `specs/Body.antt`.
 #![tactic(auto)]
 
 pub mod body_pattern;

@@ -11,7 +11,7 @@ use plain_text::text::Text;
 /// The body of a response, in the form in which it was given. Only a `body` may be a template.
 #[derive(Drop)]
 pub enum Body<V> {
-    /// No body, as an empty `body` is.
+    /// No body. An empty `body` is none: `of_text` gives it so, and whoever makes a template's body has to.
     Empty,
     /// `body`.
     Text(V),

@@ -6,8 +6,8 @@ use std::alloc::{AllocError, Global};
 use std::marker::Model;
 use std::sync::Arc;
 
-/// A response with its status, headers, body and programs, which contracts see as it is: a copy shares it, so that it costs
-/// the same for each response. An edit of a mapping gives it a new version and changes none that was captured.
+/// A response with its status, headers, body and programs, which contracts see as it is: a copy shares it, so that it
+/// costs the same for each response. An edit of a mapping gives it a new version and changes none that was captured.
 #[derive(Drop)]
 pub struct Version {
     response: Arc<ResponseSpec>,

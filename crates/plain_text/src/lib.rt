@@ -1,5 +1,5 @@
-// Texts, runs of bytes and lists that contracts see as what they hold, so that a type that holds one can be compared in a
-// clause, copied and tested for equality with nothing written.
+// Texts, runs of bytes and lists that contracts see as what they hold, so that a clause can compare a type that holds
+// one.
 #![tactic(auto)]
 
 pub mod items;

@@ -24,10 +24,11 @@ IsPatternOfWhole source = IsPattern source × IsPattern (whole_of source)
 abbrev pub HasPattern : ValueSpec → Type 0
 HasPattern matcher = IfSome (pattern_of matcher) IsPatternOfWhole
 
--- `regex` may refuse the text, by its contracts, with an error that isn't about memory
+-- `regex` may refuse the text, by its contracts, with an error that isn't about memory: they allow "too big" for each
+-- pattern, so this holds of every text
 abbrev pub IsRefused : List ℕ → Type 0
 IsRefused source = (error : Error) × (error ≢ OutOfMemory) × IsDefaultFailure source error
 
--- the matcher has a pattern, which may be refused so by itself or as one of the whole value
+-- so: the matcher has a pattern (which may be refused by itself or as one of the whole value)
 abbrev pub MayBeRefused : ValueSpec → Type 0
 MayBeRefused matcher = IsSomeAnd (pattern_of matcher) (λ source. IsRefused source ⊎ IsRefused (whole_of source))

@@ -24,7 +24,7 @@ impl Compiled {
     ghost use Rattle.regex.specs.Failures.{IsRightKind, HasSpanIn};
     ghost use Rattle.value_match.specs.Inner.Engine.{IsReadFrom};
 
-    /// Compiles a pattern by the steps of `Regex::new`, and refuses it where that does.
+    /// Compiles a pattern by the steps and with the limits of `Regex::new`.
     pub(crate) fn new(alloc: Global, source: &str) -> Result<Compiled, Error>
         ensures read { IfOk result (IsReadFrom source.now) }
         ensures by_grammar { IfErr result (IsRefusal default_config source.now) }

@@ -14,7 +14,7 @@ use Rattle.data_tree.specs.declared.data.Data.{Data}
 use Rattle.json_match.specs.declared.compare.Flags.{Flags}
 use Rattle.json_match.specs.Matching.{without_first, truth_eq, have_one_length}
 
--- the member of that name, which is the first unless others may stand before it, and those after it
+-- the member of that name, which is the first unless others may be before it, and those after it
 abbrev pub member_at : Bool → List ℕ → Members → Option (Tree × Members)
 member_at more name no_members = None
 member_at more name (member k t ms) =
