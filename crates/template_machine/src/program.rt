@@ -92,7 +92,7 @@ fn verified_code(alloc: Global, text: &str) -> Result<Verified, ProgramError>
 
 /// The text that a program's source means over a request's data, and the steps of its run.
 ///
-/// The only error is that memory for the text runs out.
+/// The only error is that memory runs out, for the text or for one that a helper makes.
 pub fn render<'a>(
     alloc: Global,
     program: &'a Program,
