@@ -2,8 +2,8 @@
 
 use case_table::row::Row;
 use data_tree::request_data::RequestData;
-use request_data::tree::request_data;
 use mock_request::snapshot::Snapshot;
+use request_data::tree::request_data;
 use std::alloc::{AllocError, Global};
 use template_machine::program::{Program, render};
 

@@ -13,12 +13,7 @@ use std::borrow::CowStr;
 
 /// The JSON text of what the helper makes of the arguments, JSON texts: a text is given as a text, `true` and `false`
 /// to `not` as truths, and all else as data.
-pub fn result(
-    alloc: Global,
-    name: &str,
-    first: &str,
-    second: &str,
-) -> Result<String, AllocError> {
+pub fn result(alloc: Global, name: &str, first: &str, second: &str) -> Result<String, AllocError> {
     let data = first;
     let first = data_of_json(alloc, first)?;
     let second = data_of_json(alloc, second)?;
@@ -60,14 +55,20 @@ fn of_texts(
         Helper::Neq => cell(alloc, apply(alloc, Helper::Neq, &[first, second])?),
         Helper::Contains => cell(alloc, apply(alloc, Helper::Contains, &[first, second])?),
         Helper::DefaultIfEmpty => {
-            cell(alloc, apply(alloc, Helper::DefaultIfEmpty, &[first, second])?)
+            cell(
+                alloc,
+                apply(alloc, Helper::DefaultIfEmpty, &[first, second])?,
+            )
         }
         _ => Ok(String::new(alloc)),
     }
 }
 
 fn size(alloc: Global, data: &Data) -> Result<String, AllocError> {
-    cell(alloc, apply(alloc, Helper::Size, &[Value::Datum(Some(data))])?)
+    cell(
+        alloc,
+        apply(alloc, Helper::Size, &[Value::Datum(Some(data))])?,
+    )
 }
 
 fn cell(alloc: Global, made: MadeValue<'_>) -> Result<String, AllocError> {

@@ -8,9 +8,9 @@ use data_tree::request_data::RequestData;
 use http_header::{HeaderName, HeaderValue};
 use mock_request::error::SnapshotError;
 use mock_request::request_values::RequestValues;
-use request_data::tree::request_data;
 use mock_request::snapshot::Snapshot;
 use path_template::path_template::PathTemplate;
+use request_data::tree::request_data;
 use std::alloc::{AllocError, Global};
 
 /// What the copy of a request gives back: its method, its URL, path and query, its headers and its body.
@@ -164,7 +164,9 @@ fn plain_request(alloc: Global, target: &str) -> Result<Snapshot, SnapshotError>
 // All templates of the table are well formed.
 fn paths_of(alloc: Global, request: &Snapshot, template: &str) -> Result<String, AllocError> {
     let template = PathTemplate::parse(alloc, template).ok().ok_or(AllocError)?;
-    let data = request_data(alloc, request, Some(&template)).ok().ok_or(AllocError)?;
+    let data = request_data(alloc, request, Some(&template))
+        .ok()
+        .ok_or(AllocError)?;
     let mut cells = String::new(alloc);
     for steps in [r#"["request","path"]"#, r#"["request","pathSegments"]"#] {
         let path = path(alloc, steps)?;

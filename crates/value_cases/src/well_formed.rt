@@ -12,10 +12,12 @@ pub fn is_well_formed(value: &Data) -> bool
     ensures { OnTrue result (IsWellFormed (view value.now)) }
 {
     match value {
-        Data::Number(number) => -9_223_372_036_854_775_808 <= *number && *number <= 18_446_744_073_709_551_615,
+        Data::Number(number) => -9_223_372_036_854_775_808 <= *number
+            && *number <= 18_446_744_073_709_551_615,
         Data::List(items) => are_well_formed(items),
         Data::Fields(members) => is_well_formed_object(members),
-        Data::Named { items, fields, .. } => are_well_formed(items) && is_well_formed_object(fields),
+        Data::Named { items, fields, .. } => are_well_formed(items)
+            && is_well_formed_object(fields),
         _ => true,
     }
 }
