@@ -6,7 +6,7 @@ use Rattle.request_journal.specs.Past.{Past, with_event, with_events, opening_ba
 use Rattle.request_journal.specs.declared.event.Event.{Event}
 
 -- an item of a list with one more at its end is that one, or was there before
-abbrev IsSplit : {X : Type 0} → List X → X → List X → X → Type 0
+abbrev pub IsSplit : {X : Type 0} → List X → X → List X → X → Type 0
 IsSplit {X} xs x earlier item =
     ((xs ≡ earlier) × (x ≡ item)) ⊎ ((later : List X) × (xs ≡ earlier ++ item ∷ later))
 
@@ -18,19 +18,19 @@ rest_of : {X : Type 0} → List X → List X
 rest_of [] = []
 rest_of (x ∷ xs) = xs
 
-abbrev Some_item : {X : Type 0} → List X → Type 0
-Some_item [] = ⊥
-Some_item (x ∷ xs) = Unit {0}
+abbrev pub HasItem : {X : Type 0} → List X → Type 0
+HasItem [] = ⊥
+HasItem (x ∷ xs) = Unit {0}
 
-has_item : {X : Type 0} (earlier : List X) (item : X) (later : List X) → Some_item (earlier ++ item ∷ later)
+pub has_item : {X : Type 0} (earlier : List X) (item : X) (later : List X) → HasItem (earlier ++ item ∷ later)
 has_item [] item later = tt
 has_item (y ∷ ys) item later = tt
 
-split_last : {X : Type 0} (xs : List X) (x : X) (earlier : List X) (item : X) (later : List X)
+pub split_last : {X : Type 0} (xs : List X) (x : X) (earlier : List X) (item : X) (later : List X)
     → xs ++ x ∷ [] ≡ earlier ++ item ∷ later → IsSplit xs x earlier item
 unfolding head_or rest_of
 split_last [] x [] item later e = inl (refl, ap (head_or x) e)
-split_last [] x (y ∷ ys) item later e = absurd (subst Some_item (sym (ap rest_of e)) (has_item ys item later))
+split_last [] x (y ∷ ys) item later e = absurd (subst HasItem (sym (ap rest_of e)) (has_item ys item later))
 split_last (y ∷ ys) x [] item later e = inr (ys, λ i. head_or y (e i) ∷ ys)
 split_last (y ∷ ys) x (z ∷ zs) item later e =
     elim (split_last ys x zs item later (ap rest_of e)) as (λ _. IsSplit (y ∷ ys) x (z ∷ zs) item) [

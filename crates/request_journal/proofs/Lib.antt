@@ -1,3 +1,4 @@
 pub mod Examples
 pub mod LiveLemmas
 pub mod LegalLemmas
+pub mod CheckpointLemmas
