@@ -2,3 +2,5 @@ pub mod Examples
 pub mod LiveLemmas
 pub mod LegalLemmas
 pub mod CheckpointLemmas
+pub mod JournalLemmas
+pub mod PlaceLemmas

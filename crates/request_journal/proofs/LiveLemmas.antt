@@ -22,7 +22,7 @@ or_more : (p q r s : Bool) → q ≡ (r || s) → (p || q) ≡ ((p || r) || s)
 or_more true q r s e = refl
 or_more false q r s e = e
 
-any_one : {X : Type 0} (test : X → Bool) (xs : List X) (x : X) → list_any test (xs ++ x ∷ []) ≡ (list_any test xs || test x)
+pub any_one : {X : Type 0} (test : X → Bool) (xs : List X) (x : X) → list_any test (xs ++ x ∷ []) ≡ (list_any test xs || test x)
 any_one test [] x = or_false (test x)
 any_one test (y ∷ ys) x = or_more (test y) _ (list_any test ys) (test x) (any_one test ys x)
 
