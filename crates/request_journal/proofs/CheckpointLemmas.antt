@@ -1,10 +1,10 @@
 -- A checkpoint changes no recording, and the event that makes one keeps a past legal.
-use Rattle.std.proofs.Common.{◌≡◌, ◌⊎◌, inl, inr, ℕ, ◌+◌, ◌≤◌, ◌<◌, Bool, true, false, List, [], ◌∷◌, ◌++◌, length, refl}
+use Rattle.std.proofs.Common.{◌≡◌, inl, inr, ℕ, ◌+◌, ◌≤◌, ◌<◌, Bool, true, false, [], ◌∷◌, ◌++◌, length, refl}
 use Rattle.std.proofs.Common.{sym, ap, subst, ◌∙◌, arith, append-nil, Option, Some, None, option_map}
 use Rattle.request_journal.specs.Journal.{clears}
 use Rattle.request_journal.specs.Legal.{Meanings, IsLegal, IsNext, IsAnswer, IsCheckpoint, live_limit, number_limit}
 use Rattle.request_journal.specs.Live.{live, adds, left_by}
-use Rattle.request_journal.specs.Past.{Past, Placed, Recording, with_event, with_events, last_number}
+use Rattle.request_journal.specs.Past.{Past, Recording, with_event, with_events, last_number}
 use Rattle.request_journal.specs.Recording.{recording, continued, started_by}
 use Rattle.request_journal.specs.Events.{last_of, numbered}
 use Rattle.std.specs.Option.{option_or}

@@ -1,8 +1,11 @@
 -- Small pasts that the definitions read as they should: ids are short texts, and the mappings are any.
-use Rattle.std.proofs.Common.{◌≡◌, ℕ, true, false, List, [], ◌∷◌, Some, None, refl, codes}
+use Rattle.std.proofs.Common.{◌≡◌, inl, inr, ℕ, true, false, List, [], ◌∷◌, Some, None, refl, codes, arith}
+use Rattle.std.specs.Prelude.{◌<ℤ◌}
+use Rattle.mapping_model.specs.Priority.{priority_of}
 use Rattle.mapping_model.specs.declared.mapping_spec.MappingSpec.{MappingSpec}
 use Rattle.mock_request.specs.Request.{Request}
 use Rattle.scenario_core.specs.Scenarios.{States, started}
+use Rattle.request_journal.specs.Choice.{WinsOver}
 use Rattle.request_journal.specs.Journal.{requests, unmatched, event_at}
 use Rattle.request_journal.specs.Live.{live}
 use Rattle.request_journal.specs.Past.{Past, Placed, opening_base, last_number}
@@ -169,3 +172,15 @@ module _ (start : RecordingStart) (x y : Exchange) where
         })
       ≡ Some (record { number = 1; start = start; exchanges = x ∷ y ∷ []; is_on = true })
   recorded_after_a_clear states = refl
+
+-- ---- choice
+
+module _ (s t : MappingSpec) where
+  newest_of_equals : priority_of t.priority ≡ priority_of s.priority → WinsOver (at 2 0 b t) (at 1 0 a s)
+  newest_of_equals same = inr (same, inl (omega arith))
+
+  later_of_one_event : priority_of t.priority ≡ priority_of s.priority → WinsOver (at 2 1 b t) (at 2 0 a s)
+  later_of_one_event same = inr (same, inr (refl, omega arith))
+
+  least_number : priority_of s.priority <ℤ priority_of t.priority → WinsOver (at 1 0 a s) (at 2 0 b t)
+  least_number less = inl less

@@ -1,6 +1,6 @@
 -- What one more event does to what the journal shows.
 use Rattle.std.proofs.Common.{◌≡◌, ℕ, ◌+◌, Bool, true, false, ◌||◌, cond, List, [], ◌∷◌, ◌++◌, length, Option, Some, None}
-use Rattle.std.proofs.Common.{refl, sym, ap, ◌∙◌, arith, append_assoc, reverse, option_map}
+use Rattle.std.proofs.Common.{refl, ap, ◌∙◌, arith, reverse, option_map}
 use Rattle.std.specs.List.{list_any, filter_map, cons_option}
 use Rattle.mock_request.specs.Request.{Request}
 use Rattle.request_journal.specs.Events.{Numbered, numbered, after_last}

@@ -1,8 +1,7 @@
 -- One more event that is the right answer keeps a past legal.
-use Rattle.std.proofs.Common.{◌≡◌, ◌⊎◌, inl, inr, ℕ, true, List, [], ◌∷◌, ◌++◌, refl, sym, ap, subst, ◌∙◌}
-use Rattle.request_journal.specs.Journal.{clears}
+use Rattle.std.proofs.Common.{◌≡◌, ◌⊎◌, inl, inr, List, [], ◌∷◌, ◌++◌, refl, sym, ap, subst}
 use Rattle.request_journal.specs.Legal.{Meanings, IsLegal, IsNext, BeginsWell}
-use Rattle.request_journal.specs.Past.{Past, with_event, with_events, opening_base}
+use Rattle.request_journal.specs.Past.{Past, with_event, with_events}
 use Rattle.request_journal.specs.declared.event.Event.{Event}
 
 -- an item of a list with one more at its end is that one, or was there before

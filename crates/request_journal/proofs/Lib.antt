@@ -4,3 +4,4 @@ pub mod LegalLemmas
 pub mod CheckpointLemmas
 pub mod JournalLemmas
 pub mod PlaceLemmas
+pub mod SameLemmas
