@@ -17,12 +17,12 @@ continued_none : (r : Option Recording) → option_map (continued []) r ≡ r
 continued_none None = refl
 continued_none (Some r) =
     ap (λ xs. Some (record { number = r.number; start = r.start; exchanges = xs; is_on = r.is_on }))
-        (append-nil r.exchanges)
+    (append-nil r.exchanges)
 
 pub recording_at_checkpoint : (old new : Past) → IsCheckpoint old new → recording new ≡ recording old
 recording_at_checkpoint old new c =
     (λ i. option_map (continued (c.no_events i))
-        (option_or (last_of started_by (numbered (new.base.number + 1) (c.no_events i))) new.base.recording))
+    (option_or (last_of started_by (numbered (new.base.number + 1) (c.no_events i))) new.base.recording))
     ∙ continued_none new.base.recording ∙ c.same_recording
 
 zero_more : (n : ℕ) → n + 0 ≡ n
@@ -59,7 +59,7 @@ live_after_checkpoint : (old new : Past) (e : Event) → IsCheckpoint old new
 live_after_checkpoint old new e c =
     live_after new e
     ∙ (λ i. left_by (e ∷ []) (live_at_checkpoint old new c i)
-        ++ adds (c.same_defaults i) (number_at_checkpoint old new c i + 1) e)
+    ++ adds (c.same_defaults i) (number_at_checkpoint old new c i + 1) e)
     ∙ sym (live_after old e)
 
 clear_is_next : (meanings : Meanings) (old new : Past) (e : Event) → IsCheckpoint old new → clears e ≡ true
@@ -67,7 +67,7 @@ clear_is_next : (meanings : Meanings) (old new : Past) (e : Event) → IsCheckpo
 clear_is_next meanings old new e c h next = record {
   answer = clear_is_answer meanings new e h;
   few_live = subst (λ l. length l ≤ live_limit) (sym (live_after_checkpoint old new e c)) next.few_live;
-  has_room = subst (λ n. n < number_limit) (sym (number_at_checkpoint old new c)) next.has_room
+  has_room = subst (λ n. n < number_limit) (sym (number_at_checkpoint old new c)) next.has_room;
 }
 
 -- a clear or a reset of all, made with a checkpoint
@@ -79,9 +79,9 @@ legal_at_clear meanings old new e c h next few = record {
   few_live = subst (λ l. length l ≤ live_limit) (sym c.same_live) few;
   answers = λ earlier later item g.
       elim (split_last new.events e earlier item later g)
-          as (λ _. IsNext meanings (with_events new earlier) item) [
+      as (λ _. IsNext meanings (with_events new earlier) item) [
         | inl s ↦ subst (λ es. IsNext meanings (with_events new es) item) s.0
             (subst (λ x. IsNext meanings new x) s.1 (clear_is_next meanings old new e c h next))
         | inr s ↦ absurd (subst HasItem (sym s.1 ∙ c.no_events) (has_item earlier item s.0))
-      ]
+      ];
 }

@@ -110,7 +110,7 @@ module _ (s : MappingSpec) (r : Request) (states : States) where
     opening = 0;
     defaults = [];
     base = record { number = 3; live = at 1 0 b s ∷ []; states = states; recording = None };
-    events = event.ClearJournal ∷ event.Serve r Unmatched ∷ []
+    events = event.ClearJournal ∷ event.Serve r Unmatched ∷ [];
   }
 
   numbers_go_on : last_number cleared ≡ 5
@@ -131,13 +131,13 @@ module _ (s : MappingSpec) (r : Request) (states : States) where
 module _ (r q : Request) (target : Target) where
   newest_first
       : requests (book [] (event.Serve q Unmatched ∷ event.ClearJournal ∷ event.Serve r Unmatched
-          ∷ event.Serve q (Proxy target) ∷ []))
+      ∷ event.Serve q (Proxy target) ∷ []))
       ≡ record { number = 4; request = q } ∷ record { number = 3; request = r } ∷ []
   newest_first = refl
 
   proxied_is_not_unmatched
       : unmatched (book [] (event.Serve q Unmatched ∷ event.ClearJournal ∷ event.Serve r Unmatched
-          ∷ event.Serve q (Proxy target) ∷ []))
+      ∷ event.Serve q (Proxy target) ∷ []))
       ≡ record { number = 3; request = r } ∷ []
   proxied_is_not_unmatched = refl
 
@@ -146,30 +146,30 @@ module _ (r q : Request) (target : Target) where
 module _ (start : RecordingStart) (x y : Exchange) where
   started_and_stopped
       : recording (book [] (event.ClearJournal ∷ event.StartRecording start ∷ event.Record 3 x ∷ event.Record 4 y
-          ∷ event.StopRecording [] 2 ∷ []))
+      ∷ event.StopRecording [] 2 ∷ []))
       ≡ Some (record { number = 2; start = start; exchanges = x ∷ y ∷ []; is_on = false })
   started_and_stopped = refl
 
   -- a second start forgets the first recording's exchanges
   started_again
       : recording (book [] (event.StartRecording start ∷ event.Record 1 x ∷ event.StopRecording [] 1
-          ∷ event.StartRecording start ∷ event.Record 4 y ∷ []))
+      ∷ event.StartRecording start ∷ event.Record 4 y ∷ []))
       ≡ Some (record { number = 4; start = start; exchanges = y ∷ []; is_on = true })
   started_again = refl
 
   -- a record whose serve was dropped with a checkpoint joins the base's recording
   recorded_after_a_clear : (states : States)
       → recording (record {
-          opening = 0;
-          defaults = [];
-          base = record {
-            number = 2;
-            live = [];
-            states = states;
-            recording = Some (record { number = 1; start = start; exchanges = x ∷ []; is_on = true })
-          };
-          events = event.ClearJournal ∷ event.Record 2 y ∷ []
-        })
+        opening = 0;
+        defaults = [];
+        base = record {
+          number = 2;
+          live = [];
+          states = states;
+          recording = Some (record { number = 1; start = start; exchanges = x ∷ []; is_on = true });
+        };
+        events = event.ClearJournal ∷ event.Record 2 y ∷ [];
+      })
       ≡ Some (record { number = 1; start = start; exchanges = x ∷ y ∷ []; is_on = true })
   recorded_after_a_clear states = refl
 

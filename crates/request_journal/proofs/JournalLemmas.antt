@@ -14,8 +14,8 @@ numbered_one : (number : ℕ) (es : List Event) (e : Event)
 numbered_one number [] e = ap (λ n. record { number = n; event = e } ∷ []) (omega arith)
 numbered_one number (y ∷ ys) e =
     ap (λ l. record { number = number; event = y } ∷ l)
-        (numbered_one (number + 1) ys e
-            ∙ ap (λ n. numbered (number + 1) ys ++ record { number = n; event = e } ∷ []) (omega arith))
+    (numbered_one (number + 1) ys e
+    ∙ ap (λ n. numbered (number + 1) ys ++ record { number = n; event = e } ∷ []) (omega arith))
 
 pub numbered_after : (past : Past) (e : Event)
     → numbered_events (with_event past e)
@@ -33,11 +33,12 @@ or_is_false true = refl
 or_is_false false = refl
 
 -- nothing is after the last item that passes, where it is the last of all
-after_passing : {X : Type 0} (test : X → Bool) (xs : List X) (x : X) → test x ≡ true → after_last test (xs ++ x ∷ []) ≡ []
+after_passing
+    : {X : Type 0} (test : X → Bool) (xs : List X) (x : X) → test x ≡ true → after_last test (xs ++ x ∷ []) ≡ []
 after_passing test [] x h = ap (λ b. cond (b || false) [] (x ∷ [])) h
 after_passing test (y ∷ ys) x h =
     ap (λ b. cond (test y || b) (after_last test (ys ++ x ∷ [])) (y ∷ (ys ++ x ∷ [])))
-        (any_one test ys x ∙ ap (λ b. list_any test ys || b) h ∙ or_true (list_any test ys))
+    (any_one test ys x ∙ ap (λ b. list_any test ys || b) h ∙ or_true (list_any test ys))
     ∙ ap (λ b. cond b (after_last test (ys ++ x ∷ [])) (y ∷ (ys ++ x ∷ []))) (or_true (test y))
     ∙ after_passing test ys x h
 
@@ -47,10 +48,10 @@ after_other : {X : Type 0} (test : X → Bool) (xs : List X) (x : X) → test x 
 after_other test [] x h = ap (λ b. cond (b || false) [] (x ∷ [])) h
 after_other test (y ∷ ys) x h =
     ap (λ b. cond (test y || b) (after_last test (ys ++ x ∷ [])) (y ∷ (ys ++ x ∷ [])))
-        (any_one test ys x ∙ ap (λ b. list_any test ys || b) h ∙ or_is_false (list_any test ys))
+    (any_one test ys x ∙ ap (λ b. list_any test ys || b) h ∙ or_is_false (list_any test ys))
     ∙ elim (test y || list_any test ys)
-        as (λ b. cond b (after_last test (ys ++ x ∷ [])) (y ∷ (ys ++ x ∷ []))
-            ≡ cond b (after_last test ys) (y ∷ ys) ++ x ∷ []) [
+    as (λ b. cond b (after_last test (ys ++ x ∷ [])) (y ∷ (ys ++ x ∷ []))
+    ≡ cond b (after_last test ys) (y ∷ ys) ++ x ∷ []) [
       | true ↦ after_other test ys x h
       | false ↦ refl
     ]
@@ -60,7 +61,7 @@ found_one : {X Y : Type 0} (f : X → Option Y) (xs : List X) (x : X)
 found_one f [] x = refl
 found_one f (y ∷ ys) x =
     elim (f y) as (λ o. cons_option o (filter_map f (ys ++ x ∷ []))
-        ≡ cons_option o (filter_map f ys) ++ cons_option (f x) []) [
+    ≡ cons_option o (filter_map f ys) ++ cons_option (f x) []) [
       | None ↦ found_one f ys x
       | Some z ↦ ap (λ l. z ∷ l) (found_one f ys x)
     ]
@@ -74,13 +75,13 @@ pub visible_after_clear : (found : Event → Option Request) (past : Past) (e : 
 visible_after_clear found past e h =
     ap (λ l. reverse (filter_map (entry_of found) (after_last (λ n. clears n.event) l))) (numbered_after past e)
     ∙ ap (λ l. reverse (filter_map (entry_of found) l))
-        (after_passing (λ n. clears n.event) (numbered_events past) (record { number = last_number past + 1; event = e }) h)
+    (after_passing (λ n. clears n.event) (numbered_events past) (record { number = last_number past + 1; event = e }) h)
 
 -- another event adds what is found in it, as the newest
 pub visible_after : (found : Event → Option Request) (past : Past) (e : Event) → clears e ≡ false
     → visible found (with_event past e)
     ≡ reverse (filter_map (entry_of found) (after_last (λ n. clears n.event) (numbered_events past))
-        ++ cons_option (entry_of found (record { number = last_number past + 1; event = e })) [])
+    ++ cons_option (entry_of found (record { number = last_number past + 1; event = e })) [])
 visible_after found past e h =
     let last : Numbered = record { number = last_number past + 1; event = e } in
     ap (λ l. reverse (filter_map (entry_of found) (after_last (λ n. clears n.event) l))) (numbered_after past e)

@@ -51,9 +51,9 @@ legal_after meanings past event legal next = record {
   few_live = legal.few_live;
   answers = λ earlier later item e.
       elim (split_last past.events event earlier item later e)
-          as (λ _. IsNext meanings (with_events past earlier) item) [
+      as (λ _. IsNext meanings (with_events past earlier) item) [
         | inl s ↦ subst (λ es. IsNext meanings (with_events past es) item) s.0
             (subst (λ x. IsNext meanings past x) s.1 next)
         | inr s ↦ legal.answers earlier s.0 item s.1
-      ]
+      ];
 }

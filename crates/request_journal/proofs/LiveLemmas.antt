@@ -1,4 +1,5 @@
--- What one more event does to the live mappings and to the states of scenarios, and that a checkpoint changes neither.
+-- What one more event does to the live mappings and to the states of scenarios, and that a checkpoint changes
+-- neither.
 use Rattle.std.proofs.Common.{◌≡◌, ℕ, ◌+◌, Bool, true, false, not, ◌||◌, cond, List, [], ◌∷◌, ◌++◌, length, map, Option}
 use Rattle.std.proofs.Common.{Some, None, refl, sym, ap, ◌∙◌, arith, append-nil, append_assoc}
 use Rattle.std.specs.List.{list_any, filter}
@@ -66,7 +67,7 @@ left_by_append : (es : List Event) (ps qs : List Placed) → left_by es (ps ++ q
 left_by_append es [] qs = refl
 left_by_append es (p ∷ ps) qs =
     elim (is_removed es p.mapping.id)
-        as (λ r. is_removed es p.mapping.id ≡ r → left_by es (p ∷ (ps ++ qs)) ≡ left_by es (p ∷ ps) ++ left_by es qs) [
+    as (λ r. is_removed es p.mapping.id ≡ r → left_by es (p ∷ (ps ++ qs)) ≡ left_by es (p ∷ ps) ++ left_by es qs) [
       | true ↦ λ h. gone es p (ps ++ qs) h ∙ left_by_append es ps qs ∙ sym (ap (λ l. l ++ left_by es qs) (gone es p ps h))
       | false ↦ λ h. kept es p (ps ++ qs) h ∙ ap (λ l. edited es p ∷ l) (left_by_append es ps qs)
           ∙ sym (ap (λ l. l ++ left_by es qs) (kept es p ps h))
@@ -75,14 +76,15 @@ left_by_append es (p ∷ ps) qs =
 edited_one : (es : List Event) (e : Event) (p : Placed) → edited (es ++ e ∷ []) p ≡ edited (e ∷ []) (edited es p)
 edited_one es e p =
     ap (λ spec. record { place = p.place; mapping = record { id = p.mapping.id; spec = spec } })
-        (ap (λ o. unwrap_or o p.mapping.spec) (last_one (edit_of p.mapping.id) es e)
-            ∙ unwrap_or_more (edit_of p.mapping.id e) (last_of (edit_of p.mapping.id) es) p.mapping.spec)
+    (ap (λ o. unwrap_or o p.mapping.spec) (last_one (edit_of p.mapping.id) es e)
+    ∙ unwrap_or_more (edit_of p.mapping.id e) (last_of (edit_of p.mapping.id) es) p.mapping.spec)
 
 removed_one : (es : List Event) (e : Event) (id : List ℕ) (r : Bool) → is_removed es id ≡ r
     → is_removed (es ++ e ∷ []) id ≡ (r || removes e id)
 removed_one es e id r h = any_one (λ x. removes x id) es e ∙ ap (λ b. b || removes e id) h
 
-left_by_one : (es : List Event) (e : Event) (ps : List Placed) → left_by (es ++ e ∷ []) ps ≡ left_by (e ∷ []) (left_by es ps)
+left_by_one
+    : (es : List Event) (e : Event) (ps : List Placed) → left_by (es ++ e ∷ []) ps ≡ left_by (e ∷ []) (left_by es ps)
 left_by_one es e [] = refl
 left_by_one es e (p ∷ ps) =
     let id : List ℕ = p.mapping.id in
@@ -91,14 +93,14 @@ left_by_one es e (p ∷ ps) =
       | true ↦ λ h. gone (es ++ e ∷ []) p ps (removed_one es e id true h) ∙ left_by_one es e ps
           ∙ sym (ap (left_by (e ∷ [])) (gone es p ps h))
       | false ↦ λ h. elim (removes e p.mapping.id) as (λ q. removes e id ≡ q → Goal) [
-          | true ↦ λ g. gone (es ++ e ∷ []) p ps (removed_one es e id false h ∙ g) ∙ left_by_one es e ps
-              ∙ sym (ap (left_by (e ∷ [])) (kept es p ps h)
-                  ∙ gone (e ∷ []) (edited es p) (left_by es ps) (or_false (removes e id) ∙ g))
-          | false ↦ λ g. kept (es ++ e ∷ []) p ps (removed_one es e id false h ∙ g)
-              ∙ (λ i. edited_one es e p i ∷ left_by_one es e ps i)
-              ∙ sym (ap (left_by (e ∷ [])) (kept es p ps h)
-                  ∙ kept (e ∷ []) (edited es p) (left_by es ps) (or_false (removes e id) ∙ g))
-        ] refl
+        | true ↦ λ g. gone (es ++ e ∷ []) p ps (removed_one es e id false h ∙ g) ∙ left_by_one es e ps
+            ∙ sym (ap (left_by (e ∷ [])) (kept es p ps h)
+            ∙ gone (e ∷ []) (edited es p) (left_by es ps) (or_false (removes e id) ∙ g))
+        | false ↦ λ g. kept (es ++ e ∷ []) p ps (removed_one es e id false h ∙ g)
+            ∙ (λ i. edited_one es e p i ∷ left_by_one es e ps i)
+            ∙ sym (ap (left_by (e ∷ [])) (kept es p ps h)
+            ∙ kept (e ∷ []) (edited es p) (left_by es ps) (or_false (removes e id) ∙ g))
+      ] refl
     ] refl
 
 -- what is left of two lists after one more event, and what it adds
@@ -117,10 +119,10 @@ added_by_one defaults number [] e =
     ∙ ap (λ n. adds defaults n e) (omega arith)
 added_by_one defaults number (y ∷ ys) e =
     join_one e (left_by ys (adds defaults number y)) (added_by defaults (number + 1) ys) _ _
-        (adds defaults (number + length (y ∷ ys)) e)
-        (left_by_one ys e (adds defaults number y))
-        (added_by_one defaults (number + 1) ys e
-            ∙ ap (λ n. left_by (e ∷ []) (added_by defaults (number + 1) ys) ++ adds defaults n e) (omega arith))
+    (adds defaults (number + length (y ∷ ys)) e)
+    (left_by_one ys e (adds defaults number y))
+    (added_by_one defaults (number + 1) ys e
+    ∙ ap (λ n. left_by (e ∷ []) (added_by defaults (number + 1) ys) ++ adds defaults n e) (omega arith))
 
 -- ---- the laws
 
@@ -129,11 +131,11 @@ pub live_after : (past : Past) (e : Event)
     → live (with_event past e) ≡ left_by (e ∷ []) (live past) ++ adds past.defaults (last_number past + 1) e
 live_after past e =
     join_one e (left_by past.events past.base.live) (added_by past.defaults (past.base.number + 1) past.events) _ _
-        (adds past.defaults (last_number past + 1) e)
-        (left_by_one past.events e past.base.live)
-        (added_by_one past.defaults (past.base.number + 1) past.events e
-            ∙ ap (λ n. left_by (e ∷ []) (added_by past.defaults (past.base.number + 1) past.events)
-                ++ adds past.defaults n e) (omega arith))
+    (adds past.defaults (last_number past + 1) e)
+    (left_by_one past.events e past.base.live)
+    (added_by_one past.defaults (past.base.number + 1) past.events e
+    ∙ ap (λ n. left_by (e ∷ []) (added_by past.defaults (past.base.number + 1) past.events)
+    ++ adds past.defaults n e) (omega arith))
 
 -- one more event leaves each scenario in the state that it says, if it touches it, else where it was
 pub state_after : (past : Past) (e : Event) (name : List ℕ)

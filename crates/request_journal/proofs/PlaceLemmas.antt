@@ -17,7 +17,8 @@ same_le n = omega arith
 less : (a b c : ℕ) → a ≤ b → b ≤ c → a ≤ c
 less a b c l r = omega arith
 
-both_within : (low high : ℕ) (ps qs : List Placed) → AreWithin low high ps → AreWithin low high qs → AreWithin low high (ps ++ qs)
+both_within
+    : (low high : ℕ) (ps qs : List Placed) → AreWithin low high ps → AreWithin low high qs → AreWithin low high (ps ++ qs)
 both_within low high [] qs h g = g
 both_within low high (p ∷ ps) qs h g = (h.0, h.1, both_within low high ps qs h.2 g)
 
@@ -27,13 +28,14 @@ wider low lower high higher [] l r h = tt
 wider low lower high higher (p ∷ ps) l r h =
     (less lower low p.place.event l h.0, less p.place.event high higher h.1 r, wider low lower high higher ps l r h.2)
 
-left_within : (low high : ℕ) (es : List Event) (ps : List Placed) → AreWithin low high ps → AreWithin low high (left_by es ps)
+left_within
+    : (low high : ℕ) (es : List Event) (ps : List Placed) → AreWithin low high ps → AreWithin low high (left_by es ps)
 left_within low high es [] h = tt
 left_within low high es (p ∷ ps) h =
     elim (is_removed es p.mapping.id)
-        as (λ r. AreWithin low high (map (edited es)
-            (cond (not r) (p ∷ filter (λ q. not (is_removed es q.mapping.id)) ps)
-                (filter (λ q. not (is_removed es q.mapping.id)) ps)))) [
+    as (λ r. AreWithin low high (map (edited es)
+    (cond (not r) (p ∷ filter (λ q. not (is_removed es q.mapping.id)) ps)
+    (filter (λ q. not (is_removed es q.mapping.id)) ps)))) [
       | true ↦ left_within low high es ps h.2
       | false ↦ (h.0, h.1, left_within low high es ps h.2)
     ]
@@ -42,8 +44,8 @@ placed_within : (number index : ℕ) (ms : List Mapping) → AreWithin number nu
 placed_within number index [] = tt
 placed_within number index (m ∷ ms) =
     elim (has_id ms m.id)
-        as (λ b. AreWithin number number (cond b (placed_from number (index + 1) ms)
-            (record { place = record { event = number; index = index }; mapping = m } ∷ placed_from number (index + 1) ms))) [
+    as (λ b. AreWithin number number (cond b (placed_from number (index + 1) ms)
+    (record { place = record { event = number; index = index }; mapping = m } ∷ placed_from number (index + 1) ms))) [
       | true ↦ placed_within number (index + 1) ms
       | false ↦ (same_le number, same_le number, placed_within number (index + 1) ms)
     ]
@@ -53,7 +55,7 @@ added_within : (defaults : List Mapping) (number : ℕ) (es : List Event)
 added_within defaults number [] = tt
 added_within defaults number (e ∷ es) =
     both_within number (number + length (e ∷ es)) (left_by es (adds defaults number e)) (added_by defaults (number + 1) es)
-        (wider number number number (number + length (e ∷ es)) (left_by es (adds defaults number e)) (same_le number) (omega arith)
-            (left_within number number es (adds defaults number e) (placed_within number 0 (added_mappings defaults e))))
-        (wider (number + 1) number (number + 1 + length es) (number + length (e ∷ es)) (added_by defaults (number + 1) es)
-            (omega arith) (omega arith) (added_within defaults (number + 1) es))
+    (wider number number number (number + length (e ∷ es)) (left_by es (adds defaults number e)) (same_le number) (omega arith)
+    (left_within number number es (adds defaults number e) (placed_within number 0 (added_mappings defaults e))))
+    (wider (number + 1) number (number + 1 + length es) (number + length (e ∷ es)) (added_by defaults (number + 1) es)
+    (omega arith) (omega arith) (added_within defaults (number + 1) es))

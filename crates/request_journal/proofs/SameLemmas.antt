@@ -1,4 +1,5 @@
--- Two pasts that agree on the live mappings agree on them after the same events, whatever each has dropped; so with states.
+-- Two pasts that agree on the live mappings agree on them after the same events, whatever each has dropped; so
+-- with states.
 use Rattle.std.proofs.Common.{◌≡◌, ℕ, ◌+◌, List, [], ◌∷◌, ◌++◌, length, sym, ap, ◌∙◌, arith, append-nil, append_assoc}
 use Rattle.std.proofs.Common.{length-append}
 use Rattle.std.specs.Option.{unwrap_or}
@@ -29,9 +30,9 @@ live_from [] old new l d n =
 live_from (e ∷ es) old new l d n =
     ap (λ x. live (with_events new x)) (sym (append_assoc new.events (e ∷ []) es))
     ∙ live_from es (with_event old e) (with_event new e)
-        (live_after new e ∙ (λ i. left_by (e ∷ []) (l i) ++ adds (d i) (n i + 1) e) ∙ sym (live_after old e))
-        d
-        (number_after new e ∙ ap (λ k. k + 1) n ∙ sym (number_after old e))
+    (live_after new e ∙ (λ i. left_by (e ∷ []) (l i) ++ adds (d i) (n i + 1) e) ∙ sym (live_after old e))
+    d
+    (number_after new e ∙ ap (λ k. k + 1) n ∙ sym (number_after old e))
     ∙ ap (λ x. live (with_events old x)) (append_assoc old.events (e ∷ []) es)
 
 pub state_from : (es : List Event) (name : List ℕ) (old new : Past) → state new name ≡ state old name
@@ -42,7 +43,7 @@ state_from [] name old new s =
 state_from (e ∷ es) name old new s =
     ap (λ x. state (with_events new x) name) (sym (append_assoc new.events (e ∷ []) es))
     ∙ state_from es name (with_event old e) (with_event new e)
-        (state_after new e name ∙ ap (unwrap_or (touch name e)) s ∙ sym (state_after old e name))
+    (state_after new e name ∙ ap (unwrap_or (touch name e)) s ∙ sym (state_after old e name))
     ∙ ap (λ x. state (with_events old x) name) (append_assoc old.events (e ∷ []) es)
 
 -- what is dropped at a checkpoint changes nothing of what comes after

@@ -1,6 +1,6 @@
--- Which mapping is chosen for a request (WireMock's documentation, "Stubbing", on priority, and "Stateful Behaviour"): of
--- the eligible live ones that of the least priority number, and of these the newest. Which requests a matcher is met by is
--- handed over as `Meets`.
+-- Which mapping is chosen for a request (WireMock's documentation, "Stubbing", on priority, and "Stateful
+-- Behaviour"): of the eligible live ones that of the least priority number, and of these the newest. Which
+-- requests a matcher is met by is handed over as `Meets`.
 use Rattle.std.specs.Prelude.{◌≡◌, ◌⊎◌, ◌<◌, ◌<ℤ◌, Contains, Option, Some, None, IfSome}
 use Rattle.mapping_model.specs.Priority.{priority_of}
 use Rattle.mapping_model.specs.declared.request_spec.RequestSpec.{RequestSpec}

@@ -31,8 +31,8 @@ unmatched_of other = None
 abbrev pub visible : (Event → Option Request) → Past → List Entry
 visible found past =
     reverse (filter_map
-        (λ n. option_map (λ r. record { number = n.number; request = r }) (found n.event))
-        (after_last (λ n. clears n.event) (numbered_events past)))
+    (λ n. option_map (λ r. record { number = n.number; request = r }) (found n.event))
+    (after_last (λ n. clears n.event) (numbered_events past)))
 
 -- all requests, however they were answered
 abbrev pub requests : Past → List Entry

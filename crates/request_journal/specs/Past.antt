@@ -1,5 +1,5 @@
--- The past of a book: the mappings that it was opened with, and the events since. Those before a checkpoint are dropped;
--- a base says what they left.
+-- The past of a book: the mappings that it was opened with, and the events since. Those before a checkpoint are
+-- dropped; a base says what they left.
 use Rattle.std.specs.Prelude.{ℕ, ◌+◌, Bool, List, [], ◌∷◌, ◌++◌, length, Option, None, unwrap_or, cond}
 use Rattle.std.specs.FinMap as map
 use Rattle.std.specs.List.{list_any}
@@ -13,8 +13,8 @@ use Rattle.request_journal.specs.declared.mapping.Mapping.{Mapping}
 use Rattle.request_journal.specs.declared.recording.Exchange.{Exchange}
 use Rattle.request_journal.specs.declared.recording.RecordingStart.{RecordingStart}
 
--- where a mapping came into the book: the number of the event that added it (the opening number for the mappings of the
--- opening), and its index among the mappings of that event
+-- where a mapping came into the book: the number of the event that added it (the opening number for the mappings
+-- of the opening), and its index among the mappings of that event
 pub record Place : Type 0 where
   pub event : ℕ
   pub index : ℕ
@@ -23,16 +23,16 @@ pub record Placed : Type 0 where
   pub place : Place
   pub mapping : Mapping
 
--- a recording: the number of the event that started it, how it was started, the exchanges that it has taken, oldest first,
--- and whether it is still on
+-- a recording: the number of the event that started it, how it was started, the exchanges that it has taken,
+-- oldest first, and whether it is still on
 pub record Recording : Type 0 where
   pub number : ℕ
   pub start : RecordingStart
   pub exchanges : List Exchange
   pub is_on : Bool
 
--- what the events up to a number left: the live mappings in order of their places, the states of scenarios, and the last
--- recording
+-- what the events up to a number left: the live mappings in order of their places, the states of scenarios, and
+-- the last recording
 pub record Base : Type 0 where
   pub number : ℕ
   pub live : List Placed
@@ -55,8 +55,8 @@ abbrev pub placed_from : ℕ → ℕ → List Mapping → List Placed
 placed_from number index [] = []
 placed_from number index (m ∷ ms) =
     cond (has_id ms m.id)
-        (placed_from number (index + 1) ms)
-        (record { place = record { event = number; index = index }; mapping = m } ∷ placed_from number (index + 1) ms)
+    (placed_from number (index + 1) ms)
+    (record { place = record { event = number; index = index }; mapping = m } ∷ placed_from number (index + 1) ms)
 
 -- mappings that a book is opened with, from an index on: those without an id get that of their index
 abbrev pub defaults_from : ℕ → List MappingSpec → List Mapping

@@ -28,14 +28,14 @@ switch other = None
 abbrev pub started_by : Numbered → Option Recording
 started_by numbered =
     option_map (λ start. record { number = numbered.number; start = start; exchanges = []; is_on = true })
-        (start_of numbered.event)
+    (start_of numbered.event)
 
 -- a recording after these events, of which the last start, if there is one, started it
 abbrev pub continued : List Event → Recording → Recording
 continued events recording = record recording {
-    exchanges = recording.exchanges ++ filter_map exchange_of (after_last (λ e. is_some (start_of e)) events);
-    is_on = unwrap_or (last_of switch events) recording.is_on
-  }
+  exchanges = recording.exchanges ++ filter_map exchange_of (after_last (λ e. is_some (start_of e)) events);
+  is_on = unwrap_or (last_of switch events) recording.is_on;
+}
 
 -- the last recording, on or stopped
 abbrev pub recording : Past → Option Recording

@@ -47,8 +47,8 @@ impl ServeAnswer {
     }
 }
 
-/// One change of the book that was accepted, or one request that was served: what was asked for, and what was answered. An
-/// event that says no answer was answered with nothing else.
+/// One change of the book that was accepted, or one request that was served: what was asked for, and what was
+/// answered. An event that says no answer was answered with nothing else.
 #[derive(Drop)]
 pub enum Event {
     Serve {
