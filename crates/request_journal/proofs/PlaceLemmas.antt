@@ -1,8 +1,8 @@
 -- What events add has places of these events alone. So no event of another number gives the same place.
-use Rattle.std.proofs.Common.{ℕ, ◌+◌, ◌≤◌, true, false, not, cond, List, [], ◌∷◌, ◌++◌, length, map, arith}
+use Rattle.std.proofs.Common.{ℕ, ◌+◌, ◌-◌, ◌≤◌, true, false, not, cond, List, [], ◌∷◌, ◌++◌, length, map, arith}
 use Rattle.std.specs.List.{filter}
-use Rattle.request_journal.specs.Live.{adds, added_by, added_mappings, edited, is_removed, left_by}
-use Rattle.request_journal.specs.Past.{Placed, has_id, placed_from}
+use Rattle.request_journal.specs.Live.{live, adds, added_by, added_mappings, edited, is_removed, left_by}
+use Rattle.request_journal.specs.Past.{Past, Placed, has_id, placed_from, last_number}
 use Rattle.request_journal.specs.declared.event.Event.{Event}
 use Rattle.request_journal.specs.declared.mapping.Mapping.{Mapping}
 
@@ -50,12 +50,27 @@ placed_within number index (m ∷ ms) =
       | false ↦ (same_le number, same_le number, placed_within number (index + 1) ms)
     ]
 
-added_within : (defaults : List Mapping) (number : ℕ) (es : List Event)
-    → AreWithin number (number + length es) (added_by defaults number es)
+pub added_within : (defaults : List Mapping) (number : ℕ) (es : List Event)
+    → AreWithin number (number + length es - 1) (added_by defaults number es)
 added_within defaults number [] = tt
 added_within defaults number (e ∷ es) =
-    both_within number (number + length (e ∷ es)) (left_by es (adds defaults number e)) (added_by defaults (number + 1) es)
-    (wider number number number (number + length (e ∷ es)) (left_by es (adds defaults number e)) (same_le number) (omega arith)
-    (left_within number number es (adds defaults number e) (placed_within number 0 (added_mappings defaults e))))
-    (wider (number + 1) number (number + 1 + length es) (number + length (e ∷ es)) (added_by defaults (number + 1) es)
-    (omega arith) (omega arith) (added_within defaults (number + 1) es))
+    let first : List Placed = left_by es (adds defaults number e) in
+    let others : List Placed = added_by defaults (number + 1) es in
+    both_within number (number + length (e ∷ es) - 1) first others
+        (wider number number number (number + length (e ∷ es) - 1) first (same_le number) (omega arith)
+            (left_within number number es (adds defaults number e)
+                (placed_within number 0 (added_mappings defaults e))))
+        (wider (number + 1) number (number + 1 + length es - 1) (number + length (e ∷ es) - 1) others
+            (omega arith) (omega arith) (added_within defaults (number + 1) es))
+
+-- no live mapping is newer than the last event, so the next one gives new places
+pub live_within : (low : ℕ) (past : Past) → low ≤ past.base.number → AreWithin low past.base.number past.base.live
+    → AreWithin low (last_number past) (live past)
+live_within low past l h =
+    let number : ℕ = past.base.number in
+    both_within low (last_number past) (left_by past.events past.base.live) (added_by past.defaults (number + 1) past.events)
+        (wider low low number (last_number past) (left_by past.events past.base.live) (same_le low) (omega arith)
+            (left_within low number past.events past.base.live h))
+        (wider (number + 1) low (number + 1 + length past.events - 1) (last_number past)
+            (added_by past.defaults (number + 1) past.events) (omega arith) (omega arith)
+            (added_within past.defaults (number + 1) past.events))
