@@ -1,0 +1,186 @@
+-- Small pasts that the definitions read as they should: ids are short texts, and the mappings are any.
+use Rattle.std.proofs.Common.{◌≡◌, inl, inr, ℕ, true, false, List, [], ◌∷◌, Some, None, refl, codes, arith}
+use Rattle.std.specs.Prelude.{◌<ℤ◌}
+use Rattle.mapping_model.specs.Priority.{priority_of}
+use Rattle.mapping_model.specs.declared.mapping_spec.MappingSpec.{MappingSpec}
+use Rattle.mock_request.specs.Request.{Request}
+use Rattle.scenario_core.specs.Scenarios.{States, started}
+use Rattle.request_journal.specs.Choice.{WinsOver}
+use Rattle.request_journal.specs.Journal.{requests, unmatched, event_at}
+use Rattle.request_journal.specs.Live.{live}
+use Rattle.request_journal.specs.Past.{Past, Placed, opening_base, last_number}
+use Rattle.request_journal.specs.Recording.{recording}
+use Rattle.request_journal.specs.State.{state}
+use Rattle.request_journal.specs.declared.event.Event.{Event}
+use Rattle.request_journal.specs.declared.event.Event.TheVariants as event
+use Rattle.request_journal.specs.declared.event.ServeAnswer.TheVariants.{Stub, Proxy, Unmatched}
+use Rattle.request_journal.specs.declared.mapping.Mapping.{Mapping}
+use Rattle.request_journal.specs.declared.recording.Exchange.{Exchange}
+use Rattle.request_journal.specs.declared.recording.RecordingStart.{RecordingStart}
+use Rattle.request_journal.specs.declared.recording.Target.{Target}
+
+-- a book opened at 0
+abbrev book : List Mapping → List Event → Past
+book defaults events = record { opening = 0; defaults = defaults; base = opening_base 0 defaults; events = events }
+
+abbrev named : List ℕ → MappingSpec → Mapping
+named id spec = record { id = id; spec = spec }
+
+abbrev at : ℕ → ℕ → List ℕ → MappingSpec → Placed
+at number index id spec = record { place = record { event = number; index = index }; mapping = named id spec }
+
+abbrev a : List ℕ
+a = codes "a"
+
+abbrev b : List ℕ
+b = codes "b"
+
+-- ---- live mappings
+
+module _ (s t u : MappingSpec) where
+  added_in_order : live (book [] (event.Add (named a s) ∷ event.Add (named b t) ∷ [])) ≡ at 1 0 a s ∷ at 2 0 b t ∷ []
+  added_in_order = refl
+
+  edit_keeps_the_place
+      : live (book [] (event.Add (named a s) ∷ event.Add (named b t) ∷ event.Edit a u ∷ []))
+      ≡ at 1 0 a u ∷ at 2 0 b t ∷ []
+  edit_keeps_the_place = refl
+
+  held_id_gets_a_new_place
+      : live (book [] (event.Add (named a s) ∷ event.Add (named b t) ∷ event.Add (named a u) ∷ []))
+      ≡ at 2 0 b t ∷ at 3 0 a u ∷ []
+  held_id_gets_a_new_place = refl
+
+  -- an edit says nothing of a mapping that is added later with the same id
+  edit_is_forgotten
+      : live (book [] (event.Add (named a s) ∷ event.Edit a t ∷ event.Delete a ∷ event.Add (named a u) ∷ []))
+      ≡ at 4 0 a u ∷ []
+  edit_is_forgotten = refl
+
+  default_is_deleted : live (book (named a s ∷ named b t ∷ []) (event.Delete a ∷ [])) ≡ at 0 1 b t ∷ []
+  default_is_deleted = refl
+
+  reset_brings_the_defaults_back
+      : live (book (named a s ∷ []) (event.Edit a t ∷ event.Add (named b u) ∷ event.Delete a ∷ event.ResetMappings ∷ []))
+      ≡ at 4 0 a s ∷ []
+  reset_brings_the_defaults_back = refl
+
+  all_are_deleted : live (book (named a s ∷ []) (event.Add (named b u) ∷ event.DeleteAll ∷ [])) ≡ []
+  all_are_deleted = refl
+
+  -- of two defaults with one id the later
+  later_default : live (book (named a s ∷ named a t ∷ []) []) ≡ at 0 1 a t ∷ []
+  later_default = refl
+
+  stop_adds_in_order
+      : live (book [] (event.Add (named a s) ∷ event.StopRecording (named b t ∷ named a u ∷ []) 0 ∷ []))
+      ≡ at 2 0 b t ∷ at 2 1 a u ∷ []
+  stop_adds_in_order = refl
+
+-- ---- scenarios
+
+-- a mapping that moves the scenario `a` to the state
+abbrev moving : MappingSpec → List ℕ → MappingSpec
+moving s next = record s { scenario = Some (record { name = a; required = None; next = Some next }) }
+
+module _ (s : MappingSpec) (r : Request) where
+  abbrev serve_moving : List ℕ → Event
+  serve_moving next = event.Serve r (Stub (record { mapping = named b (moving s next) }))
+
+  last_move : state (book [] (serve_moving (codes "2") ∷ serve_moving (codes "3") ∷ event.DeleteAll ∷ [])) a ≡ codes "3"
+  last_move = refl
+
+  set_after_move
+      : state (book [] (serve_moving (codes "2") ∷ event.SetScenario a (codes "4") ∷ event.SetScenario b (codes "5") ∷ [])) a
+      ≡ codes "4"
+  set_after_move = refl
+
+  reset_after_move : state (book [] (serve_moving (codes "2") ∷ event.ResetScenarios ∷ [])) a ≡ started
+  reset_after_move = refl
+
+  mappings_reset_alone : state (book [] (serve_moving (codes "2") ∷ event.ResetMappings ∷ [])) a ≡ codes "2"
+  mappings_reset_alone = refl
+
+-- ---- journal and checkpoints
+
+-- add, serve, serve, clear, serve: the first three are dropped, and what they left stays
+module _ (s : MappingSpec) (r : Request) (states : States) where
+  abbrev cleared : Past
+  cleared = record {
+    opening = 0;
+    defaults = [];
+    base = record { number = 3; live = at 1 0 b s ∷ []; states = states; recording = None };
+    events = event.ClearJournal ∷ event.Serve r Unmatched ∷ [];
+  }
+
+  numbers_go_on : last_number cleared ≡ 5
+  numbers_go_on = refl
+
+  dropped : event_at cleared 3 ≡ None
+  dropped = refl
+
+  clear_is_kept : event_at cleared 4 ≡ Some event.ClearJournal
+  clear_is_kept = refl
+
+  mappings_stay : live cleared ≡ at 1 0 b s ∷ []
+  mappings_stay = refl
+
+  one_request : requests cleared ≡ record { number = 5; request = r } ∷ []
+  one_request = refl
+
+module _ (r q : Request) (target : Target) where
+  newest_first
+      : requests (book [] (event.Serve q Unmatched ∷ event.ClearJournal ∷ event.Serve r Unmatched
+      ∷ event.Serve q (Proxy target) ∷ []))
+      ≡ record { number = 4; request = q } ∷ record { number = 3; request = r } ∷ []
+  newest_first = refl
+
+  proxied_is_not_unmatched
+      : unmatched (book [] (event.Serve q Unmatched ∷ event.ClearJournal ∷ event.Serve r Unmatched
+      ∷ event.Serve q (Proxy target) ∷ []))
+      ≡ record { number = 3; request = r } ∷ []
+  proxied_is_not_unmatched = refl
+
+-- ---- recordings
+
+module _ (start : RecordingStart) (x y : Exchange) where
+  started_and_stopped
+      : recording (book [] (event.ClearJournal ∷ event.StartRecording start ∷ event.Record 3 x ∷ event.Record 4 y
+      ∷ event.StopRecording [] 2 ∷ []))
+      ≡ Some (record { number = 2; start = start; exchanges = x ∷ y ∷ []; is_on = false })
+  started_and_stopped = refl
+
+  -- a second start forgets the first recording's exchanges
+  started_again
+      : recording (book [] (event.StartRecording start ∷ event.Record 1 x ∷ event.StopRecording [] 1
+      ∷ event.StartRecording start ∷ event.Record 4 y ∷ []))
+      ≡ Some (record { number = 4; start = start; exchanges = y ∷ []; is_on = true })
+  started_again = refl
+
+  -- a record whose serve was dropped with a checkpoint joins the base's recording
+  recorded_after_a_clear : (states : States)
+      → recording (record {
+        opening = 0;
+        defaults = [];
+        base = record {
+          number = 2;
+          live = [];
+          states = states;
+          recording = Some (record { number = 1; start = start; exchanges = x ∷ []; is_on = true });
+        };
+        events = event.ClearJournal ∷ event.Record 2 y ∷ [];
+      })
+      ≡ Some (record { number = 1; start = start; exchanges = x ∷ y ∷ []; is_on = true })
+  recorded_after_a_clear states = refl
+
+-- ---- choice
+
+module _ (s t : MappingSpec) where
+  newest_of_equals : priority_of t.priority ≡ priority_of s.priority → WinsOver (at 2 0 b t) (at 1 0 a s)
+  newest_of_equals same = inr (same, inl (omega arith))
+
+  later_of_one_event : priority_of t.priority ≡ priority_of s.priority → WinsOver (at 2 1 b t) (at 2 0 a s)
+  later_of_one_event same = inr (same, inr (refl, omega arith))
+
+  least_number : priority_of s.priority <ℤ priority_of t.priority → WinsOver (at 1 0 a s) (at 2 0 b t)
+  least_number less = inl less

@@ -1,0 +1,7 @@
+pub mod Examples
+pub mod LiveLemmas
+pub mod LegalLemmas
+pub mod CheckpointLemmas
+pub mod JournalLemmas
+pub mod PlaceLemmas
+pub mod SameLemmas

@@ -1,0 +1,10 @@
+// The past of a book of stub mappings: the events that changed it and their answers, and what they mean: which
+// mappings are live, in which state each scenario is, which recording there is, what the journal shows, and which
+// mapping is chosen for a request. Its contracts cite `specs/Past.antt`, `specs/Live.antt`, `specs/State.antt`,
+// `specs/Recording.antt`, `specs/Journal.antt`, `specs/Choice.antt` and `specs/Legal.antt`.
+#![tactic(auto)]
+
+pub mod event;
+pub mod mapping;
+pub mod recording;
+pub mod shared;
