@@ -36,6 +36,10 @@ authority_of rest = before_first is_slash rest
 abbrev pub prefix_of : List ℕ → List ℕ
 prefix_of rest = after_first is_slash rest
 
+-- from that slash on
+abbrev pub path_of : List ℕ → List ℕ
+path_of rest = drop (length (authority_of rest)) rest
+
 -- one to five digits, at most 65535
 abbrev pub is_port : List ℕ → Bool
 is_port bs =
@@ -82,6 +86,6 @@ target_host text = host_of (authority_of (after_scheme text))
 abbrev pub target_port : List ℕ → ℕ
 target_port text = port_of (authority_of (after_scheme text))
 
--- what is between the slash after the host and port, and a slash at the end
+-- from the slash after the host and port on, but without a slash at the end
 abbrev pub target_prefix : List ℕ → List ℕ
-target_prefix text = without_last_slash (prefix_of (after_scheme text))
+target_prefix text = without_last_slash (path_of (after_scheme text))

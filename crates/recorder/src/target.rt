@@ -4,7 +4,7 @@ ghost use Rattle.recorder.specs.Target.{IsTarget, after_scheme, target_host, tar
 
 use crate::error::RecordingError;
 use crate::target_text::{
-    after_scheme, host_and_port, is_target, split_prefix, without_last_slash,
+    after_scheme, host_and_port, is_target, path, split_prefix, without_last_slash,
 };
 use plain_text::text::Text;
 use std::alloc::{AllocError, Global};
@@ -68,12 +68,12 @@ impl Target {
         port
     }
 
-    /// What is written after the slash that ends the host and port, without a slash at its end.
+    /// What is written after the host and port, from its slash on, but without a slash at its end: what a forwarded URL has
+    /// before the request's.
     pub fn prefix(&self) -> &str
         ensures { result.now ≡ target_prefix self.now }
     {
-        let (_authority, prefix) = split_prefix(self.rest());
-        without_last_slash(prefix)
+        without_last_slash(path(self.rest()))
     }
 
     fn rest(&self) -> &str

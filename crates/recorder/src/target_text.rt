@@ -5,7 +5,7 @@ ghost use Rattle.std.specs.Str.Parse.{digits_value};
 ghost use Rattle.std.specs.Net.Grammar.{IsIpv4Text, IsIpv6Text};
 ghost use Rattle.std.specs.declared.net.ipv4_addr.Ipv4Addr.{Ipv4Addr};
 ghost use Rattle.std.specs.declared.net.ipv6_addr.Ipv6Addr.{Ipv6Addr};
-ghost use Rattle.recorder.specs.Target.{scheme, after_scheme, authority_of, prefix_of, is_port, host_of, port_of};
+ghost use Rattle.recorder.specs.Target.{scheme, after_scheme, authority_of, prefix_of, path_of, is_port, host_of, port_of};
 ghost use Rattle.recorder.specs.Target.{IsBracketed, IsHost, is_prefix_byte, IsTarget, without_last_slash};
 
 use std::net::{Ipv4Addr, Ipv6Addr};
@@ -45,12 +45,23 @@ pub(crate) fn split_prefix(rest: &str) -> (&str, &str)
     }
 }
 
-pub(crate) fn without_last_slash(prefix: &str) -> &str
-    ensures { result.now ≡ without_last_slash prefix.now }
+/// From the first slash on.
+pub(crate) fn path(rest: &str) -> &str
+    ensures { result.now ≡ path_of rest.now }
 {
-    match prefix.strip_suffix('/') {
+    let (authority, _prefix) = split_prefix(rest);
+    match rest.strip_prefix(authority) {
+        Some(path) => path,
+        None => unreachable!(),
+    }
+}
+
+pub(crate) fn without_last_slash(path: &str) -> &str
+    ensures { result.now ≡ without_last_slash path.now }
+{
+    match path.strip_suffix('/') {
         Some(front) => front,
-        None => prefix,
+        None => path,
     }
 }
 
