@@ -117,8 +117,8 @@ impl Recording {
         Ok(())
     }
 
-    /// Takes the exchange of the request whose event has that number. One that was served before the recording was started
-    /// is refused.
+    /// Takes the exchange of the request whose event has that number. One that was served before the recording was
+    /// started is refused.
     pub fn take(&mut self, number: u64, exchange: SharedExchange) -> Result<(), RecordingError>
         ensures ok { OnOk result (HasTaken self.old self.new exchange) }
         ensures err { OnErr result (self.new ≡ self.old) }

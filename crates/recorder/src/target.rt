@@ -68,8 +68,8 @@ impl Target {
         port
     }
 
-    /// What is written after the host and port, from its slash on, but without a slash at its end: what a forwarded URL has
-    /// before the request's.
+    /// What is written after the host and port, from its slash on, but without a slash at its end: what a forwarded URL
+    /// has before the request's.
     pub fn prefix(&self) -> &str
         ensures { result.now ≡ target_prefix self.now }
     {
