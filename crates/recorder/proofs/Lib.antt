@@ -1,0 +1,4 @@
+pub mod LastLemmas
+pub mod AuthorityLemmas
+pub mod TargetLemmas
+pub mod KeyLemmas

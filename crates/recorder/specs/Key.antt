@@ -1,0 +1,33 @@
+-- By what requests are grouped.
+use Rattle.std.specs.Prelude.{ℕ, List, map}
+use Rattle.std.specs.Borrow.{Bor}
+use Rattle.std.specs.List.{filter, flat_map}
+use Rattle.std.specs.Str.{bytes_eq}
+use Rattle.mock_request.specs.Request.{Header, Request}
+
+-- the headers of a name, in their order
+abbrev pub headers_named : List ℕ → List Header → List Header
+headers_named name headers = filter (λ header. bytes_eq name header.name) headers
+
+-- for each captured name the headers of that name
+abbrev pub captured_headers : List (List ℕ) → List Header → List Header
+captured_headers captured headers = flat_map (λ name. headers_named name headers) captured
+
+-- names and values that are lent
+abbrev pub fields_of : List (Bor (List ℕ) × Bor (List ℕ)) → List Header
+fields_of fields = map (λ field. record { name = field.0.now; value = field.1.now }) fields
+
+-- method, URL, captured headers, body
+pub record KeyParts : Type 0 where
+  pub method : List ℕ
+  pub url : List ℕ
+  pub headers : List Header
+  pub body : List ℕ
+
+abbrev pub key_of : Request → List (List ℕ) → KeyParts
+key_of request captured = record {
+  method = request.method;
+  url = request.url;
+  headers = captured_headers captured request.headers;
+  body = request.body;
+}

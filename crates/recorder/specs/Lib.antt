@@ -1,0 +1,4 @@
+pub mod Target
+pub mod Recording
+pub mod Key
+pub mod Errors
