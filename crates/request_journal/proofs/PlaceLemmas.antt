@@ -57,11 +57,11 @@ added_within defaults number (e ∷ es) =
     let first : List Placed = left_by es (adds defaults number e) in
     let others : List Placed = added_by defaults (number + 1) es in
     both_within number (number + length (e ∷ es) - 1) first others
-        (wider number number number (number + length (e ∷ es) - 1) first (same_le number) (omega arith)
-            (left_within number number es (adds defaults number e)
-                (placed_within number 0 (added_mappings defaults e))))
-        (wider (number + 1) number (number + 1 + length es - 1) (number + length (e ∷ es) - 1) others
-            (omega arith) (omega arith) (added_within defaults (number + 1) es))
+    (wider number number number (number + length (e ∷ es) - 1) first (same_le number) (omega arith)
+    (left_within number number es (adds defaults number e)
+    (placed_within number 0 (added_mappings defaults e))))
+    (wider (number + 1) number (number + 1 + length es - 1) (number + length (e ∷ es) - 1) others
+    (omega arith) (omega arith) (added_within defaults (number + 1) es))
 
 -- no live mapping is newer than the last event, so the next one gives new places
 pub live_within : (low : ℕ) (past : Past) → low ≤ past.base.number → AreWithin low past.base.number past.base.live
@@ -69,8 +69,8 @@ pub live_within : (low : ℕ) (past : Past) → low ≤ past.base.number → Are
 live_within low past l h =
     let number : ℕ = past.base.number in
     both_within low (last_number past) (left_by past.events past.base.live) (added_by past.defaults (number + 1) past.events)
-        (wider low low number (last_number past) (left_by past.events past.base.live) (same_le low) (omega arith)
-            (left_within low number past.events past.base.live h))
-        (wider (number + 1) low (number + 1 + length past.events - 1) (last_number past)
-            (added_by past.defaults (number + 1) past.events) (omega arith) (omega arith)
-            (added_within past.defaults (number + 1) past.events))
+    (wider low low number (last_number past) (left_by past.events past.base.live) (same_le low) (omega arith)
+    (left_within low number past.events past.base.live h))
+    (wider (number + 1) low (number + 1 + length past.events - 1) (last_number past)
+    (added_by past.defaults (number + 1) past.events) (omega arith) (omega arith)
+    (added_within past.defaults (number + 1) past.events))
