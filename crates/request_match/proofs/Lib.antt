@@ -1,0 +1,3 @@
+pub mod AnyLemmas
+pub mod FaultLemmas
+pub mod RestLemmas
