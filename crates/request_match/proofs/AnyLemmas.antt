@@ -6,7 +6,7 @@ module _ {X : Type 0} (P : X → Type 0) where
   any_here v vs p = (0, v, omega arith, refl, p)
 
   pub any_there : (v : X) (vs : List X) → Any P vs → Any P (v ∷ vs)
-  any_there v vs a = let within = a.2.0 in (suc a.0, a.1, omega arith, a.2.1, a.2.2)
+  any_there v vs a = let within = a.2 in (suc a.0, a.1, omega arith, a.3, a.4)
 
   at_index : (v : X) (vs : List X) (k : ℕ) (x : X) → k < length (v ∷ vs) → get_or (v ∷ vs) k x ≡ x → P x →
       P v ⊎ Any P vs
@@ -14,10 +14,10 @@ module _ {X : Type 0} (P : X → Type 0) where
   at_index v vs (suc k) x within is p = inr (k, x, omega arith, is, p)
 
   pub any_cases : (v : X) (vs : List X) → Any P (v ∷ vs) → P v ⊎ Any P vs
-  any_cases v vs a = at_index v vs a.0 a.1 a.2.0 a.2.1 a.2.2
+  any_cases v vs a = at_index v vs a.0 a.1 a.2 a.3 a.4
 
   pub none_in_empty : ¬ (Any P [])
-  none_in_empty a = let within = a.2.0 in absurd (omega arith)
+  none_in_empty a = let within = a.2 in absurd (omega arith)
 
   pub any_left : (xs ys : List X) → Any P xs → Any P (xs ++ ys)
   any_left [] ys a = absurd (none_in_empty a)

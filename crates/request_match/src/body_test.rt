@@ -58,7 +58,7 @@ impl BodyTest {
         })
     }
 
-    fn meets(&mut self, alloc: Global, request: &mut ParsedRequest<'_>) -> Result<bool, AllocError>
+    fn meets(&mut self, request: &mut ParsedRequest<'_>) -> Result<bool, AllocError>
         ensures answer { IfOk result (λ yes. IsTrue yes ↔ MeetsBody self.old request.old.body) }
         ensures same { self.new ≡ self.old }
         ensures same_request { request.new ≡ request.old }
@@ -68,14 +68,8 @@ impl BodyTest {
             BodyKind::BinaryEqualTo(bytes) => {
                 Ok(request.values().snapshot().body() == bytes.as_slice())
             }
-            BodyKind::Json(matcher) => match request.json()? {
-                Some(data) => matcher.matches(data),
-                None => Ok(false),
-            },
-            BodyKind::JsonPath(_, path, matcher) => match request.json()? {
-                Some(data) => meets_found(alloc, matcher, data.at(path.steps())),
-                None => Ok(false),
-            },
+            BodyKind::Json(matcher) => request.meets_json(matcher),
+            BodyKind::JsonPath(_, path, matcher) => request.meets_at(path, matcher),
         }
     }
 }
@@ -145,7 +139,6 @@ fn push(tests: &mut Vec<BodyTest>, test: BodyTest) -> Result<(), AllocError>
 /// Whether the body meets each test.
 pub(crate) fn meet_body(
     tests: &mut [BodyTest],
-    alloc: Global,
     request: &mut ParsedRequest<'_>,
 ) -> Result<bool, AllocError>
     ensures answer { IfOk result (λ yes. IsTrue yes
@@ -154,7 +147,7 @@ pub(crate) fn meet_body(
     ensures same_request { request.new ≡ request.old }
 {
     for i in 0..tests.len() {
-        if !tests[i].meets(alloc, request)? {
+        if !tests[i].meets(request)? {
             return Ok(false);
         }
     }
@@ -173,13 +166,13 @@ fn meets_text(matcher: &mut ValueMatcher, request: &RequestValues<'_>) -> Result
 }
 
 /// Whether the printed text of what a path finds meets the matcher.
-fn meets_found(
+pub(crate) fn meets_found(
     alloc: Global,
     matcher: &mut ValueMatcher,
     found: Option<&Data>,
 ) -> Result<bool, AllocError>
     ensures answer { IfOk result (λ yes. IsTrue yes ↔ value.Matches matcher.old
-        (found_text (option_map_or (λ data. view data.now) found.entry nothing))) }
+        (found_text (option_map_or (λ d. view d.now) found.entry nothing))) }
     ensures same { matcher.new ≡ matcher.old }
 {
     match found {

@@ -129,7 +129,7 @@ fn meets_any(
 {
     let mut found = false;
     for (key, value) in pairs {
-        if key.as_str() == name {
+        if name == key.as_str() {
             if matcher.matches(Some(value.as_str()))? {
                 return Ok(true);
             }

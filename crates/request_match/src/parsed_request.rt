@@ -1,16 +1,23 @@
 // A request as matchers read it.
-ghost use Rattle.std.specs.Prelude.{◌≡◌, IfOk, IfSome, option_map};
+ghost use Rattle.std.specs.Prelude.{◌≡◌, ◌↔◌, IfOk, IfSome, IsSomeAnd, IsTrue, OnOk};
 ghost use Rattle.std.specs.Str.Lossy.{utf8_lossy};
-ghost use Rattle.data_tree.specs.Tree.{view};
-ghost use Rattle.data_tree.specs.WellFormed.{IsWellFormed};
+ghost use Rattle.data_tree.specs.LookUp.{at};
 ghost use Rattle.json_bridge.specs.Reading.{tree_of_text};
+ghost use Rattle.json_match.specs.Matching as json;
+ghost use Rattle.request_match.specs.Inner.Read.{IsReadOf};
+ghost use Rattle.request_match.specs.Matching.{found_text};
+ghost use Rattle.value_match.specs.Matching as value;
 
+use crate::body_test::meets_found;
 use data_tree::data::Data;
+use json_bridge::json_path::JsonPath;
 use json_bridge::read::data_of_json;
+use json_match::json_matcher::JsonMatcher;
 use mock_request::request_values::RequestValues;
 use mock_request::snapshot::Snapshot;
 use std::alloc::{AllocError, Global};
 use std::marker::Model;
+use value_match::value_matcher::ValueMatcher;
 
 /// The values of a request and the JSON of its body, made once for all mappings that it is compared with. Contracts see
 /// the request alone.
@@ -53,19 +60,51 @@ impl<'a> ParsedRequest<'a> {
         &self.values
     }
 
-    /// The JSON of the body, if it is JSON. It is read once.
-    pub(crate) fn json(&mut self) -> Result<Option<&Data>, AllocError>
-        ensures read { IfOk result (λ found.
-            option_map (λ data. view data.now) found ≡ tree_of_text (utf8_lossy self.old.body)) }
-        ensures well_formed { IfOk result (λ found. IfSome found (λ data. IsWellFormed (view data.now))) }
+    /// Whether the body is JSON that meets the matcher.
+    pub(crate) fn meets_json(&mut self, matcher: &JsonMatcher) -> Result<bool, AllocError>
+        ensures answer { IfOk result (λ yes. IsTrue yes
+            ↔ IsSomeAnd (tree_of_text (utf8_lossy self.old.body)) (json.Matches matcher.now)) }
         ensures same { self.new ≡ self.old }
     {
-        if self.json.is_none() {
-            self.json = Some(data_of_json(self.alloc, self.values.body_text())?);
-        }
+        read_once(self.alloc, &self.values, &mut self.json)?;
         match &self.json {
-            Some(Some(data)) => Ok(Some(data)),
-            _ => Ok(None),
+            Some(Some(data)) => matcher.matches(data),
+            _ => Ok(false),
         }
     }
+
+    /// Whether the body is JSON in which the path finds what meets the matcher.
+    pub(crate) fn meets_at(
+        &mut self,
+        path: &JsonPath,
+        matcher: &mut ValueMatcher,
+    ) -> Result<bool, AllocError>
+        ensures answer { IfOk result (λ yes. IsTrue yes
+            ↔ IsSomeAnd (tree_of_text (utf8_lossy self.old.body))
+            (λ tree. value.Matches matcher.old (found_text (at path.now tree)))) }
+        ensures same { self.new ≡ self.old }
+        ensures same_matcher { matcher.new ≡ matcher.old }
+    {
+        read_once(self.alloc, &self.values, &mut self.json)?;
+        match &self.json {
+            Some(Some(data)) => meets_found(self.alloc, matcher, data.at(path.steps())),
+            _ => Ok(false),
+        }
+    }
+}
+
+/// Reads the JSON of the body, unless it was read before.
+fn read_once(
+    alloc: Global,
+    values: &RequestValues<'_>,
+    json: &mut Option<Option<Data>>,
+) -> Result<(), AllocError>
+    requires { IfSome json.old (IsReadOf values.now.body) }
+    ensures read { OnOk result (IsSomeAnd json.new (IsReadOf values.now.body)) }
+    ensures kept { IfSome json.new (IsReadOf values.now.body) }
+{
+    if json.is_none() {
+        *json = Some(data_of_json(alloc, values.body_text())?);
+    }
+    Ok(())
 }

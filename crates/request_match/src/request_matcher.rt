@@ -75,7 +75,7 @@ impl RequestMatcher {
         if !self.meets_head(request.values())? {
             return Ok(false);
         }
-        meet_body(self.body.as_mut_slice(), self.alloc, request)
+        meet_body(self.body.as_mut_slice(), request)
     }
 
     /// Whether all but the body meets it, in the order of what the comparison costs.

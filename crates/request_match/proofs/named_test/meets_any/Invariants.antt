@@ -9,5 +9,5 @@ abbrev pub invariant-loop-key : goal.invariant-loop-key
 invariant-loop-key l = record {
   same : l.matcher ≡ l.fn.matcher;
   left : MeetsAny l.fn.matcher (values_of l.name (pairs_of l.fn.pairs))
-      ↔ MeetsRest l.found l.fn.matcher (values_of l.name (pairs_of (drop l.key-index l.fn.pairs)));
+      ↔ MeetsRest l.found l.fn.matcher (values_of l.name (drop l.key-index (pairs_of l.fn.pairs)));
 }

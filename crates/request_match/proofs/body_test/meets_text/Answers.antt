@@ -1,0 +1,12 @@
+use Rattle.std.proofs.Common.{rules, ◌≡◌, ◌↔◌, ◌++◌, ◌∷◌, [], List, None, Some, IfOk, IfErr, IsTrue, OnOk, All, ℕ, ◌+◌, ◌-◌, ◌*◌, ◌<◌, ◌≤◌, length, ◌/◌, ◌%◌, Bool, true, false, nat_eq, nat_lt, slice_index_or, slice_set, bit_and, bit_or, Fits, w8, w32, w64, Bor, MutBor}
+use Rattle.std.specs.Option.{option_map_or}
+use Rattle.data_tree.specs.Tree.{view, nothing}
+use Rattle.request_match.specs.Matching.{MeetsBody, MeetsText, found_text}
+use Rattle.request_match.specs.Inner.Faults.{rank_of, IsFirstFault}
+use Rattle.request_match.specs.Inner.Kept.{body_pattern_of, KeepsPath}
+use Rattle.value_match.specs.Matching as value
+use Rattle.request_match.proofs.body_test.meets_text.Goals as goal
+
+-- src/body_test.rt:165:1
+pub returns-then-is_empty-clause-answer : goal.returns-then-is_empty-clause-answer
+returns-then-is_empty-clause-answer c = ?
