@@ -70,7 +70,7 @@ failed_still : (known : Option RequestMatchError) (ps qs : List BodyPattern) →
 failed_still None ps qs f = f
 failed_still (Some error) ps qs f = failed_left error ps qs f
 
-at_most_six : (known : Option RequestMatchError) → known_rank known ≤ 6
+pub at_most_six : (known : Option RequestMatchError) → known_rank known ≤ 6
 at_most_six None = omega arith
 at_most_six (Some OutOfMemory) = omega arith
 at_most_six (Some BadUrl) = omega arith

@@ -1,8 +1,9 @@
 -- The values of a name that are left, one after the other.
 use Rattle.std.proofs.Common.{◌≡◌, ◌↔◌, ℕ, suc, ◌+◌, ◌<◌, Bool, true, false, List, [], ◌∷◌, Any, ap, refl, sym, subst, ◌∙◌}
 use Rattle.std.proofs.Common.{⊎_elim, length, get_or, drop, add-one, Option, Some, Result, Ok, Err, IfOk, IsTrue, String}
-use Rattle.std.proofs.Common.{string_bytes}
+use Rattle.std.proofs.Common.{string_bytes, ◌⊎◌, inl, inr, None}
 use Rattle.std.specs.List.{slice_get}
+use Rattle.std.specs.Bool.{◌==◌}
 use Rattle.std.specs.Option.{option_map}
 use Rattle.std.specs.declared.alloc.AllocError.{AllocError}
 use Rattle.std.specs.declared.alloc.Global.{Global}
@@ -102,3 +103,20 @@ at_end m kept name pairs i found same none left =
     let from = subst (λ ps. MeetsRest found m (values_of name ps)) (sym none) in
     (λ h. left.1 (from (subst (λ k. MeetsRest found k []) same h)),
     λ b. subst (λ k. MeetsRest found k []) (sym same) (to (left.0 b)))
+
+-- an empty text that doesn't meet the matcher may still be absent
+pub text_or_none : (m kept : ValueSpec) (value read body : List ℕ) (r : Result Bool AllocError) → kept ≡ m →
+    read ≡ value → body ≡ [] → ¬ (Matches m (Some read)) → IfOk r (λ b. IsTrue b ↔ Matches kept None) →
+    IfOk r (λ b. IsTrue b ↔ (MatchesValue m value ⊎ ((body ≡ []) × Matches m None)))
+text_or_none m kept value read body (Ok b) same is empty refuted h =
+    (λ t. inr (empty, subst (λ k. Matches k None) same (h.0 t)),
+    λ either. ⊎_elim (λ p. absurd (refuted (subst (λ v. MatchesValue m v) (sym is) p)))
+    (λ none. h.1 (subst (λ k. Matches k None) (sym same) none.1)) either)
+text_or_none m kept value read body (Err error) same is empty refuted h = h
+
+no_length : (xs : List ℕ) → (length xs == 0) ≡ true → xs ≡ []
+no_length [] e = refl
+no_length (x ∷ xs) e = absurd cc
+
+pub empty_of_length : (body read : List ℕ) → read ≡ body → (length read == 0) ≡ true → body ≡ []
+empty_of_length body read same e = no_length body (ap (λ xs. length xs == 0) (sym same) ∙ e)

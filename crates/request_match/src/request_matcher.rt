@@ -84,13 +84,19 @@ impl RequestMatcher {
         ensures same { self.new ≡ self.old }
     {
         let snapshot = request.snapshot();
-        Ok(
-            meets_method(&self.method, snapshot.method())
-                && self.url.meets(self.alloc, snapshot)?
-                && meet_headers(self.headers.as_mut_slice(), request)?
-                && meet_pairs(self.query.as_mut_slice(), request.query())?
-                && meet_pairs(self.cookies.as_mut_slice(), request.cookies())?,
-        )
+        if !meets_method(&self.method, snapshot.method()) {
+            return Ok(false);
+        }
+        if !self.url.meets(self.alloc, snapshot)? {
+            return Ok(false);
+        }
+        if !meet_headers(self.headers.as_mut_slice(), request)? {
+            return Ok(false);
+        }
+        if !meet_pairs(self.query.as_mut_slice(), request.query())? {
+            return Ok(false);
+        }
+        meet_pairs(self.cookies.as_mut_slice(), request.cookies())
     }
 
     /// The literal URL that it asks for, if it does. Takes no memory.

@@ -1,5 +1,5 @@
 // Does the URL of a request meet a URL matcher?
-ghost use Rattle.std.specs.Prelude.{◌≡◌, ◌↔◌, IfOk, IfErr, IsErrOf, IsSomeAnd, IsTrue, OnOk, All};
+ghost use Rattle.std.specs.Prelude.{◌≡◌, ◌↔◌, ◌∷◌, [], IfOk, IfErr, IsErrOf, IsSomeAnd, IsTrue, OnOk, All, Any};
 ghost use Rattle.path_template.specs.Matching.{bindings_of};
 ghost use Rattle.request_match.specs.Inner.Heads.{IsUrlFault};
 ghost use Rattle.request_match.specs.Matching.{MeetsUrl, MeetPairs};
@@ -66,15 +66,28 @@ impl UrlTest {
         ensures answer { IfOk result (λ yes. IsTrue yes ↔ MeetsUrl self.old request.now.url) }
         ensures same { self.new ≡ self.old }
     {
-        match &mut self.kind {
-            UrlKind::Any => Ok(true),
-            UrlKind::Url(text) => Ok(request.url() == text.as_str()),
-            UrlKind::UrlPattern(_, matcher) => matcher.matches(Some(request.url())),
-            UrlKind::UrlPath(text) => Ok(request.path() == text.as_str()),
-            UrlKind::UrlPathPattern(_, matcher) => matcher.matches(Some(request.path())),
-            UrlKind::UrlPathTemplate(template, parameters) => {
-                meets_template(alloc, template, parameters.as_mut_slice(), request.path())
-            }
+        meets_kind(&mut self.kind, alloc, request)
+    }
+}
+
+fn meets_kind(
+    kind: &mut UrlKind,
+    alloc: Global,
+    request: &Snapshot,
+) -> Result<bool, AllocError>
+    requires { KeepsPattern kind.old }
+    ensures answer { IfOk result (λ yes. IsTrue yes ↔ MeetsUrl (url_spec_of kind.old) request.now.url) }
+    ensures same { url_spec_of kind.new ≡ url_spec_of kind.old }
+    ensures keeps { KeepsPattern kind.new }
+{
+    match kind {
+        UrlKind::Any => Ok(true),
+        UrlKind::Url(text) => Ok(request.url() == text.as_str()),
+        UrlKind::UrlPattern(_, matcher) => matcher.matches(Some(request.url())),
+        UrlKind::UrlPath(text) => Ok(request.path() == text.as_str()),
+        UrlKind::UrlPathPattern(_, matcher) => matcher.matches(Some(request.path())),
+        UrlKind::UrlPathTemplate(template, parameters) => {
+            meets_template(alloc, template, parameters.as_mut_slice(), request.path())
         }
     }
 }
@@ -90,12 +103,12 @@ fn kind_of(alloc: Global, spec: &UrlSpec) -> Result<UrlKind, RequestMatchError>
         UrlSpec::Url(text) => Ok(UrlKind::Url(text.try_clone()?)),
         UrlSpec::UrlPath(text) => Ok(UrlKind::UrlPath(text.try_clone()?)),
         UrlSpec::UrlPattern(text) => {
-            let (text, matcher) = pattern_of(alloc, text)?;
-            Ok(UrlKind::UrlPattern(text, matcher))
+            let matcher = pattern_of(alloc, text)?;
+            Ok(UrlKind::UrlPattern(text.try_clone()?, matcher))
         }
         UrlSpec::UrlPathPattern(text) => {
-            let (text, matcher) = pattern_of(alloc, text)?;
-            Ok(UrlKind::UrlPathPattern(text, matcher))
+            let matcher = pattern_of(alloc, text)?;
+            Ok(UrlKind::UrlPathPattern(text.try_clone()?, matcher))
         }
         UrlSpec::UrlPathTemplate {
             template,
@@ -119,14 +132,14 @@ fn template_kind(
     Ok(UrlKind::UrlPathTemplate(template, build_tests(alloc, parameters)?))
 }
 
-/// A pattern, and the matcher of it.
-fn pattern_of(alloc: Global, text: &Text) -> Result<(Text, ValueMatcher), ValueError>
-    ensures ok { IfOk result (λ pair. (pair.0 ≡ text.now) × (pair.1 ≡ ValueSpec.Matches text.now)) }
-    ensures pattern { OnOk result (HasPattern (ValueSpec.Matches text.now)) }
-    ensures bad_pattern { IsErrOf result ValueError.BadPattern → MayBeRefused (ValueSpec.Matches text.now) }
+/// The matcher of a pattern.
+fn pattern_of(alloc: Global, text: &Text) -> Result<ValueMatcher, ValueError>
+    ensures ok { IfOk result (λ matcher. matcher ≡ ValueSpec.Matches text.now) }
+    ensures patterns { OnOk result (All HasPattern (ValueSpec.Matches text.now ∷ [])) }
+    ensures bad_pattern { IsErrOf result ValueError.BadPattern → Any MayBeRefused (ValueSpec.Matches text.now ∷ []) }
 {
-    let matcher = ValueMatcher::build(alloc, &ValueSpec::Matches(text.try_clone()?))?;
-    Ok((text.try_clone()?, matcher))
+    let pattern = ValueSpec::Matches(text.try_clone()?);
+    ValueMatcher::build(alloc, &pattern)
 }
 
 /// Whether the path matches the template and what that binds meets the parameters.

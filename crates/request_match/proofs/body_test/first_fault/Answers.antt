@@ -1,20 +1,20 @@
-use Rattle.std.proofs.Common.{rules, ◌≡◌, ◌↔◌, ◌++◌, ◌∷◌, [], List, None, Some, IfOk, IfErr, IsTrue, OnOk, All, ℕ, ◌+◌, ◌-◌, ◌*◌, ◌<◌, ◌≤◌, length, ◌/◌, ◌%◌, Bool, true, false, nat_eq, nat_lt, slice_index_or, slice_set, bit_and, bit_or, Fits, w8, w32, w64, Bor, MutBor}
-use Rattle.std.specs.Option.{option_map_or}
-use Rattle.data_tree.specs.Tree.{view, nothing}
-use Rattle.request_match.specs.Matching.{MeetsBody, MeetsText, found_text}
-use Rattle.request_match.specs.Inner.Faults.{rank_of, IsFirstFault}
-use Rattle.request_match.specs.Inner.Kept.{body_pattern_of, KeepsPath}
-use Rattle.value_match.specs.Matching as value
+use Rattle.std.proofs.Common.{arith, None, Some, subst}
+use Rattle.request_match.specs.Inner.Faults.{IsFirstFault, rank_of, known_rank}
+use Rattle.request_match.proofs.FaultLemmas.{known_first, error_first, at_most_six}
 use Rattle.request_match.proofs.body_test.first_fault.Goals as goal
 
--- src/body_test.rt:197:1
 pub returns-in-Some : goal.returns-in-Some
-returns-in-Some c = ?
+returns-in-Some c = λ patterns more p q.
+    known_first c.in-Some.known c.args.error patterns more (omega (arith, c.rank.ensures, c.rank-in-Some-1.ensures))
+    (subst (λ k. IsFirstFault k patterns) c.in-Some.is p) q
 
--- src/body_test.rt:197:1
 pub returns-in_default : goal.returns-in_default
-returns-in_default c = ?
+returns-in_default c = λ patterns more p q.
+    error_first (Some c.in-Some.known) c.args.error patterns more
+    (omega (arith, c.rank.ensures, c.rank-in-Some-1.ensures))
+    (subst (λ k. IsFirstFault k patterns) c.in-Some.is p) q
 
--- src/body_test.rt:197:1
 pub returns-in_default-2 : goal.returns-in_default-2
-returns-in_default-2 c = ?
+returns-in_default-2 c = λ patterns more p q.
+    error_first None c.args.error patterns more (at_most_six (Some c.args.error))
+    (subst (λ k. IsFirstFault k patterns) c.in_default.is p) q

@@ -1,12 +1,14 @@
-use Rattle.std.proofs.Common.{rules, ◌≡◌, ◌↔◌, ◌++◌, ◌∷◌, [], List, None, Some, IfOk, IfErr, IsTrue, OnOk, All, ℕ, ◌+◌, ◌-◌, ◌*◌, ◌<◌, ◌≤◌, length, ◌/◌, ◌%◌, Bool, true, false, nat_eq, nat_lt, slice_index_or, slice_set, bit_and, bit_or, Fits, w8, w32, w64, Bor, MutBor}
-use Rattle.std.specs.Option.{option_map_or}
-use Rattle.data_tree.specs.Tree.{view, nothing}
-use Rattle.request_match.specs.Matching.{MeetsBody, MeetsText, found_text}
-use Rattle.request_match.specs.Inner.Faults.{rank_of, IsFirstFault}
-use Rattle.request_match.specs.Inner.Kept.{body_pattern_of, KeepsPath}
-use Rattle.value_match.specs.Matching as value
+use Rattle.std.proofs.Common.{◌≡◌, [], ℕ, List, length, arith, ap, sym, ◌∙◌}
+use Rattle.std.specs.Str.Lossy.{utf8_lossy}
+use Rattle.std.proofs.lemmas.Grind.{common_steps}
+use Rattle.request_match.proofs.RestLemmas.{text_or_none, empty_of_length}
 use Rattle.request_match.proofs.body_test.meets_text.Goals as goal
 
--- src/body_test.rt:165:1
 pub returns-then-is_empty-clause-answer : goal.returns-then-is_empty-clause-answer
-returns-then-is_empty-clause-answer c = ?
+returns-then-is_empty-clause-answer c =
+    text_or_none c.args.matcher.now c.matches.new.self (utf8_lossy c.args.request.now.body) c.body_text.result.now
+    c.args.request.now.body c.matches-then-is_empty.result c.in_ok-matches.ensures.same c.body_text.ensures
+    (empty_of_length c.args.request.now.body c.body.result.now (c.body.ensures.value ∙ ap (λ r. r.body) c.snapshot.ensures)
+    (sym c.is_empty.ensures ∙ c.if-is_empty.true))
+    (λ h. absurd cc (sym c.if-branch.false ∙ c.in_ok-matches.ensures.answer.1 h))
+    c.matches-then-is_empty.ensures.answer

@@ -1,27 +1,9 @@
-use Rattle.std.proofs.Common.{rules, ◌≡◌, ◌↔◌, IfOk, IfErr, IsErrOf, IsSomeAnd, IsTrue, OnOk, All, ℕ, ◌+◌, ◌-◌, ◌*◌, ◌<◌, ◌≤◌, length, ◌/◌, ◌%◌, Bool, true, false, nat_eq, nat_lt, List, [], ◌∷◌, ◌++◌, slice_index_or, slice_set, bit_and, bit_or, Fits, w8, w32, w64, Bor, MutBor}
-use Rattle.path_template.specs.Matching.{bindings_of}
-use Rattle.request_match.specs.Inner.Heads.{IsUrlFault}
-use Rattle.request_match.specs.Matching.{MeetsUrl, MeetPairs}
-use Rattle.request_match.specs.Refusal.{HasTemplate, matchers_of, url_matchers}
-use Rattle.path_template.specs.Template.{IsTemplate}
-use Rattle.request_match.specs.Inner.Kept.{url_spec_of, KeepsPattern}
-use Rattle.value_match.specs.Refusal.{HasPattern, MayBeRefused}
 use Rattle.request_match.proofs.url_test.kind_of.Goals as goal
 
--- src/url_test.rt:93:35
-pub returns-in_err-text-in-UrlPattern-clause-fault :
-    goal.returns-in_err-text-in-UrlPattern-clause-fault
-returns-in_err-text-in-UrlPattern-clause-fault c = ?
-
--- src/url_test.rt:97:35
-pub returns-in_err-text-in-UrlPathPattern-clause-fault :
-    goal.returns-in_err-text-in-UrlPathPattern-clause-fault
-returns-in_err-text-in-UrlPathPattern-clause-fault c = ?
-
--- src/url_test.rt:82:1
 pub returns-in-UrlPathTemplate-clause-patterns : goal.returns-in-UrlPathTemplate-clause-patterns
-returns-in-UrlPathTemplate-clause-patterns c = ?
+returns-in-UrlPathTemplate-clause-patterns c =
+    rw c.in-UrlPathTemplate.is (rw c.as_slice.ensures at c.template_kind.ensures.patterns)
 
--- src/url_test.rt:82:1
 pub returns-in-UrlPathTemplate-clause-fault : goal.returns-in-UrlPathTemplate-clause-fault
-returns-in-UrlPathTemplate-clause-fault c = ?
+returns-in-UrlPathTemplate-clause-fault c =
+    rw c.in-UrlPathTemplate.is (rw (c.as_str.ensures, c.as_slice.ensures) at c.template_kind.ensures.fault)

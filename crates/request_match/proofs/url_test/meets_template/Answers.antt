@@ -1,13 +1,12 @@
-use Rattle.std.proofs.Common.{rules, ◌≡◌, ◌↔◌, IfOk, IfErr, IsErrOf, IsSomeAnd, IsTrue, OnOk, All, ℕ, ◌+◌, ◌-◌, ◌*◌, ◌<◌, ◌≤◌, length, ◌/◌, ◌%◌, Bool, true, false, nat_eq, nat_lt, List, [], ◌∷◌, ◌++◌, slice_index_or, slice_set, bit_and, bit_or, Fits, w8, w32, w64, Bor, MutBor}
-use Rattle.path_template.specs.Matching.{bindings_of}
-use Rattle.request_match.specs.Inner.Heads.{IsUrlFault}
-use Rattle.request_match.specs.Matching.{MeetsUrl, MeetPairs}
-use Rattle.request_match.specs.Refusal.{HasTemplate, matchers_of, url_matchers}
-use Rattle.path_template.specs.Template.{IsTemplate}
-use Rattle.request_match.specs.Inner.Kept.{url_spec_of, KeepsPattern}
-use Rattle.value_match.specs.Refusal.{HasPattern, MayBeRefused}
+use Rattle.std.proofs.Common.{◌↔◌, IfOk, IsTrue, IsSomeAnd, ap, sym, subst, ◌∙◌}
+use Rattle.std.specs.Option.{option_map}
+use Rattle.mock_request.specs.Values.{pairs_of}
+use Rattle.request_match.specs.Matching.{MeetPairs}
 use Rattle.request_match.proofs.url_test.meets_template.Goals as goal
 
--- src/url_test.rt:133:1
 pub returns-in-Some-clause-answer : goal.returns-in-Some-clause-answer
-returns-in-Some-clause-answer c = ?
+returns-in-Some-clause-answer c =
+    subst (λ o. IfOk c.meet_pairs.result (λ b. IsTrue b ↔ IsSomeAnd o (MeetPairs c.args.parameters.now)))
+    (ap (option_map (λ v. pairs_of v.items)) (sym c.in-Some.is) ∙ c.in_ok-pairs.ensures)
+    (subst (λ ps. IfOk c.meet_pairs.result (λ b. IsTrue b ↔ MeetPairs c.args.parameters.now (pairs_of ps)))
+    c.as_slice.ensures.value c.meet_pairs.ensures.answer)
