@@ -1,6 +1,6 @@
 -- The values of a name that are left, one after the other.
 use Rattle.std.proofs.Common.{◌≡◌, ◌↔◌, ℕ, suc, ◌+◌, ◌<◌, Bool, true, false, List, [], ◌∷◌, Any, ap, refl, sym, subst, ◌∙◌}
-use Rattle.std.proofs.Common.{⊎_elim, length, get_or, drop, add-one, Option, Some, Result, Ok, Err, IfOk, IsTrue, String}
+use Rattle.std.proofs.Common.{arith, ⊎_elim, length, get_or, drop, add-one, Option, Some, Result, Ok, Err, IfOk, IsTrue, String}
 use Rattle.std.proofs.Common.{string_bytes, ◌⊎◌, inl, inr, None}
 use Rattle.std.specs.List.{slice_get}
 use Rattle.std.specs.Bool.{◌==◌}
@@ -8,6 +8,7 @@ use Rattle.std.specs.Option.{option_map}
 use Rattle.std.specs.declared.alloc.AllocError.{AllocError}
 use Rattle.std.specs.declared.alloc.Global.{Global}
 use Rattle.std.proofs.Math.Seq.{drop-cons}
+use Rattle.std.proofs.lemmas.Bool.Decides.{nat_tests}
 use Rattle.std.proofs.lemmas.Option.{slice_get-map, slice_get_read, slice_get_within, get_or_from_slice_get}
 use Rattle.std.specs.Str.{bytes_eq}
 use Rattle.mock_request.specs.Values.{values_of, pairs_of, pair_of}
@@ -116,7 +117,7 @@ text_or_none m kept value read body (Err error) same is empty refuted h = h
 
 no_length : (xs : List ℕ) → (length xs == 0) ≡ true → xs ≡ []
 no_length [] e = refl
-no_length (x ∷ xs) e = absurd cc
+no_length (x ∷ xs) e = absurd (grind (arith, nat_tests, e))
 
 pub empty_of_length : (body read : List ℕ) → read ≡ body → (length read == 0) ≡ true → body ≡ []
 empty_of_length body read same e = no_length body (ap (λ xs. length xs == 0) (sym same) ∙ e)
