@@ -19,4 +19,18 @@ returns-then-not-branch-clause-answer c =
     cc)
 
 pub returns-clause-answer : goal.returns-clause-answer
-returns-clause-answer c = ?
+returns-clause-answer c =
+    let head : MeetsHead c.args.self.now c.args.request.now =
+        subst (MeetsHead c.args.self.now) c.values.ensures (c.in_ok-meets_head.ensures.answer.0 cc) in
+    answered c.meet_body.result
+    (subst (λ ts. IfOk c.meet_body.result (λ b. IsTrue b ↔ All (λ p. MeetsBody p c.args.request.now.body) ts))
+    (c.as_mut_slice.ensures.value ∙ ap (λ m. m.body) (c.self.view_is ∙ c.in_ok-meets_head.ensures.same))
+    c.meet_body.ensures.answer)
+    (λ bodies. record {
+      method = head.method;
+      url = head.url;
+      headers = head.headers;
+      query = head.query;
+      cookies = head.cookies;
+      body = bodies;
+    }, λ met. met.body)
