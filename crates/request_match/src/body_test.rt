@@ -63,14 +63,27 @@ impl BodyTest {
         ensures same { self.new ≡ self.old }
         ensures same_request { request.new ≡ request.old }
     {
-        match &mut self.kind {
-            BodyKind::Value(matcher) => meets_text(matcher, request.values()),
-            BodyKind::BinaryEqualTo(bytes) => {
-                Ok(request.values().snapshot().body() == bytes.as_slice())
-            }
-            BodyKind::Json(matcher) => request.meets_json(matcher),
-            BodyKind::JsonPath(_, path, matcher) => request.meets_at(path, matcher),
+        meets_kind(&mut self.kind, request)
+    }
+}
+
+fn meets_kind(
+    kind: &mut BodyKind,
+    request: &mut ParsedRequest<'_>,
+) -> Result<bool, AllocError>
+    requires { KeepsPath kind.old }
+    ensures answer { IfOk result (λ yes. IsTrue yes ↔ MeetsBody (body_pattern_of kind.old) request.old.body) }
+    ensures same { body_pattern_of kind.new ≡ body_pattern_of kind.old }
+    ensures keeps { KeepsPath kind.new }
+    ensures same_request { request.new ≡ request.old }
+{
+    match kind {
+        BodyKind::Value(matcher) => meets_text(matcher, request.values()),
+        BodyKind::BinaryEqualTo(bytes) => {
+            Ok(request.values().snapshot().body() == bytes.as_slice())
         }
+        BodyKind::Json(matcher) => request.meets_json(matcher),
+        BodyKind::JsonPath(_, path, matcher) => request.meets_at(path, matcher),
     }
 }
 
