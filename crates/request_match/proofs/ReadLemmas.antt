@@ -1,6 +1,6 @@
 -- The JSON of a body as it is kept, and what a path finds in it.
-use Rattle.std.proofs.Common.{◌≡◌, ◌↔◌, ℕ, Bool, true, false, List, Option, None, Some, Result, Ok, Err, IfOk, IsTrue, ap, refl, sym, subst, ◌∙◌}
-use Rattle.std.specs.Option.{IsSomeAnd}
+use Rattle.std.proofs.Common.{◌≡◌, ◌↔◌, ℕ, Bool, List, Option, None, Some, Result, IfOk, IsTrue, subst}
+use Rattle.std.specs.Option.{IsSomeAnd, option_map}
 use Rattle.std.specs.Str.Lossy.{utf8_lossy}
 use Rattle.std.specs.declared.alloc.AllocError.{AllocError}
 use Rattle.data_tree.specs.LookUp.{at}
@@ -15,25 +15,14 @@ use Rattle.request_match.specs.Matching.{MeetsAtPath, found_text}
 use Rattle.value_match.specs.Matching.{Matches}
 use Rattle.value_match.specs.declared.value_spec.ValueSpec.{ValueSpec}
 
-module _ (P : Tree → Type 0) (body : List ℕ) where
-  abbrev pub Answers : Result Bool AllocError → Type 0
-  Answers r = IfOk r (λ b. IsTrue b ↔ IsSomeAnd (tree_of_text (utf8_lossy body)) P)
-
-  pub is_json : (kept : Option (Option Data)) (d : Data) (r : Result Bool AllocError) → IsSomeAnd kept (IsReadOf body) →
-      kept ≡ Some (Some d) → IfOk r (λ b. IsTrue b ↔ P (view d)) → Answers r
-  is_json kept d r read is h =
-      let found : IsReadOf body (Some d) = subst (λ k. IsSomeAnd k (IsReadOf body)) is read in
-      subst (λ t. IfOk r (λ b. IsTrue b ↔ IsSomeAnd t P)) found.tree h
-
-  none_there : (found : Option Data) → IsReadOf body found → found ≡ None →
-      IsSomeAnd (tree_of_text (utf8_lossy body)) P → ⊥
-  none_there None read is h = subst (λ t. IsSomeAnd t P) (sym read.tree) h
-  none_there (Some d) read is h = absurd cc
-
-  pub is_none : (kept : Option (Option Data)) → IsSomeAnd kept (IsReadOf body) → kept ≡ Some None → Answers (Ok false)
-  is_none kept read is =
-      let found : IsReadOf body None = subst (λ k. IsSomeAnd k (IsReadOf body)) is read in
-      (λ f. absurd cc (f), λ h. absurd (none_there None found refl h))
+-- the value that was read is the tree of the body's text
+pub was_read : (P : Tree → Type 0) (body : List ℕ) (kept : Option (Option Data)) (found : Option Data)
+    (r : Result Bool AllocError) → IsSomeAnd kept (IsReadOf body) → kept ≡ Some found →
+    IfOk r (λ b. IsTrue b ↔ IsSomeAnd (option_map view found) P) →
+    IfOk r (λ b. IsTrue b ↔ IsSomeAnd (tree_of_text (utf8_lossy body)) P)
+was_read P body kept found r read is h =
+    let there : IsReadOf body found = subst (λ k. IsSomeAnd k (IsReadOf body)) is read in
+    subst (λ t. IfOk r (λ b. IsTrue b ↔ IsSomeAnd t P)) there.tree h
 
 -- a text spells one path only
 pub at_path : (expression : List ℕ) (steps : List Step) (m : ValueSpec) (tree : Tree) → SpellsPath expression steps →

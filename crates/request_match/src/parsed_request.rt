@@ -1,7 +1,9 @@
 // A request as matchers read it.
-ghost use Rattle.std.specs.Prelude.{◌≡◌, ◌↔◌, IfOk, IfSome, IsSomeAnd, IsTrue, OnOk};
+ghost use Rattle.std.specs.Prelude.{◌≡◌, ◌↔◌, IfOk, IfSome, IsSomeAnd, IsTrue, OnOk, option_map};
 ghost use Rattle.std.specs.Str.Lossy.{utf8_lossy};
 ghost use Rattle.data_tree.specs.LookUp.{at};
+ghost use Rattle.data_tree.specs.Tree.{view};
+ghost use Rattle.data_tree.specs.WellFormed.{IsWellFormed};
 ghost use Rattle.json_bridge.specs.Reading.{tree_of_text};
 ghost use Rattle.json_match.specs.Matching as json;
 ghost use Rattle.request_match.specs.Inner.Read.{IsReadOf};
@@ -68,8 +70,8 @@ impl<'a> ParsedRequest<'a> {
     {
         read_once(self.alloc, &self.values, &mut self.json)?;
         match &self.json {
-            Some(Some(data)) => matcher.matches(data),
-            _ => Ok(false),
+            Some(found) => meets_read(found, matcher),
+            None => Ok(false),
         }
     }
 
@@ -107,4 +109,16 @@ fn read_once(
         *json = Some(data_of_json(alloc, values.body_text())?);
     }
     Ok(())
+}
+
+/// Whether there is a value, and it meets the matcher.
+fn meets_read(found: &Option<Data>, matcher: &JsonMatcher) -> Result<bool, AllocError>
+    requires { IfSome found.now (λ d. IsWellFormed (view d)) }
+    ensures answer { IfOk result (λ yes. IsTrue yes
+        ↔ IsSomeAnd (option_map view found.now) (json.Matches matcher.now)) }
+{
+    match found {
+        Some(data) => matcher.matches(data),
+        None => Ok(false),
+    }
 }
