@@ -1,5 +1,5 @@
 -- Which fault of a whole matcher the fault of one of its parts is.
-use Rattle.std.proofs.Common.{◌≡◌, ◌↔◌, ℕ, List, [], ◌∷◌, ◌++◌, All, Any, Option, None, Some, Result, Ok, Err, IfErr, arith, refl, sym, subst, inl, inr}
+use Rattle.std.proofs.Common.{◌≡◌, ℕ, List, [], ◌∷◌, ◌++◌, All, Any, None, Some, Result, Ok, Err, IfErr, arith, refl, sym, subst, inl, inr}
 use Rattle.std.specs.Result.{IsErrAnd}
 use Rattle.std.proofs.lemmas.List.Elements.{All-append, All-cons, All-nil}
 use Rattle.json_bridge.specs.Path.{IsPath}
@@ -11,7 +11,6 @@ use Rattle.json_match.specs.declared.error.JsonMatchError.{JsonMatchError}
 use Rattle.json_match.specs.declared.error.JsonMatchError.TheVariants as json
 use Rattle.json_match.specs.declared.json_spec.JsonSpec.{JsonSpec}
 use Rattle.json_match.specs.declared.json_spec.JsonSpec.TheVariants.{EqualTo, Path}
-use Rattle.mapping_model.specs.declared.body_pattern.BodyPattern.{BodyPattern}
 use Rattle.mapping_model.specs.declared.body_pattern.BodyPattern.TheVariants as body
 use Rattle.mapping_model.specs.declared.request_spec.RequestSpec.{RequestSpec}
 use Rattle.request_match.proofs.AnyLemmas.{any_here, any_left, any_right}
@@ -106,9 +105,11 @@ url_fault spec BadUrl f = f
 url_fault spec BadPattern f =
     let urls = url_matchers spec.url in
     let headers = matchers_of spec.headers in
-    let query = matchers_of spec.query in
-    (f.0, inl (any_left MayBeRefused (urls ++ headers ++ query) _
-    (any_left MayBeRefused (urls ++ headers) _ (any_left MayBeRefused urls _ f.1))))
+    let query = matchers_of spec.query in (
+      f.0,
+      inl (any_left MayBeRefused (urls ++ headers ++ query) _
+          (any_left MayBeRefused (urls ++ headers) _ (any_left MayBeRefused urls _ f.1))),
+    )
 url_fault spec NotJson f = absurd f
 url_fault spec NumberNotWhole f = absurd f
 url_fault spec BadPath f = absurd f

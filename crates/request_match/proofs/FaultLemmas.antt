@@ -1,5 +1,5 @@
 -- The first fault of body matchers: what one more adds, and what it says of the whole matcher.
-use Rattle.std.proofs.Common.{◌≡◌, ℕ, ◌<◌, ◌≤◌, List, ◌++◌, All, Any, Option, None, Some, arith, sym, subst, inl, inr}
+use Rattle.std.proofs.Common.{◌≡◌, ℕ, ◌≤◌, List, ◌++◌, All, Any, Option, None, Some, arith, sym, subst}
 use Rattle.std.specs.List.{filter_map}
 use Rattle.std.proofs.lemmas.List.Elements.{All-append, filter_map-append}
 use Rattle.json_bridge.specs.Path.{IsPath}

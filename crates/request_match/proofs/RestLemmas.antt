@@ -1,7 +1,7 @@
 -- The values of a name that are left, one after the other.
 use Rattle.std.proofs.Common.{◌≡◌, ◌↔◌, ℕ, suc, ◌+◌, ◌<◌, Bool, true, false, List, [], ◌∷◌, Any, ap, refl, sym, subst, ◌∙◌}
-use Rattle.std.proofs.Common.{arith, ⊎_elim, length, get_or, drop, add-one, Option, Some, Result, Ok, Err, IfOk, IsTrue, String}
-use Rattle.std.proofs.Common.{string_bytes, ◌⊎◌, inl, inr, None}
+use Rattle.std.proofs.Common.{arith, ⊎_elim, length, get_or, drop, add-one, Some, Result, Ok, Err, IfOk, IsTrue, String}
+use Rattle.std.proofs.Common.{◌⊎◌, inr, None}
 use Rattle.std.specs.List.{slice_get}
 use Rattle.std.specs.Bool.{◌==◌}
 use Rattle.std.specs.Option.{option_map}
@@ -25,9 +25,10 @@ met false m v vs p = any_here (MatchesValue m) v vs p
 
 not_here : (m : ValueSpec) (v : List ℕ) (vs : List (List ℕ)) → ¬ (MatchesValue m v) →
     Any (MatchesValue m) (v ∷ vs) ↔ Any (MatchesValue m) vs
-not_here m v vs refuted =
-    (λ a. ⊎_elim (λ p. absurd (refuted p)) (λ rest. rest) (any_cases (MatchesValue m) v vs a),
-    any_there (MatchesValue m) v vs)
+not_here m v vs refuted = (
+  λ a. ⊎_elim (λ p. absurd (refuted p)) (λ rest. rest) (any_cases (MatchesValue m) v vs a),
+  any_there (MatchesValue m) v vs,
+)
 
 -- it doesn't
 pub not_met : (found : Bool) (m : ValueSpec) (v : List ℕ) (vs : List (List ℕ)) → ¬ (MatchesValue m v) →
@@ -101,18 +102,20 @@ pub at_end : {B : Type 0} (m kept : ValueSpec) (name : List ℕ) (pairs : List (
     kept ≡ m → drop i pairs ≡ [] → B ↔ MeetsRest found m (values_of name (drop i pairs)) → MeetsRest found kept [] ↔ B
 at_end m kept name pairs i found same none left =
     let to = subst (λ ps. MeetsRest found m (values_of name ps)) none in
-    let from = subst (λ ps. MeetsRest found m (values_of name ps)) (sym none) in
-    (λ h. left.1 (from (subst (λ k. MeetsRest found k []) same h)),
-    λ b. subst (λ k. MeetsRest found k []) (sym same) (to (left.0 b)))
+    let from = subst (λ ps. MeetsRest found m (values_of name ps)) (sym none) in (
+      λ h. left.1 (from (subst (λ k. MeetsRest found k []) same h)),
+      λ b. subst (λ k. MeetsRest found k []) (sym same) (to (left.0 b)),
+    )
 
 -- an empty text that doesn't meet the matcher may still be absent
 pub text_or_none : (m kept : ValueSpec) (value read body : List ℕ) (r : Result Bool AllocError) → kept ≡ m →
     read ≡ value → body ≡ [] → ¬ (Matches m (Some read)) → IfOk r (λ b. IsTrue b ↔ Matches kept None) →
     IfOk r (λ b. IsTrue b ↔ (MatchesValue m value ⊎ ((body ≡ []) × Matches m None)))
-text_or_none m kept value read body (Ok b) same is empty refuted h =
-    (λ t. inr (empty, subst (λ k. Matches k None) same (h.0 t)),
-    λ either. ⊎_elim (λ p. absurd (refuted (subst (λ v. MatchesValue m v) (sym is) p)))
-    (λ none. h.1 (subst (λ k. Matches k None) (sym same) none.1)) either)
+text_or_none m kept value read body (Ok b) same is empty refuted h = (
+  λ t. inr (empty, subst (λ k. Matches k None) same (h.0 t)),
+  λ either. ⊎_elim (λ p. absurd (refuted (subst (λ v. MatchesValue m v) (sym is) p)))
+      (λ none. h.1 (subst (λ k. Matches k None) (sym same) none.1)) either,
+)
 text_or_none m kept value read body (Err error) same is empty refuted h = h
 
 no_length : (xs : List ℕ) → (length xs == 0) ≡ true → xs ≡ []

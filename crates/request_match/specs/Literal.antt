@@ -1,10 +1,8 @@
 -- The literal URL of a request matcher, for indexes: only requests with that text, and with that method, meet it.
-use Rattle.std.specs.Prelude.{◌≡◌, ℕ, Bool, List, Option, None, Some, IfSome, codes, if◌then◌else◌, option_map}
+use Rattle.std.specs.Prelude.{ℕ, List, Option, None, Some, codes, if◌then◌else◌}
 use Rattle.std.specs.Str.{bytes_eq}
-use Rattle.mapping_model.specs.declared.request_spec.RequestSpec.{RequestSpec}
 use Rattle.mapping_model.specs.declared.url_spec.UrlSpec.{UrlSpec}
 use Rattle.mapping_model.specs.declared.url_spec.UrlSpec.TheVariants as url
-use Rattle.mock_request.specs.Request.{Request}
 use Rattle.mock_request.specs.Url.{path_of}
 use Rattle.request_match.specs.declared.literal.LiteralKind.{LiteralKind}
 use Rattle.request_match.specs.declared.literal.LiteralKind.TheVariants as kind

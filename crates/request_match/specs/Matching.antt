@@ -8,7 +8,7 @@ use Rattle.data_tree.specs.Print.{print}
 use Rattle.data_tree.specs.Tree.{Tree, nothing}
 use Rattle.data_tree.specs.declared.step.Step.{Step}
 use Rattle.json_bridge.specs.Path.{SpellsPath}
-use Rattle.json_bridge.specs.Reading.{IsJson, tree_of_text}
+use Rattle.json_bridge.specs.Reading.{tree_of_text}
 use Rattle.json_match.specs.Matching as json
 use Rattle.mapping_model.specs.declared.body_pattern.BodyPattern.{BodyPattern}
 use Rattle.mapping_model.specs.declared.body_pattern.BodyPattern.TheVariants as body
@@ -22,7 +22,7 @@ use Rattle.mock_request.specs.Query.{query_pairs}
 use Rattle.mock_request.specs.Request.{Request}
 use Rattle.mock_request.specs.Url.{path_of}
 use Rattle.mock_request.specs.Values.{values_of}
-use Rattle.path_template.specs.Matching.{Binding, bindings_of}
+use Rattle.path_template.specs.Matching.{bindings_of}
 use Rattle.value_match.specs.Matching.{Matches, MatchesValue}
 use Rattle.value_match.specs.Patterns.{whole_of, FindsIn}
 use Rattle.value_match.specs.declared.value_spec.ValueSpec.{ValueSpec}

@@ -67,10 +67,7 @@ impl BodyTest {
     }
 }
 
-fn meets_kind(
-    kind: &mut BodyKind,
-    request: &mut ParsedRequest<'_>,
-) -> Result<bool, AllocError>
+fn meets_kind(kind: &mut BodyKind, request: &mut ParsedRequest<'_>) -> Result<bool, AllocError>
     requires { KeepsPath kind.old }
     ensures answer { IfOk result (λ yes. IsTrue yes ↔ MeetsBody (body_pattern_of kind.old) request.old.body) }
     ensures same { body_pattern_of kind.new ≡ body_pattern_of kind.old }
@@ -175,7 +172,11 @@ fn meets_text(matcher: &mut ValueMatcher, request: &RequestValues<'_>) -> Result
     if matcher.matches(Some(request.body_text()))? {
         return Ok(true);
     }
-    if request.snapshot().body().is_empty() { matcher.matches(None) } else { Ok(false) }
+    if request.snapshot().body().is_empty() {
+        matcher.matches(None)
+    } else {
+        Ok(false)
+    }
 }
 
 /// Whether the printed text of what a path finds meets the matcher.

@@ -3,11 +3,11 @@
 // (which matchers can't be built) and `specs/Literal.antt` (which requests a literal URL leaves).
 #![tactic(auto)]
 
-pub mod error;
-pub mod parsed_request;
-mod named_test;
-mod url_test;
 mod body_test;
+pub mod error;
 pub mod literal;
-pub mod request_matcher;
+mod named_test;
+pub mod parsed_request;
 pub mod ready_mapping;
+pub mod request_matcher;
+mod url_test;

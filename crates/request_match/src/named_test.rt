@@ -167,7 +167,11 @@ fn meets_none(matcher: &mut ValueMatcher, found: bool) -> Result<bool, AllocErro
     ensures answer { IfOk result (λ yes. IsTrue yes ↔ MeetsRest found matcher.old []) }
     ensures same { matcher.new ≡ matcher.old }
 {
-    if found { Ok(false) } else { matcher.matches(None) }
+    if found {
+        Ok(false)
+    } else {
+        matcher.matches(None)
+    }
 }
 
 /// Whether the text is the name with its ASCII letters in lower case.

@@ -70,11 +70,7 @@ impl UrlTest {
     }
 }
 
-fn meets_kind(
-    kind: &mut UrlKind,
-    alloc: Global,
-    request: &Snapshot,
-) -> Result<bool, AllocError>
+fn meets_kind(kind: &mut UrlKind, alloc: Global, request: &Snapshot) -> Result<bool, AllocError>
     requires { KeepsPattern kind.old }
     ensures answer { IfOk result (λ yes. IsTrue yes ↔ MeetsUrl (url_spec_of kind.old) request.now.url) }
     ensures same { url_spec_of kind.new ≡ url_spec_of kind.old }

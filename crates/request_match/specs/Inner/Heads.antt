@@ -1,5 +1,5 @@
 -- For private clauses: the parts of a matcher but its body patterns.
-use Rattle.std.specs.Prelude.{◌≡◌, Any}
+use Rattle.std.specs.Prelude.{Any}
 use Rattle.mapping_model.specs.declared.request_spec.RequestSpec.{RequestSpec}
 use Rattle.mapping_model.specs.declared.url_spec.UrlSpec.{UrlSpec}
 use Rattle.mock_request.specs.Cookies.{cookie_pairs}

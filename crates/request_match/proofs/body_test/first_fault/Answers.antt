@@ -1,5 +1,5 @@
 use Rattle.std.proofs.Common.{arith, None, Some, subst}
-use Rattle.request_match.specs.Inner.Faults.{IsFirstFault, rank_of, known_rank}
+use Rattle.request_match.specs.Inner.Faults.{IsFirstFault}
 use Rattle.request_match.proofs.FaultLemmas.{known_first, error_first, at_most_six}
 use Rattle.request_match.proofs.body_test.first_fault.Goals as goal
 

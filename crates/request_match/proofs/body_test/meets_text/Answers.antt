@@ -1,6 +1,5 @@
-use Rattle.std.proofs.Common.{◌≡◌, [], ℕ, List, length, arith, ap, sym, ◌∙◌}
+use Rattle.std.proofs.Common.{ap, sym, ◌∙◌}
 use Rattle.std.specs.Str.Lossy.{utf8_lossy}
-use Rattle.std.proofs.lemmas.Grind.{common_steps}
 use Rattle.request_match.proofs.RestLemmas.{text_or_none, empty_of_length}
 use Rattle.request_match.proofs.body_test.meets_text.Goals as goal
 

@@ -12,7 +12,7 @@ loop-spec-preserved c =
     let i = c.loop-spec.spec-index in
     let item = c.spec-item.result in
     let more : take (i + 1) specs ≡ take i specs ++ item ∷ [] =
-        take_more specs i item (omega arith) ∙ ap (λ s. take i specs ++ s ∷ []) (sym c.spec-item.is) in
+    take_more specs i item (omega arith) ∙ ap (λ s. take i specs ++ s ∷ []) (sym c.spec-item.is) in
     record {
       built = c.in_ok-push.ensures ∙ ap (λ ts. ts ++ c.in_ok-build.field-0 ∷ []) c.loop-spec.invariant.built
           ∙ ap (λ t. take i specs ++ t ∷ []) c.in_ok-build.ensures.ok ∙ sym more;

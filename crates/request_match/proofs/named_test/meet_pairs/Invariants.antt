@@ -1,4 +1,4 @@
-use Rattle.std.proofs.Common.{◌≡◌, take, map, All}
+use Rattle.std.proofs.Common.{◌≡◌, take, All}
 use Rattle.mock_request.specs.Values.{pairs_of, values_of}
 use Rattle.request_match.specs.Matching.{MeetsAny}
 use Rattle.request_match.proofs.named_test.meet_pairs.Given as goal

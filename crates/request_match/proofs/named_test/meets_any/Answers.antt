@@ -1,10 +1,9 @@
-use Rattle.std.proofs.Common.{◌≡◌, ◌∷◌, ◌+◌, [], true, false, arith, ap, sym, refl, subst, ◌∙◌, ◌↔◌, length, drop, Bool, string_bytes}
+use Rattle.std.proofs.Common.{◌≡◌, ◌+◌, true, false, arith, ap, sym, refl, subst, ◌∙◌, ◌↔◌, drop, string_bytes}
 use Rattle.std.specs.Str.{bytes_eq}
 use Rattle.std.proofs.lemmas.List.{drop_all, length-map}
 use Rattle.mock_request.specs.Values.{pairs_of, pair_of, values_of}
 use Rattle.request_match.proofs.RestLemmas.{both, answered, matched, matches_read, pair_at, step_found, step_unmet, step_other, at_end}
 use Rattle.request_match.specs.Inner.Rest.{MeetsRest}
-use Rattle.request_match.specs.Matching.{MeetsAny}
 use Rattle.request_match.proofs.named_test.meets_any.Goals as goal
 use Rattle.request_match.proofs.named_test.meets_any.Goals.{then-eq+in_ok-matches+else-branch, else-eq}
 
@@ -15,11 +14,13 @@ returns-then-branch-clause-answer c =
     let item = c.loop-key-item.result in
     let here = pair_at c.args.pairs.now c.loop-key.key-index item (omega arith) c.loop-key-item.is in
     let named : bytes_eq name (string_bytes item.0) ≡ true =
-        ap (bytes_eq name) (sym c.as_str.ensures.value) ∙ sym c.eq.ensures ∙ c.if-eq.true in
+    ap (bytes_eq name) (sym c.as_str.ensures.value) ∙ sym c.eq.ensures ∙ c.if-eq.true in
     let value = matched m c.loop-key.matcher (string_bytes item.1) c.as_str-then-eq.result.now
-        c.loop-key.invariant.same c.as_str-then-eq.ensures.value (c.in_ok-matches.ensures.answer.0 c.if-branch.true) in
-    (λ _. c.loop-key.invariant.left.1 (step_found m name (pairs_of c.args.pairs.now) c.loop-key.key-index (pair_of item)
-    here c.loop-key.found named value), λ _. refl)
+    c.loop-key.invariant.same c.as_str-then-eq.ensures.value (c.in_ok-matches.ensures.answer.0 c.if-branch.true) in (
+      λ _. c.loop-key.invariant.left.1 (step_found m name (pairs_of c.args.pairs.now) c.loop-key.key-index (pair_of item)
+          here c.loop-key.found named value),
+      λ _. refl,
+    )
 
 pub loop-key-preserved : goal.loop-key-preserved
 loop-key-preserved c =
@@ -32,7 +33,7 @@ loop-key-preserved c =
     elim c.if-eq.branch [
       | then-eq+in_ok-matches+else-branch w ↦
           let named : bytes_eq name (string_bytes item.0) ≡ true =
-              ap (bytes_eq name) (sym c.as_str.ensures.value) ∙ sym c.eq.ensures ∙ w.if-eq.true in
+          ap (bytes_eq name) (sym c.as_str.ensures.value) ∙ sym c.eq.ensures ∙ w.if-eq.true in
           record {
             same = w.matcher-is ∙ w.in_ok-matches.ensures.same ∙ c.loop-key.invariant.same;
             left = both c.loop-key.invariant.left
@@ -45,7 +46,7 @@ loop-key-preserved c =
           }
       | else-eq w ↦
           let other : bytes_eq name (string_bytes item.0) ≡ false =
-              ap (bytes_eq name) (sym c.as_str.ensures.value) ∙ sym c.eq.ensures ∙ w.if-eq.false in
+          ap (bytes_eq name) (sym c.as_str.ensures.value) ∙ sym c.eq.ensures ∙ w.if-eq.false in
           record {
             same = w.matcher-is ∙ c.loop-key.invariant.same;
             left = both c.loop-key.invariant.left

@@ -1,4 +1,4 @@
-use Rattle.std.proofs.Common.{◌≡◌, ◌+◌, ◌<◌, [], true, false, arith, ap, sym, refl, subst, ◌∙◌, ◌↔◌, length, drop, map, ℕ, List}
+use Rattle.std.proofs.Common.{◌≡◌, ◌+◌, ◌<◌, [], true, false, arith, sym, refl, subst, ◌∙◌, ◌↔◌, length, drop, map, ℕ, List}
 use Rattle.std.specs.Char.{to_ascii_lowercase}
 use Rattle.std.specs.Str.{bytes_eq}
 use Rattle.std.proofs.lemmas.List.{drop_all, length-map}
@@ -17,9 +17,11 @@ returns-then-branch-clause-answer c =
     let key = c.in-Some.key.now in
     let named : bytes_eq name key ≡ true = sym c.is_lower_case_of.ensures ∙ c.if-is_lower_case_of.true in
     let value = matched m c.loop-i.matcher c.in-Some.value.now c.in-Some.value.now
-        c.loop-i.invariant.same refl (c.in_ok-matches.ensures.answer.0 c.if-branch.true) in
-    (λ _. c.loop-i.invariant.left.1 (step_found m name (header_pairs c.args.request.now.headers) c.loop-i.i
-    (key, c.in-Some.value.now) (sym c.in-Some.ensures) c.loop-i.found named value), λ _. refl)
+    c.loop-i.invariant.same refl (c.in_ok-matches.ensures.answer.0 c.if-branch.true) in (
+      λ _. c.loop-i.invariant.left.1 (step_found m name (header_pairs c.args.request.now.headers) c.loop-i.i
+          (key, c.in-Some.value.now) (sym c.in-Some.ensures) c.loop-i.found named value),
+      λ _. refl,
+    )
 
 pub loop-i-preserved : goal.loop-i-preserved
 loop-i-preserved c =
@@ -32,7 +34,7 @@ loop-i-preserved c =
       | in-Some+then-is_lower_case_of+in_ok-matches+else-branch w ↦
           let pair : List ℕ × List ℕ = (w.in-Some.key.now, w.in-Some.value.now) in
           let named : bytes_eq name pair.0 ≡ true =
-              sym w.is_lower_case_of.ensures ∙ w.if-is_lower_case_of.true in
+          sym w.is_lower_case_of.ensures ∙ w.if-is_lower_case_of.true in
           record {
             same = w.matcher-is ∙ w.in_ok-matches.ensures.same ∙ c.loop-i.invariant.same;
             left = both c.loop-i.invariant.left
@@ -45,7 +47,7 @@ loop-i-preserved c =
       | in-Some+else-is_lower_case_of w ↦
           let pair : List ℕ × List ℕ = (w.in-Some.key.now, w.in-Some.value.now) in
           let other : bytes_eq name pair.0 ≡ false =
-              sym w.is_lower_case_of.ensures ∙ w.if-is_lower_case_of.false in
+          sym w.is_lower_case_of.ensures ∙ w.if-is_lower_case_of.false in
           record {
             same = w.matcher-is ∙ c.loop-i.invariant.same;
             left = both c.loop-i.invariant.left
