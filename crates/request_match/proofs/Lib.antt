@@ -1,0 +1,5 @@
+pub mod AnyLemmas
+pub mod FaultLemmas
+pub mod BuildLemmas
+pub mod ReadLemmas
+pub mod RestLemmas

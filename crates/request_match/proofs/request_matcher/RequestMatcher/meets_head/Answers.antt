@@ -1,0 +1,52 @@
+use Rattle.std.proofs.Common.{ap, sym, subst, ◌∙◌}
+use Rattle.mock_request.specs.Query.{query_pairs}
+use Rattle.request_match.specs.Matching.{MeetsMethod, MeetsUrl, MeetHeaders, MeetPairs}
+use Rattle.mock_request.specs.Cookies.{cookie_pairs}
+use Rattle.request_match.proofs.RestLemmas.{answered}
+use Rattle.request_match.proofs.request_matcher.RequestMatcher.meets_head.Goals as goal
+
+pub returns-then-not-branch-2-clause-answer : goal.returns-then-not-branch-2-clause-answer
+returns-then-not-branch-2-clause-answer c = (
+  λ f. absurd cc (f),
+  λ h.
+      let told = c.in_ok-meet_headers.ensures.answer.1
+      (subst (λ ts. MeetHeaders ts c.args.request.now) (sym c.as_mut_slice.ensures.value)
+      (subst (λ m. MeetHeaders m.headers c.args.request.now) (sym c.self.view_is) h.headers)) in
+      cc,
+)
+
+pub returns-then-not-branch-3-clause-answer : goal.returns-then-not-branch-3-clause-answer
+returns-then-not-branch-3-clause-answer c = (
+  λ f. absurd cc (f),
+  λ h.
+      let told = c.in_ok-meet_pairs.ensures.answer.1
+      (subst (λ ps. MeetPairs c.as_mut_slice-2.result.now ps) (sym c.query.ensures)
+      (subst (λ ts. MeetPairs ts (query_pairs c.args.request.now.url)) (sym c.as_mut_slice-2.ensures.value)
+      (subst (λ m. MeetPairs m.query (query_pairs c.args.request.now.url)) (sym c.self.view_is) h.query))) in
+      cc,
+)
+
+pub returns-clause-answer : goal.returns-clause-answer
+returns-clause-answer c =
+    let request = c.args.request.now in
+    answered c.meet_pairs-2.result c.meet_pairs-2.ensures.answer (
+      λ a. record {
+        method = subst (λ m. MeetsMethod m.method request.method) c.self.view_is
+            (subst (MeetsMethod c.self.inside.method) (c.method.ensures ∙ ap (λ r. r.method) c.snapshot-snapshot.ensures)
+            (c.meets_method.ensures.0 cc));
+        url = subst (λ m. MeetsUrl m.url request.url) c.self.view_is
+            (subst (λ r. MeetsUrl c.self.inside.url r.url) c.snapshot-snapshot.ensures (c.in_ok-meets.ensures.answer.0 cc));
+        headers = subst (λ m. MeetHeaders m.headers request) c.self.view_is
+            (subst (λ ts. MeetHeaders ts request) c.as_mut_slice.ensures.value (c.in_ok-meet_headers.ensures.answer.0 cc));
+        query = subst (λ m. MeetPairs m.query (query_pairs request.url)) c.self.view_is
+            (subst (λ ts. MeetPairs ts (query_pairs request.url)) c.as_mut_slice-2.ensures.value
+            (subst (λ ps. MeetPairs c.as_mut_slice-2.result.now ps) c.query.ensures
+            (c.in_ok-meet_pairs.ensures.answer.0 cc)));
+        cookies = subst (λ m. MeetPairs m.cookies (cookie_pairs request.headers)) c.self.view_is
+            (subst (λ ts. MeetPairs ts (cookie_pairs request.headers)) c.as_mut_slice-3.ensures.value
+            (subst (λ ps. MeetPairs c.as_mut_slice-3.result.now ps) c.cookies.ensures a));
+      },
+      λ h. subst (λ ps. MeetPairs c.as_mut_slice-3.result.now ps) (sym c.cookies.ensures)
+          (subst (λ ts. MeetPairs ts (cookie_pairs request.headers)) (sym c.as_mut_slice-3.ensures.value)
+          (subst (λ m. MeetPairs m.cookies (cookie_pairs request.headers)) (sym c.self.view_is) h.cookies)),
+    )

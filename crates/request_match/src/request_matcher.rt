@@ -1,0 +1,139 @@
+// Which requests meet a matcher.
+ghost use Rattle.std.specs.Prelude.{◌≡◌, ◌↔◌, IfOk, IfErr, IfSome, OnOk, IsTrue, option_map, option_copied};
+ghost use Rattle.mock_request.specs.Request.{Request};
+ghost use Rattle.request_match.specs.Inner.Heads.{MeetsHead};
+ghost use Rattle.request_match.specs.Literal.{method_of, literal_url, text_of};
+ghost use Rattle.request_match.specs.Matching.{MeetsRequest, MeetsMethod};
+ghost use Rattle.request_match.specs.Refusal.{CanBeBuilt, IsFault};
+
+use crate::body_test::{BodyTest, build_body, meet_body};
+use crate::error::RequestMatchError;
+use crate::literal::{Literal, LiteralKind};
+use crate::named_test::{NamedTest, build_tests, meet_headers, meet_pairs};
+use crate::parsed_request::ParsedRequest;
+use crate::url_test::{UrlKind, UrlTest};
+use mapping_model::request_spec::RequestSpec;
+use mock_request::request_values::RequestValues;
+use plain_text::text::Text;
+use std::alloc::{AllocError, Global};
+use std::marker::Model;
+
+/// A request matcher that was built: contracts see what it was built from.
+#[derive(Drop)]
+pub struct RequestMatcher {
+    method: Option<Text>,
+    url: UrlTest,
+    headers: Vec<NamedTest>,
+    query: Vec<NamedTest>,
+    cookies: Vec<NamedTest>,
+    body: Vec<BodyTest>,
+    alloc: Global,
+}
+
+impl Model for RequestMatcher {
+    ghost use Rattle.mapping_model.specs.declared.request_spec.RequestSpec.{RequestSpec};
+
+    ghost Value = { RequestSpec };
+
+    ghost view = { λ m. record {
+      method = m.method;
+      url = m.url;
+      headers = m.headers.items;
+      query = m.query.items;
+      cookies = m.cookies.items;
+      body = m.body.items;
+    } };
+}
+
+impl RequestMatcher {
+    /// Builds a matcher, each pattern, path and expected value of it once for all requests.
+    pub fn build(alloc: Global, spec: &RequestSpec) -> Result<RequestMatcher, RequestMatchError>
+        ensures ok { IfOk result (λ matcher. matcher ≡ spec.now) }
+        ensures usable { OnOk result (CanBeBuilt spec.now) }
+        ensures fault { IfErr result (IsFault spec.now) }
+    {
+        Ok(RequestMatcher {
+            method: match &spec.method {
+                Some(method) => Some(method.try_clone()?),
+                None => None,
+            },
+            url: UrlTest::build(alloc, &spec.url)?,
+            headers: build_tests(alloc, spec.headers.as_slice())?,
+            query: build_tests(alloc, spec.query.as_slice())?,
+            cookies: build_tests(alloc, spec.cookies.as_slice())?,
+            body: build_body(alloc, spec.body.as_slice())?,
+            alloc,
+        })
+    }
+
+    /// Whether the request meets it. The body is compared last.
+    pub fn matches(&mut self, request: &mut ParsedRequest<'_>) -> Result<bool, AllocError>
+        ensures answer { IfOk result (λ yes. IsTrue yes ↔ MeetsRequest self.old request.old) }
+        ensures same { self.new ≡ self.old }
+        ensures same_request { request.new ≡ request.old }
+    {
+        if !self.meets_head(request.values())? {
+            return Ok(false);
+        }
+        meet_body(self.body.as_mut_slice(), request)
+    }
+
+    /// Whether all but the body meets it, in the order of what the comparison costs.
+    fn meets_head(&mut self, request: &RequestValues<'_>) -> Result<bool, AllocError>
+        ensures answer { IfOk result (λ yes. IsTrue yes ↔ MeetsHead self.old request.now) }
+        ensures same { self.new ≡ self.old }
+    {
+        let snapshot = request.snapshot();
+        if !meets_method(&self.method, snapshot.method()) {
+            return Ok(false);
+        }
+        if !self.url.meets(self.alloc, snapshot)? {
+            return Ok(false);
+        }
+        if !meet_headers(self.headers.as_mut_slice(), request)? {
+            return Ok(false);
+        }
+        if !meet_pairs(self.query.as_mut_slice(), request.query())? {
+            return Ok(false);
+        }
+        meet_pairs(self.cookies.as_mut_slice(), request.cookies())
+    }
+
+    /// The literal URL that it asks for, if it does. Takes no memory.
+    pub fn literal(&self) -> Option<Literal<'_>>
+        ensures value { option_map (λ l. (l.kind, l.text.now)) result ≡ literal_url self.now.url }
+        ensures method { IfSome result (λ l. option_copied l.method ≡ method_of self.now.method) }
+        ensures only { (request : Request) → MeetsRequest self.now request → IfSome result (λ l.
+            (text_of l.kind request.url ≡ l.text.now)
+            × IfSome (option_copied l.method) (λ method. request.method ≡ method)) }
+    {
+        let (kind, text) = match &self.url.kind {
+            UrlKind::Url(text) => (LiteralKind::Url, text.as_str()),
+            UrlKind::UrlPath(text) => (LiteralKind::UrlPath, text.as_str()),
+            _ => return None,
+        };
+        Some(Literal {
+            kind,
+            method: wanted_method(&self.method),
+            text,
+        })
+    }
+}
+
+fn wanted_method(method: &Option<Text>) -> Option<&str>
+    ensures { option_copied result ≡ method_of method.now }
+{
+    match method {
+        Some(method) if method.as_str() != "ANY" => Some(method.as_str()),
+        _ => None,
+    }
+}
+
+fn meets_method(wanted: &Option<Text>, method: &str) -> bool
+    ensures { IsTrue result ↔ MeetsMethod wanted.now method.now }
+{
+    match wanted {
+        Some(wanted) => wanted.as_str() == method || wanted.as_str() == "ANY",
+        None => true,
+    }
+}
