@@ -14,7 +14,7 @@ use Rattle.serde_json.specs.Find.{get}
 -- each member's name is one of these
 abbrev pub has_only : List (List ℕ) → Members → Bool
 has_only names no_members = true
-has_only names (member k d ms) = list_any (bytes_eq k) names && has_only names ms
+has_only names (member k d ms) = list_any (λ name. bytes_eq name k) names && has_only names ms
 
 -- the reading of an object with no other fields than these
 abbrev pub only : {A : Type 0} → List (List ℕ) → Data → Reading A → Reading A

@@ -37,14 +37,9 @@ fn has_only(names: &[&str], members: &Map<String, Value>) -> bool
 }
 
 fn is_one_of(names: &[&str], name: &str) -> bool
-    ensures { result ≡ list_any (bytes_eq name.now) (map (λ name. name.now) names.now) }
+    ensures { result ≡ list_any (λ known. bytes_eq known name.now) (map (λ known. known.now) names.now) }
 {
-    for known in names {
-        if name == *known {
-            return true;
-        }
-    }
-    false
+    names.contains(&name)
 }
 
 /// A text.
