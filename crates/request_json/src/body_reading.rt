@@ -1,7 +1,7 @@
 // Which body matcher an object spells.
 ghost use Rattle.std.specs.Prelude.{◌≡◌, IfOk, codes, option_map};
 ghost use Rattle.json_reading.specs.Fields.{optional, bytes_of};
-ghost use Rattle.json_reading.specs.Reading.{both, read_map};
+ghost use Rattle.json_reading.specs.Reading.{both, read_map, read_then};
 ghost use Rattle.mapping_model.specs.declared.body_pattern.BodyPattern.TheVariants.{Value as ValueMatcher};
 ghost use Rattle.mapping_model.specs.declared.body_pattern.BodyPattern.TheVariants.{BinaryEqualTo, JsonPath};
 ghost use Rattle.request_json.specs.BodyReading.{expected_of, equal_json_with, equal_json_in, path_of, body_in, reading_of_body};
@@ -82,11 +82,17 @@ fn equal_json_in(alloc: Global, value: &Value) -> Result<Reading<Option<BodyPatt
     let expected = expected_in(alloc, value)?;
     let any_order = bool_field("ignoreArrayOrder", value);
     let more = bool_field("ignoreExtraElements", value);
-    match both(expected, both(any_order, more)) {
-        Reading::Read((expected, (any_order, more))) => {
-            Ok(equal_json_with(expected, any_order, more))
-        }
-        Reading::Wrong(kind) => Ok(Reading::Wrong(kind)),
+    Ok(equal_json_of(both(expected, both(any_order, more))))
+}
+
+fn equal_json_of(
+    parts: Reading<(Option<Text>, (Option<bool>, Option<bool>))>,
+) -> Reading<Option<BodyPattern>>
+    ensures { result ≡ read_then (λ p. equal_json_with p.0 p.1.0 p.1.1) parts }
+{
+    match parts {
+        Reading::Read((expected, (any_order, more))) => equal_json_with(expected, any_order, more),
+        Reading::Wrong(kind) => Reading::Wrong(kind),
     }
 }
 
