@@ -60,12 +60,12 @@ impl Snapshot {
           headers = headers_of headers.now;
           body = body.now;
         }) }
-        ensures within { OnOk result (length body.now ≤ 1048576) }
+        ensures within { OnOk result (length body.now ≤ BODY_LIMIT) }
 
         // A bad target is reported before a body that is too large.
         ensures bad_url { IsErrOf result SnapshotError.BadUrl ↔ ¬ (HasUrl target.now) }
         ensures too_large { IsErrOf result SnapshotError.BodyTooLarge
-            ↔ (HasUrl target.now × (1048576 < length body.now)) }
+            ↔ (HasUrl target.now × (BODY_LIMIT < length body.now)) }
     {
         let text = path_and_query(target).ok_or(SnapshotError::BadUrl)?;
         if body.len() > BODY_LIMIT {
