@@ -10,4 +10,5 @@ mod named_test;
 pub mod parsed_request;
 pub mod ready_mapping;
 pub mod request_matcher;
+pub mod shared_spec;
 mod url_test;
