@@ -27,14 +27,15 @@ pub(crate) struct UrlTest {
     pub(crate) kind: UrlKind,
 }
 
+/// Boxed where it is large: thousands of matchers are tried in turn, most of them for a literal URL.
 #[derive(Drop)]
 pub(crate) enum UrlKind {
     Any,
     Url(Text),
     /// A pattern and the matcher of it.
-    UrlPattern(Text, ValueMatcher),
+    UrlPattern(Text, Box<ValueMatcher>),
     UrlPath(Text),
-    UrlPathPattern(Text, ValueMatcher),
+    UrlPathPattern(Text, Box<ValueMatcher>),
     UrlPathTemplate(PathTemplate, Vec<NamedTest>),
 }
 
@@ -108,11 +109,17 @@ fn kind_of(alloc: Global, spec: &UrlSpec) -> Result<UrlKind, RequestMatchError>
         UrlSpec::UrlPath(text) => Ok(UrlKind::UrlPath(text.try_clone()?)),
         UrlSpec::UrlPattern(text) => {
             let matcher = pattern_of(alloc, text)?;
-            Ok(UrlKind::UrlPattern(text.try_clone()?, matcher))
+            Ok(UrlKind::UrlPattern(
+                text.try_clone()?,
+                Box::new(alloc, matcher)?,
+            ))
         }
         UrlSpec::UrlPathPattern(text) => {
             let matcher = pattern_of(alloc, text)?;
-            Ok(UrlKind::UrlPathPattern(text.try_clone()?, matcher))
+            Ok(UrlKind::UrlPathPattern(
+                text.try_clone()?,
+                Box::new(alloc, matcher)?,
+            ))
         }
         UrlSpec::UrlPathTemplate {
             template,
