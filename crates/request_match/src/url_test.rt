@@ -109,17 +109,11 @@ fn kind_of(alloc: Global, spec: &UrlSpec) -> Result<UrlKind, RequestMatchError>
         UrlSpec::UrlPath(text) => Ok(UrlKind::UrlPath(text.try_clone()?)),
         UrlSpec::UrlPattern(text) => {
             let matcher = pattern_of(alloc, text)?;
-            Ok(UrlKind::UrlPattern(
-                text.try_clone()?,
-                Box::new(alloc, matcher)?,
-            ))
+            Ok(UrlKind::UrlPattern(text.try_clone()?, matcher))
         }
         UrlSpec::UrlPathPattern(text) => {
             let matcher = pattern_of(alloc, text)?;
-            Ok(UrlKind::UrlPathPattern(
-                text.try_clone()?,
-                Box::new(alloc, matcher)?,
-            ))
+            Ok(UrlKind::UrlPathPattern(text.try_clone()?, matcher))
         }
         UrlSpec::UrlPathTemplate {
             template,
@@ -144,13 +138,20 @@ fn template_kind(
 }
 
 /// The matcher of a pattern.
-fn pattern_of(alloc: Global, text: &Text) -> Result<ValueMatcher, ValueError>
-    ensures ok { IfOk result (λ matcher. matcher ≡ ValueSpec.Matches text.now) }
+fn pattern_of(alloc: Global, text: &Text) -> Result<Box<ValueMatcher>, ValueError>
+    ensures ok { IfOk result (λ matcher. matcher.value ≡ ValueSpec.Matches text.now) }
     ensures patterns { OnOk result (All HasPattern (ValueSpec.Matches text.now ∷ [])) }
     ensures bad_pattern { IsErrOf result ValueError.BadPattern → Any MayBeRefused (ValueSpec.Matches text.now ∷ []) }
 {
     let pattern = ValueSpec::Matches(text.try_clone()?);
-    ValueMatcher::build(alloc, &pattern)
+    let matcher = ValueMatcher::build(alloc, &pattern)?;
+    Ok(boxed(alloc, matcher)?)
+}
+
+fn boxed(alloc: Global, matcher: ValueMatcher) -> Result<Box<ValueMatcher>, AllocError>
+    ensures { IfOk result (λ boxed. boxed.value ≡ matcher) }
+{
+    Ok(Box::new(alloc, matcher)?)
 }
 
 /// Whether the path matches the template and what that binds meets the parameters.

@@ -1,4 +1,4 @@
-use Rattle.std.proofs.Common.{◌↔◌, All, IfOk, IsTrue, ap, sym, subst, ◌∙◌}
+use Rattle.std.proofs.Common.{◌↔◌, All, IfOk, IsTrue, ap, subst, ◌∙◌}
 use Rattle.request_match.specs.Inner.Heads.{MeetsHead}
 use Rattle.request_match.specs.Matching.{MeetsBody}
 use Rattle.request_match.proofs.RestLemmas.{answered}
