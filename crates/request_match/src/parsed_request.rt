@@ -22,11 +22,13 @@ use std::alloc::{AllocError, Global};
 use std::marker::Model;
 use value_match::value_matcher::ValueMatcher;
 
-/// The path and the values of a request and the JSON of its body, made once for all mappings that it is compared with.
-/// Contracts see the request alone.
+/// The method, URL, path and values of a request and the JSON of its body, made once for all mappings that it is compared
+/// with. Contracts see the request alone.
 #[derive(Drop)]
 pub struct ParsedRequest<'a> {
     values: RequestValues<'a>,
+    method: &'a str,
+    url: &'a str,
     path: &'a str,
     /// Read when the first matcher asks for it; `Some(None)`: the body isn't JSON.
     json: Option<Option<Data>>,
@@ -43,7 +45,8 @@ impl<'a> Model for ParsedRequest<'a> {
 
     ghost view = { λ p. p.values };
 
-    ghost invariant = { λ p. (p.path.now ≡ path_of p.values.url) × IfSome p.json (IsReadOf p.values.body) };
+    ghost invariant = { λ p. (p.method.now ≡ p.values.method) × (p.url.now ≡ p.values.url)
+        × (p.path.now ≡ path_of p.values.url) × IfSome p.json (IsReadOf p.values.body) };
 }
 
 impl<'a> ParsedRequest<'a> {
@@ -53,6 +56,8 @@ impl<'a> ParsedRequest<'a> {
     {
         Ok(ParsedRequest {
             values: RequestValues::read(alloc, snapshot)?,
+            method: snapshot.method(),
+            url: snapshot.url(),
             path: snapshot.path(),
             json: None,
             alloc,
@@ -69,14 +74,14 @@ impl<'a> ParsedRequest<'a> {
     pub fn method(&self) -> &'a str
         ensures { result.now ≡ self.now.method }
     {
-        self.values.snapshot().method()
+        self.method
     }
 
     /// The path and the query as they were received.
     pub fn url(&self) -> &'a str
         ensures { result.now ≡ self.now.url }
     {
-        self.values.snapshot().url()
+        self.url
     }
 
     /// The URL up to the first `?`. It was looked for once.
