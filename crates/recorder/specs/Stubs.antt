@@ -24,7 +24,7 @@ use Rattle.value_match.specs.declared.value_spec.ValueSpec.{ValueSpec}
 use Rattle.value_match.specs.declared.value_spec.ValueSpec.TheVariants as value
 use Rattle.recorder.specs.declared.exchange.Exchange.{Exchange}
 use Rattle.recorder.specs.declared.recording.Session.{Session}
-use Rattle.recorder.specs.Key.{KeyParts, key_of, headers_named, captured_headers}
+use Rattle.recorder.specs.Key.{KeyParts, key_of, headers_named}
 
 abbrev pub same_header : Header → Header → Bool
 same_header a b = bytes_eq a.name b.name && bytes_eq a.value b.value
@@ -60,6 +60,16 @@ response_of reply = record {
       content.Plain (map (λ line. record { name = line.name; value = line.value }) reply.headers) (reply_body reply.body);
 }
 
+-- one header at most, and its value is UTF-8
+abbrev pub is_text_once : List Header → Bool
+is_text_once headers = nat_le (length headers) 1 && list_all (λ header. is_utf8 header.value) headers
+
+-- its header values are UTF-8, and a response may have as many lines and this status
+abbrev pub can_be_response : Reply → Bool
+can_be_response reply =
+    list_all (λ line. is_utf8 line.value) reply.headers && nat_le (length reply.headers) HEADER_LIMIT
+    && nat_le 200 reply.status && nat_le reply.status 599
+
 module _ (captured : List (List ℕ)) where
   abbrev pub request_of : Exchange → RequestSpec
   request_of exchange = record {
@@ -74,11 +84,8 @@ module _ (captured : List (List ℕ)) where
   -- no captured header comes twice, what becomes text is UTF-8, and the reply can be a response
   abbrev pub is_kept : Exchange → Bool
   is_kept exchange =
-      list_all (λ name. nat_le (length (headers_named name exchange.request.headers)) 1) captured
-      && list_all (λ header. is_utf8 header.value) (captured_headers captured exchange.request.headers)
-      && list_all (λ line. is_utf8 line.value) exchange.reply.headers
-      && nat_le (length exchange.reply.headers) HEADER_LIMIT
-      && nat_le 200 exchange.reply.status && nat_le exchange.reply.status 599
+      list_all (λ name. is_text_once (headers_named name exchange.request.headers)) captured
+      && can_be_response exchange.reply
 
   -- ---- groups: `all` are the exchanges that aren't skipped, `before` those before this one
 
