@@ -1,2 +1,0 @@
-pub mod StepLemmas
-pub mod MapLemmas
