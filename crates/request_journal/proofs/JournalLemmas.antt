@@ -4,7 +4,8 @@ use Rattle.std.proofs.Common.{refl, ap, ◌∙◌, arith, reverse, option_map}
 use Rattle.std.specs.List.{list_any, filter_map, cons_option}
 use Rattle.mock_request.specs.Request.{Request}
 use Rattle.request_journal.specs.Events.{Numbered, numbered, after_last}
-use Rattle.request_journal.specs.Journal.{Entry, clears, visible}
+use Rattle.request_journal.specs.Journal.{clears, visible}
+use Rattle.request_journal.specs.declared.entry.Entry.{Entry}
 use Rattle.request_journal.specs.Past.{Past, with_event, last_number, numbered_events}
 use Rattle.request_journal.specs.declared.event.Event.{Event}
 use Rattle.request_journal.proofs.LiveLemmas.{any_one}
