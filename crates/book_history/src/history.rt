@@ -1,10 +1,9 @@
 // The events of a book.
-ghost use Rattle.std.specs.Prelude.{◌≡◌, ◌+◌, ◌<◌, ◌≤◌, ◌↔◌, ◌×◌, [], length, option_copied, IfOk, OnOk, OnErr, IsTrue, IsErrOf};
+ghost use Rattle.std.specs.Prelude.{◌≡◌, ◌+◌, ◌<◌, ◌≤◌, ◌↔◌, [], length, option_copied, IfOk, OnOk, OnErr, IsTrue, IsErrOf};
 ghost use Rattle.request_match.specs.Matching.{MeetsRequest};
-ghost use Rattle.request_journal.specs.Journal.{requests, unmatched, event_at, Picks};
+ghost use Rattle.request_journal.specs.Journal.{requests, unmatched, event_at, Picks, IsCount};
 ghost use Rattle.request_journal.specs.Legal.{IsCheckpoint};
 ghost use Rattle.request_journal.specs.Past.{opening_base, with_event, last_number};
-ghost use Rattle.request_journal.specs.declared.entry.Entry.{Entry};
 ghost use Rattle.request_journal.specs.declared.limits.TheConstants.{NUMBER_LIMIT};
 
 use crate::error::HistoryError;
@@ -14,7 +13,7 @@ use crate::known::Known;
 use crate::parts::Parts;
 use plain_text::items::Items;
 use request_journal::entry::Entry;
-use request_journal::limits::NUMBER_LIMIT;
+use request_journal::limits;
 use request_journal::mapping::Mapping;
 use request_journal::shared_event::SharedEvent;
 use request_match::request_matcher::RequestMatcher;
@@ -90,7 +89,7 @@ impl History {
     pub fn is_full(&self) -> bool
         ensures { IsTrue result ↔ (NUMBER_LIMIT ≤ last_number self.now.past) }
     {
-        self.last_number() >= NUMBER_LIMIT
+        self.last_number() >= limits::NUMBER_LIMIT
     }
 
     /// The event of this number, where it is kept.
@@ -185,8 +184,8 @@ impl History {
 
     /// How many meet the matcher.
     pub fn count(&self, alloc: Global, matcher: &mut RequestMatcher) -> Result<usize, AllocError>
-        ensures count { IfOk result (λ count. (found : List Entry) × (count ≡ length found) × Picks
-            (λ entry. MeetsRequest matcher.old entry.request) (requests self.now.past) found) }
+        ensures count { IfOk result (IsCount
+            (λ entry. MeetsRequest matcher.old entry.request) (requests self.now.past)) }
         ensures same { matcher.new ≡ matcher.old }
     {
         Ok(self.find(alloc, matcher)?.len())

@@ -2,7 +2,7 @@
 ghost use Rattle.std.specs.Borrow.{ftrue};
 ghost use Rattle.std.specs.Coded.{codes};
 ghost use Rattle.std.specs.Prelude.{◌≡◌};
-ghost use Rattle.request_journal.specs.Past.{Past, with_events, opening_base};
+ghost use Rattle.request_journal.specs.Past.{Past, with_events};
 ghost use Rattle.book_history.specs.Inner.Checkpoint.{just_opened, checkpointed};
 ghost use Rattle.book_history.specs.Inner.Codes.{states_code};
 

@@ -6,3 +6,5 @@ pub mod JournalLemmas
 pub mod RecordingLemmas
 pub mod PlaceLemmas
 pub mod SameLemmas
+pub mod IdLemmas
+pub mod OrderLemmas

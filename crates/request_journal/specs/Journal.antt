@@ -46,4 +46,5 @@ event_at past number = option_map (λ n. n.event) (find (λ n. n.number == numbe
 -- the second list is the items of the first that the fact holds of, in their order
 abbrev pub Picks : {X : Type 0} → (X → Type 0) → List X → List X → Type 0
 Picks P [] ys = ys ≡ []
-Picks {X} P (x ∷ xs) ys = (P x × ((rest : List X) × (ys ≡ x ∷ rest) × Picks P xs rest)) ⊎ (¬ (P x) × Picks P xs ys)
+Picks {X} P (x ∷ xs) ys =
+    ((rest : List X) × (ys ≡ x ∷ rest) × P x × Picks P xs rest) ⊎ (¬ (P x) × Picks P xs ys)
