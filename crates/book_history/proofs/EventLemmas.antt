@@ -1,5 +1,5 @@
 -- The event of a number, by its index.
-use Rattle.std.proofs.Common.{◌≡◌, ℕ, ◌+◌, ◌-◌, ◌<◌, ◌≤◌, suc, true, false, ◌==◌, cond, List, [], ◌∷◌, Option, None, Some}
+use Rattle.std.proofs.Common.{◌≡◌, ℕ, ◌+◌, ◌-◌, ◌<◌, ◌≤◌, zero, suc, true, false, ◌==◌, cond, List, [], ◌∷◌, Option, None, Some}
 use Rattle.std.proofs.Common.{option_map, refl, sym, ap, ◌∙◌, arith, find}
 use Rattle.std.proofs.lemmas.Bool.Decides.{nat_tests}
 use Rattle.std.specs.List.{slice_get}
@@ -20,7 +20,7 @@ same a b e = grind (arith, nat_tests)
 found_at : (first : ℕ) (es : List Event) (index number : ℕ) → number ≡ first + index
     → option_map (λ n. n.event) (find (has_number number) (numbered first es)) ≡ slice_get es index
 found_at first [] index number e = refl
-found_at first (x ∷ xs) 0 number e =
+found_at first (x ∷ xs) zero number e =
     ap (λ b. option_map (λ n. n.event) (cond b (Some (record { number = first; event = x }))
     (find (has_number number) (numbered (first + 1) xs)))) (same first number (omega arith))
 found_at first (x ∷ xs) (suc index) number e =

@@ -74,7 +74,7 @@ impl History {
     pub fn len(&self) -> usize
         ensures { result ≡ length self.now.past.events }
     {
-        self.parts.events.items.len()
+        self.parts.events.items.as_slice().len()
     }
 
     /// The number of the last event, kept or not, or else the opening number.

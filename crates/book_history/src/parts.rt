@@ -1,6 +1,7 @@
 // What a history is made of.
-ghost use Rattle.std.specs.Prelude.{◌≡◌, ◌+◌, ◌^◌, ◌<◌, ◌≤◌, [], vec_len, vec_capacity};
+ghost use Rattle.std.specs.Prelude.{◌≡◌, ◌+◌, ◌<◌, ◌≤◌, [], length, vec_len, vec_capacity};
 ghost use Rattle.request_journal.specs.Past.{with_events};
+ghost use Rattle.request_journal.specs.declared.limits.TheConstants.{NUMBER_LIMIT};
 ghost use Rattle.book_history.specs.Inner.Checkpoint.{checkpointed};
 
 use crate::events::Events;
@@ -22,17 +23,17 @@ pub(crate) struct Parts {
 impl Parts {
     /// The number of the last event.
     pub(crate) fn last_number(&self) -> u64
-        requires { self.now.base + vec_len self.now.events.items ≤ 2 ^ 63 }
-        ensures { result ≡ self.now.base + vec_len self.now.events.items }
+        requires { self.now.base + length self.now.events.items.items ≤ NUMBER_LIMIT }
+        ensures { result ≡ self.now.base + length self.now.events.items.items }
     {
-        self.base + self.events.items.len() as u64
+        self.base + self.events.items.as_slice().len() as u64
     }
 
     pub(crate) fn checkpoint(&mut self)
-        requires { self.old.base + vec_len self.old.events.items ≤ 2 ^ 63 }
+        requires { self.old.base + length self.old.events.items.items ≤ NUMBER_LIMIT }
         ensures known { self.new.known.past
             ≡ checkpointed (with_events self.old.known.past self.old.events.items.items) }
-        ensures base { self.new.base ≡ self.old.base + vec_len self.old.events.items }
+        ensures base { self.new.base ≡ self.old.base + length self.old.events.items.items }
         ensures empty { self.new.events.items.items ≡ [] }
         ensures len { vec_len self.new.events.items ≡ 0 }
         ensures room { 0 < vec_capacity self.old.events.items → 0 < vec_capacity self.new.events.items }

@@ -1,5 +1,5 @@
 -- Live mappings are in order of their places, each of another place, so a past allows one choice for a request.
-use Rattle.std.proofs.Common.{◌≡◌, ◌⊎◌, inl, inr, ℕ, suc, ◌+◌, ◌<◌, ◌≤◌, true, false, cond, List, [], ◌∷◌, ◌++◌, length}
+use Rattle.std.proofs.Common.{◌≡◌, ◌⊎◌, inl, inr, ℕ, zero, suc, ◌+◌, ◌<◌, ◌≤◌, true, false, cond, List, [], ◌∷◌, ◌++◌, length}
 use Rattle.std.proofs.Common.{refl, sym, ap, subst, ◌∙◌, arith, append-nil}
 use Rattle.std.proofs.lemmas.Bool.{cases_order}
 use Rattle.std.proofs.lemmas.Int.{by_lt_z, ints}
@@ -127,7 +127,7 @@ not_itself place (inl l) = absurd (omega arith)
 not_itself place (inr h) = absurd (omega (arith, h.1))
 
 first_or_later : (p : Placed) (ps : List Placed) (q : Placed) → Contains (p ∷ ps) q → (p ≡ q) ⊎ Contains ps q
-first_or_later p ps q (0, l, e) = inl e
+first_or_later p ps q (zero, l, e) = inl e
 first_or_later p ps q (suc k, l, e) = inr (k, omega (arith, l), e)
 
 newer_one : (place : Place) (ps : List Placed) (q : Placed) → AreNewer place ps → Contains ps q → IsNewer q.place place

@@ -1,6 +1,6 @@
 -- What the journal shows: the requests served since it was last cleared.
-use Rattle.std.specs.Prelude.{◌≡◌, ◌⊎◌, ℕ, ◌==◌, Bool, true, false, List, [], ◌∷◌, filter_map, reverse, Option, Some}
-use Rattle.std.specs.Prelude.{None, option_map, find}
+use Rattle.std.specs.Prelude.{◌≡◌, ◌⊎◌, ℕ, ◌==◌, Bool, true, false, List, [], ◌∷◌, length, filter_map, reverse, Option}
+use Rattle.std.specs.Prelude.{Some, None, option_map, find}
 use Rattle.mock_request.specs.Request.{Request}
 use Rattle.request_journal.specs.Events.{after_last}
 use Rattle.request_journal.specs.Past.{Past, numbered_events}
@@ -48,3 +48,7 @@ abbrev pub Picks : {X : Type 0} → (X → Type 0) → List X → List X → Typ
 Picks P [] ys = ys ≡ []
 Picks {X} P (x ∷ xs) ys =
     ((rest : List X) × (ys ≡ x ∷ rest) × P x × Picks P xs rest) ⊎ (¬ (P x) × Picks P xs ys)
+
+-- as many items of the list as the fact holds of
+abbrev pub IsCount : {X : Type 0} → (X → Type 0) → List X → ℕ → Type 0
+IsCount {X} P xs count = (picked : List X) × Picks P xs picked × (count ≡ length picked)

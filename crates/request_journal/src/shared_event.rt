@@ -5,7 +5,11 @@ use crate::event::Event;
 use plain_text::plain::{Same, TryClone};
 use std::alloc::{AllocError, Global};
 use std::marker::Model;
+use std::mem::size_of;
 use std::sync::Arc;
+
+// Beside it a shared one has two counts, and each copy a pointer.
+const _: () = prove!(size_of::<Event>() <= 64);
 
 /// An event, which contracts see as it is: a copy shares it.
 #[derive(Drop)]
