@@ -1,10 +1,10 @@
 -- The base that a checkpoint makes says what the events left.
-use Rattle.std.proofs.Common.{◌≡◌, ℕ, true, false, cond, List, [], ◌∷◌, Option, None, Some, refl, sym, ap, ◌∙◌}
+use Rattle.std.proofs.Common.{◌≡◌, ℕ, Bool, true, false, cond, List, [], ◌∷◌, Option, None, Some, refl, sym, ap, subst, ◌∙◌}
 use Rattle.std.proofs.lemmas.Map.Text.{is_eq-slice_cmp}
 use Rattle.std.proofs.lemmas.Slice.Eq.{bytes_eq-Decides}
 use Rattle.std.specs.FinMap as map
 use Rattle.std.specs.FinMap.{get-insert, get-empty}
-use Rattle.std.specs.Cmp.Lexicographic.{slice_cmp}
+use Rattle.std.specs.Cmp.Lexicographic.{slice_cmp, nat_list_cmp_total}
 use Rattle.std.specs.Option.{unwrap_or}
 use Rattle.std.specs.Ordering.{nat_cmp, eq_by_cmp}
 use Rattle.std.specs.Str.{bytes_eq}
@@ -12,7 +12,7 @@ use Rattle.mapping_model.specs.declared.scenario_spec.ScenarioSpec.{ScenarioSpec
 use Rattle.scenario_core.specs.Scenarios.{States, started, state_of}
 use Rattle.request_journal.specs.Events.{last_of}
 use Rattle.request_journal.specs.Legal.{IsCheckpoint}
-use Rattle.request_journal.specs.Past.{Past}
+use Rattle.request_journal.specs.Past.{Past, with_events}
 use Rattle.request_journal.specs.State.{next_state, touch}
 use Rattle.request_journal.specs.declared.event.Event.{Event}
 use Rattle.request_journal.specs.declared.event.Event.TheVariants as event
@@ -36,7 +36,7 @@ same_name name other = is_eq-slice_cmp name other ∙ same_back name other
 set_leaves : (set state : List ℕ) (states : States) (name : List ℕ)
     → state_of (map.insert states set state) name ≡ unwrap_or (cond (bytes_eq set name) (Some state) None) (state_of states name)
 set_leaves set state states name =
-    ap (λ o. unwrap_or o started) (get-insert states set state name)
+    ap (λ o. unwrap_or o started) (get-insert nat_list_cmp_total states set state name)
     ∙ ap (λ b. unwrap_or (cond b (Some state) (map.get states name)) started) (same_name name set)
     ∙ elim (bytes_eq set name)
     as (λ b. unwrap_or (cond b (Some state) (map.get states name)) started
@@ -99,3 +99,12 @@ is_checkpoint past = record {
   same_recording = refl;
   no_events = refl;
 }
+
+-- a past with the base that a checkpoint makes, and with no events
+pub is_checkpoint_of : (old past known : Past) (events : List Event) → past ≡ old → known ≡ checkpointed past → events ≡ []
+    → IsCheckpoint old (with_events known events)
+unfolding checkpointed
+is_checkpoint_of old past known events o k n =
+    subst (λ (p : Past). IsCheckpoint p (with_events known events)) o
+    (subst (λ (p : Past). IsCheckpoint past (with_events p events)) (sym k)
+    (subst (λ (es : List Event). IsCheckpoint past (with_events (checkpointed past) es)) (sym n) (is_checkpoint past)))

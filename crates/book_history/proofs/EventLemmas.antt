@@ -1,8 +1,12 @@
 -- The event of a number, by its index.
-use Rattle.std.proofs.Common.{◌≡◌, ℕ, ◌+◌, ◌-◌, ◌<◌, ◌≤◌, zero, suc, true, false, ◌==◌, cond, List, [], ◌∷◌, Option, None, Some}
-use Rattle.std.proofs.Common.{option_map, refl, sym, ap, ◌∙◌, arith, find}
+use Rattle.std.proofs.Common.{◌≡◌, ℕ, ◌+◌, ◌-◌, ◌<◌, ◌≤◌, zero, suc, Bool, true, false, ◌==◌, cond, List, [], ◌∷◌, Option, None, Some}
+use Rattle.std.proofs.Common.{option_map, length, refl, sym, ap, ◌∙◌, arith, find}
 use Rattle.std.proofs.lemmas.Bool.Decides.{nat_tests}
+use Rattle.std.proofs.lemmas.Option.{slice_get_past, slice_get_read}
+use Rattle.std.specs.Borrow.{Bor}
 use Rattle.std.specs.List.{slice_get}
+use Rattle.std.specs.Option.{option_copied}
+use Rattle.std.specs.Slice.{IsItemAt}
 use Rattle.request_journal.specs.Events.{Numbered, numbered}
 use Rattle.request_journal.specs.Journal.{event_at}
 use Rattle.request_journal.specs.Past.{Past}
@@ -44,3 +48,9 @@ event_kept past base number e l =
 pub event_dropped : (past : Past) (base number : ℕ) → past.base.number ≡ base → number ≤ base
     → event_at past number ≡ None
 event_dropped past base number e l = not_found (past.base.number + 1) past.events number (omega arith)
+
+-- what `get` of a slice gives
+pub got : (es : List Event) (index : ℕ) (result : Option (Bor Event)) → IsItemAt es index result
+    → option_copied result ≡ slice_get es index
+got es index None h = sym (slice_get_past es index h.3)
+got es index (Some x) h = sym (slice_get_read es (length es) index x.now refl h.3.0 h.1)

@@ -1,7 +1,7 @@
 -- What a list of events shows after one more, and what is picked from a list after one more.
-use Rattle.std.proofs.Common.{◌≡◌, inl, inr, ℕ, ◌+◌, true, false, List, [], ◌∷◌, ◌++◌, length, Option, None, Some}
-use Rattle.std.proofs.Common.{refl, sym, ap, ◌∙◌, append-nil, reverse}
-use Rattle.std.proofs.lemmas.List.{reverse-append}
+use Rattle.std.proofs.Common.{◌≡◌, inl, inr, ℕ, ◌+◌, Bool, true, false, List, [], ◌∷◌, ◌++◌, length, Option, None, Some}
+use Rattle.std.proofs.Common.{refl, sym, ap, subst, ◌∙◌, append-nil, reverse, get_or, take, ◌<◌}
+use Rattle.std.proofs.lemmas.List.{reverse-append, take_more}
 use Rattle.std.specs.List.{filter_map, cons_option}
 use Rattle.mock_request.specs.Request.{Request}
 use Rattle.request_journal.specs.Events.{Numbered, numbered, after_last}
@@ -46,3 +46,19 @@ module _ {X : Type 0} (P : X → Type 0) where
   left_out [] ys x h p = inr (p, h)
   left_out (z ∷ zs) ys x (inl h) p = inl (h.0, h.1, h.2, left_out zs h.0 x h.3 p)
   left_out (z ∷ zs) ys x (inr h) p = inr (h.0, left_out zs ys x h.1 p)
+
+  -- the loop over `xs`, at the item `x` with this index
+  module _ (xs : List X) (index : ℕ) (x : X) (in_range : index < length xs) (is_item : x ≡ get_or xs index x) (ys : List X)
+    (so_far : Picks P (take index xs) ys) where
+    one_more : take index xs ++ x ∷ [] ≡ take (index + 1) xs
+    one_more = ap (λ y. take index xs ++ y ∷ []) is_item ∙ sym (take_more xs index x in_range)
+
+    pub turn_picked : P x → (more : List X) → more ≡ ys ++ x ∷ [] → Picks P (take (index + 1) xs) more
+    turn_picked p more m =
+        subst (λ (zs : List X). Picks P (take (index + 1) xs) zs) (sym m)
+        (subst (λ (zs : List X). Picks P zs (ys ++ x ∷ [])) one_more (picked (take index xs) ys x so_far p))
+
+    pub turn_left_out : ¬ (P x) → (more : List X) → more ≡ ys → Picks P (take (index + 1) xs) more
+    turn_left_out p more m =
+        subst (λ (zs : List X). Picks P (take (index + 1) xs) zs) (sym m)
+        (subst (λ (zs : List X). Picks P zs ys) one_more (left_out (take index xs) ys x so_far p))

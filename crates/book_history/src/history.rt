@@ -152,14 +152,24 @@ impl History {
     pub fn requests(&self, alloc: Global) -> Result<Vec<Entry>, AllocError>
         ensures { IfOk result (λ entries. entries.items ≡ requests self.now.past) }
     {
-        visible(alloc, Shown::All, self.parts.base, self.parts.events.items.as_slice())
+        visible(
+            alloc,
+            Shown::All,
+            self.parts.base,
+            self.parts.events.items.as_slice(),
+        )
     }
 
     /// Those that no mapping matched and that weren't forwarded, newest first.
     pub fn unmatched(&self, alloc: Global) -> Result<Vec<Entry>, AllocError>
         ensures { IfOk result (λ entries. entries.items ≡ unmatched self.now.past) }
     {
-        visible(alloc, Shown::Unmatched, self.parts.base, self.parts.events.items.as_slice())
+        visible(
+            alloc,
+            Shown::Unmatched,
+            self.parts.base,
+            self.parts.events.items.as_slice(),
+        )
     }
 
     /// Those that meet the matcher, newest first.

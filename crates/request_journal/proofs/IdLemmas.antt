@@ -61,7 +61,7 @@ left_held : (es : List Event) (ps : List Placed) (id : List ℕ) → is_held ps 
 left_held es [] id h = refl
 left_held es (p ∷ ps) id h =
     let both : (bytes_eq p.mapping.id id ≡ false) × (is_held ps id ≡ false)
-        = or_parts (bytes_eq p.mapping.id id) (is_held ps id) h in
+    = or_parts (bytes_eq p.mapping.id id) (is_held ps id) h in
     elim (is_removed es p.mapping.id)
     as (λ r. is_removed es p.mapping.id ≡ r → is_held (left_by es (p ∷ ps)) id ≡ false) [
       | true ↦ λ r. ap (λ l. is_held l id) (gone es p ps r) ∙ left_held es ps id both.1
@@ -99,7 +99,7 @@ held_append : (ps qs : List Placed) (id : List ℕ) → is_held ps id ≡ false 
 held_append [] qs id h g = g
 held_append (p ∷ ps) qs id h g =
     let both : (bytes_eq p.mapping.id id ≡ false) × (is_held ps id ≡ false)
-        = or_parts (bytes_eq p.mapping.id id) (is_held ps id) h in
+    = or_parts (bytes_eq p.mapping.id id) (is_held ps id) h in
     or_from (bytes_eq p.mapping.id id) (is_held (ps ++ qs) id) both.0 (held_append ps qs id both.1 g)
 
 one_differ : (defaults : List Mapping) (number : ℕ) (e : Event) (ps : List Placed) → IdsDiffer ps
@@ -110,12 +110,13 @@ one_differ defaults number e (p ∷ ps) d =
     as (λ r. is_removed (e ∷ []) p.mapping.id ≡ r → IdsDiffer (left_by (e ∷ []) (p ∷ ps) ++ adds defaults number e)) [
       | true ↦ λ r. subst (λ l. IdsDiffer (l ++ adds defaults number e)) (sym (gone (e ∷ []) p ps r))
           (one_differ defaults number e ps d.1)
-      | false ↦ λ r. subst (λ l. IdsDiffer (l ++ adds defaults number e)) (sym (kept (e ∷ []) p ps r))
-          (held_append (left_by (e ∷ []) ps) (adds defaults number e) p.mapping.id
-          (left_held (e ∷ []) ps p.mapping.id d.0)
-          (placed_held number 0 (added_mappings defaults e) p.mapping.id
-          (added_anew defaults e p.mapping.id (or_parts (removes e p.mapping.id) false r).0)),
-          one_differ defaults number e ps d.1)
+      | false ↦ λ r. subst (λ l. IdsDiffer (l ++ adds defaults number e)) (sym (kept (e ∷ []) p ps r)) (
+        held_append (left_by (e ∷ []) ps) (adds defaults number e) p.mapping.id
+            (left_held (e ∷ []) ps p.mapping.id d.0)
+            (placed_held number 0 (added_mappings defaults e) p.mapping.id
+            (added_anew defaults e p.mapping.id (or_parts (removes e p.mapping.id) false r).0)),
+        one_differ defaults number e ps d.1,
+      )
     ] refl
 
 -- ---- the laws

@@ -86,9 +86,10 @@ both_newer place (p ∷ ps) qs h g = (h.0, both_newer place ps qs h.1 g)
 both_in_order : (low middle above high : ℕ) (ps qs : List Placed) → middle < above
     → AreWithin low middle ps → AreWithin above high qs → AreInOrder ps → AreInOrder qs → AreInOrder (ps ++ qs)
 both_in_order low middle above high [] qs l w v h g = g
-both_in_order low middle above high (p ∷ ps) qs l w v h g =
-    (both_newer p.place ps qs h.0 (newer_than above high p.place qs (omega (arith, w.1)) v),
-    both_in_order low middle above high ps qs l w.2 v h.1 g)
+both_in_order low middle above high (p ∷ ps) qs l w v h g = (
+  both_newer p.place ps qs h.0 (newer_than above high p.place qs (omega (arith, w.1)) v),
+  both_in_order low middle above high ps qs l w.2 v h.1 g,
+)
 
 -- ---- the laws of order
 

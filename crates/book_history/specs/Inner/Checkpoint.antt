@@ -33,12 +33,12 @@ states_by event.ResetScenarios states = map.empty
 states_by event.ResetAll states = map.empty
 states_by other states = states
 
-pub states_after : List Event → States → States
+unfoldable pub states_after : List Event → States → States
 states_after [] states = states
 states_after (e ∷ es) states = states_after es (states_by e states)
 
 -- the past with no events, and what they left as its base
-pub checkpointed : Past → Past
+unfoldable pub checkpointed : Past → Past
 checkpointed past = record {
   opening = past.opening;
   defaults = past.defaults;
