@@ -18,6 +18,9 @@ has_number number n = n.number == number
 differs : (a b : ℕ) → b < a → (a == b) ≡ false
 differs a b l = grind (arith, nat_tests)
 
+differs_up : (a b : ℕ) → a < b → (a == b) ≡ false
+differs_up a b l = grind (arith, nat_tests)
+
 same : (a b : ℕ) → a ≡ b → (a == b) ≡ true
 same a b e = grind (arith, nat_tests)
 
@@ -29,7 +32,7 @@ found_at first (x ∷ xs) zero number e =
     (find (has_number number) (numbered (first + 1) xs)))) (same first number (omega arith))
 found_at first (x ∷ xs) (suc index) number e =
     ap (λ b. option_map (λ n. n.event) (cond b (Some (record { number = first; event = x }))
-    (find (has_number number) (numbered (first + 1) xs)))) (grind (arith, nat_tests))
+    (find (has_number number) (numbered (first + 1) xs)))) (differs_up first number (omega arith))
     ∙ found_at (first + 1) xs index number (omega arith)
 
 not_found : (first : ℕ) (es : List Event) (number : ℕ) → number < first

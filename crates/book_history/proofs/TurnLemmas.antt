@@ -20,10 +20,12 @@ module _ (found : Event → Option Request) (before : ℕ) (es : List Event) (k 
       ≡ cons_option (entry_of found (record { number = before + k + 1; event = get_or es k d }))
       (visible_in found before (take k es))
   turn_more h =
+      let at_end : length (take k es) ≡ k = length-take-le k es (omega arith) in
+      let number : before + 1 + length (take k es) ≡ before + k + 1 = omega arith in
       ap (visible_in found before) (take_more es k d l)
       ∙ shown_more found before (take k es) (get_or es k d) h
       ∙ ap (λ n. cons_option (entry_of found (record { number = n; event = get_or es k d }))
-      (visible_in found before (take k es))) (omega (arith, length-take-le k es (omega arith)))
+      (visible_in found before (take k es))) number
 
 -- the loop: `left` events are to be looked at, `entries` were shown of the others, and `event` is the next one
 module _ (found : Event → Option Request) (before : ℕ) (es : List Event) (left : ℕ) (entries : List Entry) (event : Event)
@@ -36,8 +38,11 @@ module _ (found : Event → Option Request) (before : ℕ) (es : List Event) (le
   in_range : left - 1 < length es
   in_range = omega arith
 
+  again : left ≡ left - 1 + 1
+  again = omega arith
+
   here : visible_in found before es ≡ entries ++ visible_in found before (take (left - 1 + 1) es)
-  here = so_far ∙ ap (λ n. entries ++ visible_in found before (take n es)) (omega arith)
+  here = so_far ∙ ap (λ n. entries ++ visible_in found before (take n es)) again
 
   pub at_clear : clears event ≡ true → entries ≡ visible_in found before es
   at_clear h =

@@ -1,4 +1,4 @@
-use Rattle.std.proofs.Common.{◌≡◌, ◌+◌, ◌++◌, ◌∷◌, [], IsTrue, take, sym, subst, ◌∙◌}
+use Rattle.std.proofs.Common.{◌≡◌, ◌+◌, ◌++◌, ◌∷◌, [], IsTrue, take, sym, ap, subst, ◌∙◌}
 use Rattle.mapping_model.specs.declared.request_spec.RequestSpec.{RequestSpec}
 use Rattle.request_match.specs.Matching.{MeetsRequest}
 use Rattle.request_journal.specs.Journal.{Picks}
@@ -21,7 +21,9 @@ loop-entry-preserved c =
           c.loop-entry-test.true c.entry-item.is c.loop-entry.found.items c.loop-entry.invariant.1
           (subst (λ (m : RequestSpec). MeetsRequest m entry.request) c.loop-entry.invariant.0
           (c.in_ok-meets.ensures.answer.0 cc))
-          c.if-branch.found.items cc
+          c.if-branch.found.items
+          (rw w.found-is (w.in_ok-push.ensures.items
+          ∙ ap (λ (e : Entry). c.loop-entry.found.items ++ e ∷ []) w.in_ok-try_clone.ensures))
       | else-branch w ↦
           turn_left_out (λ (e : Entry). MeetsRequest c.args.matcher.now e.request) items index entry
           c.loop-entry-test.true c.entry-item.is c.loop-entry.found.items c.loop-entry.invariant.1
