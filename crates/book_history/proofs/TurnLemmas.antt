@@ -29,9 +29,9 @@ module _ (found : Event → Option Request) (before : ℕ) (es : List Event) (k 
 
 -- the loop: `left` events are to be looked at, `entries` were shown of the others, and `event` is the next one
 module _ (found : Event → Option Request) (before : ℕ) (es : List Event) (left : ℕ) (entries : List Entry) (event : Event)
-  (some : 0 < left) (within : left ≤ length es)
-  (so_far : visible_in found before es ≡ entries ++ visible_in found before (take left es))
-  (is_next : event ≡ get_or es (left - 1) event) where
+    (some : 0 < left) (within : left ≤ length es)
+    (so_far : visible_in found before es ≡ entries ++ visible_in found before (take left es))
+    (is_next : event ≡ get_or es (left - 1) event) where
   abbrev number : ℕ
   number = before + (left - 1) + 1
 

@@ -6,7 +6,6 @@ use Rattle.std.specs.List.{filter_map, cons_option}
 use Rattle.mock_request.specs.Request.{Request}
 use Rattle.request_journal.specs.Events.{Numbered, numbered, after_last}
 use Rattle.request_journal.specs.Journal.{clears, Picks}
-use Rattle.request_journal.specs.declared.entry.Entry.{Entry}
 use Rattle.request_journal.specs.declared.event.Event.{Event}
 use Rattle.request_journal.proofs.JournalLemmas.{numbered_one, after_passing, after_other, found_one}
 use Rattle.book_history.specs.Inner.Shown.{entry_of, visible_in}
@@ -49,7 +48,7 @@ module _ {X : Type 0} (P : X → Type 0) where
 
   -- the loop over `xs`, at the item `x` with this index
   module _ (xs : List X) (index : ℕ) (x : X) (in_range : index < length xs) (is_item : x ≡ get_or xs index x) (ys : List X)
-    (so_far : Picks P (take index xs) ys) where
+      (so_far : Picks P (take index xs) ys) where
     one_more : take index xs ++ x ∷ [] ≡ take (index + 1) xs
     one_more = ap (λ y. take index xs ++ y ∷ []) is_item ∙ sym (take_more xs index x in_range)
 

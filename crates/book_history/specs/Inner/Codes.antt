@@ -1,5 +1,4 @@
 -- By what a proof tells the states of scenarios apart.
-use Rattle.std.specs.Prelude.{ℕ, List}
 use Rattle.std.specs.Coded.{Coded, coded_list, coded_ℕ}
 use Rattle.std.specs.FinMap as map
 use Rattle.scenario_core.specs.Scenarios.{States}

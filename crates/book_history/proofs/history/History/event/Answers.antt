@@ -1,4 +1,4 @@
-use Rattle.std.proofs.Common.{◌<◌, ◌≤◌, ◌-◌, List, sym, ap, ◌∙◌, arith}
+use Rattle.std.proofs.Common.{◌-◌, List, sym, ap, ◌∙◌, arith}
 use Rattle.std.specs.List.{slice_get}
 use Rattle.request_journal.specs.Journal.{event_at}
 use Rattle.request_journal.specs.Past.{with_events}
