@@ -1,13 +1,12 @@
 -- No two live mappings have one id.
-use Rattle.std.proofs.Common.{◌≡◌, ℕ, ◌+◌, Bool, true, false, ◌||◌, cond, List, [], ◌∷◌, ◌++◌, length, refl, sym, ap}
-use Rattle.std.proofs.Common.{subst, ◌∙◌, append-nil, append_assoc}
-use Rattle.std.proofs.lemmas.Bool.{or_parts, or_from, true_from_ne_false}
-use Rattle.std.proofs.lemmas.Slice.Eq.{bytes_eq-Decides}
+use Rattle.std.proofs.Common.{◌≡◌, ℕ, ◌+◌, Bool, true, false, cond, List, [], ◌∷◌, ◌++◌, refl, sym, ap}
+use Rattle.std.proofs.Common.{subst, ◌∙◌, append-nil}
+use Rattle.std.proofs.lemmas.Bool.{or_parts, or_from}
 use Rattle.std.specs.List.{list_any}
 use Rattle.std.specs.Str.{bytes_eq}
 use Rattle.request_journal.specs.Legal.{IsCheckpoint}
 use Rattle.request_journal.specs.Live.{live, adds, added_mappings, edited, is_removed, left_by, removes}
-use Rattle.request_journal.specs.Past.{Past, Placed, has_id, placed_from, opening_base, with_event, with_events, last_number}
+use Rattle.request_journal.specs.Past.{Past, Placed, has_id, placed_from, opening_base, with_event, last_number}
 use Rattle.request_journal.specs.declared.event.Event.{Event}
 use Rattle.request_journal.specs.declared.event.Event.TheVariants as event
 use Rattle.request_journal.specs.declared.mapping.Mapping.{Mapping}

@@ -1,10 +1,10 @@
 -- Live mappings are in order of their places, each of another place, so a past allows one choice for a request.
-use Rattle.std.proofs.Common.{◌≡◌, ◌⊎◌, inl, inr, ℕ, zero, suc, ◌+◌, ◌<◌, ◌≤◌, true, false, cond, List, [], ◌∷◌, ◌++◌, length}
+use Rattle.std.proofs.Common.{◌≡◌, ◌⊎◌, inl, inr, ℕ, zero, suc, ◌+◌, ◌<◌, true, false, cond, List, [], ◌∷◌, ◌++◌}
 use Rattle.std.proofs.Common.{refl, sym, ap, subst, ◌∙◌, arith, append-nil}
 use Rattle.std.proofs.lemmas.Bool.{cases_order}
 use Rattle.std.proofs.lemmas.Int.{by_lt_z, ints}
 use Rattle.std.specs.List.{Contains}
-use Rattle.std.specs.Prelude.{◌<ℤ◌, ◌≤ℤ◌, ℤ}
+use Rattle.std.specs.Prelude.{◌≤ℤ◌, ℤ}
 use Rattle.mapping_model.specs.Priority.{priority_of}
 use Rattle.mock_request.specs.Request.{Request}
 use Rattle.recorder.specs.Recording.{IsOn, IsOnAnd}
@@ -12,7 +12,7 @@ use Rattle.recorder.specs.declared.recording.Recording.{Recording}
 use Rattle.recorder.specs.declared.recording.Recording.TheVariants.{NeverStarted, On, Stopped}
 use Rattle.request_journal.specs.Choice.{IsNewer, WinsOver, IsEligible, IsMissed, IsChosen, IsChoice}
 use Rattle.request_journal.specs.Legal.{IsCheckpoint}
-use Rattle.request_journal.specs.Live.{live, adds, added_mappings, edited, is_removed, left_by}
+use Rattle.request_journal.specs.Live.{live, adds, added_mappings, is_removed, left_by}
 use Rattle.request_journal.specs.Past.{Past, Place, Placed, has_id, placed_from, opening_base, with_event, last_number}
 use Rattle.request_journal.specs.Recording.{recording}
 use Rattle.request_journal.specs.declared.event.Event.{Event}
