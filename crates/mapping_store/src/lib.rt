@@ -1,0 +1,7 @@
+// The live mappings of a book: which one is chosen for a request, and what each event does to them. Its contracts cite
+// `specs/Stored.antt` (what contracts see of the store, and of a change) and `specs/Choice.antt` (the mapping that is
+// chosen for a request).
+#![tactic(auto)]
+
+pub mod book_mapping;
+mod entry;
