@@ -1,1 +1,5 @@
+pub mod ListLemmas
+pub mod RankLemmas
 pub mod OrderLemmas
+pub mod IdLemmas
+pub mod EventLemmas

@@ -1,5 +1,6 @@
 // A live mapping as it is kept.
-ghost use Rattle.std.specs.Prelude.{◌≡◌};
+ghost use Rattle.std.specs.Prelude.{◌≡◌, ◌<◌, List, length, slice_index_or};
+ghost use Rattle.request_journal.specs.declared.mapping.Mapping.{Mapping};
 ghost use Rattle.mapping_store.specs.Inner.Entries.{order, placed_of, Fits};
 
 use crate::book_mapping::BookMapping;

@@ -4,4 +4,6 @@
 #![tactic(auto)]
 
 pub mod book_mapping;
+mod eligible;
+mod entries;
 mod entry;

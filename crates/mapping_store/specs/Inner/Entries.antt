@@ -1,11 +1,11 @@
 -- What private clauses see of the entries of the store.
-use Rattle.std.specs.Prelude.{◌≡◌, ◌≢◌, ℕ, ◌<◌, ◌≤◌, Bool, false, not, List, length, All, AllPairs, filter, slice_index_or}
+use Rattle.std.specs.Prelude.{◌≡◌, ◌≢◌, ℕ, ◌<◌, ◌≤◌, Bool, false, not, List, ◌++◌, length, All, AllPairs, IsPermutation, filter, slice_index_or}
 use Rattle.std.specs.Ordering.{nat_cmp, int_cmp, ordering_then, is_gt}
 use Rattle.std.specs.Str.{bytes_eq}
 use Rattle.std.specs.declared.cmp.Ordering.{Ordering}
 use Rattle.mapping_model.specs.Priority.{priority_of}
 use Rattle.mapping_model.specs.declared.mapping_spec.MappingSpec.{MappingSpec}
-use Rattle.request_journal.specs.Past.{Placed}
+use Rattle.request_journal.specs.Past.{Placed, has_id, placed_from}
 use Rattle.request_journal.specs.declared.mapping.Mapping.{Mapping}
 use Rattle.mapping_store.specs.declared.entry.Entry.{Entry}
 use Rattle.mapping_store.specs.declared.entry.Source.{Source}
@@ -48,3 +48,13 @@ pub record AreKept (defaults : List Mapping) (entries : List Entry) : Type 0 whe
 -- the entries with another id
 abbrev pub without : List ℕ → List Entry → List Entry
 without id entries = filter (λ e. not (bytes_eq id e.id)) entries
+
+-- the live mappings after one event that adds these, in order, to the old ones
+abbrev pub Adds : ℕ → List Placed → List Mapping → List Placed → Type 0
+Adds number old mappings new =
+    IsPermutation (filter (λ p. not (has_id mappings p.mapping.id)) old ++ placed_from number 0 mappings) new
+
+-- what the store keeps: the entries, with room for all defaults
+pub record IsStore (defaults : List Mapping) (entries : List Entry) (capacity : ℕ) : Type 0 where
+  pub kept : AreKept defaults entries
+  pub room : length defaults ≤ capacity
