@@ -80,7 +80,7 @@ left_alike es ps qs h =
 
 -- ---- mappings that are added one after the other
 
-abbrev at : ℕ → ℕ → Mapping → Placed
+abbrev pub at : ℕ → ℕ → Mapping → Placed
 at number index m = record { place = record { event = number; index = index }; mapping = m }
 
 not_or : (a b c : Bool) → (a || b || c) ≡ (a || (b || c))
@@ -143,15 +143,16 @@ adds_none number old =
 -- a mapping to the front of what is left without its id
 pub adds_more : (number : ℕ) (old : List Placed) (ms : List Mapping) (m : Mapping) (live new : List Placed)
     → Adds number old ms live
-    → IsPermutation (at number (0 + length ms) m ∷ others m.id live) new
+    → IsPermutation (at number (length ms) m ∷ others m.id live) new
     → Adds number old (ms ++ m ∷ []) new
 adds_more number old ms m live new added put =
-    let last : Placed = at number (0 + length ms) m in
+    let last : Placed = at number (length ms) m in
     let kept : List Placed = filter (λ p. not (has_id ms p.mapping.id)) old in
     let placed : List Placed = placed_from number 0 ms in
     let whole : filter (λ p. not (has_id (ms ++ m ∷ []) p.mapping.id)) old ++ placed_from number 0 (ms ++ m ∷ [])
         ≡ others m.id (kept ++ placed) ++ last ∷ [] =
       (λ i. others_push ms m old i ++ placed_push number 0 ms m i)
+      ∙ ap (λ k. others m.id kept ++ (others m.id placed ++ at number k m ∷ [])) (omega arith)
       ∙ sym (append_assoc (others m.id kept) (others m.id placed) (last ∷ []))
       ∙ ap (λ l. l ++ last ∷ []) (sym (filter-append (λ (p : Placed). not (bytes_eq m.id p.mapping.id)) kept placed)) in
     subst (λ l. IsPermutation l new) (sym whole)

@@ -3,3 +3,5 @@ pub mod RankLemmas
 pub mod OrderLemmas
 pub mod IdLemmas
 pub mod EventLemmas
+pub mod StoreLemmas
+pub mod ChoiceLemmas

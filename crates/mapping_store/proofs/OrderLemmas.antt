@@ -8,7 +8,7 @@ use Rattle.std.specs.List.Sorted.{IsPartitionedBy, IsPartitionPoint, IsPermutati
 use Rattle.std.specs.Ordering.{is_gt, is_lt}
 use Rattle.std.specs.Str.{bytes_eq}
 use Rattle.std.proofs.lemmas.Bool.{cases_order}
-use Rattle.std.proofs.lemmas.Cmp.{then_total, on_total, back_total, nat_cmp_total, int_cmp_total}
+use Rattle.std.proofs.lemmas.Cmp.{then_total, on_total, back_total, nat_cmp_total, int_cmp_total, tied_itself}
 use Rattle.request_journal.specs.Choice.{WinsOver}
 use Rattle.request_journal.specs.declared.mapping.Mapping.{Mapping}
 use Rattle.mapping_store.specs.declared.entry.Entry.{Entry}
@@ -59,3 +59,6 @@ not_won defaults a b f g h wins =
     not_over a.priority b.priority a.event b.event a.index b.index h
     (subst (λ p. Wins b a p a.priority) (sym g.priority)
     (subst (λ p. Wins b a (priority_of b.seen.value.priority) p) (sym f.priority) wins))
+
+pub not_beaten_itself : (e : Entry) → is_gt (order e e) ≡ false
+not_beaten_itself e = ap is_gt (tied_itself order_total e)

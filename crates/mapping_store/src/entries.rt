@@ -27,7 +27,8 @@ pub(crate) fn take_out(entries: &mut Vec<Entry>, id: MappingId) -> Option<Entry>
     ensures rest { entries.new.items ≡ without id entries.old.items }
     ensures taken { MatchOption result (All (λ e. e.id ≢ id) entries.old.items)
         (λ e. (e.id ≡ id) × IsPermutation entries.old.items (e ∷ entries.new.items)) }
-    ensures len { vec_len entries.new ≤ vec_len entries.old }
+    ensures len { MatchOption result (vec_len entries.new ≡ vec_len entries.old)
+        (λ _. vec_len entries.new + 1 ≡ vec_len entries.old) }
     ensures capacity { vec_capacity entries.new ≡ vec_capacity entries.old }
 {
     let at = index_of(entries.as_slice(), id)?;

@@ -4,6 +4,9 @@
 #![tactic(auto)]
 
 pub mod book_mapping;
+pub mod mapping_store;
+
 mod eligible;
 mod entries;
 mod entry;
+mod filled;
