@@ -1,9 +1,9 @@
 -- The first eligible entry is the mapping that is chosen.
-use Rattle.std.proofs.Common.{◌≡◌, ℕ, ◌<◌, ◌≤◌, false, List, length, map, get_or, Contains, refl, sym, ap, subst, ◌∙◌, arith, inl, inr}
+use Rattle.std.proofs.Common.{◌≡◌, ℕ, ◌<◌, ◌≤◌, false, List, ◌++◌, length, map, get_or, take, drop, Contains, refl, sym, ap, subst, ◌∙◌, arith, inl, inr}
 use Rattle.std.specs.List.{All, AllPairs, AllWithin}
 use Rattle.std.specs.Ordering.{is_gt}
 use Rattle.std.proofs.lemmas.Bool.{cases_order}
-use Rattle.std.proofs.lemmas.List.{length-map, get_or-map, get_or_default}
+use Rattle.std.proofs.lemmas.List.{length-map, get_or-map, get_or_default, take_at}
 use Rattle.mock_request.specs.Request.{Request}
 use Rattle.request_journal.specs.Choice.{WinsOver}
 use Rattle.request_journal.specs.Past.{Placed}
@@ -60,3 +60,8 @@ module _ (states : States) (request : Request) (xs : List Entry) where
             ] in
             subst (λ q. ¬ (WinsOver q (placed_of e))) found.3 (not_won defaults e f fit_e fit_f lost);
       }
+
+-- what is left of a Vec after its slice was lent and given back as it was
+pub same_items : (n : ℕ) (xs ys : List Entry) → ys ≡ xs → n ≡ length xs → take n (ys ++ drop (length ys) xs) ≡ xs
+same_items n xs ys same is =
+    ap (λ zs. take n (zs ++ drop (length zs) xs)) same ∙ take_at xs (drop (length xs) xs) n (sym is)

@@ -4,6 +4,7 @@ use Rattle.std.proofs.Common.{true, refl, sym, ap, subst, ◌∙◌, arith, appe
 use Rattle.std.proofs.Common.{◌↔◌, Option, Some, None, is_some, IsTrue, MatchOption}
 use Rattle.std.specs.List.{All, filter}
 use Rattle.std.proofs.lemmas.Bool.{false≢true}
+use Rattle.std.proofs.lemmas.List.Kept.{AllPairs-filter}
 use Rattle.std.specs.List.Sorted.{IsPermutation}
 use Rattle.std.specs.Str.{bytes_eq}
 use Rattle.std.proofs.lemmas.List.{length-map, get_or-map}
@@ -15,7 +16,7 @@ use Rattle.request_journal.specs.Past.{Placed, placed_from}
 use Rattle.request_journal.specs.declared.event.Event.TheVariants as event
 use Rattle.request_journal.specs.declared.mapping.Mapping.{Mapping}
 use Rattle.mapping_store.specs.declared.entry.Entry.{Entry}
-use Rattle.mapping_store.specs.Inner.Entries.{Adds, Fits, placed_of, without}
+use Rattle.mapping_store.specs.Inner.Entries.{Adds, AreKept, Fits, IsBefore, placed_of, without}
 use Rattle.mapping_store.proofs.EventLemmas.{others, at, adds_more, left_plain, left_others, left_edited, left_alike}
 use Rattle.mapping_store.proofs.IdLemmas.{filter-map, filter_none, ids_without, without_none}
 
@@ -173,3 +174,17 @@ pub found_index : (id : List ℕ) (xs : List Entry) (r : Option ℕ)
     → IsTrue (is_some r) ↔ Any (λ p. p.mapping.id ≡ id) (map placed_of xs)
 found_index id xs None all = (λ t. absurd (false≢true t), λ any. absurd (none_with_id id xs all any))
 found_index id xs (Some i) h = (λ t. any_with_id id xs i h.0 h.1, λ any. refl)
+
+-- ---- what is kept
+
+pub kept_without : (defaults : List Mapping) (id : List ℕ) (xs : List Entry) → AreKept defaults xs
+    → AreKept defaults (without id xs)
+kept_without defaults id xs kept = record {
+  fit = All-filter (λ (e : Entry). not (bytes_eq id e.id)) (Fits defaults) xs kept.fit;
+  in_order = AllPairs-filter IsBefore (λ (e : Entry). not (bytes_eq id e.id)) xs kept.in_order;
+}
+
+pub fit_put : (defaults : List Mapping) (e : Entry) (old new : List Entry) → IsPermutation (e ∷ old) new
+    → Fits defaults e → All (Fits defaults) old → All (Fits defaults) new
+fit_put defaults e old new put fits all =
+    All-permutation (Fits defaults) (e ∷ old) new put (All-cons (Fits defaults) e old fits all)
