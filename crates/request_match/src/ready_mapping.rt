@@ -1,7 +1,7 @@
 // A mapping that is ready to be served.
 ghost use Rattle.std.specs.Prelude.{◌≡◌, ◌↔◌, IfOk, IfErr, OnOk, IsTrue};
 ghost use Rattle.request_match.specs.Matching.{MeetsRequest};
-ghost use Rattle.request_match.specs.Refusal.{CanBeBuilt, IsFault};
+ghost use Rattle.request_match.specs.Refusal.{CanBeBuilt, IsRefusal};
 
 use crate::error::RequestMatchError;
 use crate::parsed_request::ParsedRequest;
@@ -34,7 +34,7 @@ impl ReadyMapping {
     pub fn build(alloc: Global, spec: MappingSpec) -> Result<ReadyMapping, RequestMatchError>
         ensures ok { IfOk result (λ mapping. mapping ≡ spec) }
         ensures usable { OnOk result (CanBeBuilt spec.request) }
-        ensures fault { IfErr result (IsFault spec.request) }
+        ensures refusal { IfErr result (IsRefusal spec.request) }
     {
         let matcher = RequestMatcher::build(alloc, &spec.request)?;
         let spec = SharedSpec::new(alloc, spec)?;

@@ -6,8 +6,8 @@ use Rattle.std.proofs.lemmas.Grind.{common_steps}
 use Rattle.std.proofs.lemmas.Slice.Eq.{bytes_eq-Decides}
 use Rattle.request_match.proofs.named_test.is_lower_case_of.Goals as goal
 
-pub returns-then-to_ascii_lowercase-text : goal.returns-then-to_ascii_lowercase-text
-returns-then-to_ascii_lowercase-text c =
+pub returns-then-lower-text : goal.returns-then-lower-text
+returns-then-lower-text c =
     let name = c.args.name.now in
     let text = c.args.text.now in
     let i = c.loop-i.i in

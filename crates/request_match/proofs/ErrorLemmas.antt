@@ -1,4 +1,4 @@
--- The first fault of body matchers: what one more adds, and what it says of the whole matcher.
+-- The first error of body matchers: what one more adds, and what it says of the whole matcher.
 use Rattle.std.proofs.Common.{◌≡◌, ℕ, ◌≤◌, List, ◌++◌, All, Any, Option, None, Some, arith, sym, subst}
 use Rattle.std.specs.List.{filter_map}
 use Rattle.std.proofs.lemmas.List.Elements.{All-append, filter_map-append}
@@ -6,8 +6,8 @@ use Rattle.json_bridge.specs.Path.{IsPath}
 use Rattle.json_bridge.specs.Reading.{IsJson, tree_of_text}
 use Rattle.mapping_model.specs.declared.body_pattern.BodyPattern.{BodyPattern}
 use Rattle.request_match.proofs.AnyLemmas.{any_left, any_right}
-use Rattle.request_match.specs.Inner.Faults.{rank_of, known_rank, Passed, Failed, KnownFailed, IsFirstFault}
-use Rattle.request_match.specs.Refusal.{matcher_in, text_in, path_in, HasTree, IsBodyFault}
+use Rattle.request_match.specs.Inner.FirstError.{rank_of, known_rank, Passed, Failed, KnownFailed, IsFirstError}
+use Rattle.request_match.specs.Refusal.{matcher_in, text_in, path_in, HasTree, IsBodyRefusal}
 use Rattle.request_match.specs.declared.error.RequestMatchError.{RequestMatchError}
 use Rattle.request_match.specs.declared.error.RequestMatchError.TheVariants.{BadUrl, BadPattern, NotJson}
 use Rattle.request_match.specs.declared.error.RequestMatchError.TheVariants.{NumberNotWhole, BadPath, OutOfMemory}
@@ -48,9 +48,9 @@ failed_right NotJson ps qs f = some_right (λ text. ¬ (IsJson text)) text_in ps
 failed_right NumberNotWhole ps qs f = some_right (λ text. tree_of_text text ≡ None) text_in ps qs f
 failed_right BadPath ps qs f = some_right (λ path. ¬ (IsPath path)) path_in ps qs f
 
--- the known fault is reported before the new one
+-- the known error is reported before the new one
 pub known_first : (known error : RequestMatchError) (ps qs : List BodyPattern) → rank_of known ≤ rank_of error →
-    IsFirstFault (Some known) ps → IsFirstFault (Some error) qs → IsFirstFault (Some known) (ps ++ qs)
+    IsFirstError (Some known) ps → IsFirstError (Some error) qs → IsFirstError (Some known) (ps ++ qs)
 known_first known error ps qs le p q = record {
   passed = passed_both (rank_of known) (rank_of known) (rank_of error) ps qs (omega arith) le p.passed q.passed;
   failed = failed_left known ps qs p.failed;
@@ -58,8 +58,8 @@ known_first known error ps qs le p q = record {
 
 -- the new one is reported first
 pub error_first : (known : Option RequestMatchError) (error : RequestMatchError) (ps qs : List BodyPattern) →
-    rank_of error ≤ known_rank known → IsFirstFault known ps → IsFirstFault (Some error) qs →
-    IsFirstFault (Some error) (ps ++ qs)
+    rank_of error ≤ known_rank known → IsFirstError known ps → IsFirstError (Some error) qs →
+    IsFirstError (Some error) (ps ++ qs)
 error_first known error ps qs le p q = record {
   passed = passed_both (rank_of error) (known_rank known) (rank_of error) ps qs le (omega arith) p.passed q.passed;
   failed = failed_right error ps qs q.failed;
@@ -80,17 +80,17 @@ at_most_six (Some NumberNotWhole) = omega arith
 at_most_six (Some BadPath) = omega arith
 
 -- one more that has none
-pub none_added : (known : Option RequestMatchError) (ps qs : List BodyPattern) → IsFirstFault known ps →
-    IsFirstFault None qs → IsFirstFault known (ps ++ qs)
+pub none_added : (known : Option RequestMatchError) (ps qs : List BodyPattern) → IsFirstError known ps →
+    IsFirstError None qs → IsFirstError known (ps ++ qs)
 none_added known ps qs p q = record {
   passed = passed_both (known_rank known) (known_rank known) 6 ps qs (omega arith) (at_most_six known) p.passed q.passed;
   failed = failed_still known ps qs p.failed;
 }
 
-pub body_fault : (error : RequestMatchError) (ps : List BodyPattern) → IsFirstFault (Some error) ps → IsBodyFault ps error
-body_fault OutOfMemory ps f = f.failed
-body_fault BadUrl ps f = f.failed
-body_fault BadPattern ps f = f.failed
-body_fault NotJson ps f = (f.passed.patterns_are (omega arith), f.failed)
-body_fault NumberNotWhole ps f = (f.passed.patterns_are (omega arith), f.passed.json (omega arith), f.failed)
-body_fault BadPath ps f = (f.passed.patterns_are (omega arith), f.passed.trees (omega arith), f.failed)
+pub body_error : (error : RequestMatchError) (ps : List BodyPattern) → IsFirstError (Some error) ps → IsBodyRefusal ps error
+body_error OutOfMemory ps f = f.failed
+body_error BadUrl ps f = f.failed
+body_error BadPattern ps f = f.failed
+body_error NotJson ps f = (f.passed.patterns_are (omega arith), f.failed)
+body_error NumberNotWhole ps f = (f.passed.patterns_are (omega arith), f.passed.json (omega arith), f.failed)
+body_error BadPath ps f = (f.passed.patterns_are (omega arith), f.passed.trees (omega arith), f.failed)

@@ -1,4 +1,4 @@
--- For private clauses: the faults of body matchers by their rank in the order in which they are reported.
+-- For private clauses: the errors of body matchers by their rank in the order in which they are reported.
 use Rattle.std.specs.Prelude.{◌≡◌, ℕ, ◌<◌, List, Any, Option, None, Some}
 use Rattle.std.specs.List.{filter_map}
 use Rattle.json_bridge.specs.Path.{IsPath}
@@ -41,7 +41,7 @@ abbrev pub KnownFailed : Option RequestMatchError → List BodyPattern → Type 
 KnownFailed None patterns = Unit {0}
 KnownFailed (Some error) patterns = Failed error patterns
 
--- the first fault of the patterns, if they have one
-pub record IsFirstFault (known : Option RequestMatchError) (patterns : List BodyPattern) : Type 0 where
+-- the first error of the patterns, if they have one
+pub record IsFirstError (known : Option RequestMatchError) (patterns : List BodyPattern) : Type 0 where
   pub passed : Passed (known_rank known) patterns
   pub failed : KnownFailed known patterns
