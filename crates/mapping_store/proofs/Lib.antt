@@ -5,3 +5,4 @@ pub mod IdLemmas
 pub mod EventLemmas
 pub mod StoreLemmas
 pub mod ChoiceLemmas
+pub mod PastLemmas

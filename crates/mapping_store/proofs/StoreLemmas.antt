@@ -188,3 +188,9 @@ pub fit_put : (defaults : List Mapping) (e : Entry) (old new : List Entry) → I
     → Fits defaults e → All (Fits defaults) old → All (Fits defaults) new
 fit_put defaults e old new put fits all =
     All-permutation (Fits defaults) (e ∷ old) new put (All-cons (Fits defaults) e old fits all)
+
+-- no live mapping has a property that no entry's has
+pub none_among : (P : Placed → Type 0) (xs : List Entry) → All (λ e. ¬ (P (placed_of e))) xs → Any P (map placed_of xs) → ⊥
+none_among P xs all any =
+    let found = entry_of xs any.0 any.1 any.2 any.3 in
+    all any.0 found.0 found.1 (subst (λ e. P (placed_of e)) found.2 (subst P (sym found.3) any.4))

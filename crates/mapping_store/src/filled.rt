@@ -9,6 +9,7 @@ use crate::book_mapping::BookMapping;
 use crate::entries::replace;
 use crate::entry::Entry;
 use mapping_model::mapping_id::MappingId;
+use request_journal::mapping::Mapping;
 use request_match::ready_mapping::ReadyMapping;
 use std::alloc::{AllocError, Global};
 
@@ -30,6 +31,17 @@ pub(crate) fn named(
         index += 1;
     }
     Ok(named)
+}
+
+/// The mappings, which share their specifications.
+pub(crate) fn copies(alloc: Global, mappings: &[BookMapping]) -> Result<Vec<Mapping>, AllocError>
+    ensures { IfOk result (λ copies. copies.items ≡ mappings.now) }
+{
+    let mut copies = Vec::with_capacity(alloc, mappings.len())?;
+    for i in 0..mappings.len() {
+        copies.push(mappings[i].mapping()?)?;
+    }
+    Ok(copies)
 }
 
 /// Adds the defaults to entries that are empty.

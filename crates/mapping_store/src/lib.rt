@@ -6,7 +6,9 @@
 pub mod book_mapping;
 pub mod mapping_store;
 
+mod counts;
 mod eligible;
 mod entries;
 mod entry;
 mod filled;
+mod scenario_names;

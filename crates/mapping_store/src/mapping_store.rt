@@ -8,11 +8,14 @@ ghost use Rattle.mapping_store.specs.Choice.{IsChosen, IsMissed};
 ghost use Rattle.mapping_store.specs.Stored.{Follows};
 
 use crate::book_mapping::BookMapping;
+use crate::counts::{count_ids, count_others};
 use crate::eligible::{first_eligible, spec_of};
 use crate::entries::{index_of, put_in, replace, take_out};
 use crate::entry::Entry;
-use crate::filled::{named, put_all, put_defaults};
+use crate::filled::{copies, named, put_all, put_defaults};
+use crate::scenario_names::{knows, names};
 use mapping_model::mapping_id::MappingId;
+use plain_text::items::Items;
 use request_journal::mapping::Mapping;
 use request_match::parsed_request::ParsedRequest;
 use request_match::ready_mapping::ReadyMapping;
@@ -68,6 +71,36 @@ impl MappingStore {
         ensures { result ≡ length self.now.live }
     {
         self.live.len()
+    }
+
+    /// How many mappings will be live once these are added by one event.
+    pub fn len_with(&self, mappings: &[BookMapping]) -> usize
+        ensures { (number skipped : ℕ) → result
+            ≡ length (left_by (event.StopRecording mappings.now skipped ∷ []) self.now.live
+            ++ placed_from number 0 mappings.now) }
+    {
+        count_others(self.live.as_slice(), mappings) + count_ids(mappings)
+    }
+
+    /// The mappings that a reset adds. They share their specifications.
+    pub fn defaults(&self, alloc: Global) -> Result<Items<Mapping>, AllocError>
+        ensures { IfOk result (λ defaults. defaults ≡ self.now.defaults) }
+    {
+        Ok(Items::from(copies(alloc, self.defaults.as_slice())?))
+    }
+
+    /// Whether a live mapping plays a part in the scenario.
+    pub fn knows(&self, scenario: &str) -> bool
+        ensures { IsTrue result ↔ Any (λ p. IsIn scenario.now p.mapping.spec.scenario) self.now.live }
+    {
+        knows(self.live.as_slice(), self.defaults.as_slice(), scenario)
+    }
+
+    /// Whether a live mapping names the state of the scenario.
+    pub fn names(&self, scenario: &str, state: &str) -> bool
+        ensures { IsTrue result ↔ Any (λ p. Names scenario.now state.now p.mapping.spec.scenario) self.now.live }
+    {
+        names(self.live.as_slice(), self.defaults.as_slice(), scenario, state)
     }
 
     /// Whether a live mapping has this id.
