@@ -5,4 +5,5 @@ pub mod IdLemmas
 pub mod EventLemmas
 pub mod StoreLemmas
 pub mod ChoiceLemmas
+pub mod CountLemmas
 pub mod PastLemmas

@@ -33,7 +33,7 @@ live_follows past e old new defaults same follows =
 -- the choice
 module _ (past : Past) (states : States) (placed : List Placed) (request : Request)
   (same_live : IsPermutation (live past) placed) (same_states : (name : List ℕ) → state_of states name ≡ state past name)
-where
+  where
   required_to : (name : List ℕ) (required : Option (List ℕ))
       → IfSome required (λ r. state_of states name ≡ r) → IfSome required (λ r. state past name ≡ r)
   required_to name None h = h
