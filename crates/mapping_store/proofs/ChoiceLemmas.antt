@@ -32,21 +32,24 @@ module _ (states : States) (request : Request) (xs : List Entry) where
       record {
         placed = placed_of e;
         same = is;
-        is_live = (at, subst (λ n. at < n) (sym (length-map xs placed_of)) l,
-            get_or-map placed_of xs at e (placed_of e) l ∙ ap placed_of (sym read));
+        is_live = (
+          at,
+          subst (λ n. at < n) (sym (length-map xs placed_of)) l,
+          get_or-map placed_of xs at e (placed_of e) l ∙ ap placed_of (sym read),
+        );
         eligible = subst (λ x. IsEligible states request x) is eligible;
         best = λ other among meets.
             let found = entry_of xs among.0 other among.1 among.2 in
             let k : ℕ = among.0 in
             let f : Entry = found.0 in
             let meets' : IsEligible states request (placed_of f).mapping =
-              subst (λ (q : Placed). IsEligible states request q.mapping) (sym found.3) meets in
+            subst (λ (q : Placed). IsEligible states request q.mapping) (sym found.3) meets in
             let fit_e : Fits defaults e = subst (Fits defaults) (sym read) (kept.fit at e l) in
             let fit_f : Fits defaults f = subst (Fits defaults) (sym found.2) (kept.fit k f found.1) in
             let lost : is_gt (order e f) ≡ false = elim (cases_order k at) as (λ _. is_gt (order e f) ≡ false) [
               | inl same ↦
                   let here : e ≡ f =
-                    read ∙ get_or_default xs at e f l ∙ ap (λ n. get_or xs n f) (sym same) ∙ sym found.2 in
+                  read ∙ get_or_default xs at e f l ∙ ap (λ n. get_or xs n f) (sym same) ∙ sym found.2 in
                   subst (λ x. is_gt (order e x) ≡ false) here (not_beaten_itself e)
               | inr o ↦ elim o as (λ _. is_gt (order e f) ≡ false) [
                 | inl below ↦ absurd (passed k f (omega arith) below

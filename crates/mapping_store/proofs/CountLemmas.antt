@@ -31,7 +31,7 @@ pub length-placed : (number index other next : ℕ) (ms : List Mapping)
 length-placed number index other next [] = refl
 length-placed number index other next (m ∷ ms) =
     let more : length (placed_from number (index + 1) ms) ≡ length (placed_from other (next + 1) ms) =
-      length-placed number (index + 1) other (next + 1) ms in
+    length-placed number (index + 1) other (next + 1) ms in
     let first : Placed = record { place = record { event = number; index = index }; mapping = m } in
     let second : Placed = record { place = record { event = other; index = next }; mapping = m } in
     elim (has_id ms m.id) as (λ b.

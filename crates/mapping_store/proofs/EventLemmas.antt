@@ -104,7 +104,7 @@ placed_push number index (n ∷ ms) m =
     let rest : List Placed = placed_from number (index + 1) ms in
     let last : Placed = at number (index + length (n ∷ ms)) m in
     let more : placed_from number (index + 1) (ms ++ m ∷ []) ≡ others m.id rest ++ last ∷ [] =
-      placed_push number (index + 1) ms m ∙ ap (λ k. others m.id rest ++ at number k m ∷ []) (omega arith) in
+    placed_push number (index + 1) ms m ∙ ap (λ k. others m.id rest ++ at number k m ∷ []) (omega arith) in
     let tested : has_id (ms ++ m ∷ []) n.id ≡ (has_id ms n.id || bytes_eq m.id n.id) = has_id_push ms m n.id in
     (λ i. cond (tested i) (more i) (at number index n ∷ more i))
     ∙ elim (has_id ms n.id) as (λ b. cond (b || bytes_eq m.id n.id) (others m.id rest ++ last ∷ [])
@@ -150,11 +150,11 @@ adds_more number old ms m live new added put =
     let kept : List Placed = filter (λ p. not (has_id ms p.mapping.id)) old in
     let placed : List Placed = placed_from number 0 ms in
     let whole : filter (λ p. not (has_id (ms ++ m ∷ []) p.mapping.id)) old ++ placed_from number 0 (ms ++ m ∷ [])
-        ≡ others m.id (kept ++ placed) ++ last ∷ [] =
-      (λ i. others_push ms m old i ++ placed_push number 0 ms m i)
-      ∙ ap (λ k. others m.id kept ++ (others m.id placed ++ at number k m ∷ [])) (omega arith)
-      ∙ sym (append_assoc (others m.id kept) (others m.id placed) (last ∷ []))
-      ∙ ap (λ l. l ++ last ∷ []) (sym (filter-append (λ (p : Placed). not (bytes_eq m.id p.mapping.id)) kept placed)) in
+    ≡ others m.id (kept ++ placed) ++ last ∷ [] =
+    (λ i. others_push ms m old i ++ placed_push number 0 ms m i)
+    ∙ ap (λ k. others m.id kept ++ (others m.id placed ++ at number k m ∷ [])) (omega arith)
+    ∙ sym (append_assoc (others m.id kept) (others m.id placed) (last ∷ []))
+    ∙ ap (λ l. l ++ last ∷ []) (sym (filter-append (λ (p : Placed). not (bytes_eq m.id p.mapping.id)) kept placed)) in
     subst (λ l. IsPermutation l new) (sym whole)
     (IsPermutation-trans _ _ _ (IsPermutation-to_front (others m.id (kept ++ placed)) last)
     (IsPermutation-trans _ _ _

@@ -95,7 +95,7 @@ AllPairs-insert {X} R xs i y l pairs before after a b d lt lb =
     let lower : b < length xs + 1 = omega (arith, length-insert xs i y l) in
     let Goal : Type 0 = R (get_or (insert xs i y) a d) (get_or (insert xs i y) b d) in
     let from : (u v : X) → get_or (insert xs i y) a d ≡ u → get_or (insert xs i y) b d ≡ v → R u v → Goal =
-      λ u v e f r. subst (λ w. R w (get_or (insert xs i y) b d)) (sym e) (subst (λ w. R u w) (sym f) r) in
+    λ u v e f r. subst (λ w. R w (get_or (insert xs i y) b d)) (sym e) (subst (λ w. R u w) (sym f) r) in
     elim (left_at xs i y a d l) as (λ _. Goal) [
       | inl x ↦ elim (left_at xs i y b d l) as (λ _. Goal) [
         | inl z ↦ from _ _ x.1 z.1 (pairs a b d lt (omega arith))

@@ -32,39 +32,39 @@ live_follows past e old new defaults same follows =
 
 -- the choice
 module _ (past : Past) (states : States) (placed : List Placed) (request : Request)
-  (same_live : IsPermutation (live past) placed) (same_states : (name : List ℕ) → state_of states name ≡ state past name)
+    (same_live : IsPermutation (live past) placed) (same_states : (name : List ℕ) → state_of states name ≡ state past name)
   where
-  required_to : (name : List ℕ) (required : Option (List ℕ))
-      → IfSome required (λ r. state_of states name ≡ r) → IfSome required (λ r. state past name ≡ r)
-  required_to name None h = h
-  required_to name (Some r) h = sym (same_states name) ∙ h
+    required_to : (name : List ℕ) (required : Option (List ℕ))
+        → IfSome required (λ r. state_of states name ≡ r) → IfSome required (λ r. state past name ≡ r)
+    required_to name None h = h
+    required_to name (Some r) h = sym (same_states name) ∙ h
 
-  required_from : (name : List ℕ) (required : Option (List ℕ))
-      → IfSome required (λ r. state past name ≡ r) → IfSome required (λ r. state_of states name ≡ r)
-  required_from name None h = h
-  required_from name (Some r) h = same_states name ∙ h
+    required_from : (name : List ℕ) (required : Option (List ℕ))
+        → IfSome required (λ r. state past name ≡ r) → IfSome required (λ r. state_of states name ≡ r)
+    required_from name None h = h
+    required_from name (Some r) h = same_states name ∙ h
 
-  ready_to : (scenario : Option ScenarioSpec) → IsReady states scenario → of_past.IsReady past scenario
-  ready_to None h = h
-  ready_to (Some scenario) h = required_to scenario.name scenario.required h
+    ready_to : (scenario : Option ScenarioSpec) → IsReady states scenario → of_past.IsReady past scenario
+    ready_to None h = h
+    ready_to (Some scenario) h = required_to scenario.name scenario.required h
 
-  ready_from : (scenario : Option ScenarioSpec) → of_past.IsReady past scenario → IsReady states scenario
-  ready_from None h = h
-  ready_from (Some scenario) h = required_from scenario.name scenario.required h
+    ready_from : (scenario : Option ScenarioSpec) → of_past.IsReady past scenario → IsReady states scenario
+    ready_from None h = h
+    ready_from (Some scenario) h = required_from scenario.name scenario.required h
 
-  eligible_from : (m : Mapping) → of_past.IsEligible past request m → IsEligible states request m
-  eligible_from m h = record { meets = h.meets; ready = ready_from m.spec.scenario h.ready }
+    eligible_from : (m : Mapping) → of_past.IsEligible past request m → IsEligible states request m
+    eligible_from m h = record { meets = h.meets; ready = ready_from m.spec.scenario h.ready }
 
-  pub missed_in_past : IsMissed states placed request → of_past.IsMissed past request
-  missed_in_past missed p among eligible =
-      missed p (Contains-permutation (live past) placed p same_live among) (eligible_from p.mapping eligible)
+    pub missed_in_past : IsMissed states placed request → of_past.IsMissed past request
+    missed_in_past missed p among eligible =
+        missed p (Contains-permutation (live past) placed p same_live among) (eligible_from p.mapping eligible)
 
-  pub chosen_in_past : (m : Mapping) → IsChosen states placed request m → of_past.IsChosen past request m
-  chosen_in_past m h = record {
-    placed = h.placed;
-    same = h.same;
-    is_live = Contains-permutation placed (live past) h.placed (IsPermutation-sym (live past) placed same_live) h.is_live;
-    eligible = record { meets = h.eligible.meets; ready = ready_to m.spec.scenario h.eligible.ready };
-    best = λ other among eligible.
-        h.best other (Contains-permutation (live past) placed other same_live among) (eligible_from other.mapping eligible);
-  }
+    pub chosen_in_past : (m : Mapping) → IsChosen states placed request m → of_past.IsChosen past request m
+    chosen_in_past m h = record {
+      placed = h.placed;
+      same = h.same;
+      is_live = Contains-permutation placed (live past) h.placed (IsPermutation-sym (live past) placed same_live) h.is_live;
+      eligible = record { meets = h.eligible.meets; ready = ready_to m.spec.scenario h.eligible.ready };
+      best = λ other among eligible.
+          h.best other (Contains-permutation (live past) placed other same_live among) (eligible_from other.mapping eligible);
+    }

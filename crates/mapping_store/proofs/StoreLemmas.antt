@@ -30,9 +30,13 @@ element (x ∷ xs) (suc i) l = element xs i (omega arith)
 -- a live mapping with the property is that of an entry
 pub any_at : (P : Placed → Type 0) (xs : List Entry) (i : ℕ) (e : Entry) → i < length xs → e ≡ get_or xs i e
     → P (placed_of e) → Any P (map placed_of xs)
-any_at P xs i e l read p =
-    (i, placed_of e, subst (λ n. i < n) (sym (length-map xs placed_of)) l,
-    get_or-map placed_of xs i e (placed_of e) l ∙ ap placed_of (sym read), p)
+any_at P xs i e l read p = (
+  i,
+  placed_of e,
+  subst (λ n. i < n) (sym (length-map xs placed_of)) l,
+  get_or-map placed_of xs i e (placed_of e) l ∙ ap placed_of (sym read),
+  p,
+)
 
 -- the id at an index is that of a live mapping
 pub any_with_id : (id : List ℕ) (xs : List Entry) (i : ℕ) → i < length xs → ((d : Entry) → (get_or xs i d).id ≡ id)
@@ -45,7 +49,7 @@ pub any_taken : (id : List ℕ) (e : Entry) (old rest : List Entry) → e.id ≡
     → Any (λ p. p.mapping.id ≡ id) (map placed_of old)
 any_taken id e old rest is perm =
     let in_old : Contains old e =
-      Contains-permutation (e ∷ rest) old e (IsPermutation-sym old (e ∷ rest) perm) (zero, omega arith, refl) in
+    Contains-permutation (e ∷ rest) old e (IsPermutation-sym old (e ∷ rest) perm) (zero, omega arith, refl) in
     any_at (λ (p : Placed). p.mapping.id ≡ id) old in_old.0 e in_old.1 (sym in_old.2) is
 
 -- the entry of a live mapping
@@ -53,9 +57,12 @@ pub entry_of : (xs : List Entry) (k : ℕ) (p : Placed) → k < length (map plac
     → (e : Entry) × (k < length xs) × (e ≡ get_or xs k e) × (placed_of e ≡ p)
 entry_of xs k p l read =
     let within : k < length xs = subst (λ n. k < n) (length-map xs placed_of) l in
-    let found = element xs k within in
-    (found.0, within, found.1,
-    ap placed_of found.1 ∙ sym (get_or-map placed_of xs k found.0 p within) ∙ read)
+    let found = element xs k within in (
+      found.0,
+      within,
+      found.1,
+      ap placed_of found.1 ∙ sym (get_or-map placed_of xs k found.0 p within) ∙ read,
+    )
 
 pub none_with_id : (id : List ℕ) (xs : List Entry) → All (λ e. e.id ≢ id) xs
     → Any (λ p. p.mapping.id ≡ id) (map placed_of xs) → ⊥
@@ -143,10 +150,10 @@ pub after_edit : (m : Mapping) (was e : Entry) (old rest new : List Entry) → w
 after_edit m was e old rest new is taken left placed put =
     let edit : List Placed → List Placed = left_by (event.Edit m.id m.spec ∷ []) in
     let ids : All (λ x. x.id ≢ m.id) rest =
-      subst (λ (l : List Entry). All (λ x. x.id ≢ m.id) l) (sym left) (ids_without m.id old) in
+    subst (λ (l : List Entry). All (λ x. x.id ≢ m.id) l) (sym left) (ids_without m.id old) in
     let first : edit (map placed_of (was ∷ rest)) ≡ map placed_of (e ∷ rest) =
-      left_edited m.id m.spec (placed_of was) (map placed_of rest) is (other_ids m.id rest ids)
-      ∙ ap (λ p. p ∷ map placed_of rest) (sym placed) in
+    left_edited m.id m.spec (placed_of was) (map placed_of rest) is (other_ids m.id rest ids)
+    ∙ ap (λ p. p ∷ map placed_of rest) (sym placed) in
     subst (λ l. IsPermutation l (map placed_of new)) (sym (append-nil (edit (map placed_of old))))
     (IsPermutation-trans _ _ _
     (left_alike (event.Edit m.id m.spec ∷ []) (map placed_of old) (map placed_of (was ∷ rest))

@@ -27,11 +27,7 @@ impl Model for BookMapping {
 }
 
 impl BookMapping {
-    pub fn new(
-        alloc: Global,
-        id: MappingId,
-        ready: ReadyMapping,
-    ) -> Result<BookMapping, AllocError>
+    pub fn new(alloc: Global, id: MappingId, ready: ReadyMapping) -> Result<BookMapping, AllocError>
         ensures { IfOk result (λ mapping. mapping ≡ record { id = id; spec = ready }) }
     {
         Ok(BookMapping {

@@ -4,11 +4,10 @@
 #![tactic(auto)]
 
 pub mod book_mapping;
-pub mod mapping_store;
-
 mod counts;
 mod eligible;
 mod entries;
 mod entry;
 mod filled;
+pub mod mapping_store;
 mod scenario_names;

@@ -100,7 +100,12 @@ impl MappingStore {
     pub fn names(&self, scenario: &str, state: &str) -> bool
         ensures { IsTrue result ↔ Any (λ p. Names scenario.now state.now p.mapping.spec.scenario) self.now.live }
     {
-        names(self.live.as_slice(), self.defaults.as_slice(), scenario, state)
+        names(
+            self.live.as_slice(),
+            self.defaults.as_slice(),
+            scenario,
+            state,
+        )
     }
 
     /// Whether a live mapping has this id.

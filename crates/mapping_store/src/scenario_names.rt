@@ -23,13 +23,22 @@ pub(crate) fn knows(entries: &[Entry], defaults: &[BookMapping], scenario: &str)
 }
 
 /// Whether the mapping of an entry names the state of the scenario.
-pub(crate) fn names(entries: &[Entry], defaults: &[BookMapping], scenario: &str, state: &str) -> bool
+pub(crate) fn names(
+    entries: &[Entry],
+    defaults: &[BookMapping],
+    scenario: &str,
+    state: &str,
+) -> bool
     requires { All (Fits defaults.now) entries.now }
     ensures { IsTrue result
         ↔ Any (λ p. Names scenario.now state.now p.mapping.spec.scenario) (map placed_of entries.now) }
 {
     for i in 0..entries.len() {
-        if names_state(scenario, state, &spec_of(&entries[i], defaults).spec().scenario) {
+        if names_state(
+            scenario,
+            state,
+            &spec_of(&entries[i], defaults).spec().scenario,
+        ) {
             return true;
         }
     }

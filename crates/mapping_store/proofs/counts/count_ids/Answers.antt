@@ -8,5 +8,9 @@ pub returns-clause-count : goal.returns-clause-count
 returns-clause-count c = λ number index.
     let i = c.loop-i.i in
     let mappings = c.args.mappings.now in
-    omega (arith, c.loop-i.invariant.counted, at_drop_all (λ l. length (placed_from 0 i l)) mappings i (omega arith),
-    length-placed 0 0 number index mappings)
+    omega (
+      arith,
+      c.loop-i.invariant.counted,
+      at_drop_all (λ l. length (placed_from 0 i l)) mappings i (omega arith),
+      length-placed 0 0 number index mappings,
+    )

@@ -15,7 +15,8 @@ returns-clause-rest c =
 pub returns-clause-taken : goal.returns-clause-taken
 returns-clause-taken c =
     let found = rw c.as_slice.ensures.value at c.in_ok-at.ensures in
-    let read = c.remove.ensures.value in
-    (ap (λ (e : Entry). e.id) read ∙ found.1 c.remove.result,
-    subst (λ l. IsPermutation c.args.entries.now.items (c.remove.result ∷ l)) (sym c.remove.ensures.items)
-    (IsPermutation-remove c.args.entries.now.items c.in_ok-at.at c.remove.result found.0 read))
+    let read = c.remove.ensures.value in (
+      ap (λ (e : Entry). e.id) read ∙ found.1 c.remove.result,
+      subst (λ l. IsPermutation c.args.entries.now.items (c.remove.result ∷ l)) (sym c.remove.ensures.items)
+          (IsPermutation-remove c.args.entries.now.items c.in_ok-at.at c.remove.result found.0 read),
+    )

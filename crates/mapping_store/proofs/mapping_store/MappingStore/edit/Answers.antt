@@ -18,7 +18,7 @@ put_in-requires-clause-in_order c =
 pub put_in-requires-clause-new_id : goal.put_in-requires-clause-new_id
 put_in-requires-clause-new_id c =
     let same : c.id.result ≡ c.own.result.id =
-      c.id.ensures ∙ sym (ap (λ (p : Placed). p.mapping.id) c.own.ensures.placed) in
+    c.id.ensures ∙ sym (ap (λ (p : Placed). p.mapping.id) c.own.ensures.placed) in
     subst (λ (l : List Entry). All (λ e. e.id ≢ c.own.result.id) l) (sym c.take_out.ensures.rest)
     (subst (λ id. All (λ e. e.id ≢ id) (without c.id.result c.self.inside.live.items)) same
     (ids_without c.id.result c.self.inside.live.items))

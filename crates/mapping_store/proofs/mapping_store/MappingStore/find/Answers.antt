@@ -17,11 +17,11 @@ returns-clause-found c =
           let found = rw (w.in-Some.is, c.as_mut_slice.ensures.value) at c.in_ok-at.ensures.found in
           let e : Entry = w.index-entry.result.now in
           let kept = same_items c.self.inside.live.len items c.first_eligible.new.entries
-            (c.in_ok-at.ensures.same_entries ∙ c.as_mut_slice.ensures.value) c.self.inside.live.ok.0 in
+          (c.in_ok-at.ensures.same_entries ∙ c.as_mut_slice.ensures.value) c.self.inside.live.ok.0 in
           let read : e ≡ get_or items w.in-Some.at e =
-            w.index-entry.ensures ∙ ap (λ l. get_or l w.in-Some.at e) kept in
+          w.index-entry.ensures ∙ ap (λ l. get_or l w.in-Some.at e) kept in
           let copy : e.seen.value ≡ w.in_ok-try_clone-in-Some.field-0 =
-            sym (w.in_ok-try_clone-in-Some.ensures ∙ w.spec_of.ensures) in
+          sym (w.in_ok-try_clone-in-Some.ensures ∙ w.spec_of.ensures) in
           rw (← c.self.view_is, w.result-is)
           (chosen states request items c.self.inside.defaults.items w.in-Some.at e
           (record { id = e.id; spec = w.in_ok-try_clone-in-Some.field-0 }) c.self.invariant.kept found.0 read
