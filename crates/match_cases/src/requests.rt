@@ -30,11 +30,7 @@ pub fn answer(alloc: Global, row: &Row) -> Result<String, AllocError> {
     }
 }
 
-fn meets(
-    alloc: Global,
-    spec: &RequestSpec,
-    request: &Snapshot,
-) -> Result<bool, RequestMatchError> {
+fn meets(alloc: Global, spec: &RequestSpec, request: &Snapshot) -> Result<bool, RequestMatchError> {
     let mut matcher = RequestMatcher::build(alloc, spec)?;
     let mut request = ParsedRequest::read(alloc, request)?;
     Ok(matcher.matches(&mut request)?)
@@ -149,10 +145,7 @@ fn snapshot(alloc: Global, row: &Row) -> Result<Snapshot, AllocError> {
     made.ok().ok_or(AllocError)
 }
 
-fn headers(
-    alloc: Global,
-    lines: &str,
-) -> Result<Vec<(HeaderName, HeaderValue)>, AllocError> {
+fn headers(alloc: Global, lines: &str) -> Result<Vec<(HeaderName, HeaderValue)>, AllocError> {
     let mut headers = Vec::new(alloc);
     for line in lines.lines() {
         headers.push(header(alloc, line)?)?;

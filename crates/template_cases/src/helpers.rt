@@ -1,6 +1,6 @@
 //! Helpers: what they take, and what they give.
 
-use crate::values::{cell_of, value};
+use case_table::row::add_cell;
 use data_tree::data::Data;
 use helper_set::apply::apply;
 use helper_set::helper::Helper;
@@ -8,13 +8,13 @@ use helper_set::kind::Kind;
 use helper_set::signature::{Growth, HelperSignature, Parameter, signature};
 use helper_set::value::{MadeValue, Value};
 use json_bridge::read::data_of_json;
+use json_bridge::write::json_of;
 use std::alloc::{AllocError, Global};
 use std::borrow::CowStr;
 
 /// The JSON text of what the helper makes of the arguments, JSON texts: a text is given as a text, `true` and `false`
 /// to `not` as truths, and all else as data.
 pub fn result(alloc: Global, name: &str, first: &str, second: &str) -> Result<String, AllocError> {
-    let data = first;
     let first = data_of_json(alloc, first)?;
     let second = data_of_json(alloc, second)?;
     match (Helper::from_name(name), first, second) {
@@ -25,7 +25,7 @@ pub fn result(alloc: Global, name: &str, first: &str, second: &str) -> Result<St
             of_texts(alloc, helper, first.as_str(), second.as_str())
         }
         (Some(helper), Some(Data::Text(text)), _) => of_text(alloc, helper, text.as_str()),
-        (Some(Helper::Size), _, _) => size(alloc, &value(alloc, data)?),
+        (Some(Helper::Size), Some(data), _) => size(alloc, &with_names(data)),
         _ => Ok(String::new(alloc)),
     }
 }
@@ -71,6 +71,36 @@ fn size(alloc: Global, data: &Data) -> Result<String, AllocError> {
     )
 }
 
+// An object of `fields`, `items` and `text` is a named text: in byte order these are its members.
+fn with_names(data: Data) -> Data {
+    match data {
+        Data::Fields(members) => object(members),
+        other => other,
+    }
+}
+
+fn object(members: Vec<(String, Data)>) -> Data {
+    if members.len() != 3 || members[2].0.as_str() != "text" {
+        return Data::Fields(members);
+    }
+    named(members)
+}
+
+fn named(mut members: Vec<(String, Data)>) -> Data {
+    match (members.pop(), members.pop(), members.pop()) {
+        (
+            Some((_, Data::Text(text))),
+            Some((_, Data::List(items))),
+            Some((_, Data::Fields(fields))),
+        ) => Data::Named {
+            text,
+            items,
+            fields,
+        },
+        _ => Data::Nothing,
+    }
+}
+
 fn cell(alloc: Global, made: MadeValue<'_>) -> Result<String, AllocError> {
     let data = match made {
         MadeValue::Text(CowStr::Owned(text)) => Data::Text(text),
@@ -78,7 +108,9 @@ fn cell(alloc: Global, made: MadeValue<'_>) -> Result<String, AllocError> {
         MadeValue::Number(number) => Data::Number(i128::from(number)),
         MadeValue::Truth(truth) => Data::Truth(truth),
     };
-    cell_of(alloc, Some(&data))
+    let mut cells = String::new(alloc);
+    add_cell(&mut cells, json_of(alloc, &data)?.as_str())?;
+    Ok(cells)
 }
 
 /// What the helper accepts as its first and its second argument, the kind that it gives, and how its result grows.
