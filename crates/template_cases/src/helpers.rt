@@ -15,19 +15,32 @@ use std::borrow::CowStr;
 /// The JSON text of what the helper makes of the arguments, JSON texts: a text is given as a text, `true` and `false`
 /// to `not` as truths, and all else as data.
 pub fn result(alloc: Global, name: &str, first: &str, second: &str) -> Result<String, AllocError> {
-    let first = data_of_json(alloc, first)?;
-    let second = data_of_json(alloc, second)?;
-    match (Helper::from_name(name), first, second) {
-        (Some(Helper::Not), Some(Data::Truth(truth)), _) => {
-            cell(alloc, apply(alloc, Helper::Not, &[Value::Truth(truth)])?)
-        }
-        (Some(helper), Some(Data::Text(first)), Some(Data::Text(second))) => {
+    let Some(helper) = Helper::from_name(name) else {
+        return Ok(String::new(alloc));
+    };
+    match (argument(alloc, first)?, argument(alloc, second)?) {
+        (Data::Text(first), Data::Text(second)) => {
             of_texts(alloc, helper, first.as_str(), second.as_str())
         }
-        (Some(helper), Some(Data::Text(text)), _) => of_text(alloc, helper, text.as_str()),
-        (Some(Helper::Size), Some(data), _) => size(alloc, &with_names(data)),
+        (Data::Text(text), _) => of_text(alloc, helper, text.as_str()),
+        (data, _) => of_data(alloc, helper, data),
+    }
+}
+
+fn argument(alloc: Global, text: &str) -> Result<Data, AllocError> {
+    Ok(data_of_json(alloc, text)?.unwrap_or(Data::Nothing))
+}
+
+fn of_data(alloc: Global, helper: Helper, data: Data) -> Result<String, AllocError> {
+    match (helper, data) {
+        (Helper::Not, Data::Truth(truth)) => negated(alloc, truth),
+        (Helper::Size, data) => size(alloc, &with_names(data)),
         _ => Ok(String::new(alloc)),
     }
+}
+
+fn negated(alloc: Global, truth: bool) -> Result<String, AllocError> {
+    cell(alloc, apply(alloc, Helper::Not, &[Value::Truth(truth)])?)
 }
 
 fn of_text(alloc: Global, helper: Helper, text: &str) -> Result<String, AllocError> {
