@@ -2,7 +2,6 @@
 
 use crate::values::{refused, text_of, yes_or_no};
 use case_table::row::Row;
-use json_bridge::error::JsonError;
 use json_bridge::read::read_json;
 use json_match::error::JsonMatchError;
 use json_match::json_matcher::JsonMatcher;
@@ -30,23 +29,24 @@ pub fn path(alloc: Global, row: &Row) -> Result<String, AllocError> {
     answer(alloc, &spec, row.cell(1))
 }
 
-// Whether the value of the text meets the matcher, or the code of the matcher's error.
+// Whether the value of the text meets the matcher, or the code of the matcher's error. All texts of the tables are JSON.
 fn answer(alloc: Global, spec: &JsonSpec, actual: &str) -> Result<String, AllocError> {
-    match build(alloc, spec) {
-        Ok(matcher) => String::from_str(alloc, meets(alloc, &matcher, actual)?),
+    match meets(alloc, spec, actual) {
+        Ok(yes) => String::from_str(alloc, yes_or_no(yes)),
         Err(error) => refused(alloc, error.error_code()),
     }
+}
+
+fn meets(alloc: Global, spec: &JsonSpec, actual: &str) -> Result<bool, JsonMatchError> {
+    let matcher = build(alloc, spec)?;
+    matches(alloc, &matcher, actual)
 }
 
 fn build(alloc: Global, spec: &JsonSpec) -> Result<JsonMatcher, JsonMatchError> {
     JsonMatcher::build(alloc, spec)
 }
 
-fn meets(alloc: Global, matcher: &JsonMatcher, actual: &str) -> Result<&'static str, AllocError> {
-    match read_json(alloc, actual) {
-        Ok(value) => Ok(yes_or_no(matcher.matches(&value)?)),
-        Err(JsonError::OutOfMemory) => Err(AllocError),
-        Err(JsonError::NotJson) => Ok("\tno JSON"),
-        Err(JsonError::NumberNotWhole) => Ok("\ta number that isn't whole"),
-    }
+fn matches(alloc: Global, matcher: &JsonMatcher, actual: &str) -> Result<bool, JsonMatchError> {
+    let value = read_json(alloc, actual)?;
+    Ok(matcher.matches(&value)?)
 }

@@ -22,12 +22,15 @@ use std::alloc::{AllocError, Global};
 
 /// Whether the request meets the matcher, or the code of the matcher's error.
 pub fn answer(alloc: Global, row: &Row) -> Result<String, AllocError> {
-    let request = snapshot(alloc, row)?;
-    let spec = spec(alloc, row)?;
-    match meets(alloc, &spec, &request) {
+    match answer_of(alloc, row) {
         Ok(yes) => String::from_str(alloc, yes_or_no(yes)),
         Err(error) => refused(alloc, error.error_code()),
     }
+}
+
+fn answer_of(alloc: Global, row: &Row) -> Result<bool, RequestMatchError> {
+    let request = snapshot(alloc, row)?;
+    meets(alloc, &spec(alloc, row)?, &request)
 }
 
 fn meets(alloc: Global, spec: &RequestSpec, request: &Snapshot) -> Result<bool, RequestMatchError> {

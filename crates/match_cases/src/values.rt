@@ -10,21 +10,31 @@ use value_match::value_spec::ValueSpec;
 
 /// Whether the value meets the matcher, or the code of the matcher's error.
 pub fn answer(alloc: Global, row: &Row) -> Result<String, AllocError> {
-    let spec = spec_of(alloc, row.cell(0), row.cell(1))?;
-    let value = if row.given.len() > 2 {
-        Some(row.cell(2))
-    } else {
-        None
-    };
-    match meets(alloc, &spec, value) {
+    match meets(alloc, row) {
         Ok(yes) => String::from_str(alloc, yes_or_no(yes)),
         Err(error) => refused(alloc, error.error_code()),
     }
 }
 
-fn meets(alloc: Global, spec: &ValueSpec, value: Option<&str>) -> Result<bool, ValueError> {
-    let mut matcher = ValueMatcher::build(alloc, spec)?;
-    Ok(matcher.matches(value)?)
+fn meets(alloc: Global, row: &Row) -> Result<bool, ValueError> {
+    let spec = spec_of(alloc, row.cell(0), row.cell(1))?;
+    let mut matcher = build(alloc, &spec)?;
+    Ok(matches(&mut matcher, value(row))?)
+}
+
+fn value(row: &Row) -> Option<&str> {
+    match row.given.get(2) {
+        Some(value) => Some(value.as_str()),
+        None => None,
+    }
+}
+
+fn build(alloc: Global, spec: &ValueSpec) -> Result<ValueMatcher, ValueError> {
+    ValueMatcher::build(alloc, spec)
+}
+
+fn matches(matcher: &mut ValueMatcher, value: Option<&str>) -> Result<bool, AllocError> {
+    matcher.matches(value)
 }
 
 pub fn yes_or_no(yes: bool) -> &'static str {
