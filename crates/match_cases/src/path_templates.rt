@@ -18,7 +18,7 @@ pub fn same(alloc: Global, row: &Row) -> Result<String, AllocError> {
 
 /// Whether the path matches a copy of the template, and the bindings, each name with its segment.
 pub fn bound(alloc: Global, row: &Row) -> Result<String, AllocError> {
-    match bindings(alloc, row.cell(0), row.cell(1)) {
+    match bindings_of(alloc, row.cell(0), row.cell(1)) {
         Ok(cells) => Ok(cells),
         Err(error) => refused(alloc, error.error_code()),
     }
@@ -32,27 +32,62 @@ fn answer(alloc: Global, found: Result<bool, PathTemplateError>) -> Result<Strin
 }
 
 fn matches(alloc: Global, template: &str, path: &str) -> Result<bool, PathTemplateError> {
-    Ok(PathTemplate::parse(alloc, template)?.matches(path))
+    Ok(parse(alloc, template)?.matches(path))
 }
 
 fn are_same(alloc: Global, template: &str, other: &str) -> Result<bool, PathTemplateError> {
-    let template = PathTemplate::parse(alloc, template)?;
-    let other = PathTemplate::parse(alloc, other)?;
+    let template = parse(alloc, template)?;
+    let other = parse(alloc, other)?;
     Ok(template.same(&other))
 }
 
-fn bindings(alloc: Global, template: &str, path: &str) -> Result<String, PathTemplateError> {
-    let template = PathTemplate::parse(alloc, template)?.try_clone()?;
-    let Some(bindings) = template.bindings(alloc, path)? else {
-        return Ok(String::from_str(alloc, "\tno")?);
-    };
+fn bindings_of(alloc: Global, template: &str, path: &str) -> Result<String, PathTemplateError> {
+    let template = parse(alloc, template)?.try_clone()?;
+    Ok(cells(alloc, &template, path)?)
+}
+
+fn parse(alloc: Global, template: &str) -> Result<PathTemplate, PathTemplateError> {
+    PathTemplate::parse(alloc, template)
+}
+
+fn cells(alloc: Global, template: &PathTemplate, path: &str) -> Result<String, AllocError> {
+    match bindings(alloc, template, path)? {
+        Some(pairs) => segments(alloc, template, path, pairs.as_slice()),
+        None => String::from_str(alloc, "\tno"),
+    }
+}
+
+fn bindings(
+    alloc: Global,
+    template: &PathTemplate,
+    path: &str,
+) -> Result<Option<Vec<(String, String)>>, AllocError> {
+    template.bindings(alloc, path)
+}
+
+// The names are those of the bindings, and the segments those of the other call, which has to give the same.
+fn segments(
+    alloc: Global,
+    template: &PathTemplate,
+    path: &str,
+    pairs: &[(String, String)],
+) -> Result<String, AllocError> {
     let mut cells = String::from_str(alloc, "\tyes\t")?;
     let mut between = "";
-    for (name, _segment) in &bindings {
-        // The other call has to give the same segment.
-        let segment = template.binding(path, name.as_str()).unwrap_or("none");
-        cells.push_str(format!(in alloc; "{between}{name}={segment}")?.as_str())?;
+    for (name, _) in pairs {
+        cells.push_str(between)?;
+        add_segment(
+            &mut cells,
+            name.as_str(),
+            template.binding(path, name.as_str()),
+        )?;
         between = " ";
     }
     Ok(cells)
+}
+
+fn add_segment(cells: &mut String, name: &str, segment: Option<&str>) -> Result<(), AllocError> {
+    cells.push_str(name)?;
+    cells.push('=')?;
+    cells.push_str(segment.unwrap_or("none"))
 }

@@ -30,13 +30,32 @@ pub fn answer(alloc: Global, row: &Row) -> Result<String, AllocError> {
 
 fn answer_of(alloc: Global, row: &Row) -> Result<bool, RequestMatchError> {
     let request = snapshot(alloc, row)?;
-    meets(alloc, &spec(alloc, row)?, &request)
+    let mut matcher = build(alloc, &spec(alloc, row)?)?;
+    Ok(meets(alloc, &mut matcher, &request)?)
 }
 
-fn meets(alloc: Global, spec: &RequestSpec, request: &Snapshot) -> Result<bool, RequestMatchError> {
-    let mut matcher = RequestMatcher::build(alloc, spec)?;
-    let mut request = ParsedRequest::read(alloc, request)?;
-    Ok(matcher.matches(&mut request)?)
+fn build(alloc: Global, spec: &RequestSpec) -> Result<RequestMatcher, RequestMatchError> {
+    RequestMatcher::build(alloc, spec)
+}
+
+fn meets(
+    alloc: Global,
+    matcher: &mut RequestMatcher,
+    request: &Snapshot,
+) -> Result<bool, AllocError> {
+    let mut request = read(alloc, request)?;
+    matches(matcher, &mut request)
+}
+
+fn read<'a>(alloc: Global, request: &'a Snapshot) -> Result<ParsedRequest<'a>, AllocError> {
+    ParsedRequest::read(alloc, request)
+}
+
+fn matches(
+    matcher: &mut RequestMatcher,
+    request: &mut ParsedRequest<'_>,
+) -> Result<bool, AllocError> {
+    matcher.matches(request)
 }
 
 fn spec(alloc: Global, row: &Row) -> Result<RequestSpec, AllocError> {
