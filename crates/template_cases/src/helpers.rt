@@ -34,7 +34,7 @@ fn argument(alloc: Global, text: &str) -> Result<Data, AllocError> {
 fn of_data(alloc: Global, helper: Helper, data: Data) -> Result<String, AllocError> {
     match (helper, data) {
         (Helper::Not, Data::Truth(truth)) => negated(alloc, truth),
-        (Helper::Size, data) => size(alloc, &with_names(data)),
+        (Helper::Size, data) => size(alloc, &with_names(alloc, data)),
         _ => Ok(String::new(alloc)),
     }
 }
@@ -84,33 +84,54 @@ fn size(alloc: Global, data: &Data) -> Result<String, AllocError> {
     )
 }
 
-// An object of `fields`, `items` and `text` is a named text: in byte order these are its members.
-fn with_names(data: Data) -> Data {
+// An object of `fields`, `items` and `text` is a named text.
+fn with_names(alloc: Global, data: Data) -> Data {
     match data {
-        Data::Fields(members) => object(members),
+        Data::Fields(members) => object(alloc, members),
         other => other,
     }
 }
 
-fn object(members: Vec<(String, Data)>) -> Data {
+// The object of these members, or the named text: in byte order the text is the last of its three members.
+fn object(alloc: Global, mut members: Vec<(String, Data)>) -> Data {
     if members.len() != 3 || members[2].0.as_str() != "text" {
         return Data::Fields(members);
     }
-    named(members)
+    let text = text_of(alloc, members.pop());
+    let items = items_of(alloc, members.pop());
+    let fields = fields_of(alloc, members.pop());
+    Data::Named {
+        text,
+        items,
+        fields,
+    }
 }
 
-fn named(mut members: Vec<(String, Data)>) -> Data {
-    match (members.pop(), members.pop(), members.pop()) {
-        (
-            Some((_, Data::Text(text))),
-            Some((_, Data::List(items))),
-            Some((_, Data::Fields(fields))),
-        ) => Data::Named {
-            text,
-            items,
-            fields,
-        },
-        _ => Data::Nothing,
+fn text_of(alloc: Global, member: Option<(String, Data)>) -> String {
+    match value_of(member) {
+        Data::Text(text) => text,
+        _ => String::new(alloc),
+    }
+}
+
+fn items_of(alloc: Global, member: Option<(String, Data)>) -> Vec<Data> {
+    match value_of(member) {
+        Data::List(items) => items,
+        _ => Vec::new(alloc),
+    }
+}
+
+fn fields_of(alloc: Global, member: Option<(String, Data)>) -> Vec<(String, Data)> {
+    match value_of(member) {
+        Data::Fields(fields) => fields,
+        _ => Vec::new(alloc),
+    }
+}
+
+fn value_of(member: Option<(String, Data)>) -> Data {
+    match member {
+        Some((_name, value)) => value,
+        None => Data::Nothing,
     }
 }
 
