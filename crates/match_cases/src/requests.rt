@@ -28,10 +28,14 @@ pub fn answer(alloc: Global, row: &Row) -> Result<String, AllocError> {
     }
 }
 
+// In each of the functions below one value is dropped, at one place.
 fn answer_of(alloc: Global, row: &Row) -> Result<bool, RequestMatchError> {
-    let request = snapshot(alloc, row)?;
-    let mut matcher = build(alloc, &spec(alloc, row)?)?;
-    Ok(meets(alloc, &mut matcher, &request)?)
+    let mut matcher = matcher(alloc, row)?;
+    meets(alloc, &mut matcher, row)
+}
+
+fn matcher(alloc: Global, row: &Row) -> Result<RequestMatcher, RequestMatchError> {
+    build(alloc, &spec(alloc, row)?)
 }
 
 fn build(alloc: Global, spec: &RequestSpec) -> Result<RequestMatcher, RequestMatchError> {
@@ -39,6 +43,18 @@ fn build(alloc: Global, spec: &RequestSpec) -> Result<RequestMatcher, RequestMat
 }
 
 fn meets(
+    alloc: Global,
+    matcher: &mut RequestMatcher,
+    row: &Row,
+) -> Result<bool, RequestMatchError> {
+    Ok(meets_read(alloc, matcher, row)?)
+}
+
+fn meets_read(alloc: Global, matcher: &mut RequestMatcher, row: &Row) -> Result<bool, AllocError> {
+    meets_parsed(alloc, matcher, &snapshot(alloc, row)?)
+}
+
+fn meets_parsed(
     alloc: Global,
     matcher: &mut RequestMatcher,
     request: &Snapshot,
