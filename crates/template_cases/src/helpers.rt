@@ -1,6 +1,6 @@
 //! Helpers: what they take, and what they give.
 
-use crate::values::{cell_of, value};
+use case_table::row::add_cell;
 use data_tree::data::Data;
 use helper_set::apply::apply;
 use helper_set::helper::Helper;
@@ -8,26 +8,39 @@ use helper_set::kind::Kind;
 use helper_set::signature::{Growth, HelperSignature, Parameter, signature};
 use helper_set::value::{MadeValue, Value};
 use json_bridge::read::data_of_json;
+use json_bridge::write::json_of;
 use std::alloc::{AllocError, Global};
 use std::borrow::CowStr;
 
 /// The JSON text of what the helper makes of the arguments, JSON texts: a text is given as a text, `true` and `false`
 /// to `not` as truths, and all else as data.
 pub fn result(alloc: Global, name: &str, first: &str, second: &str) -> Result<String, AllocError> {
-    let data = first;
-    let first = data_of_json(alloc, first)?;
-    let second = data_of_json(alloc, second)?;
-    match (Helper::from_name(name), first, second) {
-        (Some(Helper::Not), Some(Data::Truth(truth)), _) => {
-            cell(alloc, apply(alloc, Helper::Not, &[Value::Truth(truth)])?)
-        }
-        (Some(helper), Some(Data::Text(first)), Some(Data::Text(second))) => {
+    let Some(helper) = Helper::from_name(name) else {
+        return Ok(String::new(alloc));
+    };
+    match (argument(alloc, first)?, argument(alloc, second)?) {
+        (Data::Text(first), Data::Text(second)) => {
             of_texts(alloc, helper, first.as_str(), second.as_str())
         }
-        (Some(helper), Some(Data::Text(text)), _) => of_text(alloc, helper, text.as_str()),
-        (Some(Helper::Size), _, _) => size(alloc, &value(alloc, data)?),
+        (Data::Text(text), _) => of_text(alloc, helper, text.as_str()),
+        (data, _) => of_data(alloc, helper, data),
+    }
+}
+
+fn argument(alloc: Global, text: &str) -> Result<Data, AllocError> {
+    Ok(data_of_json(alloc, text)?.unwrap_or(Data::Nothing))
+}
+
+fn of_data(alloc: Global, helper: Helper, data: Data) -> Result<String, AllocError> {
+    match (helper, data) {
+        (Helper::Not, Data::Truth(truth)) => negated(alloc, truth),
+        (Helper::Size, data) => size(alloc, &with_names(alloc, data)),
         _ => Ok(String::new(alloc)),
     }
+}
+
+fn negated(alloc: Global, truth: bool) -> Result<String, AllocError> {
+    cell(alloc, apply(alloc, Helper::Not, &[Value::Truth(truth)])?)
 }
 
 fn of_text(alloc: Global, helper: Helper, text: &str) -> Result<String, AllocError> {
@@ -71,6 +84,57 @@ fn size(alloc: Global, data: &Data) -> Result<String, AllocError> {
     )
 }
 
+// An object of `fields`, `items` and `text` is a named text.
+fn with_names(alloc: Global, data: Data) -> Data {
+    match data {
+        Data::Fields(members) => object(alloc, members),
+        other => other,
+    }
+}
+
+// The object of these members, or the named text: in byte order the text is the last of its three members.
+fn object(alloc: Global, mut members: Vec<(String, Data)>) -> Data {
+    if members.len() != 3 || members[2].0.as_str() != "text" {
+        return Data::Fields(members);
+    }
+    let text = text_of(alloc, members.pop());
+    let items = items_of(alloc, members.pop());
+    let fields = fields_of(alloc, members.pop());
+    Data::Named {
+        text,
+        items,
+        fields,
+    }
+}
+
+fn text_of(alloc: Global, member: Option<(String, Data)>) -> String {
+    match value_of(member) {
+        Data::Text(text) => text,
+        _ => String::new(alloc),
+    }
+}
+
+fn items_of(alloc: Global, member: Option<(String, Data)>) -> Vec<Data> {
+    match value_of(member) {
+        Data::List(items) => items,
+        _ => Vec::new(alloc),
+    }
+}
+
+fn fields_of(alloc: Global, member: Option<(String, Data)>) -> Vec<(String, Data)> {
+    match value_of(member) {
+        Data::Fields(fields) => fields,
+        _ => Vec::new(alloc),
+    }
+}
+
+fn value_of(member: Option<(String, Data)>) -> Data {
+    match member {
+        Some((_name, value)) => value,
+        None => Data::Nothing,
+    }
+}
+
 fn cell(alloc: Global, made: MadeValue<'_>) -> Result<String, AllocError> {
     let data = match made {
         MadeValue::Text(CowStr::Owned(text)) => Data::Text(text),
@@ -78,7 +142,9 @@ fn cell(alloc: Global, made: MadeValue<'_>) -> Result<String, AllocError> {
         MadeValue::Number(number) => Data::Number(i128::from(number)),
         MadeValue::Truth(truth) => Data::Truth(truth),
     };
-    cell_of(alloc, Some(&data))
+    let mut cells = String::new(alloc);
+    add_cell(&mut cells, json_of(alloc, &data)?.as_str())?;
+    Ok(cells)
 }
 
 /// What the helper accepts as its first and its second argument, the kind that it gives, and how its result grows.
