@@ -1,10 +1,9 @@
 -- One key more in the lists of `specs/Groups.antt`.
 use Rattle.std.proofs.Common.{◌≡◌, ℕ, ◌+◌, ◌<◌, ◌≤◌, Bool, true, false, List, [], ◌∷◌, ◌++◌, length, get_or, take, drop, sym, ap, ◌∙◌, arith, Option}
-use Rattle.std.specs.Prelude.{◌&&◌, ◌==◌, nat_lt, if◌then◌else◌, count_by}
+use Rattle.std.specs.Prelude.{◌&&◌, nat_lt, if◌then◌else◌, count_by}
 use Rattle.std.proofs.lemmas.Bool.{eq-eqb, ne_eqb, lt-ltb, le-ltb}
 use Rattle.std.proofs.lemmas.List.{at_drop_more, take_more, length-take-le}
 use Rattle.std.proofs.lemmas.List.Sums.{count_by-le-length}
-use Rattle.key_groups.specs.declared.place.Place.{Place}
 use Rattle.key_groups.specs.Groups.{times, begins_larger, group_of, larger_from, place_of, places_from}
 
 -- a count of a front is below the whole's length
