@@ -3,6 +3,10 @@ use Rattle.std.specs.Prelude.{◌≡◌, ℕ, List, Bool, Option, Some, None, if
 use Rattle.std.specs.Prelude.{true, ◌&&◌}
 use Rattle.std.specs.List.{list_any}
 use Rattle.std.specs.Str.{bytes_eq}
+use Rattle.std.specs.Prelude.{Result, Ok, Err}
+use Rattle.base64.specs.Engines.{standard}
+use Rattle.base64.specs.GeneralPurpose.{decode_of}
+use Rattle.base64.specs.declared.decode.DecodeError.{DecodeError}
 use Rattle.json_reading.specs.Reading.{both, read_map, wrong_also}
 use Rattle.json_reading.specs.declared.kind.Kind.TheVariants.{Unsupported, Misshapen}
 use Rattle.json_reading.specs.declared.reading.Reading.{Reading}
@@ -33,6 +37,15 @@ text_of d = Wrong Misshapen
 abbrev pub bool_of : Data → Reading Bool
 bool_of (boolean b) = Read b
 bool_of d = Wrong Misshapen
+
+-- bytes, written in base64 (RFC 4648, section 4) with padding
+abbrev pub decoded : Result (List ℕ) DecodeError → Reading (List ℕ)
+decoded (Ok bytes) = Read bytes
+decoded (Err error) = Wrong Misshapen
+
+abbrev pub bytes_of : Data → Reading (List ℕ)
+bytes_of (string s) = decoded (decode_of standard s)
+bytes_of d = Wrong Misshapen
 
 abbrev pub text_field : List ℕ → Data → Reading (Option (List ℕ))
 text_field name d = optional text_of (get name d)

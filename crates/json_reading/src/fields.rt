@@ -2,11 +2,14 @@
 ghost use Rattle.std.specs.Prelude.{◌≡◌, map, IfOk};
 ghost use Rattle.std.specs.List.{list_any};
 ghost use Rattle.std.specs.Str.{bytes_eq};
-ghost use Rattle.json_reading.specs.Fields.{has_only, only, text_of, bool_of, text_field, bool_field};
+ghost use Rattle.json_reading.specs.Fields.{has_only, only, text_of, bool_of, bytes_of, text_field, bool_field};
 ghost use Rattle.serde_json.specs.View.{view, members_view};
 
 use crate::kind::Kind;
-use crate::reading::{Reading, wrong_also};
+use crate::reading::{Reading, some, wrong_also};
+use base64::DecodeAllocError;
+use base64::engine::general_purpose::STANDARD;
+use plain_text::octets::Octets;
 use plain_text::text::Text;
 use serde_json::{Map, Value};
 use std::alloc::{AllocError, Global};
@@ -62,6 +65,20 @@ pub fn bool_of(value: &Value) -> Reading<bool>
     }
 }
 
+/// Bytes, written as a text in base64 (RFC 4648, section 4), with padding.
+pub fn bytes_of(alloc: Global, value: &Value) -> Result<Reading<Octets>, AllocError>
+    ensures { IfOk result (λ bytes. bytes ≡ bytes_of (view value.now)) }
+{
+    let Value::String(text) = value else {
+        return Ok(Reading::Wrong(Kind::Misshapen));
+    };
+    match STANDARD.decode(alloc, text.as_bytes()) {
+        Ok(bytes) => Ok(Reading::Read(Octets::from(bytes))),
+        Err(DecodeAllocError::DecodeError(_)) => Ok(Reading::Wrong(Kind::Misshapen)),
+        Err(DecodeAllocError::OutOfMemory) => Err(AllocError),
+    }
+}
+
 /// The text of that name in an object, if it has one.
 pub fn text_field(
     alloc: Global,
@@ -70,12 +87,9 @@ pub fn text_field(
 ) -> Result<Reading<Option<Text>>, AllocError>
     ensures { IfOk result (λ text. text ≡ text_field name.now (view value.now)) }
 {
-    let Some(found) = value.get(name) else {
-        return Ok(Reading::Read(None));
-    };
-    match text_of(alloc, found)? {
-        Reading::Read(text) => Ok(Reading::Read(Some(text))),
-        Reading::Wrong(kind) => Ok(Reading::Wrong(kind)),
+    match value.get(name) {
+        Some(found) => Ok(some(text_of(alloc, found)?)),
+        None => Ok(Reading::Read(None)),
     }
 }
 
@@ -83,11 +97,8 @@ pub fn text_field(
 pub fn bool_field(name: &str, value: &Value) -> Reading<Option<bool>>
     ensures { result ≡ bool_field name.now (view value.now) }
 {
-    let Some(found) = value.get(name) else {
-        return Reading::Read(None);
-    };
-    match bool_of(found) {
-        Reading::Read(truth) => Reading::Read(Some(truth)),
-        Reading::Wrong(kind) => Reading::Wrong(kind),
+    match value.get(name) {
+        Some(found) => some(bool_of(found)),
+        None => Reading::Read(None),
     }
 }

@@ -1,11 +1,11 @@
 // Which numbers a document may have, and the text of a value.
 ghost use Rattle.std.specs.Prelude.{◌≡◌, IfOk, is_some};
 ghost use Rattle.json_bridge.specs.Reading.{items_of, members_of};
-ghost use Rattle.json_reading.specs.Numbers.{is_taken, json_text_of};
+ghost use Rattle.json_reading.specs.Numbers.{is_taken, taken, json_text_of};
 ghost use Rattle.serde_json.specs.View.{view, items_view, members_view};
 
 use crate::kind::Kind;
-use crate::reading::Reading;
+use crate::reading::{Reading, wrong_also};
 use plain_text::text::Text;
 use serde_json::{Map, Value};
 use std::alloc::{AllocError, Global};
@@ -45,6 +45,17 @@ fn have_taken(members: &Map<String, Value>) -> bool
         }
     }
     true
+}
+
+/// A part of a value of which each number has to be taken.
+pub fn taken<T: Drop>(value: &Value, part: Reading<T>) -> Reading<T>
+    ensures { result ≡ taken (view value.now) part }
+{
+    if is_taken(value) {
+        part
+    } else {
+        wrong_also(Kind::NumberNotWhole, part)
+    }
 }
 
 /// The value's compact text, with names in byte order.

@@ -1,6 +1,6 @@
 // A part of a document that is read, or wrong, and how parts are put together.
-ghost use Rattle.std.specs.Prelude.{◌≡◌, IfOk};
-ghost use Rattle.json_reading.specs.Reading.{both, either, needed, wrong_also, pushed};
+ghost use Rattle.std.specs.Prelude.{◌≡◌, Some, IfOk};
+ghost use Rattle.json_reading.specs.Reading.{both, read_map, either, needed, wrong_also, pushed};
 
 use crate::kind::Kind;
 use plain_text::items::Items;
@@ -22,6 +22,16 @@ pub fn both<A: Drop, B: Drop>(a: Reading<A>, b: Reading<B>) -> Reading<(A, B)>
         (Reading::Read(_), Reading::Wrong(kind)) => Reading::Wrong(kind),
         (Reading::Wrong(kind), Reading::Read(_)) => Reading::Wrong(kind),
         (Reading::Wrong(a), Reading::Wrong(b)) => Reading::Wrong(a.first(b)),
+    }
+}
+
+/// A part that is there.
+pub fn some<T: Drop>(part: Reading<T>) -> Reading<Option<T>>
+    ensures { result ≡ read_map Some part }
+{
+    match part {
+        Reading::Read(value) => Reading::Read(Some(value)),
+        Reading::Wrong(kind) => Reading::Wrong(kind),
     }
 }
 

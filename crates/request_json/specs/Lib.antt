@@ -1,0 +1,8 @@
+pub mod ValueReading
+pub mod BodyReading
+pub mod RequestReading
+pub mod ValueWritten
+pub mod BodyWritten
+pub mod RequestWritten
+pub mod Refusal
+pub mod Errors

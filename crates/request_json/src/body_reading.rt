@@ -1,0 +1,154 @@
+// Which body matcher an object spells.
+ghost use Rattle.std.specs.Prelude.{◌≡◌, IfOk, codes, option_map};
+ghost use Rattle.json_reading.specs.Fields.{optional, bytes_of};
+ghost use Rattle.json_reading.specs.Reading.{read_map};
+ghost use Rattle.mapping_model.specs.declared.body_pattern.BodyPattern.TheVariants.{Value as ValueMatcher};
+ghost use Rattle.mapping_model.specs.declared.body_pattern.BodyPattern.TheVariants.{BinaryEqualTo};
+ghost use Rattle.request_json.specs.BodyReading.{expected_of, equal_json_in, path_of, body_in, reading_of_body};
+ghost use Rattle.request_json.specs.ValueReading.{value_in};
+ghost use Rattle.serde_json.specs.Find.{get};
+ghost use Rattle.serde_json.specs.View.{view};
+
+use crate::value_reading::value_in;
+use json_match::json_spec::JsonSpec;
+use json_reading::fields::{bool_field, bytes_of, only, text_field};
+use json_reading::kind::Kind;
+use json_reading::numbers::json_text_of;
+use json_reading::reading::{Reading, both, either, needed, some};
+use mapping_model::body_pattern::BodyPattern;
+use plain_text::text::Text;
+use serde_json::Value;
+use std::alloc::{AllocError, Global};
+
+/// A body matcher: an object with one word that says how a body is compared.
+pub(crate) fn body_of(alloc: Global, value: &Value) -> Result<Reading<BodyPattern>, AllocError>
+    ensures { IfOk result (λ pattern. pattern ≡ reading_of_body (view value.now)) }
+{
+    let words = [
+        "equalTo",
+        "caseInsensitive",
+        "contains",
+        "doesNotContain",
+        "matches",
+        "doesNotMatch",
+        "absent",
+        "binaryEqualTo",
+        "equalToJson",
+        "ignoreArrayOrder",
+        "ignoreExtraElements",
+        "matchesJsonPath",
+    ];
+    Ok(only(&words, value, needed(body_in(alloc, value)?)))
+}
+
+/// The one matcher that the words of an object spell, if they spell one.
+fn body_in(alloc: Global, value: &Value) -> Result<Reading<Option<BodyPattern>>, AllocError>
+    ensures { IfOk result (λ pattern. pattern ≡ body_in (view value.now)) }
+{
+    let found = either(Kind::Misshapen, equal_json_in(alloc, value)?, path_in(alloc, value)?);
+    let found = either(Kind::Misshapen, binary_in(alloc, value)?, found);
+    Ok(either(Kind::Misshapen, text_matcher_in(alloc, value)?, found))
+}
+
+fn text_matcher_in(
+    alloc: Global,
+    value: &Value,
+) -> Result<Reading<Option<BodyPattern>>, AllocError>
+    ensures { IfOk result (λ pattern. pattern ≡ read_map (option_map ValueMatcher) (value_in (view value.now))) }
+{
+    match value_in(alloc, value)? {
+        Reading::Read(matcher) => Ok(Reading::Read(matcher.map(BodyPattern::Value))),
+        Reading::Wrong(kind) => Ok(Reading::Wrong(kind)),
+    }
+}
+
+fn binary_in(alloc: Global, value: &Value) -> Result<Reading<Option<BodyPattern>>, AllocError>
+    ensures { IfOk result (λ pattern. pattern ≡ read_map (option_map BinaryEqualTo)
+        (optional bytes_of (get (codes "binaryEqualTo") (view value.now)))) }
+{
+    let Some(found) = value.get("binaryEqualTo") else {
+        return Ok(Reading::Read(None));
+    };
+    match bytes_of(alloc, found)? {
+        Reading::Read(bytes) => Ok(Reading::Read(Some(BodyPattern::BinaryEqualTo(bytes)))),
+        Reading::Wrong(kind) => Ok(Reading::Wrong(kind)),
+    }
+}
+
+fn equal_json_in(alloc: Global, value: &Value) -> Result<Reading<Option<BodyPattern>>, AllocError>
+    ensures { IfOk result (λ pattern. pattern ≡ equal_json_in (view value.now)) }
+{
+    let expected = expected_in(alloc, value)?;
+    let any_order = bool_field("ignoreArrayOrder", value);
+    let more = bool_field("ignoreExtraElements", value);
+    match both(expected, both(any_order, more)) {
+        Reading::Read((None, (None, None))) => Ok(Reading::Read(None)),
+        Reading::Read((None, _)) => Ok(Reading::Wrong(Kind::Misshapen)),
+        Reading::Read((Some(expected), (any_order, more))) => {
+            Ok(Reading::Read(Some(BodyPattern::Json(JsonSpec::EqualTo {
+                expected,
+                ignore_array_order: any_order.unwrap_or(false),
+                ignore_extra_elements: more.unwrap_or(false),
+            }))))
+        }
+        Reading::Wrong(kind) => Ok(Reading::Wrong(kind)),
+    }
+}
+
+fn expected_in(alloc: Global, value: &Value) -> Result<Reading<Option<Text>>, AllocError>
+    ensures { IfOk result (λ text. text
+        ≡ optional expected_of (get (codes "equalToJson") (view value.now))) }
+{
+    match value.get("equalToJson") {
+        Some(found) => Ok(some(expected_of(alloc, found)?)),
+        None => Ok(Reading::Read(None)),
+    }
+}
+
+/// The expected JSON text: as it is given, or of the value that is given in its place.
+fn expected_of(alloc: Global, value: &Value) -> Result<Reading<Text>, AllocError>
+    ensures { IfOk result (λ text. text ≡ expected_of (view value.now)) }
+{
+    match value {
+        Value::String(text) => Ok(Reading::Read(Text::from(text.clone()?))),
+        _ => json_text_of(alloc, value),
+    }
+}
+
+fn path_in(alloc: Global, value: &Value) -> Result<Reading<Option<BodyPattern>>, AllocError>
+    ensures { IfOk result (λ pattern. pattern
+        ≡ optional path_of (get (codes "matchesJsonPath") (view value.now))) }
+{
+    match value.get("matchesJsonPath") {
+        Some(found) => Ok(some(path_of(alloc, found)?)),
+        None => Ok(Reading::Read(None)),
+    }
+}
+
+/// A JSON path, alone or with a value matcher on what it finds.
+fn path_of(alloc: Global, value: &Value) -> Result<Reading<BodyPattern>, AllocError>
+    ensures { IfOk result (λ pattern. pattern ≡ path_of (view value.now)) }
+{
+    if let Value::String(path) = value {
+        return Ok(Reading::Read(BodyPattern::Json(JsonSpec::Path(Text::from(path.clone()?)))));
+    }
+    let words = [
+        "expression",
+        "equalTo",
+        "caseInsensitive",
+        "contains",
+        "doesNotContain",
+        "matches",
+        "doesNotMatch",
+        "absent",
+    ];
+    let expression = needed(text_field(alloc, "expression", value)?);
+    let part = match both(expression, needed(value_in(alloc, value)?)) {
+        Reading::Read((expression, matcher)) => Reading::Read(BodyPattern::JsonPath {
+            expression,
+            matcher,
+        }),
+        Reading::Wrong(kind) => Reading::Wrong(kind),
+    };
+    Ok(only(&words, value, part))
+}

@@ -1,0 +1,79 @@
+// The object that is written for a body matcher.
+ghost use Rattle.std.specs.Prelude.{◌≡◌, IfOk, OnOk};
+ghost use Rattle.request_json.specs.BodyWritten.{with_json, json_of_pattern, written_expected};
+ghost use Rattle.serde_json.specs.View.{view, members_view};
+
+use crate::value_written::put_value;
+use base64::engine::general_purpose::STANDARD;
+use json_match::json_spec::JsonSpec;
+use json_reading::numbers::json_text_of;
+use json_reading::reading::Reading;
+use json_reading::written::{put_flag, put_text};
+use mapping_model::body_pattern::BodyPattern;
+use plain_text::text::Text;
+use serde_json::{Map, Value};
+use std::alloc::{AllocError, Global};
+
+pub(crate) fn write_pattern(alloc: Global, pattern: &BodyPattern) -> Result<Value, AllocError>
+    ensures { IfOk result (λ value. view value ≡ json_of_pattern pattern.now) }
+{
+    let mut members = Map::new(alloc);
+    match pattern {
+        BodyPattern::Value(matcher) => put_value(alloc, &mut members, matcher)?,
+        BodyPattern::BinaryEqualTo(bytes) => {
+            let text = STANDARD.encode(alloc, bytes.as_slice())?;
+            serde_json::put(&mut members, alloc, "binaryEqualTo", Value::String(text))?;
+        }
+        BodyPattern::Json(matcher) => put_json(alloc, &mut members, matcher)?,
+        BodyPattern::JsonPath {
+            expression,
+            matcher,
+        } => {
+            let mut inner = Map::new(alloc);
+            put_text(alloc, &mut inner, "expression", expression)?;
+            put_value(alloc, &mut inner, matcher)?;
+            serde_json::put(&mut members, alloc, "matchesJsonPath", Value::Object(inner))?;
+        }
+    }
+    Ok(Value::Object(members))
+}
+
+fn put_json(
+    alloc: Global,
+    members: &mut Map<String, Value>,
+    matcher: &JsonSpec,
+) -> Result<(), AllocError>
+    ensures { OnOk result (members_view members.new.entries
+        ≡ with_json matcher.now (members_view members.old.entries)) }
+{
+    match matcher {
+        JsonSpec::EqualTo {
+            expected,
+            ignore_array_order,
+            ignore_extra_elements,
+        } => {
+            let expected = written_expected(alloc, expected)?;
+            put_text(alloc, members, "equalToJson", &expected)?;
+            put_flag(alloc, members, "ignoreArrayOrder", *ignore_array_order)?;
+            put_flag(alloc, members, "ignoreExtraElements", *ignore_extra_elements)
+        }
+        JsonSpec::Path(path) => put_text(alloc, members, "matchesJsonPath", path),
+    }
+}
+
+/// The compact text of the expected JSON text, which is read for it.
+fn written_expected(alloc: Global, expected: &Text) -> Result<Text, AllocError>
+    ensures { IfOk result (λ text. text ≡ written_expected expected.now) }
+{
+    match Value::from_str(alloc, expected.as_str()) {
+        Ok(value) => match json_text_of(alloc, &value)? {
+            Reading::Read(text) => Ok(text),
+            Reading::Wrong(_) => expected.try_clone(),
+        },
+        Err(error) => if error.is_memory() {
+            Err(AllocError)
+        } else {
+            expected.try_clone()
+        },
+    }
+}

@@ -1,0 +1,81 @@
+// Which request matcher an object spells.
+ghost use Rattle.std.specs.Prelude.{◌≡◌, IfOk};
+ghost use Rattle.json_reading.specs.Fields.{list_of};
+ghost use Rattle.request_json.specs.BodyReading.{reading_of_body};
+ghost use Rattle.request_json.specs.RequestReading.{body_field, reading_of_request};
+ghost use Rattle.serde_json.specs.View.{view};
+
+use crate::body_reading::body_of;
+use crate::named_reading::named_field;
+use crate::url_reading::url_of;
+use json_reading::fields::{only, text_field};
+use json_reading::kind::Kind;
+use json_reading::reading::{Reading, both, push};
+use mapping_model::body_pattern::BodyPattern;
+use mapping_model::request_spec::RequestSpec;
+use plain_text::items::Items;
+use serde_json::Value;
+use std::alloc::{AllocError, Global};
+
+/// The request matcher that an object spells. Each text is copied once. Patterns, templates, JSON paths and expected
+/// JSON texts aren't judged here but where the matcher is built.
+pub fn request_of(alloc: Global, value: &Value) -> Result<Reading<RequestSpec>, AllocError>
+    ensures { IfOk result (λ request. request ≡ reading_of_request (view value.now)) }
+{
+    let fields = [
+        "method",
+        "url",
+        "urlPattern",
+        "urlPath",
+        "urlPathPattern",
+        "urlPathTemplate",
+        "headers",
+        "queryParameters",
+        "cookies",
+        "pathParameters",
+        "bodyPatterns",
+    ];
+    let target = both(text_field(alloc, "method", value)?, url_of(alloc, value)?);
+    let headers = named_field(alloc, "headers", value)?;
+    let query = named_field(alloc, "queryParameters", value)?;
+    let cookies = named_field(alloc, "cookies", value)?;
+    let body = body_field(alloc, value)?;
+    let parts = both(target, both(both(headers, query), both(cookies, body)));
+    let request = match parts {
+        Reading::Read(((method, url), ((headers, query), (cookies, body)))) => {
+            Reading::Read(RequestSpec {
+                method,
+                url,
+                headers,
+                query,
+                cookies,
+                body,
+            })
+        }
+        Reading::Wrong(kind) => Reading::Wrong(kind),
+    };
+    Ok(only(&fields, value, request))
+}
+
+/// The body matchers; an absent field has none.
+fn body_field(alloc: Global, value: &Value) -> Result<Reading<Items<BodyPattern>>, AllocError>
+    ensures { IfOk result (λ patterns. patterns ≡ body_field (view value.now)) }
+{
+    match value.get("bodyPatterns") {
+        Some(found) => patterns_of(alloc, found),
+        None => Ok(Reading::Read(Items::from(Vec::new(alloc)))),
+    }
+}
+
+fn patterns_of(alloc: Global, value: &Value) -> Result<Reading<Items<BodyPattern>>, AllocError>
+    ensures { IfOk result (λ patterns. patterns ≡ list_of reading_of_body (view value.now)) }
+{
+    let Some(items) = value.as_array() else {
+        return Ok(Reading::Wrong(Kind::Misshapen));
+    };
+    let mut patterns = Reading::Read(Items::from(Vec::new(alloc)));
+    for item in items {
+        patterns = push(patterns, body_of(alloc, item)?)?;
+    }
+    Ok(patterns)
+}
