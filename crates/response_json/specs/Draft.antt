@@ -1,5 +1,5 @@
 -- A response as it is read: what it is once its templates are compiled, and the first error of these.
-use Rattle.std.specs.Prelude.{◌≡◌, ◌⊎◌, ℕ, List, [], ◌∷◌, ◌++◌, All, map, if◌then◌else◌}
+use Rattle.std.specs.Prelude.{◌≡◌, ◌⊎◌, ℕ, List, [], ◌∷◌, ◌++◌, All, map, false, if◌then◌else◌}
 use Rattle.mapping_model.specs.declared.header_lines.HeaderLine.{HeaderLine}
 use Rattle.mapping_model.specs.declared.response_spec.Body.{Body}
 use Rattle.mapping_model.specs.declared.response_spec.Body.TheVariants as body
@@ -46,3 +46,7 @@ pub record IsFirstOf (texts : List (List ℕ)) (error : ProgramError) : Type 0 w
 -- the error of compiling the texts one after the other; memory may run out at any moment
 abbrev pub IsFirstError : List (List ℕ) → ProgramError → Type 0
 IsFirstError texts error = (error ≡ OutOfMemory) ⊎ IsFirstOf texts error
+
+-- the response of a mapping that has none
+abbrev pub no_response : ResponseDraft
+no_response = record { status = 200; headers = []; body = body.Empty; is_templated = false }

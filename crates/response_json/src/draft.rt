@@ -1,7 +1,8 @@
 // A response whose templates aren't compiled yet.
 ghost use Rattle.std.specs.Prelude.{◌≡◌, ◌∷◌, ◌++◌, [], All, IfOk, IfErr, OnOk};
 ghost use Rattle.mapping_model.specs.declared.response_spec.Content.{Content};
-ghost use Rattle.response_json.specs.Draft.{response_of, templates_of, values_of, body_templates, IsFirstError};
+ghost use Rattle.response_json.specs.Draft.{response_of, no_response, templates_of, values_of};
+ghost use Rattle.response_json.specs.Draft.{body_templates, IsFirstError};
 ghost use Rattle.template_machine.specs.Program.{IsProgramText};
 ghost use Rattle.template_machine.specs.Errors.{IsErrorOf};
 
@@ -24,6 +25,18 @@ pub struct ResponseDraft {
 }
 
 impl ResponseDraft {
+    /// The response of a mapping that has none: 200, without headers and body. Takes no memory.
+    pub fn none(alloc: Global) -> ResponseDraft
+        ensures { result ≡ no_response }
+    {
+        ResponseDraft {
+            status: Status::ok(),
+            headers: no_headers(alloc),
+            body: Body::Empty,
+            is_templated: false,
+        }
+    }
+
     /// The response, with its templates compiled in the order of the header lines, and then the body. The error is that
     /// of the first template that is none.
     pub fn compile(self, alloc: Global) -> Result<ResponseSpec, ProgramError>
@@ -43,6 +56,16 @@ impl ResponseDraft {
             Content::Plain { headers, body }
         };
         Ok(ResponseSpec { status, content })
+    }
+}
+
+/// No header lines. Takes no memory.
+pub(crate) fn no_headers(alloc: Global) -> HeaderLines<Text>
+    ensures { result ≡ [] }
+{
+    match HeaderLines::new(Vec::new(alloc)) {
+        Some(headers) => headers,
+        None => unreachable!(),
     }
 }
 

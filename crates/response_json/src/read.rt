@@ -1,13 +1,12 @@
 // From a JSON value to a response.
-ghost use Rattle.std.specs.Prelude.{◌≡◌, [], IfOk};
-ghost use Rattle.json_reading.specs.declared.reading.Reading.TheVariants.{Read};
+ghost use Rattle.std.specs.Prelude.{◌≡◌, IfOk};
 ghost use Rattle.json_reading.specs.Fields.{each_item};
 ghost use Rattle.response_json.specs.Reading.{reading_of_response, spelled_response, are_taken, fields_taken};
 ghost use Rattle.response_json.specs.Reading.{status_of, status_in, headers_in, body_in, text_in, json_in, base64_in};
 ghost use Rattle.response_json.specs.Reading.{is_templated_in, is_templated_by, transformer_of, response_in};
 ghost use Rattle.serde_json.specs.View.{view, items_view, members_view};
 
-use crate::draft::ResponseDraft;
+use crate::draft::{ResponseDraft, no_headers};
 use crate::header_reading::headers_of;
 use json_reading::fields::{bytes_of, only, text_of};
 use json_reading::kind::Kind;
@@ -112,16 +111,7 @@ fn headers_in(alloc: Global, value: &Value) -> Result<Reading<HeaderLines<Text>>
 {
     match value.get("headers") {
         Some(headers) => headers_of(alloc, headers),
-        None => no_headers(alloc),
-    }
-}
-
-fn no_headers(alloc: Global) -> Result<Reading<HeaderLines<Text>>, AllocError>
-    ensures { IfOk result (λ headers. headers ≡ Read []) }
-{
-    match HeaderLines::new(Vec::new(alloc)) {
-        Some(headers) => Ok(Reading::Read(headers)),
-        None => unreachable!(),
+        None => Ok(Reading::Read(no_headers(alloc))),
     }
 }
 
