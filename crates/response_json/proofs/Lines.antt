@@ -1,6 +1,7 @@
 -- Header lines read one member after the other.
-use Rattle.std.proofs.Common.{◌≡◌, ℕ, ◌<◌, List, [], ◌∷◌, ◌++◌, append_assoc, refl, sym, ap, ◌∙◌, Bool, true, false, length, All}
-use Rattle.std.proofs.Common.{Option, Some, None, IsSome, IfSome, IsTrue, nat_lt, ◌&&◌, ◌↔◌}
+use Rattle.std.proofs.Common.{◌≡◌, ℕ, List, [], ◌∷◌, ◌++◌, append_assoc, refl, sym, ap, ◌∙◌, Bool, true, false}
+use Rattle.std.proofs.Common.{Option, Some, None, IsSome, IfSome, ◌↔◌, true≢false, arith, if◌then◌else◌}
+use Rattle.std.proofs.lemmas.List.Sums.{AllPass-from_list_all, list_all-from_AllPass}
 use Rattle.http_header.specs.Token.{IsToken, is_token_byte}
 use Rattle.json_reading.specs.Reading.{both, read_map}
 use Rattle.json_reading.specs.declared.reading.Reading.{Reading}
@@ -29,3 +30,25 @@ joined_none (Wrong k) = refl
 pub none_joined : (a : Reading (List Line)) → joined (Read []) a ≡ a
 none_joined (Read xs) = refl
 none_joined (Wrong k) = refl
+
+-- ---- names
+
+token_from_test : (name : List ℕ) → is_name name ≡ true → IsToken name
+token_from_test [] e = absurd (true≢false (sym e))
+token_from_test (b ∷ bs) e = (omega arith, AllPass-from_list_all is_token_byte (b ∷ bs) e)
+
+test_from_token : (name : List ℕ) → IsToken name → is_name name ≡ true
+test_from_token [] t = absurd (omega (arith, t.0))
+test_from_token (b ∷ bs) t = list_all-from_AllPass is_token_byte (b ∷ bs) t.1
+
+named : (r : Option (List ℕ)) (name : List ℕ) (b : Bool) → is_name name ≡ b → (IsSome r ↔ IsToken name)
+    → IfSome r (λ found. found ≡ name) → r ≡ (if b then Some name else None)
+named None name true e some value = absurd (true≢false (sym (some.1 (token_from_test name e))))
+named None name false e some value = refl
+named (Some found) name true e some value = ap Some value
+named (Some found) name false e some value =
+    absurd (true≢false (sym (test_from_token name (some.0 refl)) ∙ e))
+
+pub named_is : (r : Option (List ℕ)) (name : List ℕ) → (IsSome r ↔ IsToken name) → IfSome r (λ found. found ≡ name)
+    → r ≡ name_of name
+named_is r name some value = named r name (is_name name) refl some value

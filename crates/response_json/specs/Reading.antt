@@ -1,11 +1,11 @@
 -- The response that a JSON value spells (WireMock's documentation, "Stubbing"). Absent fields are a status 200, no headers,
 -- no body and no templates; `statusMessage` is ignored.
-use Rattle.std.specs.Prelude.{ℕ, ◌^◌, List, [], ◌∷◌, ◌++◌, length, Bool, true, false, not, ◌&&◌, ◌||◌, nat_lt, nat_le}
+use Rattle.std.specs.Prelude.{ℕ, List, [], ◌∷◌, ◌++◌, length, Bool, true, false, ◌&&◌, ◌||◌, nat_lt, nat_le}
 use Rattle.std.specs.Prelude.{Option, Some, None, unwrap_or, option_and_then, codes, if◌then◌else◌}
 use Rattle.std.specs.List.{list_all}
 use Rattle.std.specs.Str.{bytes_eq}
 use Rattle.http_header.specs.Token.{is_token_byte}
-use Rattle.json_reading.specs.Fields.{only, optional, text_of, bytes_of, each_item, list_of}
+use Rattle.json_reading.specs.Fields.{only, text_of, bytes_of, each_item, list_of}
 use Rattle.json_reading.specs.Numbers.{is_taken, json_text_of}
 use Rattle.json_reading.specs.Reading.{both, either, read_map, read_then, wrong_also}
 use Rattle.json_reading.specs.declared.kind.Kind.TheVariants.{NumberNotWhole, Unsupported, Misshapen}
@@ -44,7 +44,8 @@ Line = HeaderLine (List ℕ)
 
 -- a token, as a test
 abbrev pub is_name : List ℕ → Bool
-is_name name = nat_lt 0 (length name) && list_all is_token_byte name
+is_name [] = false
+is_name (b ∷ bs) = list_all is_token_byte (b ∷ bs)
 
 abbrev pub name_of : List ℕ → Option (List ℕ)
 name_of name = if is_name name then Some name else None

@@ -7,3 +7,4 @@
 pub mod draft;
 mod header_reading;
 pub mod read;
+pub mod write;

@@ -11,7 +11,6 @@ ghost use Rattle.serde_json.specs.View.{view, members_view};
 
 use base64::engine::general_purpose::STANDARD;
 use json_reading::written::put_text;
-use mapping_model::field_name::FieldName;
 use mapping_model::header_lines::HeaderLine;
 use mapping_model::response_spec::{Body, Content, ResponseSpec};
 use mapping_model::template_text::TemplateText;
@@ -21,6 +20,7 @@ use serde_json::{Map, Value};
 use std::alloc::{AllocError, Global};
 
 /// The object of a response. The text of a JSON body is read again.
+#[tactic(auto, unfolding(crate::specs::Writing::json_of_response))]
 pub fn write_response(alloc: Global, response: &ResponseSpec) -> Result<Value, AllocError>
     ensures { IfOk result (λ value. view value ≡ json_of_response response.now) }
 {
@@ -107,7 +107,7 @@ fn write_lines(alloc: Global, lines: &[HeaderLine<Text>]) -> Result<Value, Alloc
 {
     let mut members = Map::new(alloc);
     for line in lines {
-        let texts = json_of_texts(texts_of(alloc, &line.name, lines)?);
+        let texts = json_of_texts(texts_of(alloc, line.name.as_str(), lines)?)?;
         serde_json::put(&mut members, alloc, line.name.as_str(), texts)?;
     }
     Ok(Value::Object(members))
@@ -115,30 +115,28 @@ fn write_lines(alloc: Global, lines: &[HeaderLine<Text>]) -> Result<Value, Alloc
 
 fn texts_of(
     alloc: Global,
-    name: &FieldName,
+    name: &str,
     lines: &[HeaderLine<Text>],
 ) -> Result<Vec<Value>, AllocError>
     ensures { IfOk result (λ texts. map view texts.items ≡ texts_of name.now lines.now) }
 {
     let mut texts = Vec::new(alloc);
     for line in lines {
-        if line.name.same(name) {
+        if line.name.as_str() == name {
             texts.push(Value::try_from_str(alloc, line.value.as_str())?)?;
         }
     }
     Ok(texts)
 }
 
-fn json_of_texts(texts: Vec<Value>) -> Value
-    ensures { view result ≡ json_of_texts (map view texts.items) }
+#[tactic(auto, using(crate::proofs::Texts::several))]
+fn json_of_texts(texts: Vec<Value>) -> Result<Value, AllocError>
+    ensures { IfOk result (λ value. view value ≡ json_of_texts (map view texts.items)) }
 {
-    let mut texts = texts;
-    if texts.len() == 1 {
-        if let Some(text) = texts.pop() {
-            return text;
-        }
+    match texts.as_slice() {
+        [text] => text.clone(),
+        _ => Ok(Value::Array(texts)),
     }
-    Value::Array(texts)
 }
 
 fn put_body(

@@ -1,0 +1,24 @@
+//! Compares what the calls of `mapping_json` answer with the tables in `data/`.
+#![tactic(auto)]
+
+mod lists;
+mod mappings;
+mod table;
+
+use case_table::compare::compare_all;
+use std::io;
+use std::process::ExitCode;
+use table::Table;
+
+fn main(rt: HostRuntime) -> io::Result<ExitCode> {
+    compare_all(
+        &rt,
+        [
+            Table::Documents,
+            Table::Bytes,
+            Table::Rules,
+            Table::Lists,
+        ]
+        .as_slice(),
+    )
+}
