@@ -1,2 +1,3 @@
 pub mod Zips
 pub mod Faults
+pub mod Listed

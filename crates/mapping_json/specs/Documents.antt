@@ -1,6 +1,7 @@
 -- Documents of several mappings: an object with a list `mappings`, whose other fields are ignored; any other object is one
 -- mapping.
 use Rattle.std.specs.Prelude.{◌≡◌, ◌≢◌, ◌⊎◌, ℕ, List, [], ◌∷◌, ◌++◌, length, Option, Some, None, Result, MatchResult, codes}
+use Rattle.std.specs.Prelude.{is_some, option_map, if◌then◌else◌}
 use Rattle.std.specs.List.{AllZip}
 use Rattle.json_reading.specs.Document.{IsDocument}
 use Rattle.json_reading.specs.declared.kind.Kind.TheVariants.{NotJson, Misshapen}
@@ -9,8 +10,8 @@ use Rattle.mapping_json.specs.declared.error.MappingError.{MappingError}
 use Rattle.mapping_json.specs.declared.error.MappingError.TheVariants.{Document, OutOfMemory}
 use Rattle.mapping_json.specs.declared.error.MappingsError.{MappingsError}
 use Rattle.mapping_model.specs.declared.mapping_spec.MappingSpec.{MappingSpec}
-use Rattle.serde_json.specs.Data.{Data, array, object, Items, no_items, item}
-use Rattle.serde_json.specs.Find.{get}
+use Rattle.serde_json.specs.Data.{Data, Items, no_items, item}
+use Rattle.serde_json.specs.Find.{as_array, as_object, get}
 
 abbrev pub list_of : Items → List Data
 list_of no_items = []
@@ -18,13 +19,11 @@ list_of (item d ds) = d ∷ list_of ds
 
 abbrev pub listed : Data → Option Data → Option (List Data)
 listed whole None = Some (whole ∷ [])
-listed whole (Some (array ds)) = Some (list_of ds)
-listed whole (Some d) = None
+listed whole (Some d) = option_map list_of (as_array d)
 
 -- the values that are to be mappings
-abbrev pub mappings_in : Data → Option (List Data)
-mappings_in (object ms) = listed (object ms) (get (codes "mappings") (object ms))
-mappings_in d = None
+unfoldable pub mappings_in : Data → Option (List Data)
+mappings_in d = if is_some (as_object d) then listed d (get (codes "mappings") d) else None
 
 -- what is read of one of them: its mapping, or its error; memory doesn't run out for one of them alone
 abbrev pub IsResultOf : Data → Result MappingSpec MappingError → Type 0

@@ -1,7 +1,7 @@
 -- The mapping that a JSON value spells (WireMock's documentation, "Stubbing"), its patterns, paths and templates not yet
 -- judged. Other fields than these are ignored.
-use Rattle.std.specs.Prelude.{ℕ, ◌^◌, ℤ, pos, negsuc, List, [], Bool, true, false, ◌&&◌, int_le, Option, Some, None}
-use Rattle.std.specs.Prelude.{option_map, option_and_then, codes, if◌then◌else◌}
+use Rattle.std.specs.Prelude.{ℕ, ℤ, pos, negsuc, List, [], Bool, true, false, ◌&&◌, int_le, Option, Some, None}
+use Rattle.std.specs.Prelude.{option_map, option_and_then, is_some, codes, if◌then◌else◌}
 use Rattle.std.specs.Option.{option_or}
 use Rattle.json_reading.specs.Fields.{optional, text_of}
 use Rattle.json_reading.specs.Numbers.{is_taken, taken}
@@ -19,8 +19,8 @@ use Rattle.request_json.specs.RequestReading.{reading_of_request}
 use Rattle.response_json.specs.Draft.{no_response}
 use Rattle.response_json.specs.Reading.{field_or, reading_of_response}
 use Rattle.response_json.specs.declared.draft.ResponseDraft.{ResponseDraft}
-use Rattle.serde_json.specs.Data.{Data, string, array, object, Items, no_items}
-use Rattle.serde_json.specs.Find.{as_i64, as_number, get}
+use Rattle.serde_json.specs.Data.{Data, string, array, no_items}
+use Rattle.serde_json.specs.Find.{as_i64, as_number, as_object, get}
 use Rattle.uuid.specs.Text.{parsed}
 
 -- `id`, or else `uuid`: a UUID in any of the forms of its text
@@ -113,6 +113,6 @@ abbrev pub mapping_in : Data → Reading MappingDraft
 mapping_in d =
     beside (get (codes "postServeActions") d) (beside (get (codes "serveEventListeners") d) (fields_of d))
 
+-- a mapping is an object
 unfoldable pub reading_of_mapping : Data → Reading MappingDraft
-reading_of_mapping (object ms) = mapping_in (object ms)
-reading_of_mapping d = taken d (Wrong Misshapen)
+reading_of_mapping d = if is_some (as_object d) then mapping_in d else taken d (Wrong Misshapen)

@@ -60,10 +60,12 @@ fn each_in(
     if !value.is_object() {
         return Err(MappingError::Document(Kind::Misshapen));
     }
-    match value.get("mappings") {
-        None => Ok(one_result(alloc, value)?),
-        Some(Value::Array(values)) => Ok(each_result(alloc, values)?),
-        Some(_) => Err(MappingError::Document(Kind::Misshapen)),
+    let Some(mappings) = value.get("mappings") else {
+        return Ok(one_result(alloc, value)?);
+    };
+    match mappings.as_array() {
+        Some(values) => Ok(each_result(alloc, values)?),
+        None => Err(MappingError::Document(Kind::Misshapen)),
     }
 }
 

@@ -34,12 +34,14 @@ pub(crate) fn mapping_of(alloc: Global, value: &Value) -> Result<ReadyMapping, M
     }
 }
 
+#[tactic(auto, unfolding(crate::specs::Reading::reading_of_mapping))]
 fn read_draft(alloc: Global, value: &Value) -> Result<Reading<MappingDraft>, AllocError>
     ensures { IfOk result (λ draft. draft ≡ reading_of_mapping (view value.now)) }
 {
-    match value {
-        Value::Object(_) => mapping_in(alloc, value),
-        _ => Ok(taken(value, Reading::Wrong(Kind::Misshapen))),
+    if value.is_object() {
+        mapping_in(alloc, value)
+    } else {
+        Ok(taken(value, Reading::Wrong(Kind::Misshapen)))
     }
 }
 

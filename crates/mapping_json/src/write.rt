@@ -16,6 +16,7 @@ use serde_json::{Map, Value};
 use std::alloc::{AllocError, Global};
 
 /// The object of a mapping.
+#[tactic(auto, unfolding(crate::specs::Writing::json_of_mapping))]
 pub fn write_mapping(alloc: Global, mapping: &MappingSpec) -> Result<Value, AllocError>
     ensures { IfOk result (λ value. view value ≡ json_of_mapping mapping.now) }
 {

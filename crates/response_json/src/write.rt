@@ -133,10 +133,10 @@ fn texts_of(
 fn json_of_texts(texts: Vec<Value>) -> Result<Value, AllocError>
     ensures { IfOk result (λ value. view value ≡ json_of_texts (map view texts.items)) }
 {
-    match texts.as_slice() {
-        [text] => text.clone(),
-        _ => Ok(Value::Array(texts)),
+    if let [text] = texts.as_slice() {
+        return text.clone();
     }
+    Ok(Value::Array(texts))
 }
 
 fn put_body(
