@@ -24,7 +24,7 @@ abbrev pub compact_or : List ℕ → Option Data → List ℕ
 compact_or s None = s
 compact_or s (Some d) = text_or s (json_text_of d)
 
-abbrev pub written_expected : List ℕ → List ℕ
+unfoldable pub written_expected : List ℕ → List ℕ
 written_expected s = compact_or s (read s)
 
 abbrev pub with_json : JsonSpec → Members → Members
@@ -34,10 +34,14 @@ with_json (json.EqualTo expected any_order more) ms =
     (put (codes "equalToJson") (string (written_expected expected)) ms))
 with_json (json.Path path) ms = put (codes "matchesJsonPath") (string path) ms
 
+-- the members, with the words of the matcher
+abbrev pub with_pattern : BodyPattern → Members → Members
+with_pattern (Value matcher) ms = with_value matcher ms
+with_pattern (BinaryEqualTo bytes) ms = put (codes "binaryEqualTo") (string (encode_of standard bytes)) ms
+with_pattern (Json matcher) ms = with_json matcher ms
+with_pattern (JsonPath expression matcher) ms =
+    put (codes "matchesJsonPath")
+    (object (with_value matcher (put (codes "expression") (string expression) no_members))) ms
+
 abbrev pub json_of_pattern : BodyPattern → Data
-json_of_pattern (Value matcher) = object (with_value matcher no_members)
-json_of_pattern (BinaryEqualTo bytes) = object (put (codes "binaryEqualTo") (string (encode_of standard bytes)) no_members)
-json_of_pattern (Json matcher) = object (with_json matcher no_members)
-json_of_pattern (JsonPath expression matcher) =
-    object (put (codes "matchesJsonPath")
-    (object (with_value matcher (put (codes "expression") (string expression) no_members))) no_members)
+json_of_pattern pattern = object (with_pattern pattern no_members)

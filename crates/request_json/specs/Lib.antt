@@ -4,5 +4,3 @@ pub mod RequestReading
 pub mod ValueWritten
 pub mod BodyWritten
 pub mod RequestWritten
-pub mod Refusal
-pub mod Errors

@@ -1,10 +1,10 @@
 // Which body matcher an object spells.
 ghost use Rattle.std.specs.Prelude.{◌≡◌, IfOk, codes, option_map};
 ghost use Rattle.json_reading.specs.Fields.{optional, bytes_of};
-ghost use Rattle.json_reading.specs.Reading.{read_map};
+ghost use Rattle.json_reading.specs.Reading.{both, read_map, read_then};
 ghost use Rattle.mapping_model.specs.declared.body_pattern.BodyPattern.TheVariants.{Value as ValueMatcher};
-ghost use Rattle.mapping_model.specs.declared.body_pattern.BodyPattern.TheVariants.{BinaryEqualTo};
-ghost use Rattle.request_json.specs.BodyReading.{expected_of, equal_json_in, path_of, body_in, reading_of_body};
+ghost use Rattle.mapping_model.specs.declared.body_pattern.BodyPattern.TheVariants.{BinaryEqualTo, JsonPath};
+ghost use Rattle.request_json.specs.BodyReading.{expected_of, equal_json_with, equal_json_in, path_of, body_in, reading_of_body};
 ghost use Rattle.request_json.specs.ValueReading.{value_in};
 ghost use Rattle.serde_json.specs.Find.{get};
 ghost use Rattle.serde_json.specs.View.{view};
@@ -19,6 +19,7 @@ use mapping_model::body_pattern::BodyPattern;
 use plain_text::text::Text;
 use serde_json::Value;
 use std::alloc::{AllocError, Global};
+use value_match::value_spec::ValueSpec;
 
 /// A body matcher: an object with one word that says how a body is compared.
 pub(crate) fn body_of(alloc: Global, value: &Value) -> Result<Reading<BodyPattern>, AllocError>
@@ -81,17 +82,38 @@ fn equal_json_in(alloc: Global, value: &Value) -> Result<Reading<Option<BodyPatt
     let expected = expected_in(alloc, value)?;
     let any_order = bool_field("ignoreArrayOrder", value);
     let more = bool_field("ignoreExtraElements", value);
-    match both(expected, both(any_order, more)) {
-        Reading::Read((None, (None, None))) => Ok(Reading::Read(None)),
-        Reading::Read((None, _)) => Ok(Reading::Wrong(Kind::Misshapen)),
-        Reading::Read((Some(expected), (any_order, more))) => {
-            Ok(Reading::Read(Some(BodyPattern::Json(JsonSpec::EqualTo {
-                expected,
-                ignore_array_order: any_order.unwrap_or(false),
-                ignore_extra_elements: more.unwrap_or(false),
-            }))))
-        }
-        Reading::Wrong(kind) => Ok(Reading::Wrong(kind)),
+    Ok(equal_json_of(both(expected, both(any_order, more))))
+}
+
+fn equal_json_of(
+    parts: Reading<(Option<Text>, (Option<bool>, Option<bool>))>,
+) -> Reading<Option<BodyPattern>>
+    ensures { result ≡ read_then (λ p. equal_json_with p.0 p.1.0 p.1.1) parts }
+{
+    match parts {
+        Reading::Read((expected, (any_order, more))) => equal_json_with(expected, any_order, more),
+        Reading::Wrong(kind) => Reading::Wrong(kind),
+    }
+}
+
+fn equal_json_with(
+    expected: Option<Text>,
+    any_order: Option<bool>,
+    more: Option<bool>,
+) -> Reading<Option<BodyPattern>>
+    ensures { result ≡ equal_json_with expected any_order more }
+{
+    match expected {
+        Some(expected) => Reading::Read(Some(BodyPattern::Json(JsonSpec::EqualTo {
+            expected,
+            ignore_array_order: any_order.unwrap_or(false),
+            ignore_extra_elements: more.unwrap_or(false),
+        }))),
+        None => if any_order.is_none() && more.is_none() {
+            Reading::Read(None)
+        } else {
+            Reading::Wrong(Kind::Misshapen)
+        },
     }
 }
 
@@ -143,12 +165,18 @@ fn path_of(alloc: Global, value: &Value) -> Result<Reading<BodyPattern>, AllocEr
         "absent",
     ];
     let expression = needed(text_field(alloc, "expression", value)?);
-    let part = match both(expression, needed(value_in(alloc, value)?)) {
+    let part = path_with(expression, needed(value_in(alloc, value)?));
+    Ok(only(&words, value, part))
+}
+
+fn path_with(expression: Reading<Text>, matcher: Reading<ValueSpec>) -> Reading<BodyPattern>
+    ensures { result ≡ read_map (λ p. JsonPath p.0 p.1) (both expression matcher) }
+{
+    match both(expression, matcher) {
         Reading::Read((expression, matcher)) => Reading::Read(BodyPattern::JsonPath {
             expression,
             matcher,
         }),
         Reading::Wrong(kind) => Reading::Wrong(kind),
-    };
-    Ok(only(&words, value, part))
+    }
 }

@@ -1,6 +1,8 @@
 // The object that is written for a body matcher.
-ghost use Rattle.std.specs.Prelude.{◌≡◌, IfOk, OnOk};
-ghost use Rattle.request_json.specs.BodyWritten.{with_json, json_of_pattern, written_expected};
+ghost use Rattle.std.specs.Prelude.{◌≡◌, IfOk, OnOk, codes};
+ghost use Rattle.request_json.specs.BodyWritten.{with_json, with_pattern, json_of_pattern, written_expected};
+ghost use Rattle.request_json.specs.ValueWritten.{with_value};
+ghost use Rattle.serde_json.specs.Data.{object, put, string, no_members};
 ghost use Rattle.serde_json.specs.View.{view, members_view};
 
 use crate::value_written::put_value;
@@ -13,28 +15,48 @@ use mapping_model::body_pattern::BodyPattern;
 use plain_text::text::Text;
 use serde_json::{Map, Value};
 use std::alloc::{AllocError, Global};
+use value_match::value_spec::ValueSpec;
 
 pub(crate) fn write_pattern(alloc: Global, pattern: &BodyPattern) -> Result<Value, AllocError>
     ensures { IfOk result (λ value. view value ≡ json_of_pattern pattern.now) }
 {
     let mut members = Map::new(alloc);
+    put_pattern(alloc, &mut members, pattern)?;
+    Ok(Value::Object(members))
+}
+
+fn put_pattern(
+    alloc: Global,
+    members: &mut Map<String, Value>,
+    pattern: &BodyPattern,
+) -> Result<(), AllocError>
+    ensures { OnOk result (members_view members.new.entries
+        ≡ with_pattern pattern.now (members_view members.old.entries)) }
+{
     match pattern {
-        BodyPattern::Value(matcher) => put_value(alloc, &mut members, matcher)?,
+        BodyPattern::Value(matcher) => put_value(alloc, members, matcher),
         BodyPattern::BinaryEqualTo(bytes) => {
             let text = STANDARD.encode(alloc, bytes.as_slice())?;
-            serde_json::put(&mut members, alloc, "binaryEqualTo", Value::String(text))?;
+            serde_json::put(members, alloc, "binaryEqualTo", Value::String(text))
         }
-        BodyPattern::Json(matcher) => put_json(alloc, &mut members, matcher)?,
+        BodyPattern::Json(matcher) => put_json(alloc, members, matcher),
         BodyPattern::JsonPath {
             expression,
             matcher,
         } => {
-            let mut inner = Map::new(alloc);
-            put_text(alloc, &mut inner, "expression", expression)?;
-            put_value(alloc, &mut inner, matcher)?;
-            serde_json::put(&mut members, alloc, "matchesJsonPath", Value::Object(inner))?;
+            let value = write_path(alloc, expression, matcher)?;
+            serde_json::put(members, alloc, "matchesJsonPath", value)
         }
     }
+}
+
+fn write_path(alloc: Global, expression: &Text, matcher: &ValueSpec) -> Result<Value, AllocError>
+    ensures { IfOk result (λ value. view value
+        ≡ object (with_value matcher.now (put (codes "expression") (string expression.now) no_members))) }
+{
+    let mut members = Map::new(alloc);
+    put_text(alloc, &mut members, "expression", expression)?;
+    put_value(alloc, &mut members, matcher)?;
     Ok(Value::Object(members))
 }
 
@@ -62,6 +84,7 @@ fn put_json(
 }
 
 /// The compact text of the expected JSON text, which is read for it.
+#[tactic(auto, unfolding(crate::specs::BodyWritten::written_expected))]
 fn written_expected(alloc: Global, expected: &Text) -> Result<Text, AllocError>
     ensures { IfOk result (λ text. text ≡ written_expected expected.now) }
 {

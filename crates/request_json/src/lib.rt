@@ -6,8 +6,6 @@
 
 pub mod body_reading;
 mod body_written;
-pub mod error;
-pub mod read_request;
 pub mod request_reading;
 mod named_reading;
 mod url_reading;

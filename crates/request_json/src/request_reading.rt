@@ -1,8 +1,9 @@
 // Which request matcher an object spells.
 ghost use Rattle.std.specs.Prelude.{◌≡◌, IfOk};
 ghost use Rattle.json_reading.specs.Fields.{list_of};
+ghost use Rattle.json_reading.specs.Reading.{read_map};
 ghost use Rattle.request_json.specs.BodyReading.{reading_of_body};
-ghost use Rattle.request_json.specs.RequestReading.{body_field, reading_of_request};
+ghost use Rattle.request_json.specs.RequestReading.{body_field, request_with, reading_of_request};
 ghost use Rattle.serde_json.specs.View.{view};
 
 use crate::body_reading::body_of;
@@ -12,10 +13,22 @@ use json_reading::fields::{only, text_field};
 use json_reading::kind::Kind;
 use json_reading::reading::{Reading, both, push};
 use mapping_model::body_pattern::BodyPattern;
+use mapping_model::named_matcher::NamedMatcher;
 use mapping_model::request_spec::RequestSpec;
+use mapping_model::url_spec::UrlSpec;
 use plain_text::items::Items;
+use plain_text::text::Text;
 use serde_json::Value;
 use std::alloc::{AllocError, Global};
+
+/// Method and URL; headers, query parameters, cookies and body.
+type Parts = (
+    (Option<Text>, UrlSpec),
+    (
+        (Items<NamedMatcher>, Items<NamedMatcher>),
+        (Items<NamedMatcher>, Items<BodyPattern>),
+    ),
+);
 
 /// The request matcher that an object spells. Each text is copied once. Patterns, templates, JSON paths and expected
 /// JSON texts aren't judged here but where the matcher is built.
@@ -41,7 +54,13 @@ pub fn request_of(alloc: Global, value: &Value) -> Result<Reading<RequestSpec>, 
     let cookies = named_field(alloc, "cookies", value)?;
     let body = body_field(alloc, value)?;
     let parts = both(target, both(both(headers, query), both(cookies, body)));
-    let request = match parts {
+    Ok(only(&fields, value, request_with(parts)))
+}
+
+fn request_with(parts: Reading<Parts>) -> Reading<RequestSpec>
+    ensures { result ≡ read_map request_with parts }
+{
+    match parts {
         Reading::Read(((method, url), ((headers, query), (cookies, body)))) => {
             Reading::Read(RequestSpec {
                 method,
@@ -53,8 +72,7 @@ pub fn request_of(alloc: Global, value: &Value) -> Result<Reading<RequestSpec>, 
             })
         }
         Reading::Wrong(kind) => Reading::Wrong(kind),
-    };
-    Ok(only(&fields, value, request))
+    }
 }
 
 /// The body matchers; an absent field has none.

@@ -1,7 +1,7 @@
 // Which URL matcher the fields of a request spell.
 ghost use Rattle.std.specs.Prelude.{◌≡◌, IfOk, codes};
 ghost use Rattle.mapping_model.specs.declared.url_spec.UrlSpec.TheVariants as url;
-ghost use Rattle.request_json.specs.RequestReading.{template_in, url_of};
+ghost use Rattle.request_json.specs.RequestReading.{template_with, template_in, url_of};
 ghost use Rattle.request_json.specs.ValueReading.{word};
 ghost use Rattle.serde_json.specs.View.{view};
 
@@ -9,8 +9,10 @@ use crate::named_reading::named_optional;
 use json_reading::fields::text_field;
 use json_reading::kind::Kind;
 use json_reading::reading::{Reading, both, either};
+use mapping_model::named_matcher::NamedMatcher;
 use mapping_model::url_spec::UrlSpec;
 use plain_text::items::Items;
+use plain_text::text::Text;
 use serde_json::Value;
 use std::alloc::{AllocError, Global};
 
@@ -32,16 +34,28 @@ fn template_in(alloc: Global, value: &Value) -> Result<Reading<Option<UrlSpec>>,
 {
     let template = text_field(alloc, "urlPathTemplate", value)?;
     match both(template, named_optional(alloc, "pathParameters", value)?) {
-        Reading::Read((None, None)) => Ok(Reading::Read(None)),
-        Reading::Read((None, Some(_))) => Ok(Reading::Wrong(Kind::Misshapen)),
-        Reading::Read((Some(template), parameters)) => {
-            let parameters = parameters.unwrap_or(Items::from(Vec::new(alloc)));
-            Ok(Reading::Read(Some(UrlSpec::UrlPathTemplate {
-                template,
-                parameters,
-            })))
-        }
+        Reading::Read((template, parameters)) => Ok(template_with(alloc, template, parameters)),
         Reading::Wrong(kind) => Ok(Reading::Wrong(kind)),
+    }
+}
+
+fn template_with(
+    alloc: Global,
+    template: Option<Text>,
+    parameters: Option<Items<NamedMatcher>>,
+) -> Reading<Option<UrlSpec>>
+    ensures { result ≡ template_with template parameters }
+{
+    match template {
+        Some(template) => Reading::Read(Some(UrlSpec::UrlPathTemplate {
+            template,
+            parameters: parameters.unwrap_or(Items::from(Vec::new(alloc))),
+        })),
+        None => if parameters.is_none() {
+            Reading::Read(None)
+        } else {
+            Reading::Wrong(Kind::Misshapen)
+        },
     }
 }
 
