@@ -1,5 +1,5 @@
 //! `mock check`: which mappings of a document are taken, and the budgets of their templates.
-ghost use Rattle.std.specs.Prelude.{◌≡◌, IfOk, IfErr, string_bytes};
+ghost use Rattle.std.specs.Prelude.{◌≡◌, ◌+◌, ◌++◌, IfOk, IfErr, string_bytes};
 ghost use Rattle.mock_program.specs.Checking.{AreLines, IsContentLine, IsLineOf, IsBudgetLine, IsReportOf, IsCheckError};
 ghost use Rattle.mock_program.specs.Checking.{Checks, has_refused, plain_line, refused_line};
 ghost use Rattle.response_json.specs.Draft.{values_of, body_templates};
@@ -80,32 +80,33 @@ fn lines(
 {
     let mut text = String::new(alloc);
     for (index, result) in results.iter().enumerate() {
-        text.push_str(line_of(alloc, index + 1, result)?.as_str())?;
+        text.push_str(line_of(alloc, index, result)?.as_str())?;
     }
     Ok(text)
 }
 
 fn line_of(
     alloc: Global,
-    number: usize,
+    index: usize,
     read: &Result<ReadyMapping, MappingError>,
 ) -> Result<String, AllocError>
-    ensures { IfOk result (λ line. IsLineOf number read.now (string_bytes line)) }
+    ensures { IfOk result (λ line. IsLineOf (index + 1) read.now (string_bytes line)) }
 {
+    let number = index as u128 + 1;
     match read {
         Ok(mapping) => content_line(alloc, number, &mapping.spec().response.response().content),
         Err(error) => refused_line(alloc, number, *error),
     }
 }
 
-fn refused_line(alloc: Global, number: usize, error: MappingError) -> Result<String, AllocError>
+fn refused_line(alloc: Global, number: u128, error: MappingError) -> Result<String, AllocError>
     ensures { IfOk result (λ line. string_bytes line ≡ refused_line number error) }
 {
     let code = error.error_code().number();
     format!(in alloc; "{number} error {code}\n")
 }
 
-fn content_line(alloc: Global, number: usize, content: &Content) -> Result<String, AllocError>
+fn content_line(alloc: Global, number: u128, content: &Content) -> Result<String, AllocError>
     ensures { IfOk result (λ line. IsContentLine number content.now (string_bytes line)) }
 {
     match content {
@@ -116,7 +117,7 @@ fn content_line(alloc: Global, number: usize, content: &Content) -> Result<Strin
 
 fn budget_line(
     alloc: Global,
-    number: usize,
+    number: u128,
     headers: &HeaderLines<TemplateText>,
     body: &Body<TemplateText>,
 ) -> Result<String, AllocError>

@@ -5,6 +5,8 @@
 #![tactic(auto)]
 
 pub mod arguments;
+mod budgets;
+pub mod check;
 pub mod command_line;
 pub mod error;
 mod lines;
