@@ -4,3 +4,5 @@ pub mod ParserErrors
 pub mod PartsWritten
 pub mod RenderArguments
 pub mod RequestRefusals
+pub mod Coefficients
+pub mod LinesOf

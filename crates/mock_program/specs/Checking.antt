@@ -23,11 +23,19 @@ use Rattle.template_machine.specs.Program.{ProgramParts, IsProgram}
 
 -- ---- the budgets of several programs
 
--- two lists of coefficients, added up: a shorter one has zeros at its end
+-- the first coefficient, and those after it; a list has zeros at its end
+abbrev pub first_or_zero : List ℕ → ℕ
+first_or_zero [] = 0
+first_or_zero (y ∷ ys) = y
+
+abbrev pub rest_of : List ℕ → List ℕ
+rest_of [] = []
+rest_of (y ∷ ys) = ys
+
+-- two lists of coefficients, added up
 abbrev pub added : List ℕ → List ℕ → List ℕ
 added [] ys = ys
-added (x ∷ xs) [] = x ∷ xs
-added (x ∷ xs) (y ∷ ys) = (x + y) ∷ added xs ys
+added (x ∷ xs) ys = (x + first_or_zero ys) ∷ added xs (rest_of ys)
 
 abbrev pub added_all : List ℕ → List (List ℕ) → List ℕ
 added_all total [] = total

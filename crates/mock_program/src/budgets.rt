@@ -1,8 +1,8 @@
 //! The budgets of several programs, added up.
 ghost use Rattle.std.specs.Prelude.{◌≡◌, ◌≤◌, ◌++◌, ◌∷◌, [], length, IfOk};
 ghost use Rattle.mapping_model.specs.declared.header_lines.TheConstants.{HEADER_LIMIT};
-ghost use Rattle.mock_program.specs.Checking.{added, steps_of, bytes_of};
-ghost use Rattle.mock_program.specs.Inner.Totals.{AreTotals, IsWithin};
+ghost use Rattle.mock_program.specs.Checking.{added, first_or_zero, rest_of, steps_of, bytes_of};
+ghost use Rattle.mock_program.specs.Inner.Totals.{AreTotals, Grows, IsWithin};
 ghost use Rattle.response_json.specs.Draft.{values_of, body_templates};
 
 use mapping_model::header_lines::HeaderLine;
@@ -67,6 +67,8 @@ fn total_with(alloc: Global, total: &Totals, program: &Program) -> Result<Totals
     requires bytes_fit { IsWithin HEADER_LIMIT total.now.bytes.items }
     ensures steps { IfOk result (λ sum. sum.steps.items ≡ added total.now.steps.items (steps_of program.now)) }
     ensures bytes { IfOk result (λ sum. sum.bytes.items ≡ added total.now.bytes.items (bytes_of program.now)) }
+    ensures steps_grow { IfOk result (λ sum. Grows total.now.steps.items sum.steps.items) }
+    ensures bytes_grow { IfOk result (λ sum. Grows total.now.bytes.items sum.bytes.items) }
 {
     let budget = program.budget();
     Ok(Totals {
@@ -78,21 +80,31 @@ fn total_with(alloc: Global, total: &Totals, program: &Program) -> Result<Totals
 /// Two lists of coefficients, added up.
 fn added(alloc: Global, total: &[u128], list: &[u64]) -> Result<Vec<u128>, AllocError>
     requires { IsWithin HEADER_LIMIT total.now }
-    ensures { IfOk result (λ sum. sum.items ≡ added total.now list.now) }
+    ensures value { IfOk result (λ sum. sum.items ≡ added total.now list.now) }
+    ensures grows { IfOk result (λ sum. Grows total.now sum.items) }
 {
     let mut sum = Vec::new(alloc);
     let mut rest = total;
     let mut more = list;
-    while let ([x, xs @ ..], [y, ys @ ..]) = (rest, more) {
-        sum.push(*x + u128::from(*y))?;
+    while let [x, xs @ ..] = rest {
+        let (y, ys) = first_of(more);
+        sum.push(*x + u128::from(y))?;
         rest = xs;
         more = ys;
-    }
-    for x in rest {
-        sum.push(*x)?;
     }
     for y in more {
         sum.push(u128::from(*y))?;
     }
     Ok(sum)
+}
+
+/// The first coefficient, and those after it; a list has zeros at its end.
+fn first_of(list: &[u64]) -> (u64, &[u64])
+    ensures first { result.0 ≡ first_or_zero list.now }
+    ensures rest { result.1.now ≡ rest_of list.now }
+{
+    match list {
+        [first, rest @ ..] => (*first, rest),
+        [] => (0, list),
+    }
 }
