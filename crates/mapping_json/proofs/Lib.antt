@@ -1,3 +1,4 @@
 pub mod Zips
 pub mod Faults
 pub mod Listed
+pub mod Joined
