@@ -38,11 +38,14 @@ equal_json_in d =
     (both (bool_field (codes "ignoreArrayOrder") d) (bool_field (codes "ignoreExtraElements") d)))
 
 -- a path is given alone, or with a value matcher on what it finds
-abbrev pub path_of : Data → Reading BodyPattern
-path_of (string s) = Read (Json (json.Path s))
-path_of d =
+abbrev pub path_object_of : Data → Reading BodyPattern
+path_object_of d =
     only (codes "expression" ∷ value_words) d
     (read_map (λ p. JsonPath p.0 p.1) (both (needed (text_field (codes "expression") d)) (needed (value_in d))))
+
+abbrev pub path_of : Data → Reading BodyPattern
+path_of (string s) = Read (Json (json.Path s))
+path_of d = path_object_of d
 
 -- the one matcher that the words of an object spell, if they spell one
 abbrev pub body_in : Data → Reading (Option BodyPattern)

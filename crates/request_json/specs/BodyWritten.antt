@@ -27,11 +27,14 @@ compact_or s (Some d) = text_or s (json_text_of d)
 unfoldable pub written_expected : List ℕ → List ℕ
 written_expected s = compact_or s (read s)
 
-abbrev pub with_json : JsonSpec → Members → Members
-with_json (json.EqualTo expected any_order more) ms =
+abbrev pub with_expected : List ℕ → Bool → Bool → Members → Members
+with_expected expected any_order more ms =
     with_flag (codes "ignoreExtraElements") more
     (with_flag (codes "ignoreArrayOrder") any_order
     (put (codes "equalToJson") (string (written_expected expected)) ms))
+
+abbrev pub with_json : JsonSpec → Members → Members
+with_json (json.EqualTo expected any_order more) ms = with_expected expected any_order more ms
 with_json (json.Path path) ms = put (codes "matchesJsonPath") (string path) ms
 
 -- the members, with the words of the matcher

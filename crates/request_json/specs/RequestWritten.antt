@@ -1,7 +1,7 @@
 -- The object that is written for a request matcher: names in byte order; absent fields and empty objects and lists are
 -- left out.
-use Rattle.std.specs.Prelude.{ℕ, List, [], ◌∷◌, map, Option, Some, None, option_map, codes}
-use Rattle.json_reading.specs.Written.{with_field}
+use Rattle.std.specs.Prelude.{ℕ, List, [], ◌∷◌, map, Option, option_map, codes}
+use Rattle.json_reading.specs.Written.{with_field, unless_empty}
 use Rattle.mapping_model.specs.declared.body_pattern.BodyPattern.{BodyPattern}
 use Rattle.mapping_model.specs.declared.named_matcher.NamedMatcher.{NamedMatcher}
 use Rattle.mapping_model.specs.declared.request_spec.RequestSpec.{RequestSpec}
@@ -18,12 +18,10 @@ with_named [] ms = ms
 with_named (m ∷ more) ms = with_named more (put m.name (object (with_value m.matcher no_members)) ms)
 
 abbrev pub json_of_named : List NamedMatcher → Option Data
-json_of_named [] = None
-json_of_named (m ∷ more) = Some (object (with_named (m ∷ more) no_members))
+json_of_named matchers = unless_empty matchers (object (with_named matchers no_members))
 
 abbrev pub json_of_body : List BodyPattern → Option Data
-json_of_body [] = None
-json_of_body (pattern ∷ more) = Some (array (items_of (map json_of_pattern (pattern ∷ more))))
+json_of_body patterns = unless_empty patterns (array (items_of (map json_of_pattern patterns)))
 
 abbrev pub with_url : UrlSpec → Members → Members
 with_url url.Any ms = ms

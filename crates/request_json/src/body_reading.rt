@@ -4,7 +4,7 @@ ghost use Rattle.json_reading.specs.Fields.{optional, bytes_of};
 ghost use Rattle.json_reading.specs.Reading.{both, read_map, read_then};
 ghost use Rattle.mapping_model.specs.declared.body_pattern.BodyPattern.TheVariants.{Value as ValueMatcher};
 ghost use Rattle.mapping_model.specs.declared.body_pattern.BodyPattern.TheVariants.{BinaryEqualTo, JsonPath};
-ghost use Rattle.request_json.specs.BodyReading.{expected_of, equal_json_with, equal_json_in, path_of, body_in, reading_of_body};
+ghost use Rattle.request_json.specs.BodyReading.{expected_of, equal_json_with, equal_json_in, path_object_of, path_of, body_in, reading_of_body};
 ghost use Rattle.request_json.specs.ValueReading.{value_in};
 ghost use Rattle.serde_json.specs.Find.{get};
 ghost use Rattle.serde_json.specs.View.{view};
@@ -151,9 +151,18 @@ fn path_in(alloc: Global, value: &Value) -> Result<Reading<Option<BodyPattern>>,
 fn path_of(alloc: Global, value: &Value) -> Result<Reading<BodyPattern>, AllocError>
     ensures { IfOk result (λ pattern. pattern ≡ path_of (view value.now)) }
 {
-    if let Value::String(path) = value {
-        return Ok(Reading::Read(BodyPattern::Json(JsonSpec::Path(Text::from(path.clone()?)))));
+    match value {
+        Value::String(path) => {
+            let path = Text::from(path.clone()?);
+            Ok(Reading::Read(BodyPattern::Json(JsonSpec::Path(path))))
+        }
+        _ => path_object_of(alloc, value),
     }
+}
+
+fn path_object_of(alloc: Global, value: &Value) -> Result<Reading<BodyPattern>, AllocError>
+    ensures { IfOk result (λ pattern. pattern ≡ path_object_of (view value.now)) }
+{
     let words = [
         "expression",
         "equalTo",

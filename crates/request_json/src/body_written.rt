@@ -1,6 +1,6 @@
 // The object that is written for a body matcher.
 ghost use Rattle.std.specs.Prelude.{◌≡◌, IfOk, OnOk, codes};
-ghost use Rattle.request_json.specs.BodyWritten.{with_json, with_pattern, json_of_pattern, written_expected};
+ghost use Rattle.request_json.specs.BodyWritten.{with_expected, with_json, with_pattern, json_of_pattern, written_expected};
 ghost use Rattle.request_json.specs.ValueWritten.{with_value};
 ghost use Rattle.serde_json.specs.Data.{object, put, string, no_members};
 ghost use Rattle.serde_json.specs.View.{view, members_view};
@@ -73,30 +73,41 @@ fn put_json(
             expected,
             ignore_array_order,
             ignore_extra_elements,
-        } => {
-            let expected = written_expected(alloc, expected)?;
-            put_text(alloc, members, "equalToJson", &expected)?;
-            put_flag(alloc, members, "ignoreArrayOrder", *ignore_array_order)?;
-            put_flag(alloc, members, "ignoreExtraElements", *ignore_extra_elements)
-        }
+        } => put_expected(alloc, members, expected, *ignore_array_order, *ignore_extra_elements),
         JsonSpec::Path(path) => put_text(alloc, members, "matchesJsonPath", path),
     }
 }
 
+fn put_expected(
+    alloc: Global,
+    members: &mut Map<String, Value>,
+    expected: &Text,
+    any_order: bool,
+    more: bool,
+) -> Result<(), AllocError>
+    ensures { OnOk result (members_view members.new.entries
+        ≡ with_expected expected.now any_order more (members_view members.old.entries)) }
+{
+    let text = written_expected(alloc, expected)?;
+    serde_json::put(members, alloc, "equalToJson", text)?;
+    put_flag(alloc, members, "ignoreArrayOrder", any_order)?;
+    put_flag(alloc, members, "ignoreExtraElements", more)
+}
+
 /// The compact text of the expected JSON text, which is read for it.
 #[tactic(auto, unfolding(crate::specs::BodyWritten::written_expected))]
-fn written_expected(alloc: Global, expected: &Text) -> Result<Text, AllocError>
-    ensures { IfOk result (λ text. text ≡ written_expected expected.now) }
+fn written_expected(alloc: Global, expected: &Text) -> Result<Value, AllocError>
+    ensures { IfOk result (λ text. view text ≡ string (written_expected expected.now)) }
 {
     match Value::from_str(alloc, expected.as_str()) {
         Ok(value) => match json_text_of(alloc, &value)? {
-            Reading::Read(text) => Ok(text),
-            Reading::Wrong(_) => expected.try_clone(),
+            Reading::Read(text) => Ok(Value::String(text.into_string())),
+            Reading::Wrong(_) => Value::try_from_str(alloc, expected.as_str()),
         },
         Err(error) => if error.is_memory() {
             Err(AllocError)
         } else {
-            expected.try_clone()
+            Value::try_from_str(alloc, expected.as_str())
         },
     }
 }

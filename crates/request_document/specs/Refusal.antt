@@ -1,0 +1,23 @@
+-- Why no request matcher is read: first what is wrong with the document, then with the matcher that it spells.
+use Rattle.std.specs.Prelude.{◌≡◌, ◌⊎◌, ℕ, List}
+use Rattle.json_reading.specs.Document.{IsDocument}
+use Rattle.json_reading.specs.Numbers.{taken}
+use Rattle.json_reading.specs.declared.kind.Kind.{Kind}
+use Rattle.json_reading.specs.declared.kind.Kind.TheVariants.{NotJson}
+use Rattle.json_reading.specs.declared.reading.Reading.{Reading}
+use Rattle.json_reading.specs.declared.reading.Reading.TheVariants.{Read, Wrong}
+use Rattle.mapping_model.specs.declared.request_spec.RequestSpec.{RequestSpec}
+use Rattle.request_json.specs.RequestReading.{reading_of_request}
+use Rattle.request_document.specs.declared.error.RequestDocumentError.{RequestDocumentError}
+use Rattle.request_document.specs.declared.error.RequestDocumentError.TheVariants.{Document, Matcher, OutOfMemory}
+use Rattle.request_match.specs.Refusal.{IsFault}
+use Rattle.serde_json.specs.Data.{Data}
+
+-- the bytes are a document whose numbers are taken, with this reading
+abbrev pub Spells : List ℕ → Reading RequestSpec → Type 0
+Spells text reading = (d : Data) × IsDocument text d × (taken d (reading_of_request d) ≡ reading)
+
+abbrev pub IsRefused : List ℕ → RequestDocumentError → Type 0
+IsRefused text (Document kind) = ((kind ≡ NotJson) × ((d : Data) → ¬ (IsDocument text d))) ⊎ Spells text (Wrong kind)
+IsRefused text (Matcher error) = (request : RequestSpec) × Spells text (Read request) × IsFault request error
+IsRefused text OutOfMemory = Unit {0}
