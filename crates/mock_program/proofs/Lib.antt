@@ -4,5 +4,3 @@ pub mod ParserErrors
 pub mod PartsWritten
 pub mod RenderArguments
 pub mod RequestRefusals
-pub mod Coefficients
-pub mod LinesOf

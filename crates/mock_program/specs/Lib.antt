@@ -1,4 +1,3 @@
-pub mod Checking
 pub mod CommandLine
 pub mod Inner
 pub mod Lines

@@ -5,8 +5,6 @@
 #![tactic(auto)]
 
 pub mod arguments;
-mod budgets;
-pub mod check;
 pub mod command_line;
 pub mod error;
 mod lines;

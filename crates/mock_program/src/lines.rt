@@ -41,28 +41,3 @@ fn push_next(text: &mut String, number: u64) -> Result<(), AllocError>
     text.push_str(",")?;
     text.push_str(digits.format(number))
 }
-
-/// Numbers in brackets, as `[6,1]`.
-pub(crate) fn total_text(alloc: Global, list: &[u128]) -> Result<String, AllocError>
-    ensures { IfOk result (λ text. string_bytes text ≡ numbers_text list.now) }
-{
-    match list {
-        [] => String::from_str(alloc, "[]"),
-        [first, rest @ ..] => {
-            let mut text = format!(in alloc; "[{first}")?;
-            for number in rest {
-                push_next_total(&mut text, *number)?;
-            }
-            text.push_str("]")?;
-            Ok(text)
-        }
-    }
-}
-
-fn push_next_total(text: &mut String, number: u128) -> Result<(), AllocError>
-    ensures { OnOk result (string_bytes text.new ≡ string_bytes text.old ++ next_number number) }
-{
-    let mut digits = Buffer::new();
-    text.push_str(",")?;
-    text.push_str(digits.format(number))
-}

@@ -1,4 +1,0 @@
-pub mod Zips
-pub mod Faults
-pub mod Listed
-pub mod Joined
