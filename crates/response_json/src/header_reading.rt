@@ -15,10 +15,7 @@ use serde_json::{Map, Value};
 use std::alloc::{AllocError, Global};
 
 /// The lines of an object whose members are a header each.
-pub fn headers_of(
-    alloc: Global,
-    value: &Value,
-) -> Result<Reading<HeaderLines<Text>>, AllocError>
+pub fn headers_of(alloc: Global, value: &Value) -> Result<Reading<HeaderLines<Text>>, AllocError>
     ensures { IfOk result (λ headers. headers ≡ headers_of (view value.now)) }
 {
     match value {

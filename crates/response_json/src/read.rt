@@ -187,10 +187,7 @@ fn is_templated_by(alloc: Global, value: &Value) -> Result<Reading<bool>, AllocE
     }
 }
 
-fn transformers_of(
-    alloc: Global,
-    values: &Vec<Value>,
-) -> Result<Reading<Items<Text>>, AllocError>
+fn transformers_of(alloc: Global, values: &Vec<Value>) -> Result<Reading<Items<Text>>, AllocError>
     ensures { IfOk result (λ found. found ≡ each_item transformer_of (items_view values.now.items)) }
 {
     let mut found = Reading::Read(Items::from(Vec::new(alloc)));

@@ -113,11 +113,7 @@ fn write_lines(alloc: Global, lines: &[HeaderLine<Text>]) -> Result<Value, Alloc
     Ok(Value::Object(members))
 }
 
-fn texts_of(
-    alloc: Global,
-    name: &str,
-    lines: &[HeaderLine<Text>],
-) -> Result<Vec<Value>, AllocError>
+fn texts_of(alloc: Global, name: &str, lines: &[HeaderLine<Text>]) -> Result<Vec<Value>, AllocError>
     ensures { IfOk result (λ texts. map view texts.items ≡ texts_of name.now lines.now) }
 {
     let mut texts = Vec::new(alloc);
@@ -175,15 +171,16 @@ fn put_source(
     }
 }
 
-fn put_json(
-    alloc: Global,
-    members: &mut Map<String, Value>,
-    text: &Text,
-) -> Result<(), AllocError>
+fn put_json(alloc: Global, members: &mut Map<String, Value>, text: &Text) -> Result<(), AllocError>
     ensures { OnOk result (members_view members.new.entries
         ≡ put (codes "jsonBody") (json_of_text text.now) (members_view members.old.entries)) }
 {
-    serde_json::put(members, alloc, "jsonBody", json_of_text(alloc, text.as_str())?)
+    serde_json::put(
+        members,
+        alloc,
+        "jsonBody",
+        json_of_text(alloc, text.as_str())?,
+    )
 }
 
 fn put_base64(

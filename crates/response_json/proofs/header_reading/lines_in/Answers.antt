@@ -10,7 +10,7 @@ loop-name-preserved c =
     let left = c.next.new.self in
     let here = lines_at (string_bytes c.in-Some.name.now) (view c.in-Some.value.now) in
     let next : members_view c.loop-name.name-iterator
-        ≡ members_view ((c.in-Some.name.now, c.in-Some.value.now) ∷ left) = search rules in
+    ≡ members_view ((c.in-Some.name.now, c.in-Some.value.now) ∷ left) = search rules in
     let read : c.in_ok-lines_at.field-0 ≡ here =
     c.in_ok-lines_at.ensures ∙ ap (λ name. lines_at name (view c.in-Some.value.now)) c.as_str.ensures.value in
     c.loop-name.invariant
