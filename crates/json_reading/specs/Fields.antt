@@ -1,5 +1,5 @@
 -- What the fields of an object say. Of a name that the text repeats, the last value alone is there.
-use Rattle.std.specs.Prelude.{◌≡◌, ℕ, List, Bool, Option, Some, None, if◌then◌else◌, [], ◌∷◌}
+use Rattle.std.specs.Prelude.{ℕ, List, Bool, Option, Some, None, if◌then◌else◌, [], ◌∷◌}
 use Rattle.std.specs.Prelude.{true, ◌&&◌}
 use Rattle.std.specs.List.{list_any}
 use Rattle.std.specs.Str.{bytes_eq}
@@ -11,7 +11,7 @@ use Rattle.json_reading.specs.Reading.{both, read_map, wrong_also}
 use Rattle.json_reading.specs.declared.kind.Kind.TheVariants.{Unsupported, Misshapen}
 use Rattle.json_reading.specs.declared.reading.Reading.{Reading}
 use Rattle.json_reading.specs.declared.reading.Reading.TheVariants.{Read, Wrong}
-use Rattle.serde_json.specs.Data.{Data, null, boolean, number, string, array, object, Items, no_items, item, Members}
+use Rattle.serde_json.specs.Data.{Data, boolean, string, array, object, Items, no_items, item, Members}
 use Rattle.serde_json.specs.Data.{no_members, member}
 use Rattle.serde_json.specs.Find.{get}
 

@@ -1,5 +1,5 @@
 -- Parts that are put together, and lists that aren't left out.
-use Rattle.std.proofs.Common.{◌≡◌, List, [], ◌∷◌, length, Bool, true, false, true≢false, ◌==◌, Option, Some, None, refl, sym}
+use Rattle.std.proofs.Common.{◌≡◌, List, [], ◌∷◌, length, false, true≢false, ◌==◌, Some, refl}
 use Rattle.json_reading.specs.Reading.{both}
 use Rattle.json_reading.specs.Written.{unless_empty}
 use Rattle.json_reading.specs.declared.reading.Reading.{Reading}

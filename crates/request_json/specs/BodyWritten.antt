@@ -1,6 +1,6 @@
 -- The object that is written for a body matcher. An expected JSON text is written compactly, and as a text, so that
 -- nothing nests deeper than it was read.
-use Rattle.std.specs.Prelude.{ℕ, List, Bool, true, false, Option, Some, None, codes}
+use Rattle.std.specs.Prelude.{ℕ, List, Bool, Option, Some, None, codes}
 use Rattle.base64.specs.Engines.{standard}
 use Rattle.base64.specs.GeneralPurpose.{encode_of}
 use Rattle.json_match.specs.declared.json_spec.JsonSpec.{JsonSpec}

@@ -1,5 +1,5 @@
 -- Which request matcher an object spells (WireMock, "Request Matching").
-use Rattle.std.specs.Prelude.{ℕ, List, [], ◌∷◌, Option, Some, None, option_map, unwrap_or, codes}
+use Rattle.std.specs.Prelude.{ℕ, List, [], ◌∷◌, Option, Some, None, unwrap_or, codes}
 use Rattle.json_reading.specs.Fields.{only, optional, text_field, list_of, members_of}
 use Rattle.json_reading.specs.Reading.{both, read_map, read_then, either}
 use Rattle.json_reading.specs.declared.kind.Kind.TheVariants.{Misshapen, TwoUrls}

@@ -1,6 +1,6 @@
 -- The object that is written for a request matcher: names in byte order; absent fields and empty objects and lists are
 -- left out.
-use Rattle.std.specs.Prelude.{ℕ, List, [], ◌∷◌, map, Option, option_map, codes}
+use Rattle.std.specs.Prelude.{List, [], ◌∷◌, map, Option, option_map, codes}
 use Rattle.json_reading.specs.Written.{with_field, unless_empty}
 use Rattle.mapping_model.specs.declared.body_pattern.BodyPattern.{BodyPattern}
 use Rattle.mapping_model.specs.declared.named_matcher.NamedMatcher.{NamedMatcher}

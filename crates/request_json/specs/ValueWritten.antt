@@ -1,5 +1,5 @@
 -- The words that are written for a value matcher.
-use Rattle.std.specs.Prelude.{ℕ, List, true, codes}
+use Rattle.std.specs.Prelude.{true, codes}
 use Rattle.serde_json.specs.Data.{boolean, string, Members, put}
 use Rattle.value_match.specs.declared.value_spec.ValueSpec.{ValueSpec}
 use Rattle.value_match.specs.declared.value_spec.ValueSpec.TheVariants.{EqualTo, EqualToIgnoringCase, Contains}

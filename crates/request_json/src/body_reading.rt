@@ -46,15 +46,16 @@ pub(crate) fn body_of(alloc: Global, value: &Value) -> Result<Reading<BodyPatter
 fn body_in(alloc: Global, value: &Value) -> Result<Reading<Option<BodyPattern>>, AllocError>
     ensures { IfOk result (λ pattern. pattern ≡ body_in (view value.now)) }
 {
-    let found = either(Kind::Misshapen, equal_json_in(alloc, value)?, path_in(alloc, value)?);
+    let found = either(
+        Kind::Misshapen,
+        equal_json_in(alloc, value)?,
+        path_in(alloc, value)?,
+    );
     let found = either(Kind::Misshapen, binary_in(alloc, value)?, found);
     Ok(either(Kind::Misshapen, text_matcher_in(alloc, value)?, found))
 }
 
-fn text_matcher_in(
-    alloc: Global,
-    value: &Value,
-) -> Result<Reading<Option<BodyPattern>>, AllocError>
+fn text_matcher_in(alloc: Global, value: &Value) -> Result<Reading<Option<BodyPattern>>, AllocError>
     ensures { IfOk result (λ pattern. pattern ≡ read_map (option_map ValueMatcher) (value_in (view value.now))) }
 {
     match value_in(alloc, value)? {

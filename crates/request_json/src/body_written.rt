@@ -73,7 +73,13 @@ fn put_json(
             expected,
             ignore_array_order,
             ignore_extra_elements,
-        } => put_expected(alloc, members, expected, *ignore_array_order, *ignore_extra_elements),
+        } => put_expected(
+            alloc,
+            members,
+            expected,
+            *ignore_array_order,
+            *ignore_extra_elements,
+        ),
         JsonSpec::Path(path) => put_text(alloc, members, "matchesJsonPath", path),
     }
 }

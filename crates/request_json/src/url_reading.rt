@@ -20,7 +20,11 @@ use std::alloc::{AllocError, Global};
 pub(crate) fn url_of(alloc: Global, value: &Value) -> Result<Reading<UrlSpec>, AllocError>
     ensures { IfOk result (λ url. url ≡ url_of (view value.now)) }
 {
-    let found = either(Kind::TwoUrls, path_pattern_in(alloc, value)?, template_in(alloc, value)?);
+    let found = either(
+        Kind::TwoUrls,
+        path_pattern_in(alloc, value)?,
+        template_in(alloc, value)?,
+    );
     let found = either(Kind::TwoUrls, path_in(alloc, value)?, found);
     let found = either(Kind::TwoUrls, pattern_in(alloc, value)?, found);
     match either(Kind::TwoUrls, url_in(alloc, value)?, found) {

@@ -35,7 +35,11 @@ pub(crate) fn value_in(
 ) -> Result<Reading<Option<ValueSpec>>, AllocError>
     ensures { IfOk result (λ matcher. matcher ≡ value_in (view value.now)) }
 {
-    let found = either(Kind::Misshapen, does_not_match_in(alloc, value)?, absent_in(value));
+    let found = either(
+        Kind::Misshapen,
+        does_not_match_in(alloc, value)?,
+        absent_in(value),
+    );
     let found = either(Kind::Misshapen, matches_in(alloc, value)?, found);
     let found = either(Kind::Misshapen, does_not_contain_in(alloc, value)?, found);
     let found = either(Kind::Misshapen, contains_in(alloc, value)?, found);
@@ -77,7 +81,10 @@ fn contains_in(alloc: Global, value: &Value) -> Result<Reading<Option<ValueSpec>
     }
 }
 
-fn does_not_contain_in(alloc: Global, value: &Value) -> Result<Reading<Option<ValueSpec>>, AllocError>
+fn does_not_contain_in(
+    alloc: Global,
+    value: &Value,
+) -> Result<Reading<Option<ValueSpec>>, AllocError>
     ensures { IfOk result (λ matcher. matcher ≡ word (codes "doesNotContain") DoesNotContain (view value.now)) }
 {
     match text_field(alloc, "doesNotContain", value)? {

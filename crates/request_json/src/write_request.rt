@@ -28,17 +28,18 @@ pub fn write_request(alloc: Global, request: &RequestSpec) -> Result<Value, Allo
     }
     put_url(alloc, &mut members, &request.url)?;
     put_named(alloc, &mut members, "headers", request.headers.as_slice())?;
-    put_named(alloc, &mut members, "queryParameters", request.query.as_slice())?;
+    put_named(
+        alloc,
+        &mut members,
+        "queryParameters",
+        request.query.as_slice(),
+    )?;
     put_named(alloc, &mut members, "cookies", request.cookies.as_slice())?;
     put_body(alloc, &mut members, request.body.as_slice())?;
     Ok(Value::Object(members))
 }
 
-fn put_url(
-    alloc: Global,
-    members: &mut Map<String, Value>,
-    url: &UrlSpec,
-) -> Result<(), AllocError>
+fn put_url(alloc: Global, members: &mut Map<String, Value>, url: &UrlSpec) -> Result<(), AllocError>
     ensures { OnOk result (members_view members.new.entries
         ≡ with_url url.now (members_view members.old.entries)) }
 {
@@ -103,7 +104,12 @@ fn put_body(
     if patterns.is_empty() {
         return Ok(());
     }
-    serde_json::put(members, alloc, "bodyPatterns", write_patterns(alloc, patterns)?)
+    serde_json::put(
+        members,
+        alloc,
+        "bodyPatterns",
+        write_patterns(alloc, patterns)?,
+    )
 }
 
 fn write_patterns(alloc: Global, patterns: &[BodyPattern]) -> Result<Value, AllocError>
