@@ -1,57 +1,52 @@
 //! JSON matchers: equal to an expected value, and found by a path alone.
 
-use crate::values::yes_or_no;
+use crate::values::{refused, text_of, yes_or_no};
 use case_table::row::Row;
-use json_bridge::error::JsonError;
 use json_bridge::read::read_json;
 use json_match::error::JsonMatchError;
 use json_match::json_matcher::JsonMatcher;
 use json_match::json_spec::JsonSpec;
-use plain_text::text::Text;
 use std::alloc::{AllocError, Global};
 
 /// The flags, the expected and the actual JSON text.
 pub fn equal(alloc: Global, row: &Row) -> Result<String, AllocError> {
-    let flags = row.cell(0);
-    let spec = JsonSpec::EqualTo {
-        expected: Text::from(String::from_str(alloc, row.cell(1))?),
+    let spec = equal_spec(alloc, row.cell(0), row.cell(1))?;
+    answer(alloc, &spec, row.cell(2))
+}
+
+/// The matcher with the flags and the expected JSON text.
+pub fn equal_spec(alloc: Global, flags: &str, expected: &str) -> Result<JsonSpec, AllocError> {
+    Ok(JsonSpec::EqualTo {
+        expected: text_of(alloc, expected)?,
         ignore_array_order: flags.contains("any order"),
         ignore_extra_elements: flags.contains("more"),
-    };
-    answer(alloc, &spec, row.cell(2))
+    })
 }
 
 /// The path and the JSON text.
 pub fn path(alloc: Global, row: &Row) -> Result<String, AllocError> {
-    let spec = JsonSpec::Path(Text::from(String::from_str(alloc, row.cell(0))?));
+    let spec = JsonSpec::Path(text_of(alloc, row.cell(0))?);
     answer(alloc, &spec, row.cell(1))
 }
 
-// Whether the value of the text meets the matcher, or the code of the matcher's error.
+// Whether the value of the text meets the matcher, or the code of the matcher's error. All texts of the tables are JSON.
 fn answer(alloc: Global, spec: &JsonSpec, actual: &str) -> Result<String, AllocError> {
-    match build(alloc, spec) {
-        Ok(matcher) => String::from_str(alloc, meets(alloc, &matcher, actual)?),
-        Err(error) => refused(alloc, error),
+    match meets(alloc, spec, actual) {
+        Ok(yes) => String::from_str(alloc, yes_or_no(yes)),
+        Err(error) => refused(alloc, error.error_code()),
     }
 }
 
-fn refused(alloc: Global, error: JsonMatchError) -> Result<String, AllocError> {
-    if error == JsonMatchError::OutOfMemory {
-        return Err(AllocError);
-    }
-    let number = error.error_code().number();
-    format!(in alloc; "\t{number}")
+fn meets(alloc: Global, spec: &JsonSpec, actual: &str) -> Result<bool, JsonMatchError> {
+    let matcher = build(alloc, spec)?;
+    matches(alloc, &matcher, actual)
 }
 
 fn build(alloc: Global, spec: &JsonSpec) -> Result<JsonMatcher, JsonMatchError> {
     JsonMatcher::build(alloc, spec)
 }
 
-fn meets(alloc: Global, matcher: &JsonMatcher, actual: &str) -> Result<&'static str, AllocError> {
-    match read_json(alloc, actual) {
-        Ok(value) => Ok(yes_or_no(matcher.matches(&value)?)),
-        Err(JsonError::OutOfMemory) => Err(AllocError),
-        Err(JsonError::NotJson) => Ok("\tno JSON"),
-        Err(JsonError::NumberNotWhole) => Ok("\ta number that isn't whole"),
-    }
+fn matches(alloc: Global, matcher: &JsonMatcher, actual: &str) -> Result<bool, JsonMatchError> {
+    let value = read_json(alloc, actual)?;
+    Ok(matcher.matches(&value)?)
 }

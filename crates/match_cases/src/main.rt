@@ -1,7 +1,10 @@
-//! Compares what the matchers of `value_match` and `json_match` answer with the tables in `data/`.
+//! Compares what the matchers of `value_match`, `json_match`, `path_template` and `request_match` answer with the tables
+//! in `data/`.
 #![tactic(auto)]
 
 mod json;
+mod path_templates;
+mod requests;
 mod table;
 mod values;
 
@@ -15,10 +18,13 @@ fn main(rt: HostRuntime) -> io::Result<ExitCode> {
         &rt,
         [
             Table::Values,
-            Table::ValueRequests,
             Table::Json,
-            Table::JsonRequests,
             Table::Paths,
+            Table::Requests,
+            Table::ComputedRequests,
+            Table::Bindings,
+            Table::TemplatePaths,
+            Table::SameTemplates,
         ]
         .as_slice(),
     )

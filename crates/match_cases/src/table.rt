@@ -1,6 +1,6 @@
 //! The tables, and which call each of them is about.
 
-use crate::{json, values};
+use crate::{json, path_templates, requests, values};
 use case_table::compare::CaseTable;
 use case_table::row::Row;
 use std::alloc::{AllocError, Global};
@@ -9,28 +9,40 @@ use std::alloc::{AllocError, Global};
 #[derive(Clone, Copy)]
 pub enum Table {
     Values,
-    ValueRequests,
     Json,
-    JsonRequests,
     Paths,
+    Requests,
+    /// Requests and matchers whose results an independent program computed.
+    ComputedRequests,
+    Bindings,
+    /// Templates and paths of requests, whose results an independent program computed.
+    TemplatePaths,
+    SameTemplates,
 }
 
 impl CaseTable for Table {
     fn file(self) -> &'static str {
         match self {
             Table::Values => "values.tsv",
-            Table::ValueRequests => "value_requests.tsv",
             Table::Json => "json.tsv",
-            Table::JsonRequests => "json_requests.tsv",
             Table::Paths => "paths.tsv",
+            Table::Requests => "requests.tsv",
+            Table::ComputedRequests => "computed_requests.tsv",
+            Table::Bindings => "bindings.tsv",
+            Table::TemplatePaths => "template_paths.tsv",
+            Table::SameTemplates => "same_templates.tsv",
         }
     }
 
     fn answer(self, alloc: Global, row: &Row) -> Result<String, AllocError> {
         match self {
-            Table::Values | Table::ValueRequests => values::answer(alloc, row),
-            Table::Json | Table::JsonRequests => json::equal(alloc, row),
+            Table::Values => values::answer(alloc, row),
+            Table::Json => json::equal(alloc, row),
             Table::Paths => json::path(alloc, row),
+            Table::Requests | Table::ComputedRequests => requests::answer(alloc, row),
+            Table::Bindings => path_templates::bound(alloc, row),
+            Table::TemplatePaths => path_templates::matched(alloc, row),
+            Table::SameTemplates => path_templates::same(alloc, row),
         }
     }
 }

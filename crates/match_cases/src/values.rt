@@ -1,6 +1,7 @@
 //! Value matchers: a kind, its text or pattern, and the value, if there is one.
 
 use case_table::row::Row;
+use error_code::error_code::ErrorCode;
 use plain_text::text::Text;
 use std::alloc::{AllocError, Global};
 use value_match::error::ValueError;
@@ -9,47 +10,23 @@ use value_match::value_spec::ValueSpec;
 
 /// Whether the value meets the matcher, or the code of the matcher's error.
 pub fn answer(alloc: Global, row: &Row) -> Result<String, AllocError> {
-    let Some(spec) = spec(alloc, row.cell(0), row.cell(1))? else {
-        return String::from_str(alloc, "\tno such kind");
-    };
-    match build(alloc, &spec) {
-        Ok(mut matcher) => {
-            let value = if row.given.len() > 2 {
-                Some(row.cell(2))
-            } else {
-                None
-            };
-            let yes = matches(&mut matcher, value)?;
-            String::from_str(alloc, yes_or_no(yes))
-        }
-        Err(error) => refused(alloc, error),
+    match meets(alloc, row) {
+        Ok(yes) => String::from_str(alloc, yes_or_no(yes)),
+        Err(error) => refused(alloc, error.error_code()),
     }
 }
 
-pub fn yes_or_no(yes: bool) -> &'static str {
-    if yes { "\tyes" } else { "\tno" }
+fn meets(alloc: Global, row: &Row) -> Result<bool, ValueError> {
+    let spec = spec_of(alloc, row.cell(0), row.cell(1))?;
+    let mut matcher = build(alloc, &spec)?;
+    Ok(matches(&mut matcher, value(row))?)
 }
 
-fn refused(alloc: Global, error: ValueError) -> Result<String, AllocError> {
-    if error == ValueError::OutOfMemory {
-        return Err(AllocError);
+fn value(row: &Row) -> Option<&str> {
+    match row.given.get(2) {
+        Some(value) => Some(value.as_str()),
+        None => None,
     }
-    let number = error.error_code().number();
-    format!(in alloc; "\t{number}")
-}
-
-fn spec(alloc: Global, kind: &str, text: &str) -> Result<Option<ValueSpec>, AllocError> {
-    let text = Text::from(String::from_str(alloc, text)?);
-    Ok(match kind {
-        "equal to" => Some(ValueSpec::EqualTo(text)),
-        "equal to, ignoring case" => Some(ValueSpec::EqualToIgnoringCase(text)),
-        "contains" => Some(ValueSpec::Contains(text)),
-        "does not contain" => Some(ValueSpec::DoesNotContain(text)),
-        "matches" => Some(ValueSpec::Matches(text)),
-        "does not match" => Some(ValueSpec::DoesNotMatch(text)),
-        "absent" => Some(ValueSpec::Absent),
-        _ => None,
-    })
 }
 
 fn build(alloc: Global, spec: &ValueSpec) -> Result<ValueMatcher, ValueError> {
@@ -58,4 +35,36 @@ fn build(alloc: Global, spec: &ValueSpec) -> Result<ValueMatcher, ValueError> {
 
 fn matches(matcher: &mut ValueMatcher, value: Option<&str>) -> Result<bool, AllocError> {
     matcher.matches(value)
+}
+
+pub fn yes_or_no(yes: bool) -> &'static str {
+    if yes { "\tyes" } else { "\tno" }
+}
+
+/// The number of the code.
+pub fn refused(alloc: Global, code: ErrorCode) -> Result<String, AllocError> {
+    if code == ErrorCode::OutOfMemory {
+        return Err(AllocError);
+    }
+    let number = code.number();
+    format!(in alloc; "\t{number}")
+}
+
+pub fn text_of(alloc: Global, text: &str) -> Result<Text, AllocError> {
+    Ok(Text::from(String::from_str(alloc, text)?))
+}
+
+/// The matcher of that kind. No other kind is in the tables.
+pub fn spec_of(alloc: Global, kind: &str, text: &str) -> Result<ValueSpec, AllocError> {
+    let text = text_of(alloc, text)?;
+    match kind {
+        "equal to" => Ok(ValueSpec::EqualTo(text)),
+        "equal to, ignoring case" => Ok(ValueSpec::EqualToIgnoringCase(text)),
+        "contains" => Ok(ValueSpec::Contains(text)),
+        "does not contain" => Ok(ValueSpec::DoesNotContain(text)),
+        "matches" => Ok(ValueSpec::Matches(text)),
+        "does not match" => Ok(ValueSpec::DoesNotMatch(text)),
+        "absent" => Ok(ValueSpec::Absent),
+        _ => Err(AllocError),
+    }
 }

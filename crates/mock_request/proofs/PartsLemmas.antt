@@ -108,3 +108,7 @@ header_at (method ∷ url ∷ body ∷ fields) index (suc (suc (suc at))) are e 
     let f = subst (λ fs. At (headers_in fields) index at fs) same
     (field_at (headers_in fields) index at (omega arith) i are.names) in
     record { within = omega (arith, f.within); found = f.found; name = f.name; text = f.text }
+
+-- the parts are those of the request, so equal requests have equal parts
+pub same_parts : (a b : List (List ℕ)) → AreParts a → AreParts b → request_in a ≡ request_in b → a ≡ b
+same_parts a b in_a in_b e = in_a.whole ∙ ap parts_of e ∙ sym in_b.whole

@@ -1,5 +1,5 @@
 // Byte strings in one block of memory.
-ghost use Rattle.std.specs.Prelude.{◌≡◌, [], ◌∷◌, ◌++◌, ◌<◌, length, slice_index_or, IfOk, OnOk, OnErr};
+ghost use Rattle.std.specs.Prelude.{◌≡◌, [], ◌∷◌, ◌++◌, ◌<◌, ◌↔◌, length, slice_index_or, IfOk, IsTrue, OnOk, OnErr};
 ghost use Rattle.std.specs.Str.{IsUtf8};
 ghost use Rattle.mock_request.specs.Inner.Block.{start_at};
 
@@ -77,6 +77,21 @@ impl Block {
         unsafe { str::from_utf8_unchecked(self.part(index)) }
     }
 
+    /// Whether it has the same byte strings.
+    pub(crate) fn same(&self, other: &Block) -> bool
+        ensures { IsTrue result ↔ (self.now ≡ other.now) }
+    {
+        if self.len() != other.len() {
+            return false;
+        }
+        for i in 0..self.len() {
+            if !same_bytes(self.part(i), other.part(i)) {
+                return false;
+            }
+        }
+        true
+    }
+
     /// A copy.
     pub(crate) fn try_clone(&self) -> Result<Block, AllocError>
         ensures { IfOk result (λ copy. copy ≡ self.now) }
@@ -86,6 +101,12 @@ impl Block {
             ends: self.ends.clone()?,
         })
     }
+}
+
+fn same_bytes(a: &[u8], b: &[u8]) -> bool
+    ensures { IsTrue result ↔ (a.now ≡ b.now) }
+{
+    a == b
 }
 
 // Where the byte string at that index begins.

@@ -1,5 +1,5 @@
 // A request as it was received.
-ghost use Rattle.std.specs.Prelude.{◌≡◌, ◌++◌, ◌≤◌, ◌<◌, ◌↔◌, length, slice_get, All, IfSome, IfOk, OnOk, IsErrOf};
+ghost use Rattle.std.specs.Prelude.{◌≡◌, ◌++◌, ◌≤◌, ◌<◌, ◌↔◌, length, slice_get, All, IfSome, IfOk, IsTrue, OnOk, IsErrOf};
 ghost use Rattle.std.specs.Option.{option_copied, option_map};
 ghost use Rattle.http_header.specs.FieldName.{IsHeaderName};
 ghost use Rattle.mock_request.specs.Target.{IsTarget, HasUrl, IsRooted, IsRootedForm};
@@ -60,12 +60,12 @@ impl Snapshot {
           headers = headers_of headers.now;
           body = body.now;
         }) }
-        ensures within { OnOk result (length body.now ≤ 1048576) }
+        ensures within { OnOk result (length body.now ≤ BODY_LIMIT) }
 
         // A bad target is reported before a body that is too large.
         ensures bad_url { IsErrOf result SnapshotError.BadUrl ↔ ¬ (HasUrl target.now) }
         ensures too_large { IsErrOf result SnapshotError.BodyTooLarge
-            ↔ (HasUrl target.now × (1048576 < length body.now)) }
+            ↔ (HasUrl target.now × (BODY_LIMIT < length body.now)) }
     {
         let text = path_and_query(target).ok_or(SnapshotError::BadUrl)?;
         if body.len() > BODY_LIMIT {
@@ -190,6 +190,14 @@ impl Snapshot {
         ensures within { length result.now ≤ BODY_LIMIT }
     {
         self.parts.part(BODY)
+    }
+
+    /// Whether the other request is equal: its method, URL, headers and body.
+    #[tactic(auto, using(crate::proofs::PartsLemmas::same_parts))]
+    pub fn same(&self, other: &Snapshot) -> bool
+        ensures { IsTrue result ↔ (self.now ≡ other.now) }
+    {
+        self.parts.same(&other.parts)
     }
 
     /// A copy.

@@ -2,3 +2,4 @@ pub mod Target
 pub mod Recording
 pub mod Key
 pub mod Errors
+pub mod Stubs

@@ -1,8 +1,9 @@
 // A request that was forwarded, and the reply to it.
-ghost use Rattle.std.specs.Prelude.{◌≡◌, IfOk};
+ghost use Rattle.std.specs.Prelude.{◌≡◌, ◌↔◌, IfOk, IsTrue};
 
 use mapping_model::reply::Reply;
 use mock_request::snapshot::Snapshot;
+use plain_text::plain::{Same, TryClone};
 use std::alloc::{AllocError, Global};
 use std::marker::Model;
 use std::sync::Arc;
@@ -28,6 +29,15 @@ impl Exchange {
             started_ms: self.started_ms,
             wait_ms: self.wait_ms,
         })
+    }
+
+    pub fn same(&self, other: &Exchange) -> bool
+        ensures { IsTrue result ↔ (self.now ≡ other.now) }
+    {
+        self.request.same(&other.request)
+            && self.reply.same(&other.reply)
+            && self.started_ms == other.started_ms
+            && self.wait_ms == other.wait_ms
     }
 }
 
@@ -67,5 +77,23 @@ impl SharedExchange {
         Ok(SharedExchange {
             exchange: Arc::try_clone(&self.exchange)?,
         })
+    }
+
+    pub fn same(&self, other: &SharedExchange) -> bool
+        ensures { IsTrue result ↔ (self.now ≡ other.now) }
+    {
+        self.exchange().same(other.exchange())
+    }
+}
+
+impl TryClone for SharedExchange {
+    fn try_clone(&self) -> Result<SharedExchange, AllocError> {
+        SharedExchange::try_clone(self)
+    }
+}
+
+impl Same for SharedExchange {
+    fn same(&self, other: &SharedExchange) -> bool {
+        SharedExchange::same(self, other)
     }
 }

@@ -6,6 +6,7 @@ use crate::error::RecordingError;
 use crate::target_text::{
     after_scheme, host_and_port, is_target, path, split_prefix, without_last_slash,
 };
+use plain_text::plain::{Same, TryClone};
 use plain_text::text::Text;
 use std::alloc::{AllocError, Global};
 use std::marker::Model;
@@ -97,5 +98,17 @@ impl Target {
         ensures { IsTrue result ↔ (self.now ≡ other.now) }
     {
         self.text.same(&other.text)
+    }
+}
+
+impl TryClone for Target {
+    fn try_clone(&self) -> Result<Target, AllocError> {
+        Target::try_clone(self)
+    }
+}
+
+impl Same for Target {
+    fn same(&self, other: &Target) -> bool {
+        Target::same(self, other)
     }
 }

@@ -1,9 +1,12 @@
 -- Small pasts that the definitions read as they should: ids are short texts, and the mappings are any.
-use Rattle.std.proofs.Common.{◌≡◌, inl, inr, ℕ, true, false, List, [], ◌∷◌, Some, None, refl, codes, arith}
+use Rattle.std.proofs.Common.{◌≡◌, inl, inr, ℕ, true, List, [], ◌∷◌, Some, None, refl, codes, arith}
 use Rattle.std.specs.Prelude.{◌<ℤ◌}
 use Rattle.mapping_model.specs.Priority.{priority_of}
 use Rattle.mapping_model.specs.declared.mapping_spec.MappingSpec.{MappingSpec}
 use Rattle.mock_request.specs.Request.{Request}
+use Rattle.recorder.specs.declared.exchange.Exchange.{Exchange}
+use Rattle.recorder.specs.declared.recording.Recording.TheVariants.{NeverStarted, On, Stopped}
+use Rattle.recorder.specs.declared.recording.Session.{Session}
 use Rattle.scenario_core.specs.Scenarios.{States, started}
 use Rattle.request_journal.specs.Choice.{WinsOver}
 use Rattle.request_journal.specs.Journal.{requests, unmatched, event_at}
@@ -15,9 +18,6 @@ use Rattle.request_journal.specs.declared.event.Event.{Event}
 use Rattle.request_journal.specs.declared.event.Event.TheVariants as event
 use Rattle.request_journal.specs.declared.event.ServeAnswer.TheVariants.{Stub, Proxy, Unmatched}
 use Rattle.request_journal.specs.declared.mapping.Mapping.{Mapping}
-use Rattle.request_journal.specs.declared.recording.Exchange.{Exchange}
-use Rattle.request_journal.specs.declared.recording.RecordingStart.{RecordingStart}
-use Rattle.request_journal.specs.declared.recording.Target.{Target}
 
 -- a book opened at 0
 abbrev book : List Mapping → List Event → Past
@@ -109,7 +109,7 @@ module _ (s : MappingSpec) (r : Request) (states : States) where
   cleared = record {
     opening = 0;
     defaults = [];
-    base = record { number = 3; live = at 1 0 b s ∷ []; states = states; recording = None };
+    base = record { number = 3; live = at 1 0 b s ∷ []; states = states; recording = NeverStarted };
     events = event.ClearJournal ∷ event.Serve r Unmatched ∷ [];
   }
 
@@ -128,7 +128,7 @@ module _ (s : MappingSpec) (r : Request) (states : States) where
   one_request : requests cleared ≡ record { number = 5; request = r } ∷ []
   one_request = refl
 
-module _ (r q : Request) (target : Target) where
+module _ (r q : Request) (target : List ℕ) where
   newest_first
       : requests (book [] (event.Serve q Unmatched ∷ event.ClearJournal ∷ event.Serve r Unmatched
       ∷ event.Serve q (Proxy target) ∷ []))
@@ -143,18 +143,23 @@ module _ (r q : Request) (target : Target) where
 
 -- ---- recordings
 
-module _ (start : RecordingStart) (x y : Exchange) where
+module _ (target : List ℕ) (captured : List (List ℕ)) (x y : Exchange) where
+  abbrev start : Event
+  start = event.StartRecording target captured true
+
+  abbrev session : ℕ → List Exchange → Session
+  session number exchanges =
+      record { start = number; target = target; captured = captured; repeats = true; exchanges = exchanges }
+
   started_and_stopped
-      : recording (book [] (event.ClearJournal ∷ event.StartRecording start ∷ event.Record 3 x ∷ event.Record 4 y
-      ∷ event.StopRecording [] 2 ∷ []))
-      ≡ Some (record { number = 2; start = start; exchanges = x ∷ y ∷ []; is_on = false })
+      : recording (book [] (event.ClearJournal ∷ start ∷ event.Record 3 x ∷ event.Record 4 y ∷ event.StopRecording [] 2 ∷ []))
+      ≡ Stopped (session 2 (x ∷ y ∷ []))
   started_and_stopped = refl
 
   -- a second start forgets the first recording's exchanges
   started_again
-      : recording (book [] (event.StartRecording start ∷ event.Record 1 x ∷ event.StopRecording [] 1
-      ∷ event.StartRecording start ∷ event.Record 4 y ∷ []))
-      ≡ Some (record { number = 4; start = start; exchanges = y ∷ []; is_on = true })
+      : recording (book [] (start ∷ event.Record 1 x ∷ event.StopRecording [] 1 ∷ start ∷ event.Record 4 y ∷ []))
+      ≡ On (session 4 (y ∷ []))
   started_again = refl
 
   -- a record whose serve was dropped with a checkpoint joins the base's recording
@@ -162,15 +167,10 @@ module _ (start : RecordingStart) (x y : Exchange) where
       → recording (record {
         opening = 0;
         defaults = [];
-        base = record {
-          number = 2;
-          live = [];
-          states = states;
-          recording = Some (record { number = 1; start = start; exchanges = x ∷ []; is_on = true });
-        };
+        base = record { number = 2; live = []; states = states; recording = On (session 1 (x ∷ [])) };
         events = event.ClearJournal ∷ event.Record 2 y ∷ [];
       })
-      ≡ Some (record { number = 1; start = start; exchanges = x ∷ y ∷ []; is_on = true })
+      ≡ On (session 1 (x ∷ y ∷ []))
   recorded_after_a_clear states = refl
 
 -- ---- choice

@@ -4,12 +4,13 @@ use Rattle.std.proofs.Common.{refl, ap, ◌∙◌, arith, reverse, option_map}
 use Rattle.std.specs.List.{list_any, filter_map, cons_option}
 use Rattle.mock_request.specs.Request.{Request}
 use Rattle.request_journal.specs.Events.{Numbered, numbered, after_last}
-use Rattle.request_journal.specs.Journal.{Entry, clears, visible}
+use Rattle.request_journal.specs.Journal.{clears, visible}
+use Rattle.request_journal.specs.declared.entry.Entry.{Entry}
 use Rattle.request_journal.specs.Past.{Past, with_event, last_number, numbered_events}
 use Rattle.request_journal.specs.declared.event.Event.{Event}
 use Rattle.request_journal.proofs.LiveLemmas.{any_one}
 
-numbered_one : (number : ℕ) (es : List Event) (e : Event)
+pub numbered_one : (number : ℕ) (es : List Event) (e : Event)
     → numbered number (es ++ e ∷ []) ≡ numbered number es ++ record { number = number + length es; event = e } ∷ []
 numbered_one number [] e = ap (λ n. record { number = n; event = e } ∷ []) (omega arith)
 numbered_one number (y ∷ ys) e =
@@ -33,7 +34,7 @@ or_is_false true = refl
 or_is_false false = refl
 
 -- nothing is after the last item that passes, where it is the last of all
-after_passing
+pub after_passing
     : {X : Type 0} (test : X → Bool) (xs : List X) (x : X) → test x ≡ true → after_last test (xs ++ x ∷ []) ≡ []
 after_passing test [] x h = ap (λ b. cond (b || false) [] (x ∷ [])) h
 after_passing test (y ∷ ys) x h =
@@ -43,7 +44,7 @@ after_passing test (y ∷ ys) x h =
     ∙ after_passing test ys x h
 
 -- an item that doesn't pass is after it
-after_other : {X : Type 0} (test : X → Bool) (xs : List X) (x : X) → test x ≡ false
+pub after_other : {X : Type 0} (test : X → Bool) (xs : List X) (x : X) → test x ≡ false
     → after_last test (xs ++ x ∷ []) ≡ after_last test xs ++ x ∷ []
 after_other test [] x h = ap (λ b. cond (b || false) [] (x ∷ [])) h
 after_other test (y ∷ ys) x h =
@@ -56,7 +57,7 @@ after_other test (y ∷ ys) x h =
       | false ↦ refl
     ]
 
-found_one : {X Y : Type 0} (f : X → Option Y) (xs : List X) (x : X)
+pub found_one : {X Y : Type 0} (f : X → Option Y) (xs : List X) (x : X)
     → filter_map f (xs ++ x ∷ []) ≡ filter_map f xs ++ cons_option (f x) []
 found_one f [] x = refl
 found_one f (y ∷ ys) x =

@@ -1,6 +1,6 @@
 -- One more event that is the right answer keeps a past legal.
 use Rattle.std.proofs.Common.{◌≡◌, ◌⊎◌, inl, inr, List, [], ◌∷◌, ◌++◌, refl, sym, ap, subst}
-use Rattle.request_journal.specs.Legal.{Meanings, IsLegal, IsNext, BeginsWell}
+use Rattle.request_journal.specs.Legal.{IsLegal, IsNext, BeginsWell}
 use Rattle.request_journal.specs.Past.{Past, with_event, with_events}
 use Rattle.request_journal.specs.declared.event.Event.{Event}
 
@@ -43,17 +43,17 @@ begins_still past event begins = elim begins as (λ _. BeginsWell (with_event pa
   | inr kept ↦ inr (kept.0, kept.1 ++ event ∷ [], ap (λ l. l ++ event ∷ []) kept.2, kept.3)
 ]
 
-pub legal_after : (meanings : Meanings) (past : Past) (event : Event) → IsLegal meanings past
-    → IsNext meanings past event → IsLegal meanings (with_event past event)
-legal_after meanings past event legal next = record {
+pub legal_after : (past : Past) (event : Event) → IsLegal past
+    → IsNext past event → IsLegal (with_event past event)
+legal_after past event legal next = record {
   begins = begins_still past event legal.begins;
   has_room = legal.has_room;
   few_live = legal.few_live;
   answers = λ earlier later item e.
       elim (split_last past.events event earlier item later e)
-      as (λ _. IsNext meanings (with_events past earlier) item) [
-        | inl s ↦ subst (λ es. IsNext meanings (with_events past es) item) s.0
-            (subst (λ x. IsNext meanings past x) s.1 next)
+      as (λ _. IsNext (with_events past earlier) item) [
+        | inl s ↦ subst (λ es. IsNext (with_events past es) item) s.0
+            (subst (λ x. IsNext past x) s.1 next)
         | inr s ↦ legal.answers earlier s.0 item s.1
       ];
 }

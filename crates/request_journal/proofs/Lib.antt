@@ -3,5 +3,8 @@ pub mod LiveLemmas
 pub mod LegalLemmas
 pub mod CheckpointLemmas
 pub mod JournalLemmas
+pub mod RecordingLemmas
 pub mod PlaceLemmas
 pub mod SameLemmas
+pub mod IdLemmas
+pub mod OrderLemmas

@@ -35,25 +35,25 @@ or_assoc : {X : Type 0} (o p q : Option X) → option_or (option_or o p) q ≡ o
 or_assoc None p q = refl
 or_assoc (Some x) p q = refl
 
-last_one : {X Y : Type 0} (says : X → Option Y) (xs : List X) (x : X)
+pub last_one : {X Y : Type 0} (says : X → Option Y) (xs : List X) (x : X)
     → last_of says (xs ++ x ∷ []) ≡ option_or (says x) (last_of says xs)
 last_one says [] x = or_none (says x)
 last_one says (y ∷ ys) x =
     ap (λ o. option_or o (says y)) (last_one says ys x) ∙ or_assoc (says x) (last_of says ys) (says y)
 
-unwrap_or_more : {X : Type 0} (o p : Option X) (d : X) → unwrap_or (option_or o p) d ≡ unwrap_or o (unwrap_or p d)
+pub unwrap_or_more : {X : Type 0} (o p : Option X) (d : X) → unwrap_or (option_or o p) d ≡ unwrap_or o (unwrap_or p d)
 unwrap_or_more None p d = refl
 unwrap_or_more (Some x) p d = refl
 
 -- ---- what is left
 
-gone : (es : List Event) (p : Placed) (ps : List Placed) → is_removed es p.mapping.id ≡ true
+pub gone : (es : List Event) (p : Placed) (ps : List Placed) → is_removed es p.mapping.id ≡ true
     → left_by es (p ∷ ps) ≡ left_by es ps
 gone es p ps h =
     let rest : List Placed = filter (λ q. not (is_removed es q.mapping.id)) ps in
     ap (λ b. map (edited es) (cond (not b) (p ∷ rest) rest)) h
 
-kept : (es : List Event) (p : Placed) (ps : List Placed) → is_removed es p.mapping.id ≡ false
+pub kept : (es : List Event) (p : Placed) (ps : List Placed) → is_removed es p.mapping.id ≡ false
     → left_by es (p ∷ ps) ≡ edited es p ∷ left_by es ps
 kept es p ps h =
     let rest : List Placed = filter (λ q. not (is_removed es q.mapping.id)) ps in

@@ -28,7 +28,7 @@ wider low lower high higher [] l r h = tt
 wider low lower high higher (p ∷ ps) l r h =
     (less lower low p.place.event l h.0, less p.place.event high higher h.1 r, wider low lower high higher ps l r h.2)
 
-left_within
+pub left_within
     : (low high : ℕ) (es : List Event) (ps : List Placed) → AreWithin low high ps → AreWithin low high (left_by es ps)
 left_within low high es [] h = tt
 left_within low high es (p ∷ ps) h =
@@ -40,7 +40,7 @@ left_within low high es (p ∷ ps) h =
       | false ↦ (h.0, h.1, left_within low high es ps h.2)
     ]
 
-placed_within : (number index : ℕ) (ms : List Mapping) → AreWithin number number (placed_from number index ms)
+pub placed_within : (number index : ℕ) (ms : List Mapping) → AreWithin number number (placed_from number index ms)
 placed_within number index [] = tt
 placed_within number index (m ∷ ms) =
     elim (has_id ms m.id)

@@ -1,14 +1,14 @@
 -- Which mapping is chosen for a request (WireMock's documentation, "Stubbing", on priority, and "Stateful
--- Behaviour"): of the eligible live ones that of the least priority number, and of these the newest. Which
--- requests a matcher is met by is handed over as `Meets`.
+-- Behaviour"): of the eligible live ones that of the least priority number, and of these the newest.
 use Rattle.std.specs.Prelude.{◌≡◌, ◌⊎◌, ◌<◌, ◌<ℤ◌, Contains, Option, Some, None, IfSome}
 use Rattle.mapping_model.specs.Priority.{priority_of}
-use Rattle.mapping_model.specs.declared.request_spec.RequestSpec.{RequestSpec}
 use Rattle.mapping_model.specs.declared.scenario_spec.ScenarioSpec.{ScenarioSpec}
 use Rattle.mock_request.specs.Request.{Request}
+use Rattle.recorder.specs.Recording.{IsOn, IsOnAnd}
+use Rattle.request_match.specs.Matching.{MeetsRequest}
 use Rattle.request_journal.specs.Live.{live}
-use Rattle.request_journal.specs.Past.{Past, Place, Placed, Recording}
-use Rattle.request_journal.specs.Recording.{IsOn, IsRecording}
+use Rattle.request_journal.specs.Past.{Past, Place, Placed}
+use Rattle.request_journal.specs.Recording.{recording}
 use Rattle.request_journal.specs.State.{state}
 use Rattle.request_journal.specs.declared.event.ServeAnswer.{ServeAnswer}
 use Rattle.request_journal.specs.declared.event.ServeAnswer.TheVariants.{Stub, Proxy, Unmatched}
@@ -20,9 +20,8 @@ IsReady past None = Unit {0}
 IsReady past (Some scenario) = IfSome scenario.required (λ required. state past scenario.name ≡ required)
 
 -- the request meets the mapping's matcher, and its scenario is ready
-pub record IsEligible (Meets : RequestSpec → Request → Type 0) (past : Past) (request : Request) (mapping : Mapping)
-    : Type 0 where
-  pub meets : Meets mapping.spec.request request
+pub record IsEligible (past : Past) (request : Request) (mapping : Mapping) : Type 0 where
+  pub meets : MeetsRequest mapping.spec.request request
   pub ready : IsReady past mapping.spec.scenario
 
 -- a later event, or a later one of the same event
@@ -36,23 +35,22 @@ WinsOver a b =
     ⊎ ((priority_of a.mapping.spec.priority ≡ priority_of b.mapping.spec.priority) × IsNewer a.place b.place)
 
 -- no live mapping is eligible
-abbrev pub IsMissed : (RequestSpec → Request → Type 0) → Past → Request → Type 0
-IsMissed Meets past request =
-    (placed : Placed) → Contains (live past) placed → ¬ (IsEligible Meets past request placed.mapping)
+abbrev pub IsMissed : Past → Request → Type 0
+IsMissed past request =
+    (placed : Placed) → Contains (live past) placed → ¬ (IsEligible past request placed.mapping)
 
 -- the mapping is live and eligible, and no other one that is wins over it
-pub record IsChosen (Meets : RequestSpec → Request → Type 0) (past : Past) (request : Request) (mapping : Mapping)
-    : Type 0 where
+pub record IsChosen (past : Past) (request : Request) (mapping : Mapping) : Type 0 where
   pub placed : Placed
   pub same : placed.mapping ≡ mapping
   pub is_live : Contains (live past) placed
-  pub eligible : IsEligible Meets past request mapping
-  pub best : (other : Placed) → Contains (live past) other → IsEligible Meets past request other.mapping
+  pub eligible : IsEligible past request mapping
+  pub best : (other : Placed) → Contains (live past) other → IsEligible past request other.mapping
       → ¬ (WinsOver other placed)
 
 -- what a request is answered with: a request that no mapping is eligible for is forwarded where a recording is on
-abbrev pub IsChoice : (RequestSpec → Request → Type 0) → Past → Request → ServeAnswer → Type 0
-IsChoice Meets past request (Stub captured) = IsChosen Meets past request captured.mapping
-IsChoice Meets past request (Proxy target) =
-    IsMissed Meets past request × ((on : Recording) × IsOn past on × (on.start.target ≡ target))
-IsChoice Meets past request Unmatched = IsMissed Meets past request × ¬ (IsRecording past)
+abbrev pub IsChoice : Past → Request → ServeAnswer → Type 0
+IsChoice past request (Stub captured) = IsChosen past request captured.mapping
+IsChoice past request (Proxy target) =
+    IsMissed past request × IsOnAnd (recording past) (λ session. session.target ≡ target)
+IsChoice past request Unmatched = IsMissed past request × ¬ (IsOn (recording past))

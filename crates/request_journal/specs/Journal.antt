@@ -1,16 +1,13 @@
 -- What the journal shows: the requests served since it was last cleared.
-use Rattle.std.specs.Prelude.{ℕ, ◌==◌, Bool, true, false, List, filter_map, reverse, Option, Some, None, option_map, find}
+use Rattle.std.specs.Prelude.{◌≡◌, ◌⊎◌, ℕ, ◌==◌, Bool, true, false, List, [], ◌∷◌, length, filter_map, reverse, Option}
+use Rattle.std.specs.Prelude.{Some, None, option_map, find}
 use Rattle.mock_request.specs.Request.{Request}
 use Rattle.request_journal.specs.Events.{after_last}
 use Rattle.request_journal.specs.Past.{Past, numbered_events}
+use Rattle.request_journal.specs.declared.entry.Entry.{Entry}
 use Rattle.request_journal.specs.declared.event.Event.{Event}
 use Rattle.request_journal.specs.declared.event.Event.TheVariants as event
 use Rattle.request_journal.specs.declared.event.ServeAnswer.TheVariants.{Unmatched}
-
--- a request, with the number of the event that served it
-pub record Entry : Type 0 where
-  pub number : ℕ
-  pub request : Request
 
 -- the event clears what the journal shows
 abbrev pub clears : Event → Bool
@@ -45,3 +42,13 @@ unmatched = visible unmatched_of
 -- the event of this number, where it is kept
 abbrev pub event_at : Past → ℕ → Option Event
 event_at past number = option_map (λ n. n.event) (find (λ n. n.number == number) (numbered_events past))
+
+-- the second list is the items of the first that the fact holds of, in their order
+abbrev pub Picks : {X : Type 0} → (X → Type 0) → List X → List X → Type 0
+Picks P [] ys = ys ≡ []
+Picks {X} P (x ∷ xs) ys =
+    ((rest : List X) × (ys ≡ x ∷ rest) × P x × Picks P xs rest) ⊎ (¬ (P x) × Picks P xs ys)
+
+-- as many items of the list as the fact holds of
+abbrev pub IsCount : {X : Type 0} → (X → Type 0) → List X → ℕ → Type 0
+IsCount {X} P xs count = (picked : List X) × Picks P xs picked × (count ≡ length picked)

@@ -6,3 +6,4 @@ pub mod Recording
 pub mod Journal
 pub mod Choice
 pub mod Legal
+pub mod Input

@@ -1,17 +1,17 @@
 -- The past of a book: the mappings that it was opened with, and the events since. Those before a checkpoint are
 -- dropped; a base says what they left.
-use Rattle.std.specs.Prelude.{ℕ, ◌+◌, Bool, List, [], ◌∷◌, ◌++◌, length, Option, None, unwrap_or, cond}
+use Rattle.std.specs.Prelude.{ℕ, ◌+◌, Bool, List, [], ◌∷◌, ◌++◌, length, unwrap_or, cond}
 use Rattle.std.specs.FinMap as map
 use Rattle.std.specs.List.{list_any}
 use Rattle.std.specs.Str.{bytes_eq}
 use Rattle.mapping_model.specs.MappingId.{default_id}
 use Rattle.mapping_model.specs.declared.mapping_spec.MappingSpec.{MappingSpec}
+use Rattle.recorder.specs.declared.recording.Recording.{Recording}
+use Rattle.recorder.specs.declared.recording.Recording.TheVariants.{NeverStarted}
 use Rattle.scenario_core.specs.Scenarios.{States}
 use Rattle.request_journal.specs.Events.{Numbered, numbered}
 use Rattle.request_journal.specs.declared.event.Event.{Event}
 use Rattle.request_journal.specs.declared.mapping.Mapping.{Mapping}
-use Rattle.request_journal.specs.declared.recording.Exchange.{Exchange}
-use Rattle.request_journal.specs.declared.recording.RecordingStart.{RecordingStart}
 
 -- where a mapping came into the book: the number of the event that added it (the opening number for the mappings
 -- of the opening), and its index among the mappings of that event
@@ -23,21 +23,13 @@ pub record Placed : Type 0 where
   pub place : Place
   pub mapping : Mapping
 
--- a recording: the number of the event that started it, how it was started, the exchanges that it has taken,
--- oldest first, and whether it is still on
-pub record Recording : Type 0 where
-  pub number : ℕ
-  pub start : RecordingStart
-  pub exchanges : List Exchange
-  pub is_on : Bool
-
 -- what the events up to a number left: the live mappings in order of their places, the states of scenarios, and
--- the last recording
+-- the recording that is on, or else the last one
 pub record Base : Type 0 where
   pub number : ℕ
   pub live : List Placed
   pub states : States
-  pub recording : Option Recording
+  pub recording : Recording
 
 -- `events` are those after the base, oldest first; the first of them has the number after the base's
 pub record Past : Type 0 where
@@ -66,7 +58,7 @@ defaults_from index (s ∷ ss) = record { id = unwrap_or s.id (default_id index)
 -- nothing has happened but the opening
 abbrev pub opening_base : ℕ → List Mapping → Base
 opening_base opening defaults =
-    record { number = opening; live = placed_from opening 0 defaults; states = map.empty; recording = None }
+    record { number = opening; live = placed_from opening 0 defaults; states = map.empty; recording = NeverStarted }
 
 -- the past of a book that was just opened with these documents
 abbrev pub opened : ℕ → List MappingSpec → Past

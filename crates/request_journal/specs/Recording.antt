@@ -1,52 +1,59 @@
 -- Which recording there is: the last that was started, with the exchanges that were recorded since.
-use Rattle.std.specs.Prelude.{◌≡◌, Bool, true, false, List, [], ◌++◌, filter_map, Option, Some, None, unwrap_or}
-use Rattle.std.specs.Prelude.{is_some, option_map}
-use Rattle.std.specs.Option.{option_or}
-use Rattle.request_journal.specs.Events.{Numbered, last_of, after_last}
-use Rattle.request_journal.specs.Past.{Past, Recording, numbered_events}
+use Rattle.std.specs.Prelude.{ℕ, Bool, true, false, List, [], ◌++◌, filter_map, Option, Some, None, unwrap_or, cond}
+use Rattle.std.specs.List.{list_any}
+use Rattle.recorder.specs.declared.exchange.Exchange.{Exchange}
+use Rattle.recorder.specs.declared.recording.Recording.{Recording}
+use Rattle.recorder.specs.declared.recording.Recording.TheVariants.{NeverStarted, On, Stopped}
+use Rattle.recorder.specs.declared.recording.Session.{Session}
+use Rattle.request_journal.specs.Events.{last_of, after_last}
+use Rattle.request_journal.specs.Past.{Past, numbered_events}
 use Rattle.request_journal.specs.declared.event.Event.{Event}
 use Rattle.request_journal.specs.declared.event.Event.TheVariants as event
-use Rattle.request_journal.specs.declared.recording.Exchange.{Exchange}
-use Rattle.request_journal.specs.declared.recording.RecordingStart.{RecordingStart}
 
-abbrev pub start_of : Event → Option RecordingStart
-start_of (event.StartRecording start) = Some start
-start_of other = None
+-- the recording that the event of this number starts
+abbrev pub started_by : ℕ → Event → Option Recording
+started_by number (event.StartRecording target captured repeats) = Some (On (record {
+  start = number;
+  target = target;
+  captured = captured;
+  repeats = repeats;
+  exchanges = [];
+}))
+started_by number other = None
+
+abbrev pub starts : Event → Bool
+starts (event.StartRecording target captured repeats) = true
+starts other = false
+
+abbrev pub stops : Event → Bool
+stops (event.StopRecording mappings skipped) = true
+stops other = false
 
 -- the exchange that the event records
 abbrev pub exchange_of : Event → Option Exchange
 exchange_of (event.Record serve exchange) = Some exchange
 exchange_of other = None
 
--- whether a recording is on after the event, if the event starts or stops one
-abbrev pub switch : Event → Option Bool
-switch (event.StartRecording start) = Some true
-switch (event.StopRecording mappings skipped) = Some false
-switch other = None
-
--- the recording that the event starts
-abbrev pub started_by : Numbered → Option Recording
-started_by numbered =
-    option_map (λ start. record { number = numbered.number; start = start; exchanges = []; is_on = true })
-    (start_of numbered.event)
-
--- a recording after these events, of which the last start, if there is one, started it
-abbrev pub continued : List Event → Recording → Recording
-continued events recording = record recording {
-  exchanges = recording.exchanges ++ filter_map exchange_of (after_last (λ e. is_some (start_of e)) events);
-  is_on = unwrap_or (last_of switch events) recording.is_on;
+-- the session, with these exchanges after those that it has
+abbrev pub with_exchanges : Session → List Exchange → Session
+with_exchanges session exchanges = record {
+  start = session.start;
+  target = session.target;
+  captured = session.captured;
+  repeats = session.repeats;
+  exchanges = session.exchanges ++ exchanges;
 }
 
--- the last recording, on or stopped
-abbrev pub recording : Past → Option Recording
+-- a recording after events that start no other one
+abbrev pub continued : List Event → Recording → Recording
+continued events NeverStarted = NeverStarted
+continued events (On session) =
+    let longer : Session = with_exchanges session (filter_map exchange_of events) in
+    cond (list_any stops events) (Stopped longer) (On longer)
+continued events (Stopped session) = Stopped (with_exchanges session (filter_map exchange_of events))
+
+-- the recording that the last start began, or else the base's, after the events since
+abbrev pub recording : Past → Recording
 recording past =
-    option_map (continued past.events) (option_or (last_of started_by (numbered_events past)) past.base.recording)
-
--- this recording is on
-pub record IsOn (past : Past) (on : Recording) : Type 0 where
-  pub last : recording past ≡ Some on
-  pub not_stopped : on.is_on ≡ true
-
--- a recording is on
-abbrev pub IsRecording : Past → Type 0
-IsRecording past = (on : Recording) × IsOn past on
+    continued (after_last starts past.events)
+    (unwrap_or (last_of (λ n. started_by n.number n.event) (numbered_events past)) past.base.recording)

@@ -1,13 +1,15 @@
 // What happens to a book.
-ghost use Rattle.std.specs.Prelude.{◌≡◌, IfOk};
+ghost use Rattle.std.specs.Prelude.{◌≡◌, ◌↔◌, IfOk, IsTrue};
 
 use crate::mapping::Mapping;
-use crate::recording::{RecordingStart, SharedExchange, Target};
-use crate::shared::{SharedRequest, SharedSpec};
+use crate::shared_request::SharedRequest;
 use mapping_model::mapping_id::MappingId;
 use plain_text::items::Items;
-use plain_text::plain::TryClone;
+use plain_text::plain::{Same, TryClone};
 use plain_text::text::Text;
+use recorder::exchange::SharedExchange;
+use recorder::target::Target;
+use request_match::shared_spec::SharedSpec;
 use std::alloc::AllocError;
 
 /// The mapping that was chosen for a request, as it was then. Its version of the response is shared.
@@ -23,6 +25,12 @@ impl Captured {
         Ok(Captured {
             mapping: self.mapping.try_clone()?,
         })
+    }
+
+    pub fn same(&self, other: &Captured) -> bool
+        ensures { IsTrue result ↔ (self.now ≡ other.now) }
+    {
+        self.mapping.same(&other.mapping)
     }
 }
 
@@ -44,6 +52,17 @@ impl ServeAnswer {
             ServeAnswer::Proxy(target) => ServeAnswer::Proxy(target.try_clone()?),
             ServeAnswer::Unmatched => ServeAnswer::Unmatched,
         })
+    }
+
+    pub fn same(&self, other: &ServeAnswer) -> bool
+        ensures { IsTrue result ↔ (self.now ≡ other.now) }
+    {
+        match (self, other) {
+            (ServeAnswer::Stub(a), ServeAnswer::Stub(b)) => a.same(b),
+            (ServeAnswer::Proxy(a), ServeAnswer::Proxy(b)) => a.same(b),
+            (ServeAnswer::Unmatched, ServeAnswer::Unmatched) => true,
+            _ => false,
+        }
     }
 }
 
@@ -72,7 +91,13 @@ pub enum Event {
         state: Text,
     },
     ClearJournal,
-    StartRecording(RecordingStart),
+    StartRecording {
+        target: Target,
+        /// The names, in lower case, of the request headers that recorded mappings match.
+        captured: Items<Text>,
+        /// Whether equal requests become a scenario.
+        repeats: bool,
+    },
     /// The exchange of the serve with this number.
     Record {
         serve: u64,
@@ -86,6 +111,39 @@ pub enum Event {
 }
 
 impl Event {
+    ghost use Rattle.std.specs.Prelude.{option_copied};
+    ghost use Rattle.request_journal.specs.Journal.{clears, request_of, unmatched_of};
+
+    /// Whether it clears what the journal shows.
+    pub fn clears(&self) -> bool
+        ensures { result ≡ clears self.now }
+    {
+        matches!(self, Event::ClearJournal | Event::ResetAll)
+    }
+
+    /// The request that it served.
+    pub fn request(&self) -> Option<&SharedRequest>
+        ensures { option_copied result ≡ request_of self.now }
+    {
+        match self {
+            Event::Serve { request, .. } => Some(request),
+            _ => None,
+        }
+    }
+
+    /// The request that it served unmatched.
+    pub fn unmatched(&self) -> Option<&SharedRequest>
+        ensures { option_copied result ≡ unmatched_of self.now }
+    {
+        match self {
+            Event::Serve { request, answer } => match answer {
+                ServeAnswer::Unmatched => Some(request),
+                _ => None,
+            },
+            _ => None,
+        }
+    }
+
     /// Shares requests, mappings and exchanges.
     pub fn try_clone(&self) -> Result<Event, AllocError>
         ensures { IfOk result (λ copy. copy ≡ self.now) }
@@ -110,7 +168,15 @@ impl Event {
                 state: state.try_clone()?,
             },
             Event::ClearJournal => Event::ClearJournal,
-            Event::StartRecording(start) => Event::StartRecording(start.try_clone()?),
+            Event::StartRecording {
+                target,
+                captured,
+                repeats,
+            } => Event::StartRecording {
+                target: target.try_clone()?,
+                captured: captured.try_clone()?,
+                repeats: *repeats,
+            },
             Event::Record { serve, exchange } => Event::Record {
                 serve: *serve,
                 exchange: exchange.try_clone()?,
@@ -120,5 +186,76 @@ impl Event {
                 skipped: *skipped,
             },
         })
+    }
+
+    pub fn same(&self, other: &Event) -> bool
+        ensures { IsTrue result ↔ (self.now ≡ other.now) }
+    {
+        match self {
+            Event::Serve { request, answer } => match other {
+                Event::Serve {
+                    request: other_request,
+                    answer: other_answer,
+                } => request.same(other_request) && answer.same(other_answer),
+                _ => false,
+            },
+            Event::Add(mapping) => match other {
+                Event::Add(other) => mapping.same(other),
+                _ => false,
+            },
+            Event::Edit { id, spec } => match other {
+                Event::Edit {
+                    id: other_id,
+                    spec: other_spec,
+                } => id.same(*other_id) && spec.same(other_spec),
+                _ => false,
+            },
+            Event::Delete(id) => match other {
+                Event::Delete(other) => id.same(*other),
+                _ => false,
+            },
+            Event::DeleteAll => matches!(other, Event::DeleteAll),
+            Event::ResetMappings => matches!(other, Event::ResetMappings),
+            Event::ResetAll => matches!(other, Event::ResetAll),
+            Event::ResetScenarios => matches!(other, Event::ResetScenarios),
+            Event::SetScenario { name, state } => match other {
+                Event::SetScenario {
+                    name: other_name,
+                    state: other_state,
+                } => name.same(other_name) && state.same(other_state),
+                _ => false,
+            },
+            Event::ClearJournal => matches!(other, Event::ClearJournal),
+            Event::StartRecording {
+                target,
+                captured,
+                repeats,
+            } => match other {
+                Event::StartRecording {
+                    target: other_target,
+                    captured: other_captured,
+                    repeats: other_repeats,
+                } => {
+                    target.same(other_target)
+                        && captured.same(other_captured)
+                        && repeats == other_repeats
+                }
+                _ => false,
+            },
+            Event::Record { serve, exchange } => match other {
+                Event::Record {
+                    serve: other_serve,
+                    exchange: other_exchange,
+                } => serve == other_serve && exchange.same(other_exchange),
+                _ => false,
+            },
+            Event::StopRecording { mappings, skipped } => match other {
+                Event::StopRecording {
+                    mappings: other_mappings,
+                    skipped: other_skipped,
+                } => mappings.same(other_mappings) && skipped == other_skipped,
+                _ => false,
+            },
+        }
     }
 }

@@ -1,9 +1,9 @@
 // A mapping of the book.
 ghost use Rattle.std.specs.Prelude.{◌≡◌, ◌↔◌, IfOk, IsTrue};
 
-use crate::shared::SharedSpec;
 use mapping_model::mapping_id::MappingId;
 use plain_text::plain::{Same, TryClone};
+use request_match::shared_spec::SharedSpec;
 use std::alloc::AllocError;
 
 /// A mapping as it was written, under the id that the book knows it by. The id in `spec` is the one that the document

@@ -1,4 +1,4 @@
--- Which fault of a whole matcher the fault of one of its parts is.
+-- Which error of a whole matcher the error of one of its parts is.
 use Rattle.std.proofs.Common.{◌≡◌, ℕ, List, [], ◌∷◌, ◌++◌, All, Any, None, Some, Result, Ok, Err, IfErr, arith, refl, sym, subst, inl, inr}
 use Rattle.std.specs.Result.{IsErrAnd}
 use Rattle.std.proofs.lemmas.List.Elements.{All-append, All-cons, All-nil}
@@ -15,9 +15,9 @@ use Rattle.mapping_model.specs.declared.body_pattern.BodyPattern.TheVariants as 
 use Rattle.mapping_model.specs.declared.request_spec.RequestSpec.{RequestSpec}
 use Rattle.request_match.proofs.AnyLemmas.{any_here, any_left, any_right}
 use Rattle.request_match.specs.Errors.{error_of_json, error_of_path, error_of_value}
-use Rattle.request_match.specs.Inner.Faults.{IsFirstFault}
-use Rattle.request_match.specs.Inner.Heads.{IsUrlFault}
-use Rattle.request_match.specs.Refusal.{HasTemplate, HasTree, IsBodyFault, IsFault, CanBeBuilt, head_matchers, matchers_of, url_matchers}
+use Rattle.request_match.specs.Inner.FirstError.{IsFirstError}
+use Rattle.request_match.specs.Inner.Heads.{IsUrlRefusal}
+use Rattle.request_match.specs.Refusal.{HasTemplate, HasTree, IsBodyRefusal, IsRefusal, CanBeBuilt, head_matchers, matchers_of, url_matchers}
 use Rattle.request_match.specs.declared.error.RequestMatchError.{RequestMatchError}
 use Rattle.request_match.specs.declared.error.RequestMatchError.TheVariants.{BadUrl, BadPattern, NotJson}
 use Rattle.request_match.specs.declared.error.RequestMatchError.TheVariants.{NumberNotWhole, BadPath, OutOfMemory}
@@ -33,10 +33,10 @@ err_is (Err e) x P h p = subst P (sym h) p
 
 -- ---- of one body matcher
 
-pub json_fault : (spec : JsonSpec) (e : JsonMatchError) → (e ≡ json.NotJson → IsNotJson spec) →
+pub json_error : (spec : JsonSpec) (e : JsonMatchError) → (e ≡ json.NotJson → IsNotJson spec) →
     (e ≡ json.NumberNotWhole → HasNumberNotWhole spec) → (e ≡ json.BadPath → HasBadPath spec) →
-    IsFirstFault (Some (error_of_json e)) (body.Json spec ∷ [])
-json_fault (EqualTo text order more) json.NotJson a b p = record {
+    IsFirstError (Some (error_of_json e)) (body.Json spec ∷ [])
+json_error (EqualTo text order more) json.NotJson a b p = record {
   passed = record {
     patterns_are = λ lt. All-nil HasPattern;
     json = λ lt. absurd (omega arith);
@@ -45,8 +45,8 @@ json_fault (EqualTo text order more) json.NotJson a b p = record {
   };
   failed = any_here (λ t. ¬ (IsJson t)) text [] (a refl);
 }
-json_fault (Path text) json.NotJson a b p = absurd (a refl)
-json_fault (EqualTo text order more) json.NumberNotWhole a b p = record {
+json_error (Path text) json.NotJson a b p = absurd (a refl)
+json_error (EqualTo text order more) json.NumberNotWhole a b p = record {
   passed = record {
     patterns_are = λ lt. All-nil HasPattern;
     json = λ lt. All-cons IsJson text [] (b refl).0 (All-nil IsJson);
@@ -55,9 +55,9 @@ json_fault (EqualTo text order more) json.NumberNotWhole a b p = record {
   };
   failed = any_here (λ t. tree_of_text t ≡ None) text [] (b refl).1;
 }
-json_fault (Path text) json.NumberNotWhole a b p = absurd (b refl)
-json_fault (EqualTo text order more) json.BadPath a b p = absurd (p refl)
-json_fault (Path text) json.BadPath a b p = record {
+json_error (Path text) json.NumberNotWhole a b p = absurd (b refl)
+json_error (EqualTo text order more) json.BadPath a b p = absurd (p refl)
+json_error (Path text) json.BadPath a b p = record {
   passed = record {
     patterns_are = λ lt. All-nil HasPattern;
     json = λ lt. All-nil IsJson;
@@ -66,7 +66,7 @@ json_fault (Path text) json.BadPath a b p = record {
   };
   failed = any_here (λ t. ¬ (IsPath t)) text [] (p refl);
 }
-json_fault spec json.OutOfMemory a b p = record {
+json_error spec json.OutOfMemory a b p = record {
   passed = record {
     patterns_are = λ lt. absurd (omega arith);
     json = λ lt. absurd (omega arith);
@@ -76,10 +76,10 @@ json_fault spec json.OutOfMemory a b p = record {
   failed = tt;
 }
 
-pub path_fault : (expression : List ℕ) (matcher : ValueSpec) (e : JsonPathError) → HasPattern matcher →
+pub path_error : (expression : List ℕ) (matcher : ValueSpec) (e : JsonPathError) → HasPattern matcher →
     (e ≡ path.BadPath → ¬ (IsPath expression)) →
-    IsFirstFault (Some (error_of_path e)) (body.JsonPath expression matcher ∷ [])
-path_fault expression matcher path.BadPath h p = record {
+    IsFirstError (Some (error_of_path e)) (body.JsonPath expression matcher ∷ [])
+path_error expression matcher path.BadPath h p = record {
   passed = record {
     patterns_are = λ lt. All-cons HasPattern matcher [] h (All-nil HasPattern);
     json = λ lt. All-nil IsJson;
@@ -88,7 +88,7 @@ path_fault expression matcher path.BadPath h p = record {
   };
   failed = any_here (λ t. ¬ (IsPath t)) expression [] (p refl);
 }
-path_fault expression matcher path.OutOfMemory h p = record {
+path_error expression matcher path.OutOfMemory h p = record {
   passed = record {
     patterns_are = λ lt. absurd (omega arith);
     json = λ lt. absurd (omega arith);
@@ -100,9 +100,9 @@ path_fault expression matcher path.OutOfMemory h p = record {
 
 -- ---- of the whole matcher
 
-pub url_fault : (spec : RequestSpec) (e : RequestMatchError) → IsUrlFault spec.url e → IsFault spec e
-url_fault spec BadUrl f = f
-url_fault spec BadPattern f =
+pub url_error : (spec : RequestSpec) (e : RequestMatchError) → IsUrlRefusal spec.url e → IsRefusal spec e
+url_error spec BadUrl f = f
+url_error spec BadPattern f =
     let urls = url_matchers spec.url in
     let headers = matchers_of spec.headers in
     let query = matchers_of spec.query in (
@@ -110,15 +110,15 @@ url_fault spec BadPattern f =
       inl (any_left MayBeRefused (urls ++ headers ++ query) _
           (any_left MayBeRefused (urls ++ headers) _ (any_left MayBeRefused urls _ f.1))),
     )
-url_fault spec NotJson f = absurd f
-url_fault spec NumberNotWhole f = absurd f
-url_fault spec BadPath f = absurd f
-url_fault spec OutOfMemory f = f
+url_error spec NotJson f = absurd f
+url_error spec NumberNotWhole f = absurd f
+url_error spec BadPath f = absurd f
+url_error spec OutOfMemory f = f
 
-pub head_fault : (spec : RequestSpec) (e : ValueError) → HasTemplate spec.url →
-    (e ≡ value.BadPattern → Any MayBeRefused (head_matchers spec)) → IsFault spec (error_of_value e)
-head_fault spec value.BadPattern t f = (t, inl (f refl))
-head_fault spec value.OutOfMemory t f = tt
+pub head_error : (spec : RequestSpec) (e : ValueError) → HasTemplate spec.url →
+    (e ≡ value.BadPattern → Any MayBeRefused (head_matchers spec)) → IsRefusal spec (error_of_value e)
+head_error spec value.BadPattern t f = (t, inl (f refl))
+head_error spec value.OutOfMemory t f = tt
 
 module _ (spec : RequestSpec) where
   pub in_headers : Any MayBeRefused (matchers_of spec.headers) → Any MayBeRefused (head_matchers spec)
@@ -146,17 +146,17 @@ module _ (spec : RequestSpec) where
   head_patterns u h q k =
       All-append HasPattern _ _ (All-append HasPattern _ _ (All-append HasPattern _ _ u h) q) k
 
-pub body_is_fault : (spec : RequestSpec) (e : RequestMatchError) → HasTemplate spec.url →
-    All HasPattern (head_matchers spec) → IsBodyFault spec.body e → IsFault spec e
-body_is_fault spec BadUrl t h f = absurd f
-body_is_fault spec BadPattern t h f = (t, inr f)
-body_is_fault spec NotJson t h f = (t, h, f)
-body_is_fault spec NumberNotWhole t h f = (t, h, f)
-body_is_fault spec BadPath t h f = (t, h, f)
-body_is_fault spec OutOfMemory t h f = f
+pub body_is_error : (spec : RequestSpec) (e : RequestMatchError) → HasTemplate spec.url →
+    All HasPattern (head_matchers spec) → IsBodyRefusal spec.body e → IsRefusal spec e
+body_is_error spec BadUrl t h f = absurd f
+body_is_error spec BadPattern t h f = (t, inr f)
+body_is_error spec NotJson t h f = (t, h, f)
+body_is_error spec NumberNotWhole t h f = (t, h, f)
+body_is_error spec BadPath t h f = (t, h, f)
+body_is_error spec OutOfMemory t h f = f
 
 pub can_be_built : (spec : RequestSpec) → HasTemplate spec.url → All HasPattern (head_matchers spec) →
-    IsFirstFault None spec.body → CanBeBuilt spec
+    IsFirstError None spec.body → CanBeBuilt spec
 can_be_built spec t h f = record {
   template = t;
   head = h;

@@ -1,5 +1,5 @@
 pub mod AnyLemmas
-pub mod FaultLemmas
+pub mod ErrorLemmas
 pub mod BuildLemmas
 pub mod ReadLemmas
 pub mod RestLemmas

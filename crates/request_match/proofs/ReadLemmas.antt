@@ -28,9 +28,9 @@ was_read P body kept found r read is h =
 pub at_path : (expression : List ℕ) (steps : List Step) (m : ValueSpec) (tree : Tree) → SpellsPath expression steps →
     Matches m (found_text (at steps tree)) ↔ MeetsAtPath expression m tree
 at_path expression steps m tree spelled = (
-  λ h. record { steps = steps; spelled = spelled; met = h },
-  λ meets. subst (λ s. Matches m (found_text (at s tree))) (one_path expression meets.steps steps meets.spelled spelled)
-      meets.met,
+  λ h. record { steps = steps; spelled = spelled; meets = h },
+  λ there. subst (λ s. Matches m (found_text (at s tree))) (one_path expression there.steps steps there.spelled spelled)
+      there.meets,
 )
 
 if_some : {X : Type 0} (P Q : X → Type 0) (o : Option X) → ((x : X) → P x ↔ Q x) → IsSomeAnd o P ↔ IsSomeAnd o Q

@@ -18,10 +18,10 @@ use Rattle.value_match.specs.Matching.{Matches, MatchesValue}
 use Rattle.value_match.specs.declared.value_spec.ValueSpec.{ValueSpec}
 
 -- the next value meets the matcher
-pub met : (found : Bool) (m : ValueSpec) (v : List ℕ) (vs : List (List ℕ)) → MatchesValue m v →
+pub next_meets : (found : Bool) (m : ValueSpec) (v : List ℕ) (vs : List (List ℕ)) → MatchesValue m v →
     MeetsRest found m (v ∷ vs)
-met true m v vs p = any_here (MatchesValue m) v vs p
-met false m v vs p = any_here (MatchesValue m) v vs p
+next_meets true m v vs p = any_here (MatchesValue m) v vs p
+next_meets false m v vs p = any_here (MatchesValue m) v vs p
 
 not_here : (m : ValueSpec) (v : List ℕ) (vs : List (List ℕ)) → ¬ (MatchesValue m v) →
     Any (MatchesValue m) (v ∷ vs) ↔ Any (MatchesValue m) vs
@@ -31,10 +31,10 @@ not_here m v vs refuted = (
 )
 
 -- it doesn't
-pub not_met : (found : Bool) (m : ValueSpec) (v : List ℕ) (vs : List (List ℕ)) → ¬ (MatchesValue m v) →
+pub next_fails : (found : Bool) (m : ValueSpec) (v : List ℕ) (vs : List (List ℕ)) → ¬ (MatchesValue m v) →
     MeetsRest found m (v ∷ vs) ↔ MeetsRest true m vs
-not_met true m v vs refuted = not_here m v vs refuted
-not_met false m v vs refuted = not_here m v vs refuted
+next_fails true m v vs refuted = not_here m v vs refuted
+next_fails false m v vs refuted = not_here m v vs refuted
 
 -- ---- the pairs that are left
 
@@ -84,13 +84,13 @@ module _ (m : ValueSpec) (name : List ℕ) (pairs : List (List ℕ × List ℕ))
   pub step_found : (found : Bool) → bytes_eq name pair.0 ≡ true → MatchesValue m pair.1 →
       MeetsRest found m (values_of name (drop i pairs))
   step_found found named h =
-      subst (MeetsRest found m) (sym (next_named named)) (met found m pair.1 (values_of name (drop (i + 1) pairs)) h)
+      subst (MeetsRest found m) (sym (next_named named)) (next_meets found m pair.1 (values_of name (drop (i + 1) pairs)) h)
 
   pub step_unmet : (found : Bool) → bytes_eq name pair.0 ≡ true → ¬ (MatchesValue m pair.1) →
       MeetsRest found m (values_of name (drop i pairs)) ↔ MeetsRest true m (values_of name (drop (i + 1) pairs))
   step_unmet found named refuted =
       subst (λ vs. MeetsRest found m vs ↔ MeetsRest true m (values_of name (drop (i + 1) pairs)))
-      (sym (next_named named)) (not_met found m pair.1 (values_of name (drop (i + 1) pairs)) refuted)
+      (sym (next_named named)) (next_fails found m pair.1 (values_of name (drop (i + 1) pairs)) refuted)
 
   pub step_other : (found : Bool) → bytes_eq name pair.0 ≡ false →
       MeetsRest found m (values_of name (drop i pairs)) ↔ MeetsRest found m (values_of name (drop (i + 1) pairs))

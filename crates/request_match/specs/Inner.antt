@@ -1,5 +1,5 @@
 pub mod Read
 pub mod Rest
 pub mod Kept
-pub mod Faults
+pub mod FirstError
 pub mod Heads

@@ -65,7 +65,7 @@ found_text tree = Some (print tree)
 pub record MeetsAtPath (expression : List ℕ) (matcher : ValueSpec) (tree : Tree) : Type 0 where
   pub steps : List Step
   pub spelled : SpellsPath expression steps
-  pub met : Matches matcher (found_text (at steps tree))
+  pub meets : Matches matcher (found_text (at steps tree))
 
 -- a body is always one value, its text; where that is empty, it is also as good as none
 abbrev pub MeetsText : ValueSpec → List ℕ → Type 0

@@ -1,5 +1,6 @@
--- Which matchers can't be built, and why: the reasons in the order in which they are reported, each over the whole
--- matcher.
+-- Which matchers may be refused, and with which error: the errors in the order in which they are reported, each over the
+-- whole matcher. All but two come only where the matcher has what they say. Out of memory may come at any time, and a bad
+-- pattern where there is a pattern at all: no contract of `regex` says which are too big.
 use Rattle.std.specs.Prelude.{◌≡◌, ◌⊎◌, ℕ, List, [], ◌∷◌, ◌++◌, All, Any, map, Option, None, Some, IsSome}
 use Rattle.std.specs.List.{filter_map}
 use Rattle.json_bridge.specs.Path.{IsPath}
@@ -83,29 +84,29 @@ HaveTrees patterns = All HasTree (filter_map text_in patterns)
 abbrev pub HavePaths : List BodyPattern → Type 0
 HavePaths patterns = All IsPath (filter_map path_in patterns)
 
--- why body matchers can't be built
-abbrev pub IsBodyFault : List BodyPattern → RequestMatchError → Type 0
-IsBodyFault patterns BadUrl = ⊥
-IsBodyFault patterns BadPattern = Any MayBeRefused (filter_map matcher_in patterns)
-IsBodyFault patterns NotJson = HavePatterns patterns × Any (λ text. ¬ (IsJson text)) (filter_map text_in patterns)
-IsBodyFault patterns NumberNotWhole =
+-- body matchers may be refused with that error
+abbrev pub IsBodyRefusal : List BodyPattern → RequestMatchError → Type 0
+IsBodyRefusal patterns BadUrl = ⊥
+IsBodyRefusal patterns BadPattern = Any MayBeRefused (filter_map matcher_in patterns)
+IsBodyRefusal patterns NotJson = HavePatterns patterns × Any (λ text. ¬ (IsJson text)) (filter_map text_in patterns)
+IsBodyRefusal patterns NumberNotWhole =
     HavePatterns patterns × HaveJson patterns × Any (λ text. tree_of_text text ≡ None) (filter_map text_in patterns)
-IsBodyFault patterns BadPath =
+IsBodyRefusal patterns BadPath =
     HavePatterns patterns × HaveTrees patterns × Any (λ path. ¬ (IsPath path)) (filter_map path_in patterns)
-IsBodyFault patterns OutOfMemory = Unit {0}
+IsBodyRefusal patterns OutOfMemory = Unit {0}
 
--- why the matcher can't be built
-abbrev pub IsFault : RequestSpec → RequestMatchError → Type 0
-IsFault spec BadUrl = ¬ (HasTemplate spec.url)
-IsFault spec BadPattern =
-    HasTemplate spec.url × (Any MayBeRefused (head_matchers spec) ⊎ IsBodyFault spec.body BadPattern)
-IsFault spec NotJson = HasTemplate spec.url × All HasPattern (head_matchers spec) × IsBodyFault spec.body NotJson
-IsFault spec NumberNotWhole =
-    HasTemplate spec.url × All HasPattern (head_matchers spec) × IsBodyFault spec.body NumberNotWhole
-IsFault spec BadPath = HasTemplate spec.url × All HasPattern (head_matchers spec) × IsBodyFault spec.body BadPath
-IsFault spec OutOfMemory = Unit {0}
+-- the matcher may be refused with that error
+abbrev pub IsRefusal : RequestSpec → RequestMatchError → Type 0
+IsRefusal spec BadUrl = ¬ (HasTemplate spec.url)
+IsRefusal spec BadPattern =
+    HasTemplate spec.url × (Any MayBeRefused (head_matchers spec) ⊎ IsBodyRefusal spec.body BadPattern)
+IsRefusal spec NotJson = HasTemplate spec.url × All HasPattern (head_matchers spec) × IsBodyRefusal spec.body NotJson
+IsRefusal spec NumberNotWhole =
+    HasTemplate spec.url × All HasPattern (head_matchers spec) × IsBodyRefusal spec.body NumberNotWhole
+IsRefusal spec BadPath = HasTemplate spec.url × All HasPattern (head_matchers spec) × IsBodyRefusal spec.body BadPath
+IsRefusal spec OutOfMemory = Unit {0}
 
--- none of these but for memory
+-- the matcher has no error that comes only where it says: so it is of each matcher that was built
 pub record CanBeBuilt (spec : RequestSpec) : Type 0 where
   pub template : HasTemplate spec.url
   pub head : All HasPattern (head_matchers spec)

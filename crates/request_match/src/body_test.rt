@@ -3,7 +3,7 @@ ghost use Rattle.std.specs.Prelude.{◌≡◌, ◌↔◌, ◌++◌, ◌∷◌, [
 ghost use Rattle.std.specs.Option.{option_map_or};
 ghost use Rattle.data_tree.specs.Tree.{view, nothing};
 ghost use Rattle.request_match.specs.Matching.{MeetsBody, MeetsText, found_text};
-ghost use Rattle.request_match.specs.Inner.Faults.{rank_of, IsFirstFault};
+ghost use Rattle.request_match.specs.Inner.FirstError.{rank_of, IsFirstError};
 ghost use Rattle.request_match.specs.Inner.Kept.{body_pattern_of, KeepsPath};
 ghost use Rattle.value_match.specs.Matching as value;
 
@@ -50,8 +50,8 @@ impl Model for BodyTest {
 impl BodyTest {
     fn build(alloc: Global, spec: &BodyPattern) -> Result<BodyTest, RequestMatchError>
         ensures ok { IfOk result (λ test. test ≡ spec.now) }
-        ensures usable { OnOk result (IsFirstFault None (spec.now ∷ [])) }
-        ensures fault { IfErr result (λ error. IsFirstFault (Some error) (spec.now ∷ [])) }
+        ensures usable { OnOk result (IsFirstError None (spec.now ∷ [])) }
+        ensures refusal { IfErr result (λ error. IsFirstError (Some error) (spec.now ∷ [])) }
     {
         Ok(BodyTest {
             kind: kind_of(alloc, spec)?,
@@ -86,8 +86,8 @@ fn meets_kind(kind: &mut BodyKind, request: &mut ParsedRequest<'_>) -> Result<bo
 
 fn kind_of(alloc: Global, spec: &BodyPattern) -> Result<BodyKind, RequestMatchError>
     ensures ok { IfOk result (λ kind. (body_pattern_of kind ≡ spec.now) × KeepsPath kind) }
-    ensures usable { OnOk result (IsFirstFault None (spec.now ∷ [])) }
-    ensures fault { IfErr result (λ error. IsFirstFault (Some error) (spec.now ∷ [])) }
+    ensures usable { OnOk result (IsFirstError None (spec.now ∷ [])) }
+    ensures refusal { IfErr result (λ error. IsFirstError (Some error) (spec.now ∷ [])) }
 {
     match spec {
         BodyPattern::Value(matcher) => Ok(BodyKind::Value(ValueMatcher::build(alloc, matcher)?)),
@@ -107,33 +107,33 @@ fn path_kind(
 ) -> Result<BodyKind, RequestMatchError>
     ensures ok { IfOk result (λ kind.
         (body_pattern_of kind ≡ BodyPattern.JsonPath expression.now matcher.now) × KeepsPath kind) }
-    ensures usable { OnOk result (IsFirstFault None (BodyPattern.JsonPath expression.now matcher.now ∷ [])) }
-    ensures fault { IfErr result (λ error.
-        IsFirstFault (Some error) (BodyPattern.JsonPath expression.now matcher.now ∷ [])) }
+    ensures usable { OnOk result (IsFirstError None (BodyPattern.JsonPath expression.now matcher.now ∷ [])) }
+    ensures refusal { IfErr result (λ error.
+        IsFirstError (Some error) (BodyPattern.JsonPath expression.now matcher.now ∷ [])) }
 {
     let matcher = ValueMatcher::build(alloc, matcher)?;
     let path = JsonPath::parse(alloc, expression.as_str())?;
     Ok(BodyKind::JsonPath(expression.try_clone()?, path, matcher))
 }
 
-/// Builds each. All of them are tried, so that of several faults the first in order is reported.
+/// Builds each. All of them are tried, so that of several errors the first in order is reported.
 pub(crate) fn build_body(
     alloc: Global,
     specs: &[BodyPattern],
 ) -> Result<Vec<BodyTest>, RequestMatchError>
     ensures ok { IfOk result (λ tests. tests.items ≡ specs.now) }
-    ensures usable { OnOk result (IsFirstFault None specs.now) }
-    ensures fault { IfErr result (λ error. IsFirstFault (Some error) specs.now) }
+    ensures usable { OnOk result (IsFirstError None specs.now) }
+    ensures refusal { IfErr result (λ error. IsFirstError (Some error) specs.now) }
 {
     let mut tests = Vec::with_capacity(alloc, specs.len())?;
-    let mut fault = None;
+    let mut first = None;
     for spec in specs {
         match BodyTest::build(alloc, spec) {
             Ok(test) => push(&mut tests, test)?,
-            Err(error) => fault = Some(first_fault(fault, error)),
+            Err(error) => first = Some(first_error(first, error)),
         }
     }
-    match fault {
+    match first {
         Some(error) => Err(error),
         None => Ok(tests),
     }
@@ -201,9 +201,9 @@ pub(crate) fn meets_found(
 }
 
 /// The one of the two that is reported.
-fn first_fault(known: Option<RequestMatchError>, error: RequestMatchError) -> RequestMatchError
-    ensures { (patterns more : List BodyPattern) → IsFirstFault known patterns → IsFirstFault (Some error) more
-        → IsFirstFault (Some result) (patterns ++ more) }
+fn first_error(known: Option<RequestMatchError>, error: RequestMatchError) -> RequestMatchError
+    ensures { (patterns more : List BodyPattern) → IsFirstError known patterns → IsFirstError (Some error) more
+        → IsFirstError (Some result) (patterns ++ more) }
 {
     match known {
         Some(known) if rank(known) <= rank(error) => known,
@@ -211,7 +211,7 @@ fn first_fault(known: Option<RequestMatchError>, error: RequestMatchError) -> Re
     }
 }
 
-/// Its index in the order in which faults are reported.
+/// Its index in the order in which errors are reported.
 fn rank(error: RequestMatchError) -> u8
     ensures { result ≡ rank_of error }
 {

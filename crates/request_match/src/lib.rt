@@ -1,6 +1,6 @@
 // Which requests does a mapping match? A `RequestMatcher` is built once from the matcher as it was written and answers
 // for any number of requests. Its contracts cite `specs/Matching.antt` (when a request meets a matcher),
-// `specs/Refusal.antt` (which matchers can't be built) and `specs/Literal.antt` (which requests a literal URL leaves).
+// `specs/Refusal.antt` (which matchers may be refused) and `specs/Literal.antt` (which requests a literal URL leaves).
 #![tactic(auto)]
 
 mod body_test;
@@ -10,4 +10,5 @@ mod named_test;
 pub mod parsed_request;
 pub mod ready_mapping;
 pub mod request_matcher;
+pub mod shared_spec;
 mod url_test;

@@ -183,7 +183,8 @@ fn is_lower_case_of(text: &str, name: &str) -> bool
         return false;
     }
     for i in 0..text.len() {
-        if name[i].to_ascii_lowercase() != text[i] {
+        let lower = name[i].to_ascii_lowercase();
+        if lower != text[i] {
             return false;
         }
     }

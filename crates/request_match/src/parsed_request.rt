@@ -6,6 +6,7 @@ ghost use Rattle.data_tree.specs.Tree.{view};
 ghost use Rattle.data_tree.specs.WellFormed.{IsWellFormed};
 ghost use Rattle.json_bridge.specs.Reading.{tree_of_text};
 ghost use Rattle.json_match.specs.Matching as json;
+ghost use Rattle.mock_request.specs.Url.{path_of};
 ghost use Rattle.request_match.specs.Inner.Read.{IsReadOf};
 ghost use Rattle.request_match.specs.Matching.{found_text};
 ghost use Rattle.value_match.specs.Matching as value;
@@ -21,11 +22,14 @@ use std::alloc::{AllocError, Global};
 use std::marker::Model;
 use value_match::value_matcher::ValueMatcher;
 
-/// The values of a request and the JSON of its body, made once for all mappings that it is compared with. Contracts see
-/// the request alone.
+/// The method, URL, path and values of a request and the JSON of its body, made once for all mappings that it is compared
+/// with. Contracts see the request alone.
 #[derive(Drop)]
 pub struct ParsedRequest<'a> {
     values: RequestValues<'a>,
+    method: &'a str,
+    url: &'a str,
+    path: &'a str,
     /// Read when the first matcher asks for it; `Some(None)`: the body isn't JSON.
     json: Option<Option<Data>>,
     alloc: Global,
@@ -33,14 +37,16 @@ pub struct ParsedRequest<'a> {
 
 impl<'a> Model for ParsedRequest<'a> {
     ghost use Rattle.mock_request.specs.Request.{Request};
+    ghost use Rattle.mock_request.specs.Url.{path_of};
     ghost use Rattle.request_match.specs.Inner.Read.{IsReadOf};
-    ghost use Rattle.std.specs.Prelude.{IfSome};
+    ghost use Rattle.std.specs.Prelude.{◌≡◌, IfSome};
 
     ghost Value = { Request };
 
     ghost view = { λ p. p.values };
 
-    ghost invariant = { λ p. IfSome p.json (IsReadOf p.values.body) };
+    ghost invariant = { λ p. (p.method.now ≡ p.values.method) × (p.url.now ≡ p.values.url)
+        × (p.path.now ≡ path_of p.values.url) × IfSome p.json (IsReadOf p.values.body) };
 }
 
 impl<'a> ParsedRequest<'a> {
@@ -50,6 +56,9 @@ impl<'a> ParsedRequest<'a> {
     {
         Ok(ParsedRequest {
             values: RequestValues::read(alloc, snapshot)?,
+            method: snapshot.method(),
+            url: snapshot.url(),
+            path: snapshot.path(),
             json: None,
             alloc,
         })
@@ -60,6 +69,26 @@ impl<'a> ParsedRequest<'a> {
         ensures { result.now ≡ self.now }
     {
         &self.values
+    }
+
+    pub fn method(&self) -> &'a str
+        ensures { result.now ≡ self.now.method }
+    {
+        self.method
+    }
+
+    /// The path and the query as they were received.
+    pub fn url(&self) -> &'a str
+        ensures { result.now ≡ self.now.url }
+    {
+        self.url
+    }
+
+    /// The URL up to the first `?`. It was looked for once.
+    pub fn path(&self) -> &'a str
+        ensures { result.now ≡ path_of self.now.url }
+    {
+        self.path
     }
 
     /// Whether the body is JSON that meets the matcher.

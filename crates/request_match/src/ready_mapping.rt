@@ -1,11 +1,12 @@
 // A mapping that is ready to be served.
 ghost use Rattle.std.specs.Prelude.{◌≡◌, ◌↔◌, IfOk, IfErr, OnOk, IsTrue};
 ghost use Rattle.request_match.specs.Matching.{MeetsRequest};
-ghost use Rattle.request_match.specs.Refusal.{CanBeBuilt, IsFault};
+ghost use Rattle.request_match.specs.Refusal.{CanBeBuilt, IsRefusal};
 
 use crate::error::RequestMatchError;
 use crate::parsed_request::ParsedRequest;
 use crate::request_matcher::RequestMatcher;
+use crate::shared_spec::SharedSpec;
 use mapping_model::mapping_spec::MappingSpec;
 use std::alloc::{AllocError, Global};
 use std::marker::Model;
@@ -13,7 +14,7 @@ use std::marker::Model;
 /// A mapping with the matcher built from it: contracts see the mapping.
 #[derive(Drop)]
 pub struct ReadyMapping {
-    spec: MappingSpec,
+    spec: SharedSpec,
     matcher: RequestMatcher,
 }
 
@@ -33,13 +34,21 @@ impl ReadyMapping {
     pub fn build(alloc: Global, spec: MappingSpec) -> Result<ReadyMapping, RequestMatchError>
         ensures ok { IfOk result (λ mapping. mapping ≡ spec) }
         ensures usable { OnOk result (CanBeBuilt spec.request) }
-        ensures fault { IfErr result (IsFault spec.request) }
+        ensures refusal { IfErr result (IsRefusal spec.request) }
     {
         let matcher = RequestMatcher::build(alloc, &spec.request)?;
+        let spec = SharedSpec::new(alloc, spec)?;
         Ok(ReadyMapping { spec, matcher })
     }
 
     pub fn spec(&self) -> &MappingSpec
+        ensures { result.now ≡ self.now }
+    {
+        self.spec.spec()
+    }
+
+    /// For those who keep the mapping: a copy shares it.
+    pub fn shared(&self) -> &SharedSpec
         ensures { result.now ≡ self.now }
     {
         &self.spec

@@ -4,7 +4,7 @@ ghost use Rattle.mock_request.specs.Request.{Request};
 ghost use Rattle.request_match.specs.Inner.Heads.{MeetsHead};
 ghost use Rattle.request_match.specs.Literal.{method_of, literal_url, text_of};
 ghost use Rattle.request_match.specs.Matching.{MeetsRequest, MeetsMethod};
-ghost use Rattle.request_match.specs.Refusal.{CanBeBuilt, IsFault};
+ghost use Rattle.request_match.specs.Refusal.{CanBeBuilt, IsRefusal};
 
 use crate::body_test::{BodyTest, build_body, meet_body};
 use crate::error::RequestMatchError;
@@ -13,7 +13,6 @@ use crate::named_test::{NamedTest, build_tests, meet_headers, meet_pairs};
 use crate::parsed_request::ParsedRequest;
 use crate::url_test::{UrlKind, UrlTest};
 use mapping_model::request_spec::RequestSpec;
-use mock_request::request_values::RequestValues;
 use plain_text::text::Text;
 use std::alloc::{AllocError, Global};
 use std::marker::Model;
@@ -50,7 +49,7 @@ impl RequestMatcher {
     pub fn build(alloc: Global, spec: &RequestSpec) -> Result<RequestMatcher, RequestMatchError>
         ensures ok { IfOk result (λ matcher. matcher ≡ spec.now) }
         ensures usable { OnOk result (CanBeBuilt spec.now) }
-        ensures fault { IfErr result (IsFault spec.now) }
+        ensures refusal { IfErr result (IsRefusal spec.now) }
     {
         Ok(RequestMatcher {
             method: match &spec.method {
@@ -72,31 +71,31 @@ impl RequestMatcher {
         ensures same { self.new ≡ self.old }
         ensures same_request { request.new ≡ request.old }
     {
-        if !self.meets_head(request.values())? {
+        if !self.meets_head(request)? {
             return Ok(false);
         }
         meet_body(self.body.as_mut_slice(), request)
     }
 
     /// Whether all but the body meets it, in the order of what the comparison costs.
-    fn meets_head(&mut self, request: &RequestValues<'_>) -> Result<bool, AllocError>
+    fn meets_head(&mut self, request: &ParsedRequest<'_>) -> Result<bool, AllocError>
         ensures answer { IfOk result (λ yes. IsTrue yes ↔ MeetsHead self.old request.now) }
         ensures same { self.new ≡ self.old }
     {
-        let snapshot = request.snapshot();
-        if !meets_method(&self.method, snapshot.method()) {
+        if !meets_method(&self.method, request.method()) {
             return Ok(false);
         }
-        if !self.url.meets(self.alloc, snapshot)? {
+        if !self.url.meets(self.alloc, request)? {
             return Ok(false);
         }
-        if !meet_headers(self.headers.as_mut_slice(), request)? {
+        let values = request.values();
+        if !meet_headers(self.headers.as_mut_slice(), values)? {
             return Ok(false);
         }
-        if !meet_pairs(self.query.as_mut_slice(), request.query())? {
+        if !meet_pairs(self.query.as_mut_slice(), values.query())? {
             return Ok(false);
         }
-        meet_pairs(self.cookies.as_mut_slice(), request.cookies())
+        meet_pairs(self.cookies.as_mut_slice(), values.cookies())
     }
 
     /// The literal URL that it asks for, if it does. Takes no memory.

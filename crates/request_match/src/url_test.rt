@@ -1,7 +1,7 @@
 // Does the URL of a request meet a URL matcher?
 ghost use Rattle.std.specs.Prelude.{◌≡◌, ◌↔◌, ◌∷◌, [], IfOk, IfErr, IsErrOf, IsSomeAnd, IsTrue, OnOk, All, Any};
 ghost use Rattle.path_template.specs.Matching.{bindings_of};
-ghost use Rattle.request_match.specs.Inner.Heads.{IsUrlFault};
+ghost use Rattle.request_match.specs.Inner.Heads.{IsUrlRefusal};
 ghost use Rattle.request_match.specs.Matching.{MeetsUrl, MeetPairs};
 ghost use Rattle.request_match.specs.Refusal.{HasTemplate, matchers_of, url_matchers};
 ghost use Rattle.path_template.specs.Template.{IsTemplate};
@@ -10,9 +10,9 @@ ghost use Rattle.value_match.specs.Refusal.{HasPattern, MayBeRefused};
 
 use crate::error::RequestMatchError;
 use crate::named_test::{NamedTest, build_tests, meet_pairs};
+use crate::parsed_request::ParsedRequest;
 use mapping_model::named_matcher::NamedMatcher;
 use mapping_model::url_spec::UrlSpec;
-use mock_request::snapshot::Snapshot;
 use path_template::path_template::PathTemplate;
 use plain_text::text::Text;
 use std::alloc::{AllocError, Global};
@@ -27,14 +27,15 @@ pub(crate) struct UrlTest {
     pub(crate) kind: UrlKind,
 }
 
+/// Boxed where it is large: thousands of matchers are tried in turn, most of them for a literal URL.
 #[derive(Drop)]
 pub(crate) enum UrlKind {
     Any,
     Url(Text),
     /// A pattern and the matcher of it.
-    UrlPattern(Text, ValueMatcher),
+    UrlPattern(Text, Box<ValueMatcher>),
     UrlPath(Text),
-    UrlPathPattern(Text, ValueMatcher),
+    UrlPathPattern(Text, Box<ValueMatcher>),
     UrlPathTemplate(PathTemplate, Vec<NamedTest>),
 }
 
@@ -54,7 +55,7 @@ impl UrlTest {
         ensures ok { IfOk result (λ test. test ≡ spec.now) }
         ensures template { OnOk result (HasTemplate spec.now) }
         ensures patterns { OnOk result (All HasPattern (url_matchers spec.now)) }
-        ensures fault { IfErr result (IsUrlFault spec.now) }
+        ensures refusal { IfErr result (IsUrlRefusal spec.now) }
     {
         Ok(UrlTest {
             kind: kind_of(alloc, spec)?,
@@ -62,7 +63,11 @@ impl UrlTest {
     }
 
     /// Whether the request's URL meets it.
-    pub(crate) fn meets(&mut self, alloc: Global, request: &Snapshot) -> Result<bool, AllocError>
+    pub(crate) fn meets(
+        &mut self,
+        alloc: Global,
+        request: &ParsedRequest<'_>,
+    ) -> Result<bool, AllocError>
         ensures answer { IfOk result (λ yes. IsTrue yes ↔ MeetsUrl self.old request.now.url) }
         ensures same { self.new ≡ self.old }
     {
@@ -70,7 +75,11 @@ impl UrlTest {
     }
 }
 
-fn meets_kind(kind: &mut UrlKind, alloc: Global, request: &Snapshot) -> Result<bool, AllocError>
+fn meets_kind(
+    kind: &mut UrlKind,
+    alloc: Global,
+    request: &ParsedRequest<'_>,
+) -> Result<bool, AllocError>
     requires { KeepsPattern kind.old }
     ensures answer { IfOk result (λ yes. IsTrue yes ↔ MeetsUrl (url_spec_of kind.old) request.now.url) }
     ensures same { url_spec_of kind.new ≡ url_spec_of kind.old }
@@ -92,7 +101,7 @@ fn kind_of(alloc: Global, spec: &UrlSpec) -> Result<UrlKind, RequestMatchError>
     ensures ok { IfOk result (λ kind. (url_spec_of kind ≡ spec.now) × KeepsPattern kind) }
     ensures template { OnOk result (HasTemplate spec.now) }
     ensures patterns { OnOk result (All HasPattern (url_matchers spec.now)) }
-    ensures fault { IfErr result (IsUrlFault spec.now) }
+    ensures refusal { IfErr result (IsUrlRefusal spec.now) }
 {
     match spec {
         UrlSpec::Any => Ok(UrlKind::Any),
@@ -122,20 +131,27 @@ fn template_kind(
         (url_spec_of kind ≡ UrlSpec.UrlPathTemplate template.now parameters.now) × KeepsPattern kind) }
     ensures template { OnOk result (IsTemplate template.now) }
     ensures patterns { OnOk result (All HasPattern (matchers_of parameters.now)) }
-    ensures fault { IfErr result (IsUrlFault (UrlSpec.UrlPathTemplate template.now parameters.now)) }
+    ensures refusal { IfErr result (IsUrlRefusal (UrlSpec.UrlPathTemplate template.now parameters.now)) }
 {
     let template = PathTemplate::parse(alloc, template)?;
     Ok(UrlKind::UrlPathTemplate(template, build_tests(alloc, parameters)?))
 }
 
 /// The matcher of a pattern.
-fn pattern_of(alloc: Global, text: &Text) -> Result<ValueMatcher, ValueError>
-    ensures ok { IfOk result (λ matcher. matcher ≡ ValueSpec.Matches text.now) }
+fn pattern_of(alloc: Global, text: &Text) -> Result<Box<ValueMatcher>, ValueError>
+    ensures ok { IfOk result (λ matcher. matcher.value ≡ ValueSpec.Matches text.now) }
     ensures patterns { OnOk result (All HasPattern (ValueSpec.Matches text.now ∷ [])) }
     ensures bad_pattern { IsErrOf result ValueError.BadPattern → Any MayBeRefused (ValueSpec.Matches text.now ∷ []) }
 {
     let pattern = ValueSpec::Matches(text.try_clone()?);
-    ValueMatcher::build(alloc, &pattern)
+    let matcher = ValueMatcher::build(alloc, &pattern)?;
+    Ok(boxed(alloc, matcher)?)
+}
+
+fn boxed(alloc: Global, matcher: ValueMatcher) -> Result<Box<ValueMatcher>, AllocError>
+    ensures { IfOk result (λ boxed. boxed.value ≡ matcher) }
+{
+    Ok(Box::new(alloc, matcher)?)
 }
 
 /// Whether the path matches the template and what that binds meets the parameters.

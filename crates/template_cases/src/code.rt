@@ -15,6 +15,7 @@ use data_tree::step::{Path, Step};
 use helper_set::helper::Helper;
 use std::alloc::{AllocError, Global};
 use template_code::code::Code;
+use template_code::code_text::CodeText;
 use template_code::instr::Instr;
 use template_code::listing::listing;
 use template_machine::run::run;
@@ -134,10 +135,10 @@ fn with_index(name: &[u8], index: usize) -> Option<Instr> {
     }
 }
 
-fn read_texts(alloc: Global, text: &str) -> Result<Vec<PlainText>, AllocError> {
+fn read_texts(alloc: Global, text: &str) -> Result<Vec<CodeText>, AllocError> {
     let mut texts = Vec::new(alloc);
     for entry in text.split('|') {
-        texts.push(PlainText::new(String::from_str(alloc, entry)?))?;
+        texts.push(CodeText::read(alloc, String::from_str(alloc, entry)?)?)?;
     }
     Ok(texts)
 }

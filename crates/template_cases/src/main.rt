@@ -1,8 +1,9 @@
-//! Compares what templates, stack code and the commands of `mock_program` give with the tables in `data/`.
+//! Compares what helpers, templates, stack code and the commands of `mock_program` give with the tables in `data/`.
 #![tactic(auto)]
 
 mod code;
 mod commands;
+mod helpers;
 mod programs;
 mod table;
 mod templates;
@@ -17,6 +18,9 @@ fn main(rt: HostRuntime) -> io::Result<ExitCode> {
     compare_all(
         &rt,
         [
+            Table::Helpers,
+            Table::Signatures,
+            Table::Parameters,
             Table::Trees,
             Table::Compiled,
             Table::Listings,

@@ -1,6 +1,6 @@
 //! The tables, and which call each of them is about.
 
-use crate::{code, commands, programs, templates};
+use crate::{code, commands, helpers, programs, templates};
 use case_table::compare::CaseTable;
 use case_table::row::Row;
 use std::alloc::{AllocError, Global};
@@ -8,6 +8,9 @@ use std::alloc::{AllocError, Global};
 /// A table, named for what it has in each row.
 #[derive(Clone, Copy)]
 pub enum Table {
+    Helpers,
+    Signatures,
+    Parameters,
     Trees,
     Compiled,
     Listings,
@@ -25,6 +28,9 @@ pub enum Table {
 impl CaseTable for Table {
     fn file(self) -> &'static str {
         match self {
+            Table::Helpers => "helper_results.tsv",
+            Table::Signatures => "signatures.tsv",
+            Table::Parameters => "parameters.tsv",
             Table::Trees => "trees.tsv",
             Table::Compiled => "compiled.tsv",
             Table::Listings => "listings.tsv",
@@ -41,6 +47,9 @@ impl CaseTable for Table {
 
     fn answer(self, alloc: Global, row: &Row) -> Result<String, AllocError> {
         match self {
+            Table::Helpers => helpers::result(alloc, row.cell(0), row.cell(1), row.cell(2)),
+            Table::Signatures => helpers::signature_of(alloc, row.cell(0)),
+            Table::Parameters => helpers::accepted(alloc, row.cell(0)),
             Table::Trees => templates::tree(alloc, row.cell(0)),
             Table::Compiled => templates::compiled(alloc, row.cell(0)),
             Table::Listings => code::parts(alloc, row),

@@ -2,8 +2,8 @@
 ghost use Rattle.std.specs.Prelude.{◌≡◌};
 ghost use Rattle.template_code.specs.Instructions.{names_entries};
 
+use crate::code_text::CodeText;
 use crate::instr::Instr;
-use data_tree::plain_text::PlainText;
 use data_tree::step::Path;
 use std::marker::Model;
 
@@ -12,7 +12,7 @@ use std::marker::Model;
 #[derive(Debug, Drop)]
 pub struct Code {
     instrs: Vec<Instr>,
-    texts: Vec<PlainText>,
+    texts: Vec<CodeText>,
     paths: Vec<Path>,
 }
 
@@ -26,7 +26,7 @@ impl Model for Code {
 
 impl Code {
     /// Takes the three lists over, without copying them.
-    pub fn new(instrs: Vec<Instr>, texts: Vec<PlainText>, paths: Vec<Path>) -> Code
+    pub fn new(instrs: Vec<Instr>, texts: Vec<CodeText>, paths: Vec<Path>) -> Code
         ensures instrs { result.instrs ≡ instrs.items }
         ensures texts { result.texts ≡ texts.items }
         ensures paths { result.paths ≡ paths.items }
@@ -44,7 +44,7 @@ impl Code {
         self.instrs.as_slice()
     }
 
-    pub fn texts(&self) -> &[PlainText]
+    pub fn texts(&self) -> &[CodeText]
         ensures { result.now ≡ self.now.texts }
     {
         self.texts.as_slice()

@@ -4,6 +4,7 @@
 #![tactic(auto)]
 
 pub mod code;
+pub mod code_text;
 pub mod flow;
 pub mod instr;
 pub mod laws;

@@ -6,13 +6,14 @@ use data_tree::step::Path;
 use std::alloc::{AllocError, Global};
 use std::marker::Model;
 use template_code::code::Code;
+use template_code::code_text::CodeText;
 use template_code::instr::Instr;
 
 /// The instructions and the entries of the tables so far.
 #[derive(Drop)]
 pub struct Draft {
     instrs: Vec<Instr>,
-    texts: Vec<PlainText>,
+    texts: Vec<CodeText>,
     paths: Vec<Path>,
 }
 
@@ -45,7 +46,7 @@ impl Draft {
         ensures { OnOk result (self.new ≡ extended_by self.old (emit_code text)) }
     {
         self.instrs.push(Instr::Emit(self.texts.len()))?;
-        self.texts.push(text)?;
+        self.texts.push(CodeText::new(text.into_string()))?;
         Ok(())
     }
 

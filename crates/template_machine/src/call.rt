@@ -7,6 +7,7 @@ ghost use Rattle.helper_set.specs.Values.{kind_of, a_datum, text_of};
 ghost use Rattle.helper_set.specs.Helpers.{argument_kinds, fit, is_looked_up};
 ghost use Rattle.helper_set.specs.Views.{value_view, made_view};
 ghost use Rattle.helper_set.specs.declared.kind.Kind.{Kind};
+ghost use Rattle.json_bridge.specs.Path.{SpellsPath};
 ghost use Rattle.template_code.specs.Machine.{result_of, found_by, json_path};
 ghost use Rattle.template_machine.specs.Inner.Slots.{slot_view, found_view, held_view};
 
@@ -91,13 +92,20 @@ fn apply_to_two<'a>(
     apply(alloc, helper, &arguments)
 }
 
-// What the path that an argument spells finds in the body's data.
+// What the path that an argument spells finds in the body's data. A text of the code that is a path was read as one
+// when the code was made.
 fn looked_up<'a>(alloc: Global, root: &'a Data, path: Slot<'a>) -> Result<Slot<'a>, AllocError>
     requires well_formed { IsWellFormed (view root.now) }
     requires text { kind_of (slot_view path) ≡ Kind.Text }
     ensures { IfOk result (λ found.
         slot_view found ≡ a_datum (found_by (view root.now) (text_of (slot_view path.entry)))) }
 {
+    if let Slot::Text(Text::Literal(text)) = path {
+        if let Some(path) = text.json_path() {
+            let found = found_at(alloc, root, text.as_str(), path)?;
+            return Ok(Slot::Value(Value::Datum(found)));
+        }
+    }
     match hold(alloc, &path)? {
         Held::Text(text) => {
             let found = found_by(alloc, root, text.as_str())?;
@@ -113,13 +121,25 @@ fn found_by<'a>(alloc: Global, root: &'a Data, text: &str) -> Result<Option<&'a 
     ensures { IfOk result (λ found. found_view found ≡ found_by (view root.now) text.now) }
 {
     match JsonPath::parse(alloc, text) {
-        Ok(path) => {
-            let json = json_of(alloc, root)?;
-            Ok(found_in(json, &path))
-        }
+        Ok(path) => found_at(alloc, root, text, &path),
         Err(JsonPathError::BadPath) => Ok(None),
         Err(JsonPathError::OutOfMemory) => Err(AllocError),
     }
+}
+
+// What the path that the text spells finds.
+fn found_at<'a>(
+    alloc: Global,
+    root: &'a Data,
+    _text: &str,
+    path: &JsonPath,
+) -> Result<Option<&'a Data>, AllocError>
+    requires well_formed { IsWellFormed (view root.now) }
+    requires spelled { SpellsPath _text.now path.now }
+    ensures { IfOk result (λ found. found_view found ≡ found_by (view root.now) _text.now) }
+{
+    let json = json_of(alloc, root)?;
+    Ok(found_in(json, path))
 }
 
 // The body's data.

@@ -26,7 +26,7 @@ pub fn hold<'a>(alloc: Global, slot: &'a Slot<'a>) -> Result<Held<'a>, AllocErro
 {
     match slot {
         Slot::Value(value) => Ok(Held::Value(*value)),
-        Slot::Text(Text::Literal(text)) => Ok(Held::Text(CowStr::Borrowed(text))),
+        Slot::Text(Text::Literal(text)) => Ok(Held::Text(CowStr::Borrowed(text.as_str()))),
         Slot::Text(Text::Made(text)) => Ok(Held::Text(CowStr::Borrowed(text.as_str()))),
         Slot::Text(Text::Rendered(value)) => Ok(Held::Text(printed(alloc, *value)?)),
     }

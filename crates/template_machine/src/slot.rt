@@ -4,12 +4,13 @@ ghost use Rattle.std.specs.Prelude.{◌≡◌};
 
 use crate::value::Value;
 use std::alloc::{AllocError, Global};
+use template_code::code_text::CodeText;
 
 /// A text.
 #[derive(Drop)]
 pub enum Text<'a> {
     /// A text of the code.
-    Literal(&'a str),
+    Literal(&'a CodeText),
     /// The text that the value prints as.
     Rendered(Value<'a>),
     /// A text that a helper made.
@@ -45,7 +46,7 @@ impl<'a> Text<'a> {
         ensures { OnOk result (string_bytes out.new ≡ string_bytes out.old ++ text_view self.entry) }
     {
         match self {
-            Text::Literal(text) => out.push_str(text),
+            Text::Literal(text) => out.push_str(text.as_str()),
             Text::Rendered(value) => value.print_into(alloc, out),
             Text::Made(text) => out.push_str(text.as_str()),
         }
@@ -62,7 +63,7 @@ impl<'a> Slot<'a> {
     {
         match self {
             Slot::Value(value) => value.is_true(),
-            Slot::Text(Text::Literal(text)) => !text.is_empty(),
+            Slot::Text(Text::Literal(text)) => !text.as_str().is_empty(),
             Slot::Text(Text::Rendered(value)) => value.prints(),
             Slot::Text(Text::Made(text)) => !text.is_empty(),
         }

@@ -1,9 +1,8 @@
-//! Compares what the calls of `data_tree`, `json_bridge`, `mock_request`, `request_data`, `helper_set` and `error_code`
-//! answer with the tables in `data/`.
+//! Compares what the calls of `data_tree`, `json_bridge`, `mock_request`, `request_data` and `error_code` answer
+//! with the tables in `data/`.
 #![tactic(auto)]
 
 mod codes;
-mod helpers;
 mod json;
 mod requests;
 mod table;
@@ -32,9 +31,6 @@ fn main(rt: HostRuntime) -> io::Result<ExitCode> {
             Table::Printed,
             Table::Bindings,
             Table::Sizes,
-            Table::Helpers,
-            Table::Signatures,
-            Table::Parameters,
         ]
         .as_slice(),
     )

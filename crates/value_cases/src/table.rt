@@ -1,6 +1,6 @@
 //! The tables, and which call each of them is about.
 
-use crate::{codes, helpers, json, requests, values};
+use crate::{codes, json, requests, values};
 use case_table::compare::CaseTable;
 use case_table::row::Row;
 use std::alloc::{AllocError, Global};
@@ -21,9 +21,6 @@ pub enum Table {
     Printed,
     Bindings,
     Sizes,
-    Helpers,
-    Signatures,
-    Parameters,
 }
 
 impl CaseTable for Table {
@@ -42,9 +39,6 @@ impl CaseTable for Table {
             Table::Printed => "printed.tsv",
             Table::Bindings => "bindings.tsv",
             Table::Sizes => "sizes.tsv",
-            Table::Helpers => "helper_results.tsv",
-            Table::Signatures => "signatures.tsv",
-            Table::Parameters => "parameters.tsv",
         }
     }
 
@@ -63,9 +57,6 @@ impl CaseTable for Table {
             Table::Printed => requests::printed_part(alloc, row),
             Table::Bindings => requests::bindings(alloc, row),
             Table::Sizes => requests::size(alloc, row),
-            Table::Helpers => helpers::result(alloc, row.cell(0), row.cell(1), row.cell(2)),
-            Table::Signatures => helpers::signature_of(alloc, row.cell(0)),
-            Table::Parameters => helpers::accepted(alloc, row.cell(0)),
         }
     }
 }

@@ -20,11 +20,11 @@ pub record MeetsHead (matcher : RequestSpec) (request : Request) : Type 0 where
   pub query : MeetPairs matcher.query (query_pairs request.url)
   pub cookies : MeetPairs matcher.cookies (cookie_pairs request.headers)
 
--- why a URL matcher can't be built
-abbrev pub IsUrlFault : UrlSpec → RequestMatchError → Type 0
-IsUrlFault spec BadUrl = ¬ (HasTemplate spec)
-IsUrlFault spec BadPattern = HasTemplate spec × Any MayBeRefused (url_matchers spec)
-IsUrlFault spec NotJson = ⊥
-IsUrlFault spec NumberNotWhole = ⊥
-IsUrlFault spec BadPath = ⊥
-IsUrlFault spec OutOfMemory = Unit {0}
+-- a URL matcher may be refused with that error
+abbrev pub IsUrlRefusal : UrlSpec → RequestMatchError → Type 0
+IsUrlRefusal spec BadUrl = ¬ (HasTemplate spec)
+IsUrlRefusal spec BadPattern = HasTemplate spec × Any MayBeRefused (url_matchers spec)
+IsUrlRefusal spec NotJson = ⊥
+IsUrlRefusal spec NumberNotWhole = ⊥
+IsUrlRefusal spec BadPath = ⊥
+IsUrlRefusal spec OutOfMemory = Unit {0}

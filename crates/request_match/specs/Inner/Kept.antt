@@ -23,9 +23,9 @@ url_spec_of (kept.UrlPathTemplate template parameters) = url.UrlPathTemplate tem
 abbrev pub KeepsPattern : UrlKind → Type 0
 KeepsPattern kept.Any = Unit {0}
 KeepsPattern (kept.Url text) = Unit {0}
-KeepsPattern (kept.UrlPattern text matcher) = matcher ≡ Matches text
+KeepsPattern (kept.UrlPattern text matcher) = matcher.value ≡ Matches text
 KeepsPattern (kept.UrlPath text) = Unit {0}
-KeepsPattern (kept.UrlPathPattern text matcher) = matcher ≡ Matches text
+KeepsPattern (kept.UrlPathPattern text matcher) = matcher.value ≡ Matches text
 KeepsPattern (kept.UrlPathTemplate template parameters) = Unit {0}
 
 abbrev pub body_pattern_of : BodyKind → BodyPattern

@@ -1,7 +1,7 @@
 use Rattle.std.proofs.Common.{◌≡◌, ◌+◌, ◌∷◌, ◌++◌, [], Some, take, ap, sym, subst, arith, ◌∙◌}
 use Rattle.std.proofs.lemmas.List.{take_more}
-use Rattle.request_match.specs.Inner.Faults.{IsFirstFault}
-use Rattle.request_match.proofs.FaultLemmas.{none_added}
+use Rattle.request_match.specs.Inner.FirstError.{IsFirstError}
+use Rattle.request_match.proofs.ErrorLemmas.{none_added}
 use Rattle.request_match.proofs.body_test.build_body.Goals as goal
 use Rattle.request_match.proofs.body_test.build_body.Goals.{in-Ok+in_ok-push-in-Ok, in-Err}
 
@@ -14,17 +14,17 @@ loop-spec-preserved c =
     take_more specs i item (omega arith) ∙ ap (λ s. take i specs ++ s ∷ []) (sym c.spec-item.is) in
     elim c.match-build.branch [
       | in-Ok+in_ok-push-in-Ok w ↦ record {
-        first = subst (λ f. IsFirstFault f (take (i + 1) specs)) (sym w.fault-is)
-            (subst (IsFirstFault c.loop-spec.fault) (sym more)
-            (none_added c.loop-spec.fault (take i specs) (item ∷ []) c.loop-spec.invariant.first w.in-Ok.ensures.usable));
+        is_first = subst (λ f. IsFirstError f (take (i + 1) specs)) (sym w.first-is)
+            (subst (IsFirstError c.loop-spec.first) (sym more)
+            (none_added c.loop-spec.first (take i specs) (item ∷ []) c.loop-spec.invariant.is_first w.in-Ok.ensures.usable));
         built = λ none. ap (λ v. v.items) w.tests-is ∙ w.in_ok-push-in-Ok.ensures
-            ∙ ap (λ ts. ts ++ w.in-Ok.test ∷ []) (c.loop-spec.invariant.built (sym w.fault-is ∙ none))
+            ∙ ap (λ ts. ts ++ w.in-Ok.test ∷ []) (c.loop-spec.invariant.built (sym w.first-is ∙ none))
             ∙ ap (λ t. take i specs ++ t ∷ []) w.in-Ok.ensures.ok ∙ sym more;
       }
       | in-Err w ↦ record {
-        first = subst (λ f. IsFirstFault f (take (i + 1) specs)) (sym w.fault-is)
-            (subst (IsFirstFault (Some w.first_fault.result)) (sym more)
-            (w.first_fault.ensures (take i specs) (item ∷ []) c.loop-spec.invariant.first w.in-Err.ensures.fault));
-        built = λ none. absurd cc (sym w.fault-is ∙ none);
+        is_first = subst (λ f. IsFirstError f (take (i + 1) specs)) (sym w.first-is)
+            (subst (IsFirstError (Some w.first_error.result)) (sym more)
+            (w.first_error.ensures (take i specs) (item ∷ []) c.loop-spec.invariant.is_first w.in-Err.ensures.refusal));
+        built = λ none. absurd cc (sym w.first-is ∙ none);
       }
     ]

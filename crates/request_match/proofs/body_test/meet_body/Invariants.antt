@@ -6,5 +6,5 @@ abbrev pub invariant-loop-i : goal.invariant-loop-i
 invariant-loop-i l = record {
   same : l.tests ≡ l.fn.tests;
   same_request : l.request ≡ l.fn.request;
-  met : All (λ pattern. MeetsBody pattern l.fn.request.body) (take l.i l.tests);
+  meet : All (λ pattern. MeetsBody pattern l.fn.request.body) (take l.i l.tests);
 }

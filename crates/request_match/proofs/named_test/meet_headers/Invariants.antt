@@ -7,5 +7,5 @@ use Rattle.request_match.proofs.named_test.meet_headers.Given as goal
 abbrev pub invariant-loop-i : goal.invariant-loop-i
 invariant-loop-i l = record {
   same : l.tests ≡ l.fn.tests;
-  met : All (λ m. MeetsAny m.matcher (texts_of (map to_ascii_lowercase m.name) l.request.headers)) (take l.i l.tests);
+  meet : All (λ m. MeetsAny m.matcher (texts_of (map to_ascii_lowercase m.name) l.request.headers)) (take l.i l.tests);
 }

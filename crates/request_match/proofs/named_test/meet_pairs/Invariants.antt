@@ -6,5 +6,5 @@ use Rattle.request_match.proofs.named_test.meet_pairs.Given as goal
 abbrev pub invariant-loop-i : goal.invariant-loop-i
 invariant-loop-i l = record {
   same : l.tests ≡ l.fn.tests;
-  met : All (λ m. MeetsAny m.matcher (values_of m.name (pairs_of l.pairs))) (take l.i l.tests);
+  meet : All (λ m. MeetsAny m.matcher (values_of m.name (pairs_of l.pairs))) (take l.i l.tests);
 }

@@ -4,6 +4,6 @@ pub returns-in-UrlPathTemplate-clause-patterns : goal.returns-in-UrlPathTemplate
 returns-in-UrlPathTemplate-clause-patterns c =
     rw c.in-UrlPathTemplate.is (rw c.as_slice.ensures at c.template_kind.ensures.patterns)
 
-pub returns-in-UrlPathTemplate-clause-fault : goal.returns-in-UrlPathTemplate-clause-fault
-returns-in-UrlPathTemplate-clause-fault c =
-    rw c.in-UrlPathTemplate.is (rw (c.as_str.ensures, c.as_slice.ensures) at c.template_kind.ensures.fault)
+pub returns-in-UrlPathTemplate-clause-refusal : goal.returns-in-UrlPathTemplate-clause-refusal
+returns-in-UrlPathTemplate-clause-refusal c =
+    rw c.in-UrlPathTemplate.is (rw (c.as_str.ensures, c.as_slice.ensures) at c.template_kind.ensures.refusal)

@@ -11,7 +11,7 @@ returns-in-UrlPathTemplate-clause-answer c =
     subst (λ k. IfOk c.meets_template.result (λ b. IsTrue b ↔ MeetsUrl (url_spec_of k) c.args.request.now.url))
     (sym c.in-UrlPathTemplate.is)
     (subst (λ p. IfOk c.meets_template.result (λ b. IsTrue b
-    ↔ IsSomeAnd (bindings_of template p) (MeetPairs parameters))) c.path-in-UrlPathTemplate.ensures.value
+    ↔ IsSomeAnd (bindings_of template p) (MeetPairs parameters))) c.path-in-UrlPathTemplate.ensures
     (subst (λ ps. IfOk c.meets_template.result (λ b. IsTrue b
     ↔ IsSomeAnd (bindings_of template c.path-in-UrlPathTemplate.result.now) (MeetPairs ps)))
     c.as_mut_slice.ensures.value c.meets_template.ensures.answer))

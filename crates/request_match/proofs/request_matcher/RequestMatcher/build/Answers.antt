@@ -1,54 +1,54 @@
 use Rattle.std.proofs.Common.{All, Any, None, Some, Err, ap, subst}
 use Rattle.request_match.specs.Errors.{error_of_value}
-use Rattle.request_match.specs.Inner.Faults.{IsFirstFault}
-use Rattle.request_match.specs.Refusal.{IsFault, matchers_of}
-use Rattle.request_match.proofs.BuildLemmas.{err_is, url_fault, head_fault, head_patterns, body_is_fault, can_be_built}
+use Rattle.request_match.specs.Inner.FirstError.{IsFirstError}
+use Rattle.request_match.specs.Refusal.{IsRefusal, matchers_of}
+use Rattle.request_match.proofs.BuildLemmas.{err_is, url_error, head_error, head_patterns, body_is_error, can_be_built}
 use Rattle.request_match.proofs.BuildLemmas.{in_headers, in_query, in_cookies}
-use Rattle.request_match.proofs.FaultLemmas.{body_fault}
+use Rattle.request_match.proofs.ErrorLemmas.{body_error}
 use Rattle.request_match.proofs.request_matcher.RequestMatcher.build.Goals as goal
 use Rattle.value_match.specs.Refusal.{HasPattern, MayBeRefused}
 
-pub returns-in_err-build-clause-fault : goal.returns-in_err-build-clause-fault
-returns-in_err-build-clause-fault c =
-    err_is c.from_residual-in_err-build.result c.in_err-build.field-0.0 (IsFault c.args.spec.now)
+pub returns-in_err-build-clause-refusal : goal.returns-in_err-build-clause-refusal
+returns-in_err-build-clause-refusal c =
+    err_is c.from_residual-in_err-build.result c.in_err-build.field-0.0 (IsRefusal c.args.spec.now)
     c.from_residual-in_err-build.ensures.1
-    (url_fault c.args.spec.now c.in_err-build.field-0.0 c.in_err-build.ensures.fault)
+    (url_error c.args.spec.now c.in_err-build.field-0.0 c.in_err-build.ensures.refusal)
 
-pub returns-in_err-build_tests-clause-fault : goal.returns-in_err-build_tests-clause-fault
-returns-in_err-build_tests-clause-fault c =
+pub returns-in_err-build_tests-clause-refusal : goal.returns-in_err-build_tests-clause-refusal
+returns-in_err-build_tests-clause-refusal c =
     err_is c.from_residual-in_err-build_tests.result (error_of_value c.in_err-build_tests.field-0.0)
-    (IsFault c.args.spec.now) c.from_residual-in_err-build_tests.ensures.1
-    (head_fault c.args.spec.now c.in_err-build_tests.field-0.0 c.in_ok-build.ensures.template
+    (IsRefusal c.args.spec.now) c.from_residual-in_err-build_tests.ensures.1
+    (head_error c.args.spec.now c.in_err-build_tests.field-0.0 c.in_ok-build.ensures.template
     (λ is. in_headers c.args.spec.now (subst (λ s. Any MayBeRefused (matchers_of s)) c.as_slice.ensures
     (c.in_err-build_tests.ensures.bad_pattern (ap Err is)))))
 
-pub returns-in_err-build_tests-2-clause-fault : goal.returns-in_err-build_tests-2-clause-fault
-returns-in_err-build_tests-2-clause-fault c =
+pub returns-in_err-build_tests-2-clause-refusal : goal.returns-in_err-build_tests-2-clause-refusal
+returns-in_err-build_tests-2-clause-refusal c =
     err_is c.from_residual-in_err-build_tests-2.result (error_of_value c.in_err-build_tests-2.field-0.0)
-    (IsFault c.args.spec.now) c.from_residual-in_err-build_tests-2.ensures.1
-    (head_fault c.args.spec.now c.in_err-build_tests-2.field-0.0 c.in_ok-build.ensures.template
+    (IsRefusal c.args.spec.now) c.from_residual-in_err-build_tests-2.ensures.1
+    (head_error c.args.spec.now c.in_err-build_tests-2.field-0.0 c.in_ok-build.ensures.template
     (λ is. in_query c.args.spec.now (subst (λ s. Any MayBeRefused (matchers_of s)) c.as_slice-2.ensures
     (c.in_err-build_tests-2.ensures.bad_pattern (ap Err is)))))
 
-pub returns-in_err-build_tests-3-clause-fault : goal.returns-in_err-build_tests-3-clause-fault
-returns-in_err-build_tests-3-clause-fault c =
+pub returns-in_err-build_tests-3-clause-refusal : goal.returns-in_err-build_tests-3-clause-refusal
+returns-in_err-build_tests-3-clause-refusal c =
     err_is c.from_residual-in_err-build_tests-3.result (error_of_value c.in_err-build_tests-3.field-0.0)
-    (IsFault c.args.spec.now) c.from_residual-in_err-build_tests-3.ensures.1
-    (head_fault c.args.spec.now c.in_err-build_tests-3.field-0.0 c.in_ok-build.ensures.template
+    (IsRefusal c.args.spec.now) c.from_residual-in_err-build_tests-3.ensures.1
+    (head_error c.args.spec.now c.in_err-build_tests-3.field-0.0 c.in_ok-build.ensures.template
     (λ is. in_cookies c.args.spec.now (subst (λ s. Any MayBeRefused (matchers_of s)) c.as_slice-3.ensures
     (c.in_err-build_tests-3.ensures.bad_pattern (ap Err is)))))
 
-pub returns-in_err-build_body-clause-fault : goal.returns-in_err-build_body-clause-fault
-returns-in_err-build_body-clause-fault c =
+pub returns-in_err-build_body-clause-refusal : goal.returns-in_err-build_body-clause-refusal
+returns-in_err-build_body-clause-refusal c =
     let spec = c.args.spec.now in
     let error = c.in_err-build_body.field-0.0 in
-    err_is c.from_residual-in_err-build_body.result error (IsFault spec) c.from_residual-in_err-build_body.ensures.1
-    (body_is_fault spec error c.in_ok-build.ensures.template
+    err_is c.from_residual-in_err-build_body.result error (IsRefusal spec) c.from_residual-in_err-build_body.ensures.1
+    (body_is_error spec error c.in_ok-build.ensures.template
     (head_patterns spec c.in_ok-build.ensures.patterns
     (subst (λ s. All HasPattern (matchers_of s)) c.as_slice.ensures c.in_ok-build_tests.ensures.patterns)
     (subst (λ s. All HasPattern (matchers_of s)) c.as_slice-2.ensures c.in_ok-build_tests-2.ensures.patterns)
     (subst (λ s. All HasPattern (matchers_of s)) c.as_slice-3.ensures c.in_ok-build_tests-3.ensures.patterns))
-    (body_fault error spec.body (subst (IsFirstFault (Some error)) c.as_slice-4.ensures c.in_err-build_body.ensures.fault)))
+    (body_error error spec.body (subst (IsFirstError (Some error)) c.as_slice-4.ensures c.in_err-build_body.ensures.refusal)))
 
 pub returns-clause-usable : goal.returns-clause-usable
 returns-clause-usable c =
@@ -58,4 +58,4 @@ returns-clause-usable c =
     (subst (λ s. All HasPattern (matchers_of s)) c.as_slice.ensures c.in_ok-build_tests.ensures.patterns)
     (subst (λ s. All HasPattern (matchers_of s)) c.as_slice-2.ensures c.in_ok-build_tests-2.ensures.patterns)
     (subst (λ s. All HasPattern (matchers_of s)) c.as_slice-3.ensures c.in_ok-build_tests-3.ensures.patterns))
-    (subst (IsFirstFault None) c.as_slice-4.ensures c.in_ok-build_body.ensures.usable)
+    (subst (IsFirstError None) c.as_slice-4.ensures c.in_ok-build_body.ensures.usable)

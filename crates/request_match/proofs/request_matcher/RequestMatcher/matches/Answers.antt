@@ -1,4 +1,4 @@
-use Rattle.std.proofs.Common.{◌↔◌, All, IfOk, IsTrue, ap, sym, subst, ◌∙◌}
+use Rattle.std.proofs.Common.{◌↔◌, All, IfOk, IsTrue, ap, subst, ◌∙◌}
 use Rattle.request_match.specs.Inner.Heads.{MeetsHead}
 use Rattle.request_match.specs.Matching.{MeetsBody}
 use Rattle.request_match.proofs.RestLemmas.{answered}
@@ -7,22 +7,21 @@ use Rattle.request_match.proofs.request_matcher.RequestMatcher.matches.Goals as 
 pub returns-then-not-branch-clause-answer : goal.returns-then-not-branch-clause-answer
 returns-then-not-branch-clause-answer c = (
   λ f. absurd cc (f),
-  λ met.
+  λ meets.
       let head : MeetsHead c.args.self.now c.args.request.now = record {
-        method = met.method;
-        url = met.url;
-        headers = met.headers;
-        query = met.query;
-        cookies = met.cookies;
+        method = meets.method;
+        url = meets.url;
+        headers = meets.headers;
+        query = meets.query;
+        cookies = meets.cookies;
       } in
-      let told = c.in_ok-meets_head.ensures.answer.1 (subst (MeetsHead c.args.self.now) (sym c.values.ensures) head) in
+      let passed = c.in_ok-meets_head.ensures.answer.1 head in
       cc,
 )
 
 pub returns-clause-answer : goal.returns-clause-answer
 returns-clause-answer c =
-    let head : MeetsHead c.args.self.now c.args.request.now =
-    subst (MeetsHead c.args.self.now) c.values.ensures (c.in_ok-meets_head.ensures.answer.0 cc) in
+    let head : MeetsHead c.args.self.now c.args.request.now = c.in_ok-meets_head.ensures.answer.0 cc in
     answered c.meet_body.result
     (subst (λ ts. IfOk c.meet_body.result (λ b. IsTrue b ↔ All (λ p. MeetsBody p c.args.request.now.body) ts))
     (c.as_mut_slice.ensures.value ∙ ap (λ m. m.body) (c.self.view_is ∙ c.in_ok-meets_head.ensures.same))
@@ -35,5 +34,5 @@ returns-clause-answer c =
         cookies = head.cookies;
         body = bodies;
       },
-      λ met. met.body,
+      λ meets. meets.body,
     )

@@ -1,0 +1,4 @@
+pub mod CheckpointLemmas
+pub mod EventLemmas
+pub mod VisibleLemmas
+pub mod TurnLemmas

@@ -1,0 +1,4 @@
+pub mod Checkpoint
+pub mod Codes
+pub mod Counts
+pub mod Shown

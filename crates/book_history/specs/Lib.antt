@@ -1,0 +1,3 @@
+pub mod Kept
+pub mod Errors
+pub mod Inner

@@ -1,0 +1,13 @@
+use Rattle.std.proofs.Common.{◌≡◌, take, All}
+use Rattle.std.specs.List.{AllWithin}
+use Rattle.mapping_store.specs.Choice.{IsEligible}
+use Rattle.mapping_store.specs.Inner.Entries.{placed_of}
+use Rattle.mapping_store.proofs.eligible.first_eligible.Given as goal
+
+abbrev pub invariant-loop-i : goal.invariant-loop-i
+invariant-loop-i l = record {
+  same_entries : l.entries ≡ l.fn.entries;
+  same_defaults : l.defaults ≡ l.fn.defaults;
+  same_request : l.request ≡ l.fn.request;
+  passed : AllWithin (λ e. ¬ (IsEligible l.scenarios l.fn.request (placed_of e).mapping)) l.fn.entries 0 l.i;
+}

@@ -1,0 +1,18 @@
+use Rattle.std.proofs.Common.{◌≡◌, ◌+◌, ◌≤◌, ◌++◌, List, length, map, All, AllPairs, vec_len}
+use Rattle.std.specs.Vec.{vec_capacity}
+use Rattle.std.specs.Vec.Iter.{into_iter_items, into_iter_len}
+use Rattle.request_journal.specs.declared.mapping.Mapping.{Mapping}
+use Rattle.mapping_store.specs.Inner.Entries.{Adds, Fits, IsBefore, placed_of}
+use Rattle.mapping_store.proofs.filled.put_all.Given as goal
+
+abbrev pub invariant-loop-mapping : goal.invariant-loop-mapping
+invariant-loop-mapping l = record {
+  counted : into_iter_len l.mapping-iterator ≡ length (into_iter_items l.mapping-iterator);
+  whole : l.fn.mappings.items ≡ l.yielded ++ into_iter_items l.mapping-iterator;
+  index : l.index ≡ length l.yielded;
+  in_order : AllPairs IsBefore l.entries.items;
+  fit : (defaults : List Mapping) → All (Fits defaults) l.fn.entries.items → All (Fits defaults) l.entries.items;
+  added : Adds l.number (map placed_of l.fn.entries.items) l.yielded (map placed_of l.entries.items);
+  few : vec_len l.entries ≤ vec_len l.fn.entries + l.index;
+  capacity : vec_capacity l.fn.entries ≤ vec_capacity l.entries;
+}

@@ -1,0 +1,3 @@
+pub mod Choice
+pub mod Stored
+pub mod Inner

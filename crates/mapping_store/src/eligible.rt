@@ -1,0 +1,98 @@
+// Which entries are eligible for a request.
+ghost use Rattle.std.specs.Prelude.{◌≡◌, ◌↔◌, ◌<◌, length, All, IfOk, IsTrue, MatchOption};
+ghost use Rattle.std.specs.List.{AllWithin, HoldsAt};
+ghost use Rattle.request_match.specs.Matching.{MeetsRequest};
+ghost use Rattle.mapping_store.specs.Choice.{IsEligible, IsReady};
+ghost use Rattle.mapping_store.specs.Inner.Entries.{Fits, placed_of};
+
+use crate::book_mapping::BookMapping;
+use crate::entry::{Entry, Source};
+use mapping_model::scenario_spec::ScenarioSpec;
+use request_match::parsed_request::ParsedRequest;
+use request_match::shared_spec::SharedSpec;
+use scenario_core::scenarios::Scenarios;
+use std::alloc::AllocError;
+
+/// The specification of an entry.
+pub(crate) fn spec_of<'a>(entry: &'a Entry, defaults: &'a [BookMapping]) -> &'a SharedSpec
+    requires { Fits defaults.now entry.now }
+    ensures { result.now ≡ entry.now.seen.value }
+{
+    match &entry.source {
+        Source::Own(mapping) => mapping.shared(),
+        Source::Default(at) => defaults[*at].shared(),
+    }
+}
+
+/// The index of the first eligible entry.
+pub(crate) fn first_eligible(
+    entries: &mut [Entry],
+    defaults: &mut [BookMapping],
+    scenarios: &Scenarios,
+    request: &mut ParsedRequest<'_>,
+) -> Result<Option<usize>, AllocError>
+    requires { All (Fits defaults.old) entries.old }
+    ensures found { IfOk result (λ found. MatchOption found
+        (All (λ e. ¬ (IsEligible scenarios.now request.old (placed_of e).mapping)) entries.old)
+        (λ at. (at < length entries.old)
+        × HoldsAt (λ e. IsEligible scenarios.now request.old (placed_of e).mapping) entries.old at
+        × AllWithin (λ e. ¬ (IsEligible scenarios.now request.old (placed_of e).mapping)) entries.old 0 at)) }
+    ensures same_entries { entries.new ≡ entries.old }
+    ensures same_defaults { defaults.new ≡ defaults.old }
+    ensures same_request { request.new ≡ request.old }
+{
+    for i in 0..entries.len() {
+        if is_eligible(&mut entries[i], defaults, scenarios, request)? {
+            return Ok(Some(i));
+        }
+    }
+    Ok(None)
+}
+
+fn is_eligible(
+    entry: &mut Entry,
+    defaults: &mut [BookMapping],
+    scenarios: &Scenarios,
+    request: &mut ParsedRequest<'_>,
+) -> Result<bool, AllocError>
+    requires { Fits defaults.old entry.old }
+    ensures answer { IfOk result (λ yes. IsTrue yes
+        ↔ IsEligible scenarios.now request.old (placed_of entry.old).mapping) }
+    ensures same_entry { entry.new ≡ entry.old }
+    ensures same_defaults { defaults.new ≡ defaults.old }
+    ensures same_request { request.new ≡ request.old }
+{
+    if !meets(entry, defaults, request)? {
+        return Ok(false);
+    }
+    Ok(is_ready(scenarios, &spec_of(entry, defaults).spec().scenario))
+}
+
+fn meets(
+    entry: &mut Entry,
+    defaults: &mut [BookMapping],
+    request: &mut ParsedRequest<'_>,
+) -> Result<bool, AllocError>
+    requires { Fits defaults.old entry.old }
+    ensures answer { IfOk result (λ yes. IsTrue yes ↔ MeetsRequest entry.old.seen.value.request request.old) }
+    ensures same_entry { entry.new ≡ entry.old }
+    ensures same_defaults { defaults.new ≡ defaults.old }
+    ensures same_request { request.new ≡ request.old }
+{
+    match &mut entry.source {
+        Source::Own(mapping) => mapping.matches(request),
+        Source::Default(at) => defaults[*at].matches(request),
+    }
+}
+
+fn is_ready(scenarios: &Scenarios, scenario: &Option<ScenarioSpec>) -> bool
+    ensures { IsTrue result ↔ IsReady scenarios.now scenario.now }
+{
+    match scenario {
+        Some(scenario) => match &scenario.required {
+            Some(required) => scenarios.state(scenario.name.as_str()) == required.as_str(),
+            None => true,
+        },
+        None => true,
+    }
+}

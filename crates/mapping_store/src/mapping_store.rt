@@ -1,0 +1,213 @@
+// The live mappings of a book.
+ghost use Rattle.std.specs.Prelude.{◌≡◌, ◌↔◌, ◌<◌, ◌≤◌, ◌+◌, ◌∷◌, [], ◌++◌, ℕ, Any, IfOk, IfSome, IsSome, IsTrue, IsPermutation, MatchOption, OnErr, OnOk, length, vec_len};
+ghost use Rattle.request_journal.specs.Live.{left_by};
+ghost use Rattle.request_journal.specs.Past.{defaults_from, placed_from};
+ghost use Rattle.request_journal.specs.State.{IsIn, Names};
+ghost use Rattle.request_journal.specs.declared.event.Event.TheVariants as event;
+ghost use Rattle.mapping_store.specs.Choice.{IsChosen, IsMissed};
+ghost use Rattle.mapping_store.specs.Stored.{Follows};
+
+use crate::book_mapping::BookMapping;
+use crate::counts::{count_ids, count_others};
+use crate::eligible::{first_eligible, spec_of};
+use crate::entries::{index_of, put_in, replace, take_out};
+use crate::entry::Entry;
+use crate::filled::{copies, named, put_all, put_defaults};
+use crate::scenario_names::{knows, names};
+use mapping_model::mapping_id::MappingId;
+use plain_text::items::Items;
+use request_journal::mapping::Mapping;
+use request_match::parsed_request::ParsedRequest;
+use request_match::ready_mapping::ReadyMapping;
+use request_match::shared_spec::SharedSpec;
+use scenario_core::scenarios::Scenarios;
+use std::alloc::{AllocError, Global};
+use std::marker::Model;
+
+/// The live mappings with their places, and the defaults, each with its matcher for as long as the store lives.
+#[derive(Drop)]
+pub struct MappingStore {
+    defaults: Vec<BookMapping>,
+    /// In the order of choice, so that the first eligible one is chosen. There is room for all defaults.
+    live: Vec<Entry>,
+}
+
+impl Model for MappingStore {
+    ghost use Rattle.std.specs.Prelude.{◌-◌, map, vec_len};
+    ghost use Rattle.std.specs.Vec.{vec_capacity};
+    ghost use Rattle.mapping_store.specs.Stored.{Stored};
+
+    ghost Value = { Stored };
+
+    ghost use Rattle.mapping_store.specs.Inner.Entries.{placed_of, IsStore};
+
+    ghost view = { λ s. record {
+      defaults = s.defaults.items;
+      live = map placed_of s.live.items;
+      room = vec_capacity s.live - vec_len s.live;
+    } };
+
+    ghost invariant = { λ s. IsStore s.defaults.items s.live.items (vec_capacity s.live) };
+}
+
+impl MappingStore {
+    /// The defaults are live, added by the event with the opening number. Of those with one id the last is live.
+    pub fn open(
+        alloc: Global,
+        defaults: Vec<ReadyMapping>,
+        opening: u64,
+    ) -> Result<MappingStore, AllocError>
+        ensures defaults { IfOk result (λ store. store.defaults ≡ defaults_from 0 defaults.items) }
+        ensures live { IfOk result (λ store. IsPermutation (placed_from opening 0 store.defaults) store.live) }
+    {
+        let defaults = named(alloc, defaults)?;
+        let mut live = Vec::with_capacity(alloc, defaults.len())?;
+        put_defaults(&mut live, opening, defaults.as_slice());
+        Ok(MappingStore { defaults, live })
+    }
+
+    /// How many mappings are live.
+    pub fn len(&self) -> usize
+        ensures { result ≡ length self.now.live }
+    {
+        self.live.len()
+    }
+
+    /// How many mappings will be live once these are added by one event.
+    pub fn len_with(&self, mappings: &[BookMapping]) -> usize
+        ensures { (number skipped : ℕ) → result
+            ≡ length (left_by (event.StopRecording mappings.now skipped ∷ []) self.now.live
+            ++ placed_from number 0 mappings.now) }
+    {
+        count_others(self.live.as_slice(), mappings) + count_ids(mappings)
+    }
+
+    /// The mappings that a reset adds. They share their specifications.
+    pub fn defaults(&self, alloc: Global) -> Result<Items<Mapping>, AllocError>
+        ensures { IfOk result (λ defaults. defaults ≡ self.now.defaults) }
+    {
+        Ok(Items::from(copies(alloc, self.defaults.as_slice())?))
+    }
+
+    /// Whether a live mapping plays a part in the scenario.
+    pub fn knows(&self, scenario: &str) -> bool
+        ensures { IsTrue result ↔ Any (λ p. IsIn scenario.now p.mapping.spec.scenario) self.now.live }
+    {
+        knows(self.live.as_slice(), self.defaults.as_slice(), scenario)
+    }
+
+    /// Whether a live mapping names the state of the scenario.
+    pub fn names(&self, scenario: &str, state: &str) -> bool
+        ensures { IsTrue result ↔ Any (λ p. Names scenario.now state.now p.mapping.spec.scenario) self.now.live }
+    {
+        names(
+            self.live.as_slice(),
+            self.defaults.as_slice(),
+            scenario,
+            state,
+        )
+    }
+
+    /// Whether a live mapping has this id.
+    pub fn holds(&self, id: MappingId) -> bool
+        ensures { IsTrue result ↔ Any (λ p. p.mapping.id ≡ id) self.now.live }
+    {
+        index_of(self.live.as_slice(), id).is_some()
+    }
+
+    /// The live mapping with this id, as it was written.
+    pub fn get(&self, id: MappingId) -> Option<&SharedSpec>
+        ensures live { IsSome result ↔ Any (λ p. p.mapping.id ≡ id) self.now.live }
+        ensures found { IfSome result (λ spec. Any (λ p. (p.mapping.id ≡ id) × (p.mapping.spec ≡ spec.now)) self.now.live) }
+    {
+        let at = index_of(self.live.as_slice(), id)?;
+        Some(spec_of(&self.live[at], self.defaults.as_slice()))
+    }
+
+    /// The mapping that is chosen for the request in these states of scenarios. Takes a look at each live mapping until
+    /// one is eligible.
+    pub fn find(
+        &mut self,
+        scenarios: &Scenarios,
+        request: &mut ParsedRequest<'_>,
+    ) -> Result<Option<Mapping>, AllocError>
+        ensures found { IfOk result (λ found. MatchOption found
+            (IsMissed scenarios.now self.old.live request.old) (IsChosen scenarios.now self.old.live request.old)) }
+        ensures same { self.new ≡ self.old }
+        ensures same_request { request.new ≡ request.old }
+    {
+        let defaults = self.defaults.as_mut_slice();
+        match first_eligible(self.live.as_mut_slice(), defaults, scenarios, request)? {
+            Some(at) => {
+                let entry = &self.live[at];
+                Ok(Some(Mapping {
+                    id: entry.id,
+                    spec: spec_of(entry, self.defaults.as_slice()).try_clone()?,
+                }))
+            }
+            None => Ok(None),
+        }
+    }
+
+    /// Makes room for mappings, so that adding as many takes no memory.
+    pub fn reserve(&mut self, additional: usize) -> Result<(), AllocError>
+        ensures ok { OnOk result (additional ≤ self.new.room) }
+        ensures same_defaults { self.new.defaults ≡ self.old.defaults }
+        ensures same_live { self.new.live ≡ self.old.live }
+    {
+        self.live.reserve(additional)
+    }
+
+    /// Adds a mapping, by the event with this number, in place of the one with its id. Takes no memory.
+    pub fn add(&mut self, number: u64, mapping: BookMapping)
+        requires { 0 < self.old.room }
+        ensures { Follows self.old self.new number (event.Add mapping) }
+    {
+        replace(&mut self.live, Entry::own(number, 0, mapping));
+    }
+
+    /// Adds mappings, by one event. Takes no memory.
+    pub fn add_all(&mut self, number: u64, mappings: Vec<BookMapping>)
+        requires { vec_len mappings ≤ self.old.room }
+        ensures { (skipped : ℕ) → Follows self.old self.new number (event.StopRecording mappings.items skipped) }
+    {
+        put_all(&mut self.live, number, mappings);
+    }
+
+    /// Writes the live mapping with this id anew: it keeps its place. Takes no memory.
+    pub fn edit(&mut self, mapping: BookMapping) -> bool
+        ensures found { IsTrue result ↔ Any (λ p. p.mapping.id ≡ mapping.id) self.old.live }
+        ensures after { (number : ℕ) → Follows self.old self.new number (event.Edit mapping.id mapping.spec) }
+    {
+        match take_out(&mut self.live, mapping.id()) {
+            Some(old) => {
+                put_in(&mut self.live, Entry::own(old.event, old.index, mapping));
+                true
+            }
+            None => false,
+        }
+    }
+
+    /// Removes the live mapping with this id.
+    pub fn remove(&mut self, id: MappingId) -> bool
+        ensures found { IsTrue result ↔ Any (λ p. p.mapping.id ≡ id) self.old.live }
+        ensures after { (number : ℕ) → Follows self.old self.new number (event.Delete id) }
+    {
+        take_out(&mut self.live, id).is_some()
+    }
+
+    /// Removes all live mappings.
+    pub fn clear(&mut self)
+        ensures { (number : ℕ) → Follows self.old self.new number event.DeleteAll }
+    {
+        self.live.clear();
+    }
+
+    /// Makes the defaults the live mappings, by the event with this number. Takes no memory, and builds no matcher.
+    pub fn reset(&mut self, number: u64)
+        ensures { Follows self.old self.new number event.ResetMappings }
+    {
+        self.live.clear();
+        put_defaults(&mut self.live, number, self.defaults.as_slice());
+    }
+}

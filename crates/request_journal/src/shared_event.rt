@@ -1,0 +1,70 @@
+// An event that a history and receipts share.
+ghost use Rattle.std.specs.Prelude.{◌≡◌, ◌↔◌, IfOk, IsTrue};
+
+use crate::event::Event;
+use plain_text::plain::{Same, TryClone};
+use std::alloc::{AllocError, Global};
+use std::marker::Model;
+use std::mem::size_of;
+use std::sync::Arc;
+
+// Beside it a shared one has two counts, and each copy a pointer.
+const _: () = prove!(size_of::<Event>() <= 64);
+
+/// An event, which contracts see as it is: a copy shares it.
+#[derive(Drop)]
+pub struct SharedEvent {
+    event: Arc<Event>,
+}
+
+impl Model for SharedEvent {
+    ghost use Rattle.std.specs.Arc.{arc_value};
+    ghost use Rattle.request_journal.specs.declared.event.Event.{Event};
+
+    ghost Value = { Event };
+
+    ghost view = { λ s. arc_value s.event };
+}
+
+impl SharedEvent {
+    pub fn new(alloc: Global, event: Event) -> Result<SharedEvent, AllocError>
+        ensures { IfOk result (λ shared. shared ≡ event) }
+    {
+        Ok(SharedEvent {
+            event: Arc::new(alloc, event)?,
+        })
+    }
+
+    pub fn event(&self) -> &Event
+        ensures { result.now ≡ self.now }
+    {
+        &self.event
+    }
+
+    /// Takes no memory.
+    pub fn try_clone(&self) -> Result<SharedEvent, AllocError>
+        ensures { IfOk result (λ copy. copy ≡ self.now) }
+    {
+        Ok(SharedEvent {
+            event: Arc::try_clone(&self.event)?,
+        })
+    }
+
+    pub fn same(&self, other: &SharedEvent) -> bool
+        ensures { IsTrue result ↔ (self.now ≡ other.now) }
+    {
+        self.event().same(other.event())
+    }
+}
+
+impl TryClone for SharedEvent {
+    fn try_clone(&self) -> Result<SharedEvent, AllocError> {
+        SharedEvent::try_clone(self)
+    }
+}
+
+impl Same for SharedEvent {
+    fn same(&self, other: &SharedEvent) -> bool {
+        SharedEvent::same(self, other)
+    }
+}

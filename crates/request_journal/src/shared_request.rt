@@ -1,0 +1,66 @@
+// A request that events and the journal share.
+ghost use Rattle.std.specs.Prelude.{◌≡◌, ◌↔◌, IfOk, IsTrue};
+
+use mock_request::snapshot::Snapshot;
+use plain_text::plain::{Same, TryClone};
+use std::alloc::{AllocError, Global};
+use std::marker::Model;
+use std::sync::Arc;
+
+/// A request as it was received, which contracts see as it is: a copy shares it.
+#[derive(Drop)]
+pub struct SharedRequest {
+    request: Arc<Snapshot>,
+}
+
+impl Model for SharedRequest {
+    ghost use Rattle.std.specs.Arc.{arc_value};
+    ghost use Rattle.mock_request.specs.Request.{Request};
+
+    ghost Value = { Request };
+
+    ghost view = { λ s. arc_value s.request };
+}
+
+impl SharedRequest {
+    pub fn new(alloc: Global, request: Snapshot) -> Result<SharedRequest, AllocError>
+        ensures { IfOk result (λ shared. shared ≡ request) }
+    {
+        Ok(SharedRequest {
+            request: Arc::new(alloc, request)?,
+        })
+    }
+
+    pub fn request(&self) -> &Snapshot
+        ensures { result.now ≡ self.now }
+    {
+        &self.request
+    }
+
+    /// Takes no memory.
+    pub fn try_clone(&self) -> Result<SharedRequest, AllocError>
+        ensures { IfOk result (λ copy. copy ≡ self.now) }
+    {
+        Ok(SharedRequest {
+            request: Arc::try_clone(&self.request)?,
+        })
+    }
+
+    pub fn same(&self, other: &SharedRequest) -> bool
+        ensures { IsTrue result ↔ (self.now ≡ other.now) }
+    {
+        self.request().same(other.request())
+    }
+}
+
+impl TryClone for SharedRequest {
+    fn try_clone(&self) -> Result<SharedRequest, AllocError> {
+        SharedRequest::try_clone(self)
+    }
+}
+
+impl Same for SharedRequest {
+    fn same(&self, other: &SharedRequest) -> bool {
+        SharedRequest::same(self, other)
+    }
+}

@@ -1,0 +1,4 @@
+pub mod Firsts
+pub mod Lines
+pub mod Judged
+pub mod Texts

@@ -1,0 +1,12 @@
+use Rattle.std.proofs.Common.{◌≡◌, drop}
+use Rattle.json_reading.specs.Fields.{each_item}
+use Rattle.json_reading.proofs.Lists.{joined}
+use Rattle.response_json.specs.Reading.{transformer_of}
+use Rattle.serde_json.specs.View.{items_view}
+use Rattle.response_json.proofs.read.transformers_of.Given as goal
+
+-- those so far, and those of the values that are left
+abbrev pub invariant-loop-value : goal.invariant-loop-value
+invariant-loop-value l =
+    each_item transformer_of (items_view l.fn.values.items)
+    ≡ joined l.found (each_item transformer_of (items_view (drop l.value-index l.value-items)))

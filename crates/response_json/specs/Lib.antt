@@ -1,0 +1,3 @@
+pub mod Draft
+pub mod Reading
+pub mod Writing
