@@ -2,7 +2,6 @@
 use Rattle.std.specs.Prelude.{◌≡◌, ◌⊎◌, ℕ, List}
 use Rattle.json_reading.specs.Document.{IsDocument}
 use Rattle.json_reading.specs.Numbers.{taken}
-use Rattle.json_reading.specs.declared.kind.Kind.{Kind}
 use Rattle.json_reading.specs.declared.kind.Kind.TheVariants.{NotJson}
 use Rattle.json_reading.specs.declared.reading.Reading.{Reading}
 use Rattle.json_reading.specs.declared.reading.Reading.TheVariants.{Read, Wrong}
@@ -10,7 +9,7 @@ use Rattle.mapping_model.specs.declared.request_spec.RequestSpec.{RequestSpec}
 use Rattle.request_json.specs.RequestReading.{reading_of_request}
 use Rattle.request_document.specs.declared.error.RequestDocumentError.{RequestDocumentError}
 use Rattle.request_document.specs.declared.error.RequestDocumentError.TheVariants.{Document, Matcher, OutOfMemory}
-use Rattle.request_match.specs.Refusal.{IsFault}
+use Rattle.request_match.specs.Refusal.{IsRefusal}
 use Rattle.serde_json.specs.Data.{Data}
 
 -- the bytes are a document whose numbers are taken, with this reading
@@ -19,5 +18,5 @@ Spells text reading = (d : Data) × IsDocument text d × (taken d (reading_of_re
 
 abbrev pub IsRefused : List ℕ → RequestDocumentError → Type 0
 IsRefused text (Document kind) = ((kind ≡ NotJson) × ((d : Data) → ¬ (IsDocument text d))) ⊎ Spells text (Wrong kind)
-IsRefused text (Matcher error) = (request : RequestSpec) × Spells text (Read request) × IsFault request error
+IsRefused text (Matcher error) = (request : RequestSpec) × Spells text (Read request) × IsRefusal request error
 IsRefused text OutOfMemory = Unit {0}
