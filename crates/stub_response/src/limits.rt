@@ -30,19 +30,20 @@ impl Limits {
             bytes: BYTE_LIMIT,
         }
     }
+}
 
-    /// What a template leaves of them over data of that size; none where it may take more.
-    fn after(self, template: &TemplateText, size: u64) -> Option<Limits>
-        ensures none { IfNone result ((more : List (List ℕ)) → ¬ (KeepTo self (template.now ∷ more) size)) }
-        ensures some { IfSome result (λ rest. (more : List (List ℕ)) →
-            KeepTo rest more size ↔ KeepTo self (template.now ∷ more) size) }
-    {
-        let (steps, bytes) = template.program().budget().at(size)?;
-        Some(Limits {
-            steps: left(self.steps, steps)?,
-            bytes: left(self.bytes, bytes)?,
-        })
-    }
+// What a template leaves of these steps and bytes over data of that size; none where it may take more.
+fn rest_of(steps: u64, bytes: u64, template: &TemplateText, size: u64) -> Option<Limits>
+    ensures none { IfNone result ((more : List (List ℕ)) →
+        ¬ (KeepTo (record { steps = steps; bytes = bytes }) (template.now ∷ more) size)) }
+    ensures some { IfSome result (λ rest. (more : List (List ℕ)) →
+        KeepTo rest more size ↔ KeepTo (record { steps = steps; bytes = bytes }) (template.now ∷ more) size) }
+{
+    let (steps_taken, bytes_taken) = template.program().budget().at(size)?;
+    Some(Limits {
+        steps: left(steps, steps_taken)?,
+        bytes: left(bytes, bytes_taken)?,
+    })
 }
 
 fn left(limit: u64, taken: u128) -> Option<u64>
@@ -63,13 +64,13 @@ pub(crate) fn keep_to(
 {
     let mut rest = limits;
     for header in headers {
-        match rest.after(&header.value, size) {
+        match rest_of(rest.steps, rest.bytes, &header.value, size) {
             Some(less) => rest = less,
             None => return false,
         }
     }
     match body {
-        Body::Text(template) => rest.after(template, size).is_some(),
+        Body::Text(template) => rest_of(rest.steps, rest.bytes, template, size).is_some(),
         Body::Empty | Body::Json(_) | Body::Base64(_) => true,
     }
 }
