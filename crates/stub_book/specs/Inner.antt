@@ -1,2 +1,0 @@
--- Words for private clauses and for the invariant of a book; no public contract cites them.
-pub mod Kept

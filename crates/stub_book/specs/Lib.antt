@@ -1,3 +1,0 @@
-pub mod Growth
-pub mod Refusals
-pub mod Inner
