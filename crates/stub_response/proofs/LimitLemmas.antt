@@ -1,6 +1,9 @@
 -- One template more.
-use Rattle.std.proofs.Common.{◌≡◌, ◌≤◌, ◌<◌, ◌+◌, ◌⊎◌, inl, inr, ℕ, List, [], ◌∷◌, refl, sym, ap, ◌∙◌, subst, arith}
+use Rattle.std.proofs.Common.{◌≡◌, ◌≤◌, ◌<◌, ◌+◌, ◌⊎◌, inl, inr, ℕ, Bool, List, [], ◌∷◌, Option, None, Some, refl, sym, ap, ◌∙◌, subst, arith}
+use Rattle.std.specs.Prelude.{◌↔◌, IsTrue, IfNone, IfSome}
 use Rattle.std.specs.List.{AllZip, sum_by}
+use Rattle.std.specs.Option.{is_some}
+use Rattle.std.proofs.lemmas.Bool.{false≢true}
 use Rattle.std.proofs.lemmas.List.Sums.{sum_by-cons}
 use Rattle.template_code.specs.Bounds.{Bound, value, as_printed}
 use Rattle.template_code.specs.Budget.{Cost, budget}
@@ -109,3 +112,15 @@ too_much limits text more n cost b over k = out over (split limits text more n c
 
 pub keep_none : (limits : Limits) (n : ℕ) → KeepTo limits [] n
 keep_none limits n = record { costs = []; budgets = tt; steps = omega arith; bytes = omega arith }
+
+-- the last template decides
+pub last_decides :
+    (left : Option Limits) (limits rest : Limits) (text : List ℕ) (texts : List (List ℕ)) (n : ℕ) (answer : Bool)
+    → answer ≡ is_some left
+    → IfNone left ((more : List (List ℕ)) → ¬ (KeepTo rest (text ∷ more) n))
+    → IfSome left (λ less. (more : List (List ℕ)) → KeepTo less more n ↔ KeepTo rest (text ∷ more) n)
+    → (KeepTo rest (text ∷ []) n ↔ KeepTo limits texts n) → IsTrue answer ↔ KeepTo limits texts n
+last_decides None limits rest text texts n answer e none some kept =
+    (λ h. absurd (false≢true (sym e ∙ h)), λ k. absurd (none [] (kept.1 k)))
+last_decides (Some less) limits rest text texts n answer e none some kept =
+    (λ h. kept.0 ((some []).0 (keep_none less n)), λ k. e)

@@ -61,9 +61,11 @@ pub reply_over :
     → root ≡ request_tree request template → IsReplyOver (Rendered root) limits status given body root reply
     → IsReplyOf Rendered limits matcher status content request reply
 reply_over limits matcher status content lines given body request template root reply is same asked same_root made =
-    subst (λ c. IsReplyOf Rendered limits matcher status c request reply) (sym is)
-    (root, (template, asked, same_root),
-    subst (λ ls. IsReplyOver (Rendered root) limits status ls body root reply) same made)
+    subst (λ c. IsReplyOf Rendered limits matcher status c request reply) (sym is) (
+      root,
+      (template, asked, same_root),
+      subst (λ ls. IsReplyOver (Rendered root) limits status ls body root reply) same made,
+    )
 
 -- data over its limit is answered by an error
 pub too_large :
