@@ -1,0 +1,3 @@
+pub mod LimitLemmas
+pub mod ListLemmas
+pub mod ResponseLemmas

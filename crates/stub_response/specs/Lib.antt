@@ -1,0 +1,4 @@
+pub mod ErrorReply
+pub mod HeaderText
+pub mod Limits
+pub mod Response
