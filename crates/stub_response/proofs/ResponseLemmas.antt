@@ -1,5 +1,5 @@
 -- What was rendered is what is meant.
-use Rattle.std.proofs.Common.{◌≡◌, ◌<◌, ◌⊎◌, inl, inr, ℕ, List, Option, sym, subst, arith}
+use Rattle.std.proofs.Common.{◌≡◌, ◌<◌, inl, inr, ℕ, List, Option, sym, subst, arith}
 use Rattle.data_tree.specs.Json.{size}
 use Rattle.data_tree.specs.Tree.{Tree}
 use Rattle.data_tree.specs.declared.request_data.TheConstants.{SIZE_LIMIT}

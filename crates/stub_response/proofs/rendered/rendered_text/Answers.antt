@@ -1,4 +1,4 @@
-use Rattle.std.proofs.Common.{sym, subst, string_bytes}
+use Rattle.std.proofs.Common.{subst, string_bytes}
 use Rattle.data_tree.specs.RequestData.{root_of}
 use Rattle.template_machine.specs.Program.{IsMeant}
 use Rattle.stub_response.proofs.rendered.rendered_text.Goals as goal

@@ -1,4 +1,4 @@
-use Rattle.std.proofs.Common.{◌≡◌, IfOk, subst}
+use Rattle.std.proofs.Common.{IfOk, subst}
 use Rattle.std.proofs.lemmas.Result.{IfOk-weaker}
 use Rattle.mapping_model.specs.declared.response_spec.ResponseSpec.{ResponseSpec}
 use Rattle.stub_response.proofs.ResponseLemmas.{meant_reply}
