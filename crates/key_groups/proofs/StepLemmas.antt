@@ -1,7 +1,7 @@
 -- One key more in the lists of `specs/Groups.antt`.
-use Rattle.std.proofs.Common.{◌≡◌, ℕ, ◌+◌, ◌<◌, ◌≤◌, Bool, true, false, List, [], ◌∷◌, ◌++◌, length, get_or, take, drop, sym, ap, ◌∙◌, arith, Option}
-use Rattle.std.specs.Prelude.{◌&&◌, nat_lt, if◌then◌else◌, count_by}
-use Rattle.std.proofs.lemmas.Bool.{eq-eqb, ne_eqb, lt-ltb, le-ltb}
+use Rattle.std.proofs.Common.{◌≡◌, ℕ, ◌+◌, ◌<◌, ◌≤◌, Bool, List, [], ◌∷◌, ◌++◌, length, get_or, take, drop, refl, sym, ap, ◌∙◌, ⊎_elim, arith, Option, suc}
+use Rattle.std.specs.Prelude.{◌&&◌, ◌==◌, nat_lt, if◌then◌else◌, count_by}
+use Rattle.std.proofs.lemmas.Bool.{cases_eq, eq-eqb, ne_eqb}
 use Rattle.std.proofs.lemmas.List.{at_drop_more, take_more, length-take-le}
 use Rattle.std.proofs.lemmas.List.Sums.{count_by-le-length}
 use Rattle.key_groups.specs.Groups.{times, begins_larger, group_of, larger_from, place_of, places_from}
@@ -14,20 +14,22 @@ count_by-take-lt p keys i l =
     let front : length (take i keys) ≡ i = length-take-le i keys within in
     omega arith
 
+first_same : (n : ℕ) → (n + 1 == 1) ≡ (n == 0)
+first_same n =
+    ⊎_elim
+    (λ (none : n ≡ 0). eq-eqb (n + 1) 1 (omega arith) ∙ sym (eq-eqb n 0 none))
+    (λ some. ne_eqb (n + 1) 1 (λ e. some (omega (arith, e))) ∙ sym (ne_eqb n 0 some))
+    (cases_eq n 0)
+
 module _ {K : Type 0} (same : K → K → Bool) (keys : List K) (i : ℕ) where
-  pub begins-yes : (key : K) → times same key (take i keys) + 1 ≡ 1 → 1 < times same key keys → begins_larger same keys (take i keys) key ≡ true
-  begins-yes key first repeated =
-      ap (λ b. b && nat_lt 1 (times same key keys)) (eq-eqb (times same key (take i keys)) 0 (omega arith))
-      ∙ lt-ltb 1 (times same key keys) repeated
-
-  pub begins-later : (key : K) → (times same key (take i keys) + 1 ≡ 1 → ⊥) → begins_larger same keys (take i keys) key ≡ false
-  begins-later key later =
-      ap (λ b. b && nat_lt 1 (times same key keys)) (ne_eqb (times same key (take i keys)) 0 (λ e. later (ap (λ n. n + 1) e)))
-
-  pub begins-alone : (key : K) → times same key (take i keys) + 1 ≡ 1 → times same key keys ≤ 1 → begins_larger same keys (take i keys) key ≡ false
-  begins-alone key first alone =
-      ap (λ b. b && nat_lt 1 (times same key keys)) (eq-eqb (times same key (take i keys)) 0 (omega arith))
-      ∙ le-ltb 1 (times same key keys) alone
+  -- the test of the code, which counts from 1
+  pub begins_same
+      : (key : K) (position size : ℕ) (begins : Bool) → begins ≡ ((position == 1) && nat_lt 1 size)
+      → position ≡ times same key (take i keys) + 1 → size ≡ times same key keys
+      → begins ≡ begins_larger same keys (take i keys) key
+  begins_same key position size begins tested e f =
+      tested ∙ (λ j. (e j == 1) && nat_lt 1 (f j))
+      ∙ ap (λ b. b && nat_lt 1 (times same key keys)) (first_same (times same key (take i keys)))
 
   pub larger_from-step : (key : K) (begins : Bool) → i < length keys → key ≡ get_or keys i key → begins_larger same keys (take i keys) key ≡ begins → larger_from same keys (take i keys) (drop i keys) ≡ (if begins then key ∷ [] else []) ++ larger_from same keys (take (i + 1) keys) (drop (i + 1) keys)
   larger_from-step key begins l here decided =
@@ -43,3 +45,10 @@ module _ {K : Type 0} (same : K → K → Bool) (keys : List K) (i : ℕ) where
 
   pub place_of-parts : (key : K) (p s : ℕ) (g : Option ℕ) → p ≡ times same key (take i keys) + 1 → s ≡ times same key keys → g ≡ group_of same keys key → record { position = p; size = s; group = g } ≡ place_of same keys (take i keys) key
   place_of-parts key p s g e f h = λ j. record { position = e j; size = f j; group = h j }
+
+-- each key has its place
+pub length-places_from
+    : {K : Type 0} (same : K → K → Bool) (all before rest : List K)
+    → length (places_from same all before rest) ≡ length rest
+length-places_from same all before [] = refl
+length-places_from same all before (key ∷ rest) = ap suc (length-places_from same all (before ++ key ∷ []) rest)

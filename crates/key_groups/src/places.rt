@@ -1,5 +1,5 @@
 // Equal keys as groups, by maps: each key is looked up, and compared with those of its hash alone.
-ghost use Rattle.std.specs.Prelude.{◌≡◌, length, IfOk, OnOk};
+ghost use Rattle.std.specs.Prelude.{◌≡◌, ◌==◌, ◌&&◌, nat_lt, length, IfOk, OnOk};
 ghost use Rattle.key_groups.specs.Groups.{larger_groups, places_of};
 ghost use Rattle.key_groups.specs.Inner.Maps.{values_at, Counts, Numbers, PositionsBelow, PutsNew};
 
@@ -17,10 +17,13 @@ pub fn places_of<K: Eq + Hash>(alloc: Global, keys: &[K]) -> Result<Vec<Place>, 
     let numbers = numbers_of(alloc, larger.as_slice())?;
     let mut places = Vec::with_capacity(alloc, keys.len())?;
     for index in 0..keys.len() {
+        let position = counted.positions[index];
+        let size = counted.sizes.get(&&keys[index]).copied().unwrap_or(0);
+        let group = numbers.get(&&keys[index]).copied();
         places.push(Place {
-            position: counted.positions[index],
-            size: counted.sizes.get(&&keys[index]).copied().unwrap_or(0),
-            group: numbers.get(&&keys[index]).copied(),
+            position,
+            size,
+            group,
         })?;
     }
     Ok(places)
@@ -65,12 +68,20 @@ fn larger_of<'a, K: Eq + Hash>(
     let mut larger = Vec::new(alloc);
     for index in 0..keys.len() {
         let key = &keys[index];
+        let position = counted.positions[index];
         let size = counted.sizes.get(&key).copied().unwrap_or(0);
-        if counted.positions[index] == 1 && size > 1 {
+        if begins_larger(position, size) {
             larger.push(key)?;
         }
     }
     Ok(larger)
+}
+
+// Whether the key of that position is the first of a group that has two or more.
+fn begins_larger(position: usize, size: usize) -> bool
+    ensures { result ≡ ((position == 1) && nat_lt 1 size) }
+{
+    position == 1 && size > 1
 }
 
 // Which of the keys is the first that is equal to each, from 1.

@@ -22,21 +22,21 @@ loop-index-preserved g c =
     let inside : i < length keys = omega arith in
     let held : i < length positions = let len = c.in_ok-counted.ensures.len in omega arith in
     let place : Place = record {
-      position = c.index.result.now;
-      size = c.unwrap_or.result;
-      group = c.copied-in-loop-index.result;
+      position = c.index-position.result.now;
+      size = c.unwrap_or-size.result;
+      group = c.copied-group.result;
     } in
-    let position : c.index.result.now ≡ times same here (take i keys) + 1 =
-    get_or_read positions i c.index.result.now held c.index.ensures 0
+    let position : c.index-position.result.now ≡ times same here (take i keys) + 1 =
+    get_or_read positions i c.index-position.result.now held c.index-position.ensures 0
     ∙ c.in_ok-counted.ensures.positions i key inside in
-    let size : c.unwrap_or.result ≡ times same here keys =
-    c.unwrap_or.ensures ∙ ap (λ o. unwrap_or o 0) (c.copied.ensures ∙ c.get.ensures.value)
+    let size : c.unwrap_or-size.result ≡ times same here keys =
+    c.unwrap_or-size.ensures ∙ ap (λ o. unwrap_or o 0) (c.copied.ensures ∙ c.get.ensures.value)
     ∙ c.in_ok-counted.ensures.sizes (record { ref_ptr = (0, 0); now = key })
     ∙ ap (λ k. times same k keys) c.index-keys-index.is in
     let larger : values_at c.as_slice.result.now ≡ larger_groups same keys =
     ap (λ xs. values_at xs) c.as_slice.ensures.value ∙ c.in_ok-larger.ensures in
-    let group : c.copied-in-loop-index.result ≡ group_of same keys here =
-    c.copied-in-loop-index.ensures ∙ c.get-in-loop-index.ensures.value
+    let group : c.copied-group.result ≡ group_of same keys here =
+    c.copied-group.ensures ∙ c.get-in-loop-index.ensures.value
     ∙ c.in_ok-numbers.ensures (record { ref_ptr = (0, 0); now = again })
     ∙ ap (λ xs. position_from (λ other. same other again) 1 xs) larger
     ∙ ap (λ k. position_from (λ other. same other k) 1 (larger_groups same keys))
