@@ -1,3 +1,4 @@
+pub mod HashLemmas
 pub mod LastLemmas
 pub mod AuthorityLemmas
 pub mod TargetLemmas

@@ -1,6 +1,7 @@
 -- By what requests are grouped.
-use Rattle.std.specs.Prelude.{ℕ, List, map}
+use Rattle.std.specs.Prelude.{ℕ, Bool, ◌&&◌, List, map}
 use Rattle.std.specs.Borrow.{Bor}
+use Rattle.std.specs.Cmp.Lexicographic.{pointwise}
 use Rattle.std.specs.List.{filter, flat_map}
 use Rattle.std.specs.Str.{bytes_eq}
 use Rattle.mock_request.specs.Request.{Header, Request}
@@ -31,3 +32,13 @@ key_of request captured = record {
   headers = captured_headers captured request.headers;
   body = request.body;
 }
+
+-- ---- equal keys: byte by byte
+
+abbrev pub same_header : Header → Header → Bool
+same_header a b = bytes_eq a.name b.name && bytes_eq a.value b.value
+
+abbrev pub same_key : KeyParts → KeyParts → Bool
+same_key a b =
+    bytes_eq a.method b.method && bytes_eq a.url b.url && pointwise same_header a.headers b.headers
+    && bytes_eq a.body b.body

@@ -3,3 +3,4 @@ pub mod Recording
 pub mod Key
 pub mod Errors
 pub mod Stubs
+pub mod Inner

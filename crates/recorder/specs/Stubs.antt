@@ -1,18 +1,22 @@
 -- The mappings that a list of exchanges gives: those that aren't skipped, grouped by key.
 use Rattle.std.specs.Prelude.{ℕ, suc, ◌+◌, Bool, not, ◌&&◌, List, [], ◌∷◌, ◌++◌, Option, None, Some}
-use Rattle.std.specs.Prelude.{map, length, nat_lt, nat_le, if◌then◌else◌, codes, decimal}
-use Rattle.std.specs.List.{filter, list_all, list_any, position_or_len}
-use Rattle.std.specs.Cmp.Lexicographic.{pointwise}
-use Rattle.std.specs.Str.{bytes_eq, is_utf8}
+use Rattle.std.specs.Prelude.{map, length, ◌==◌, nat_lt, nat_le, if◌then◌else◌, codes, decimal}
+use Rattle.std.specs.List.{filter, list_all}
+use Rattle.std.specs.Option.{option_map}
+use Rattle.std.specs.Str.{is_utf8}
+use Rattle.key_groups.specs.Groups.{places_of}
+use Rattle.key_groups.specs.declared.place.Place.{Place}
 use Rattle.mock_request.specs.Request.{Header}
 use Rattle.mapping_model.specs.Body.{text_body}
 use Rattle.mapping_model.specs.MappingId.{recording_id}
 use Rattle.mapping_model.specs.declared.body_pattern.BodyPattern.{BodyPattern}
 use Rattle.mapping_model.specs.declared.body_pattern.BodyPattern.TheVariants as pattern
+use Rattle.mapping_model.specs.declared.header_lines.HeaderLine.{HeaderLine}
 use Rattle.mapping_model.specs.declared.header_lines.TheConstants.{HEADER_LIMIT}
 use Rattle.mapping_model.specs.declared.mapping_spec.MappingSpec.{MappingSpec}
 use Rattle.mapping_model.specs.declared.named_matcher.NamedMatcher.{NamedMatcher}
 use Rattle.mapping_model.specs.declared.reply.Reply.{Reply}
+use Rattle.mapping_model.specs.declared.reply.ReplyHeader.{ReplyHeader}
 use Rattle.mapping_model.specs.declared.request_spec.RequestSpec.{RequestSpec}
 use Rattle.mapping_model.specs.declared.response_spec.Body.{Body}
 use Rattle.mapping_model.specs.declared.response_spec.Body.TheVariants as body
@@ -24,15 +28,7 @@ use Rattle.value_match.specs.declared.value_spec.ValueSpec.{ValueSpec}
 use Rattle.value_match.specs.declared.value_spec.ValueSpec.TheVariants as value
 use Rattle.recorder.specs.declared.exchange.Exchange.{Exchange}
 use Rattle.recorder.specs.declared.recording.Session.{Session}
-use Rattle.recorder.specs.Key.{KeyParts, key_of, headers_named}
-
-abbrev pub same_header : Header → Header → Bool
-same_header a b = bytes_eq a.name b.name && bytes_eq a.value b.value
-
-abbrev pub same_key : KeyParts → KeyParts → Bool
-same_key a b =
-    bytes_eq a.method b.method && bytes_eq a.url b.url && pointwise same_header a.headers b.headers
-    && bytes_eq a.body b.body
+use Rattle.recorder.specs.Key.{KeyParts, key_of, headers_named, same_key}
 
 -- ---- one exchange
 
@@ -53,11 +49,14 @@ header_matcher headers name = record { name = name; matcher = first_value (heade
 abbrev pub reply_body : List ℕ → Body (List ℕ)
 reply_body bytes = if is_utf8 bytes then text_body bytes else body.Base64 bytes
 
+-- the bytes of the value as text
+abbrev pub header_line : ReplyHeader → HeaderLine (List ℕ)
+header_line line = record { name = line.name; value = line.value }
+
 abbrev pub response_of : Reply → ResponseSpec
 response_of reply = record {
   status = reply.status;
-  content =
-      content.Plain (map (λ line. record { name = line.name; value = line.value }) reply.headers) (reply_body reply.body);
+  content = content.Plain (map header_line reply.headers) (reply_body reply.body);
 }
 
 -- one header at most, and its value is UTF-8
@@ -69,6 +68,45 @@ abbrev pub can_be_response : Reply → Bool
 can_be_response reply =
     list_all (λ line. is_utf8 line.value) reply.headers && nat_le (length reply.headers) HEADER_LIMIT
     && nat_le 200 reply.status && nat_le reply.status 599
+
+-- ---- scenarios
+
+-- the state in which the k-th of a group is served, from 1
+abbrev pub state_name : ℕ → List ℕ
+state_name k = if nat_le k 1 then codes "Started" else decimal k
+
+-- the k-th of a group of n
+abbrev pub scenario_part : List ℕ → ℕ → ℕ → ScenarioSpec
+scenario_part name k n = record {
+  name = name;
+  required = Some (state_name k);
+  next = if nat_lt k n then Some (decimal (k + 1)) else None;
+}
+
+abbrev pub scenario_name : ℕ → ℕ → List ℕ
+scenario_name number group = codes "recording-" ++ (decimal number ++ (codes "-" ++ decimal group))
+
+-- none for a group of one
+abbrev pub scenario_of : ℕ → Place → Option ScenarioSpec
+scenario_of number place =
+    option_map (λ group. scenario_part (scenario_name number group) place.position place.size) place.group
+
+-- ---- which exchanges give a mapping, each with its scenario
+
+-- with `repeats` each of them, else the first of its group alone
+abbrev pub part_of : Bool → ℕ → Exchange → Place → List (Exchange × Option ScenarioSpec)
+part_of repeats number exchange place =
+    if repeats then (exchange, scenario_of number place) ∷ []
+    else (if place.position == 1 then (exchange, None) ∷ [] else [])
+
+-- exchanges and their places
+abbrev pub parts_of : Bool → ℕ → List Exchange → List Place → List (Exchange × Option ScenarioSpec)
+parts_of repeats number [] places = []
+parts_of repeats number (exchange ∷ exchanges) [] = []
+parts_of repeats number (exchange ∷ exchanges) (place ∷ places) =
+    part_of repeats number exchange place ++ parts_of repeats number exchanges places
+
+-- ---- with the names of the captured headers
 
 module _ (captured : List (List ℕ)) where
   abbrev pub request_of : Exchange → RequestSpec
@@ -87,64 +125,10 @@ module _ (captured : List (List ℕ)) where
       list_all (λ name. is_text_once (headers_named name exchange.request.headers)) captured
       && can_be_response exchange.reply
 
-  -- ---- groups: `all` are the exchanges that aren't skipped, `before` those before this one
-
-  abbrev pub is_alike : Exchange → Exchange → Bool
-  is_alike a b = same_key (key_of a.request captured) (key_of b.request captured)
-
-  abbrev pub group_of : Exchange → List Exchange → List Exchange
-  group_of exchange all = filter (is_alike exchange) all
-
-  abbrev pub is_first : List Exchange → Exchange → Bool
-  is_first before exchange = not (list_any (is_alike exchange) before)
-
-  -- its group has two or more
-  abbrev pub is_repeated : List Exchange → Exchange → Bool
-  is_repeated all exchange = nat_lt 1 (length (group_of exchange all))
-
-  -- the first exchange of each larger group, in order; `rest` are those after `before`
-  abbrev pub first_repeated : List Exchange → List Exchange → List Exchange → List Exchange
-  first_repeated all before [] = []
-  first_repeated all before (exchange ∷ rest) =
-      (if is_first before exchange && is_repeated all exchange then exchange ∷ [] else [])
-      ++ first_repeated all (before ++ exchange ∷ []) rest
-
-  -- from 1
-  abbrev pub group_number : List Exchange → Exchange → ℕ
-  group_number all exchange = position_or_len (is_alike exchange) (first_repeated all [] all) + 1
-
-  -- the state in which the k-th of a group is served, from 1
-  abbrev pub state_name : ℕ → List ℕ
-  state_name k = if nat_le k 1 then codes "Started" else decimal k
-
-  -- the k-th of a group of n
-  abbrev pub scenario_part : List ℕ → ℕ → ℕ → ScenarioSpec
-  scenario_part name k n = record {
-    name = name;
-    required = Some (state_name k);
-    next = if nat_lt k n then Some (decimal (k + 1)) else None;
-  }
-
-  abbrev pub scenario_name : ℕ → ℕ → List ℕ
-  scenario_name number group = codes "recording-" ++ (decimal number ++ (codes "-" ++ decimal group))
-
-  -- none for a group of one
-  abbrev pub scenario_of : ℕ → List Exchange → List Exchange → Exchange → Option ScenarioSpec
-  scenario_of number all before exchange =
-      if is_repeated all exchange
-      then Some (scenario_part (scenario_name number (group_number all exchange))
-      (length (group_of exchange before) + 1) (length (group_of exchange all)))
-      else None
-
   -- ---- the mappings
 
-  -- the exchanges that give a mapping, each with its scenario: with `repeats` all, else the first of each group
-  abbrev pub parts_of : Bool → ℕ → List Exchange → List Exchange → List Exchange → List (Exchange × Option ScenarioSpec)
-  parts_of repeats number all before [] = []
-  parts_of repeats number all before (exchange ∷ rest) =
-      (if repeats then (exchange, scenario_of number all before exchange) ∷ []
-      else (if is_first before exchange then (exchange, None) ∷ [] else []))
-      ++ parts_of repeats number all (before ++ exchange ∷ []) rest
+  abbrev pub keys_of : List Exchange → List KeyParts
+  keys_of exchanges = map (λ exchange. key_of exchange.request captured) exchanges
 
   abbrev pub mapping_of : ℕ → ℕ → Exchange → Option ScenarioSpec → MappingSpec
   mapping_of number index exchange scenario = record {
@@ -167,7 +151,8 @@ module _ (captured : List (List ℕ)) where
   -- `number` is that of the event that stopped the recording
   abbrev pub mappings_of : List Exchange → Bool → ℕ → List MappingSpec
   mappings_of exchanges repeats number =
-      numbered number 0 (parts_of repeats number (kept_of exchanges) [] (kept_of exchanges))
+      numbered number 0
+      (parts_of repeats number (kept_of exchanges) (places_of same_key (keys_of (kept_of exchanges))))
 
   abbrev pub skipped_of : List Exchange → ℕ
   skipped_of exchanges = length (filter (λ exchange. not (is_kept exchange)) exchanges)

@@ -1,20 +1,121 @@
 // By what requests are grouped.
-ghost use Rattle.std.specs.Prelude.{◌≡◌, ◌++◌, List, map, IfOk, OnOk};
-ghost use Rattle.recorder.specs.Key.{key_of, headers_named, fields_of};
+ghost use Rattle.std.specs.Prelude.{◌≡◌, ◌++◌, List, map, fold, IfOk, OnOk};
+ghost use Rattle.std.specs.Cmp.{partial_equiv_from_equiv};
+ghost use Rattle.std.specs.Cmp.Lexicographic.{pointwise};
+ghost use Rattle.std.specs.Hash.{slice as slice_writes};
+ghost use Rattle.recorder.specs.Key.{key_of, headers_named, fields_of, same_header, same_key};
+ghost use Rattle.recorder.specs.Inner.Keys.{bytes_writes, header_writes, key_writes, same_key_laws, key_Alike};
 
 use crate::exchange::Exchange;
 use mock_request::snapshot::Snapshot;
 use plain_text::text::Text;
 use std::alloc::{AllocError, Global};
+use std::hash::{Hash, Hasher};
+use std::marker::Model;
 
-/// By what requests are grouped. It lends the parts of the request.
+/// By what requests are grouped, which contracts see as its parts. It lends the parts of the request.
 #[derive(Drop)]
 pub struct Key<'a> {
-    pub method: &'a str,
-    pub url: &'a str,
-    /// For each captured name its headers.
-    pub headers: Vec<(&'a str, &'a [u8])>,
-    pub body: &'a [u8],
+    method: &'a str,
+    url: &'a str,
+    // For each captured name its headers.
+    headers: Vec<(&'a str, &'a [u8])>,
+    body: &'a [u8],
+}
+
+impl<'a> Model for Key<'a> {
+    ghost use Rattle.recorder.specs.Key.{KeyParts, fields_of};
+
+    ghost Value = { KeyParts };
+
+    ghost view = { λ k. record {
+      method = k.method.now;
+      url = k.url.now;
+      headers = fields_of k.headers.items;
+      body = k.body.now;
+    } };
+}
+
+impl<'a> Key<'a> {
+    pub fn method(&self) -> &str
+        ensures { result.now ≡ self.now.method }
+    {
+        self.method
+    }
+
+    pub fn url(&self) -> &str
+        ensures { result.now ≡ self.now.url }
+    {
+        self.url
+    }
+
+    /// For each captured name the headers of that name, in their order.
+    pub fn headers(&self) -> &[(&'a str, &'a [u8])]
+        ensures { fields_of result.now ≡ self.now.headers }
+    {
+        self.headers.as_slice()
+    }
+
+    pub fn body(&self) -> &[u8]
+        ensures { result.now ≡ self.now.body }
+    {
+        self.body
+    }
+}
+
+impl<'a> PartialEq for Key<'a> {
+    ghost eq = { same_key };
+
+    ghost laws = { partial_equiv_from_equiv same_key_laws };
+
+    fn eq(&self, other: &Key<'a>) -> bool {
+        self.method == other.method
+            && self.url == other.url
+            && same_headers(self.headers.as_slice(), other.headers.as_slice())
+            && self.body == other.body
+    }
+}
+
+impl<'a> Eq for Key<'a> {
+    ghost laws = { same_key_laws };
+}
+
+impl<'a> Hash for Key<'a> {
+    ghost hash_input = { key_writes };
+
+    ghost respects_eq = { key_Alike.fed };
+
+    fn hash<H: Hasher>(&self, state: &mut H) {
+        write_bytes(self.method.as_bytes(), state);
+        write_bytes(self.url.as_bytes(), state);
+        write_headers(self.headers.as_slice(), state);
+        write_bytes(self.body, state);
+    }
+}
+
+fn same_headers(a: &[(&str, &[u8])], b: &[(&str, &[u8])]) -> bool
+    ensures { result ≡ pointwise same_header (fields_of a.now) (fields_of b.now) }
+{
+    a == b
+}
+
+fn write_headers<H: Hasher>(headers: &[(&str, &[u8])], state: &mut H)
+    ensures { state.new ≡ fold H.write state.old (slice_writes header_writes (fields_of headers.now)) }
+{
+    state.write_usize(headers.len());
+    for index in 0..headers.len() {
+        let (name, value) = headers[index];
+        write_bytes(name.as_bytes(), state);
+        write_bytes(value, state);
+    }
+}
+
+// The length and then the bytes, all in one write: std's hash of a slice writes each byte on its own.
+fn write_bytes<H: Hasher>(bytes: &[u8], state: &mut H)
+    ensures { state.new ≡ fold H.write state.old (bytes_writes bytes.now) }
+{
+    state.write_usize(bytes.len());
+    state.write(bytes);
 }
 
 /// The key of an exchange's request; the captured names are in lower case.
@@ -23,12 +124,7 @@ pub fn key_of<'a>(
     exchange: &'a Exchange,
     captured: &[Text],
 ) -> Result<Key<'a>, AllocError>
-    ensures { IfOk result (λ key. record {
-      method = key.method.now;
-      url = key.url.now;
-      headers = fields_of key.headers.items;
-      body = key.body.now;
-    } ≡ key_of exchange.now.request captured.now) }
+    ensures { IfOk result (λ key. key ≡ key_of exchange.now.request captured.now) }
 {
     let request = &exchange.request;
     let mut headers = Vec::new(alloc);
