@@ -1,0 +1,3 @@
+pub mod TextLemmas
+pub mod HeaderLemmas
+pub mod StubLemmas
