@@ -1,5 +1,6 @@
 -- The first error of body matchers: what one more adds, and what it says of the whole matcher.
-use Rattle.std.proofs.Common.{◌≡◌, ℕ, ◌≤◌, List, ◌++◌, All, Any, Option, None, Some, arith, sym, subst}
+use Rattle.std.proofs.Common.{◌≡◌, ℕ, ◌≤◌, List, ◌++◌, All, Any, Option, None, Some, arith, length, sym, subst, take}
+use Rattle.std.proofs.lemmas.List.{take_all}
 use Rattle.std.specs.List.{filter_map}
 use Rattle.std.proofs.lemmas.List.Elements.{All-append, filter_map-append}
 use Rattle.json_bridge.specs.Path.{IsPath}
@@ -86,6 +87,12 @@ none_added known ps qs p q = record {
   passed = passed_both (known_rank known) (known_rank known) 6 ps qs (omega arith) (at_most_six known) p.passed q.passed;
   failed = failed_still known ps qs p.failed;
 }
+
+-- what holds of the first ones holds of all, once these are all
+pub of_all : (first known : Option RequestMatchError) (i : ℕ) (ps : List BodyPattern) → length ps ≤ i → first ≡ known →
+    IsFirstError first (take i ps) → IsFirstError known ps
+of_all first known i ps all is f =
+    subst (λ k. IsFirstError k ps) is (subst (IsFirstError first) (take_all i ps all) f)
 
 pub body_error : (error : RequestMatchError) (ps : List BodyPattern) → IsFirstError (Some error) ps → IsBodyRefusal ps error
 body_error OutOfMemory ps f = f.failed

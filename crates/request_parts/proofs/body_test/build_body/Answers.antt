@@ -1,7 +1,7 @@
-use Rattle.std.proofs.Common.{◌≡◌, ◌+◌, ◌∷◌, ◌++◌, [], Some, take, ap, sym, subst, arith, ◌∙◌}
+use Rattle.std.proofs.Common.{◌≡◌, ◌+◌, ◌∷◌, ◌++◌, [], None, Some, take, ap, sym, subst, arith, ◌∙◌}
 use Rattle.std.proofs.lemmas.List.{take_more}
 use Rattle.request_parts.specs.Inner.FirstError.{IsFirstError}
-use Rattle.request_parts.proofs.ErrorLemmas.{none_added}
+use Rattle.request_parts.proofs.ErrorLemmas.{none_added, of_all, body_error}
 use Rattle.request_parts.proofs.body_test.build_body.Goals as goal
 use Rattle.request_parts.proofs.body_test.build_body.Goals.{in-Ok+in_ok-push-in-Ok, in-Err}
 
@@ -28,3 +28,24 @@ loop-spec-preserved c =
         built = λ none. absurd cc (sym w.first-is ∙ none);
       }
     ]
+
+pub returns-in-Some-clause-refusal : goal.returns-in-Some-clause-refusal
+returns-in-Some-clause-refusal c =
+    body_error c.in-Some.error c.args.specs.now
+    (of_all c.loop-spec.first (Some c.in-Some.error) c.loop-spec.spec-index c.args.specs.now (omega arith) c.in-Some.is
+    c.loop-spec.invariant.is_first)
+
+pub returns-in-None-clause-patterns : goal.returns-in-None-clause-patterns
+returns-in-None-clause-patterns c =
+    (of_all c.loop-spec.first None c.loop-spec.spec-index c.args.specs.now (omega arith) c.in-None.is
+    c.loop-spec.invariant.is_first).passed.patterns_are (omega arith)
+
+pub returns-in-None-clause-trees : goal.returns-in-None-clause-trees
+returns-in-None-clause-trees c =
+    (of_all c.loop-spec.first None c.loop-spec.spec-index c.args.specs.now (omega arith) c.in-None.is
+    c.loop-spec.invariant.is_first).passed.trees (omega arith)
+
+pub returns-in-None-clause-paths : goal.returns-in-None-clause-paths
+returns-in-None-clause-paths c =
+    (of_all c.loop-spec.first None c.loop-spec.spec-index c.args.specs.now (omega arith) c.in-None.is
+    c.loop-spec.invariant.is_first).passed.paths (omega arith)
