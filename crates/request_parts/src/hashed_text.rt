@@ -44,7 +44,7 @@ impl HashedText {
 }
 
 /// A text with its hash. Contracts see the text.
-#[derive(Clone, Copy)]
+#[derive(Drop)]
 pub(crate) struct HashedStr<'a> {
     text: &'a str,
     hash: u64,
