@@ -1,26 +1,18 @@
 //! JSON matchers: equal to an expected value, and found by a path alone.
 
-use crate::values::{refused, text_of, yes_or_no};
 use case_table::row::Row;
 use json_bridge::read::read_json;
 use json_match::error::JsonMatchError;
 use json_match::json_matcher::JsonMatcher;
 use json_match::json_spec::JsonSpec;
+use matcher_cells::answers::{refused, yes_or_no};
+use matcher_cells::matchers::{equal_spec, text_of};
 use std::alloc::{AllocError, Global};
 
 /// The flags, the expected and the actual JSON text.
 pub fn equal(alloc: Global, row: &Row) -> Result<String, AllocError> {
     let spec = equal_spec(alloc, row.cell(0), row.cell(1))?;
     answer(alloc, &spec, row.cell(2))
-}
-
-/// The matcher with the flags and the expected JSON text.
-pub fn equal_spec(alloc: Global, flags: &str, expected: &str) -> Result<JsonSpec, AllocError> {
-    Ok(JsonSpec::EqualTo {
-        expected: text_of(alloc, expected)?,
-        ignore_array_order: flags.contains("any order"),
-        ignore_extra_elements: flags.contains("more"),
-    })
 }
 
 /// The path and the JSON text.

@@ -1,10 +1,8 @@
-//! Compares what the matchers of `value_match`, `json_match`, `path_template` and `request_match` answer with the tables
-//! in `data/`.
+//! Compares what the matchers of `value_match`, `json_match` and `path_template` answer with the tables in `data/`.
 #![tactic(auto)]
 
 mod json;
 mod path_templates;
-mod requests;
 mod table;
 mod values;
 
@@ -20,8 +18,6 @@ fn main(rt: HostRuntime) -> io::Result<ExitCode> {
             Table::Values,
             Table::Json,
             Table::Paths,
-            Table::Requests,
-            Table::ComputedRequests,
             Table::Bindings,
             Table::TemplatePaths,
             Table::SameTemplates,

@@ -1,6 +1,6 @@
 //! The tables, and which call each of them is about.
 
-use crate::{json, path_templates, requests, values};
+use crate::{json, path_templates, values};
 use case_table::compare::CaseTable;
 use case_table::row::Row;
 use std::alloc::{AllocError, Global};
@@ -11,9 +11,6 @@ pub enum Table {
     Values,
     Json,
     Paths,
-    Requests,
-    /// Requests and matchers whose results an independent program computed.
-    ComputedRequests,
     Bindings,
     /// Templates and paths of requests, whose results an independent program computed.
     TemplatePaths,
@@ -26,8 +23,6 @@ impl CaseTable for Table {
             Table::Values => "values.tsv",
             Table::Json => "json.tsv",
             Table::Paths => "paths.tsv",
-            Table::Requests => "requests.tsv",
-            Table::ComputedRequests => "computed_requests.tsv",
             Table::Bindings => "bindings.tsv",
             Table::TemplatePaths => "template_paths.tsv",
             Table::SameTemplates => "same_templates.tsv",
@@ -39,7 +34,6 @@ impl CaseTable for Table {
             Table::Values => values::answer(alloc, row),
             Table::Json => json::equal(alloc, row),
             Table::Paths => json::path(alloc, row),
-            Table::Requests | Table::ComputedRequests => requests::answer(alloc, row),
             Table::Bindings => path_templates::bound(alloc, row),
             Table::TemplatePaths => path_templates::matched(alloc, row),
             Table::SameTemplates => path_templates::same(alloc, row),

@@ -1,8 +1,7 @@
 -- When a path matches a path template, and what the template's names are bound to.
-use Rattle.std.specs.Prelude.{ℕ, List, [], ◌∷◌, Option, None, Some, ◌==◌, if◌then◌else◌, map, option_map}
-use Rattle.std.specs.Prelude.{option_and_then, IsSome, String, string_bytes}
+use Rattle.std.specs.Prelude.{ℕ, List, [], ◌∷◌, Option, None, Some, ◌==◌, if◌then◌else◌, option_map}
+use Rattle.std.specs.Prelude.{option_and_then, IsSome}
 use Rattle.std.specs.Str.{bytes_eq}
-use Rattle.std.specs.declared.alloc.Global.{Global}
 use Rattle.mock_request.specs.Target.{slash}
 use Rattle.mock_request.specs.Url.{segments_of}
 use Rattle.path_template.specs.Template.{Piece, Literal, Named, is_not_empty, pieces_of}
@@ -39,7 +38,3 @@ value_of name (binding ∷ bindings) = if bytes_eq name binding.0 then Some bind
 -- what the template binds the name to in the path: nothing where the path doesn't match, or the template lacks the name
 abbrev pub binding_of : List ℕ → List ℕ → List ℕ → Option (List ℕ)
 binding_of template path name = option_and_then (value_of name) (bindings_of template path)
-
--- bindings as they are kept
-abbrev pub pairs_of : List (String Global × String Global) → List Binding
-pairs_of pairs = map (λ pair. (string_bytes pair.0, string_bytes pair.1)) pairs

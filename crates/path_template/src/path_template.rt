@@ -2,7 +2,8 @@
 ghost use Rattle.std.specs.Prelude.{◌≡◌, ◌↔◌, IfOk, OnOk, IsErrOf, IsTrue, MatchOption, None, option_map};
 ghost use Rattle.std.specs.Prelude.{option_copied};
 ghost use Rattle.path_template.specs.Template.{IsTemplate};
-ghost use Rattle.path_template.specs.Matching.{Matches, bindings_of, binding_of, pairs_of};
+ghost use Rattle.mock_request.specs.Values.{pairs_of};
+ghost use Rattle.path_template.specs.Matching.{Matches, bindings_of, binding_of};
 ghost use Rattle.path_template.specs.Inner.Walks.{bound_by};
 
 use crate::error::PathTemplateError;

@@ -1,104 +1,17 @@
 -- Which error of a whole matcher the error of one of its parts is.
-use Rattle.std.proofs.Common.{◌≡◌, ℕ, List, [], ◌∷◌, ◌++◌, All, Any, None, Some, Result, Ok, Err, IfErr, arith, refl, sym, subst, inl, inr}
-use Rattle.std.specs.Result.{IsErrAnd}
-use Rattle.std.proofs.lemmas.List.Elements.{All-append, All-cons, All-nil}
-use Rattle.json_bridge.specs.Path.{IsPath}
-use Rattle.json_bridge.specs.Reading.{IsJson, tree_of_text}
-use Rattle.json_bridge.specs.declared.error.JsonPathError.{JsonPathError}
-use Rattle.json_bridge.specs.declared.error.JsonPathError.TheVariants as path
-use Rattle.json_match.specs.Refusal.{IsNotJson, HasNumberNotWhole, HasBadPath}
-use Rattle.json_match.specs.declared.error.JsonMatchError.{JsonMatchError}
-use Rattle.json_match.specs.declared.error.JsonMatchError.TheVariants as json
-use Rattle.json_match.specs.declared.json_spec.JsonSpec.{JsonSpec}
-use Rattle.json_match.specs.declared.json_spec.JsonSpec.TheVariants.{EqualTo, Path}
-use Rattle.mapping_model.specs.declared.body_pattern.BodyPattern.TheVariants as body
+use Rattle.std.proofs.Common.{◌≡◌, ◌++◌, All, Any, refl, inl, inr}
+use Rattle.std.proofs.lemmas.List.Elements.{All-append}
 use Rattle.mapping_model.specs.declared.request_spec.RequestSpec.{RequestSpec}
-use Rattle.request_match.proofs.AnyLemmas.{any_here, any_left, any_right}
-use Rattle.request_match.specs.Errors.{error_of_json, error_of_path, error_of_value}
-use Rattle.request_match.specs.Inner.FirstError.{IsFirstError}
-use Rattle.request_match.specs.Inner.Heads.{IsUrlRefusal}
-use Rattle.request_match.specs.Refusal.{HasTemplate, HasTree, IsBodyRefusal, IsRefusal, CanBeBuilt, head_matchers, matchers_of, url_matchers}
-use Rattle.request_match.specs.declared.error.RequestMatchError.{RequestMatchError}
-use Rattle.request_match.specs.declared.error.RequestMatchError.TheVariants.{BadUrl, BadPattern, NotJson}
-use Rattle.request_match.specs.declared.error.RequestMatchError.TheVariants.{NumberNotWhole, BadPath, OutOfMemory}
+use Rattle.request_match.specs.Refusal.{IsRefusal, head_matchers}
+use Rattle.request_parts.proofs.AnyLemmas.{any_left, any_right}
+use Rattle.request_parts.specs.Errors.{error_of_value}
+use Rattle.request_parts.specs.Refusal.{HasTemplate, IsUrlRefusal, IsBodyRefusal, matchers_of, url_matchers}
+use Rattle.request_parts.specs.declared.error.RequestMatchError.{RequestMatchError}
+use Rattle.request_parts.specs.declared.error.RequestMatchError.TheVariants.{BadUrl, BadPattern, NotJson}
+use Rattle.request_parts.specs.declared.error.RequestMatchError.TheVariants.{NumberNotWhole, BadPath, OutOfMemory}
 use Rattle.value_match.specs.Refusal.{HasPattern, MayBeRefused}
 use Rattle.value_match.specs.declared.error.ValueError.{ValueError}
 use Rattle.value_match.specs.declared.error.ValueError.TheVariants as value
-use Rattle.value_match.specs.declared.value_spec.ValueSpec.{ValueSpec}
-
--- what a `?` returned
-pub err_is : {T E : Type 0} (r : Result T E) (x : E) (P : E → Type 0) → IsErrAnd r (λ e. e ≡ x) → P x → IfErr r P
-err_is (Ok v) x P h p = absurd h
-err_is (Err e) x P h p = subst P (sym h) p
-
--- ---- of one body matcher
-
-pub json_error : (spec : JsonSpec) (e : JsonMatchError) → (e ≡ json.NotJson → IsNotJson spec) →
-    (e ≡ json.NumberNotWhole → HasNumberNotWhole spec) → (e ≡ json.BadPath → HasBadPath spec) →
-    IsFirstError (Some (error_of_json e)) (body.Json spec ∷ [])
-json_error (EqualTo text order more) json.NotJson a b p = record {
-  passed = record {
-    patterns_are = λ lt. All-nil HasPattern;
-    json = λ lt. absurd (omega arith);
-    trees = λ lt. absurd (omega arith);
-    paths = λ lt. absurd (omega arith);
-  };
-  failed = any_here (λ t. ¬ (IsJson t)) text [] (a refl);
-}
-json_error (Path text) json.NotJson a b p = absurd (a refl)
-json_error (EqualTo text order more) json.NumberNotWhole a b p = record {
-  passed = record {
-    patterns_are = λ lt. All-nil HasPattern;
-    json = λ lt. All-cons IsJson text [] (b refl).0 (All-nil IsJson);
-    trees = λ lt. absurd (omega arith);
-    paths = λ lt. absurd (omega arith);
-  };
-  failed = any_here (λ t. tree_of_text t ≡ None) text [] (b refl).1;
-}
-json_error (Path text) json.NumberNotWhole a b p = absurd (b refl)
-json_error (EqualTo text order more) json.BadPath a b p = absurd (p refl)
-json_error (Path text) json.BadPath a b p = record {
-  passed = record {
-    patterns_are = λ lt. All-nil HasPattern;
-    json = λ lt. All-nil IsJson;
-    trees = λ lt. All-nil HasTree;
-    paths = λ lt. absurd (omega arith);
-  };
-  failed = any_here (λ t. ¬ (IsPath t)) text [] (p refl);
-}
-json_error spec json.OutOfMemory a b p = record {
-  passed = record {
-    patterns_are = λ lt. absurd (omega arith);
-    json = λ lt. absurd (omega arith);
-    trees = λ lt. absurd (omega arith);
-    paths = λ lt. absurd (omega arith);
-  };
-  failed = tt;
-}
-
-pub path_error : (expression : List ℕ) (matcher : ValueSpec) (e : JsonPathError) → HasPattern matcher →
-    (e ≡ path.BadPath → ¬ (IsPath expression)) →
-    IsFirstError (Some (error_of_path e)) (body.JsonPath expression matcher ∷ [])
-path_error expression matcher path.BadPath h p = record {
-  passed = record {
-    patterns_are = λ lt. All-cons HasPattern matcher [] h (All-nil HasPattern);
-    json = λ lt. All-nil IsJson;
-    trees = λ lt. All-nil HasTree;
-    paths = λ lt. absurd (omega arith);
-  };
-  failed = any_here (λ t. ¬ (IsPath t)) expression [] (p refl);
-}
-path_error expression matcher path.OutOfMemory h p = record {
-  passed = record {
-    patterns_are = λ lt. absurd (omega arith);
-    json = λ lt. absurd (omega arith);
-    trees = λ lt. absurd (omega arith);
-    paths = λ lt. absurd (omega arith);
-  };
-  failed = tt;
-}
-
--- ---- of the whole matcher
 
 pub url_error : (spec : RequestSpec) (e : RequestMatchError) → IsUrlRefusal spec.url e → IsRefusal spec e
 url_error spec BadUrl f = f
@@ -154,13 +67,3 @@ body_is_error spec NotJson t h f = (t, h, f)
 body_is_error spec NumberNotWhole t h f = (t, h, f)
 body_is_error spec BadPath t h f = (t, h, f)
 body_is_error spec OutOfMemory t h f = f
-
-pub can_be_built : (spec : RequestSpec) → HasTemplate spec.url → All HasPattern (head_matchers spec) →
-    IsFirstError None spec.body → CanBeBuilt spec
-can_be_built spec t h f = record {
-  template = t;
-  head = h;
-  patterns = f.passed.patterns_are (omega arith);
-  trees = f.passed.trees (omega arith);
-  paths = f.passed.paths (omega arith);
-}

@@ -1,5 +1,1 @@
-pub mod AnyLemmas
-pub mod ErrorLemmas
 pub mod BuildLemmas
-pub mod ReadLemmas
-pub mod RestLemmas

@@ -1,5 +1,1 @@
-pub mod Read
-pub mod Rest
-pub mod Kept
-pub mod FirstError
 pub mod Heads

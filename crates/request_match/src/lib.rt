@@ -3,12 +3,11 @@
 // `specs/Refusal.antt` (which matchers may be refused) and `specs/Literal.antt` (which requests a literal URL leaves).
 #![tactic(auto)]
 
-mod body_test;
-pub mod error;
 pub mod literal;
-mod named_test;
-pub mod parsed_request;
 pub mod ready_mapping;
 pub mod request_matcher;
 pub mod shared_spec;
-mod url_test;
+
+// The parts that its calls name.
+pub use request_parts::error;
+pub use request_parts::parsed_request;

@@ -2,18 +2,19 @@
 ghost use Rattle.std.specs.Prelude.{◌≡◌, ◌↔◌, IfOk, IfErr, IfSome, OnOk, IsTrue, option_map, option_copied};
 ghost use Rattle.mock_request.specs.Request.{Request};
 ghost use Rattle.request_match.specs.Inner.Heads.{MeetsHead};
-ghost use Rattle.request_match.specs.Literal.{method_of, literal_url, text_of};
+ghost use Rattle.request_match.specs.Literal.{method_of};
 ghost use Rattle.request_match.specs.Matching.{MeetsRequest, MeetsMethod};
 ghost use Rattle.request_match.specs.Refusal.{CanBeBuilt, IsRefusal};
+ghost use Rattle.request_parts.specs.Literal.{literal_url, text_of};
 
-use crate::body_test::{BodyTest, build_body, meet_body};
-use crate::error::RequestMatchError;
-use crate::literal::{Literal, LiteralKind};
-use crate::named_test::{NamedTest, build_tests, meet_headers, meet_pairs};
-use crate::parsed_request::ParsedRequest;
-use crate::url_test::{UrlKind, UrlTest};
+use crate::literal::Literal;
 use mapping_model::request_spec::RequestSpec;
 use plain_text::text::Text;
+use request_parts::body_test::{BodyTest, build_body, meet_body};
+use request_parts::error::RequestMatchError;
+use request_parts::named_test::{NamedTest, build_tests, meet_headers, meet_pairs};
+use request_parts::parsed_request::ParsedRequest;
+use request_parts::url_test::UrlTest;
 use std::alloc::{AllocError, Global};
 use std::marker::Model;
 
@@ -77,11 +78,14 @@ impl RequestMatcher {
         meet_body(self.body.as_mut_slice(), request)
     }
 
-    /// Whether all but the body meets it, in the order of what the comparison costs.
+    /// Whether all but the body meets it, in the order of what the comparison costs: most requests have another URL.
     fn meets_head(&mut self, request: &ParsedRequest<'_>) -> Result<bool, AllocError>
         ensures answer { IfOk result (λ yes. IsTrue yes ↔ MeetsHead self.old request.now) }
         ensures same { self.new ≡ self.old }
     {
+        if self.url.is_of_another_url(request) {
+            return Ok(false);
+        }
         if !meets_method(&self.method, request.method()) {
             return Ok(false);
         }
@@ -106,11 +110,7 @@ impl RequestMatcher {
             (text_of l.kind request.url ≡ l.text.now)
             × IfSome (option_copied l.method) (λ method. request.method ≡ method)) }
     {
-        let (kind, text) = match &self.url.kind {
-            UrlKind::Url(text) => (LiteralKind::Url, text.as_str()),
-            UrlKind::UrlPath(text) => (LiteralKind::UrlPath, text.as_str()),
-            _ => return None,
-        };
+        let (kind, text) = self.url.literal()?;
         Some(Literal {
             kind,
             method: wanted_method(&self.method),

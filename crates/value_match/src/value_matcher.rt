@@ -18,8 +18,8 @@ use std::marker::Model;
 #[derive(Drop)]
 pub struct ValueMatcher {
     spec: ValueSpec,
-    /// For a matcher with a pattern.
-    pattern: Option<Pattern>,
+    /// For a matcher with a pattern. Boxed: most have none, and a pattern with its searches takes 2 kB.
+    pattern: Option<Box<Pattern>>,
 }
 
 impl Model for ValueMatcher {
@@ -76,8 +76,8 @@ impl ValueMatcher {
 }
 
 /// The pattern of whole values. That it is one by itself is tested too: `a)(b` is none.
-fn pattern_of_whole(alloc: Global, source: &str) -> Result<Pattern, ValueError>
-    ensures read { IfOk result (λ p. IsReadFrom (whole_of source.now) p.compiled) }
+fn pattern_of_whole(alloc: Global, source: &str) -> Result<Box<Pattern>, ValueError>
+    ensures read { IfOk result (λ p. IsReadFrom (whole_of source.now) p.value.compiled) }
     ensures pattern { OnOk result (IsPatternOfWhole source.now) }
     ensures bad_pattern { IsErrOf result ValueError.BadPattern
         → IsRefused source.now ⊎ IsRefused (whole_of source.now) }
@@ -86,10 +86,17 @@ fn pattern_of_whole(alloc: Global, source: &str) -> Result<Pattern, ValueError>
     let mut whole = String::from_str(alloc, r"\A(?:")?;
     whole.push_str(source)?;
     whole.push_str(r")\z")?;
-    Ok(Pattern::new(alloc, whole.as_str())?)
+    let pattern = Pattern::new(alloc, whole.as_str())?;
+    Ok(boxed(alloc, pattern)?)
 }
 
-fn finds(pattern: &mut Option<Pattern>, value: &str) -> bool
+fn boxed(alloc: Global, pattern: Pattern) -> Result<Box<Pattern>, AllocError>
+    ensures { IfOk result (λ boxed. boxed.value ≡ pattern) }
+{
+    Ok(Box::new(alloc, pattern)?)
+}
+
+fn finds(pattern: &mut Option<Box<Pattern>>, value: &str) -> bool
     ensures found { (source : List ℕ) → SearchesFor source pattern.old
         → (IsTrue result ↔ FindsIn source value.now) }
     ensures same { (source : List ℕ) → SearchesFor source pattern.old → SearchesFor source pattern.new }

@@ -11,5 +11,5 @@ returns-clause-pattern c =
       c.in_ok-push_str.ensures.bytes,
       c.in_ok-whole.ensures.ok,
     )
-    at c.in_ok-new.ensures.read in
+    at c.in_ok-pattern.ensures.read in
     (pattern_of_read _ _ _ given, pattern_of_read _ _ _ whole.1)

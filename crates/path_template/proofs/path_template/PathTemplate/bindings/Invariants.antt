@@ -1,5 +1,6 @@
 use Rattle.std.proofs.Common.{◌≡◌, ◌++◌, option_map, length}
-use Rattle.path_template.specs.Matching.{bindings_of, pairs_of}
+use Rattle.mock_request.specs.Values.{pairs_of}
+use Rattle.path_template.specs.Matching.{bindings_of}
 use Rattle.path_template.specs.Inner.Walks.{left_of, bound_by}
 use Rattle.path_template.proofs.path_template.PathTemplate.bindings.Given as goal
 

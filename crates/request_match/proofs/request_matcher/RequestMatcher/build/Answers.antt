@@ -1,11 +1,11 @@
-use Rattle.std.proofs.Common.{All, Any, None, Some, Err, ap, subst}
-use Rattle.request_match.specs.Errors.{error_of_value}
-use Rattle.request_match.specs.Inner.FirstError.{IsFirstError}
-use Rattle.request_match.specs.Refusal.{IsRefusal, matchers_of}
-use Rattle.request_match.proofs.BuildLemmas.{err_is, url_error, head_error, head_patterns, body_is_error, can_be_built}
+use Rattle.std.proofs.Common.{All, Any, Err, ap, subst}
+use Rattle.request_match.specs.Refusal.{IsRefusal}
+use Rattle.request_match.proofs.BuildLemmas.{url_error, head_error, head_patterns, body_is_error}
 use Rattle.request_match.proofs.BuildLemmas.{in_headers, in_query, in_cookies}
-use Rattle.request_match.proofs.ErrorLemmas.{body_error}
 use Rattle.request_match.proofs.request_matcher.RequestMatcher.build.Goals as goal
+use Rattle.request_parts.proofs.BodyLemmas.{err_is}
+use Rattle.request_parts.specs.Errors.{error_of_value}
+use Rattle.request_parts.specs.Refusal.{IsBodyRefusal, HavePatterns, HaveTrees, HavePaths, matchers_of}
 use Rattle.value_match.specs.Refusal.{HasPattern, MayBeRefused}
 
 pub returns-in_err-build-clause-refusal : goal.returns-in_err-build-clause-refusal
@@ -48,14 +48,19 @@ returns-in_err-build_body-clause-refusal c =
     (subst (λ s. All HasPattern (matchers_of s)) c.as_slice.ensures c.in_ok-build_tests.ensures.patterns)
     (subst (λ s. All HasPattern (matchers_of s)) c.as_slice-2.ensures c.in_ok-build_tests-2.ensures.patterns)
     (subst (λ s. All HasPattern (matchers_of s)) c.as_slice-3.ensures c.in_ok-build_tests-3.ensures.patterns))
-    (body_error error spec.body (subst (IsFirstError (Some error)) c.as_slice-4.ensures c.in_err-build_body.ensures.refusal)))
+    (subst (λ s. IsBodyRefusal s error) c.as_slice-4.ensures c.in_err-build_body.ensures.refusal))
 
 pub returns-clause-usable : goal.returns-clause-usable
 returns-clause-usable c =
     let spec = c.args.spec.now in
-    can_be_built spec c.in_ok-build.ensures.template
-    (head_patterns spec c.in_ok-build.ensures.patterns
-    (subst (λ s. All HasPattern (matchers_of s)) c.as_slice.ensures c.in_ok-build_tests.ensures.patterns)
-    (subst (λ s. All HasPattern (matchers_of s)) c.as_slice-2.ensures c.in_ok-build_tests-2.ensures.patterns)
-    (subst (λ s. All HasPattern (matchers_of s)) c.as_slice-3.ensures c.in_ok-build_tests-3.ensures.patterns))
-    (subst (IsFirstError None) c.as_slice-4.ensures c.in_ok-build_body.ensures.usable)
+    let built = c.in_ok-build_body.ensures in
+    record {
+      template = c.in_ok-build.ensures.template;
+      head = head_patterns spec c.in_ok-build.ensures.patterns
+          (subst (λ s. All HasPattern (matchers_of s)) c.as_slice.ensures c.in_ok-build_tests.ensures.patterns)
+          (subst (λ s. All HasPattern (matchers_of s)) c.as_slice-2.ensures c.in_ok-build_tests-2.ensures.patterns)
+          (subst (λ s. All HasPattern (matchers_of s)) c.as_slice-3.ensures c.in_ok-build_tests-3.ensures.patterns);
+      patterns = subst HavePatterns c.as_slice-4.ensures built.patterns;
+      trees = subst HaveTrees c.as_slice-4.ensures built.trees;
+      paths = subst HavePaths c.as_slice-4.ensures built.paths;
+    }

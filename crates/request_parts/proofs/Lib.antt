@@ -1,0 +1,5 @@
+pub mod AnyLemmas
+pub mod ErrorLemmas
+pub mod BodyLemmas
+pub mod ReadLemmas
+pub mod RestLemmas

@@ -1,0 +1,5 @@
+pub mod Hash
+pub mod Read
+pub mod Rest
+pub mod Kept
+pub mod FirstError
