@@ -43,4 +43,3 @@ draft_error d draft error read f = inl (draft, read, f)
 
 pub wrong_value : (d : Data) (kind : Kind) → reading_of_mapping d ≡ Wrong kind → IsValueError d (Document kind)
 wrong_value d kind wrong = inr wrong
-

@@ -158,7 +158,7 @@ fn uuid_of(value: &Value) -> Reading<MappingId>
 }
 
 fn uuid_in(text: Option<&str>) -> Reading<MappingId>
-    ensures { result ≡ uuid_in (option_copied text) }
+    ensures { result ≡ uuid_in (option_copied text.entry) }
 {
     let Some(text) = text else {
         return Reading::Wrong(Kind::Misshapen);

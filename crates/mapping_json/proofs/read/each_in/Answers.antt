@@ -20,6 +20,8 @@ returns-in_ok-each_result-in-Some-as_array-clause-ok c =
     let is_object : is_some (as_object (view c.args.value.now)) ≡ true = search rules in
     let found : get (codes "mappings") (view c.args.value.now) ≡ Some (view c.in-Some.mappings.now) = search rules in
     let list : as_array (view c.in-Some.mappings.now) ≡ Some (items_view c.in-Some-as_array.values.now.items) =
-    search rules in
-    (map view values, many_values d x (items_view values) is_object found list ∙ ap Some (list_of-view values),
-    c.in_ok-each_result-in-Some-as_array.ensures)
+    search rules in (
+      map view values,
+      many_values d x (items_view values) is_object found list ∙ ap Some (list_of-view values),
+      c.in_ok-each_result-in-Some-as_array.ensures,
+    )
