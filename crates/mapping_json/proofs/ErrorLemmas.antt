@@ -1,5 +1,5 @@
 -- Errors of the crates below are errors of the mapping.
-use Rattle.std.proofs.Common.{◌≡◌, ◌⊎◌, inl, inr, All, Result, Ok, Err, IsErrAnd, IfErr, sym, subst}
+use Rattle.std.proofs.Common.{◌≡◌, inl, inr, Result, Ok, Err, IsErrAnd, IfErr, sym, subst}
 use Rattle.json_reading.specs.declared.kind.Kind.{Kind}
 use Rattle.json_reading.specs.declared.reading.Reading.TheVariants.{Read, Wrong}
 use Rattle.mapping_json.specs.Errors.{error_of_request, error_of_template}

@@ -1,11 +1,9 @@
 -- What is read of all mappings of a document.
-use Rattle.std.proofs.Common.{◌≡◌, ◌⊎◌, inl, inr, ℕ, List, ◌∷◌, ◌++◌, length, map, Option, Some, None, Result, Ok, Err, IfOk, IfErr}
+use Rattle.std.proofs.Common.{◌≡◌, inl, inr, ℕ, List, map, Some, Result, Ok, Err, IfOk, IfErr}
 use Rattle.std.proofs.Common.{refl, sym, ap, subst, ◌∙◌}
 use Rattle.std.specs.List.{AllZip}
-use Rattle.json_reading.specs.Document.{IsDocument}
-use Rattle.mapping_json.specs.Documents.{AreResults, SpellMappings, IsMappingsError, IsErrorAt, IsFirstRefused, IsResultOf, mappings_in}
+use Rattle.mapping_json.specs.Documents.{AreResults, SpellMappings, IsMappingsError, IsErrorAt, IsResultOf}
 use Rattle.mapping_json.specs.Inner.Lists.{IsErrAt, IsFirstErr}
-use Rattle.mapping_json.specs.Spelling.{SpellsMapping}
 use Rattle.mapping_json.specs.declared.error.MappingError.{MappingError}
 use Rattle.mapping_json.specs.declared.error.MappingsError.{MappingsError}
 use Rattle.mapping_json.proofs.Zips.{all_read, split_at}

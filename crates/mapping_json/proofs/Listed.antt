@@ -1,5 +1,5 @@
 -- The values of a document, by what its fields are.
-use Rattle.std.proofs.Common.{◌≡◌, ◌≤◌, List, [], ◌∷◌, length, arith, true, false, Option, Some, None, option_map, is_some, codes, refl, ap, ◌∙◌}
+use Rattle.std.proofs.Common.{◌≡◌, ◌≤◌, List, [], ◌∷◌, length, arith, true, false, Some, None, option_map, is_some, codes, refl, ap, ◌∙◌}
 use Rattle.std.proofs.Common.{if◌then◌else◌}
 use Rattle.mapping_json.specs.Documents.{mappings_in, listed, list_of}
 use Rattle.mapping_json.specs.Reading.{has_no_items}

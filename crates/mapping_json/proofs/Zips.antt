@@ -1,12 +1,12 @@
 -- Lists of values beside what is read of them.
-use Rattle.std.proofs.Common.{◌≡◌, ℕ, suc, List, [], ◌∷◌, ◌++◌, length, map, refl, sym, ap, subst, ◌∙◌}
-use Rattle.std.proofs.Common.{Result, Ok, Err, Option, Some, None}
+use Rattle.std.proofs.Common.{◌≡◌, suc, List, [], ◌∷◌, ◌++◌, length, map, refl, ap}
+use Rattle.std.proofs.Common.{Result, Ok, Err}
 use Rattle.std.specs.List.{AllZip}
 use Rattle.mapping_json.specs.Documents.{list_of, IsOwnError, IsResultOf}
 use Rattle.mapping_json.specs.Spelling.{SpellsMapping}
 use Rattle.mapping_json.specs.declared.error.MappingError.{MappingError}
 use Rattle.mapping_model.specs.declared.mapping_spec.MappingSpec.{MappingSpec}
-use Rattle.serde_json.specs.Data.{Data, item}
+use Rattle.serde_json.specs.Data.{Data}
 use Rattle.serde_json.specs.View.{view, items_view}
 use Rattle.serde_json.specs.declared.value.Value.{Value}
 

@@ -12,7 +12,6 @@ use Rattle.json_reading.specs.declared.reading.Reading.{Reading}
 use Rattle.json_reading.specs.declared.reading.Reading.TheVariants.{Read, Wrong}
 use Rattle.mapping_json.specs.declared.draft.MappingDraft.{MappingDraft}
 use Rattle.mapping_model.specs.declared.request_spec.RequestSpec.{RequestSpec}
-use Rattle.mapping_model.specs.declared.response_spec.Body.TheVariants as body
 use Rattle.mapping_model.specs.declared.scenario_spec.ScenarioSpec.{ScenarioSpec}
 use Rattle.mapping_model.specs.declared.url_spec.UrlSpec.TheVariants as url
 use Rattle.request_json.specs.RequestReading.{reading_of_request}

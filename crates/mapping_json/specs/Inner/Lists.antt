@@ -1,5 +1,5 @@
 -- For private clauses: what is read of a list of values.
-use Rattle.std.specs.Prelude.{◌≡◌, ◌⊎◌, List, ◌∷◌, ◌++◌, length, map, Option, Some, None, Result, Ok, Err}
+use Rattle.std.specs.Prelude.{◌≡◌, ◌⊎◌, List, ◌∷◌, ◌++◌, length, map, Some, None, Result, Ok, Err}
 use Rattle.std.specs.List.{AllZip}
 use Rattle.json_reading.specs.declared.kind.Kind.TheVariants.{Misshapen}
 use Rattle.mapping_json.specs.Documents.{mappings_in, IsResultOf}
