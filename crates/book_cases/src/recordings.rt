@@ -1,0 +1,93 @@
+//! Targets, and the calls of a recording.
+
+use bytes::Bytes;
+use case_table::cells::Cells;
+use case_table::row::Row;
+use mapping_model::reply::Reply;
+use mock_request::snapshot::Snapshot;
+use plain_text::items::Items;
+use recorder::error::RecordingError;
+use recorder::exchange::{Exchange, SharedExchange};
+use recorder::recording::{Recording, RecordingStatus};
+use recorder::target::Target;
+use std::alloc::{AllocError, Global};
+
+/// The host, the port and the prefix of a target, or the error's number.
+pub fn target(alloc: Global, row: &Row) -> Result<String, AllocError> {
+    let mut cells = Cells::new(alloc);
+    match Target::parse(alloc, row.cell(0)) {
+        Ok(target) => {
+            let target = target.try_clone()?;
+            cells.add_cell(target.host());
+            cells.add_cell("");
+            cells.add_number(u32::from(target.port()));
+            cells.add_cell(target.prefix());
+        }
+        Err(error) => refused(&mut cells, error)?,
+    }
+    cells.finish()
+}
+
+/// What each call answers, and then what a copy of the recording is and has.
+pub fn calls(alloc: Global, row: &Row) -> Result<String, AllocError> {
+    let mut cells = Cells::new(alloc);
+    let mut recording = Recording::NeverStarted;
+    for call in row.given.as_slice() {
+        match answer(alloc, &mut recording, call.as_str()) {
+            Ok(()) => cells.add_cell("done"),
+            Err(error) => refused(&mut cells, error)?,
+        }
+    }
+    let recording = recording.try_clone()?;
+    cells.add_cell(match recording.status() {
+        RecordingStatus::NeverStarted => "never started",
+        RecordingStatus::Recording => "recording",
+        RecordingStatus::Stopped => "stopped",
+    });
+    if let Some(session) = recording.session() {
+        cells.add_cell(session.target.as_str());
+        cells.add_cell("");
+        let count = session.exchanges.as_slice().len();
+        cells.add(format!(in alloc; "{count}")?.as_str());
+    }
+    cells.finish()
+}
+
+fn answer(alloc: Global, recording: &mut Recording, call: &str) -> Result<(), RecordingError> {
+    let (word, text) = call.split_once(' ').unwrap_or((call, ""));
+    let (number, target) = text.split_once(' ').unwrap_or((text, ""));
+    let number = number.parse::<u64>().unwrap_or(0);
+    match word {
+        "start" => recording.start(alloc, number, target, Items::from(Vec::new(alloc)), true),
+        "take" => recording.take(number, exchange(alloc)?),
+        _ => recording.stop(),
+    }
+}
+
+fn exchange(alloc: Global) -> Result<SharedExchange, AllocError> {
+    let request = Snapshot::new(alloc, "GET", "/", &[], &[])
+        .ok()
+        .ok_or(AllocError)?;
+    SharedExchange::new(
+        alloc,
+        Exchange {
+            request,
+            reply: Reply {
+                status: 200,
+                headers: Items::from(Vec::new(alloc)),
+                body: Bytes::copy_from_slice(alloc, &[])?,
+            },
+            started_ms: 0,
+            wait_ms: 0,
+        },
+    )
+}
+
+fn refused(cells: &mut Cells, error: RecordingError) -> Result<(), AllocError> {
+    if error == RecordingError::OutOfMemory {
+        return Err(AllocError);
+    }
+    cells.add_cell("");
+    cells.add_number(u32::from(error.error_code().number()));
+    Ok(())
+}
