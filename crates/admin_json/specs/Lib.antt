@@ -1,0 +1,13 @@
+pub mod Written
+pub mod Pairs
+pub mod Names
+pub mod Mappings
+pub mod Requests
+pub mod Scenarios
+pub mod Recordings
+pub mod ErrorValue
+pub mod Bodies
+pub mod State
+pub mod Start
+pub mod Errors
+pub mod Inner

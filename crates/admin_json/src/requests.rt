@@ -1,0 +1,76 @@
+// Requests of the journal, as values.
+ghost use Rattle.std.specs.Prelude.{◌≡◌, IfOk};
+ghost use Rattle.admin_json.specs.Requests.{json_of_received, json_of_entry, json_of_entries};
+ghost use Rattle.admin_json.specs.Requests.{json_of_requests, json_of_found, json_of_number};
+ghost use Rattle.serde_json.specs.View.{view};
+
+use crate::grouped::pairs_value;
+use crate::written::{meta_value, only_member};
+use mock_request::body::body_text;
+use mock_request::header_fields::header_pairs;
+use mock_request::snapshot::Snapshot;
+use request_journal::entry::Entry;
+use serde_json::{Map, Value};
+use std::alloc::{AllocError, Global};
+
+/// The requests, in the order that is given, and how many there are.
+pub fn requests_value(alloc: Global, entries: &[Entry]) -> Result<Value, AllocError>
+    ensures { IfOk result (λ value. view value ≡ json_of_requests entries.now) }
+{
+    let mut members = Map::new(alloc);
+    let meta = meta_value(alloc, entries.len())?;
+    serde_json::put(&mut members, alloc, "meta", meta)?;
+    let list = list_value(alloc, entries)?;
+    serde_json::put(&mut members, alloc, "requests", list)?;
+    Ok(Value::Object(members))
+}
+
+/// The requests that were found, in the order that is given.
+pub fn found_value(alloc: Global, entries: &[Entry]) -> Result<Value, AllocError>
+    ensures { IfOk result (λ value. view value ≡ json_of_found entries.now) }
+{
+    only_member(alloc, "requests", list_value(alloc, entries)?)
+}
+
+/// How many requests there are.
+pub fn count_value(alloc: Global, count: usize) -> Result<Value, AllocError>
+    ensures { IfOk result (λ value. view value ≡ json_of_number count) }
+{
+    only_member(alloc, "count", Value::from(count))
+}
+
+fn list_value(alloc: Global, entries: &[Entry]) -> Result<Value, AllocError>
+    ensures { IfOk result (λ value. view value ≡ json_of_entries entries.now) }
+{
+    let mut values = Vec::with_capacity(alloc, entries.len())?;
+    for entry in entries {
+        values.push(entry_value(alloc, entry)?)?;
+    }
+    Ok(Value::Array(values))
+}
+
+fn entry_value(alloc: Global, entry: &Entry) -> Result<Value, AllocError>
+    ensures { IfOk result (λ value. view value ≡ json_of_entry entry.now) }
+{
+    let mut members = Map::new(alloc);
+    serde_json::put(&mut members, alloc, "event", Value::from(entry.number))?;
+    let request = received_value(alloc, entry.request.request())?;
+    serde_json::put(&mut members, alloc, "request", request)?;
+    Ok(Value::Object(members))
+}
+
+#[tactic(auto, unfolding(crate::specs::Requests::json_of_received))]
+fn received_value(alloc: Global, request: &Snapshot) -> Result<Value, AllocError>
+    ensures { IfOk result (λ value. view value ≡ json_of_received request.now) }
+{
+    let mut members = Map::new(alloc);
+    let body = Value::String(body_text(alloc, request)?);
+    serde_json::put(&mut members, alloc, "body", body)?;
+    let headers = pairs_value(alloc, header_pairs(alloc, request)?)?;
+    serde_json::put(&mut members, alloc, "headers", headers)?;
+    let method = Value::try_from_str(alloc, request.method())?;
+    serde_json::put(&mut members, alloc, "method", method)?;
+    let url = Value::try_from_str(alloc, request.url())?;
+    serde_json::put(&mut members, alloc, "url", url)?;
+    Ok(Value::Object(members))
+}
