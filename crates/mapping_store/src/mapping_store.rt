@@ -1,10 +1,11 @@
 // The live mappings of a book.
 ghost use Rattle.std.specs.Prelude.{◌≡◌, ◌↔◌, ◌<◌, ◌≤◌, ◌+◌, ◌∷◌, [], ◌++◌, ℕ, Any, IfOk, IfSome, IsSome, IsTrue, IsPermutation, MatchOption, OnErr, OnOk, length, vec_len};
+ghost use Rattle.request_journal.specs.Choice.{IsChosen, IsMissed};
 ghost use Rattle.request_journal.specs.Live.{left_by};
 ghost use Rattle.request_journal.specs.Past.{defaults_from, placed_from};
 ghost use Rattle.request_journal.specs.State.{IsIn, Names};
 ghost use Rattle.request_journal.specs.declared.event.Event.TheVariants as event;
-ghost use Rattle.mapping_store.specs.Choice.{IsChosen, IsMissed};
+ghost use Rattle.scenario_core.specs.Scenarios.{state_of};
 ghost use Rattle.mapping_store.specs.Stored.{Follows};
 
 use crate::book_mapping::BookMapping;
@@ -132,7 +133,8 @@ impl MappingStore {
         request: &mut ParsedRequest<'_>,
     ) -> Result<Option<Mapping>, AllocError>
         ensures found { IfOk result (λ found. MatchOption found
-            (IsMissed scenarios.now self.old.live request.old) (IsChosen scenarios.now self.old.live request.old)) }
+            (IsMissed (state_of scenarios.now) self.old.live request.old)
+            (IsChosen (state_of scenarios.now) self.old.live request.old)) }
         ensures same { self.new ≡ self.old }
         ensures same_request { request.new ≡ request.old }
     {

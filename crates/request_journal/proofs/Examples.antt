@@ -156,6 +156,12 @@ module _ (target : List ℕ) (captured : List (List ℕ)) (x y : Exchange) where
       ≡ Stopped (session 2 (x ∷ y ∷ []))
   started_and_stopped = refl
 
+  -- nothing is taken after a stop
+  stopped_for_good
+      : recording (book [] (start ∷ event.Record 1 x ∷ event.StopRecording [] 0 ∷ event.Record 1 y ∷ []))
+      ≡ Stopped (session 1 (x ∷ []))
+  stopped_for_good = refl
+
   -- a second start forgets the first recording's exchanges
   started_again
       : recording (book [] (start ∷ event.Record 1 x ∷ event.StopRecording [] 1 ∷ start ∷ event.Record 4 y ∷ []))
