@@ -70,6 +70,15 @@ impl History {
         }
     }
 
+    /// Shares the events.
+    pub fn try_clone(&self) -> Result<History, AllocError>
+        ensures { IfOk result (λ copy. copy.past ≡ self.now.past) }
+    {
+        Ok(History {
+            parts: self.parts.try_clone()?,
+        })
+    }
+
     /// How many events are kept.
     pub fn len(&self) -> usize
         ensures { result ≡ length self.now.past.events }

@@ -12,7 +12,7 @@ use request_journal::mapping::Mapping;
 use std::marker::Model;
 
 /// A past without events: how a book was opened, and what the events left that were dropped since. It takes no memory.
-#[derive(Drop)]
+#[derive(Clone, Copy)]
 pub(crate) struct Known {
     pub(crate) ghost past: { Past } by { Prim.hlevel (codes, states_code) },
 }

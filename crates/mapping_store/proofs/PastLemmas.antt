@@ -12,7 +12,7 @@ use Rattle.request_journal.specs.declared.event.Event.{Event}
 use Rattle.request_journal.specs.declared.mapping.Mapping.{Mapping}
 use Rattle.request_journal.proofs.LiveLemmas.{live_after}
 use Rattle.scenario_core.specs.Scenarios.{States, state_of}
-use Rattle.mapping_store.specs.Stored.{Stored, Follows}
+use Rattle.mapping_store.specs.Stored.{Stored, Follows, IsNewestFirst}
 use Rattle.mapping_store.proofs.EventLemmas.{left_alike}
 
 -- one more event
@@ -27,6 +27,16 @@ live_follows past e old new defaults same follows =
     (IsPermutation-append _ _ _ _ (left_alike (e ∷ []) (live past) old.live same)
     (subst (λ l. IsPermutation l (adds old.defaults number e)) added (IsPermutation-refl (adds old.defaults number e))))
     follows.live)
+
+-- a listing
+pub listed_in_past : (past : Past) (placed : List Placed) (listed : List Mapping) → IsPermutation (live past) placed
+    → IsNewestFirst placed listed → IsNewestFirst (live past) listed
+listed_in_past past placed listed same h = record {
+  ordered = h.ordered;
+  all = IsPermutation-trans (live past) placed h.ordered same h.all;
+  newest_first = h.newest_first;
+  listed = h.listed;
+}
 
 -- ---- the choice
 

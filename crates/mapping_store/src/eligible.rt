@@ -4,10 +4,10 @@ ghost use Rattle.std.specs.List.{AllWithin, HoldsAt};
 ghost use Rattle.request_journal.specs.Choice.{IsEligible, IsReady};
 ghost use Rattle.request_match.specs.Matching.{MeetsRequest};
 ghost use Rattle.scenario_core.specs.Scenarios.{state_of};
-ghost use Rattle.mapping_store.specs.Inner.Entries.{Fits, placed_of};
+ghost use Rattle.live_mappings.specs.Kept.{Fits, placed_of};
 
-use crate::book_mapping::BookMapping;
-use crate::entry::{Entry, Source};
+use live_mappings::book_mapping::BookMapping;
+use live_mappings::entry::{Entry, Source};
 use mapping_model::scenario_spec::ScenarioSpec;
 use request_match::parsed_request::ParsedRequest;
 use request_match::shared_spec::SharedSpec;

@@ -2,11 +2,8 @@
 // `specs/Stored.antt` (what contracts see of the store, and of a change) and the definitions of `request_journal`.
 #![tactic(auto)]
 
-pub mod book_mapping;
 mod counts;
 mod eligible;
-mod entries;
-mod entry;
-mod filled;
+mod listing;
 pub mod mapping_store;
 mod scenario_names;

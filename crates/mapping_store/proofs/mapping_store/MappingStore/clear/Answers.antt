@@ -1,6 +1,6 @@
 use Rattle.std.proofs.Common.{refl, map, ap, subst, sym}
 use Rattle.std.specs.List.Sorted.{IsPermutation}
-use Rattle.mapping_store.specs.Inner.Entries.{placed_of}
+use Rattle.live_mappings.specs.Kept.{placed_of}
 use Rattle.mapping_store.proofs.StoreLemmas.{after_clear}
 use Rattle.mapping_store.proofs.mapping_store.MappingStore.clear.Goals as goal
 

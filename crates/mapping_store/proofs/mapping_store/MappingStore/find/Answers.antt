@@ -1,8 +1,8 @@
 use Rattle.std.proofs.Common.{◌≡◌, ℕ, List, get_or, sym, ap, subst, ◌∙◌}
 use Rattle.request_journal.specs.Choice.{IsEligible}
 use Rattle.scenario_core.specs.Scenarios.{state_of}
-use Rattle.mapping_store.specs.declared.entry.Entry.{Entry}
-use Rattle.mapping_store.specs.Inner.Entries.{placed_of}
+use Rattle.live_mappings.specs.declared.entry.Entry.{Entry}
+use Rattle.live_mappings.specs.Kept.{placed_of}
 use Rattle.request_journal.specs.declared.mapping.Mapping.{Mapping}
 use Rattle.mapping_store.proofs.ChoiceLemmas.{chosen, missed, same_items}
 use Rattle.mapping_store.proofs.mapping_store.MappingStore.find.Goals as goal
