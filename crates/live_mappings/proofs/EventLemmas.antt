@@ -133,11 +133,16 @@ adds_entry number olds ms m e old new is added put =
 
 -- ---- those of the opening
 
+one_more : (i : ℕ) → suc i + 1 ≡ suc (i + 1)
+one_more i = omega arith
+
 pub lasts_at : (ms : List Mapping) (i : ℕ) (b : Bool) (m : Mapping) → i < length ms
     → get_or (lasts_of ms) i b ≡ not (has_id (drop (i + 1) ms) (get_or ms i m).id)
 lasts_at [] i b m l = absurd (omega arith)
 lasts_at (n ∷ ns) zero b m l = refl
-lasts_at (n ∷ ns) (suc i) b m l = lasts_at ns i b m (omega arith)
+lasts_at (n ∷ ns) (suc i) b m l =
+    lasts_at ns i b m (omega arith)
+    ∙ sym (ap (λ k. not (has_id (drop k (n ∷ ns)) (get_or ns i m).id)) (one_more i))
 
 pub length-lasts : (ms : List Mapping) → length (lasts_of ms) ≡ length ms
 length-lasts [] = refl

@@ -70,6 +70,7 @@ each_of P [] h = tt
 each_of P (x ∷ xs) h = (All-head P x xs h, each_of P xs (All-tail P x xs h))
 
 distinct_pairs : (xs : List Entry) → IsDistinct have_one_id xs → AllPairs (λ a b. have_one_id a b ≡ false) xs
+unfolding IsDistinct
 distinct_pairs [] h = λ i j d l within. absurd (omega arith)
 distinct_pairs (x ∷ xs) h =
     AllPairs-cons (λ (a b : Entry). have_one_id a b ≡ false) x xs (all_of (λ (y : Entry). have_one_id x y ≡ false) xs h.0)
@@ -90,6 +91,7 @@ each_kept : (P : Entry → Type 0) (p : Entry → Bool) (xs : List Entry) → Al
 each_kept P p xs h = each_of P (filter p xs) (All-filter p P xs (all_of P xs h))
 
 pub distinct_without : (id : List ℕ) (xs : List Entry) → IsDistinct have_one_id xs → IsDistinct have_one_id (without id xs)
+unfolding IsDistinct
 distinct_without id [] h = tt
 distinct_without id (x ∷ xs) h =
     elim (bytes_eq id x.id)
@@ -104,6 +106,7 @@ distinct_without id (x ∷ xs) h =
 -- one more entry, with another id
 pub distinct_more : (y : Entry) (xs : List Entry) → All (λ e. e.id ≢ y.id) xs → IsDistinct have_one_id xs
     → IsDistinct have_one_id (y ∷ xs)
+unfolding IsDistinct
 distinct_more y xs others h = (
   each_of (λ (e : Entry). have_one_id y e ≡ false) xs
       (λ k d lt. false_from_ne_true (bytes_eq y.id (get_or xs k d).id)
@@ -146,6 +149,7 @@ distinct_replaced y old new put h =
 
 -- entries of the mappings that one event adds
 pub distinct_placed : (es : List Entry) → IdsDiffer (map placed_of es) → IsDistinct have_one_id es
+unfolding IsDistinct
 distinct_placed [] h = tt
 distinct_placed (e ∷ es) h = (no_other es h.0, distinct_placed es h.1)
   where

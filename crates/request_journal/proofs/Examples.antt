@@ -164,7 +164,7 @@ module _ (s : MappingSpec) (q r : Request) (new : Past) where
         ap (λ n. option_map (λ x. x.event) (find (λ x. x.number == 4) (numbered (n + 1) after_clear.events))) c.same_number
 
     last_request_alone : requests after_clear ≡ record { number = 5; request = r } ∷ []
-    last_request_alone = ap (λ n. record { number = n + 2; request = r } ∷ []) c.same_number
+    last_request_alone = ap (λ n. record { number = n + 1 + 1; request = r } ∷ []) c.same_number
 
     mapping_stays : live after_clear ≡ at 1 0 b s ∷ []
     mapping_stays =

@@ -1,6 +1,6 @@
 -- What one more event does to the recording, and that a checkpoint changes none.
-use Rattle.std.proofs.Common.{◌≡◌, ℕ, ◌+◌, Bool, true, false, not, ◌||◌, cond, List, [], ◌∷◌, ◌++◌, take, Option, None, Some}
-use Rattle.std.proofs.Common.{refl, sym, ap, ◌∙◌, append-nil, append_assoc}
+use Rattle.std.proofs.Common.{◌≡◌, ℕ, suc, ◌+◌, Bool, true, false, not, ◌||◌, cond, List, [], ◌∷◌, ◌++◌, take, Option, None, Some}
+use Rattle.std.proofs.Common.{refl, sym, ap, ◌∙◌, arith, append-nil, append_assoc}
 use Rattle.std.proofs.lemmas.Bool.{false≢true, or_parts}
 use Rattle.std.proofs.lemmas.List.Elements.{filter_map-append}
 use Rattle.std.specs.List.{before_first, list_any, filter_map, cons_option, prefix_len}
@@ -43,6 +43,9 @@ same_exchanges session = ap (λ xs. record {
 
 -- ---- what is before the first that passes
 
+one_more : (n : ℕ) → 1 + n ≡ suc n
+one_more n = omega arith
+
 module _ {X : Type 0} (test : X → Bool) where
   abbrev taken : Bool → X → List X → List X
   taken passes x xs = take (cond (not passes) (1 + prefix_len (λ y. not (test y)) xs) 0) (x ∷ xs)
@@ -51,7 +54,9 @@ module _ {X : Type 0} (test : X → Bool) where
   none_before x xs h = ap (λ b. taken b x xs) h
 
   one_before : (x : X) (xs : List X) → test x ≡ false → before_first test (x ∷ xs) ≡ x ∷ before_first test xs
-  one_before x xs h = ap (λ b. taken b x xs) h
+  one_before x xs h =
+      ap (λ b. taken b x xs) h
+      ∙ ap (λ n. take n (x ∷ xs)) (one_more (prefix_len (λ y. not (test y)) xs))
 
   before_passing : (xs ys : List X) → list_any test xs ≡ true → before_first test (xs ++ ys) ≡ before_first test xs
   before_passing [] ys h = absurd (false≢true h)
