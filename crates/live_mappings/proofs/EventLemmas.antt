@@ -6,7 +6,7 @@ use Rattle.std.specs.List.Sorted.{IsPermutation}
 use Rattle.std.specs.Str.{bytes_eq}
 use Rattle.std.proofs.lemmas.List.{at_drop_more, map-append}
 use Rattle.std.proofs.lemmas.List.Elements.{All-cons, All-filter, filter-append}
-use Rattle.std.proofs.lemmas.List.Sorted.{IsPermutation-refl, IsPermutation-cons, IsPermutation-trans}
+use Rattle.std.proofs.lemmas.List.Sorted.{IsPermutation-refl, IsPermutation-cons, IsPermutation-sym, IsPermutation-trans}
 use Rattle.std.proofs.lemmas.List.Sorted.{IsPermutation-to_front, IsPermutation-map, All-permutation}
 use Rattle.request_journal.specs.Past.{Placed, has_id, placed_from}
 use Rattle.request_journal.specs.declared.mapping.Mapping.{Mapping}
@@ -174,3 +174,28 @@ placed_pushed es e p rest whole is h =
     ap (λ l. l ++ rest) (map-append placed_of es (e ∷ []))
     ∙ append_assoc (map placed_of es) (placed_of e ∷ []) rest
     ∙ ap (λ q. map placed_of es ++ q ∷ rest) is ∙ h
+
+-- a default that is pushed where it is the last with its id
+pub fit_pushed : (defaults : List Mapping) (es : List Entry) (e : Entry) (b : Bool) → Fits defaults e
+    → All (Fits defaults) es → All (Fits defaults) (es ++ cond b (e ∷ []) [])
+fit_pushed defaults es e true fits all =
+    fit_put defaults e es (es ++ e ∷ []) (IsPermutation-sym (es ++ e ∷ []) (e ∷ es) (IsPermutation-to_front es e)) fits all
+fit_pushed defaults es e false fits all = subst (All (Fits defaults)) (sym (append-nil es)) all
+
+pub default_pushed : (number index : ℕ) (ms : List Mapping) (m : Mapping) (es : List Entry) (e : Entry) (b : Bool)
+    (whole : List Placed) → index < length ms → placed_of e ≡ at number index (get_or ms index m)
+    → b ≡ not (has_id (drop (index + 1) ms) (get_or ms index m).id)
+    → map placed_of es ++ placed_from number index (drop index ms) ≡ whole
+    → map placed_of (es ++ cond b (e ∷ []) []) ++ placed_from number (index + 1) (drop (index + 1) ms) ≡ whole
+default_pushed number index ms m es e b whole l is wanted so_far =
+    let rest : List Placed = placed_from number (index + 1) (drop (index + 1) ms) in
+    let Goal : Bool → Type 0 = λ b. map placed_of (es ++ cond b (e ∷ []) []) ++ rest ≡ whole in
+    elim (has_id (drop (index + 1) ms) (get_or ms index m).id)
+    as (λ h. has_id (drop (index + 1) ms) (get_or ms index m).id ≡ h → b ≡ not h → Goal b) [
+      | true ↦ λ held unwanted. subst Goal (sym unwanted)
+          (ap (λ l. map placed_of l ++ rest) (append-nil es)
+          ∙ ap (λ l. map placed_of es ++ l) (sym (not_last_here number index ms m l held)) ∙ so_far)
+      | false ↦ λ free wanted. subst Goal (sym wanted)
+          (placed_pushed es e (at number index (get_or ms index m)) rest whole is
+          (ap (λ l. map placed_of es ++ l) (sym (last_here number index ms m l free)) ∙ so_far))
+    ] refl wanted

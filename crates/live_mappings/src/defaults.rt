@@ -1,5 +1,5 @@
 // The mappings that a book is opened with, which a reset makes live again.
-ghost use Rattle.std.specs.Prelude.{◌≡◌, ◌≤◌, [], length, map, All, IfOk, IsPermutation, vec_len};
+ghost use Rattle.std.specs.Prelude.{◌≡◌, ◌+◌, ◌<◌, ◌≤◌, [], ◌∷◌, ◌++◌, cond, length, map, All, IfOk, IsPermutation, vec_len};
 ghost use Rattle.std.specs.Vec.{vec_capacity};
 ghost use Rattle.request_journal.specs.Past.{defaults_from, has_id, placed_from};
 ghost use Rattle.live_mappings.specs.Kept.{AreKept, Fits, lasts_of, placed_of};
@@ -101,10 +101,23 @@ fn push_defaults(
     ensures capacity { vec_capacity entries.old ≤ vec_capacity entries.new }
 {
     for at in 0..defaults.len() {
-        if lasts[at] {
-            if let Err(_refused) = entries.push(Entry::of_default(number, at, defaults)) {
-                unreachable!()
-            }
+        push_if(
+            lasts[at],
+            entries,
+            Entry::of_default(number, at, defaults),
+        );
+    }
+}
+
+fn push_if(is_wanted: bool, entries: &mut Vec<Entry>, entry: Entry)
+    requires { vec_len entries.old < vec_capacity entries.old }
+    ensures items { entries.new.items ≡ entries.old.items ++ cond is_wanted (entry ∷ []) [] }
+    ensures len { vec_len entries.new ≤ vec_len entries.old + 1 }
+    ensures capacity { vec_capacity entries.old ≤ vec_capacity entries.new }
+{
+    if is_wanted {
+        if let Err(_refused) = entries.push(entry) {
+            unreachable!()
         }
     }
 }
