@@ -53,7 +53,7 @@ module _ (state_of : List ℕ → List ℕ) (request : Request) (xs : List Entry
                 | inl below ↦ absurd (passed k f (omega arith) below
                     (subst (λ x. IsEligible state_of request (placed_of x).mapping) found.2 meets'))
                 | inr above ↦
-                    let before = (kept.in_order at k e above found.1).not_beaten in
+                    let before = kept.in_order at k e above found.1 in
                     let here : get_or xs k e ≡ f = get_or_default xs k e f found.1 ∙ sym found.2 in
                     subst (λ x. is_gt (order x f) ≡ false) (sym read)
                     (subst (λ x. is_gt (order (get_or xs at e) x) ≡ false) here before)

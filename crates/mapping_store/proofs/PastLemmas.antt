@@ -35,7 +35,7 @@ listed_in_past past placed listed same h = record {
   ordered = h.ordered;
   all = IsPermutation-trans (live past) placed h.ordered same h.all;
   newest_first = h.newest_first;
-  listed = h.listed;
+  mappings = h.mappings;
 }
 
 -- ---- the choice

@@ -2,13 +2,13 @@
 use Rattle.std.proofs.Common.{◌≡◌, ◌≢◌, ℕ, zero, suc, ◌+◌, ◌<◌, ◌≤◌, not, List, [], ◌∷◌, ◌++◌, length, map, get_or, Any, inl, inr}
 use Rattle.std.proofs.Common.{true, refl, sym, ap, subst, ◌∙◌, arith, append-nil, Contains}
 use Rattle.std.proofs.Common.{◌↔◌, Option, Some, None, is_some, IsTrue, MatchOption}
-use Rattle.std.specs.List.{All, AllPairs, filter}
+use Rattle.std.specs.List.{All, AllPairs, IsDistinct, filter}
 use Rattle.std.proofs.lemmas.Bool.{false≢true}
 use Rattle.std.proofs.lemmas.List.Kept.{AllPairs-filter}
 use Rattle.std.specs.List.Sorted.{IsPermutation}
 use Rattle.std.specs.Str.{bytes_eq}
 use Rattle.std.proofs.lemmas.List.{length-map, get_or-map}
-use Rattle.std.proofs.lemmas.List.Elements.{All-cons, All-filter, All-map, Contains-get_or}
+use Rattle.std.proofs.lemmas.List.Elements.{All-nil, All-filter, All-map}
 use Rattle.std.proofs.lemmas.List.Sorted.{IsPermutation-refl, IsPermutation-cons, IsPermutation-sym, IsPermutation-trans}
 use Rattle.std.proofs.lemmas.List.Sorted.{IsPermutation-to_front, IsPermutation-map, All-permutation, Contains-permutation}
 use Rattle.request_journal.specs.Live.{left_by}
@@ -169,6 +169,14 @@ kept_without defaults id xs kept = record {
   ids = distinct_without id xs kept.ids;
   in_order = AllPairs-filter IsBefore (λ (e : Entry). not (bytes_eq id e.id)) xs kept.in_order;
 }
+
+pub kept_nothing : (defaults : List Mapping) (xs : List Entry) → xs ≡ [] → AreKept defaults xs
+unfolding IsDistinct
+kept_nothing defaults xs is = subst (AreKept defaults) (sym is) (record {
+  fit = All-nil (Fits defaults);
+  ids = tt;
+  in_order = λ i j d l within. absurd (omega (arith, within));
+})
 
 -- an entry in place of the one with its id
 pub kept_replaced : (defaults : List Mapping) (e : Entry) (old new : List Entry) → AreKept defaults old

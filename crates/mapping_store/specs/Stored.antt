@@ -23,4 +23,4 @@ pub record IsNewestFirst (live : List Placed) (listed : List Mapping) : Type 0 w
   pub ordered : List Placed
   pub all : IsPermutation live ordered
   pub newest_first : AllPairs (λ a b. ¬ (IsNewer b.place a.place)) ordered
-  pub listed : listed ≡ map (λ p. p.mapping) ordered
+  pub mappings : listed ≡ map (λ p. p.mapping) ordered

@@ -53,12 +53,12 @@ pub(crate) fn newest_first(
     requires { All (Fits defaults.now) entries.now }
     ensures { IfOk result (λ listed. IsNewestFirst (map placed_of entries.now) listed.items) }
 {
-    let mut listed = listed(alloc, entries, defaults)?;
+    let mut listed = list_all(alloc, entries, defaults)?;
     sort(&mut listed);
     mappings_of(alloc, listed)
 }
 
-fn listed(
+fn list_all(
     alloc: Global,
     entries: &[Entry],
     defaults: &[BookMapping],
@@ -68,12 +68,12 @@ fn listed(
 {
     let mut listed = Vec::with_capacity(alloc, entries.len())?;
     for i in 0..entries.len() {
-        listed.push(list(&entries[i], defaults)?)?;
+        listed.push(list_one(&entries[i], defaults)?)?;
     }
     Ok(listed)
 }
 
-fn list(entry: &Entry, defaults: &[BookMapping]) -> Result<Listed, AllocError>
+fn list_one(entry: &Entry, defaults: &[BookMapping]) -> Result<Listed, AllocError>
     requires { Fits defaults.now entry.now }
     ensures { IfOk result (λ listed. listed ≡ placed_of entry.now) }
 {

@@ -9,7 +9,7 @@ use Rattle.live_mappings.specs.declared.entry.Entry.{Entry}
 
 -- the entries, with room for all defaults, and which defaults a reset brings back
 pub record IsStore (defaults : List Mapping) (lasts : List Bool) (entries : List Entry) (capacity : ℕ) : Type 0 where
-  pub lasts : lasts ≡ lasts_of defaults
+  pub lasts_are : lasts ≡ lasts_of defaults
   pub kept : AreKept defaults entries
   pub room : length defaults ≤ capacity
 

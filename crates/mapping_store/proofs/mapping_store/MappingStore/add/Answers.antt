@@ -4,7 +4,7 @@ use Rattle.mapping_store.proofs.mapping_store.MappingStore.add.Goals as goal
 
 pub invariant_of-self : goal.invariant_of-self
 invariant_of-self c = record {
-  lasts = c.self.invariant.lasts;
+  lasts_are = c.self.invariant.lasts_are;
   kept = kept_replaced c.self.inside.defaults.items c.own.result c.self.inside.live.items c.replace.new.entries.items
       c.self.invariant.kept (c.own.ensures.fits c.self.inside.defaults.items) c.replace.ensures.put
       c.replace.ensures.in_order;

@@ -5,7 +5,7 @@ use Rattle.mapping_store.proofs.mapping_store.MappingStore.add_all.Goals as goal
 
 pub invariant_of-self : goal.invariant_of-self
 invariant_of-self c = record {
-  lasts = c.self.invariant.lasts;
+  lasts_are = c.self.invariant.lasts_are;
   kept = record {
     fit = c.put_all.ensures.fit c.self.inside.defaults.items c.self.invariant.kept.fit;
     ids = c.put_all.ensures.ids;

@@ -18,7 +18,7 @@ invariant_of-self c =
     let same : c.id.result ≡ c.own.result.id =
     c.id.ensures ∙ sym (ap (λ (p : Placed). p.mapping.id) c.own.ensures.placed) in
     record {
-      lasts = c.self.invariant.lasts;
+      lasts_are = c.self.invariant.lasts_are;
       kept = kept_put defaults c.id.result c.own.result c.self.inside.live.items c.take_out.new.entries.items
           c.put_in.new.entries.items c.self.invariant.kept c.take_out.ensures.rest same (c.own.ensures.fits defaults)
           c.put_in.ensures.put c.put_in.ensures.in_order;
@@ -27,7 +27,7 @@ invariant_of-self c =
 
 pub invariant_of-self-in-None-1 : goal.invariant_of-self-in-None-1
 invariant_of-self-in-None-1 c = record {
-  lasts = c.self.invariant.lasts;
+  lasts_are = c.self.invariant.lasts_are;
   kept = rw c.take_out.ensures.rest
       (kept_without c.self.inside.defaults.items c.id.result c.self.inside.live.items c.self.invariant.kept);
   room = omega (arith, c.self.invariant.room, c.take_out.ensures.capacity);
