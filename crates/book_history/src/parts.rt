@@ -32,14 +32,16 @@ impl Parts {
 
     /// Shares the events.
     pub(crate) fn try_clone(&self) -> Result<Parts, AllocError>
-        ensures known { IfOk result (λ copy. copy.known.past ≡ self.now.known.past) }
+        ensures known { IfOk result (λ copy. copy.known.past
+            ≡ checkpointed (with_events self.now.known.past [])) }
         ensures base { IfOk result (λ copy. copy.base ≡ self.now.base) }
         ensures events { IfOk result (λ copy. copy.events.items.items ≡ self.now.events.items.items) }
     {
+        let events = self.events.try_clone()?;
         Ok(Parts {
-            known: self.known,
+            known: self.known.copy(*self.events.items.allocator()),
             base: self.base,
-            events: self.events.try_clone()?,
+            events,
         })
     }
 

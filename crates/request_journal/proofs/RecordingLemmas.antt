@@ -129,7 +129,7 @@ continued_one es e (On session) =
     ] refl
 continued_one es e (Stopped session) = refl
 
-continued_none : (r : Recording) → continued [] r ≡ r
+pub continued_none : (r : Recording) → continued [] r ≡ r
 continued_none NeverStarted = refl
 continued_none (On session) = ap On (same_exchanges session)
 continued_none (Stopped session) = refl
