@@ -1,5 +1,5 @@
 -- The base that a checkpoint makes says what the events left.
-use Rattle.std.proofs.Common.{◌≡◌, ℕ, Bool, true, false, cond, List, [], ◌∷◌, Option, None, Some, refl, sym, ap, subst, ◌∙◌}
+use Rattle.std.proofs.Common.{◌≡◌, ℕ, ◌+◌, arith, append-nil, Bool, true, false, cond, List, [], ◌∷◌, Option, None, Some, refl, sym, ap, subst, ◌∙◌}
 use Rattle.std.proofs.lemmas.Map.Text.{is_eq-slice_cmp}
 use Rattle.std.proofs.lemmas.Slice.Eq.{bytes_eq-Decides}
 use Rattle.std.specs.FinMap as map
@@ -17,7 +17,9 @@ use Rattle.request_journal.specs.State.{next_state, touch}
 use Rattle.request_journal.specs.declared.event.Event.{Event}
 use Rattle.request_journal.specs.declared.event.Event.TheVariants as event
 use Rattle.request_journal.specs.declared.event.ServeAnswer.TheVariants.{Stub, Proxy, Unmatched}
-use Rattle.request_journal.proofs.LiveLemmas.{unwrap_or_more}
+use Rattle.request_journal.proofs.LiveLemmas.{left_by_none, unwrap_or_more}
+use Rattle.request_journal.proofs.RecordingLemmas.{continued_none}
+use Rattle.request_journal.specs.Live.{left_by}
 use Rattle.book_history.specs.Inner.Checkpoint.{moved_to, moved_by, states_by, states_after, checkpointed}
 
 same_back : (a b : List ℕ) → bytes_eq a b ≡ bytes_eq b a
@@ -108,3 +110,31 @@ is_checkpoint_of old past known events o k n =
     subst (λ (p : Past). IsCheckpoint p (with_events known events)) o
     (subst (λ (p : Past). IsCheckpoint past (with_events p events)) (sym k)
     (subst (λ (es : List Event). IsCheckpoint past (with_events (checkpointed past) es)) (sym n) (is_checkpoint past)))
+
+no_more : (n : ℕ) → n + 0 ≡ n
+no_more n = omega arith
+
+-- a checkpoint without events leaves a past as it is
+pub checkpoint_of_none : (known : Past) (events : List Event)
+    → with_events (checkpointed (with_events known [])) events ≡ with_events known events
+unfolding checkpointed
+checkpoint_of_none known events = λ i. record {
+  opening = known.opening;
+  defaults = known.defaults;
+  base = record {
+    number = no_more known.base.number i;
+    live = (append-nil (left_by [] known.base.live) ∙ left_by_none known.base.live) i;
+    states = no_states known.base.states i;
+    recording = continued_none known.base.recording i;
+  };
+  events = events;
+}
+  where
+    no_states : (states : States) → states_after [] states ≡ states
+    unfolding states_after
+    no_states states = refl
+
+-- so its number is the base's
+pub number_of_copy : (known : Past) (base : ℕ) → known.base.number ≡ base
+    → (checkpointed (with_events known [])).base.number ≡ base
+number_of_copy known base is = ap (λ (past : Past). past.base.number) (checkpoint_of_none known []) ∙ is

@@ -70,6 +70,16 @@ impl History {
         }
     }
 
+    /// Shares the events.
+    #[tactic(auto, using(crate::proofs::CheckpointLemmas::checkpoint_of_none, crate::proofs::CheckpointLemmas::number_of_copy))]
+    pub fn try_clone(&self) -> Result<History, AllocError>
+        ensures { IfOk result (λ copy. copy.past ≡ self.now.past) }
+    {
+        Ok(History {
+            parts: self.parts.try_clone()?,
+        })
+    }
+
     /// How many events are kept.
     pub fn len(&self) -> usize
         ensures { result ≡ length self.now.past.events }

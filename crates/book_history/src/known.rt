@@ -1,7 +1,7 @@
 // What only contracts see of a past.
 ghost use Rattle.std.specs.Borrow.{ftrue};
 ghost use Rattle.std.specs.Coded.{codes};
-ghost use Rattle.std.specs.Prelude.{◌≡◌};
+ghost use Rattle.std.specs.Prelude.{◌≡◌, []};
 ghost use Rattle.request_journal.specs.Past.{Past, with_events};
 ghost use Rattle.book_history.specs.Inner.Checkpoint.{just_opened, checkpointed};
 ghost use Rattle.book_history.specs.Inner.Codes.{states_code};
@@ -9,6 +9,7 @@ ghost use Rattle.book_history.specs.Inner.Codes.{states_code};
 use crate::events::Events;
 use plain_text::items::Items;
 use request_journal::mapping::Mapping;
+use std::alloc::Global;
 use std::marker::Model;
 
 /// A past without events: how a book was opened, and what the events left that were dropped since. It takes no memory.
@@ -27,6 +28,16 @@ impl Known {
         ensures { result.past ≡ just_opened _opening.now _defaults.now }
     {
         Known {}
+    }
+
+    /// The same: what a checkpoint without events leaves.
+    pub(crate) fn copy(&self, alloc: Global) -> Known
+        ensures { result.past ≡ checkpointed (with_events self.now.past []) }
+    {
+        let none = Events {
+            items: Vec::new(alloc),
+        };
+        Known::after(self, &none)
     }
 
     /// The same after these events, which may then be dropped.

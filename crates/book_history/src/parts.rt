@@ -1,11 +1,12 @@
 // What a history is made of.
-ghost use Rattle.std.specs.Prelude.{◌≡◌, ◌+◌, ◌<◌, ◌≤◌, [], length, vec_len, vec_capacity};
+ghost use Rattle.std.specs.Prelude.{◌≡◌, ◌+◌, ◌<◌, ◌≤◌, [], length, IfOk, vec_len, vec_capacity};
 ghost use Rattle.request_journal.specs.Past.{with_events};
 ghost use Rattle.request_journal.specs.declared.limits.TheConstants.{NUMBER_LIMIT};
 ghost use Rattle.book_history.specs.Inner.Checkpoint.{checkpointed};
 
 use crate::events::Events;
 use crate::known::Known;
+use std::alloc::AllocError;
 
 /// How many events there is room for, at least, after a checkpoint of a history that had room for as many.
 const ROOM_KEPT: usize = 64;
@@ -27,6 +28,21 @@ impl Parts {
         ensures { result ≡ self.now.base + length self.now.events.items.items }
     {
         self.base + self.events.items.as_slice().len() as u64
+    }
+
+    /// Shares the events.
+    pub(crate) fn try_clone(&self) -> Result<Parts, AllocError>
+        ensures known { IfOk result (λ copy. copy.known.past
+            ≡ checkpointed (with_events self.now.known.past [])) }
+        ensures base { IfOk result (λ copy. copy.base ≡ self.now.base) }
+        ensures events { IfOk result (λ copy. copy.events.items.items ≡ self.now.events.items.items) }
+    {
+        let events = self.events.try_clone()?;
+        Ok(Parts {
+            known: self.known.copy(*self.events.items.allocator()),
+            base: self.base,
+            events,
+        })
     }
 
     pub(crate) fn checkpoint(&mut self)

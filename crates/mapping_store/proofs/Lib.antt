@@ -1,9 +1,6 @@
-pub mod ListLemmas
-pub mod RankLemmas
-pub mod OrderLemmas
-pub mod IdLemmas
 pub mod EventLemmas
 pub mod StoreLemmas
 pub mod ChoiceLemmas
 pub mod CountLemmas
 pub mod PastLemmas
+pub mod ListingLemmas

@@ -2,23 +2,24 @@
 use Rattle.std.proofs.Common.{◌≡◌, ◌≢◌, ℕ, zero, suc, ◌+◌, ◌<◌, ◌≤◌, not, List, [], ◌∷◌, ◌++◌, length, map, get_or, Any, inl, inr}
 use Rattle.std.proofs.Common.{true, refl, sym, ap, subst, ◌∙◌, arith, append-nil, Contains}
 use Rattle.std.proofs.Common.{◌↔◌, Option, Some, None, is_some, IsTrue, MatchOption}
-use Rattle.std.specs.List.{All, filter}
+use Rattle.std.specs.List.{All, AllPairs, IsDistinct, filter}
 use Rattle.std.proofs.lemmas.Bool.{false≢true}
 use Rattle.std.proofs.lemmas.List.Kept.{AllPairs-filter}
 use Rattle.std.specs.List.Sorted.{IsPermutation}
 use Rattle.std.specs.Str.{bytes_eq}
 use Rattle.std.proofs.lemmas.List.{length-map, get_or-map}
-use Rattle.std.proofs.lemmas.List.Elements.{All-cons, All-filter, All-map, Contains-get_or}
+use Rattle.std.proofs.lemmas.List.Elements.{All-nil, All-filter, All-map}
 use Rattle.std.proofs.lemmas.List.Sorted.{IsPermutation-refl, IsPermutation-cons, IsPermutation-sym, IsPermutation-trans}
 use Rattle.std.proofs.lemmas.List.Sorted.{IsPermutation-to_front, IsPermutation-map, All-permutation, Contains-permutation}
 use Rattle.request_journal.specs.Live.{left_by}
 use Rattle.request_journal.specs.Past.{Placed, placed_from}
 use Rattle.request_journal.specs.declared.event.Event.TheVariants as event
 use Rattle.request_journal.specs.declared.mapping.Mapping.{Mapping}
-use Rattle.mapping_store.specs.declared.entry.Entry.{Entry}
-use Rattle.mapping_store.specs.Inner.Entries.{Adds, AreKept, Fits, IsBefore, placed_of, without}
-use Rattle.mapping_store.proofs.EventLemmas.{others, at, adds_more, left_plain, left_others, left_edited, left_alike}
-use Rattle.mapping_store.proofs.IdLemmas.{filter-map, filter_none, ids_without, without_none}
+use Rattle.live_mappings.specs.declared.entry.Entry.{Entry}
+use Rattle.live_mappings.specs.Kept.{Adds, AreKept, Fits, IsBefore, placed_of, without}
+use Rattle.live_mappings.proofs.EventLemmas.{others, at, replaced, fit_replaced}
+use Rattle.live_mappings.proofs.IdLemmas.{distinct_replaced, distinct_without, filter-map, filter_none, ids_without, without_none}
+use Rattle.mapping_store.proofs.EventLemmas.{left_plain, left_others, left_edited, left_alike}
 
 -- ---- entries and live mappings
 
@@ -71,30 +72,6 @@ none_with_id id xs all any =
     all any.0 found.0 found.1
     (ap (λ (e : Entry). e.id) (sym found.2) ∙ ap (λ (p : Placed). p.mapping.id) found.3 ∙ any.4)
 
--- ---- an entry in place of the one with its id
-
-replaced : (e : Entry) (old new : List Entry) → IsPermutation (e ∷ without e.id old) new
-    → IsPermutation (placed_of e ∷ others e.id (map placed_of old)) (map placed_of new)
-replaced e old new put =
-    subst (λ l. IsPermutation (placed_of e ∷ l) (map placed_of new))
-    (sym (filter-map (λ (p : Placed). not (bytes_eq e.id p.mapping.id)) placed_of old))
-    (IsPermutation-map placed_of (e ∷ without e.id old) new put)
-
-pub fit_replaced : (defaults : List Mapping) (e : Entry) (old new : List Entry)
-    → IsPermutation (e ∷ without e.id old) new → Fits defaults e → All (Fits defaults) old → All (Fits defaults) new
-fit_replaced defaults e old new put fits all =
-    All-permutation (Fits defaults) (e ∷ without e.id old) new put
-    (All-cons (Fits defaults) e (without e.id old) fits
-    (All-filter (λ (x : Entry). not (bytes_eq e.id x.id)) (Fits defaults) old all))
-
-pub adds_entry : (number : ℕ) (olds : List Placed) (ms : List Mapping) (m : Mapping) (e : Entry) (old new : List Entry)
-    → placed_of e ≡ at number (length ms) m → Adds number olds ms (map placed_of old)
-    → IsPermutation (e ∷ without e.id old) new → Adds number olds (ms ++ m ∷ []) (map placed_of new)
-adds_entry number olds ms m e old new is added put =
-    adds_more number olds ms m (map placed_of old) (map placed_of new) added
-    (subst (λ (p : Placed). IsPermutation (p ∷ others p.mapping.id (map placed_of old)) (map placed_of new)) is
-    (replaced e old new put))
-
 -- ---- the events
 
 same_members : (xs ys : List Placed) → xs ≡ ys → IsPermutation xs ys
@@ -133,7 +110,8 @@ after_clear old =
     same_members _ _
     (append-nil (left_by (event.DeleteAll ∷ []) old) ∙ left_plain event.DeleteAll (λ p. refl) old ∙ nothing_left old)
 
-pub after_reset : (number : ℕ) (defaults : List Mapping) (old new : List Placed) → Adds number [] defaults new
+pub after_reset : (number : ℕ) (defaults : List Mapping) (old new : List Placed)
+    → IsPermutation (placed_from number 0 defaults) new
     → IsPermutation (left_by (event.ResetMappings ∷ []) old ++ placed_from number 0 defaults) new
 after_reset number defaults old new added =
     subst (λ l. IsPermutation (l ++ placed_from number 0 defaults) new)
@@ -188,13 +166,34 @@ pub kept_without : (defaults : List Mapping) (id : List ℕ) (xs : List Entry) �
     → AreKept defaults (without id xs)
 kept_without defaults id xs kept = record {
   fit = All-filter (λ (e : Entry). not (bytes_eq id e.id)) (Fits defaults) xs kept.fit;
+  ids = distinct_without id xs kept.ids;
   in_order = AllPairs-filter IsBefore (λ (e : Entry). not (bytes_eq id e.id)) xs kept.in_order;
 }
 
-pub fit_put : (defaults : List Mapping) (e : Entry) (old new : List Entry) → IsPermutation (e ∷ old) new
-    → Fits defaults e → All (Fits defaults) old → All (Fits defaults) new
-fit_put defaults e old new put fits all =
-    All-permutation (Fits defaults) (e ∷ old) new put (All-cons (Fits defaults) e old fits all)
+pub kept_nothing : (defaults : List Mapping) (xs : List Entry) → xs ≡ [] → AreKept defaults xs
+unfolding IsDistinct
+kept_nothing defaults xs is = subst (AreKept defaults) (sym is) (record {
+  fit = All-nil (Fits defaults);
+  ids = tt;
+  in_order = λ i j d l within. absurd (omega (arith, within));
+})
+
+-- an entry in place of the one with its id
+pub kept_replaced : (defaults : List Mapping) (e : Entry) (old new : List Entry) → AreKept defaults old
+    → Fits defaults e → IsPermutation (e ∷ without e.id old) new → AllPairs IsBefore new → AreKept defaults new
+kept_replaced defaults e old new kept fits put in_order = record {
+  fit = fit_replaced defaults e old new put fits kept.fit;
+  ids = distinct_replaced e old new put kept.ids;
+  in_order = in_order;
+}
+
+-- the same where that one was taken out first
+pub kept_put : (defaults : List Mapping) (id : List ℕ) (e : Entry) (old rest new : List Entry) → AreKept defaults old
+    → rest ≡ without id old → id ≡ e.id → Fits defaults e → IsPermutation (e ∷ rest) new → AllPairs IsBefore new
+    → AreKept defaults new
+kept_put defaults id e old rest new kept left same fits put in_order =
+    kept_replaced defaults e old new kept fits
+    (subst (λ i. IsPermutation (e ∷ without i old) new) same (subst (λ l. IsPermutation (e ∷ l) new) left put)) in_order
 
 -- no live mapping has a property that no entry's has
 pub none_among : (P : Placed → Type 0) (xs : List Entry) → All (λ e. ¬ (P (placed_of e))) xs → Any P (map placed_of xs) → ⊥

@@ -1,11 +1,11 @@
 // How many mappings will be live once several are added.
 ghost use Rattle.std.specs.Prelude.{◌≡◌, ◌≤◌, ℕ, length, map, filter, not};
 ghost use Rattle.request_journal.specs.Past.{has_id, placed_from};
-ghost use Rattle.mapping_store.specs.Inner.Entries.{placed_of};
+ghost use Rattle.live_mappings.specs.Kept.{placed_of};
 
-use crate::book_mapping::BookMapping;
-use crate::entry::Entry;
-use mapping_model::mapping_id::MappingId;
+use live_mappings::book_mapping::BookMapping;
+use live_mappings::defaults::has_id;
+use live_mappings::entry::Entry;
 
 /// How many entries have none of the ids.
 pub(crate) fn count_others(entries: &[Entry], mappings: &[BookMapping]) -> usize
@@ -34,15 +34,4 @@ pub(crate) fn count_ids(mappings: &[BookMapping]) -> usize
         }
     }
     count
-}
-
-fn has_id(mappings: &[BookMapping], id: MappingId) -> bool
-    ensures { result ≡ has_id mappings.now id }
-{
-    for i in 0..mappings.len() {
-        if mappings[i].id().same(id) {
-            return true;
-        }
-    }
-    false
 }

@@ -1,12 +1,13 @@
 // Which entries are eligible for a request.
 ghost use Rattle.std.specs.Prelude.{◌≡◌, ◌↔◌, ◌<◌, length, All, IfOk, IsTrue, MatchOption};
 ghost use Rattle.std.specs.List.{AllWithin, HoldsAt};
+ghost use Rattle.request_journal.specs.Choice.{IsEligible, IsReady};
 ghost use Rattle.request_match.specs.Matching.{MeetsRequest};
-ghost use Rattle.mapping_store.specs.Choice.{IsEligible, IsReady};
-ghost use Rattle.mapping_store.specs.Inner.Entries.{Fits, placed_of};
+ghost use Rattle.scenario_core.specs.Scenarios.{state_of};
+ghost use Rattle.live_mappings.specs.Kept.{Fits, placed_of};
 
-use crate::book_mapping::BookMapping;
-use crate::entry::{Entry, Source};
+use live_mappings::book_mapping::BookMapping;
+use live_mappings::entry::{Entry, Source};
 use mapping_model::scenario_spec::ScenarioSpec;
 use request_match::parsed_request::ParsedRequest;
 use request_match::shared_spec::SharedSpec;
@@ -33,10 +34,10 @@ pub(crate) fn first_eligible(
 ) -> Result<Option<usize>, AllocError>
     requires { All (Fits defaults.old) entries.old }
     ensures found { IfOk result (λ found. MatchOption found
-        (All (λ e. ¬ (IsEligible scenarios.now request.old (placed_of e).mapping)) entries.old)
+        (All (λ e. ¬ (IsEligible (state_of scenarios.now) request.old (placed_of e).mapping)) entries.old)
         (λ at. (at < length entries.old)
-        × HoldsAt (λ e. IsEligible scenarios.now request.old (placed_of e).mapping) entries.old at
-        × AllWithin (λ e. ¬ (IsEligible scenarios.now request.old (placed_of e).mapping)) entries.old 0 at)) }
+        × HoldsAt (λ e. IsEligible (state_of scenarios.now) request.old (placed_of e).mapping) entries.old at
+        × AllWithin (λ e. ¬ (IsEligible (state_of scenarios.now) request.old (placed_of e).mapping)) entries.old 0 at)) }
     ensures same_entries { entries.new ≡ entries.old }
     ensures same_defaults { defaults.new ≡ defaults.old }
     ensures same_request { request.new ≡ request.old }
@@ -57,7 +58,7 @@ fn is_eligible(
 ) -> Result<bool, AllocError>
     requires { Fits defaults.old entry.old }
     ensures answer { IfOk result (λ yes. IsTrue yes
-        ↔ IsEligible scenarios.now request.old (placed_of entry.old).mapping) }
+        ↔ IsEligible (state_of scenarios.now) request.old (placed_of entry.old).mapping) }
     ensures same_entry { entry.new ≡ entry.old }
     ensures same_defaults { defaults.new ≡ defaults.old }
     ensures same_request { request.new ≡ request.old }
@@ -86,7 +87,7 @@ fn meets(
 }
 
 fn is_ready(scenarios: &Scenarios, scenario: &Option<ScenarioSpec>) -> bool
-    ensures { IsTrue result ↔ IsReady scenarios.now scenario.now }
+    ensures { IsTrue result ↔ IsReady (state_of scenarios.now) scenario.now }
 {
     match scenario {
         Some(scenario) => match &scenario.required {

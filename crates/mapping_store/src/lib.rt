@@ -1,13 +1,9 @@
 // The live mappings of a book: which one is chosen for a request, and what each event does to them. Its contracts cite
-// `specs/Stored.antt` (what contracts see of the store, and of a change) and `specs/Choice.antt` (the mapping that is
-// chosen for a request).
+// `specs/Stored.antt` (what contracts see of the store, and of a change) and the definitions of `request_journal`.
 #![tactic(auto)]
 
-pub mod book_mapping;
 mod counts;
 mod eligible;
-mod entries;
-mod entry;
-mod filled;
+mod listing;
 pub mod mapping_store;
 mod scenario_names;

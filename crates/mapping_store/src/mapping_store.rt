@@ -1,19 +1,22 @@
 // The live mappings of a book.
 ghost use Rattle.std.specs.Prelude.{◌≡◌, ◌↔◌, ◌<◌, ◌≤◌, ◌+◌, ◌∷◌, [], ◌++◌, ℕ, Any, IfOk, IfSome, IsSome, IsTrue, IsPermutation, MatchOption, OnErr, OnOk, length, vec_len};
+ghost use Rattle.request_journal.specs.Choice.{IsChosen, IsMissed};
 ghost use Rattle.request_journal.specs.Live.{left_by};
 ghost use Rattle.request_journal.specs.Past.{defaults_from, placed_from};
 ghost use Rattle.request_journal.specs.State.{IsIn, Names};
 ghost use Rattle.request_journal.specs.declared.event.Event.TheVariants as event;
-ghost use Rattle.mapping_store.specs.Choice.{IsChosen, IsMissed};
-ghost use Rattle.mapping_store.specs.Stored.{Follows};
+ghost use Rattle.scenario_core.specs.Scenarios.{state_of};
+ghost use Rattle.mapping_store.specs.Stored.{Follows, IsNewestFirst};
 
-use crate::book_mapping::BookMapping;
 use crate::counts::{count_ids, count_others};
 use crate::eligible::{first_eligible, spec_of};
-use crate::entries::{index_of, put_in, replace, take_out};
-use crate::entry::Entry;
-use crate::filled::{copies, named, put_all, put_defaults};
+use crate::listing::newest_first;
 use crate::scenario_names::{knows, names};
+use live_mappings::book_mapping::BookMapping;
+use live_mappings::defaults::{copies, lasts, named, put_defaults};
+use live_mappings::entries::{index_of, put_in, replace, take_out};
+use live_mappings::entry::Entry;
+use live_mappings::several::put_all;
 use mapping_model::mapping_id::MappingId;
 use plain_text::items::Items;
 use request_journal::mapping::Mapping;
@@ -28,6 +31,8 @@ use std::marker::Model;
 #[derive(Drop)]
 pub struct MappingStore {
     defaults: Vec<BookMapping>,
+    /// For each default, whether none after it has its id, so that a reset looks for none.
+    lasts: Vec<bool>,
     /// In the order of choice, so that the first eligible one is chosen. There is room for all defaults.
     live: Vec<Entry>,
 }
@@ -39,7 +44,8 @@ impl Model for MappingStore {
 
     ghost Value = { Stored };
 
-    ghost use Rattle.mapping_store.specs.Inner.Entries.{placed_of, IsStore};
+    ghost use Rattle.live_mappings.specs.Kept.{placed_of};
+    ghost use Rattle.mapping_store.specs.Inner.Entries.{IsStore};
 
     ghost view = { λ s. record {
       defaults = s.defaults.items;
@@ -47,7 +53,7 @@ impl Model for MappingStore {
       room = vec_capacity s.live - vec_len s.live;
     } };
 
-    ghost invariant = { λ s. IsStore s.defaults.items s.live.items (vec_capacity s.live) };
+    ghost invariant = { λ s. IsStore s.defaults.items s.lasts.items s.live.items (vec_capacity s.live) };
 }
 
 impl MappingStore {
@@ -61,9 +67,14 @@ impl MappingStore {
         ensures live { IfOk result (λ store. IsPermutation (placed_from opening 0 store.defaults) store.live) }
     {
         let defaults = named(alloc, defaults)?;
+        let lasts = lasts(alloc, defaults.as_slice())?;
         let mut live = Vec::with_capacity(alloc, defaults.len())?;
-        put_defaults(&mut live, opening, defaults.as_slice());
-        Ok(MappingStore { defaults, live })
+        put_defaults(&mut live, opening, defaults.as_slice(), lasts.as_slice());
+        Ok(MappingStore {
+            defaults,
+            lasts,
+            live,
+        })
     }
 
     /// How many mappings are live.
@@ -87,6 +98,13 @@ impl MappingStore {
         ensures { IfOk result (λ defaults. defaults ≡ self.now.defaults) }
     {
         Ok(Items::from(copies(alloc, self.defaults.as_slice())?))
+    }
+
+    /// The live mappings, the newest first. They share their specifications.
+    pub fn newest_first(&self, alloc: Global) -> Result<Vec<Mapping>, AllocError>
+        ensures { IfOk result (λ listed. IsNewestFirst self.now.live listed.items) }
+    {
+        newest_first(alloc, self.live.as_slice(), self.defaults.as_slice())
     }
 
     /// Whether a live mapping plays a part in the scenario.
@@ -132,7 +150,8 @@ impl MappingStore {
         request: &mut ParsedRequest<'_>,
     ) -> Result<Option<Mapping>, AllocError>
         ensures found { IfOk result (λ found. MatchOption found
-            (IsMissed scenarios.now self.old.live request.old) (IsChosen scenarios.now self.old.live request.old)) }
+            (IsMissed (state_of scenarios.now) self.old.live request.old)
+            (IsChosen (state_of scenarios.now) self.old.live request.old)) }
         ensures same { self.new ≡ self.old }
         ensures same_request { request.new ≡ request.old }
     {
@@ -208,6 +227,11 @@ impl MappingStore {
         ensures { Follows self.old self.new number event.ResetMappings }
     {
         self.live.clear();
-        put_defaults(&mut self.live, number, self.defaults.as_slice());
+        put_defaults(
+            &mut self.live,
+            number,
+            self.defaults.as_slice(),
+            self.lasts.as_slice(),
+        );
     }
 }

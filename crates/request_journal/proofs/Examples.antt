@@ -1,23 +1,29 @@
 -- Small pasts that the definitions read as they should: ids are short texts, and the mappings are any.
-use Rattle.std.proofs.Common.{◌≡◌, inl, inr, ℕ, true, List, [], ◌∷◌, Some, None, refl, codes, arith}
-use Rattle.std.specs.Prelude.{◌<ℤ◌}
+use Rattle.std.proofs.Common.{◌≡◌, inl, inr, ℕ, zero, suc, ◌+◌, ◌<◌, ◌≤◌, ◌==◌, true, List, [], ◌∷◌, ◌++◌, Contains, Some, None}
+use Rattle.std.proofs.Common.{option_map, refl, sym, ap, subst, ◌∙◌, codes, arith}
+use Rattle.std.specs.Prelude.{◌<ℤ◌, find}
+use Rattle.std.proofs.lemmas.Int.{ints}
 use Rattle.mapping_model.specs.Priority.{priority_of}
 use Rattle.mapping_model.specs.declared.mapping_spec.MappingSpec.{MappingSpec}
 use Rattle.mock_request.specs.Request.{Request}
 use Rattle.recorder.specs.declared.exchange.Exchange.{Exchange}
 use Rattle.recorder.specs.declared.recording.Recording.TheVariants.{NeverStarted, On, Stopped}
 use Rattle.recorder.specs.declared.recording.Session.{Session}
-use Rattle.scenario_core.specs.Scenarios.{States, started}
-use Rattle.request_journal.specs.Choice.{WinsOver}
+use Rattle.request_match.specs.Matching.{MeetsRequest}
+use Rattle.scenario_core.specs.Scenarios.{States, started, state_of}
+use Rattle.request_journal.specs.Choice.{IsChoice, IsReady, WinsOver}
+use Rattle.request_journal.specs.Events.{numbered}
 use Rattle.request_journal.specs.Journal.{requests, unmatched, event_at}
+use Rattle.request_journal.specs.Legal.{IsCheckpoint, IsTaken}
 use Rattle.request_journal.specs.Live.{live}
-use Rattle.request_journal.specs.Past.{Past, Placed, opening_base, last_number}
+use Rattle.request_journal.specs.Past.{Past, Placed, opening_base, last_number, with_events}
 use Rattle.request_journal.specs.Recording.{recording}
 use Rattle.request_journal.specs.State.{state}
 use Rattle.request_journal.specs.declared.event.Event.{Event}
 use Rattle.request_journal.specs.declared.event.Event.TheVariants as event
 use Rattle.request_journal.specs.declared.event.ServeAnswer.TheVariants.{Stub, Proxy, Unmatched}
 use Rattle.request_journal.specs.declared.mapping.Mapping.{Mapping}
+use Rattle.request_journal.proofs.SameLemmas.{then, live_since_checkpoint, state_since_checkpoint}
 
 -- a book opened at 0
 abbrev book : List Mapping → List Event → Past
@@ -125,8 +131,50 @@ module _ (s : MappingSpec) (r : Request) (states : States) where
   mappings_stay : live cleared ≡ at 1 0 b s ∷ []
   mappings_stay = refl
 
+  states_stay : (name : List ℕ) → state cleared name ≡ state_of states name
+  states_stay name = refl
+
   one_request : requests cleared ≡ record { number = 5; request = r } ∷ []
   one_request = refl
+
+-- the same, from the past before the clear: whatever the checkpoint made of it
+module _ (s : MappingSpec) (q r : Request) (new : Past) where
+  abbrev serve_moved : Request → List ℕ → Event
+  serve_moved request next = event.Serve request (Stub (record { mapping = named b (moving s next) }))
+
+  abbrev before_clear : Past
+  before_clear = book [] (event.Add (named b s) ∷ serve_moved q (codes "2") ∷ serve_moved q (codes "3") ∷ [])
+
+  abbrev after_clear : Past
+  after_clear = with_events new (event.ClearJournal ∷ event.Serve r Unmatched ∷ [])
+
+  module _ (c : IsCheckpoint before_clear new) where
+    since_clear : then new (event.ClearJournal ∷ event.Serve r Unmatched ∷ []) ≡ after_clear
+    since_clear = ap (λ es. with_events new (es ++ event.ClearJournal ∷ event.Serve r Unmatched ∷ [])) c.no_events
+
+    five_events : last_number after_clear ≡ 5
+    five_events = ap (λ n. n + 2) c.same_number
+
+    third_is_dropped : event_at after_clear 3 ≡ None
+    third_is_dropped =
+        ap (λ n. option_map (λ x. x.event) (find (λ x. x.number == 3) (numbered (n + 1) after_clear.events))) c.same_number
+
+    fourth_is_the_clear : event_at after_clear 4 ≡ Some event.ClearJournal
+    fourth_is_the_clear =
+        ap (λ n. option_map (λ x. x.event) (find (λ x. x.number == 4) (numbered (n + 1) after_clear.events))) c.same_number
+
+    last_request_alone : requests after_clear ≡ record { number = 5; request = r } ∷ []
+    last_request_alone = ap (λ n. record { number = n + 1 + 1; request = r } ∷ []) c.same_number
+
+    mapping_stays : live after_clear ≡ at 1 0 b s ∷ []
+    mapping_stays =
+        sym (ap live since_clear)
+        ∙ live_since_checkpoint (event.ClearJournal ∷ event.Serve r Unmatched ∷ []) before_clear new c
+
+    state_stays : state after_clear a ≡ codes "3"
+    state_stays =
+        sym (ap (λ past. state past a) since_clear)
+        ∙ state_since_checkpoint (event.ClearJournal ∷ event.Serve r Unmatched ∷ []) a before_clear new c
 
 module _ (r q : Request) (target : List ℕ) where
   newest_first
@@ -143,6 +191,12 @@ module _ (r q : Request) (target : List ℕ) where
 
 -- ---- recordings
 
+one_below_two : 1 < 2
+one_below_two = omega arith
+
+two_to_three : 2 ≤ 3
+two_to_three = omega arith
+
 module _ (target : List ℕ) (captured : List (List ℕ)) (x y : Exchange) where
   abbrev start : Event
   start = event.StartRecording target captured true
@@ -155,6 +209,12 @@ module _ (target : List ℕ) (captured : List (List ℕ)) (x y : Exchange) where
       : recording (book [] (event.ClearJournal ∷ start ∷ event.Record 3 x ∷ event.Record 4 y ∷ event.StopRecording [] 2 ∷ []))
       ≡ Stopped (session 2 (x ∷ y ∷ []))
   started_and_stopped = refl
+
+  -- nothing is taken after a stop
+  stopped_for_good
+      : recording (book [] (start ∷ event.Record 1 x ∷ event.StopRecording [] 0 ∷ event.Record 1 y ∷ []))
+      ≡ Stopped (session 1 (x ∷ []))
+  stopped_for_good = refl
 
   -- a second start forgets the first recording's exchanges
   started_again
@@ -173,7 +233,58 @@ module _ (target : List ℕ) (captured : List (List ℕ)) (x y : Exchange) where
       ≡ On (session 1 (x ∷ y ∷ []))
   recorded_after_a_clear states = refl
 
+  -- and is a right answer, though its serve was dropped
+  taken_after_a_clear : (states : States)
+      → IsTaken (record {
+        opening = 0;
+        defaults = [];
+        base = record { number = 2; live = []; states = states; recording = On (session 1 []) };
+        events = event.ClearJournal ∷ [];
+      }) 2
+  taken_after_a_clear states = record {
+    takes = one_below_two;
+    known = two_to_three;
+    room = λ full. let l : 10000 ≤ 0 = full in omega (arith, l);
+  }
+
+  -- one that was served before the recording was started is none
+  served_too_early : IsTaken (book [] (event.ClearJournal ∷ start ∷ [])) 1 → ⊥
+  served_too_early taken = let l : 2 < 1 = taken.takes in omega (arith, l)
+
 -- ---- choice
+
+-- two mappings that the request meets, of one priority and without a scenario: the newer is chosen
+module _ (s t : MappingSpec) (r : Request) (equal : priority_of t.priority ≡ priority_of s.priority)
+    (meets : MeetsRequest t.request r) (plain : t.scenario ≡ None)
+  where
+    abbrev two : Past
+    two = book [] (event.Add (named a s) ∷ event.Add (named b t) ∷ [])
+
+    older_loses : ¬ (WinsOver (at 1 0 a s) (at 2 0 b t))
+    older_loses (inl less) =
+        let l : priority_of s.priority <ℤ priority_of t.priority = less in omega (arith, ints, l, equal)
+    older_loses (inr (same, inl newer)) = let l : 2 < 1 = newer in omega (arith, l)
+    older_loses (inr (same, inr newer)) = let l : 0 < 0 = newer.1 in omega (arith, l)
+
+    not_over_itself : ¬ (WinsOver (at 2 0 b t) (at 2 0 b t))
+    not_over_itself (inl less) =
+        let l : priority_of t.priority <ℤ priority_of t.priority = less in omega (arith, ints, l)
+    not_over_itself (inr (same, inl newer)) = let l : 2 < 2 = newer in omega (arith, l)
+    not_over_itself (inr (same, inr newer)) = let l : 0 < 0 = newer.1 in omega (arith, l)
+
+    none_better : (other : Placed) → Contains (live two) other → ¬ (WinsOver other (at 2 0 b t))
+    none_better other (zero, l, is) = subst (λ p. ¬ (WinsOver p (at 2 0 b t))) is older_loses
+    none_better other (suc zero, l, is) = subst (λ p. ¬ (WinsOver p (at 2 0 b t))) is not_over_itself
+    none_better other (suc (suc k), l, is) = absurd (omega (arith, l))
+
+    newest_is_chosen : IsChoice two r (Stub (record { mapping = named b t }))
+    newest_is_chosen = record {
+      placed = at 2 0 b t;
+      same = refl;
+      is_live = (1, omega arith, refl);
+      eligible = record { meets = meets; ready = subst (IsReady (state two)) (sym plain) tt };
+      best = λ other among eligible. none_better other among;
+    }
 
 module _ (s t : MappingSpec) where
   newest_of_equals : priority_of t.priority ≡ priority_of s.priority → WinsOver (at 2 0 b t) (at 1 0 a s)

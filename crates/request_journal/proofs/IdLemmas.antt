@@ -43,7 +43,7 @@ placed_held number index (m ∷ ms) id h =
           (placed_held number (index + 1) ms id both.1)
     ]
 
-placed_differ : (number index : ℕ) (ms : List Mapping) → IdsDiffer (placed_from number index ms)
+pub placed_differ : (number index : ℕ) (ms : List Mapping) → IdsDiffer (placed_from number index ms)
 placed_differ number index [] = tt
 placed_differ number index (m ∷ ms) =
     elim (has_id ms m.id)

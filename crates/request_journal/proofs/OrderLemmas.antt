@@ -15,12 +15,15 @@ use Rattle.request_journal.specs.Legal.{IsCheckpoint}
 use Rattle.request_journal.specs.Live.{live, adds, added_mappings, is_removed, left_by}
 use Rattle.request_journal.specs.Past.{Past, Place, Placed, has_id, placed_from, opening_base, with_event, last_number}
 use Rattle.request_journal.specs.Recording.{recording}
+use Rattle.request_journal.specs.State.{state}
 use Rattle.request_journal.specs.declared.event.Event.{Event}
 use Rattle.request_journal.specs.declared.event.ServeAnswer.{ServeAnswer}
 use Rattle.request_journal.specs.declared.event.ServeAnswer.TheVariants.{Stub, Proxy, Unmatched}
 use Rattle.request_journal.specs.declared.mapping.Mapping.{Mapping}
 use Rattle.request_journal.proofs.LiveLemmas.{live_after, live_at_checkpoint, left_by_none, gone, kept}
-use Rattle.request_journal.proofs.PlaceLemmas.{AreWithin, left_within, placed_within}
+use Rattle.request_journal.proofs.PlaceLemmas.{AreWithin, same_le, both_within, wider, left_within, placed_within, live_within}
+use Rattle.request_journal.proofs.CheckpointLemmas.{number_at_checkpoint}
+use Rattle.request_journal.proofs.SameLemmas.{number_after}
 
 -- each of them is newer than the place
 abbrev pub AreNewer : Place → List Placed → Type 0
@@ -121,6 +124,56 @@ in_order_after low past e w h =
 pub in_order_at_checkpoint : (old new : Past) → IsCheckpoint old new → AreInOrder (live old) → AreInOrder (live new)
 in_order_at_checkpoint old new c h = subst AreInOrder (sym (live_at_checkpoint old new c)) h
 
+-- ---- both laws at once, for whoever keeps a past
+
+-- the live mappings are in order of their places, and none is newer than the last event
+pub record ArePlaced (past : Past) : Type 0 where
+  pub within : AreWithin 0 (last_number past) (live past)
+  pub in_order : AreInOrder (live past)
+
+pub placed_opened : (opening : ℕ) (defaults : List Mapping)
+    → ArePlaced (record {
+      opening = opening;
+      defaults = defaults;
+      base = opening_base opening defaults;
+      events = [];
+    })
+placed_opened opening defaults =
+    let past : Past = record {
+      opening = opening;
+      defaults = defaults;
+      base = opening_base opening defaults;
+      events = [];
+    } in
+    record {
+      within = live_within 0 past (omega arith)
+          (wider opening 0 opening opening (placed_from opening 0 defaults) (omega arith) (same_le opening)
+          (placed_within opening 0 defaults));
+      in_order = in_order_opened opening defaults;
+    }
+
+pub placed_after : (past : Past) (e : Event) → ArePlaced past → ArePlaced (with_event past e)
+placed_after past e h =
+    let number : ℕ = last_number past + 1 in
+    let left : List Placed = left_by (e ∷ []) (live past) in
+    record {
+      within = subst (λ n. AreWithin 0 n (live (with_event past e))) (sym (number_after past e))
+          (subst (AreWithin 0 number) (sym (live_after past e))
+          (both_within 0 number left (adds past.defaults number e)
+          (wider 0 0 (last_number past) number left (same_le 0) (omega arith)
+          (left_within 0 (last_number past) (e ∷ []) (live past) h.within))
+          (wider number 0 number number (adds past.defaults number e) (omega arith) (same_le number)
+          (placed_within number 0 (added_mappings past.defaults e)))));
+      in_order = in_order_after 0 past e h.within h.in_order;
+    }
+
+pub placed_at_checkpoint : (old new : Past) → IsCheckpoint old new → ArePlaced old → ArePlaced new
+placed_at_checkpoint old new c h = record {
+  within = subst (λ n. AreWithin 0 n (live new)) (sym (number_at_checkpoint old new c))
+      (subst (AreWithin 0 (last_number old)) (sym (live_at_checkpoint old new c)) h.within);
+  in_order = in_order_at_checkpoint old new c h.in_order;
+}
+
 -- ---- one mapping has a place
 
 not_itself : (place : Place) → ¬ (IsNewer place place)
@@ -184,19 +237,22 @@ neither_wins a b h g =
     (λ newer. h (inr (same_number m n below above, newer)))
     (λ newer. g (inr (same_number n m above below, newer)))))
 
-one_chosen : (past : Past) (request : Request) (a b : Mapping) → AreInOrder (live past)
-    → IsChosen past request a → IsChosen past request b → a ≡ b
-one_chosen past request a b h c d =
-    let eligible_c : IsEligible past request c.placed.mapping = subst (IsEligible past request) (sym c.same) c.eligible in
-    let eligible_d : IsEligible past request d.placed.mapping = subst (IsEligible past request) (sym d.same) d.eligible in
-    sym c.same
-    ∙ ap (λ (p : Placed). p.mapping)
-    (one_of_place (live past) c.placed d.placed h c.is_live d.is_live
-    (neither_wins c.placed d.placed (d.best c.placed c.is_live eligible_c) (c.best d.placed d.is_live eligible_d)))
-    ∙ d.same
+module _ (state_of : List ℕ → List ℕ) (placed : List Placed) (request : Request) where
+  one_chosen : (a b : Mapping) → AreInOrder placed
+      → IsChosen state_of placed request a → IsChosen state_of placed request b → a ≡ b
+  one_chosen a b h c d =
+      let eligible_c : IsEligible state_of request c.placed.mapping =
+      subst (IsEligible state_of request) (sym c.same) c.eligible in
+      let eligible_d : IsEligible state_of request d.placed.mapping =
+      subst (IsEligible state_of request) (sym d.same) d.eligible in
+      sym c.same
+      ∙ ap (λ (p : Placed). p.mapping)
+      (one_of_place placed c.placed d.placed h c.is_live d.is_live
+      (neither_wins c.placed d.placed (d.best c.placed c.is_live eligible_c) (c.best d.placed d.is_live eligible_d)))
+      ∙ d.same
 
-missed : (past : Past) (request : Request) (mapping : Mapping) → IsChosen past request mapping → IsMissed past request → ⊥
-missed past request mapping c none = none c.placed c.is_live (subst (IsEligible past request) (sym c.same) c.eligible)
+  missed : (mapping : Mapping) → IsChosen state_of placed request mapping → IsMissed state_of placed request → ⊥
+  missed mapping c none = none c.placed c.is_live (subst (IsEligible state_of request) (sym c.same) c.eligible)
 
 one_target : (r : Recording) (a b : List ℕ) → IsOnAnd r (λ session. session.target ≡ a)
     → IsOnAnd r (λ session. session.target ≡ b) → a ≡ b
@@ -213,12 +269,12 @@ is_on (Stopped session) a h = h
 pub one_choice : (past : Past) (request : Request) (a b : ServeAnswer) → AreInOrder (live past)
     → IsChoice past request a → IsChoice past request b → a ≡ b
 one_choice past request (Stub a) (Stub b) h c d =
-    λ i. Stub (record { mapping = one_chosen past request a.mapping b.mapping h c d i })
-one_choice past request (Stub a) (Proxy b) h c d = absurd (missed past request a.mapping c d.0)
-one_choice past request (Stub a) Unmatched h c d = absurd (missed past request a.mapping c d.0)
-one_choice past request (Proxy a) (Stub b) h c d = absurd (missed past request b.mapping d c.0)
+    λ i. Stub (record { mapping = one_chosen (state past) (live past) request a.mapping b.mapping h c d i })
+one_choice past request (Stub a) (Proxy b) h c d = absurd (missed (state past) (live past) request a.mapping c d.0)
+one_choice past request (Stub a) Unmatched h c d = absurd (missed (state past) (live past) request a.mapping c d.0)
+one_choice past request (Proxy a) (Stub b) h c d = absurd (missed (state past) (live past) request b.mapping d c.0)
 one_choice past request (Proxy a) (Proxy b) h c d = ap Proxy (one_target (recording past) a b c.1 d.1)
 one_choice past request (Proxy a) Unmatched h c d = absurd (d.1 (is_on (recording past) a c.1))
-one_choice past request Unmatched (Stub b) h c d = absurd (missed past request b.mapping d c.0)
+one_choice past request Unmatched (Stub b) h c d = absurd (missed (state past) (live past) request b.mapping d c.0)
 one_choice past request Unmatched (Proxy b) h c d = absurd (c.1 (is_on (recording past) b d.1))
 one_choice past request Unmatched Unmatched h c d = refl

@@ -11,18 +11,18 @@ abbrev pub AreWithin : ℕ → ℕ → List Placed → Type 0
 AreWithin low high [] = Unit {0}
 AreWithin low high (p ∷ ps) = (low ≤ p.place.event) × (p.place.event ≤ high) × AreWithin low high ps
 
-same_le : (n : ℕ) → n ≤ n
+pub same_le : (n : ℕ) → n ≤ n
 same_le n = omega arith
 
 less : (a b c : ℕ) → a ≤ b → b ≤ c → a ≤ c
 less a b c l r = omega arith
 
-both_within
+pub both_within
     : (low high : ℕ) (ps qs : List Placed) → AreWithin low high ps → AreWithin low high qs → AreWithin low high (ps ++ qs)
 both_within low high [] qs h g = g
 both_within low high (p ∷ ps) qs h g = (h.0, h.1, both_within low high ps qs h.2 g)
 
-wider : (low lower high higher : ℕ) (ps : List Placed) → lower ≤ low → high ≤ higher
+pub wider : (low lower high higher : ℕ) (ps : List Placed) → lower ≤ low → high ≤ higher
     → AreWithin low high ps → AreWithin lower higher ps
 wider low lower high higher [] l r h = tt
 wider low lower high higher (p ∷ ps) l r h =

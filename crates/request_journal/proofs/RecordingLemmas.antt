@@ -1,7 +1,9 @@
 -- What one more event does to the recording, and that a checkpoint changes none.
-use Rattle.std.proofs.Common.{◌≡◌, ℕ, ◌+◌, Bool, true, false, ◌||◌, cond, List, [], ◌∷◌, ◌++◌, Option, None}
-use Rattle.std.proofs.Common.{refl, sym, ap, ◌∙◌, append-nil, append_assoc}
-use Rattle.std.specs.List.{list_any, filter_map, cons_option}
+use Rattle.std.proofs.Common.{◌≡◌, ℕ, suc, ◌+◌, Bool, true, false, not, ◌||◌, cond, List, [], ◌∷◌, ◌++◌, take, Option, None, Some}
+use Rattle.std.proofs.Common.{refl, sym, ap, ◌∙◌, arith, append-nil, append_assoc}
+use Rattle.std.proofs.lemmas.Bool.{false≢true, or_parts}
+use Rattle.std.proofs.lemmas.List.Elements.{filter_map-append}
+use Rattle.std.specs.List.{before_first, list_any, filter_map, cons_option, prefix_len}
 use Rattle.std.specs.Option.{option_or, unwrap_or}
 use Rattle.recorder.specs.declared.exchange.Exchange.{Exchange}
 use Rattle.recorder.specs.declared.recording.Recording.{Recording}
@@ -10,10 +12,11 @@ use Rattle.recorder.specs.declared.recording.Session.{Session}
 use Rattle.request_journal.specs.Events.{Numbered, numbered, after_last, last_of}
 use Rattle.request_journal.specs.Legal.{IsCheckpoint}
 use Rattle.request_journal.specs.Past.{Past, with_event, last_number, numbered_events}
-use Rattle.request_journal.specs.Recording.{recording, continued, started_by, starts, stops, exchange_of, with_exchanges}
+use Rattle.request_journal.specs.Recording.{recording, recorded, continued, started_by, starts, stops, exchange_of}
+use Rattle.request_journal.specs.Recording.{with_exchanges}
 use Rattle.request_journal.specs.declared.event.Event.{Event}
 use Rattle.request_journal.specs.declared.event.Event.TheVariants as event
-use Rattle.request_journal.proofs.JournalLemmas.{numbered_after, after_passing, after_other, found_one}
+use Rattle.request_journal.proofs.JournalLemmas.{numbered_after, after_passing, after_other}
 use Rattle.request_journal.proofs.LiveLemmas.{any_one, last_one}
 
 -- a recording after the event of this number
@@ -38,16 +41,58 @@ same_exchanges session = ap (λ xs. record {
   exchanges = xs;
 }) (append-nil session.exchanges)
 
+-- ---- what is before the first that passes
+
+one_more : (n : ℕ) → 1 + n ≡ suc n
+one_more n = omega arith
+
+module _ {X : Type 0} (test : X → Bool) where
+  abbrev taken : Bool → X → List X → List X
+  taken passes x xs = take (cond (not passes) (1 + prefix_len (λ y. not (test y)) xs) 0) (x ∷ xs)
+
+  none_before : (x : X) (xs : List X) → test x ≡ true → before_first test (x ∷ xs) ≡ []
+  none_before x xs h = ap (λ b. taken b x xs) h
+
+  one_before : (x : X) (xs : List X) → test x ≡ false → before_first test (x ∷ xs) ≡ x ∷ before_first test xs
+  one_before x xs h =
+      ap (λ b. taken b x xs) h
+      ∙ ap (λ n. take n (x ∷ xs)) (one_more (prefix_len (λ y. not (test y)) xs))
+
+  before_passing : (xs ys : List X) → list_any test xs ≡ true → before_first test (xs ++ ys) ≡ before_first test xs
+  before_passing [] ys h = absurd (false≢true h)
+  before_passing (x ∷ xs) ys h =
+      elim (test x) as (λ b. test x ≡ b → (b || list_any test xs) ≡ true
+      → before_first test (x ∷ (xs ++ ys)) ≡ before_first test (x ∷ xs)) [
+        | true ↦ λ passes _. none_before x (xs ++ ys) passes ∙ sym (none_before x xs passes)
+        | false ↦ λ fails later. one_before x (xs ++ ys) fails ∙ ap (λ l. x ∷ l) (before_passing xs ys later)
+            ∙ sym (one_before x xs fails)
+      ] refl h
+
+  before_failing : (xs ys : List X) → list_any test xs ≡ false
+      → before_first test (xs ++ ys) ≡ xs ++ before_first test ys
+  before_failing [] ys h = refl
+  before_failing (x ∷ xs) ys h =
+      let both : (test x ≡ false) × (list_any test xs ≡ false) = or_parts (test x) (list_any test xs) h in
+      one_before x (xs ++ ys) both.0 ∙ ap (λ l. x ∷ l) (before_failing xs ys both.1)
+
+  before_none : (xs : List X) → list_any test xs ≡ false → before_first test xs ≡ xs
+  before_none xs h =
+      ap (before_first test) (sym (append-nil xs)) ∙ before_failing xs [] h ∙ append-nil xs
+
+-- a recording that is on, or was stopped by one of the events
+abbrev pub switched : Bool → Session → Recording
+switched stopped session = cond stopped (Stopped session) (On session)
+
+-- ---- one more event
+
 -- an event that has to do with no recording leaves it as it is
 continued_other : (e : Event) (r : Recording) → exchange_of e ≡ None → stops e ≡ false → continued (e ∷ []) r ≡ r
 continued_other e NeverStarted x s = refl
 continued_other e (On session) x s =
-    (λ i. cond (s i || false)
-    (Stopped (with_exchanges session (cons_option (x i) [])))
-    (On (with_exchanges session (cons_option (x i) []))))
+    (λ i. switched (s i || false) (with_exchanges session (filter_map exchange_of (one_before stops e [] s i))))
+    ∙ (λ i. On (with_exchanges session (cons_option (x i) [])))
     ∙ ap On (same_exchanges session)
-continued_other e (Stopped session) x s =
-    (λ i. Stopped (with_exchanges session (cons_option (x i) []))) ∙ ap Stopped (same_exchanges session)
+continued_other e (Stopped session) x s = refl
 
 more_exchanges : (session : Session) (xs ys : List Exchange)
     → with_exchanges session (xs ++ ys) ≡ with_exchanges (with_exchanges session xs) ys
@@ -59,35 +104,35 @@ more_exchanges session xs ys = ap (λ zs. record {
   exchanges = zs;
 }) (sym (append_assoc session.exchanges xs ys))
 
--- a recording that is on, or was stopped by one of the events
-abbrev switched : Bool → Session → Recording
-switched stopped session = cond stopped (Stopped session) (On session)
-
 or_false : (p : Bool) → p ≡ (p || false)
 or_false true = refl
 or_false false = refl
-
-switched_one : (e : Event) (session : Session) (xs : List Exchange) (p : Bool)
-    → switched (p || stops e) (with_exchanges session (xs ++ filter_map exchange_of (e ∷ [])))
-    ≡ continued (e ∷ []) (switched p (with_exchanges session xs))
-switched_one e session xs true = ap Stopped (more_exchanges session xs (filter_map exchange_of (e ∷ [])))
-switched_one e session xs false =
-    λ i. switched (or_false (stops e) i) (more_exchanges session xs (filter_map exchange_of (e ∷ [])) i)
 
 continued_one : (es : List Event) (e : Event) (r : Recording)
     → continued (es ++ e ∷ []) r ≡ continued (e ∷ []) (continued es r)
 continued_one es e NeverStarted = refl
 continued_one es e (On session) =
-    (λ i. switched (any_one stops es e i) (with_exchanges session (found_one exchange_of es e i)))
-    ∙ switched_one e session (filter_map exchange_of es) (list_any stops es)
-continued_one es e (Stopped session) =
-    ap (λ xs. Stopped (with_exchanges session xs)) (found_one exchange_of es e)
-    ∙ ap Stopped (more_exchanges session (filter_map exchange_of es) (filter_map exchange_of (e ∷ [])))
+    let last : List Event = e ∷ [] in
+    let stopped : (b : Bool) → list_any stops es ≡ b → list_any stops (es ++ last) ≡ (b || stops e) =
+    λ b h. any_one stops es e ∙ ap (λ c. c || stops e) h in
+    elim (list_any stops es)
+    as (λ b. list_any stops es ≡ b → continued (es ++ last) (On session) ≡ continued last (continued es (On session))) [
+      | true ↦ λ h.
+          (λ i. switched (stopped true h i) (with_exchanges session (filter_map exchange_of (before_passing stops es last h i))))
+          ∙ sym (ap (λ b. continued last (switched b (with_exchanges session (recorded es)))) h)
+      | false ↦ λ h.
+          (λ i. switched (stopped false h i) (with_exchanges session (filter_map exchange_of (before_failing stops es last h i))))
+          ∙ (λ i. switched (or_false (stops e) i) (with_exchanges session (filter_map-append exchange_of es (before_first stops last) i)))
+          ∙ ap (switched (stops e || false)) (more_exchanges session (filter_map exchange_of es) (recorded last))
+          ∙ sym (λ i. continued last
+          (switched (h i) (with_exchanges session (filter_map exchange_of (before_none stops es h i)))))
+    ] refl
+continued_one es e (Stopped session) = refl
 
-continued_none : (r : Recording) → continued [] r ≡ r
+pub continued_none : (r : Recording) → continued [] r ≡ r
 continued_none NeverStarted = refl
 continued_none (On session) = ap On (same_exchanges session)
-continued_none (Stopped session) = ap Stopped (same_exchanges session)
+continued_none (Stopped session) = refl
 
 abbrev begun : Numbered → Option Recording
 begun n = started_by n.number n.event

@@ -5,6 +5,7 @@ use Rattle.mapping_model.specs.MappingId.{event_id}
 use Rattle.mapping_model.specs.declared.mapping_spec.MappingSpec.{MappingSpec}
 use Rattle.recorder.specs.Recording.{IsOn, IsOnAnd, TakesFrom, IsFull}
 use Rattle.recorder.specs.Stubs.{recorded_mappings, recorded_skipped}
+use Rattle.recorder.specs.Target.{IsTarget}
 use Rattle.scenario_core.specs.Scenarios.{state_of}
 use Rattle.request_journal.specs.Choice.{IsChoice}
 use Rattle.request_journal.specs.Journal.{clears}
@@ -38,7 +39,7 @@ IsAnswer past (event.Add mapping) = mapping.id ≡ unwrap_or mapping.spec.id (ev
 IsAnswer past (event.Edit id spec) = IsLive past id
 IsAnswer past (event.Delete id) = IsLive past id
 IsAnswer past (event.SetScenario name state) = HasState past name state
-IsAnswer past (event.StartRecording target captured repeats) = ¬ (IsOn (recording past))
+IsAnswer past (event.StartRecording target captured repeats) = ¬ (IsOn (recording past)) × IsTarget target
 IsAnswer past (event.Record serve exchange) = IsTaken past serve
 IsAnswer past (event.StopRecording mappings skipped) =
     IsOnAnd (recording past) (λ session.

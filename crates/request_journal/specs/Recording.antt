@@ -1,6 +1,6 @@
--- Which recording there is: the last that was started, with the exchanges that were recorded since.
+-- Which recording there is: the last that was started, with the exchanges that were recorded since, up to its stop.
 use Rattle.std.specs.Prelude.{ℕ, Bool, true, false, List, [], ◌++◌, filter_map, Option, Some, None, unwrap_or, cond}
-use Rattle.std.specs.List.{list_any}
+use Rattle.std.specs.List.{before_first, list_any}
 use Rattle.recorder.specs.declared.exchange.Exchange.{Exchange}
 use Rattle.recorder.specs.declared.recording.Recording.{Recording}
 use Rattle.recorder.specs.declared.recording.Recording.TheVariants.{NeverStarted, On, Stopped}
@@ -44,13 +44,17 @@ with_exchanges session exchanges = record {
   exchanges = session.exchanges ++ exchanges;
 }
 
+-- the exchanges that the events record until one of them stops the recording
+abbrev pub recorded : List Event → List Exchange
+recorded events = filter_map exchange_of (before_first stops events)
+
 -- a recording after events that start no other one
 abbrev pub continued : List Event → Recording → Recording
 continued events NeverStarted = NeverStarted
 continued events (On session) =
-    let longer : Session = with_exchanges session (filter_map exchange_of events) in
+    let longer : Session = with_exchanges session (recorded events) in
     cond (list_any stops events) (Stopped longer) (On longer)
-continued events (Stopped session) = Stopped (with_exchanges session (filter_map exchange_of events))
+continued events (Stopped session) = Stopped session
 
 -- the recording that the last start began, or else the base's, after the events since
 abbrev pub recording : Past → Recording

@@ -1,7 +1,8 @@
 use Rattle.std.proofs.Common.{◌≡◌, take, All}
 use Rattle.std.specs.List.{AllWithin}
-use Rattle.mapping_store.specs.Choice.{IsEligible}
-use Rattle.mapping_store.specs.Inner.Entries.{placed_of}
+use Rattle.request_journal.specs.Choice.{IsEligible}
+use Rattle.scenario_core.specs.Scenarios.{state_of}
+use Rattle.live_mappings.specs.Kept.{placed_of}
 use Rattle.mapping_store.proofs.eligible.first_eligible.Given as goal
 
 abbrev pub invariant-loop-i : goal.invariant-loop-i
@@ -9,5 +10,5 @@ invariant-loop-i l = record {
   same_entries : l.entries ≡ l.fn.entries;
   same_defaults : l.defaults ≡ l.fn.defaults;
   same_request : l.request ≡ l.fn.request;
-  passed : AllWithin (λ e. ¬ (IsEligible l.scenarios l.fn.request (placed_of e).mapping)) l.fn.entries 0 l.i;
+  passed : AllWithin (λ e. ¬ (IsEligible (state_of l.scenarios) l.fn.request (placed_of e).mapping)) l.fn.entries 0 l.i;
 }

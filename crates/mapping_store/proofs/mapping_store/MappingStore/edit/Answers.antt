@@ -1,9 +1,6 @@
-use Rattle.std.proofs.Common.{◌≡◌, ◌≢◌, List, All, Some, None, refl, sym, ap, subst, ◌∙◌, arith}
+use Rattle.std.proofs.Common.{◌≡◌, Some, None, refl, sym, ap, ◌∙◌, arith}
 use Rattle.request_journal.specs.Past.{Placed}
-use Rattle.mapping_store.specs.declared.entry.Entry.{Entry}
-use Rattle.mapping_store.specs.Inner.Entries.{without}
-use Rattle.mapping_store.proofs.IdLemmas.{ids_without}
-use Rattle.mapping_store.proofs.StoreLemmas.{after_edit, after_no_edit, found_taken, kept_without, fit_put}
+use Rattle.mapping_store.proofs.StoreLemmas.{after_edit, after_no_edit, found_taken, kept_without, kept_put}
 use Rattle.mapping_store.proofs.mapping_store.MappingStore.edit.Goals as goal
 
 pub put_in-requires-clause-room : goal.put_in-requires-clause-room
@@ -15,29 +12,22 @@ put_in-requires-clause-in_order c =
     rw c.take_out.ensures.rest
     (kept_without c.self.inside.defaults.items c.id.result c.self.inside.live.items c.self.invariant.kept).in_order
 
-pub put_in-requires-clause-new_id : goal.put_in-requires-clause-new_id
-put_in-requires-clause-new_id c =
-    let same : c.id.result ≡ c.own.result.id =
-    c.id.ensures ∙ sym (ap (λ (p : Placed). p.mapping.id) c.own.ensures.placed) in
-    subst (λ (l : List Entry). All (λ e. e.id ≢ c.own.result.id) l) (sym c.take_out.ensures.rest)
-    (subst (λ id. All (λ e. e.id ≢ id) (without c.id.result c.self.inside.live.items)) same
-    (ids_without c.id.result c.self.inside.live.items))
-
 pub invariant_of-self : goal.invariant_of-self
 invariant_of-self c =
     let defaults = c.self.inside.defaults.items in
-    let left = kept_without defaults c.id.result c.self.inside.live.items c.self.invariant.kept in
+    let same : c.id.result ≡ c.own.result.id =
+    c.id.ensures ∙ sym (ap (λ (p : Placed). p.mapping.id) c.own.ensures.placed) in
     record {
-      kept = record {
-        fit = fit_put defaults c.own.result c.take_out.new.entries.items c.put_in.new.entries.items c.put_in.ensures.put
-            (c.own.ensures.fits defaults) (rw c.take_out.ensures.rest left.fit);
-        in_order = c.put_in.ensures.in_order;
-      };
+      lasts_are = c.self.invariant.lasts_are;
+      kept = kept_put defaults c.id.result c.own.result c.self.inside.live.items c.take_out.new.entries.items
+          c.put_in.new.entries.items c.self.invariant.kept c.take_out.ensures.rest same (c.own.ensures.fits defaults)
+          c.put_in.ensures.put c.put_in.ensures.in_order;
       room = omega (arith, c.self.invariant.room, c.take_out.ensures.capacity, c.put_in.ensures.capacity);
     }
 
 pub invariant_of-self-in-None-1 : goal.invariant_of-self-in-None-1
 invariant_of-self-in-None-1 c = record {
+  lasts_are = c.self.invariant.lasts_are;
   kept = rw c.take_out.ensures.rest
       (kept_without c.self.inside.defaults.items c.id.result c.self.inside.live.items c.self.invariant.kept);
   room = omega (arith, c.self.invariant.room, c.take_out.ensures.capacity);

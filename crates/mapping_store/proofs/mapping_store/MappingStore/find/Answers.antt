@@ -1,7 +1,8 @@
-use Rattle.std.proofs.Common.{◌≡◌, List, get_or, sym, ap, subst, ◌∙◌}
-use Rattle.mapping_store.specs.Choice.{IsEligible}
-use Rattle.mapping_store.specs.declared.entry.Entry.{Entry}
-use Rattle.mapping_store.specs.Inner.Entries.{placed_of}
+use Rattle.std.proofs.Common.{◌≡◌, ℕ, List, get_or, sym, ap, subst, ◌∙◌}
+use Rattle.request_journal.specs.Choice.{IsEligible}
+use Rattle.scenario_core.specs.Scenarios.{state_of}
+use Rattle.live_mappings.specs.declared.entry.Entry.{Entry}
+use Rattle.live_mappings.specs.Kept.{placed_of}
 use Rattle.request_journal.specs.declared.mapping.Mapping.{Mapping}
 use Rattle.mapping_store.proofs.ChoiceLemmas.{chosen, missed, same_items}
 use Rattle.mapping_store.proofs.mapping_store.MappingStore.find.Goals as goal
@@ -10,7 +11,7 @@ use Rattle.mapping_store.proofs.mapping_store.MappingStore.find.Goals.{in-Some+i
 pub returns-clause-found : goal.returns-clause-found
 returns-clause-found c =
     let items : List Entry = c.self.inside.live.items in
-    let states = c.args.scenarios.now in
+    let states : List ℕ → List ℕ = state_of c.args.scenarios.now in
     let request = c.args.request.now in
     elim c.match-branch-2.branch [
       | in-Some+in_ok-try_clone-in-Some w ↦

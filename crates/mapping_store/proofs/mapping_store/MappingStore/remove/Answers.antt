@@ -4,6 +4,7 @@ use Rattle.mapping_store.proofs.mapping_store.MappingStore.remove.Goals as goal
 
 pub invariant_of-self : goal.invariant_of-self
 invariant_of-self c = record {
+  lasts_are = c.self.invariant.lasts_are;
   kept = rw c.take_out.ensures.rest
       (kept_without c.self.inside.defaults.items c.args.id c.self.inside.live.items c.self.invariant.kept);
   room = omega (arith, c.self.invariant.room, c.take_out.ensures.capacity);

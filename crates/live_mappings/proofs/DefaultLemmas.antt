@@ -1,0 +1,27 @@
+-- Look-ups by id, from the first mapping on.
+use Rattle.std.proofs.Common.{◌≡◌, ◌≢◌, ℕ, ◌+◌, ◌<◌, true, ◌||◌, List, length, get_or, drop, sym, ap, ◌∙◌}
+use Rattle.std.specs.Str.{bytes_eq}
+use Rattle.std.proofs.lemmas.Bool.{false_from_ne_true}
+use Rattle.std.proofs.lemmas.List.{at_drop_more}
+use Rattle.std.proofs.lemmas.Slice.Eq.{bytes_eq-Decides}
+use Rattle.request_journal.specs.Past.{has_id}
+use Rattle.request_journal.specs.declared.mapping.Mapping.{Mapping}
+use Rattle.live_mappings.proofs.IdLemmas.{same_id}
+
+has_id_more : (ms : List Mapping) (i : ℕ) (m : Mapping) (id : List ℕ) → i < length ms → m ≡ get_or ms i m
+    → has_id (drop i ms) id ≡ (bytes_eq m.id id || has_id (drop (i + 1) ms) id)
+has_id_more ms i m id l read =
+    at_drop_more (λ ns. has_id ns id) ms i m l
+    ∙ ap (λ (n : Mapping). bytes_eq n.id id || has_id (drop (i + 1) ms) id) (sym read)
+
+pub has_id_here : (ms : List Mapping) (i : ℕ) (m : Mapping) (id : List ℕ) → i < length ms → m ≡ get_or ms i m
+    → m.id ≡ id → has_id (drop i ms) id ≡ true
+has_id_here ms i m id l read is =
+    has_id_more ms i m id l read ∙ ap (λ b. b || has_id (drop (i + 1) ms) id) (same_id m.id id is)
+
+pub has_id_later : (ms : List Mapping) (i : ℕ) (m : Mapping) (id : List ℕ) → i < length ms → m ≡ get_or ms i m
+    → m.id ≢ id → has_id (drop i ms) id ≡ has_id (drop (i + 1) ms) id
+has_id_later ms i m id l read differ =
+    has_id_more ms i m id l read
+    ∙ ap (λ b. b || has_id (drop (i + 1) ms) id)
+    (false_from_ne_true (bytes_eq m.id id) (λ e. differ ((bytes_eq-Decides m.id id).0 e)))

@@ -1,0 +1,79 @@
+// A live mapping as it is kept.
+ghost use Rattle.std.specs.Prelude.{◌≡◌, ◌<◌, List, length, slice_index_or};
+ghost use Rattle.request_journal.specs.declared.mapping.Mapping.{Mapping};
+ghost use Rattle.live_mappings.specs.Kept.{order, placed_of, Fits};
+
+use crate::book_mapping::BookMapping;
+use mapping_model::mapping_id::MappingId;
+use mapping_model::mapping_spec::MappingSpec;
+use std::cmp::Ordering;
+use std::snapshot::Snapshot;
+
+/// Where the matcher of a live mapping is.
+#[derive(Drop)]
+pub enum Source {
+    Own(BookMapping),
+    /// That of the default with this index, so that a reset builds none again.
+    Default(usize),
+}
+
+/// A live mapping: its place, and what the order of choice is made of.
+#[derive(Drop)]
+pub struct Entry {
+    /// The number of the event that added it.
+    pub event: u64,
+    /// Its index among the mappings of that event.
+    pub index: u64,
+    pub id: MappingId,
+    pub priority: i32,
+    pub source: Source,
+    /// For contracts alone.
+    pub seen: Snapshot<MappingSpec>,
+}
+
+impl Entry {
+    pub fn own(event: u64, index: u64, mapping: BookMapping) -> Entry
+        ensures placed { placed_of result
+            ≡ record { place = record { event = event; index = index }; mapping = mapping } }
+        ensures fits { (defaults : List Mapping) → Fits defaults result }
+    {
+        let spec = mapping.shared().spec();
+        Entry {
+            event,
+            index,
+            id: mapping.id(),
+            priority: spec.priority_number(),
+            seen: Snapshot::of(spec),
+            source: Source::Own(mapping),
+        }
+    }
+
+    /// The entry of the default with this index.
+    pub fn of_default(event: u64, at: usize, defaults: &[BookMapping]) -> Entry
+        requires { at < length defaults.now }
+        ensures placed { (d : Mapping) → placed_of result
+            ≡ record { place = record { event = event; index = at }; mapping = slice_index_or defaults.now at d } }
+        ensures fits { Fits defaults.now result }
+    {
+        let default = &defaults[at];
+        let spec = default.shared().spec();
+        Entry {
+            event,
+            index: at as u64,
+            id: default.id(),
+            priority: spec.priority_number(),
+            seen: Snapshot::of(spec),
+            source: Source::Default(at),
+        }
+    }
+
+    /// `Less` where it wins over the other.
+    pub fn order(&self, other: &Entry) -> Ordering
+        ensures { result ≡ order self.now other.now }
+    {
+        self.priority
+            .cmp(&other.priority)
+            .then(other.event.cmp(&self.event))
+            .then(other.index.cmp(&self.index))
+    }
+}

@@ -1,0 +1,40 @@
+// Several mappings that one event adds, one after the other.
+ghost use Rattle.std.specs.Prelude.{◌+◌, ◌≤◌, List, map, All, AllPairs, vec_len};
+ghost use Rattle.std.specs.List.{IsDistinct};
+ghost use Rattle.std.specs.Vec.{vec_capacity};
+ghost use Rattle.request_journal.specs.declared.mapping.Mapping.{Mapping};
+ghost use Rattle.live_mappings.specs.Kept.{Adds, Fits, IsBefore, have_one_id, placed_of};
+
+use crate::book_mapping::BookMapping;
+use crate::entries::{replace_last, sort};
+use crate::entry::Entry;
+
+/// Adds the mappings. Takes no memory.
+pub fn put_all(entries: &mut Vec<Entry>, number: u64, mappings: Vec<BookMapping>)
+    requires ids { IsDistinct have_one_id entries.old.items }
+    requires room { vec_len entries.old + vec_len mappings ≤ vec_capacity entries.old }
+    ensures in_order { AllPairs IsBefore entries.new.items }
+    ensures ids { IsDistinct have_one_id entries.new.items }
+    ensures fit { (defaults : List Mapping) → All (Fits defaults) entries.old.items → All (Fits defaults) entries.new.items }
+    ensures added { Adds number (map placed_of entries.old.items) mappings.items (map placed_of entries.new.items) }
+    ensures capacity { vec_capacity entries.old ≤ vec_capacity entries.new }
+{
+    replace_all(entries, number, mappings);
+    sort(entries);
+}
+
+/// Adds the mappings at the end, in any order.
+fn replace_all(entries: &mut Vec<Entry>, number: u64, mappings: Vec<BookMapping>)
+    requires ids { IsDistinct have_one_id entries.old.items }
+    requires room { vec_len entries.old + vec_len mappings ≤ vec_capacity entries.old }
+    ensures ids { IsDistinct have_one_id entries.new.items }
+    ensures fit { (defaults : List Mapping) → All (Fits defaults) entries.old.items → All (Fits defaults) entries.new.items }
+    ensures added { Adds number (map placed_of entries.old.items) mappings.items (map placed_of entries.new.items) }
+    ensures capacity { vec_capacity entries.old ≤ vec_capacity entries.new }
+{
+    let mut index = 0;
+    for mapping in mappings {
+        replace_last(entries, Entry::own(number, index, mapping));
+        index += 1;
+    }
+}
