@@ -114,6 +114,10 @@ is_checkpoint_of old past known events o k n =
 no_more : (n : ℕ) → n + 0 ≡ n
 no_more n = omega arith
 
+no_states : (states : States) → states_after [] states ≡ states
+unfolding states_after
+no_states states = refl
+
 -- a checkpoint without events leaves a past as it is
 pub checkpoint_of_none : (known : Past) (events : List Event)
     → with_events (checkpointed (with_events known [])) events ≡ with_events known events
@@ -129,10 +133,6 @@ checkpoint_of_none known events = λ i. record {
   };
   events = events;
 }
-  where
-    no_states : (states : States) → states_after [] states ≡ states
-    unfolding states_after
-    no_states states = refl
 
 -- so its number is the base's
 pub number_of_copy : (known : Past) (base : ℕ) → known.base.number ≡ base

@@ -71,7 +71,6 @@ impl History {
     }
 
     /// Shares the events.
-    #[tactic(auto, using(crate::proofs::CheckpointLemmas::checkpoint_of_none, crate::proofs::CheckpointLemmas::number_of_copy))]
     pub fn try_clone(&self) -> Result<History, AllocError>
         ensures { IfOk result (λ copy. copy.past ≡ self.now.past) }
     {
