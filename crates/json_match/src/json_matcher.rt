@@ -17,7 +17,6 @@ use std::alloc::{AllocError, Global};
 use std::marker::Model;
 
 /// A JSON matcher that was built: contracts see what it was built from.
-#[derive(Drop)]
 pub struct JsonMatcher {
     spec: JsonSpec,
     test: Test,
@@ -66,6 +65,16 @@ impl JsonMatcher {
             Test::EqualTo(expected, flags) => is_equal(*flags, expected, actual),
             Test::Path(path) => Ok(finds_something(actual.at(path.steps()))),
         }
+    }
+}
+
+// Written out, so that a caller's proof sees one call and not the drop of each field.
+impl Drop for JsonMatcher {
+    fn drop(self) {
+        let JsonMatcher {
+            spec: _spec,
+            test: _test,
+        } = self;
     }
 }
 

@@ -60,11 +60,7 @@ fn url(alloc: Global, kind: &str, text: &str, parts: &[String]) -> Result<UrlSpe
 }
 
 // The matchers of what the word names.
-fn named(
-    alloc: Global,
-    parts: &[String],
-    about: &str,
-) -> Result<Items<NamedMatcher>, AllocError> {
+fn named(alloc: Global, parts: &[String], about: &str) -> Result<Items<NamedMatcher>, AllocError> {
     let mut matchers = Vec::new(alloc);
     for part in parts.chunks(4) {
         if part[0].as_str() == about {

@@ -3,11 +3,9 @@
 // `specs/Refusal.antt` (which matchers may be refused) and `specs/Literal.antt` (which requests a literal URL leaves).
 #![tactic(auto)]
 
+pub mod error;
 pub mod literal;
+pub mod parsed_request;
 pub mod ready_mapping;
 pub mod request_matcher;
 pub mod shared_spec;
-
-// The parts that its calls name.
-pub use request_parts::error;
-pub use request_parts::parsed_request;

@@ -12,7 +12,6 @@ use std::alloc::{AllocError, Global};
 use std::marker::Model;
 
 /// A mapping with the matcher built from it: contracts see the mapping.
-#[derive(Drop)]
 pub struct ReadyMapping {
     spec: SharedSpec,
     matcher: RequestMatcher,
@@ -68,5 +67,15 @@ impl ReadyMapping {
         ensures same_request { request.new ≡ request.old }
     {
         self.matcher.matches(request)
+    }
+}
+
+// Written out, so that a caller's proof sees one call and not the drop of each field.
+impl Drop for ReadyMapping {
+    fn drop(self) {
+        let ReadyMapping {
+            spec: _spec,
+            matcher: _matcher,
+        } = self;
     }
 }

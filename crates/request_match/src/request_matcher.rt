@@ -19,7 +19,6 @@ use std::alloc::{AllocError, Global};
 use std::marker::Model;
 
 /// A request matcher that was built: contracts see what it was built from.
-#[derive(Drop)]
 pub struct RequestMatcher {
     method: Option<Text>,
     url: UrlTest,
@@ -116,6 +115,21 @@ impl RequestMatcher {
             method: wanted_method(&self.method),
             text,
         })
+    }
+}
+
+// Written out, so that a caller's proof sees one call and not the drop of each field.
+impl Drop for RequestMatcher {
+    fn drop(self) {
+        let RequestMatcher {
+            method: _method,
+            url: _url,
+            headers: _headers,
+            query: _query,
+            cookies: _cookies,
+            body: _body,
+            alloc: _alloc,
+        } = self;
     }
 }
 

@@ -18,7 +18,6 @@ use value_match::error::ValueError;
 use value_match::value_matcher::ValueMatcher;
 
 /// A matcher of the values of a name that was built: contracts see what it was built from.
-#[derive(Drop)]
 pub struct NamedTest {
     name: Text,
     matcher: ValueMatcher,
@@ -63,11 +62,18 @@ impl NamedTest {
     }
 }
 
+// Written out, so that a caller's proof sees one call and not the drop of each field.
+impl Drop for NamedTest {
+    fn drop(self) {
+        let NamedTest {
+            name: _name,
+            matcher: _matcher,
+        } = self;
+    }
+}
+
 /// Builds each.
-pub fn build_tests(
-    alloc: Global,
-    specs: &[NamedMatcher],
-) -> Result<Vec<NamedTest>, ValueError>
+pub fn build_tests(alloc: Global, specs: &[NamedMatcher]) -> Result<Vec<NamedTest>, ValueError>
     ensures ok { IfOk result (λ tests. tests.items ≡ specs.now) }
     ensures patterns { OnOk result (All HasPattern (matchers_of specs.now)) }
     ensures bad_pattern { IsErrOf result ValueError.BadPattern → Any MayBeRefused (matchers_of specs.now) }
@@ -87,10 +93,7 @@ fn push(tests: &mut Vec<NamedTest>, test: NamedTest) -> Result<(), AllocError>
 }
 
 /// Whether the pairs meet each test.
-pub fn meet_pairs(
-    tests: &mut [NamedTest],
-    pairs: &[(String, String)],
-) -> Result<bool, AllocError>
+pub fn meet_pairs(tests: &mut [NamedTest], pairs: &[(String, String)]) -> Result<bool, AllocError>
     ensures answer { IfOk result (λ yes. IsTrue yes ↔ MeetPairs tests.old (pairs_of pairs.now)) }
     ensures same { tests.new ≡ tests.old }
 {

@@ -25,7 +25,6 @@ use value_match::value_matcher::ValueMatcher;
 
 /// The method, URL, path and values of a request and the JSON of its body, made once for all mappings that it is compared
 /// with. Contracts see the request alone.
-#[derive(Drop)]
 pub struct ParsedRequest<'a> {
     values: RequestValues<'a>,
     method: &'a str,
@@ -136,6 +135,20 @@ impl<'a> ParsedRequest<'a> {
             Some(Some(data)) => meets_found(self.alloc, matcher, data.at(path.steps())),
             _ => Ok(false),
         }
+    }
+}
+
+// Written out, so that a caller's proof sees one call and not the drop of each field.
+impl<'a> Drop for ParsedRequest<'a> {
+    fn drop(self) {
+        let ParsedRequest {
+            values: _values,
+            method: _method,
+            url: _url,
+            path: _path,
+            json: _json,
+            alloc: _alloc,
+        } = self;
     }
 }
 

@@ -15,7 +15,6 @@ use std::alloc::{AllocError, Global};
 use std::marker::Model;
 
 /// A value matcher that was built: contracts see what it was built from.
-#[derive(Drop)]
 pub struct ValueMatcher {
     spec: ValueSpec,
     /// For a matcher with a pattern. Boxed: most have none, and a pattern with its searches takes 2 kB.
@@ -72,6 +71,16 @@ impl ValueMatcher {
             ValueSpec::DoesNotMatch(_) => !finds(&mut self.pattern, value),
             ValueSpec::Absent => false,
         })
+    }
+}
+
+// Written out, so that a caller's proof sees one call and not the drop of each field.
+impl Drop for ValueMatcher {
+    fn drop(self) {
+        let ValueMatcher {
+            spec: _spec,
+            pattern: _pattern,
+        } = self;
     }
 }
 

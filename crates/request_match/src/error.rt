@@ -1,0 +1,2 @@
+// Why no matcher is built.
+pub use request_parts::error::RequestMatchError;

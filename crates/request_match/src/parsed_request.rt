@@ -1,0 +1,2 @@
+// A request as matchers read it.
+pub use request_parts::parsed_request::ParsedRequest;
