@@ -1,5 +1,5 @@
 -- The look-up finds the call of the table that a method and a path name, and no other.
-use Rattle.std.proofs.Common.{◌≡◌, ◌≢◌, ℕ, ◌+◌, ◌≤◌, List, [], ◌∷◌, length, Bool, true, false, ◌&&◌, Option, Some, None, codes}
+use Rattle.std.proofs.Common.{◌≡◌, ◌≢◌, ℕ, ◌≤◌, List, [], ◌∷◌, length, Bool, true, false, ◌&&◌, Option, Some, None, codes}
 use Rattle.std.proofs.Common.{IfSome, IsNone, true≢false, refl, sym, ap, subst, ◌∙◌, cond, option_and_then, arith}
 use Rattle.std.specs.List.{slice_split}
 use Rattle.std.specs.Option.{option_map_or}

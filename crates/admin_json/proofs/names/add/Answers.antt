@@ -1,4 +1,4 @@
-use Rattle.std.proofs.Common.{map, string_bytes, ap, ◌∙◌, OnOk}
+use Rattle.std.proofs.Common.{map, string_bytes, ap, ◌∙◌}
 use Rattle.std.specs.Map.{keys_of}
 use Rattle.admin_json.proofs.NameLemmas.{names_of-insert_entry}
 use Rattle.request_data.specs.Grouped.{with_name}

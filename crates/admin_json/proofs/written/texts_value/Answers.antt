@@ -4,7 +4,7 @@ use Rattle.std.proofs.lemmas.Iterator.Consumers.{YieldsList-end}
 use Rattle.std.proofs.lemmas.List.{map-id}
 use Rattle.serde_json.proofs.Views.{view-Array}
 use Rattle.serde_json.specs.Data.{array, string}
-use Rattle.serde_json.specs.View.{items_of, view}
+use Rattle.serde_json.specs.View.{items_of}
 use Rattle.admin_json.proofs.written.texts_value.Goals as goal
 
 pub returns : goal.returns
