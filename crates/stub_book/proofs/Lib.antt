@@ -1,0 +1,4 @@
+pub mod LeftLemmas
+pub mod Fits
+pub mod NextLemmas
+pub mod ChoiceLemmas
