@@ -1,5 +1,6 @@
 -- What a book keeps agrees with its past after one more event with the right answer.
-use Rattle.std.proofs.Common.{◌≡◌, ◌≤◌, ◌<◌, ◌+◌, ℕ, true, List, [], ◌∷◌, ◌++◌, length, refl, sym, ap, ◌∙◌, subst, arith, append-nil}
+use Rattle.std.proofs.Common.{◌≡◌, ◌≤◌, ◌<◌, ◌+◌, ℕ, true, false, List, [], ◌∷◌, ◌++◌, length, refl, sym, ap, ◌∙◌, subst, arith, append-nil}
+use Rattle.std.specs.Bool.{MatchBool}
 use Rattle.std.specs.List.Sorted.{IsPermutation}
 use Rattle.std.specs.Option.{unwrap_or}
 use Rattle.std.proofs.lemmas.List.Sorted.{IsPermutation-refl}
@@ -20,6 +21,7 @@ use Rattle.request_journal.proofs.LiveLemmas.{live_at_checkpoint, state_after, s
 use Rattle.request_journal.proofs.RecordingLemmas.{recording_by, recording_after, recording_at_checkpoint}
 use Rattle.request_journal.proofs.SameLemmas.{live_since_checkpoint, number_after}
 use Rattle.scenario_core.specs.Scenarios.{States}
+use Rattle.stub_book.specs.Growth.{Grows}
 use Rattle.stub_book.specs.Inner.Kept.{Agrees, StatesFollow}
 
 -- a number that has room leaves room for itself
@@ -35,11 +37,11 @@ module _
     -- what fitted fits after one more event with the right answer
     pub fits_after : Agrees (with_event past event) stored' states' kept'
     fits_after = record {
-      defaults = follows.same_defaults ∙ fits.defaults;
-      live = live_follows past event stored stored' fits.defaults fits.live follows;
-      states = λ name. moves name ∙ ap (unwrap_or (touch name event)) (fits.states name) ∙ sym (state_after past event name);
-      recording =
-          records ∙ ap (recording_by (last_number past + 1) event) fits.recording ∙ sym (recording_after past event);
+      same_defaults = follows.same_defaults ∙ fits.same_defaults;
+      same_live = live_follows past event stored stored' fits.same_defaults fits.same_live follows;
+      same_states = λ name. moves name ∙ ap (unwrap_or (touch name event)) (fits.same_states name) ∙ sym (state_after past event name);
+      same_recording =
+          records ∙ ap (recording_by (last_number past + 1) event) fits.same_recording ∙ sym (recording_after past event);
       legal = legal_after past event fits.legal next;
       few_live = next.few_live;
       few_defaults = fits.few_defaults;
@@ -54,17 +56,17 @@ module _
         let few : length (live (with_event base event)) ≡ length (live (with_event past event)) =
         ap length (live_since_checkpoint (event ∷ []) past base checkpoint) in
         record {
-          defaults = follows.same_defaults ∙ fits.defaults ∙ sym checkpoint.same_defaults;
-          live = live_follows base event stored stored' (fits.defaults ∙ sym checkpoint.same_defaults)
-              (subst (λ l. IsPermutation l stored.live) (sym (live_at_checkpoint past base checkpoint)) fits.live)
+          same_defaults = follows.same_defaults ∙ fits.same_defaults ∙ sym checkpoint.same_defaults;
+          same_live = live_follows base event stored stored' (fits.same_defaults ∙ sym checkpoint.same_defaults)
+              (subst (λ l. IsPermutation l stored.live) (sym (live_at_checkpoint past base checkpoint)) fits.same_live)
               (subst (λ n. Follows stored stored' (n + 1) event) (sym number) follows);
-          states = λ name. moves name
-              ∙ ap (unwrap_or (touch name event)) (fits.states name ∙ sym (state_at_checkpoint past base checkpoint name))
+          same_states = λ name. moves name
+              ∙ ap (unwrap_or (touch name event)) (fits.same_states name ∙ sym (state_at_checkpoint past base checkpoint name))
               ∙ sym (state_after base event name);
-          recording =
+          same_recording =
               records
               ∙ ap (recording_by (last_number past + 1) event)
-              (fits.recording ∙ sym (recording_at_checkpoint past base checkpoint))
+              (fits.same_recording ∙ sym (recording_at_checkpoint past base checkpoint))
               ∙ ap (λ n. recording_by (n + 1) event (recording base)) (sym number)
               ∙ sym (recording_after base event);
           legal = legal_at_clear past base event checkpoint clear next fits.few_live;
@@ -84,10 +86,10 @@ pub fits_roomier :
     (past : Past) (stored stored' : Stored) (states : States) (kept : Recording) → stored'.defaults ≡ stored.defaults
     → stored'.live ≡ stored.live → Agrees past stored states kept → Agrees past stored' states kept
 fits_roomier past stored stored' states kept same_defaults same_live fits = record {
-  defaults = same_defaults ∙ fits.defaults;
-  live = subst (λ l. IsPermutation (live past) l) (sym same_live) fits.live;
-  states = fits.states;
-  recording = fits.recording;
+  same_defaults = same_defaults ∙ fits.same_defaults;
+  same_live = subst (λ l. IsPermutation (live past) l) (sym same_live) fits.same_live;
+  same_states = fits.same_states;
+  same_recording = fits.same_recording;
   legal = fits.legal;
   few_live = fits.few_live;
   few_defaults = fits.few_defaults;
@@ -104,3 +106,53 @@ follows_same stored number event left none = record {
       (sym (ap (λ l. left_by (event ∷ []) stored.live ++ l) none ∙ append-nil (left_by (event ∷ []) stored.live) ∙ left))
       (IsPermutation-refl stored.live);
 }
+
+-- the same after a call that adds the event to a history with this past
+pub fits_added :
+    (past kept new : Past) (event shared : Event) (stored stored' : Stored) (states states' : States)
+    (recorded recorded' : Recording)
+    → kept ≡ past → shared ≡ event → new ≡ with_event kept shared
+    → Agrees past stored states recorded → IsNext past event
+    → Follows stored stored' (last_number past + 1) event → StatesFollow states states' event
+    → recorded' ≡ recording_by (last_number past + 1) event recorded → Agrees new stored' states' recorded'
+fits_added past kept new event shared stored stored' states states' recorded recorded' same is grown fits next follows moves records =
+    let whole : new ≡ with_event past event = grown ∙ (λ i. with_event (same i) (is i)) in
+    subst (λ p. Agrees p stored' states' recorded') (sym whole)
+    (fits_after past event stored stored' states states' recorded recorded' fits next follows moves records)
+
+-- and what its caller sees
+pub grew :
+    (old past kept new : Past) (event shared : Event) → past ≡ old → kept ≡ past → shared ≡ event
+    → new ≡ with_event kept shared → clears event ≡ false → IsNext past event → Grows old new event
+grew old past kept new event shared seen same is grown plain next = record {
+  next = subst (λ p. IsNext p event) seen next;
+  after = subst (λ b. MatchBool b ((base : Past) × IsCheckpoint old base × (new ≡ with_event base event)) (new ≡ with_event old event))
+      (sym plain) (grown ∙ (λ i. with_event ((same ∙ seen) i) (is i)));
+}
+
+-- the same where the event makes a checkpoint
+pub fits_reset :
+    (past kept base new : Past) (event shared : Event) (stored stored' : Stored) (states states' : States)
+    (recorded : Recording)
+    → kept ≡ past → shared ≡ event → IsCheckpoint kept base → new ≡ with_event base shared → clears event ≡ true
+    → Agrees past stored states recorded → IsNext past event
+    → Follows stored stored' (last_number past + 1) event → StatesFollow states states' event
+    → recorded ≡ recording_by (last_number past + 1) event recorded → Agrees new stored' states' recorded
+fits_reset past kept base new event shared stored stored' states states' recorded same is checkpoint grown clear fits next follows moves records =
+    let whole : new ≡ with_event base event = grown ∙ (λ i. with_event base (is i)) in
+    subst (λ p. Agrees p stored' states' recorded) (sym whole)
+    (fits_cleared past event stored stored' states states' recorded recorded fits next follows moves records base
+    (subst (λ p. IsCheckpoint p base) same checkpoint) clear)
+
+pub grew_cleared :
+    (old past kept base new : Past) (event shared : Event) → past ≡ old → kept ≡ past → shared ≡ event
+    → IsCheckpoint kept base → new ≡ with_event base shared → clears event ≡ true → IsNext past event → Grows old new event
+grew_cleared old past kept base new event shared seen same is checkpoint grown clear next = record {
+  next = subst (λ p. IsNext p event) seen next;
+  after = subst (λ b. MatchBool b ((base : Past) × IsCheckpoint old base × (new ≡ with_event base event)) (new ≡ with_event old event))
+      (sym clear) (base, subst (λ p. IsCheckpoint p base) (same ∙ seen) checkpoint, grown ∙ (λ i. with_event base (is i)));
+}
+
+-- the number of the next event, where a call reads that of the last
+pub number_of_next : (past kept : Past) (n : ℕ) → kept ≡ past → n ≡ last_number kept → n + 1 ≡ last_number past + 1
+number_of_next past kept n same is = ap (λ k. k + 1) (is ∙ ap (λ p. last_number p) same)

@@ -49,7 +49,10 @@ impl Book {
             × ((mapping : Mapping) → mapping.id ≡ id
             → LIVE_LIMIT < length (live (with_event self.now (event.Add mapping))))) }
     {
-        if self.store.len() >= limits::LIVE_LIMIT && !self.store.holds(id) {
+        if self.store.len() < limits::LIVE_LIMIT {
+            return Ok(());
+        }
+        if !self.store.holds(id) {
             return Err(BookError::from(ErrorCode::TooManyMappings));
         }
         Ok(())
@@ -64,7 +67,10 @@ impl Book {
         if !self.store.knows(name) {
             return Err(BookError::from(ErrorCode::UnknownScenario));
         }
-        if state != STARTED && !self.store.names(name, state) {
+        if state == STARTED {
+            return Ok(());
+        }
+        if !self.store.names(name, state) {
             return Err(BookError::from(ErrorCode::UnknownState));
         }
         Ok(())

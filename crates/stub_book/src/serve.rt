@@ -71,10 +71,11 @@ fn choose(
     ensures same { store.new ≡ store.old }
     ensures same_request { request.new ≡ request.old }
 {
-    if let Some(mapping) = store.find(scenarios, request)? {
-        return Ok(ServeAnswer::Stub(Captured { mapping }));
+    let found = store.find(scenarios, request)?;
+    match found {
+        Some(mapping) => Ok(ServeAnswer::Stub(Captured { mapping })),
+        None => unchosen(recording),
     }
-    unchosen(recording)
 }
 
 // What a request is answered with that no mapping was chosen for.
@@ -100,11 +101,11 @@ fn move_scenario(
     let ServeAnswer::Stub(captured) = answer else {
         return Ok(());
     };
-    match &captured.mapping.spec.spec().scenario {
-        Some(scenario) => match &scenario.next {
-            Some(next) => scenarios.move_to(alloc, scenario.name.as_str(), next.as_str()),
-            None => Ok(()),
-        },
+    let Some(scenario) = &captured.mapping.spec.spec().scenario else {
+        return Ok(());
+    };
+    match &scenario.next {
+        Some(next) => scenarios.move_to(alloc, scenario.name.as_str(), next.as_str()),
         None => Ok(()),
     }
 }

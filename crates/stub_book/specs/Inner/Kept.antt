@@ -17,11 +17,11 @@ use Rattle.scenario_core.specs.Scenarios.{States, state_of}
 
 -- the store has the live mappings, the states are those of the past, and so is the recording; the past is legal, and
 -- neither its mappings, nor those that a reset makes live, nor its events are more than there may be
-pub record Agrees (past : Past) (stored : Stored) (states : States) (kept : Recording) : Type 0 where
-  pub defaults : stored.defaults ≡ past.defaults
-  pub live : IsPermutation (live past) stored.live
-  pub states : (name : List ℕ) → state_of states name ≡ state past name
-  pub recording : kept ≡ recording past
+pub record Agrees (past : Past) (stored : Stored) (scenarios : States) (kept : Recording) : Type 0 where
+  pub same_defaults : stored.defaults ≡ past.defaults
+  pub same_live : IsPermutation (live past) stored.live
+  pub same_states : (name : List ℕ) → state_of scenarios name ≡ state past name
+  pub same_recording : kept ≡ recording past
   pub legal : IsLegal past
   pub few_live : length (live past) ≤ LIVE_LIMIT
   pub few_defaults : length (placed_from 0 0 past.defaults) ≤ LIVE_LIMIT
