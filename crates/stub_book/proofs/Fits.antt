@@ -14,6 +14,7 @@ use Rattle.request_journal.specs.Past.{Past, with_event, last_number, placed_fro
 use Rattle.request_journal.specs.Recording.{recording}
 use Rattle.request_journal.specs.State.{touch}
 use Rattle.request_journal.specs.declared.event.Event.{Event}
+use Rattle.request_journal.specs.declared.event.Event.TheVariants as event
 use Rattle.request_journal.specs.declared.limits.TheConstants.{LIVE_LIMIT, NUMBER_LIMIT}
 use Rattle.request_journal.proofs.CheckpointLemmas.{legal_at_clear, number_at_checkpoint}
 use Rattle.request_journal.proofs.LegalLemmas.{legal_after}
@@ -156,3 +157,7 @@ grew_cleared old past kept base new event shared seen same is checkpoint grown c
 -- the number of the next event, where a call reads that of the last
 pub number_of_next : (past kept : Past) (n : ℕ) → kept ≡ past → n ≡ last_number kept → n + 1 ≡ last_number past + 1
 number_of_next past kept n same is = ap (λ k. k + 1) (is ∙ ap (λ p. last_number p) same)
+
+-- a reset of all leaves the mappings that a reset of them leaves
+pub follows_reset : (old new : Stored) (number : ℕ) → Follows old new number event.ResetMappings → Follows old new number event.ResetAll
+follows_reset old new number h = record { same_defaults = h.same_defaults; live = h.live }

@@ -4,16 +4,18 @@ use Rattle.std.specs.FinMap as map
 use Rattle.std.specs.List.Sorted.{IsPermutation}
 use Rattle.std.proofs.lemmas.List.Sorted.{length_permutation}
 use Rattle.mapping_store.proofs.CountLemmas.{length-placed}
+use Rattle.mapping_model.specs.declared.mapping_spec.MappingSpec.{MappingSpec}
 use Rattle.mapping_store.specs.Stored.{Stored}
 use Rattle.recorder.specs.declared.recording.Recording.TheVariants.{NeverStarted}
 use Rattle.request_journal.specs.Legal.{IsLegal, IsNext}
 use Rattle.request_journal.specs.Live.{live}
-use Rattle.request_journal.specs.Past.{Past, opening_base, with_events, placed_from}
+use Rattle.request_journal.specs.Past.{Past, opened, opening_base, defaults_from, with_events, placed_from}
 use Rattle.request_journal.specs.declared.event.Event.{Event}
 use Rattle.request_journal.specs.declared.limits.TheConstants.{LIVE_LIMIT, NUMBER_LIMIT}
 use Rattle.request_journal.specs.declared.mapping.Mapping.{Mapping}
 use Rattle.request_journal.proofs.LegalLemmas.{has_item, HasItem}
 use Rattle.request_journal.proofs.LiveLemmas.{left_by_none}
+use Rattle.scenario_core.specs.Scenarios.{States}
 use Rattle.stub_book.specs.Inner.Kept.{Agrees}
 
 -- the past of a book that was just opened with these mappings
@@ -58,3 +60,25 @@ fits_opened opening defaults stored same_defaults same_live few room =
       few_defaults = subst (λ n. n ≤ LIVE_LIMIT) (length-placed opening 0 0 0 defaults) all_few;
       has_room = omega (arith, room);
     }
+
+-- as many as the store has
+pub many_opened :
+    (opening : ℕ) (specs : List MappingSpec) (stored : Stored) → stored.defaults ≡ defaults_from 0 specs
+    → IsPermutation (placed_from opening 0 stored.defaults) stored.live
+    → length stored.live ≡ length (live (opened opening specs))
+many_opened opening specs stored same_defaults same_live =
+    length_permutation (placed_from opening 0 stored.defaults) stored.live same_live
+    ∙ ap (λ ds. length (placed_from opening 0 ds)) same_defaults
+    ∙ sym (ap length (live_opened opening (defaults_from 0 specs)))
+
+-- a book that is made of these parts
+pub fits_new :
+    (past : Past) (states : States) (opening : ℕ) (defaults : List Mapping) (stored : Stored)
+    → past ≡ past_of opening defaults → states ≡ map.empty → defaults ≡ stored.defaults
+    → IsPermutation (placed_from opening 0 stored.defaults) stored.live → length stored.live ≤ LIVE_LIMIT
+    → opening ≤ NUMBER_LIMIT → Agrees past stored states NeverStarted
+fits_new past states opening defaults stored is none same_defaults same_live few room =
+    subst (λ p. Agrees p stored states NeverStarted) (sym is)
+    (subst (λ s. Agrees (past_of opening defaults) stored s NeverStarted) (sym none)
+    (fits_opened opening defaults stored (sym same_defaults)
+    (subst (λ ds. IsPermutation (placed_from opening 0 ds) stored.live) (sym same_defaults) same_live) few room))

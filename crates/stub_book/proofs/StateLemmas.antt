@@ -1,8 +1,8 @@
 -- What a move leaves of the states of scenarios, and what a call leaves of a recording.
-use Rattle.std.proofs.Common.{◌≡◌, ◌<◌, ◌≤◌, ◌+◌, ℕ, Bool, true, false, cond, List, [], ◌∷◌, Option, Some, None, refl, sym, ap, ◌∙◌, subst, arith, append-nil}
+use Rattle.std.proofs.Common.{◌≡◌, inl, inr, ◌<◌, ◌≤◌, ◌+◌, ℕ, Bool, true, false, cond, List, [], ◌∷◌, Option, Some, None, refl, sym, ap, ◌∙◌, subst, arith, append-nil}
 use Rattle.std.specs.Option.{unwrap_or}
 use Rattle.std.specs.Str.{bytes_eq}
-use Rattle.std.proofs.lemmas.Bool.{both_ways}
+use Rattle.std.proofs.lemmas.Bool.{both_ways, cases_order}
 use Rattle.std.proofs.lemmas.Slice.Eq.{bytes_eq-Decides}
 use Rattle.mapping_model.specs.declared.scenario_spec.ScenarioSpec.{ScenarioSpec}
 use Rattle.recorder.specs.Recording.{IsOn, IsOnAnd, TakesFrom, IsFull, HasTaken, HasStopped}
@@ -25,15 +25,6 @@ moved old new name state moves other =
       | false ↦ λ e. moves.others other (λ same. both_ways (bytes_eq name other) e ((bytes_eq-Decides name other).1 (sym same)))
     ] refl
 
--- a mapping that plays no part, or moves no scenario
-pub unmoved :
-    (scenario : Option ScenarioSpec) (name : List ℕ) → ((s : ScenarioSpec) → scenario ≡ Some s → s.next ≡ None)
-    → next_state scenario name ≡ None
-unmoved None name stays = refl
-unmoved (Some s) name stays =
-    (λ i. cond (bytes_eq s.name name) (stays s refl i) None)
-    ∙ elim (bytes_eq s.name name) as (λ b. cond b None None ≡ None {A = List ℕ}) [ true ↦ refl | false ↦ refl ]
-
 -- the recording after a record
 pub after_record :
     (number serve : ℕ) (exchange : Exchange) (old new : Recording) → HasTaken old new exchange
@@ -50,5 +41,11 @@ did_take serve exchange NeverStarted new h not = absurd h
 did_take serve exchange (On session) new h not = later session.start serve not
   where
     later : (a b : ℕ) → ¬ ¬ (a < b) → a < b
-    later a b h = omega (arith, h)
+    later a b h = elim (cases_order a b) as (λ _. a < b) [
+      | inl same ↦ absurd (h (λ less. omega arith))
+      | inr other ↦ elim other as (λ _. a < b) [
+        | inl less ↦ less
+        | inr more ↦ absurd (h (λ less. omega arith))
+      ]
+    ]
 did_take serve exchange (Stopped session) new h not = absurd h

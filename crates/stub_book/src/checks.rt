@@ -40,39 +40,4 @@ impl Book {
         }
         Ok(())
     }
-
-    // A mapping with this id may be added.
-    pub(crate) fn has_place(&self, id: MappingId) -> Result<(), BookError>
-        ensures ok { OnOk result ((mapping : Mapping) → mapping.id ≡ id
-            → length (live (with_event self.now (event.Add mapping))) ≤ LIVE_LIMIT) }
-        ensures why { IfErr result (λ error. (error.code ≡ code.TooManyMappings)
-            × ((mapping : Mapping) → mapping.id ≡ id
-            → LIVE_LIMIT < length (live (with_event self.now (event.Add mapping))))) }
-    {
-        if self.store.len() < limits::LIVE_LIMIT {
-            return Ok(());
-        }
-        if !self.store.holds(id) {
-            return Err(BookError::from(ErrorCode::TooManyMappings));
-        }
-        Ok(())
-    }
-
-    // The scenario is known and may be in the state.
-    pub(crate) fn has_state(&self, name: &str, state: &str) -> Result<(), BookError>
-        ensures ok { OnOk result (HasState self.now name.now state.now) }
-        ensures why { IfErr result (λ error.
-            IsOwnReason self.now (input.SetScenario name.now state.now) error.code) }
-    {
-        if !self.store.knows(name) {
-            return Err(BookError::from(ErrorCode::UnknownScenario));
-        }
-        if state == STARTED {
-            return Ok(());
-        }
-        if !self.store.names(name, state) {
-            return Err(BookError::from(ErrorCode::UnknownState));
-        }
-        Ok(())
-    }
 }

@@ -9,7 +9,6 @@ mod checks;
 pub mod error;
 mod mappings;
 mod ready;
-mod recordings;
 mod resets;
 mod scenarios;
 mod serve;

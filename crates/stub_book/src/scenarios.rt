@@ -23,23 +23,4 @@ impl Book {
         self.history.push_reserved(event);
         Ok(())
     }
-
-    /// Sets a known scenario to one of its states, of which `Started` is always one.
-    pub fn set_scenario(&mut self, name: Text, state: Text) -> Result<(), BookError>
-        ensures ok { OnOk result (Grows self.old self.new (event.SetScenario name state)) }
-        ensures err { OnErr result (self.new ≡ self.old) }
-        ensures why { IfErr result (λ error. IsRefusal self.old (input.SetScenario name state) error.code) }
-    {
-        self.has_number()?;
-        self.has_state(name.as_str(), state.as_str())?;
-        let event = Event::SetScenario {
-            name: name.try_clone()?,
-            state: state.try_clone()?,
-        };
-        let event = ready(self.alloc, &mut self.history, event)?;
-        self.scenarios
-            .move_to(self.alloc, name.as_str(), state.as_str())?;
-        self.history.push_reserved(event);
-        Ok(())
-    }
 }

@@ -48,9 +48,10 @@ impl Book {
     {
         self.has_number()?;
         let answer = choose(&mut self.store, &self.scenarios, &self.recording, parsed)?;
+        let copy = answer.try_clone()?;
         let event = Event::Serve {
             request,
-            answer: answer.try_clone()?,
+            answer: copy,
         };
         let event = ready(self.alloc, &mut self.history, event)?;
         move_scenario(self.alloc, &mut self.scenarios, &answer)?;

@@ -12,11 +12,11 @@ invariant_of-self-2 c =
     let ok = c.in_ok-event.ensures.ok in
     let held = subst (λ (p : Past). IsLive p c.args.id) (sym c.self.view_is) c.in_ok-has_mapping.ensures.ok in
     fits_added past c.ready.new.history.past c.push_reserved.new.self.past (event.Delete c.args.id) c.in_ok-event.event
-    c.self.inside.store c.remove-_found.new.self c.self.inside.scenarios c.self.inside.scenarios
+    c.self.inside.store c.remove-found.new.self c.self.inside.scenarios c.self.inside.scenarios
     c.self.inside.recording c.self.inside.recording
     c.ready.ensures.same ok.0 c.push_reserved.ensures c.self.invariant
     (next_plain past (event.Delete c.args.id) held refl c.self.invariant.few_live ok.2)
-    (c.remove-_found.ensures.after (last_number past + 1)) (λ name. refl) refl
+    (c.remove-found.ensures.after (last_number past + 1)) (λ name. refl) refl
 
 pub returns-clause-ok : goal.returns-clause-ok
 returns-clause-ok c =
