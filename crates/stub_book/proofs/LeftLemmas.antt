@@ -1,0 +1,111 @@
+-- What single events leave of the live mappings.
+use Rattle.std.proofs.Common.{◌≡◌, ◌≢◌, ◌≤◌, ◌<◌, ◌+◌, ℕ, zero, suc, Bool, true, false, not, ◌||◌, cond, List, [], ◌∷◌, ◌++◌, length, get_or, map}
+use Rattle.std.proofs.Common.{refl, sym, ap, ◌∙◌, subst, arith, length-append}
+use Rattle.std.specs.List.{Any, Contains, filter}
+use Rattle.std.specs.List.Sorted.{IsPermutation}
+use Rattle.std.specs.Str.{bytes_eq}
+use Rattle.std.proofs.lemmas.Bool.{false_from_ne_true}
+use Rattle.std.proofs.lemmas.List.Sorted.{Contains-permutation}
+use Rattle.std.proofs.lemmas.Slice.Eq.{bytes_eq-Decides}
+use Rattle.request_journal.specs.Live.{live, adds, left_by, edited, removes, is_removed}
+use Rattle.request_journal.specs.Past.{Past, Placed, with_event, last_number}
+use Rattle.request_journal.specs.declared.event.Event.{Event}
+use Rattle.request_journal.specs.declared.event.Event.TheVariants as event
+use Rattle.request_journal.specs.declared.mapping.Mapping.{Mapping}
+use Rattle.request_journal.proofs.LiveLemmas.{live_after, gone, kept}
+
+-- a fact that holds of some element holds of some element of the list in another order
+pub Any-permutation : {X : Type 0} (P : X → Type 0) (xs ys : List X) → IsPermutation xs ys → Any P xs → Any P ys
+Any-permutation P xs ys same a =
+    let there : Contains ys a.1 = Contains-permutation xs ys a.1 same (a.0, a.2, a.3) in
+    (there.0, a.1, there.1, there.2, a.4)
+
+-- an event that removes and edits nothing leaves all mappings as they are
+pub left_all :
+    (event : Event) → ((id : List ℕ) → removes event id ≡ false)
+    → ((placed : Placed) → edited (event ∷ []) placed ≡ placed)
+    → (placed : List Placed) → left_by (event ∷ []) placed ≡ placed
+left_all event keeps same [] = refl
+left_all event keeps same (p ∷ ps) =
+    kept (event ∷ []) p ps (ap (λ b. b || false) (keeps p.mapping.id))
+    ∙ (λ i. same p i ∷ left_all event keeps same ps i)
+
+-- an event that removes every id leaves none
+pub left_none :
+    (event : Event) → ((id : List ℕ) → removes event id ≡ true)
+    → (placed : List Placed) → left_by (event ∷ []) placed ≡ []
+left_none event takes [] = refl
+left_none event takes (p ∷ ps) =
+    gone (event ∷ []) p ps (ap (λ b. b || false) (takes p.mapping.id)) ∙ left_none event takes ps
+
+-- what an event leaves is no more than there was
+pub left_few : (event : Event) (placed : List Placed) → length (left_by (event ∷ []) placed) ≤ length placed
+left_few event [] = omega arith
+left_few event (p ∷ ps) =
+    let rest : List Placed = filter (λ q. not (is_removed (event ∷ []) q.mapping.id)) ps in
+    let few : length (left_by (event ∷ []) ps) ≤ length ps = left_few event ps in
+    elim (is_removed (event ∷ []) p.mapping.id)
+    as (λ b. length (map (edited (event ∷ [])) (cond (not b) (p ∷ rest) rest)) ≤ length (p ∷ ps)) [
+      | true ↦ omega (arith, few)
+      | false ↦ omega (arith, few)
+    ]
+
+-- an add of an id that is held leaves fewer
+less_at :
+    (m : Mapping) (placed : List Placed) (k : ℕ) (x : Placed) → k < length placed → get_or placed k x ≡ x
+    → x.mapping.id ≡ m.id → length (left_by (event.Add m ∷ []) placed) < length placed
+less_at m [] k x lt read is = absurd (omega arith)
+less_at m (p ∷ ps) zero x lt read is =
+    let same : bytes_eq m.id p.mapping.id ≡ true =
+    (bytes_eq-Decides m.id p.mapping.id).1 (sym is ∙ ap (λ (q : Placed). q.mapping.id) (sym read)) in
+    let less : length (left_by (event.Add m ∷ []) (p ∷ ps)) ≡ length (left_by (event.Add m ∷ []) ps) =
+    ap length (gone (event.Add m ∷ []) p ps (ap (λ b. b || false) same)) in
+    let few : length (left_by (event.Add m ∷ []) ps) ≤ length ps = left_few (event.Add m) ps in
+    omega (arith, less, few)
+less_at m (p ∷ ps) (suc k) x lt read is =
+    let rest : List Placed = filter (λ q. not (is_removed (event.Add m ∷ []) q.mapping.id)) ps in
+    let few : length (left_by (event.Add m ∷ []) ps) < length ps = less_at m ps k x (omega arith) read is in
+    elim (is_removed (event.Add m ∷ []) p.mapping.id)
+    as (λ b. length (map (edited (event.Add m ∷ [])) (cond (not b) (p ∷ rest) rest)) < length (p ∷ ps)) [
+      | true ↦ omega (arith, few)
+      | false ↦ omega (arith, few)
+    ]
+
+-- an add of another id leaves as many
+same_many :
+    (m : Mapping) (placed : List Placed) → ¬ (Any (λ p. p.mapping.id ≡ m.id) placed)
+    → length (left_by (event.Add m ∷ []) placed) ≡ length placed
+same_many m [] none = refl
+same_many m (p ∷ ps) none =
+    let differ : bytes_eq m.id p.mapping.id ≡ false =
+    false_from_ne_true (bytes_eq m.id p.mapping.id)
+    (λ e. none (0, p, omega arith, refl, sym ((bytes_eq-Decides m.id p.mapping.id).0 e))) in
+    ap length (kept (event.Add m ∷ []) p ps (ap (λ b. b || false) differ))
+    ∙ ap suc (same_many m ps (λ a. none (suc a.0, a.1, omega (arith, a.2), a.3, a.4)))
+
+-- how many mappings are live after an add
+pub length-added :
+    (past : Past) (m : Mapping)
+    → length (live (with_event past (event.Add m))) ≡ length (left_by (event.Add m ∷ []) (live past)) + 1
+length-added past m =
+    ap length (live_after past (event.Add m))
+    ∙ length-append (left_by (event.Add m ∷ []) (live past)) (adds past.defaults (last_number past + 1) (event.Add m))
+
+pub held_few :
+    (past : Past) (m : Mapping) → Any (λ p. p.mapping.id ≡ m.id) (live past)
+    → length (live (with_event past (event.Add m))) ≤ length (live past)
+held_few past m a =
+    let less : length (left_by (event.Add m ∷ []) (live past)) < length (live past) =
+    less_at m (live past) a.0 a.1 a.2 a.3 a.4 in
+    omega (arith, length-added past m, less)
+
+pub other_few : (past : Past) (m : Mapping) → length (live (with_event past (event.Add m))) ≤ length (live past) + 1
+other_few past m =
+    let few : length (left_by (event.Add m ∷ []) (live past)) ≤ length (live past) =
+    left_few (event.Add m) (live past) in
+    omega (arith, length-added past m, few)
+
+pub other_more :
+    (past : Past) (m : Mapping) → ¬ (Any (λ p. p.mapping.id ≡ m.id) (live past))
+    → length (live (with_event past (event.Add m))) ≡ length (live past) + 1
+other_more past m none = length-added past m ∙ ap (λ n. n + 1) (same_many m (live past) none)

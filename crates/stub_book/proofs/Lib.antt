@@ -1,0 +1,9 @@
+pub mod LeftLemmas
+pub mod Fits
+pub mod HeldLemmas
+pub mod NextLemmas
+pub mod ChoiceLemmas
+pub mod OpenLemmas
+pub mod StateLemmas
+pub mod RefusalLemmas
+pub mod ApplyLemmas

@@ -1,0 +1,51 @@
+-- What a move leaves of the states of scenarios, and what a call leaves of a recording.
+use Rattle.std.proofs.Common.{◌≡◌, inl, inr, ◌<◌, ◌≤◌, ◌+◌, ℕ, Bool, true, false, cond, List, [], ◌∷◌, Option, Some, None, refl, sym, ap, ◌∙◌, subst, arith, append-nil}
+use Rattle.std.specs.Option.{unwrap_or}
+use Rattle.std.specs.Str.{bytes_eq}
+use Rattle.std.proofs.lemmas.Bool.{both_ways, cases_order}
+use Rattle.std.proofs.lemmas.Slice.Eq.{bytes_eq-Decides}
+use Rattle.mapping_model.specs.declared.scenario_spec.ScenarioSpec.{ScenarioSpec}
+use Rattle.recorder.specs.Recording.{IsOn, IsOnAnd, TakesFrom, IsFull, HasTaken, HasStopped}
+use Rattle.recorder.specs.declared.exchange.Exchange.{Exchange}
+use Rattle.recorder.specs.declared.recording.Recording.{Recording}
+use Rattle.recorder.specs.declared.recording.Recording.TheVariants.{NeverStarted, On, Stopped}
+use Rattle.request_journal.specs.State.{next_state}
+use Rattle.request_journal.specs.declared.event.Event.TheVariants as event
+use Rattle.request_journal.proofs.RecordingLemmas.{recording_by}
+use Rattle.scenario_core.specs.Scenarios.{States, state_of, MovesTo}
+
+-- what a move leaves of every scenario
+pub moved :
+    (old new : States) (name state : List ℕ) → MovesTo old new name state → (other : List ℕ)
+    → state_of new other ≡ unwrap_or (cond (bytes_eq name other) (Some state) None) (state_of old other)
+moved old new name state moves other =
+    elim (bytes_eq name other)
+    as (λ b. bytes_eq name other ≡ b → state_of new other ≡ unwrap_or (cond b (Some state) None) (state_of old other)) [
+      | true ↦ λ e. ap (state_of new) (sym ((bytes_eq-Decides name other).0 e)) ∙ moves.moved
+      | false ↦ λ e. moves.others other (λ same. both_ways (bytes_eq name other) e ((bytes_eq-Decides name other).1 (sym same)))
+    ] refl
+
+-- the recording after a record
+pub after_record :
+    (number serve : ℕ) (exchange : Exchange) (old new : Recording) → HasTaken old new exchange
+    → new ≡ recording_by number (event.Record serve exchange) old
+after_record number serve exchange NeverStarted new h = absurd h
+after_record number serve exchange (On session) new h = h
+after_record number serve exchange (Stopped session) new h = absurd h
+
+-- what a recording takes that took one
+pub did_take :
+    (serve : ℕ) (exchange : Exchange) (old new : Recording) → HasTaken old new exchange → ¬ ¬ (TakesFrom old serve)
+    → TakesFrom old serve
+did_take serve exchange NeverStarted new h not = absurd h
+did_take serve exchange (On session) new h not = later session.start serve not
+  where
+    later : (a b : ℕ) → ¬ ¬ (a < b) → a < b
+    later a b h = elim (cases_order a b) as (λ _. a < b) [
+      | inl same ↦ absurd (h (λ less. omega arith))
+      | inr other ↦ elim other as (λ _. a < b) [
+        | inl less ↦ less
+        | inr more ↦ absurd (h (λ less. omega arith))
+      ]
+    ]
+did_take serve exchange (Stopped session) new h not = absurd h

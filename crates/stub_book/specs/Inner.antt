@@ -1,0 +1,2 @@
+-- Words for private clauses and for the invariant of a book; no public contract cites them.
+pub mod Kept

@@ -1,0 +1,112 @@
+// Serving a request.
+ghost use Rattle.std.specs.Prelude.{◌≡◌, IfErr, IfOk, OnErr, OnOk};
+ghost use Rattle.mock_request.specs.Request.{Request};
+ghost use Rattle.request_journal.specs.Choice.{IsChoice};
+ghost use Rattle.request_journal.specs.Past.{Past};
+ghost use Rattle.request_journal.specs.declared.event.Event.TheVariants as event;
+ghost use Rattle.stub_book.specs.Growth.{Grows};
+ghost use Rattle.stub_book.specs.Inner.Kept.{Agrees, IsUnchosen, StatesFollow};
+ghost use Rattle.stub_book.specs.Refusals.{IsServeRefusal};
+
+use crate::book::Book;
+use crate::error::BookError;
+use crate::ready::ready;
+use mapping_store::mapping_store::MappingStore;
+use mock_request::snapshot::Snapshot;
+use recorder::recording::Recording;
+use request_journal::event::{Captured, Event, ServeAnswer};
+use request_journal::shared_request::SharedRequest;
+use request_match::parsed_request::ParsedRequest;
+use scenario_core::scenarios::Scenarios;
+use std::alloc::{AllocError, Global};
+
+impl Book {
+    /// Answers the request: chooses a mapping for it, and moves the mapping's scenario, if it moves one.
+    pub fn serve(&mut self, request: Snapshot) -> Result<ServeAnswer, BookError>
+        ensures ok { IfOk result (λ answer. Grows self.old self.new (event.Serve request answer)) }
+        ensures err { OnErr result (self.new ≡ self.old) }
+        ensures why { IfErr result (λ error. IsServeRefusal self.old error.code) }
+    {
+        self.has_number()?;
+        let shared = SharedRequest::new(self.alloc, request)?;
+        let kept = shared.try_clone()?;
+        let mut parsed = ParsedRequest::read(self.alloc, shared.request())?;
+        self.serve_read(kept, &mut parsed)
+    }
+
+    /// The same for a request that was taken apart before: under a lock no more than the choice is left to do.
+    pub fn serve_read(
+        &mut self,
+        request: SharedRequest,
+        parsed: &mut ParsedRequest<'_>,
+    ) -> Result<ServeAnswer, BookError>
+        requires { parsed.old ≡ request }
+        ensures ok { IfOk result (λ answer. Grows self.old self.new (event.Serve request answer)) }
+        ensures err { OnErr result (self.new ≡ self.old) }
+        ensures why { IfErr result (λ error. IsServeRefusal self.old error.code) }
+        ensures same_request { parsed.new ≡ parsed.old }
+    {
+        self.has_number()?;
+        let answer = choose(&mut self.store, &self.scenarios, &self.recording, parsed)?;
+        let copy = answer.try_clone()?;
+        let event = Event::Serve {
+            request,
+            answer: copy,
+        };
+        let event = ready(self.alloc, &mut self.history, event)?;
+        move_scenario(self.alloc, &mut self.scenarios, &answer)?;
+        self.history.push_reserved(event);
+        Ok(answer)
+    }
+}
+
+// What the request is answered with. The store is not changed.
+fn choose(
+    store: &mut MappingStore,
+    scenarios: &Scenarios,
+    recording: &Recording,
+    request: &mut ParsedRequest<'_>,
+) -> Result<ServeAnswer, AllocError>
+    ensures answer { IfOk result (λ answer. (past : Past) → Agrees past store.old scenarios.now recording.now
+        → IsChoice past request.old answer) }
+    ensures same { store.new ≡ store.old }
+    ensures same_request { request.new ≡ request.old }
+{
+    let found = store.find(scenarios, request)?;
+    match found {
+        Some(mapping) => Ok(ServeAnswer::Stub(Captured { mapping })),
+        None => unchosen(recording),
+    }
+}
+
+// What a request is answered with that no mapping was chosen for.
+fn unchosen(recording: &Recording) -> Result<ServeAnswer, AllocError>
+    ensures { IfOk result (IsUnchosen recording.now) }
+{
+    match recording {
+        Recording::On(session) => Ok(ServeAnswer::Proxy(session.target.try_clone()?)),
+        Recording::NeverStarted | Recording::Stopped(_) => Ok(ServeAnswer::Unmatched),
+    }
+}
+
+// Moves the scenario of a mapping that is served, if it moves one.
+fn move_scenario(
+    alloc: Global,
+    scenarios: &mut Scenarios,
+    answer: &ServeAnswer,
+) -> Result<(), AllocError>
+    ensures ok { OnOk result ((request : Request) → StatesFollow scenarios.old scenarios.new
+        (event.Serve request answer.now)) }
+    ensures err { OnErr result (scenarios.new ≡ scenarios.old) }
+{
+    let ServeAnswer::Stub(captured) = answer else {
+        return Ok(());
+    };
+    let Some(scenario) = &captured.mapping.spec.spec().scenario else {
+        return Ok(());
+    };
+    match &scenario.next {
+        Some(next) => scenarios.move_to(alloc, scenario.name.as_str(), next.as_str()),
+        None => Ok(()),
+    }
+}
