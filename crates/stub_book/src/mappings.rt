@@ -10,7 +10,6 @@ use crate::book::Book;
 use crate::error::BookError;
 use crate::ready::ready;
 use mapping_model::mapping_id::MappingId;
-use mapping_store::book_mapping::BookMapping;
 use request_journal::event::Event;
 use request_journal::mapping::Mapping;
 use request_match::ready_mapping::ReadyMapping;
