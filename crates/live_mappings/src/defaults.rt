@@ -13,10 +13,7 @@ use request_match::ready_mapping::ReadyMapping;
 use std::alloc::{AllocError, Global};
 
 /// The mappings under their own ids, or under those of their indexes.
-pub fn named(
-    alloc: Global,
-    mappings: Vec<ReadyMapping>,
-) -> Result<Vec<BookMapping>, AllocError>
+pub fn named(alloc: Global, mappings: Vec<ReadyMapping>) -> Result<Vec<BookMapping>, AllocError>
     ensures { IfOk result (λ named. named.items ≡ defaults_from 0 mappings.items) }
 {
     let mut named = Vec::with_capacity(alloc, mappings.len())?;
@@ -67,12 +64,7 @@ pub fn has_id(mappings: &[BookMapping], id: MappingId) -> bool
 }
 
 /// Adds the defaults, by the event with this number, to entries that are empty. Takes no memory.
-pub fn put_defaults(
-    entries: &mut Vec<Entry>,
-    number: u64,
-    defaults: &[BookMapping],
-    lasts: &[bool],
-)
+pub fn put_defaults(entries: &mut Vec<Entry>, number: u64, defaults: &[BookMapping], lasts: &[bool])
     requires empty { entries.old.items ≡ [] }
     requires none { vec_len entries.old ≡ 0 }
     requires room { length defaults.now ≤ vec_capacity entries.old }
@@ -86,12 +78,7 @@ pub fn put_defaults(
 }
 
 /// Adds the defaults in their order.
-fn push_defaults(
-    entries: &mut Vec<Entry>,
-    number: u64,
-    defaults: &[BookMapping],
-    lasts: &[bool],
-)
+fn push_defaults(entries: &mut Vec<Entry>, number: u64, defaults: &[BookMapping], lasts: &[bool])
     requires empty { entries.old.items ≡ [] }
     requires none { vec_len entries.old ≡ 0 }
     requires room { length defaults.now ≤ vec_capacity entries.old }
@@ -101,11 +88,7 @@ fn push_defaults(
     ensures capacity { vec_capacity entries.old ≤ vec_capacity entries.new }
 {
     for at in 0..defaults.len() {
-        push_if(
-            lasts[at],
-            entries,
-            Entry::of_default(number, at, defaults),
-        );
+        push_if(lasts[at], entries, Entry::of_default(number, at, defaults));
     }
 }
 
