@@ -40,4 +40,21 @@ impl Book {
         }
         Ok(())
     }
+
+    // A mapping with this id may be added.
+    pub(crate) fn has_place(&self, id: MappingId) -> Result<(), BookError>
+        ensures ok { OnOk result ((mapping : Mapping) → mapping.id ≡ id
+            → length (live (with_event self.now (event.Add mapping))) ≤ LIVE_LIMIT) }
+        ensures why { IfErr result (λ error. (error.code ≡ code.TooManyMappings)
+            × ((mapping : Mapping) → mapping.id ≡ id
+            → LIVE_LIMIT < length (live (with_event self.now (event.Add mapping))))) }
+    {
+        if self.store.len() < limits::LIVE_LIMIT {
+            return Ok(());
+        }
+        if !self.store.holds(id) {
+            return Err(BookError::from(ErrorCode::TooManyMappings));
+        }
+        Ok(())
+    }
 }

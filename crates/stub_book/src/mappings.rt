@@ -16,6 +16,46 @@ use request_match::ready_mapping::ReadyMapping;
 use std::alloc::{AllocError, Global};
 
 impl Book {
+    /// Adds a mapping, in place of the live one with its id, if there is one. A mapping without an id gets one of the
+    /// event's number.
+    pub fn add(&mut self, mapping: ReadyMapping) -> Result<Mapping, BookError>
+        ensures ok { IfOk result
+            (λ added. (added.spec ≡ mapping) × Grows self.old self.new (event.Add added)) }
+        ensures err { OnErr result (self.new ≡ self.old) }
+        ensures why { IfErr result (λ error. IsRefusal self.old (input.Add mapping) error.code) }
+    {
+        self.has_number()?;
+        let number = self.history.last_number() + 1;
+        let id = id_of(self.alloc, &mapping, number)?;
+        self.has_place(id)?;
+        let added = BookMapping::new(self.alloc, id, mapping)?;
+        let answer = added.mapping()?;
+        let copy = added.mapping()?;
+        self.store.reserve(1)?;
+        let event = ready(self.alloc, &mut self.history, Event::Add(copy))?;
+        self.store.add(number, added);
+        self.history.push_reserved(event);
+        Ok(answer)
+    }
+
+    /// Writes the live mapping with this id anew. It keeps its id and its place.
+    pub fn edit(&mut self, id: MappingId, mapping: ReadyMapping) -> Result<Mapping, BookError>
+        ensures ok { IfOk result (λ edited. (edited ≡ record { id = id; spec = mapping })
+            × Grows self.old self.new (event.Edit id mapping)) }
+        ensures err { OnErr result (self.new ≡ self.old) }
+        ensures why { IfErr result (λ error. IsRefusal self.old (input.Edit id mapping) error.code) }
+    {
+        self.has_number()?;
+        self.has_mapping(id)?;
+        let spec = mapping.shared().try_clone()?;
+        let edited = BookMapping::new(self.alloc, id, mapping)?;
+        let answer = edited.mapping()?;
+        let event = ready(self.alloc, &mut self.history, Event::Edit { id, spec })?;
+        let _found = self.store.edit(edited);
+        self.history.push_reserved(event);
+        Ok(answer)
+    }
+
     /// Deletes the live mapping with this id.
     pub fn delete(&mut self, id: MappingId) -> Result<(), BookError>
         ensures ok { OnOk result (Grows self.old self.new (event.Delete id)) }
@@ -52,5 +92,15 @@ impl Book {
         self.store.reset(self.history.last_number() + 1);
         self.history.push_reserved(event);
         Ok(())
+    }
+}
+
+// The id of a mapping that is added by the event with this number.
+fn id_of(alloc: Global, mapping: &ReadyMapping, number: u64) -> Result<MappingId, AllocError>
+    ensures { IfOk result (λ id. id ≡ unwrap_or mapping.now.id (event_id number)) }
+{
+    match mapping.spec().id {
+        Some(id) => Ok(id),
+        None => MappingId::of_event(alloc, number),
     }
 }
