@@ -9,6 +9,7 @@ ghost use Rattle.stub_book.specs.Refusals.{IsRefusal};
 use crate::book::Book;
 use crate::error::BookError;
 use crate::ready::ready;
+use live_mappings::book_mapping::BookMapping;
 use mapping_model::mapping_id::MappingId;
 use request_journal::event::Event;
 use request_journal::mapping::Mapping;
