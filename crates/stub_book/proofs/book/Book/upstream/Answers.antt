@@ -4,6 +4,7 @@ use Rattle.error_code.specs.declared.error_code.ErrorCode.TheVariants as code
 use Rattle.recorder.specs.Errors.{error_code_of}
 use Rattle.recorder.specs.Recording.{IsOn}
 use Rattle.recorder.specs.Target.{IsTarget}
+use Rattle.recorder.specs.declared.error.RecordingError.TheVariants as RecordingError
 use Rattle.request_journal.specs.Recording.{recording}
 use Rattle.stub_book.proofs.book.Book.upstream.Goals as goal
 
@@ -18,7 +19,9 @@ returns-in_err-parse c =
           ⊎ ((error_code_of c.in_err-parse.field-0.0 ≡ code.AlreadyRecording) × IsOn (recording c.args.self.now))
           ⊎ ((error_code_of c.in_err-parse.field-0.0 ≡ code.BadTarget) × ¬ (IsOn (recording c.args.self.now))
           × ¬ (IsTarget c.args.target.now))) [
-        | inl bad ↦ inr (inr (ap error_code_of bad, none, c.in_err-parse.ensures.bad_target.0 bad))
-        | inr out ↦ inl (ap error_code_of out)
+        | inl bad ↦
+            let is : c.in_err-parse.field-0.0 ≡ RecordingError.BadTarget = cc in
+            inr (inr (ap error_code_of is, none, c.in_err-parse.ensures.bad_target.0 bad))
+        | inr out ↦ let is : c.in_err-parse.field-0.0 ≡ RecordingError.OutOfMemory = cc in inl (ap error_code_of is)
       ]);
     }
