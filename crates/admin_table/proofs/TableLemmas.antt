@@ -1,15 +1,15 @@
 -- The look-up finds the call of the table that a method and a path name, and no other.
 use Rattle.std.proofs.Common.{◌≡◌, ◌≢◌, ℕ, ◌≤◌, List, [], ◌∷◌, length, Bool, true, false, ◌&&◌, Option, Some, None, codes}
-use Rattle.std.proofs.Common.{IfSome, IsNone, true≢false, refl, sym, ap, subst, ◌∙◌, cond, option_and_then, arith}
+use Rattle.std.proofs.Common.{IfSome, IsNone, IsTrue, ◌↔◌, true≢false, refl, sym, ap, subst, ◌∙◌, cond, option_and_then, arith}
 use Rattle.std.specs.List.{slice_split}
 use Rattle.std.specs.Option.{option_map_or}
 use Rattle.std.specs.Str.{bytes_eq}
 use Rattle.std.proofs.lemmas.List.Splits.{length-slice_split}
 use Rattle.std.proofs.lemmas.Slice.Eq.{bytes_eq-Decides}
-use Rattle.admin_table.specs.Inner.Table.{is_empty, place_in, place_below, one_segment, two_segments, three_segments}
+use Rattle.admin_table.specs.Inner.Table.{is_admin_in, is_empty, place_in, place_below, one_segment, two_segments, three_segments}
 use Rattle.admin_table.specs.Inner.Table.{mapping_of, state_of, under_requests, under_scenarios, segments_at, IsPlace}
 use Rattle.admin_table.specs.Inner.Table.{route_at, route_in, when, mappings_at, mapping_at, requests_at}
-use Rattle.admin_table.specs.Routes.{method_of, path_below, HasParameter, Names}
+use Rattle.admin_table.specs.Routes.{method_of, path_below, HasParameter, Names, IsAdmin}
 use Rattle.admin_table.specs.declared.route.Place.{Place}
 use Rattle.admin_table.specs.declared.route.Place.TheVariants as place
 use Rattle.admin_table.specs.declared.route.Route.{Route}
@@ -290,3 +290,26 @@ pub none_is_named
     → IsNone o → (r : Route) → ¬ (Names method url r)
 none_is_named method url None e none r names = nothing r (e ∙ looked_up method url r names)
 none_is_named method url (Some found) e none r names = absurd (true≢false none)
+
+-- ---- whether a path is one of admin calls
+
+first_is
+    : (segments : List (List ℕ)) → is_admin_in segments ≡ true
+    → (below : List (List ℕ)) × (segments ≡ [] ∷ codes "__admin" ∷ below)
+first_is [] e = absurd (true≢false (sym e))
+first_is (before ∷ []) e = absurd (true≢false (sym e))
+first_is (before ∷ admin ∷ below) e =
+    let tests = both_true (is_empty before) (bytes_eq admin (codes "__admin")) e in (
+      below,
+      ap (λ x. x ∷ admin ∷ below) (empty_is before tests.0) ∙ ap (λ x. [] ∷ x ∷ below) (is_text tests.1),
+    )
+
+admin_means : (segments : List (List ℕ)) (b : Bool) → is_admin_in segments ≡ b
+    → IsTrue b ↔ ((below : List (List ℕ)) × (segments ≡ [] ∷ codes "__admin" ∷ below))
+admin_means segments true e = (λ _. first_is segments e, λ _. refl)
+admin_means segments false e =
+    (λ t. absurd (true≢false (sym t)), λ w. absurd (true≢false (sym (ap is_admin_in w.1) ∙ e)))
+
+pub is_admin_means
+    : (url : List ℕ) (b : Bool) → b ≡ is_admin_in (slice_split is_slash (path_of url)) → IsTrue b ↔ IsAdmin url
+is_admin_means url b e = admin_means (slice_split is_slash (path_of url)) b (sym e)

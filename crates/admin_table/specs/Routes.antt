@@ -60,3 +60,7 @@ pub record Names (method url : List ℕ) (route : Route) : Type 0 where
   pub same_method : method ≡ method_of route
   pub same_path : slice_split is_slash (path_of url) ≡ [] ∷ codes "__admin" ∷ path_below route
   pub has_parameter : HasParameter route
+
+-- the path of the URL is `/__admin`, or below it
+abbrev pub IsAdmin : List ℕ → Type 0
+IsAdmin url = (below : List (List ℕ)) × (slice_split is_slash (path_of url) ≡ [] ∷ codes "__admin" ∷ below)

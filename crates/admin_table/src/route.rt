@@ -1,10 +1,10 @@
 // The table of the admin calls.
-ghost use Rattle.std.specs.Prelude.{◌≡◌, [], ◌∷◌, MatchOption, IfSome, IsNone};
+ghost use Rattle.std.specs.Prelude.{◌≡◌, ◌↔◌, [], ◌∷◌, MatchOption, IfSome, IsNone, IsTrue};
 ghost use Rattle.std.specs.List.{slice_split};
-ghost use Rattle.admin_table.specs.Inner.Table.{place_in, place_below, one_segment, two_segments, three_segments};
+ghost use Rattle.admin_table.specs.Inner.Table.{is_admin_in, place_in, place_below, one_segment, two_segments, three_segments};
 ghost use Rattle.admin_table.specs.Inner.Table.{mapping_of, state_of, under_requests, under_scenarios};
 ghost use Rattle.admin_table.specs.Inner.Table.{route_in, route_at, when, mappings_at, mapping_at, requests_at};
-ghost use Rattle.admin_table.specs.Routes.{Names};
+ghost use Rattle.admin_table.specs.Routes.{IsAdmin, Names};
 ghost use Rattle.mock_request.specs.Url.{is_slash, path_of};
 
 use crate::segment::Segment;
@@ -51,6 +51,28 @@ pub fn route_of<'p>(method: &str, url: &'p str) -> Option<Route<'p>>
     ensures unknown { IsNone result → (r : Route) → ¬ (Names method.now url.now r) }
 {
     look_up(method, path_of(url))
+}
+
+/// Whether the URL is one of admin calls, known or not: its path is `/__admin`, or below it. Takes no memory.
+pub fn is_admin(url: &str) -> bool
+    ensures { IsTrue result ↔ IsAdmin url.now }
+{
+    is_admin_path(path_of(url))
+}
+
+fn is_admin_path(path: &str) -> bool
+    ensures { result ≡ is_admin_in (slice_split is_slash path.now) }
+{
+    let Some((before, rest)) = cut(path) else {
+        return false;
+    };
+    if !before.is_empty() {
+        return false;
+    }
+    match cut(rest) {
+        Some((admin, _below)) => admin == "__admin",
+        None => rest == "__admin",
+    }
 }
 
 fn look_up<'p>(method: &str, path: &'p str) -> Option<Route<'p>>

@@ -61,6 +61,12 @@ place_in (before ∷ []) = None
 place_in (before ∷ admin ∷ below) =
     if is_empty before && bytes_eq admin (codes "__admin") then place_below below else None
 
+-- the first segment of the path is `__admin`
+abbrev pub is_admin_in : List (List ℕ) → Bool
+is_admin_in [] = false
+is_admin_in (before ∷ []) = false
+is_admin_in (before ∷ admin ∷ below) = is_empty before && bytes_eq admin (codes "__admin")
+
 -- the segments of the path, and that an id or a name isn't empty
 abbrev pub segments_at : Place → List (List ℕ)
 segments_at place.Mappings = codes "mappings" ∷ []

@@ -1,0 +1,83 @@
+-- What an admin call is, with its parameters and what its body asks for, and why it is refused.
+use Rattle.std.specs.Prelude.{◌≡◌, ℕ, List, Some, None}
+use Rattle.admin_json.specs.State.{AsksFor, IsStateError}
+use Rattle.admin_table.specs.Routes.{Names}
+use Rattle.admin_table.specs.Segment.{decoded}
+use Rattle.admin_routes.specs.declared.call.AdminCall.{AdminCall}
+use Rattle.admin_routes.specs.declared.call.AdminCall.TheVariants as call
+use Rattle.admin_routes.specs.declared.error.AdminError.{AdminError}
+use Rattle.admin_routes.specs.declared.error.AdminError.TheVariants as error
+use Rattle.admin_table.specs.declared.route.Route.{Route}
+use Rattle.admin_table.specs.declared.route.Route.TheVariants as route
+use Rattle.json_reading.specs.declared.reading.Reading.TheVariants.{Read}
+use Rattle.mapping_json.specs.Spelling.{SpellsDocument, IsDocumentError}
+use Rattle.mapping_model.specs.declared.mapping_spec.MappingSpec.{MappingSpec}
+use Rattle.mapping_model.specs.declared.request_spec.RequestSpec.{RequestSpec}
+use Rattle.request_document.specs.Refusal.{Spells, IsRefused}
+use Rattle.uuid.specs.Text.{parsed}
+
+-- the call of the route that this body makes it; calls that take no body ignore it
+abbrev pub IsCallOf : Route → List ℕ → AdminCall → Type 0
+IsCallOf route.ListMappings body found = found ≡ call.ListMappings
+IsCallOf route.AddMapping body found =
+    (mapping : MappingSpec) × SpellsDocument body mapping × (found ≡ call.AddMapping mapping)
+IsCallOf route.DeleteMappings body found = found ≡ call.DeleteMappings
+IsCallOf (route.ReadMapping text) body found = (id : List ℕ) × (parsed text ≡ Some id) × (found ≡ call.ReadMapping id)
+IsCallOf (route.EditMapping text) body found =
+    (id : List ℕ) × (mapping : MappingSpec) × (parsed text ≡ Some id) × SpellsDocument body mapping
+    × (found ≡ call.EditMapping id mapping)
+IsCallOf (route.DeleteMapping text) body found =
+    (id : List ℕ) × (parsed text ≡ Some id) × (found ≡ call.DeleteMapping id)
+IsCallOf route.ResetMappings body found = found ≡ call.ResetMappings
+IsCallOf route.ResetAll body found = found ≡ call.ResetAll
+IsCallOf route.ListRequests body found = found ≡ call.ListRequests
+IsCallOf route.ClearRequests body found = found ≡ call.ClearRequests
+IsCallOf route.ListUnmatched body found = found ≡ call.ListUnmatched
+IsCallOf route.FindRequests body found =
+    (matcher : RequestSpec) × Spells body (Read matcher) × (found ≡ call.FindRequests matcher)
+IsCallOf route.CountRequests body found =
+    (matcher : RequestSpec) × Spells body (Read matcher) × (found ≡ call.CountRequests matcher)
+IsCallOf route.ListScenarios body found = found ≡ call.ListScenarios
+IsCallOf route.ResetScenarios body found = found ≡ call.ResetScenarios
+IsCallOf (route.SetScenario name) body found =
+    (state : List ℕ) × AsksFor body state × (found ≡ call.SetScenario (decoded name) state)
+
+-- the id of the route is none
+abbrev pub HasNoId : Route → Type 0
+HasNoId (route.ReadMapping text) = parsed text ≡ None
+HasNoId (route.EditMapping text) = parsed text ≡ None
+HasNoId (route.DeleteMapping text) = parsed text ≡ None
+HasNoId other = ⊥
+
+-- the route takes a mapping, a request matcher, a state from its body; an id is judged before the body
+abbrev pub TakesMapping : Route → Type 0
+TakesMapping route.AddMapping = Unit {0}
+TakesMapping (route.EditMapping text) = (id : List ℕ) × (parsed text ≡ Some id)
+TakesMapping other = ⊥
+
+abbrev pub TakesMatcher : Route → Type 0
+TakesMatcher route.FindRequests = Unit {0}
+TakesMatcher route.CountRequests = Unit {0}
+TakesMatcher other = ⊥
+
+abbrev pub TakesState : Route → Type 0
+TakesState (route.SetScenario name) = Unit {0}
+TakesState other = ⊥
+
+-- why the call of the route isn't made of this body; memory may also run out where the name of a scenario is decoded
+abbrev pub IsRefusalOf : Route → List ℕ → AdminError → Type 0
+IsRefusalOf found body error.UnknownCall = ⊥
+IsRefusalOf found body error.UnknownMapping = HasNoId found
+IsRefusalOf found body (error.Mapping why) = TakesMapping found × IsDocumentError body why
+IsRefusalOf found body (error.Matcher why) = TakesMatcher found × IsRefused body why
+IsRefusalOf found body (error.State why) = TakesState found × IsStateError body why
+IsRefusalOf found body error.OutOfMemory = TakesState found
+
+-- the method, the URL and the body are the call
+abbrev pub IsCall : List ℕ → List ℕ → List ℕ → AdminCall → Type 0
+IsCall method url body found = (r : Route) × Names method url r × IsCallOf r body found
+
+-- a call that the table doesn't have is refused as such; any other, as its route says
+abbrev pub IsAdminError : List ℕ → List ℕ → List ℕ → AdminError → Type 0
+IsAdminError method url body error.UnknownCall = (r : Route) → ¬ (Names method url r)
+IsAdminError method url body why = (r : Route) × Names method url r × IsRefusalOf r body why

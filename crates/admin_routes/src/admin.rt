@@ -1,0 +1,121 @@
+// Which admin call a request is.
+ghost use Rattle.std.specs.Prelude.{◌≡◌, ℕ, List, Some, None, IfOk, IfErr};
+ghost use Rattle.admin_routes.specs.Calls.{IsCall, IsCallOf, IsAdminError, IsRefusalOf};
+ghost use Rattle.admin_routes.specs.declared.call.AdminCall.TheVariants as call;
+ghost use Rattle.admin_routes.specs.declared.error.AdminError.TheVariants.{UnknownMapping};
+ghost use Rattle.admin_table.specs.declared.route.Route.TheVariants as route;
+ghost use Rattle.uuid.specs.Text.{parsed};
+
+use crate::call::AdminCall;
+use crate::error::AdminError;
+use admin_json::state::state_of;
+use admin_table::route::{Route, route_of};
+use admin_table::segment::Segment;
+use mapping_json::read::read_mapping;
+use mapping_model::mapping_id::MappingId;
+use request_document::read_request::read_request;
+use std::alloc::Global;
+
+/// The call that a request below `/__admin` is, by its method, its URL and its body. A method and a path that the table
+/// doesn't have are reported without memory, then an id that is none, then what is wrong with the body.
+pub fn admin(alloc: Global, method: &str, url: &str, body: &[u8]) -> Result<AdminCall, AdminError>
+    ensures ok { IfOk result (IsCall method.now url.now body.now) }
+    ensures error { IfErr result (IsAdminError method.now url.now body.now) }
+{
+    match route_of(method, url) {
+        Some(route) => call_of(alloc, &route, body),
+        None => Err(AdminError::UnknownCall),
+    }
+}
+
+fn call_of(alloc: Global, route: &Route<'_>, body: &[u8]) -> Result<AdminCall, AdminError>
+    ensures ok { IfOk result (IsCallOf route.now body.now) }
+    ensures error { IfErr result (IsRefusalOf route.now body.now) }
+{
+    match route {
+        Route::ListMappings => Ok(AdminCall::ListMappings),
+        Route::AddMapping => add_of(alloc, body),
+        Route::DeleteMappings => Ok(AdminCall::DeleteMappings),
+        Route::ReadMapping(id) => read_of(id),
+        Route::EditMapping(id) => edit_of(alloc, id, body),
+        Route::DeleteMapping(id) => delete_of(id),
+        Route::ResetMappings => Ok(AdminCall::ResetMappings),
+        Route::ResetAll => Ok(AdminCall::ResetAll),
+        Route::ListRequests => Ok(AdminCall::ListRequests),
+        Route::ClearRequests => Ok(AdminCall::ClearRequests),
+        Route::ListUnmatched => Ok(AdminCall::ListUnmatched),
+        Route::FindRequests => find_of(alloc, body),
+        Route::CountRequests => count_of(alloc, body),
+        Route::ListScenarios => Ok(AdminCall::ListScenarios),
+        Route::ResetScenarios => Ok(AdminCall::ResetScenarios),
+        Route::SetScenario(name) => set_of(alloc, name, body),
+    }
+}
+
+fn add_of(alloc: Global, body: &[u8]) -> Result<AdminCall, AdminError>
+    ensures ok { IfOk result (IsCallOf route.AddMapping body.now) }
+    ensures error { IfErr result (IsRefusalOf route.AddMapping body.now) }
+{
+    let mapping = read_mapping(alloc, body)?;
+    Ok(AdminCall::AddMapping(mapping))
+}
+
+fn read_of(segment: &Segment<'_>) -> Result<AdminCall, AdminError>
+    ensures ok { IfOk result (λ found. (id : List ℕ) × (parsed segment.now ≡ Some id) × (found ≡ call.ReadMapping id)) }
+    ensures error { IfErr result (λ error. (error ≡ UnknownMapping) × (parsed segment.now ≡ None)) }
+{
+    let id = id_of(segment)?;
+    Ok(AdminCall::ReadMapping(id))
+}
+
+fn edit_of(alloc: Global, segment: &Segment<'_>, body: &[u8]) -> Result<AdminCall, AdminError>
+    ensures ok { IfOk result (IsCallOf (route.EditMapping segment.now) body.now) }
+    ensures error { IfErr result (IsRefusalOf (route.EditMapping segment.now) body.now) }
+{
+    let id = id_of(segment)?;
+    let mapping = read_mapping(alloc, body)?;
+    Ok(AdminCall::EditMapping { id, mapping })
+}
+
+fn delete_of(segment: &Segment<'_>) -> Result<AdminCall, AdminError>
+    ensures ok { IfOk result (λ found. (id : List ℕ) × (parsed segment.now ≡ Some id) × (found ≡ call.DeleteMapping id)) }
+    ensures error { IfErr result (λ error. (error ≡ UnknownMapping) × (parsed segment.now ≡ None)) }
+{
+    let id = id_of(segment)?;
+    Ok(AdminCall::DeleteMapping(id))
+}
+
+fn id_of(segment: &Segment<'_>) -> Result<MappingId, AdminError>
+    ensures ok { IfOk result (λ id. parsed segment.now ≡ Some id) }
+    ensures error { IfErr result (λ error. (error ≡ UnknownMapping) × (parsed segment.now ≡ None)) }
+{
+    match MappingId::parse(segment.as_str()) {
+        Some(id) => Ok(id),
+        None => Err(AdminError::UnknownMapping),
+    }
+}
+
+fn find_of(alloc: Global, body: &[u8]) -> Result<AdminCall, AdminError>
+    ensures ok { IfOk result (IsCallOf route.FindRequests body.now) }
+    ensures error { IfErr result (IsRefusalOf route.FindRequests body.now) }
+{
+    let matcher = read_request(alloc, body)?;
+    Ok(AdminCall::FindRequests(matcher))
+}
+
+fn count_of(alloc: Global, body: &[u8]) -> Result<AdminCall, AdminError>
+    ensures ok { IfOk result (IsCallOf route.CountRequests body.now) }
+    ensures error { IfErr result (IsRefusalOf route.CountRequests body.now) }
+{
+    let matcher = read_request(alloc, body)?;
+    Ok(AdminCall::CountRequests(matcher))
+}
+
+fn set_of(alloc: Global, segment: &Segment<'_>, body: &[u8]) -> Result<AdminCall, AdminError>
+    ensures ok { IfOk result (IsCallOf (route.SetScenario segment.now) body.now) }
+    ensures error { IfErr result (IsRefusalOf (route.SetScenario segment.now) body.now) }
+{
+    let state = state_of(alloc, body)?;
+    let name = segment.decoded(alloc)?;
+    Ok(AdminCall::SetScenario { name, state })
+}

@@ -1,0 +1,62 @@
+// The admin calls.
+use mapping_model::mapping_id::MappingId;
+use plain_text::text::Text;
+use request_match::ready_mapping::ReadyMapping;
+use request_match::request_matcher::RequestMatcher;
+
+/// An admin call, with what its path and its body give.
+pub enum AdminCall {
+    ListMappings,
+    AddMapping(ReadyMapping),
+    DeleteMappings,
+    ReadMapping(MappingId),
+    /// The mapping keeps this id, whichever its document gives.
+    EditMapping {
+        id: MappingId,
+        mapping: ReadyMapping,
+    },
+    DeleteMapping(MappingId),
+    ResetMappings,
+    ResetAll,
+    ListRequests,
+    ClearRequests,
+    ListUnmatched,
+    FindRequests(RequestMatcher),
+    CountRequests(RequestMatcher),
+    ListScenarios,
+    ResetScenarios,
+    SetScenario {
+        name: Text,
+        /// `Started` where no state was asked for.
+        state: Text,
+    },
+}
+
+impl Drop for AdminCall {
+    fn drop(self) {
+        match self {
+            AdminCall::ListMappings => {}
+            AdminCall::AddMapping(_mapping) => {}
+            AdminCall::DeleteMappings => {}
+            AdminCall::ReadMapping(_id) => {}
+            AdminCall::EditMapping {
+                id: _id,
+                mapping: _mapping,
+            } => {}
+            AdminCall::DeleteMapping(_id) => {}
+            AdminCall::ResetMappings => {}
+            AdminCall::ResetAll => {}
+            AdminCall::ListRequests => {}
+            AdminCall::ClearRequests => {}
+            AdminCall::ListUnmatched => {}
+            AdminCall::FindRequests(_matcher) => {}
+            AdminCall::CountRequests(_matcher) => {}
+            AdminCall::ListScenarios => {}
+            AdminCall::ResetScenarios => {}
+            AdminCall::SetScenario {
+                name: _name,
+                state: _state,
+            } => {}
+        }
+    }
+}
