@@ -1,12 +1,11 @@
 -- The order of choice among entries, and what comes before what.
-use Rattle.std.proofs.Common.{◌≡◌, ◌≢◌, ℕ, ◌<◌, ◌≤◌, true, false, not, List, [], ◌∷◌, length, get_or, refl, sym, ap, subst, arith}
+use Rattle.std.proofs.Common.{◌≡◌, ℕ, ◌<◌, ◌≤◌, true, false, List, length, get_or, sym, ap, subst, arith}
 use Rattle.std.proofs.Common.{◌⊎◌, inl, inr, ℤ, ◌<ℤ◌}
 use Rattle.mapping_model.specs.Priority.{priority_of}
 use Rattle.std.specs.Cmp.{IsTotalOrder}
-use Rattle.std.specs.List.{All, AllPairs, AllWithin, insert, filter}
-use Rattle.std.specs.List.Sorted.{IsPartitionedBy, IsPartitionPoint, IsPermutation}
+use Rattle.std.specs.List.{AllPairs, insert}
+use Rattle.std.specs.List.Sorted.{IsPartitionedBy, IsPartitionPoint}
 use Rattle.std.specs.Ordering.{is_gt, is_lt}
-use Rattle.std.specs.Str.{bytes_eq}
 use Rattle.std.proofs.lemmas.Bool.{cases_order}
 use Rattle.std.proofs.lemmas.Cmp.{then_total, on_total, back_total, nat_cmp_total, int_cmp_total, tied_itself}
 use Rattle.request_journal.specs.Choice.{WinsOver}

@@ -1,5 +1,5 @@
 -- What the store's calls do to its entries, as contracts see it.
-use Rattle.std.proofs.Common.{◌≡◌, ◌≢◌, ℕ, zero, suc, ◌+◌, ◌<◌, ◌≤◌, not, List, [], ◌∷◌, ◌++◌, length, map, get_or, Any, inl, inr}
+use Rattle.std.proofs.Common.{◌≡◌, ◌≢◌, ℕ, zero, suc, ◌+◌, ◌<◌, not, List, [], ◌∷◌, ◌++◌, length, map, get_or, Any}
 use Rattle.std.proofs.Common.{true, refl, sym, ap, subst, ◌∙◌, arith, append-nil, Contains}
 use Rattle.std.proofs.Common.{◌↔◌, Option, Some, None, is_some, IsTrue, MatchOption}
 use Rattle.std.specs.List.{All, AllPairs, IsDistinct, filter}
@@ -9,8 +9,8 @@ use Rattle.std.specs.List.Sorted.{IsPermutation}
 use Rattle.std.specs.Str.{bytes_eq}
 use Rattle.std.proofs.lemmas.List.{length-map, get_or-map}
 use Rattle.std.proofs.lemmas.List.Elements.{All-nil, All-filter, All-map}
-use Rattle.std.proofs.lemmas.List.Sorted.{IsPermutation-refl, IsPermutation-cons, IsPermutation-sym, IsPermutation-trans}
-use Rattle.std.proofs.lemmas.List.Sorted.{IsPermutation-to_front, IsPermutation-map, All-permutation, Contains-permutation}
+use Rattle.std.proofs.lemmas.List.Sorted.{IsPermutation-refl, IsPermutation-sym, IsPermutation-trans}
+use Rattle.std.proofs.lemmas.List.Sorted.{IsPermutation-to_front, IsPermutation-map, Contains-permutation}
 use Rattle.request_journal.specs.Live.{left_by}
 use Rattle.request_journal.specs.Past.{Placed, placed_from}
 use Rattle.request_journal.specs.declared.event.Event.TheVariants as event

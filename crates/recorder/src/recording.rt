@@ -102,6 +102,8 @@ impl Recording {
         ensures already { IsErrOf result RecordingError.AlreadyRecording ↔ IsOn self.old }
         ensures bad_target { IsErrOf result RecordingError.BadTarget
             ↔ (¬ (IsOn self.old) × ¬ (IsTarget target.now)) }
+        ensures why { ¬ (IsErrOf result RecordingError.NotRecording)
+            × ¬ (IsErrOf result RecordingError.RecordingFull) }
     {
         if let Recording::On(_) = self {
             return Err(RecordingError::AlreadyRecording);

@@ -1,4 +1,4 @@
-use Rattle.std.proofs.Common.{◌≡◌, ◌<◌, length, slice_index_or, ◌∷◌, IsPermutation, ◌∙◌, ap, sym, subst, rules}
+use Rattle.std.proofs.Common.{◌∷◌, IsPermutation, ◌∙◌, ap, sym, subst, rules}
 use Rattle.std.proofs.lemmas.List.Sorted.{IsPermutation-remove}
 use Rattle.live_mappings.specs.declared.entry.Entry.{Entry}
 use Rattle.live_mappings.proofs.IdLemmas.{without_none, without_at}

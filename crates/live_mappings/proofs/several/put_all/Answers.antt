@@ -1,4 +1,4 @@
-use Rattle.std.proofs.Common.{List, map, arith}
+use Rattle.std.proofs.Common.{List, arith}
 use Rattle.std.proofs.lemmas.List.Sorted.{IsPermutation-trans, IsPermutation-map, All-permutation}
 use Rattle.live_mappings.specs.declared.entry.Entry.{Entry}
 use Rattle.live_mappings.specs.Kept.{Fits, placed_of}

@@ -1,4 +1,4 @@
-use Rattle.std.proofs.Common.{◌≡◌, take, All}
+use Rattle.std.proofs.Common.{◌≡◌}
 use Rattle.std.specs.List.{AllWithin}
 use Rattle.request_journal.specs.Choice.{IsEligible}
 use Rattle.scenario_core.specs.Scenarios.{state_of}

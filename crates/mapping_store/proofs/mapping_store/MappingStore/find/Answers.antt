@@ -3,7 +3,6 @@ use Rattle.request_journal.specs.Choice.{IsEligible}
 use Rattle.scenario_core.specs.Scenarios.{state_of}
 use Rattle.live_mappings.specs.declared.entry.Entry.{Entry}
 use Rattle.live_mappings.specs.Kept.{placed_of}
-use Rattle.request_journal.specs.declared.mapping.Mapping.{Mapping}
 use Rattle.mapping_store.proofs.ChoiceLemmas.{chosen, missed, same_items}
 use Rattle.mapping_store.proofs.mapping_store.MappingStore.find.Goals as goal
 use Rattle.mapping_store.proofs.mapping_store.MappingStore.find.Goals.{in-Some+in_ok-try_clone-in-Some, in-None}
