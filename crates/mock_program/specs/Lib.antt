@@ -1,5 +1,4 @@
 pub mod CommandLine
+pub mod Commands
 pub mod Inner
-pub mod Lines
-pub mod Output
 pub mod Rendering

@@ -1,14 +1,9 @@
-//! The commands of `mock`, for the program and for tests: what a command writes, and its exit status. It uses
-//! `template_machine` and `mock_request`. Its contracts cite `specs/CommandLine.antt` (which arguments ask for what),
-//! `Rendering` (what `mock render` prints), `Lines` (the lines of it) and `Output` (what a writer holds after a write
-//! that may fail).
+//! The commands of `mock`, for the program and for tests: which command the arguments ask for, what it writes, and its exit
+//! status. It uses `mapping_check`, `template_machine` and `request_data`. Its contracts cite `specs/CommandLine.antt`
+//! (which arguments ask for what), `Commands` (what a command does) and `Rendering` (what `mock render` prints).
 #![tactic(auto)]
 
 pub mod arguments;
 pub mod command_line;
-pub mod error;
-mod lines;
-mod output;
 mod parser;
 pub mod render;
-mod status;
