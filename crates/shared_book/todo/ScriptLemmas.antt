@@ -1,0 +1,34 @@
+-- A script, call by call.
+use Rattle.std.proofs.Common.{◌≡◌, ◌⊎◌, inl, inr, List, [], ◌∷◌, ◌++◌, refl, sym, ap, ◌∙◌, subst, append_assoc, append-nil}
+use Rattle.request_journal.specs.declared.event.Event.{Event}
+use Rattle.shared_book.specs.Held.{Held, with_receipt}
+use Rattle.shared_book.specs.Script.{IsOf, IsTold, Plays}
+use Rattle.shared_book.specs.declared.receipt.Receipt.{Receipt}
+use Rattle.shared_book.specs.declared.script.Call.{Call}
+
+told_on : (calls : List Call) (call : Call) (rs qs : List Receipt) → IsTold calls rs → IsTold (call ∷ []) qs
+    → IsTold (calls ++ call ∷ []) (rs ++ qs)
+told_on [] call rs qs told more = subst (λ (l : List Receipt). IsTold (call ∷ []) (l ++ qs)) (sym told) more
+told_on (c ∷ cs) call rs qs (inl told) more =
+    inl (told.0, told.1 ++ qs, ap (λ l. l ++ qs) told.2, told.3, told_on cs call told.1 qs told.4 more)
+told_on (c ∷ cs) call rs qs (inr told) more = inr (told_on cs call rs qs told more)
+
+pub plays_none : (seat : Held) → Plays seat seat []
+plays_none seat = ([], refl, ap (λ (l : List Receipt). record seat { own = l }) (sym (append-nil seat.own)))
+
+pub plays_on : (a b c : Held) (calls : List Call) (call : Call) → Plays a b calls → Plays b c (call ∷ [])
+    → Plays a c (calls ++ call ∷ [])
+plays_on a b c calls call one two = (
+  one.0 ++ two.0,
+  told_on calls call one.0 two.0 one.1 two.1,
+  two.2 ∙ ap (λ (s : Held). record s { own = s.own ++ two.0 }) one.2
+  ∙ ap (λ (l : List Receipt). record a { own = l }) (append_assoc a.own one.0 two.0),
+)
+
+pub plays_accepted : (old new : Held) (call : Call) (receipt : Receipt) → new ≡ with_receipt old receipt
+    → IsOf call receipt.event → Plays old new (call ∷ [])
+plays_accepted old new call receipt kept of = (receipt ∷ [], inl (receipt, [], refl, of, refl), kept)
+
+pub plays_refused : (old new : Held) (call : Call) → new ≡ old → Plays old new (call ∷ [])
+plays_refused old new call same =
+    ([], inr refl, same ∙ ap (λ (l : List Receipt). record old { own = l }) (sym (append-nil old.own)))
