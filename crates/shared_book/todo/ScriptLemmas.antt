@@ -1,10 +1,13 @@
 -- A script, call by call.
 use Rattle.std.proofs.Common.{◌≡◌, ◌⊎◌, inl, inr, List, [], ◌∷◌, ◌++◌, refl, sym, ap, ◌∙◌, subst, append_assoc, append-nil}
 use Rattle.request_journal.specs.declared.event.Event.{Event}
-use Rattle.shared_book.specs.Held.{Held, with_receipt}
-use Rattle.shared_book.specs.Script.{IsOf, IsTold, Plays}
+use Rattle.request_journal.specs.Past.{Past}
+use Rattle.shared_book.specs.Held.{Held, all_lists, lists, new_seat, with_receipt}
+use Rattle.shared_book.specs.Script.{IsOf, IsPlayed, IsTold, Plays}
+use Rattle.shared_book.specs.Settled.{IsSettled}
 use Rattle.shared_book.specs.declared.receipt.Receipt.{Receipt}
 use Rattle.shared_book.specs.declared.script.Call.{Call}
+use Rattle.shared_book.specs.declared.settled.Settled.{Settled}
 
 told_on : (calls : List Call) (call : Call) (rs qs : List Receipt) → IsTold calls rs → IsTold (call ∷ []) qs
     → IsTold (calls ++ call ∷ []) (rs ++ qs)
@@ -32,3 +35,17 @@ plays_accepted old new call receipt kept of = (receipt ∷ [], inl (receipt, [],
 pub plays_refused : (old new : Held) (call : Call) → new ≡ old → Plays old new (call ∷ [])
 plays_refused old new call same =
     ([], inr refl, same ∙ ap (λ (l : List Receipt). record old { own = l }) (sym (append-nil old.own)))
+
+-- two seats that had made no call before their scripts, beside one that made its calls before
+pub played : (origin past : Past) (seat left a b : Held) (cs ds : List Call) (settled : Settled) → lists left ≡ lists seat
+    → Plays (new_seat 1) a cs → Plays (new_seat 1) b ds
+    → IsSettled origin past (all_lists (left ∷ a ∷ b ∷ [])) settled → IsPlayed origin seat cs ds settled
+played origin past seat left a b cs ds settled same one two all = record {
+  one = one.0;
+  two = two.0;
+  told_one = one.1;
+  told_two = two.1;
+  past = past;
+  settled_all = subst (λ (ls : List (List Receipt)). IsSettled origin past ls settled)
+      (λ i. same i ++ (lists (one.2 i) ++ (lists (two.2 i) ++ []))) all;
+}
