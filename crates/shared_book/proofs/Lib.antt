@@ -1,0 +1,5 @@
+pub mod ReachedLemmas
+pub mod HeldLemmas
+pub mod ReceiptLemmas
+pub mod CountLemmas
+pub mod RefusalLemmas

@@ -1,0 +1,4 @@
+pub mod Kept
+pub mod Seat
+pub mod Gains
+pub mod Refusal

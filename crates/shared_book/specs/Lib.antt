@@ -1,0 +1,7 @@
+pub mod Reached
+pub mod Receipts
+pub mod Held
+pub mod Lent
+pub mod Refused
+pub mod Settled
+pub mod Inner
