@@ -2,3 +2,4 @@ pub mod Kept
 pub mod Seat
 pub mod Gains
 pub mod Refusal
+pub mod Looked

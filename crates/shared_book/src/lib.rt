@@ -3,6 +3,7 @@
 //! history: they are those of one history, of which none is missing, doubled or invented.
 #![tactic(auto)]
 
+pub mod book_read;
 pub mod origin;
 pub mod receipt;
 pub mod seat;
@@ -13,3 +14,4 @@ mod audit;
 mod compare;
 mod gather;
 mod locked;
+mod look;

@@ -4,6 +4,7 @@ ghost use Rattle.shared_book.specs.Held.{all_lists};
 ghost use Rattle.request_journal.specs.Input.{IsAsked};
 ghost use Rattle.request_journal.specs.Past.{last_number};
 ghost use Rattle.request_journal.specs.declared.limits.TheConstants.{NUMBER_LIMIT};
+ghost use Rattle.shared_book.specs.Inner.Looked.{IsLooked};
 ghost use Rattle.shared_book.specs.Reached.{IsReached};
 ghost use Rattle.shared_book.specs.Receipts.{IsReceipt};
 ghost use Rattle.shared_book.specs.Settled.{IsSettled, IsUnsettled};
@@ -11,7 +12,9 @@ ghost use Rattle.stub_book.specs.Growth.{Grows, IsServed};
 ghost use Rattle.stub_book.specs.Refusals.{IsRefusal, IsServeRefusal};
 
 use crate::audit::{audit, have_parts};
+use crate::book_read::{BookRead, Reading};
 use crate::compare::compare;
+use crate::look::look;
 use crate::origin::Origin;
 use crate::receipt::Receipt;
 use crate::seat::Seat;
@@ -19,7 +22,7 @@ use crate::settled::{SettleRefusal, Settled};
 use request_journal::input::BookInput;
 use request_journal::shared_request::SharedRequest;
 use request_match::parsed_request::ParsedRequest;
-use std::alloc::Global;
+use std::alloc::{AllocError, Global};
 use std::marker::Model;
 use std::sync::ledger;
 use std::sync::ledger::Share;
@@ -118,6 +121,18 @@ impl<L: Origin> Locked<L> {
         Ok(Receipt {
             number: self.book.event_count(),
             event,
+        })
+    }
+
+    /// Looks up what is asked for.
+    pub(crate) fn read(&self, alloc: Global, asked: &BookRead) -> Result<Reading, AllocError>
+        ensures reached { IsReached L.origin self.now }
+        ensures number { IfOk result (λ reading. reading.number ≡ last_number self.now) }
+        ensures answer { IfOk result (λ reading. IsLooked self.now asked.now reading.answer) }
+    {
+        Ok(Reading {
+            number: self.book.event_count(),
+            answer: look(&self.book, alloc, asked)?,
         })
     }
 

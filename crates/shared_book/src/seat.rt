@@ -4,12 +4,15 @@ ghost use Rattle.request_journal.specs.Input.{IsAsked};
 ghost use Rattle.shared_book.specs.Held.{new_seat, filled, with_seat};
 ghost use Rattle.shared_book.specs.Inner.Gains.{Serves, Applies};
 ghost use Rattle.shared_book.specs.Lent.{LendsServed, LendsApplied};
+ghost use Rattle.shared_book.specs.Reading.{IsRead};
 ghost use Rattle.shared_book.specs.Receipts.{IsLast};
 ghost use Rattle.shared_book.specs.Refused.{IsRefused, IsServeRefused};
 ghost use Rattle.std.specs.Borrow.{sem};
 ghost use denote.Follow.{follows_so};
 ghost use mathlib.Core.Option.{none};
 
+use crate::book_read::{BookRead, Reading};
+use crate::look::answer;
 use crate::origin::Origin;
 use crate::receipt::Receipt;
 use crate::shared_book::SharedBook;
@@ -17,7 +20,7 @@ use mock_request::snapshot::Snapshot;
 use request_journal::input::BookInput;
 use request_journal::shared_request::SharedRequest;
 use request_match::parsed_request::ParsedRequest;
-use std::alloc::Global;
+use std::alloc::{AllocError, Global};
 use std::marker::Model;
 use std::sync::Wait;
 use std::sync::ledger::Share;
@@ -136,6 +139,26 @@ impl<L: Origin> Seat<L> {
     {
         self.keep_applied(rt, shared, input)?;
         Ok(self.last())
+    }
+
+    /// Reads the book at one point. Requests are matched after the lock was let go. Adds no event, and keeps no receipt.
+    pub fn read<R: Wait>(
+        &self,
+        rt: &R,
+        shared: &SharedBook<L>,
+        asked: BookRead,
+    ) -> Result<Reading, AllocError>
+        ensures { IfOk result (IsRead L.origin asked) }
+    {
+        let alloc = *self.own.allocator();
+        let Reading {
+            number,
+            answer: found,
+        } = shared.read(rt, alloc, &asked)?;
+        Ok(Reading {
+            number,
+            answer: answer(alloc, asked, found)?,
+        })
     }
 
     /// Takes over the other seat: its parts, and its lists of receipts beside the own ones. Where memory runs out (or

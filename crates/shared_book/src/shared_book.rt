@@ -2,14 +2,16 @@
 ghost use Rattle.std.specs.Prelude.{◌≡◌, ◌+◌, ◌<◌, ◌≤◌, IfErr, IfOk, OnErr, OnOk};
 ghost use Rattle.request_journal.specs.Input.{IsAsked};
 ghost use Rattle.request_journal.specs.declared.limits.TheConstants.{NUMBER_LIMIT};
-ghost use Rattle.request_journal.specs.Past.{Past};
+ghost use Rattle.request_journal.specs.Past.{Past, last_number};
 ghost use Rattle.shared_book.specs.Held.{all_lists, new_seat};
+ghost use Rattle.shared_book.specs.Inner.Looked.{IsLooked};
 ghost use Rattle.shared_book.specs.Reached.{IsReached};
 ghost use Rattle.shared_book.specs.Receipts.{IsReceipt};
 ghost use Rattle.shared_book.specs.Refused.{IsRefused, IsServeRefused};
 ghost use Rattle.shared_book.specs.Settled.{IsSettled, IsUnsettled};
 ghost use Rattle.stub_book.specs.Growth.{IsServed};
 
+use crate::book_read::{BookRead, Reading};
 use crate::locked::Locked;
 use crate::origin::Origin;
 use crate::receipt::Receipt;
@@ -91,6 +93,19 @@ impl<L: Origin> SharedBook<L> {
         ensures not_entered { OnErr result (share.new.amount ≡ share.old.amount) }
     {
         self.locked.lock(rt).apply(share, input)
+    }
+
+    // Looks up what is asked for, under the lock.
+    pub(crate) fn read<R: Wait>(
+        &self,
+        rt: &R,
+        alloc: Global,
+        asked: &BookRead,
+    ) -> Result<Reading, AllocError>
+        ensures { IfOk result (λ reading. (past : Past) × IsReached L.origin past
+            × (reading.number ≡ last_number past) × IsLooked past asked.now reading.answer) }
+    {
+        self.locked.lock(rt).read(alloc, asked)
     }
 
     // Compares the receipts of the seats with the book's history, under the lock.

@@ -4,7 +4,10 @@ use Rattle.request_journal.specs.Input.{IsAsked, answer_of}
 use Rattle.request_journal.specs.Journal.{clears}
 use Rattle.request_journal.specs.Legal.{IsNext, IsCheckpoint}
 use Rattle.request_journal.specs.Past.{Past, with_event}
+use Rattle.mock_request.specs.Request.{Request}
 use Rattle.request_journal.specs.declared.event.Event.{Event}
+use Rattle.request_journal.specs.declared.event.Event.TheVariants as event
+use Rattle.request_journal.specs.declared.event.ServeAnswer.{ServeAnswer}
 use Rattle.request_journal.specs.declared.input.BookAnswer.{BookAnswer}
 use Rattle.request_journal.specs.declared.input.BookInput.{BookInput}
 
@@ -26,3 +29,7 @@ pub record Applies (old new : Past) (asked : BookInput) (answer : BookAnswer) : 
   pub asked_for : IsAsked asked event
   pub answered : answer ≡ answer_of event
   pub grows : Grows old new event
+
+-- the event is the serve of this request, with whatever answer
+abbrev pub IsServed : Request → Event → Type 0
+IsServed request served = (answer : ServeAnswer) × (served ≡ event.Serve request answer)

