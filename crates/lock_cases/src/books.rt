@@ -11,9 +11,11 @@ use mapping_model::url_spec::UrlSpec;
 use mapping_model::version::Version;
 use mock_request::snapshot::Snapshot;
 use plain_text::text::Text;
+use request_journal::event::{Event, ServeAnswer};
 use request_journal::input::BookInput;
 use request_match::ready_mapping::ReadyMapping;
 use request_match::request_matcher::RequestMatcher;
+use shared_book::receipt::Receipt;
 use std::alloc::{AllocError, Global};
 use stub_book::book::Book;
 
@@ -76,4 +78,33 @@ pub fn any_request(alloc: Global) -> Result<RequestMatcher, AllocError> {
 
 pub fn text(alloc: Global, text: &str) -> Result<Text, AllocError> {
     Ok(Text::from(format!(in alloc; "{text}")?))
+}
+
+/// The body of the version that a receipt's request was answered with.
+pub fn answered(receipt: &Receipt) -> Option<&str> {
+    let Event::Serve { answer, .. } = receipt.event.event() else {
+        return None;
+    };
+    let ServeAnswer::Stub(captured) = answer else {
+        return None;
+    };
+    let Content::Plain { body, .. } = &captured.mapping.spec.spec().response.response().content
+    else {
+        return None;
+    };
+    let Body::Text(text) = body else {
+        return None;
+    };
+    Some(text.as_str())
+}
+
+/// What an event is, in a word.
+pub fn word_of(event: &Event) -> &'static str {
+    match event {
+        Event::Serve { .. } => "serve",
+        Event::Add(_) => "add",
+        Event::Edit { .. } => "edit",
+        Event::ClearJournal => "clear",
+        _ => "other",
+    }
 }
