@@ -18,7 +18,6 @@ pub enum Source {
 }
 
 /// A live mapping: its place, and what the order of choice is made of.
-#[derive(Drop)]
 pub struct Entry {
     /// The number of the event that added it.
     pub event: u64,
@@ -29,6 +28,20 @@ pub struct Entry {
     pub source: Source,
     /// For contracts alone.
     pub seen: Snapshot<MappingSpec>,
+}
+
+// Written out, so that a caller's proof sees one call and not the drop of each part.
+impl Drop for Entry {
+    fn drop(self) {
+        let Entry {
+            event: _event,
+            index: _index,
+            id: _id,
+            priority: _priority,
+            source: _source,
+            seen: _seen,
+        } = self;
+    }
 }
 
 impl Entry {

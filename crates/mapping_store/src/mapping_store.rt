@@ -28,13 +28,23 @@ use std::alloc::{AllocError, Global};
 use std::marker::Model;
 
 /// The live mappings with their places, and the defaults, each with its matcher for as long as the store lives.
-#[derive(Drop)]
 pub struct MappingStore {
     defaults: Vec<BookMapping>,
     /// For each default, whether none after it has its id, so that a reset looks for none.
     lasts: Vec<bool>,
     /// In the order of choice, so that the first eligible one is chosen. There is room for all defaults.
     live: Vec<Entry>,
+}
+
+// Written out, so that a caller's proof sees one call and not the drop of each part.
+impl Drop for MappingStore {
+    fn drop(self) {
+        let MappingStore {
+            defaults: _defaults,
+            lasts: _lasts,
+            live: _live,
+        } = self;
+    }
 }
 
 impl Model for MappingStore {

@@ -12,9 +12,15 @@ use std::alloc::{AllocError, Global};
 use std::marker::Model;
 
 /// Where a recording forwards requests to, which contracts see as its text.
-#[derive(Drop)]
 pub struct Target {
     text: Text,
+}
+
+// Written out, so that a caller's proof sees one call and not the drop of each part.
+impl Drop for Target {
+    fn drop(self) {
+        let Target { text: _text } = self;
+    }
 }
 
 impl Model for Target {

@@ -8,9 +8,15 @@ use std::marker::Model;
 use std::sync::Arc;
 
 /// A request as it was received, which contracts see as it is: a copy shares it.
-#[derive(Drop)]
 pub struct SharedRequest {
     request: Arc<Snapshot>,
+}
+
+// Written out, so that a caller's proof sees one call and not the drop of each part.
+impl Drop for SharedRequest {
+    fn drop(self) {
+        let SharedRequest { request: _request } = self;
+    }
 }
 
 impl Model for SharedRequest {

@@ -14,9 +14,16 @@ use std::marker::Model;
 pub const STARTED: &str = "Started";
 
 /// The state of each scenario. Kept are the states that aren't `STARTED`, in order of the scenarios' names.
-#[derive(Debug, Drop)]
+#[derive(Debug)]
 pub struct Scenarios {
     entries: Vec<Entry>,
+}
+
+// Written out, so that a caller's proof sees one call and not the drop of each part.
+impl Drop for Scenarios {
+    fn drop(self) {
+        let Scenarios { entries: _entries } = self;
+    }
 }
 
 impl Model for Scenarios {
