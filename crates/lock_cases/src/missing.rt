@@ -1,4 +1,5 @@
 //! A seat that is kept back.
+ghost use Rattle.std.specs.Prelude.{◌≤◌};
 
 use crate::calls;
 use crate::outcome::outcome;

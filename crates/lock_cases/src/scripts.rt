@@ -1,4 +1,5 @@
 //! Two scripts, and a gate.
+ghost use Rattle.std.specs.Prelude.{◌≤◌};
 
 use crate::books;
 use crate::outcome::outcome;

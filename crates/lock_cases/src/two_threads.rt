@@ -1,4 +1,5 @@
 //! Two threads with a seat each.
+ghost use Rattle.std.specs.Prelude.{◌≤◌};
 
 use crate::calls;
 use crate::outcome::outcome;

@@ -1,4 +1,5 @@
 //! A request is answered with the version that was chosen for it, whatever is edited meanwhile.
+ghost use Rattle.std.specs.Prelude.{◌≤◌};
 
 use crate::books::answered;
 use crate::calls;

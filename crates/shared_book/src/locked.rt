@@ -30,7 +30,6 @@ use stub_book::book::Book;
 use stub_book::error::BookError;
 
 /// A book, beside a ledger that has an entry for each event since the book was shared. Contracts see the book's past.
-#[derive(Drop)]
 pub(crate) struct Locked<L: Origin> {
     book: Book,
     entries: ledger::Book<L>,
@@ -38,6 +37,18 @@ pub(crate) struct Locked<L: Origin> {
     parts: u64,
     /// The number of the book's last event when it was shared.
     start: u64,
+}
+
+// Written out, so that a caller's proof sees one call and not the drop of each part.
+impl<L: Origin> Drop for Locked<L> {
+    fn drop(self) {
+        let Locked {
+            book: _book,
+            entries: _entries,
+            parts: _parts,
+            start: _start,
+        } = self;
+    }
 }
 
 impl<L: Origin> Model for Locked<L> {

@@ -5,10 +5,19 @@ use request_journal::shared_event::SharedEvent;
 use std::alloc::AllocError;
 
 /// What a seat keeps of an accepted call: the number of its event, and the event, which it shares with the history.
-#[derive(Drop)]
 pub struct Receipt {
     pub number: u64,
     pub event: SharedEvent,
+}
+
+// Written out, so that a caller's proof sees one call and not the drop of each part.
+impl Drop for Receipt {
+    fn drop(self) {
+        let Receipt {
+            number: _number,
+            event: _event,
+        } = self;
+    }
 }
 
 impl Receipt {

@@ -27,7 +27,6 @@ use std::sync::ledger::Share;
 use stub_book::error::BookError;
 
 /// By a seat, one thread makes calls on a shared book. It keeps a receipt for each call that was accepted.
-#[derive(Drop)]
 pub struct Seat<L: Origin> {
     pub(crate) share: Share<L>,
     /// How many parts of the ledger it has.
@@ -37,6 +36,19 @@ pub struct Seat<L: Origin> {
     pub(crate) own: Vec<Receipt>,
     /// The lists of the seats that it took over.
     pub(crate) joined: Vec<Vec<Receipt>>,
+}
+
+// Written out, so that a caller's proof sees one call and not the drop of each part.
+impl<L: Origin> Drop for Seat<L> {
+    fn drop(self) {
+        let Seat {
+            share: _share,
+            parts: _parts,
+            count: _count,
+            own: _own,
+            joined: _joined,
+        } = self;
+    }
 }
 
 impl<L: Origin> Model for Seat<L> {
@@ -119,8 +131,10 @@ impl<L: Origin> Seat<L> {
             (λ seat. LendsServed L.origin self.old seat request result)) }
         ensures why { IfErr result (λ error. IsServeRefused L.origin error.code) }
     {
-        self.keep_served(rt, shared, request)?;
-        Ok(self.last())
+        match self.keep_served(rt, shared, request) {
+            Ok(()) => Ok(self.last()),
+            Err(error) => Err(error),
+        }
     }
 
     /// Makes a change, and lends the receipt that it keeps.
@@ -137,8 +151,10 @@ impl<L: Origin> Seat<L> {
             (λ seat. LendsApplied L.origin self.old seat input result)) }
         ensures why { IfErr result (λ error. IsRefused L.origin input error.code) }
     {
-        self.keep_applied(rt, shared, input)?;
-        Ok(self.last())
+        match self.keep_applied(rt, shared, input) {
+            Ok(()) => Ok(self.last()),
+            Err(error) => Err(error),
+        }
     }
 
     /// Reads the book at one point. Requests are matched after the lock was let go. Adds no event, and keeps no receipt.

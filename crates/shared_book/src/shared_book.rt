@@ -27,9 +27,15 @@ use stub_book::book::Book;
 use stub_book::error::BookError;
 
 /// A book that several threads share, each with an owner of its own.
-#[derive(Drop)]
 pub struct SharedBook<L: Origin> {
     locked: Arc<Mutex<Locked<L>>>,
+}
+
+// Written out, so that a caller's proof sees one call and not the drop of each part.
+impl<L: Origin> Drop for SharedBook<L> {
+    fn drop(self) {
+        let SharedBook { locked: _locked } = self;
+    }
 }
 
 impl<L: Origin> SharedBook<L> {

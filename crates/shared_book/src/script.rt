@@ -1,5 +1,5 @@
 // Two scripts of calls on a shared book, each in a thread of its own.
-ghost use Rattle.std.specs.Prelude.{◌≡◌, ◌≤◌, ◌∷◌, ◌++◌, [], IfErr, IfOk};
+ghost use Rattle.std.specs.Prelude.{◌≡◌, ◌<◌, ◌≤◌, ◌∷◌, ◌++◌, [], IfOk, vec_capacity, vec_len};
 ghost use Rattle.request_journal.specs.Past.{Past};
 ghost use Rattle.shared_book.specs.Held.{lists};
 ghost use Rattle.shared_book.specs.Script.{IsPlayed, Plays};
@@ -36,6 +36,7 @@ pub struct Script {
 }
 
 /// Plays two scripts in a thread each, and settles. A call that is refused leaves no receipt, and its script goes on.
+#[tactic(auto, using(crate::proofs::ScriptLemmas::played))]
 pub fn run_scripts<L: Origin + Send + Sync, R: Threads + Wait + Sync, G: Gate + Sync>(
     rt: &R,
     alloc: Global,
@@ -69,10 +70,32 @@ pub fn run_scripts<L: Origin + Send + Sync, R: Threads + Wait + Sync, G: Gate + 
             ensures { Plays two result second.calls.items }
         { play(rt, book, two, second, gate) },
     );
-    let _ = seats.push(seat);
-    let _ = seats.push(one);
-    let _ = seats.push(two);
+    let seats = all_of(seats, seat, one, two);
     settle(rt, alloc, shared, seats)
+}
+
+// The three seats, in a list that has room for them.
+fn all_of<L: Origin>(room: Vec<Seat<L>>, a: Seat<L>, b: Seat<L>, c: Seat<L>) -> Vec<Seat<L>>
+    requires empty { room.items ≡ [] }
+    requires room { 3 ≤ vec_capacity room }
+    ensures { result.items ≡ a ∷ b ∷ c ∷ [] }
+{
+    let mut seats = room;
+    put(&mut seats, a);
+    put(&mut seats, b);
+    put(&mut seats, c);
+    seats
+}
+
+// Adds the seat to a list that has room for it. Takes no memory.
+fn put<L: Origin>(seats: &mut Vec<Seat<L>>, seat: Seat<L>)
+    requires { vec_len seats.old < vec_capacity seats.old }
+    ensures items { seats.new.items ≡ seats.old.items ++ seat ∷ [] }
+    ensures room { vec_capacity seats.old ≤ vec_capacity seats.new }
+{
+    let Ok(()) = seats.push(seat) else {
+        unreachable!()
+    };
 }
 
 // Plays a script by a seat, and gives the seat back.

@@ -1,12 +1,18 @@
 -- A script, call by call.
-use Rattle.std.proofs.Common.{◌≡◌, ◌⊎◌, inl, inr, List, [], ◌∷◌, ◌++◌, refl, sym, ap, ◌∙◌, subst, append_assoc, append-nil}
+use Rattle.std.proofs.Common.{◌≡◌, ◌⊎◌, inl, inr, List, [], ◌∷◌, ◌++◌, refl, sym, ap, ◌∙◌, subst, append_assoc, append-nil, Ok, Err}
+use Rattle.std.specs.Borrow.{Bor}
+use Rattle.std.specs.Prelude.{Result}
 use Rattle.request_journal.specs.declared.event.Event.{Event}
 use Rattle.request_journal.specs.Past.{Past}
 use Rattle.shared_book.specs.Held.{Held, all_lists, lists, new_seat, with_receipt}
+use Rattle.request_journal.specs.declared.input.BookInput.{BookInput}
+use Rattle.shared_book.specs.Lent.{LendsApplied}
 use Rattle.shared_book.specs.Script.{IsOf, IsPlayed, IsTold, Plays}
 use Rattle.shared_book.specs.Settled.{IsSettled}
 use Rattle.shared_book.specs.declared.receipt.Receipt.{Receipt}
 use Rattle.shared_book.specs.declared.script.Call.{Call}
+use Rattle.shared_book.specs.declared.script.Call.TheVariants.{Apply}
+use Rattle.stub_book.specs.declared.error.BookError.{BookError}
 use Rattle.shared_book.specs.declared.settled.Settled.{Settled}
 
 told_on : (calls : List Call) (call : Call) (rs qs : List Receipt) → IsTold calls rs → IsTold (call ∷ []) qs
@@ -35,6 +41,11 @@ plays_accepted old new call receipt kept of = (receipt ∷ [], inl (receipt, [],
 pub plays_refused : (old new : Held) (call : Call) → new ≡ old → Plays old new (call ∷ [])
 plays_refused old new call same =
     ([], inr refl, same ∙ ap (λ (l : List Receipt). record old { own = l }) (sym (append-nil old.own)))
+
+pub plays_applied : (origin : Past) (old new : Held) (asked : BookInput) (result : Result (Bor Receipt) BookError)
+    → LendsApplied origin old new asked result → Plays old new (Apply asked ∷ [])
+plays_applied origin old new asked (Ok lent) told = plays_accepted old new (Apply asked) lent.now told.0 told.1
+plays_applied origin old new asked (Err error) told = plays_refused old new (Apply asked) told
 
 -- two seats that had made no call before their scripts, beside one that made its calls before
 pub played : (origin past : Past) (seat left a b : Held) (cs ds : List Call) (settled : Settled) → lists left ≡ lists seat

@@ -1,9 +1,0 @@
--- What is answered to a read, at a past. NOT CHECKED: a draft.
--- IsAnswer past BookRead.Mappings (Mappings ms) = ms.items ≡ map (λ p. p.mapping) (reverse (live past))
--- IsAnswer past (BookRead.Mapping id) (Mapping (Some spec)) = Any (λ p. (p.mapping.id ≡ id) × (p.mapping.spec ≡ spec)) (live past)
--- IsAnswer past (BookRead.Mapping id) (Mapping None) = ¬ (IsLive past id)
--- IsAnswer past BookRead.Requests (Requests es) = es.items ≡ requests past
--- IsAnswer past BookRead.Unmatched (Requests es) = es.items ≡ unmatched past
--- IsAnswer past BookRead.Scenarios (Scenarios ms states) = (ms.items ≡ map (λ p. p.mapping) (reverse (live past))) × ((name : List ℕ) → state_of states name ≡ state past name)
--- IsAnswer past BookRead.Recording (Recording r) = r ≡ recording past
--- IsAnswer past read other = ⊥
