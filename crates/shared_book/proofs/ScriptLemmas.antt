@@ -1,5 +1,5 @@
 -- A script, call by call.
-use Rattle.std.proofs.Common.{◌≡◌, ◌⊎◌, inl, inr, List, [], ◌∷◌, ◌++◌, refl, sym, ap, ◌∙◌, subst, append_assoc, append-nil, Ok, Err}
+use Rattle.std.proofs.Common.{◌≡◌, ◌⊎◌, inl, inr, List, [], ◌∷◌, ◌++◌, refl, sym, ap, ◌∙◌, subst, append_assoc, append-nil, Ok, Err, IfOk}
 use Rattle.std.specs.Borrow.{Bor}
 use Rattle.std.specs.Prelude.{Result}
 use Rattle.request_journal.specs.declared.event.Event.{Event}
@@ -48,7 +48,7 @@ plays_applied origin old new asked (Ok lent) told = plays_accepted old new (Appl
 plays_applied origin old new asked (Err error) told = plays_refused old new (Apply asked) told
 
 -- two seats that had made no call before their scripts, beside one that made its calls before
-pub played : (origin past : Past) (seat left a b : Held) (cs ds : List Call) (settled : Settled) → lists left ≡ lists seat
+played : (origin past : Past) (seat left a b : Held) (cs ds : List Call) (settled : Settled) → lists left ≡ lists seat
     → Plays (new_seat 1) a cs → Plays (new_seat 1) b ds
     → IsSettled origin past (all_lists (left ∷ a ∷ b ∷ [])) settled → IsPlayed origin seat cs ds settled
 played origin past seat left a b cs ds settled same one two all = record {
@@ -60,3 +60,12 @@ played origin past seat left a b cs ds settled same one two all = record {
   settled_all = subst (λ (ls : List (List Receipt)). IsSettled origin past ls settled)
       (λ i. same i ++ (lists (one.2 i) ++ (lists (two.2 i) ++ []))) all;
 }
+
+pub played_by : {E : Type 0} (origin : Past) (seat left a b : Held) (cs ds : List Call) (seats : List Held)
+    (result : Result Settled E) → lists left ≡ lists seat → Plays (new_seat 1) a cs → Plays (new_seat 1) b ds
+    → seats ≡ left ∷ a ∷ b ∷ [] → IfOk result (λ s. (past : Past) × IsSettled origin past (all_lists seats) s)
+    → IfOk result (λ s. IsPlayed origin seat cs ds s)
+played_by origin seat left a b cs ds seats (Ok settled) same one two is told =
+    played origin told.0 seat left a b cs ds settled same one two
+        (subst (λ (l : List Held). IsSettled origin told.0 (all_lists l) settled) is told.1)
+played_by origin seat left a b cs ds seats (Err error) same one two is told = told

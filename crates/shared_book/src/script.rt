@@ -36,7 +36,6 @@ pub struct Script {
 }
 
 /// Plays two scripts in a thread each, and settles. A call that is refused leaves no receipt, and its script goes on.
-#[tactic(auto, using(crate::proofs::ScriptLemmas::played))]
 pub fn run_scripts<L: Origin + Send + Sync, R: Threads + Wait + Sync, G: Gate + Sync>(
     rt: &R,
     alloc: Global,
