@@ -1,5 +1,6 @@
 -- What is answered to who reads a book.
-use Rattle.std.specs.Prelude.{◌≡◌, ℕ, List, map, reverse, Any, Some, None}
+use Rattle.std.specs.Prelude.{◌≡◌, ℕ, List, Any, Some, None}
+use Rattle.mapping_store.specs.Stored.{IsNewestFirst}
 use Rattle.recorder.specs.Recording.{status_of}
 use Rattle.request_journal.specs.Journal.{requests, unmatched, IsCount, Picks}
 use Rattle.request_journal.specs.Legal.{IsLive}
@@ -7,7 +8,6 @@ use Rattle.request_journal.specs.Live.{live}
 use Rattle.request_journal.specs.Past.{Past, last_number}
 use Rattle.request_journal.specs.Recording.{recording}
 use Rattle.request_journal.specs.State.{state}
-use Rattle.request_journal.specs.declared.mapping.Mapping.{Mapping}
 use Rattle.request_match.specs.Matching.{MeetsRequest}
 use Rattle.scenario_core.specs.Scenarios.{state_of}
 use Rattle.shared_book.specs.Reached.{IsReached}
@@ -17,13 +17,9 @@ use Rattle.shared_book.specs.declared.book_read.ReadAnswer.{ReadAnswer}
 use Rattle.shared_book.specs.declared.book_read.ReadAnswer.TheVariants as answer
 use Rattle.shared_book.specs.declared.book_read.Reading.{Reading}
 
--- the live mappings, the newest first
-abbrev pub newest_first : Past → List Mapping
-newest_first past = map (λ p. p.mapping) (reverse (live past))
-
 -- the answer is what the past says: mappings and requests the newest first
 abbrev pub IsReadAnswer : Past → BookRead → ReadAnswer → Type 0
-IsReadAnswer past read.Mappings (answer.Mappings mappings) = mappings.items ≡ newest_first past
+IsReadAnswer past read.Mappings (answer.Mappings mappings) = IsNewestFirst (live past) mappings.items
 IsReadAnswer past (read.Mapping id) (answer.Mapping None) = ¬ (IsLive past id)
 IsReadAnswer past (read.Mapping id) (answer.Mapping (Some mapping)) =
     (mapping.id ≡ id) × Any (λ p. (p.mapping.id ≡ id) × (p.mapping.spec ≡ mapping.spec)) (live past)
@@ -34,7 +30,7 @@ IsReadAnswer past (read.Find matcher) (answer.Requests entries) =
 IsReadAnswer past (read.Count matcher) (answer.Count count) =
     IsCount (λ entry. MeetsRequest matcher entry.request) (requests past) count
 IsReadAnswer past read.Scenarios (answer.Scenarios states mappings) =
-    ((name : List ℕ) → state_of states name ≡ state past name) × (mappings.items ≡ newest_first past)
+    ((name : List ℕ) → state_of states name ≡ state past name) × IsNewestFirst (live past) mappings.items
 IsReadAnswer past read.RecordingStatus (answer.RecordingStatus status) = status ≡ status_of (recording past)
 IsReadAnswer past read.Recording (answer.Recording kept) = kept ≡ recording past
 IsReadAnswer past asked other = ⊥

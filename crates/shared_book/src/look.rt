@@ -26,7 +26,7 @@ pub(crate) fn look(
     ensures { IfOk result (IsLooked book.now asked.now) }
 {
     Ok(match asked {
-        BookRead::Mappings => ReadAnswer::Mappings(book.mappings(alloc)?),
+        BookRead::Mappings => ReadAnswer::Mappings(book.mappings()?),
         BookRead::Mapping(id) => ReadAnswer::Mapping(mapping(book, *id)?),
         BookRead::Requests | BookRead::Find(_) | BookRead::Count(_) => {
             ReadAnswer::Requests(book.history().requests(alloc)?)
@@ -34,7 +34,7 @@ pub(crate) fn look(
         BookRead::Unmatched => ReadAnswer::Requests(book.history().unmatched(alloc)?),
         BookRead::Scenarios => ReadAnswer::Scenarios {
             states: book.scenarios().try_clone()?,
-            mappings: book.mappings(alloc)?,
+            mappings: book.mappings()?,
         },
         BookRead::RecordingStatus => ReadAnswer::RecordingStatus(book.recording().status()),
         BookRead::Recording => ReadAnswer::Recording(book.recording().try_clone()?),

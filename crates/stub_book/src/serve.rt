@@ -1,25 +1,21 @@
 // Serving a request.
-ghost use Rattle.std.specs.Prelude.{◌≡◌, IfErr, IfOk, OnErr, OnOk, map, reverse};
+ghost use Rattle.std.specs.Prelude.{◌≡◌, IfErr, IfOk, OnErr, OnOk};
 ghost use Rattle.mock_request.specs.Request.{Request};
 ghost use Rattle.request_journal.specs.Choice.{IsChoice};
 ghost use Rattle.request_journal.specs.Past.{Past};
 ghost use Rattle.request_journal.specs.declared.event.Event.TheVariants as event;
-ghost use Rattle.request_journal.specs.Input.{IsAsked};
-ghost use Rattle.request_journal.specs.Live.{live};
 ghost use Rattle.stub_book.specs.Growth.{Grows, IsServed};
 ghost use Rattle.stub_book.specs.Inner.Kept.{Agrees, IsUnchosen, StatesFollow};
-ghost use Rattle.stub_book.specs.Refusals.{IsRefusal, IsServeRefusal};
+ghost use Rattle.stub_book.specs.Refusals.{IsServeRefusal};
 
 use crate::book::Book;
 use crate::error::BookError;
+use crate::prepared::prepare;
 use mapping_store::mapping_store::MappingStore;
 use mock_request::snapshot::Snapshot;
 use recorder::recording::Recording;
-use error_code::error_code::ErrorCode;
-use request_journal::input::BookInput;
-use request_journal::mapping::Mapping;
-use request_journal::shared_event::SharedEvent;
 use request_journal::event::{Captured, Event, ServeAnswer};
+use request_journal::shared_event::SharedEvent;
 use request_journal::shared_request::SharedRequest;
 use request_match::parsed_request::ParsedRequest;
 use scenario_core::scenarios::Scenarios;
@@ -33,39 +29,62 @@ impl Book {
         ensures why { IfErr result (λ error. IsServeRefusal self.old error.code) }
     {
         self.has_number()?;
-        Err(BookError::from(ErrorCode::OutOfMemory))
+        let shared = SharedRequest::new(self.alloc, request)?;
+        let kept = shared.try_clone()?;
+        let mut parsed = ParsedRequest::read(self.alloc, shared.request())?;
+        Ok(self.serve_parsed(kept, &mut parsed)?.answer)
     }
 
-    /// The same for a request that was taken apart before: under a lock no more than the choice is left to do.
+    /// The same for a request that was taken apart before: under a lock no more than the choice is left to do. It gives
+    /// the event, which is shared with the history.
     pub fn serve_read(
         &mut self,
         request: SharedRequest,
         parsed: &mut ParsedRequest<'_>,
     ) -> Result<SharedEvent, BookError>
         requires { parsed.old ≡ request }
-        ensures ok { IfOk result (λ shared. IsServed request shared × Grows self.old self.new shared) }
+        ensures ok { IfOk result (λ served. IsServed request served × Grows self.old self.new served) }
+        ensures err { OnErr result (self.new ≡ self.old) }
+        ensures why { IfErr result (λ error. IsServeRefusal self.old error.code) }
+        ensures same_request { parsed.new ≡ parsed.old }
+    {
+        Ok(self.serve_parsed(request, parsed)?.event)
+    }
+
+    fn serve_parsed(
+        &mut self,
+        request: SharedRequest,
+        parsed: &mut ParsedRequest<'_>,
+    ) -> Result<Served, BookError>
+        requires { parsed.old ≡ request }
+        ensures ok { IfOk result (λ served. (served.event ≡ event.Serve request served.answer)
+            × Grows self.old self.new (event.Serve request served.answer)) }
         ensures err { OnErr result (self.new ≡ self.old) }
         ensures why { IfErr result (λ error. IsServeRefusal self.old error.code) }
         ensures same_request { parsed.new ≡ parsed.old }
     {
         self.has_number()?;
-        Err(BookError::from(ErrorCode::OutOfMemory))
+        let answer = choose(&mut self.store, &self.scenarios, &self.recording, parsed)?;
+        let copy = answer.try_clone()?;
+        let event = Event::Serve {
+            request,
+            answer: copy,
+        };
+        let made = prepare(self.alloc, &mut self.history, event)?;
+        move_scenario(self.alloc, &mut self.scenarios, &answer)?;
+        self.history.push_reserved(made.event);
+        Ok(Served {
+            event: made.accepted.event,
+            answer,
+        })
     }
+}
 
-    pub fn apply_shared(&mut self, input: BookInput) -> Result<SharedEvent, BookError>
-        ensures ok { IfOk result (λ shared. IsAsked input shared × Grows self.old self.new shared) }
-        ensures err { OnErr result (self.new ≡ self.old) }
-        ensures why { IfErr result (λ error. IsRefusal self.old input error.code) }
-    {
-        self.has_number()?;
-        Err(BookError::from(ErrorCode::OutOfMemory))
-    }
-
-    pub fn mappings(&self, alloc: Global) -> Result<Vec<Mapping>, AllocError>
-        ensures { IfOk result (λ mappings. mappings.items ≡ map (λ p. p.mapping) (reverse (live self.now))) }
-    {
-        Err(AllocError)
-    }
+// A request that was served.
+#[derive(Drop)]
+struct Served {
+    event: SharedEvent,
+    answer: ServeAnswer,
 }
 
 // What the request is answered with. The store is not changed.
