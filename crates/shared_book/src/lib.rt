@@ -6,7 +6,6 @@
 pub mod book_read;
 pub mod origin;
 pub mod receipt;
-pub mod script;
 pub mod seat;
 pub mod settle;
 pub mod settled;
