@@ -4,12 +4,12 @@ use Rattle.request_match.specs.Matching.{MeetsRequest}
 use Rattle.request_journal.specs.Journal.{Picks}
 use Rattle.request_journal.specs.declared.entry.Entry.{Entry}
 use Rattle.book_history.proofs.VisibleLemmas.{turn_picked, turn_left_out}
-use Rattle.book_history.proofs.history.History.find.Goals as goal
-use Rattle.book_history.proofs.history.History.find.Goals.{then-branch+in_ok-try_clone+in_ok-push, else-branch}
+use Rattle.book_history.proofs.pick.pick.Goals as goal
+use Rattle.book_history.proofs.pick.pick.Goals.{then-branch+in_ok-try_clone+in_ok-push, else-branch}
 
 pub loop-entry-preserved : goal.loop-entry-preserved
 loop-entry-preserved c =
-    let items = c.as_slice-entry-items.result.now in
+    let items = c.args.entries.now in
     let index = c.loop-entry.entry-index in
     let entry = c.entry-item.result in (
       c.meets.ensures.same ∙ c.loop-entry.invariant.0,

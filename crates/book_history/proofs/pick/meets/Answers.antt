@@ -1,7 +1,7 @@
 use Rattle.std.proofs.Common.{◌↔◌, IfOk, IsTrue, subst, ◌∙◌}
 use Rattle.mock_request.specs.Request.{Request}
 use Rattle.request_match.specs.Matching.{MeetsRequest}
-use Rattle.book_history.proofs.journal.meets.Goals as goal
+use Rattle.book_history.proofs.pick.meets.Goals as goal
 
 pub returns-clause-answer : goal.returns-clause-answer
 returns-clause-answer c =
