@@ -1,6 +1,10 @@
+pub mod CommandArguments
+pub mod LinesOf
 pub mod OneStream
 pub mod ParserAnswers
+pub mod ParserCalls
 pub mod ParserErrors
 pub mod PartsWritten
-pub mod RenderArguments
+pub mod Refused
 pub mod RequestRefusals
+pub mod Totals
