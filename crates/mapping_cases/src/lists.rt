@@ -37,10 +37,7 @@ fn cells(
     Ok(cells)
 }
 
-fn cell(
-    alloc: Global,
-    result: &Result<ReadyMapping, MappingError>,
-) -> Result<String, AllocError> {
+fn cell(alloc: Global, result: &Result<ReadyMapping, MappingError>) -> Result<String, AllocError> {
     match result {
         Ok(mapping) => {
             let text = written(alloc, mapping)?;

@@ -1,4 +1,5 @@
 pub mod CommandArguments
+pub mod FileFacts
 pub mod LinesOf
 pub mod OneStream
 pub mod ParserAnswers

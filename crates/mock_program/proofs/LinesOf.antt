@@ -12,7 +12,10 @@ lines_push n [] text r line lines is =
     let here : n + 0 ≡ n = omega arith in
     (line, [], subst (λ k. IsLineOf k r line) here is, refl, ap (λ t. t ++ line) lines ∙ sym (append-nil line))
 lines_push n (x ∷ xs) text r line lines is =
-    let here : n + suc (length xs) ≡ suc n + length xs = omega arith in
-    (lines.0, lines.1 ++ line, lines.2,
-    lines_push (suc n) xs lines.1 r line lines.3 (subst (λ k. IsLineOf k r line) here is),
-    ap (λ t. t ++ line) lines.4 ∙ append_assoc lines.0 lines.1 line)
+    let here : n + suc (length xs) ≡ suc n + length xs = omega arith in (
+      lines.0,
+      lines.1 ++ line,
+      lines.2,
+      lines_push (suc n) xs lines.1 r line lines.3 (subst (λ k. IsLineOf k r line) here is),
+      ap (λ t. t ++ line) lines.4 ∙ append_assoc lines.0 lines.1 line,
+    )

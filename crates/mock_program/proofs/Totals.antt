@@ -1,8 +1,8 @@
 -- Budgets that are added up, as they are printed.
-use Rattle.std.proofs.Common.{◌≡◌, ℕ, suc, ◌+◌, ◌*◌, ◌^◌, ◌<◌, ◌≤◌, List, [], ◌∷◌, ◌++◌, All, map, refl, sym, ap, ap₂, ◌∙◌, arith}
+use Rattle.std.proofs.Common.{◌≡◌, ℕ, zero, suc, ◌+◌, ◌*◌, ◌^◌, ◌<◌, ◌≤◌, List, [], ◌∷◌, ◌++◌, get_or, map, refl, sym, ap, ap₂, ◌∙◌, arith}
 use Rattle.std.specs.List.{AllZip}
 use Rattle.std.proofs.lemmas.List.{map-append}
-use Rattle.std.proofs.lemmas.List.Elements.{All-cons, All-head, All-tail, AllZip-push}
+use Rattle.std.proofs.lemmas.List.Elements.{AllZip-push}
 use Rattle.mock_program.specs.Checking.{IsProgramOf, total_steps, total_bytes}
 use Rattle.mock_program.specs.Inner.Totals.{AreTotals, IsWithin}
 use Rattle.template_code.specs.Bounds.{Bound, as_printed, plus, sum_of}
@@ -48,15 +48,20 @@ one_more templates steps bytes p totals program = record {
 
 -- ---- coefficients
 
-abbrev Fits64 : ℕ → Type 0
-Fits64 y = y < 2 ^ 64
+pub zero_within : IsWithin 0 (0 ∷ [])
+zero_within zero = omega arith
+zero_within (suc k) = omega arith
+
+pub within_more : (few many : ℕ) (xs : List ℕ) → few ≤ many → IsWithin few xs → IsWithin many xs
+within_more few many xs le h k = omega (arith, le, h k)
+
+plus-at : (xs ys : List ℕ) (k : ℕ) → get_or (plus xs ys) k 0 ≡ get_or xs k 0 + get_or ys k 0
+plus-at [] ys k = omega arith
+plus-at (x ∷ xs) [] k = omega arith
+plus-at (x ∷ xs) (y ∷ ys) zero = refl
+plus-at (x ∷ xs) (y ∷ ys) (suc k) = plus-at xs ys k
 
 -- each is a sum of one number more
-pub plus-within : (count : ℕ) (xs ys : List ℕ) → IsWithin count xs → All (λ y. y < 2 ^ 64) ys
+pub plus-within : (count : ℕ) (xs ys : List ℕ) → IsWithin count xs → ((k : ℕ) → get_or ys k 0 < 2 ^ 64)
     → IsWithin (count + 1) (plus xs ys)
-plus-within count [] ys h fits = λ k d lt. omega (arith, fits k d lt)
-plus-within count (x ∷ xs) [] h fits = λ k d lt. omega (arith, h k d lt)
-plus-within count (x ∷ xs) (y ∷ ys) h fits =
-    All-cons (λ c. c ≤ (count + 1) * 2 ^ 64) (x + y) (plus xs ys)
-    (omega (arith, All-head (λ c. c ≤ count * 2 ^ 64) x xs h, All-head Fits64 y ys fits))
-    (plus-within count xs ys (All-tail (λ c. c ≤ count * 2 ^ 64) x xs h) (All-tail Fits64 y ys fits))
+plus-within count xs ys h fits k = omega (arith, plus-at xs ys k, h k, fits k)

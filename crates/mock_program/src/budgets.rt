@@ -37,10 +37,7 @@ pub(crate) fn total_of(
     }
 }
 
-fn total_of_lines(
-    alloc: Global,
-    lines: &[HeaderLine<TemplateText>],
-) -> Result<Totals, AllocError>
+fn total_of_lines(alloc: Global, lines: &[HeaderLine<TemplateText>]) -> Result<Totals, AllocError>
     requires { length lines.now ≤ HEADER_LIMIT }
     ensures total { IfOk result (λ total. AreTotals (values_of lines.now) total.steps.items total.bytes.items) }
     ensures steps { IfOk result (λ total. IsWithin HEADER_LIMIT total.steps.items) }
@@ -87,8 +84,20 @@ fn plus(alloc: Global, total: &[u128], list: &[u64]) -> Result<Vec<u128>, AllocE
 {
     let mut sum = Vec::new(alloc);
     for index in 0..total.len().max(list.len()) {
-        let coefficient = total.get(index).copied().unwrap_or(0);
-        sum.push(coefficient + u128::from(list.get(index).copied().unwrap_or(0)))?;
+        sum.push(total_at(total, index) + u128::from(list_at(list, index)))?;
     }
     Ok(sum)
+}
+
+/// The coefficient with that index, which is 0 after the last one.
+fn total_at(total: &[u128], index: usize) -> u128
+    ensures { result ≡ slice_index total.now index }
+{
+    total.get(index).copied().unwrap_or(0)
+}
+
+fn list_at(list: &[u64], index: usize) -> u64
+    ensures { result ≡ slice_index list.now index }
+{
+    list.get(index).copied().unwrap_or(0)
 }

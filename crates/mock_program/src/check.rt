@@ -46,12 +46,7 @@ pub fn check_document(alloc: Global, bytes: &[u8]) -> Result<Checked, CommandErr
 
 /// Writes what `check_document` gives to `out`, or its error to `err`, and gives the exit status: 0, or 1 where a mapping
 /// is refused, for an error, or for output that can't be written. All memory is taken before the first byte is written.
-pub fn check_to<O: Write, E: Write>(
-    alloc: Global,
-    bytes: &[u8],
-    out: &mut O,
-    err: &mut E,
-) -> u8
+pub fn check_to<O: Write, E: Write>(alloc: Global, bytes: &[u8], out: &mut O, err: &mut E) -> u8
     ensures { Checks O.contents E.contents bytes.now out.old out.new err.old err.new result }
 {
     match check_document(alloc, bytes) {

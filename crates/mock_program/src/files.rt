@@ -42,7 +42,11 @@ pub enum FileError {
 }
 
 /// The file at the path, whole.
-pub(crate) fn read_file<F: FileReader>(alloc: Global, files: &F, path: &str) -> Result<Vec<u8>, FileError>
+pub(crate) fn read_file<F: FileReader>(
+    alloc: Global,
+    files: &F,
+    path: &str,
+) -> Result<Vec<u8>, FileError>
     ensures ok { IfOk result (λ bytes. IsFile (F.content files.now path.now) bytes.items) }
     ensures err { IfErr result (IsFileError (F.content files.now path.now)) }
 {
