@@ -21,6 +21,7 @@ fn main(rt: HostRuntime) -> io::Result<ExitCode> {
             Table::Rules,
             Table::Lists,
             Table::Requests,
+            Table::Matches,
             Table::Checks,
             Table::Examples,
         ]

@@ -15,6 +15,8 @@ pub enum Table {
     Rules,
     Lists,
     Requests,
+    /// Request matchers and requests, whose results an independent program computed.
+    Matches,
     Checks,
     /// The files of the folder `examples`.
     Examples,
@@ -28,6 +30,7 @@ impl CaseTable for Table {
             Table::Rules => "rules.tsv",
             Table::Lists => "lists.tsv",
             Table::Requests => "requests.tsv",
+            Table::Matches => "matches.tsv",
             Table::Checks => "checks.tsv",
             Table::Examples => "examples.tsv",
         }
@@ -39,7 +42,7 @@ impl CaseTable for Table {
             Table::Bytes => mappings::of_bytes(alloc, row),
             Table::Rules => mappings::code(alloc, row),
             Table::Lists => lists::answer(alloc, row),
-            Table::Requests => requests::answer(alloc, row),
+            Table::Requests | Table::Matches => requests::answer(alloc, row),
             Table::Checks => checks::answer(alloc, row.cell(0)),
             Table::Examples => checks::answer(alloc, row.cell(1)),
         }

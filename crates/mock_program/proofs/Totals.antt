@@ -1,10 +1,12 @@
 -- Budgets that are added up, as they are printed.
-use Rattle.std.proofs.Common.{◌≡◌, ℕ, zero, suc, ◌+◌, ◌*◌, ◌^◌, ◌<◌, ◌≤◌, List, [], ◌∷◌, ◌++◌, get_or, map, refl, sym, ap, ap₂, ◌∙◌, arith}
+use Rattle.std.proofs.Common.{◌≡◌, ℕ, zero, suc, ◌+◌, ◌*◌, ◌^◌, ◌<◌, ◌≤◌, List, [], ◌∷◌, ◌++◌, get_or, map, refl, sym, ap, ap₂, subst, ◌∙◌, arith, codes}
+use Rattle.std.specs.Prelude.{decimal}
 use Rattle.std.specs.List.{AllZip}
-use Rattle.std.proofs.lemmas.List.{map-append}
+use Rattle.std.proofs.lemmas.List.{append-nil, map-append}
 use Rattle.std.proofs.lemmas.List.Elements.{AllZip-push}
-use Rattle.mock_program.specs.Checking.{IsProgramOf, total_steps, total_bytes}
+use Rattle.mock_program.specs.Checking.{IsBudgetLine, IsProgramOf}
 use Rattle.mock_program.specs.Inner.Totals.{AreTotals, IsWithin}
+use Rattle.mock_program.specs.Lines.{budget_line, numbers_text}
 use Rattle.template_code.specs.Bounds.{Bound, as_printed, plus, sum_of}
 use Rattle.template_code.specs.Budget.{budget}
 use Rattle.template_code.proofs.BoundFacts.{plus-assoc, plus-empty}
@@ -33,18 +35,36 @@ printed_more f xs x =
 pub none : AreTotals [] (0 ∷ []) (0 ∷ [])
 none = record { programs = []; each = tt; steps_are = refl; bytes_are = refl }
 
-pub one_more : (templates : List (List ℕ)) (steps bytes : List ℕ) (p : ProgramParts)
-    → AreTotals templates steps bytes → IsProgram p
-    → AreTotals (templates ++ p.source ∷ []) (plus steps (as_printed (budget p.code).steps))
-    (plus bytes (as_printed (budget p.code).bytes))
-one_more templates steps bytes p totals program = record {
+pub one_more : (templates : List (List ℕ)) (template steps bytes more_steps more_bytes : List ℕ) (p : ProgramParts)
+    → AreTotals templates steps bytes → p.source ≡ template → IsProgram p
+    → more_steps ≡ plus steps (as_printed (budget p.code).steps)
+    → more_bytes ≡ plus bytes (as_printed (budget p.code).bytes)
+    → AreTotals (templates ++ template ∷ []) more_steps more_bytes
+one_more templates template steps bytes more_steps more_bytes p totals source program steps_are bytes_are = record {
   programs = totals.programs ++ p ∷ [];
-  each = AllZip-push IsProgramOf templates totals.programs p.source p totals.each (refl, program);
-  steps_are = ap (λ s. plus s (as_printed (budget p.code).steps)) totals.steps_are
+  each = AllZip-push IsProgramOf templates totals.programs template p totals.each (source, program);
+  steps_are = steps_are ∙ ap (λ s. plus s (as_printed (budget p.code).steps)) totals.steps_are
       ∙ sym (printed_more (λ (q : ProgramParts). (budget q.code).steps) totals.programs p);
-  bytes_are = ap (λ s. plus s (as_printed (budget p.code).bytes)) totals.bytes_are
+  bytes_are = bytes_are ∙ ap (λ s. plus s (as_printed (budget p.code).bytes)) totals.bytes_are
       ∙ sym (printed_more (λ (q : ProgramParts). (budget q.code).bytes) totals.programs p);
 }
+
+pub no_more : (templates : List (List ℕ)) (steps bytes : List ℕ) → AreTotals templates steps bytes
+    → AreTotals (templates ++ []) steps bytes
+no_more templates steps bytes totals = subst (λ ts. AreTotals ts steps bytes) (sym (append-nil templates)) totals
+
+-- the line with the totals
+pub line_of : (number : ℕ) (templates : List (List ℕ)) (steps bytes s b line : List ℕ) → AreTotals templates steps bytes
+    → s ≡ numbers_text steps → b ≡ numbers_text bytes
+    → line ≡ decimal number ++ (codes " steps " ++ (s ++ (codes " bytes " ++ (b ++ codes "\n"))))
+    → IsBudgetLine number templates line
+line_of number templates steps bytes s b line totals s_is b_is line_is = (
+  totals.programs,
+  totals.each,
+  line_is
+      ∙ ap₂ (λ x y. decimal number ++ (codes " steps " ++ (x ++ (codes " bytes " ++ (y ++ codes "\n"))))) s_is b_is
+      ∙ ap₂ (budget_line number) totals.steps_are totals.bytes_are,
+)
 
 -- ---- coefficients
 

@@ -1,5 +1,5 @@
 //! The budgets of the templates of a response, added up.
-ghost use Rattle.std.specs.Prelude.{◌≡◌, ◌≤◌, ◌++◌, ◌∷◌, [], length, slice_index, IfOk};
+ghost use Rattle.std.specs.Prelude.{◌≡◌, ◌≤◌, ◌+◌, ◌++◌, ◌∷◌, [], length, slice_index, IfOk};
 ghost use Rattle.mapping_model.specs.declared.header_lines.TheConstants.{HEADER_LIMIT};
 ghost use Rattle.mock_program.specs.Inner.Totals.{AreTotals, Grows, IsWithin};
 ghost use Rattle.response_json.specs.Draft.{values_of, body_templates};
@@ -56,7 +56,7 @@ fn total_of_lines(alloc: Global, lines: &[HeaderLine<TemplateText>]) -> Result<T
 fn zero(alloc: Global) -> Result<Vec<u128>, AllocError>
     ensures { IfOk result (λ list. list.items ≡ 0 ∷ []) }
 {
-    vec![in alloc; 0u128]
+    Ok(vec![in alloc; 0u128]?)
 }
 
 fn total_with(alloc: Global, total: &Totals, program: &Program) -> Result<Totals, AllocError>
@@ -82,11 +82,25 @@ fn plus(alloc: Global, total: &[u128], list: &[u64]) -> Result<Vec<u128>, AllocE
     ensures sum { IfOk result (λ sum. sum.items ≡ plus total.now list.now) }
     ensures grows { IfOk result (λ sum. Grows total.now sum.items) }
 {
+    sum(alloc, total, list)
+}
+
+fn sum(alloc: Global, total: &[u128], list: &[u64]) -> Result<Vec<u128>, AllocError>
+    requires { IsWithin HEADER_LIMIT total.now }
+    ensures { IfOk result (λ sum. sum.items ≡ plus total.now list.now) }
+{
     let mut sum = Vec::new(alloc);
     for index in 0..total.len().max(list.len()) {
-        sum.push(total_at(total, index) + u128::from(list_at(list, index)))?;
+        sum.push(sum_at(total, list, index))?;
     }
     Ok(sum)
+}
+
+fn sum_at(total: &[u128], list: &[u64], index: usize) -> u128
+    requires { IsWithin HEADER_LIMIT total.now }
+    ensures { result ≡ slice_index total.now index + slice_index list.now index }
+{
+    total_at(total, index) + u128::from(list_at(list, index))
 }
 
 /// The coefficient with that index, which is 0 after the last one.

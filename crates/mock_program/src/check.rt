@@ -1,10 +1,10 @@
 //! `mock check`: which mappings of a document are taken, and the budgets of their templates.
-ghost use Rattle.std.specs.Prelude.{◌≡◌, ◌+◌, ◌++◌, IfOk, IfErr, string_bytes};
+ghost use Rattle.std.specs.Prelude.{◌≡◌, ◌+◌, ◌++◌, IfOk, IfErr, if◌then◌else◌, string_bytes};
 ghost use Rattle.mock_program.specs.Checking.{AreLines, IsContentLine, IsLineOf, IsBudgetLine, IsReportOf};
 ghost use Rattle.mock_program.specs.Checking.{IsCheckError, Checks};
 ghost use Rattle.mock_program.specs.Commands.{ChecksFile, file_error_line};
 ghost use Rattle.mock_program.specs.Lines.{refused_line};
-ghost use Rattle.mock_program.specs.Output.{AppendsFront};
+ghost use Rattle.mock_program.specs.Output.{AppendsFront, Writes};
 ghost use Rattle.response_json.specs.Draft.{values_of, body_templates};
 
 use crate::budgets::total_of;
@@ -21,6 +21,7 @@ use mapping_model::response_spec::{Body, Content};
 use mapping_model::template_text::TemplateText;
 use request_match::ready_mapping::ReadyMapping;
 use std::alloc::{AllocError, Global};
+use std::io;
 use std::io::Write;
 
 /// What is printed for a document.
@@ -40,7 +41,7 @@ pub fn check_document(alloc: Global, bytes: &[u8]) -> Result<Checked, CommandErr
     let results = read_each(alloc, bytes)?;
     Ok(Checked {
         text: lines(alloc, results.as_slice())?,
-        is_refused: results.iter().any(|result| result.is_err()),
+        is_refused: results.iter().any(|read| read.is_err()),
     })
 }
 
@@ -51,7 +52,7 @@ pub fn check_to<O: Write, E: Write>(alloc: Global, bytes: &[u8], out: &mut O, er
 {
     match check_document(alloc, bytes) {
         Ok(checked) => match put(out, checked.text.as_bytes()) {
-            Ok(()) => if checked.is_refused { FAILURE } else { SUCCESS },
+            Ok(()) => status_of(checked.is_refused),
             Err(_error) => FAILURE,
         },
         Err(error) => {
@@ -59,6 +60,12 @@ pub fn check_to<O: Write, E: Write>(alloc: Global, bytes: &[u8], out: &mut O, er
             FAILURE
         }
     }
+}
+
+fn status_of(is_refused: bool) -> u8
+    ensures { result ≡ (if is_refused then 1 else 0) }
+{
+    if is_refused { FAILURE } else { SUCCESS }
 }
 
 /// Reads the file and does with its bytes what `check_to` does. Where it can't be read, that is written to `err`, and the
@@ -85,12 +92,22 @@ pub fn check_file<F: FileReader, O: Write, E: Write>(
 fn report_file<E: Write>(error: FileError, path: &str, err: &mut E)
     ensures { AppendsFront (E.contents err.old) (E.contents err.new) (file_error_line path.now error) }
 {
+    // The caller's exit status is 1 in any case.
+    let _ = write_file_error(error, path, err);
+}
+
+fn write_file_error<E: Write>(error: FileError, path: &str, err: &mut E) -> io::Result<()>
+    ensures { Writes result (E.contents err.old) (E.contents err.new) (file_error_line path.now error) }
+{
     match error {
-        FileError::CannotRead => {
-            // The caller's exit status is 1 in any case.
-            let _ = put_all(err, ["error: cannot read ", path, "\n"].as_slice());
+        FileError::CannotRead => put_all(err, ["error: cannot read ", path, "\n"].as_slice()),
+        FileError::OutOfMemory => {
+            let out_of_memory = CommandError {
+                code: ErrorCode::OutOfMemory,
+                at: None,
+            };
+            out_of_memory.write_to(err)
         }
-        FileError::OutOfMemory => CommandError::from(ErrorCode::OutOfMemory).report(err),
     }
 }
 

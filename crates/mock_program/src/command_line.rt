@@ -58,7 +58,7 @@ fn run_call<F: FileReader, O: Write, E: Write>(
     out: &mut O,
     err: &mut E,
 ) -> u8
-    ensures { Does O.contents E.contents (F.content files.now) (asked_of call) out.old out.new err.old err.new result }
+    ensures { Does O.contents E.contents (F.content files.now) (asked_of call.entry) out.old out.new err.old err.new result }
 {
     match call {
         Call::Render {

@@ -30,7 +30,7 @@ impl CommandError {
         let _ = self.write_to(err);
     }
 
-    fn write_to<W: Write>(self, out: &mut W) -> io::Result<()>
+    pub(crate) fn write_to<W: Write>(self, out: &mut W) -> io::Result<()>
         ensures { Writes result (W.contents out.old) (W.contents out.new) (error_line self) }
     {
         let mut number = Buffer::new();

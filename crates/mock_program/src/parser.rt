@@ -1,9 +1,9 @@
 //! The commands of the program, and what `clap` makes of its arguments.
 ghost use Rattle.std.specs.Prelude.{◌≡◌, IfOk, IfErr, false, map, option_map, true};
-ghost use Rattle.clap.specs.Words.{FailsBy, app_of, fields_of, first_of, found_of, kind_of, rows_of, rule_of};
+ghost use Rattle.clap.specs.Words.{FailsBy, app_of, first_of, found_of, kind_of, rows_of, rule_of};
 ghost use Rattle.clap.specs.declared.error.kind.ErrorKind.{ErrorKind};
-ghost use Rattle.mock_program.specs.Inner.Parser.{answers_to, asked_by, asked_in, asked_of, check_app, check_in};
-ghost use Rattle.mock_program.specs.Inner.Parser.{is_taken, mock_app, render_app, render_in, required_rule};
+ghost use Rattle.mock_program.specs.Inner.Parser.{answers_to, asked_by, asked_in, asked_of, check_in, is_taken};
+ghost use Rattle.mock_program.specs.Inner.Parser.{mock_app, render_in, required_rule};
 
 use clap::{Arg, ArgMatches, Command, Error};
 use std::alloc::{AllocError, Global};
@@ -101,21 +101,7 @@ fn value<'a>(arguments: &ArgMatches<'a>, id: &str) -> Option<&'a str>
 fn command<'a>(alloc: Global) -> Result<Command<'a>, AllocError>
     ensures { IfOk result (λ made. app_of made ≡ mock_app) }
 {
-    Command::new(alloc, "mock")
-        .version("1")
-        .about("A stub server for HTTP whose answers are proved")
-        .after_help(MOCK_HELP)
-        .subcommand_required(true)
-        .disable_help_subcommand(true)
-        .subcommand(render_command(alloc)?)?
-        .subcommand(check_command(alloc)?)
-}
-
-fn render_command<'a>(alloc: Global) -> Result<Command<'a>, AllocError>
-    ensures app { IfOk result (λ made. app_of made ≡ render_app) }
-    ensures local { IfOk result (λ made. (fields_of made).has_globals ≡ false) }
-{
-    Command::new(alloc, "render")
+    let render = Command::new(alloc, "render")
         .about("Renders a response template for a request without headers and body")
         .after_help(RENDER_HELP)
         .arg(required(
@@ -130,14 +116,8 @@ fn render_command<'a>(alloc: Global) -> Result<Command<'a>, AllocError>
             "url",
             "URL",
             "The request's target, as /hi/Ann?q=1 or http://host/hi/Ann",
-        ))
-}
-
-fn check_command<'a>(alloc: Global) -> Result<Command<'a>, AllocError>
-    ensures app { IfOk result (λ made. app_of made ≡ check_app) }
-    ensures local { IfOk result (λ made. (fields_of made).has_globals ≡ false) }
-{
-    Command::new(alloc, "check")
+        ))?;
+    let check = Command::new(alloc, "check")
         .about("Says which mappings of a file are taken, and what their templates may cost")
         .after_help(CHECK_HELP)
         .arg(required(
@@ -145,7 +125,15 @@ fn check_command<'a>(alloc: Global) -> Result<Command<'a>, AllocError>
             "file",
             "FILE",
             "A JSON file: a mapping, or an object with a list `mappings`",
-        ))
+        ))?;
+    Command::new(alloc, "mock")
+        .version("1")
+        .about("A stub server for HTTP whose answers are proved")
+        .after_help(MOCK_HELP)
+        .subcommand_required(true)
+        .disable_help_subcommand(true)
+        .subcommand(render)?
+        .subcommand(check)
 }
 
 fn required<'a>(alloc: Global, id: &'a str, name: &'a str, help: &'a str) -> Arg<'a>

@@ -1,4 +1,5 @@
 use Rattle.std.proofs.Common.{◌≡◌, refl, ap, ◌∙◌, [], ◌∷◌, sym, map, string_bytes, inl, inr, subst, Some}
+use Rattle.std.specs.Prelude.{option_map}
 use Rattle.std.proofs.lemmas.Option.{none-some, same_Some}
 use Rattle.clap.specs.Words.{HasKind, kind_of}
 use Rattle.mock_program.specs.CommandLine.{Asked}
@@ -18,7 +19,8 @@ returns-in-Ok-Some-clause-command g c = λ asked asks.
     ap (map (λ argument. argument.now)) c.as_slice.ensures.value ∙ c.in-Ok.ensures
     ∙ parser_arguments-asked (map string_bytes c.args.arguments.now) asked asks in
     let same : asked_of c.in-Ok-Some.call ≡ asked =
-    same_Some _ _ (c.in-Ok-Some.ensures.ok ∙ ap asked_by arguments ∙ asked_is_found asked) in
+    same_Some _ _ (sym (ap (option_map asked_of) c.in-Ok-Some.field-0-is) ∙ c.in-Ok-Some.ensures.ok
+    ∙ ap asked_by arguments ∙ asked_is_found asked) in
     subst (λ (a : Asked). Does g.O.Write.contents g.E.Write.contents _ a _ _ _ _ _) same c.run_call.ensures
 
 pub returns-in-Ok-None-clause-command : goal.returns-in-Ok-None-clause-command
@@ -26,7 +28,8 @@ returns-in-Ok-None-clause-command g c = λ asked asks.
     let arguments : map (λ argument. argument.now) c.as_slice.result.now ≡ arguments_of asked =
     ap (map (λ argument. argument.now)) c.as_slice.ensures.value ∙ c.in-Ok.ensures
     ∙ parser_arguments-asked (map string_bytes c.args.arguments.now) asked asks in
-    absurd (none-some asked (c.in-Ok-None.ensures.ok ∙ ap asked_by arguments ∙ asked_is_found asked))
+    absurd (none-some asked (sym (ap (option_map asked_of) c.in-Ok-None.field-0-is) ∙ c.in-Ok-None.ensures.ok
+    ∙ ap asked_by arguments ∙ asked_is_found asked))
 
 pub returns-clause-command : goal.returns-clause-command
 returns-clause-command g c = λ asked asks.

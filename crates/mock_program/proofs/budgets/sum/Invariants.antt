@@ -1,7 +1,7 @@
 -- What is added up and what is left give the whole.
 use Rattle.std.proofs.Common.{◌≡◌, ◌++◌, drop}
 use Rattle.template_code.specs.Bounds.{plus}
-use Rattle.mock_program.proofs.budgets.plus.Given as goal
+use Rattle.mock_program.proofs.budgets.sum.Given as goal
 
 abbrev pub invariant-loop-index : goal.invariant-loop-index
 invariant-loop-index l =
