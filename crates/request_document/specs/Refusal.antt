@@ -10,13 +10,16 @@ use Rattle.request_json.specs.RequestReading.{reading_of_request}
 use Rattle.request_document.specs.declared.error.RequestDocumentError.{RequestDocumentError}
 use Rattle.request_document.specs.declared.error.RequestDocumentError.TheVariants.{Document, Matcher, OutOfMemory}
 use Rattle.request_match.specs.Refusal.{IsRefusal}
+use Rattle.request_match.specs.declared.error.RequestMatchError.TheVariants as refusal
 use Rattle.serde_json.specs.Data.{Data}
 
 -- the bytes are a document whose numbers are taken, with this reading
 abbrev pub Spells : List ℕ → Reading RequestSpec → Type 0
 Spells text reading = (d : Data) × IsDocument text d × (taken d (reading_of_request d) ≡ reading)
 
+-- memory may run out at any moment, and that is no error of the matcher
 abbrev pub IsRefused : List ℕ → RequestDocumentError → Type 0
 IsRefused text (Document kind) = ((kind ≡ NotJson) × ((d : Data) → ¬ (IsDocument text d))) ⊎ Spells text (Wrong kind)
+IsRefused text (Matcher refusal.OutOfMemory) = ⊥
 IsRefused text (Matcher error) = (request : RequestSpec) × Spells text (Read request) × IsRefusal request error
 IsRefused text OutOfMemory = Unit {0}

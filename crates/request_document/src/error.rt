@@ -41,11 +41,14 @@ impl From<AllocError> for RequestDocumentError {
 }
 
 impl From<RequestMatchError> for RequestDocumentError {
-    ghost use Rattle.request_document.specs.declared.error.RequestDocumentError.TheVariants.{Matcher};
+    ghost use Rattle.request_document.specs.Errors.{error_of_matcher};
 
-    ghost from_gives = { λ given error. error ≡ Matcher given };
+    ghost from_gives = { λ given error. error ≡ error_of_matcher given };
 
     fn from(error: RequestMatchError) -> RequestDocumentError {
-        RequestDocumentError::Matcher(error)
+        match error {
+            RequestMatchError::OutOfMemory => RequestDocumentError::OutOfMemory,
+            error => RequestDocumentError::Matcher(error),
+        }
     }
 }

@@ -14,6 +14,7 @@ use request_match::request_matcher::RequestMatcher;
 use std::alloc::Global;
 
 /// The request matcher that a document is.
+#[tactic(auto, using(crate::proofs::ErrorLemmas::refused))]
 pub fn read_request(alloc: Global, text: &[u8]) -> Result<RequestMatcher, RequestDocumentError>
     ensures ok { IfOk result (λ matcher. Spells text.now (Read matcher)) }
     ensures usable { IfOk result CanBeBuilt }

@@ -1,0 +1,4 @@
+pub mod Zips
+pub mod ErrorLemmas
+pub mod Listed
+pub mod Joined

@@ -1,0 +1,74 @@
+-- Documents of several mappings: an object with a list `mappings`, whose other fields are ignored; any other object is one
+-- mapping.
+use Rattle.std.specs.Prelude.{◌≡◌, ◌≢◌, ◌⊎◌, ℕ, List, [], ◌∷◌, ◌++◌, length, Option, Some, None, Result, MatchResult, codes}
+use Rattle.std.specs.Prelude.{is_some, option_map, if◌then◌else◌}
+use Rattle.std.specs.List.{AllZip}
+use Rattle.json_reading.specs.Document.{IsDocument}
+use Rattle.json_reading.specs.declared.kind.Kind.TheVariants.{NotJson, Misshapen}
+use Rattle.mapping_json.specs.Spelling.{SpellsMapping, IsValueError, IsNoDocument}
+use Rattle.mapping_json.specs.declared.error.MappingError.{MappingError}
+use Rattle.mapping_json.specs.declared.error.MappingError.TheVariants.{Document, OutOfMemory}
+use Rattle.mapping_json.specs.declared.error.MappingsError.{MappingsError}
+use Rattle.mapping_model.specs.declared.mapping_spec.MappingSpec.{MappingSpec}
+use Rattle.serde_json.specs.Data.{Data, Items, no_items, item}
+use Rattle.serde_json.specs.Find.{as_array, as_object, get}
+
+abbrev pub list_of : Items → List Data
+list_of no_items = []
+list_of (item d ds) = d ∷ list_of ds
+
+abbrev pub listed : Data → Option Data → Option (List Data)
+listed whole None = Some (whole ∷ [])
+listed whole (Some d) = option_map list_of (as_array d)
+
+-- the values that are to be mappings
+unfoldable pub mappings_in : Data → Option (List Data)
+mappings_in d = if is_some (as_object d) then listed d (get (codes "mappings") d) else None
+
+-- the error of one of them; memory doesn't run out for one of them alone
+abbrev pub IsOwnError : Data → MappingError → Type 0
+IsOwnError d error = IsValueError d error × (error ≢ OutOfMemory)
+
+-- what is read of one of them: its mapping, or its error
+abbrev pub IsResultOf : Data → Result MappingSpec MappingError → Type 0
+IsResultOf d result = MatchResult result (SpellsMapping d) (IsOwnError d)
+
+-- the results of the values in the document
+abbrev pub AreResults : List ℕ → List (Result MappingSpec MappingError) → Type 0
+AreResults bytes results =
+    (d : Data) × (values : List Data) × IsDocument bytes d × (mappings_in d ≡ Some values)
+    × AllZip IsResultOf values results
+
+-- the document is no list of mappings
+abbrev pub IsOuterError : List ℕ → MappingError → Type 0
+IsOuterError bytes error =
+    ((error ≡ Document NotJson) × IsNoDocument bytes)
+    ⊎ ((error ≡ Document Misshapen) × ((d : Data) × IsDocument bytes d × (mappings_in d ≡ None)))
+    ⊎ (error ≡ OutOfMemory)
+
+-- each value in the document spells its mapping
+abbrev pub SpellMappings : List ℕ → List MappingSpec → Type 0
+SpellMappings bytes mappings =
+    (d : Data) × (values : List Data) × IsDocument bytes d × (mappings_in d ≡ Some values)
+    × AllZip SpellsMapping values mappings
+
+-- the values before the one at the index are mappings, and that one has the error
+pub record IsFirstRefused (bytes : List ℕ) (index : ℕ) (error : MappingError) : Type 0 where
+  pub d : Data
+  pub before : List Data
+  pub value : Data
+  pub after : List Data
+  pub mappings : List MappingSpec
+  pub document : IsDocument bytes d
+  pub values : mappings_in d ≡ Some (before ++ value ∷ after)
+  pub read : AllZip SpellsMapping before mappings
+  pub at : index ≡ length before
+  pub refused : IsOwnError value error
+
+abbrev pub IsErrorAt : List ℕ → Option ℕ → MappingError → Type 0
+IsErrorAt bytes None error = IsOuterError bytes error
+IsErrorAt bytes (Some index) error = IsFirstRefused bytes index error
+
+-- with an index the first value that is no mapping, and without one the document itself
+abbrev pub IsMappingsError : List ℕ → MappingsError → Type 0
+IsMappingsError bytes e = IsErrorAt bytes e.index e.error

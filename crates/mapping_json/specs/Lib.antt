@@ -1,0 +1,6 @@
+pub mod Errors
+pub mod Reading
+pub mod Spelling
+pub mod Documents
+pub mod Writing
+pub mod Inner

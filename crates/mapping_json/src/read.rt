@@ -1,0 +1,139 @@
+// From a document to mappings.
+ghost use Rattle.std.specs.Prelude.{◌≡◌, ◌∷◌, ◌++◌, [], Ok, map, IfOk, IfErr, OnOk};
+ghost use Rattle.std.specs.List.{AllZip};
+ghost use Rattle.mapping_json.specs.Documents.{AreResults, IsOuterError, SpellMappings, IsMappingsError, IsResultOf};
+ghost use Rattle.mapping_json.specs.Inner.Lists.{AreResultsOf, IsListError, IsFirstErr};
+ghost use Rattle.mapping_json.specs.Spelling.{SpellsDocument, IsDocumentError};
+ghost use Rattle.mapping_json.specs.declared.error.MappingError.TheVariants.{OutOfMemory};
+ghost use Rattle.serde_json.specs.View.{view};
+
+use crate::error::{MappingError, MappingsError};
+use crate::read_value::mapping_of;
+use json_reading::document::document_of;
+use json_reading::kind::Kind;
+use request_match::ready_mapping::ReadyMapping;
+use serde_json::Value;
+use std::alloc::{AllocError, Global};
+
+/// The mapping that a document is.
+pub fn read_mapping(alloc: Global, bytes: &[u8]) -> Result<ReadyMapping, MappingError>
+    ensures ok { IfOk result (SpellsDocument bytes.now) }
+    ensures error { IfErr result (IsDocumentError bytes.now) }
+{
+    match document_of(alloc, bytes)? {
+        Some(value) => mapping_of(alloc, &value),
+        None => Err(MappingError::Document(Kind::NotJson)),
+    }
+}
+
+/// What is read of each mapping of a document, which is an object with a list `mappings`, or one mapping. The outer
+/// error says that the document is neither, or that memory is out.
+pub fn read_each(
+    alloc: Global,
+    bytes: &[u8],
+) -> Result<Vec<Result<ReadyMapping, MappingError>>, MappingError>
+    ensures ok { IfOk result (λ results. AreResults bytes.now results.items) }
+    ensures error { IfErr result (IsOuterError bytes.now) }
+{
+    match document_of(alloc, bytes)? {
+        Some(value) => each_in(alloc, &value),
+        None => Err(MappingError::Document(Kind::NotJson)),
+    }
+}
+
+/// All mappings of a document, or the error of the first that is none, with its index. Without an index the document
+/// is no list of mappings, or memory is out.
+pub fn read_mappings(alloc: Global, bytes: &[u8]) -> Result<Vec<ReadyMapping>, MappingsError>
+    ensures ok { IfOk result (λ mappings. SpellMappings bytes.now mappings.items) }
+    ensures error { IfErr result (IsMappingsError bytes.now) }
+{
+    all_of(alloc, read_each(alloc, bytes)?)
+}
+
+#[tactic(auto, using(crate::proofs::Listed::no_object, crate::proofs::Listed::one_value, crate::proofs::Listed::many_values, crate::proofs::Listed::no_list))]
+fn each_in(
+    alloc: Global,
+    value: &Value,
+) -> Result<Vec<Result<ReadyMapping, MappingError>>, MappingError>
+    ensures ok { IfOk result (λ results. AreResultsOf (view value.now) results.items) }
+    ensures error { IfErr result (IsListError (view value.now)) }
+{
+    if !value.is_object() {
+        return Err(MappingError::Document(Kind::Misshapen));
+    }
+    let Some(mappings) = value.get("mappings") else {
+        return Ok(one_result(alloc, value)?);
+    };
+    match mappings.as_array() {
+        Some(values) => Ok(each_result(alloc, values)?),
+        None => Err(MappingError::Document(Kind::Misshapen)),
+    }
+}
+
+fn one_result(
+    alloc: Global,
+    value: &Value,
+) -> Result<Vec<Result<ReadyMapping, MappingError>>, AllocError>
+    ensures { IfOk result (λ results. AllZip IsResultOf (view value.now ∷ []) results.items) }
+{
+    let mut results = Vec::new(alloc);
+    results.push(result_of(alloc, value)?)?;
+    Ok(results)
+}
+
+fn each_result(
+    alloc: Global,
+    values: &Vec<Value>,
+) -> Result<Vec<Result<ReadyMapping, MappingError>>, AllocError>
+    ensures { IfOk result (λ results. AllZip IsResultOf (map view values.now.items) results.items) }
+{
+    let mut results = Vec::with_capacity(alloc, values.len())?;
+    for value in values {
+        results.push(result_of(alloc, value)?)?;
+    }
+    Ok(results)
+}
+
+/// What is read of a value. Where memory is out, it is for the whole document.
+fn result_of(alloc: Global, value: &Value) -> Result<Result<ReadyMapping, MappingError>, AllocError>
+    ensures { IfOk result (IsResultOf (view value.now)) }
+{
+    match mapping_of(alloc, value) {
+        Ok(mapping) => Ok(Ok(mapping)),
+        Err(MappingError::OutOfMemory) => Err(AllocError),
+        Err(error) => Ok(Err(error)),
+    }
+}
+
+/// The mappings, or the first error with its index.
+fn all_of(
+    alloc: Global,
+    results: Vec<Result<ReadyMapping, MappingError>>,
+) -> Result<Vec<ReadyMapping>, MappingsError>
+    ensures ok { IfOk result (λ mappings. results.items ≡ map Ok mappings.items) }
+    ensures error { IfErr result (IsFirstErr results.items) }
+{
+    let mut mappings = Vec::new(alloc);
+    for result in results {
+        match result {
+            Ok(mapping) => push(&mut mappings, mapping)?,
+            Err(error) => {
+                return Err(MappingsError {
+                    index: Some(mappings.len()),
+                    error,
+                });
+            }
+        }
+    }
+    Ok(mappings)
+}
+
+fn push(mappings: &mut Vec<ReadyMapping>, mapping: ReadyMapping) -> Result<(), MappingError>
+    ensures ok { OnOk result (mappings.new.items ≡ mappings.old.items ++ mapping ∷ []) }
+    ensures error { IfErr result (λ error. error ≡ OutOfMemory) }
+{
+    match mappings.push(mapping) {
+        Ok(()) => Ok(()),
+        Err(_error) => Err(MappingError::OutOfMemory),
+    }
+}
