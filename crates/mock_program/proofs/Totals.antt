@@ -3,7 +3,7 @@ use Rattle.std.proofs.Common.{◌≡◌, ℕ, zero, suc, ◌+◌, ◌*◌, ◌^�
 use Rattle.std.specs.Prelude.{decimal}
 use Rattle.std.specs.List.{AllZip}
 use Rattle.std.proofs.lemmas.List.{append-nil, map-append}
-use Rattle.std.proofs.lemmas.List.Elements.{AllZip-push}
+use Rattle.mapping_json.proofs.Zips.{zip_push}
 use Rattle.mock_program.specs.Checking.{IsBudgetLine, IsProgramOf}
 use Rattle.mock_program.specs.Inner.Totals.{AreTotals, IsWithin}
 use Rattle.mock_program.specs.Lines.{budget_line, numbers_text}
@@ -42,7 +42,7 @@ pub one_more : (templates : List (List ℕ)) (template steps bytes more_steps mo
     → AreTotals (templates ++ template ∷ []) more_steps more_bytes
 one_more templates template steps bytes more_steps more_bytes p totals source program steps_are bytes_are = record {
   programs = totals.programs ++ p ∷ [];
-  each = AllZip-push IsProgramOf templates totals.programs template p totals.each (source, program);
+  each = zip_push IsProgramOf templates totals.programs template p totals.each (source, program);
   steps_are = steps_are ∙ ap (λ s. plus s (as_printed (budget p.code).steps)) totals.steps_are
       ∙ sym (printed_more (λ (q : ProgramParts). (budget q.code).steps) totals.programs p);
   bytes_are = bytes_are ∙ ap (λ s. plus s (as_printed (budget p.code).bytes)) totals.bytes_are

@@ -32,7 +32,7 @@ pub(crate) fn total_of(
 {
     let total = total_of_lines(alloc, headers)?;
     match body {
-        Body::Text(template) => total_with(alloc, &total, template.program()),
+        Body::Text(template) => Ok(total_with(alloc, &total, template.program())?),
         Body::Empty | Body::Json(_) | Body::Base64(_) => Ok(total),
     }
 }

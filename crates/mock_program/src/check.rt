@@ -1,5 +1,6 @@
 //! `mock check`: which mappings of a document are taken, and the budgets of their templates.
-ghost use Rattle.std.specs.Prelude.{◌≡◌, ◌+◌, ◌++◌, IfOk, IfErr, if◌then◌else◌, string_bytes};
+ghost use Rattle.std.specs.Prelude.{◌≡◌, ◌+◌, ◌++◌, IfOk, IfErr, if◌then◌else◌, is_err, string_bytes};
+ghost use Rattle.std.specs.List.{list_any};
 ghost use Rattle.mock_program.specs.Checking.{AreLines, IsContentLine, IsLineOf, IsBudgetLine, IsReportOf};
 ghost use Rattle.mock_program.specs.Checking.{IsCheckError, Checks};
 ghost use Rattle.mock_program.specs.Commands.{ChecksFile, file_error_line};
@@ -39,8 +40,18 @@ pub fn check_document(alloc: Global, bytes: &[u8]) -> Result<Checked, CommandErr
     ensures error { IfErr result (IsCheckError bytes.now) }
 {
     let results = read_each(alloc, bytes)?;
+    Ok(checked(alloc, results.as_slice())?)
+}
+
+fn checked(
+    alloc: Global,
+    results: &[Result<ReadyMapping, MappingError>],
+) -> Result<Checked, AllocError>
+    ensures lines { IfOk result (λ checked. AreLines 1 results.now (string_bytes checked.text)) }
+    ensures refused { IfOk result (λ checked. checked.is_refused ≡ list_any is_err results.now) }
+{
     Ok(Checked {
-        text: lines(alloc, results.as_slice())?,
+        text: lines(alloc, results)?,
         is_refused: results.iter().any(|read| read.is_err()),
     })
 }

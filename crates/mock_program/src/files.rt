@@ -51,8 +51,13 @@ pub(crate) fn read_file<F: FileReader>(
     ensures err { IfErr result (IsFileError (F.content files.now path.now)) }
 {
     match files.read_at_most(alloc, path, FILE_LIMIT + 1) {
-        Ok(bytes) if bytes.len() as u64 <= FILE_LIMIT => Ok(bytes),
-        Ok(_) => Err(FileError::CannotRead),
+        Ok(bytes) => {
+            if bytes.len() as u64 <= FILE_LIMIT {
+                Ok(bytes)
+            } else {
+                Err(FileError::CannotRead)
+            }
+        }
         Err(error) => Err(match error.kind() {
             ErrorKind::OutOfMemory => FileError::OutOfMemory,
             _ => FileError::CannotRead,
