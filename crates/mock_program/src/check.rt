@@ -40,10 +40,10 @@ pub fn check_document(alloc: Global, bytes: &[u8]) -> Result<Checked, CommandErr
     ensures error { IfErr result (IsCheckError bytes.now) }
 {
     let results = read_each(alloc, bytes)?;
-    Ok(checked(alloc, results.as_slice())?)
+    Ok(report_of(alloc, results.as_slice())?)
 }
 
-fn checked(
+fn report_of(
     alloc: Global,
     results: &[Result<ReadyMapping, MappingError>],
 ) -> Result<Checked, AllocError>

@@ -6,10 +6,10 @@ use Rattle.mock_program.proofs.check.check_document.Goals as goal
 
 pub returns-clause-report : goal.returns-clause-report
 returns-clause-report c =
-    let done = c.in_ok-checked.field-0 in
+    let done = c.in_ok-report_of.field-0 in
     let same : c.as_slice.result.now ≡ c.in_ok-results.results.items = c.as_slice.ensures.value in (
       c.in_ok-results.results.items,
       c.in_ok-results.ensures.ok,
-      subst (λ rs. AreLines 1 rs (string_bytes done.text)) same c.in_ok-checked.ensures.lines,
-      c.in_ok-checked.ensures.refused ∙ ap (list_any is_err) same,
+      subst (λ rs. AreLines 1 rs (string_bytes done.text)) same c.in_ok-report_of.ensures.lines,
+      c.in_ok-report_of.ensures.refused ∙ ap (list_any is_err) same,
     )
