@@ -37,8 +37,8 @@ fn cells(
     Ok(cells)
 }
 
-fn cell(alloc: Global, result: &Result<ReadyMapping, MappingError>) -> Result<String, AllocError> {
-    match result {
+fn cell(alloc: Global, read: &Result<ReadyMapping, MappingError>) -> Result<String, AllocError> {
+    match read {
         Ok(mapping) => {
             let text = written(alloc, mapping)?;
             format!(in alloc; "\t{text}")

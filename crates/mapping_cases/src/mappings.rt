@@ -8,6 +8,7 @@ use mapping_json::error::MappingError;
 use mapping_json::read::read_mapping;
 use mapping_json::write::write_mapping;
 use request_match::ready_mapping::ReadyMapping;
+use serde_json::Value;
 use std::alloc::{AllocError, Global};
 
 /// The document.
@@ -26,17 +27,22 @@ pub fn of_bytes(alloc: Global, row: &Row) -> Result<String, AllocError> {
 
 /// The document, of which only the code is compared.
 pub fn code(alloc: Global, row: &Row) -> Result<String, AllocError> {
-    match read_mapping(alloc, row.cell(0).as_bytes()) {
+    match read(alloc, row.cell(0).as_bytes()) {
         Ok(_mapping) => String::from_str(alloc, "\ttaken"),
         Err(error) => refused(alloc, error),
     }
 }
 
+// In each of the functions below one mapping is dropped at most, at one place.
 fn answer(alloc: Global, bytes: &[u8]) -> Result<String, AllocError> {
-    match read_mapping(alloc, bytes) {
+    match read(alloc, bytes) {
         Ok(mapping) => written_twice(alloc, &mapping),
         Err(error) => refused(alloc, error),
     }
+}
+
+fn read(alloc: Global, bytes: &[u8]) -> Result<ReadyMapping, MappingError> {
+    read_mapping(alloc, bytes)
 }
 
 /// The cell of an error.
@@ -55,23 +61,43 @@ pub fn code_cell(alloc: Global, code: ErrorCode) -> Result<String, AllocError> {
 /// The cell of a mapping: its JSON, which reads back as a mapping with the same JSON.
 fn written_twice(alloc: Global, mapping: &ReadyMapping) -> Result<String, AllocError> {
     let text = written(alloc, mapping)?;
-    match read_mapping(alloc, text.as_bytes()) {
-        Ok(again) => {
-            let second = written(alloc, &again)?;
-            if second.as_str() == text.as_str() && again.spec().same(mapping.spec()) {
-                format!(in alloc; "\t{text}")
-            } else {
-                format!(in alloc; "\t{text} reads back as {second}")
-            }
-        }
-        Err(error) => {
-            let code = refused(alloc, error)?;
-            format!(in alloc; "\t{text} reads back as{code}")
-        }
+    let second = read_back(alloc, mapping, text.as_str())?;
+    if second.as_str() == text.as_str() {
+        format!(in alloc; "\t{text}")
+    } else {
+        format!(in alloc; "\t{text} reads back as {second}")
     }
+}
+
+// The JSON of the mapping that is read, or why it isn't the same.
+fn read_back(alloc: Global, mapping: &ReadyMapping, text: &str) -> Result<String, AllocError> {
+    match read(alloc, text.as_bytes()) {
+        Ok(again) => written_if_same(alloc, mapping, &again),
+        Err(error) => refused(alloc, error),
+    }
+}
+
+fn written_if_same(
+    alloc: Global,
+    mapping: &ReadyMapping,
+    again: &ReadyMapping,
+) -> Result<String, AllocError> {
+    if are_same(mapping, again) {
+        written(alloc, again)
+    } else {
+        String::from_str(alloc, "another mapping")
+    }
+}
+
+fn are_same(mapping: &ReadyMapping, again: &ReadyMapping) -> bool {
+    again.spec().same(mapping.spec())
 }
 
 /// The compact text of its JSON.
 pub fn written(alloc: Global, mapping: &ReadyMapping) -> Result<String, AllocError> {
-    write_mapping(alloc, mapping.spec())?.to_string(alloc)
+    write(alloc, mapping)?.to_string(alloc)
+}
+
+fn write(alloc: Global, mapping: &ReadyMapping) -> Result<Value, AllocError> {
+    write_mapping(alloc, mapping.spec())
 }
