@@ -1,4 +1,4 @@
-use Rattle.std.proofs.Common.{sym, subst}
+use Rattle.std.proofs.Common.{◌+◌, sym, subst}
 use Rattle.std.proofs.lemmas.Result.{IfOk-weaker}
 use Rattle.mock_program.specs.Inner.Totals.{IsWithin}
 use Rattle.mock_program.proofs.Totals.{plus-within}

@@ -2,8 +2,8 @@ use Rattle.mock_program.proofs.Totals.{one_more}
 use Rattle.response_json.specs.Draft.{values_of}
 use Rattle.mock_program.proofs.budgets.total_of.Goals as goal
 
-pub returns-in-Text : goal.returns-in-Text
-returns-in-Text c =
+pub returns-in_ok-total_with-in-Text : goal.returns-in_ok-total_with-in-Text
+returns-in_ok-total_with-in-Text c =
     let old = c.in_ok-total.total in
     let new = c.in_ok-total_with.field-0 in
     rw c.in-Text.is

@@ -6,6 +6,9 @@ use Rattle.mock_program.specs.CommandLine.{Asked}
 use Rattle.mock_program.specs.Commands.{Does}
 use Rattle.mock_program.specs.Inner.Arguments.{arguments_of, parser_arguments}
 use Rattle.mock_program.specs.Inner.Parser.{IsHelp, answers_to, asked_by, asked_of, is_taken}
+use Rattle.mock_program.specs.Lines.{error_line}
+use Rattle.mock_program.specs.Output.{AppendsFront}
+use Rattle.mock_program.specs.declared.error.CommandError.{CommandError}
 use Rattle.mock_program.proofs.CommandArguments.{parser_arguments-asked}
 use Rattle.mock_program.proofs.OneStream.{of_command}
 use Rattle.mock_program.proofs.Refused.{without_memory}
@@ -21,7 +24,8 @@ returns-in-Ok-Some-clause-command g c = λ asked asks.
     let same : asked_of c.in-Ok-Some.call ≡ asked =
     same_Some _ _ (sym (ap (option_map asked_of) c.in-Ok-Some.field-0-is) ∙ c.in-Ok-Some.ensures.ok
     ∙ ap asked_by arguments ∙ asked_is_found asked) in
-    subst (λ (a : Asked). Does g.O.Write.contents g.E.Write.contents _ a _ _ _ _ _) same c.run_call.ensures
+    subst (λ (a : Asked). Does g.O.Write.contents g.E.Write.contents (g.F.FileReader.content c.args.files.now) a
+    c.args.out.now c.run_call.new.out c.args.err.now c.run_call.new.err c.run_call.result) same c.run_call.ensures
 
 pub returns-in-Ok-None-clause-command : goal.returns-in-Ok-None-clause-command
 returns-in-Ok-None-clause-command g c = λ asked asks.
@@ -39,6 +43,15 @@ returns-clause-command g c = λ asked asks.
     let (one, as_reported, same) =
     c.write_parser_message.ensures.no_memory (c.in-Err.ensures.err (ap is_taken arguments ∙ asked_is_taken asked)) in
     without_memory _ _ _ asked _ _ _ _ _ one as_reported same
+
+-- where the arguments of the parser have no memory
+pub returns-in_default-clause-command : goal.returns-in_default-clause-command
+returns-in_default-clause-command g c = λ asked asks.
+    let shown =
+    subst (λ (e : CommandError). AppendsFront (g.E.Write.contents c.args.err.now) (g.E.Write.contents c.report.new.err)
+    (error_line e)) c.from.ensures c.report.ensures in
+    without_memory g.O.Write.contents g.E.Write.contents (g.F.FileReader.content c.args.files.now) asked c.args.out.now
+    c.args.out.now c.args.err.now c.report.new.err 1 refl shown refl
 
 pub returns-in-Ok-Some-clause-streams : goal.returns-in-Ok-Some-clause-streams
 returns-in-Ok-Some-clause-streams g c =

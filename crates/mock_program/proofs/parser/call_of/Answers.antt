@@ -1,7 +1,7 @@
-use Rattle.std.proofs.Common.{◌≡◌, List, refl, sym, ap, ◌∙◌}
-use Rattle.std.specs.Prelude.{option_and_then}
+use Rattle.std.proofs.Common.{◌≡◌, List, None, rules, refl, sym, ap, ◌∙◌}
+use Rattle.std.specs.Prelude.{option_and_then, option_map}
 use Rattle.std.proofs.lemmas.Result.{err_from_is_err_and}
-use Rattle.clap.specs.Words.{Row, Text, found_of, is_simple_and_free, rows_of}
+use Rattle.clap.specs.Words.{Row, Text, found_of, is_simple_and_free, rows_of, subcommand_name_of}
 use Rattle.mock_program.specs.Inner.Parser.{asked_in}
 use Rattle.mock_program.proofs.ParserAnswers.{answers_are, is_judged}
 use Rattle.mock_program.proofs.ParserCalls.{found_by, mock_is_simple, named_rows, no_rows, taken_by}
@@ -24,9 +24,12 @@ returns-in-Some-clause-ok c =
 
 pub returns-clause-ok : goal.returns-clause-ok
 returns-clause-ok c =
+    let none : c.subcommand.result ≡ None = search rules in
+    let unnamed : None ≡ subcommand_name_of c.in_ok-matches.matches =
+    sym (ap (option_map (λ p. p.0.now)) none) ∙ c.subcommand.ensures.name in
     let entered = (c.in_ok-matches.ensures.matches (mock_is_simple _ c.in_ok-command.ensures)).1 in
     ap (option_and_then (λ (p : Text × List Row). asked_in p.0 p.1))
-    (sym (no_rows c.in_ok-matches.matches c.subcommand.ensures.name) ∙ entered)
+    (sym (no_rows c.in_ok-matches.matches unnamed) ∙ entered)
     ∙ found_by _ _ c.in_ok-command.ensures
 
 pub returns-in_err-matches-clause-kinds : goal.returns-in_err-matches-clause-kinds
