@@ -1,5 +1,5 @@
-//! The program: it hands its arguments and its standard streams to `mock_program`, and ends with the exit status that
-//! comes back.
+//! The program: it hands its arguments, the file system and its standard streams to `mock_program`, and ends with the
+//! exit status that comes back.
 #![tactic(auto)]
 
 use mock_program::arguments::report_unreadable;
@@ -11,6 +11,7 @@ fn main(rt: HostRuntime) -> ExitCode {
     ExitCode::from(match arguments(&rt) {
         Ok(arguments) => run(
             rt.alloc(),
+            &rt,
             arguments.as_slice(),
             &mut rt.stdout(),
             &mut rt.stderr(),

@@ -1,27 +1,66 @@
--- A rendering leaves one of both writers as it was.
-use Rattle.std.proofs.Common.{ℕ, List, Option, inl, inr, arith}
+-- A command leaves one of both writers as it was.
+use Rattle.std.proofs.Common.{◌≡◌, ◌⊎◌, ℕ, List, Option, inl, inr, arith, Bool, true, false, if◌then◌else◌}
+use Rattle.mock_program.specs.Checking.{Checks}
+use Rattle.mock_program.specs.CommandLine.{Asked, render, check}
+use Rattle.mock_program.specs.Commands.{ChecksFile, Does}
 use Rattle.mock_program.specs.Output.{WritesOneStream}
 use Rattle.mock_program.specs.Rendering.{Renders}
 
 module _ {O E : Type 0} (out_holds : O → Option (List ℕ)) (err_holds : E → Option (List ℕ)) where
-  pub of_rendering : (template method target : List ℕ) (out out' : O) (err err' : E) (status : ℕ)
-      → Renders out_holds err_holds template method target out out' err err' status
+  of_output : (out out' : O) (err err' : E) (status : ℕ) → status ≡ 0 ⊎ status ≡ 1 → err' ≡ err
       → WritesOneStream out out' err err' status
-  of_rendering template method target out out' err err' status (inl (zero, shown, same)) = record {
-    range = omega arith;
+  of_output out out' err err' status either same = record {
+    range = elim either [ inl zero ↦ omega arith | inr one ↦ omega arith ];
     success = λ _. same;
-    invalid = λ two. absurd (omega arith);
+    invalid = λ two. elim either [ inl zero ↦ absurd (omega arith) | inr one ↦ absurd (omega arith) ];
     one_of_both = inr same;
   }
-  of_rendering template method target out out' err err' status (inr (inl (one, as_reported, same))) = record {
+
+  of_error : (out out' : O) (err err' : E) (status : ℕ) → status ≡ 1 → out' ≡ out
+      → WritesOneStream out out' err err' status
+  of_error out out' err err' status one same = record {
     range = omega arith;
     success = λ zero. absurd (omega arith);
     invalid = λ _. same;
     one_of_both = inl same;
   }
-  of_rendering template method target out out' err err' status (inr (inr (one, begun, same))) = record {
-    range = omega arith;
-    success = λ _. same;
-    invalid = λ two. absurd (omega arith);
-    one_of_both = inr same;
-  }
+
+  of_rendering : (template method target : List ℕ) (out out' : O) (err err' : E) (status : ℕ)
+      → Renders out_holds err_holds template method target out out' err err' status
+      → WritesOneStream out out' err err' status
+  of_rendering template method target out out' err err' status (inl (zero, shown, same)) =
+      of_output out out' err err' status (inl zero) same
+  of_rendering template method target out out' err err' status (inr (inl (one, as_reported, same))) =
+      of_error out out' err err' status one same
+  of_rendering template method target out out' err err' status (inr (inr (one, begun, same))) =
+      of_output out out' err err' status (inr one) same
+
+  zero_or_one : (refused : Bool) (status : ℕ) → status ≡ (if refused then 1 else 0) → status ≡ 0 ⊎ status ≡ 1
+  zero_or_one true status is = inr is
+  zero_or_one false status is = inl is
+
+  of_checking : (bytes : List ℕ) (out out' : O) (err err' : E) (status : ℕ)
+      → Checks out_holds err_holds bytes out out' err err' status
+      → WritesOneStream out out' err err' status
+  of_checking bytes out out' err err' status (inl ((text, refused, report, written, is), same)) =
+      of_output out out' err err' status (zero_or_one refused status is) same
+  of_checking bytes out out' err err' status (inr (inl (one, as_reported, same))) =
+      of_error out out' err err' status one same
+  of_checking bytes out out' err err' status (inr (inr (one, begun, same))) =
+      of_output out out' err err' status (inr one) same
+
+  of_file : (known : Option (List ℕ)) (path : List ℕ) (out out' : O) (err err' : E) (status : ℕ)
+      → ChecksFile out_holds err_holds known path out out' err err' status
+      → WritesOneStream out out' err err' status
+  of_file known path out out' err err' status (inl (bytes, file, checked)) =
+      of_checking bytes out out' err err' status checked
+  of_file known path out out' err err' status (inr (error, is, one, as_reported, same)) =
+      of_error out out' err err' status one same
+
+  pub of_command : (files : List ℕ → Option (List ℕ)) (asked : Asked) (out out' : O) (err err' : E) (status : ℕ)
+      → Does out_holds err_holds files asked out out' err err' status
+      → WritesOneStream out out' err err' status
+  of_command files (render template method target) out out' err err' status done =
+      of_rendering template method target out out' err err' status done
+  of_command files (check path) out out' err err' status done =
+      of_file (files path) path out out' err err' status done

@@ -1,4 +1,4 @@
--- What the parser makes of arguments that ask for no rendering.
+-- What the parser makes of arguments that ask for no command.
 use Rattle.std.proofs.Common.{◌≡◌, ◌≢◌, ◌⊎◌, ◌==◌, ℕ, Bool, true, false, List, [], ◌∷◌, length, codes, Option, Some}
 use Rattle.std.proofs.Common.{None, ◌||◌, if◌then◌else◌, refl, sym, ap, ap₂, ◌∙◌, inl, inr, is_some}
 use Rattle.std.specs.Prelude.{◌&&◌, option_and_then, option_map}
@@ -27,9 +27,9 @@ answers_are a arguments e = ap (λ (m : App). fault_of m arguments) (sym e)
 abbrev app : App
 app = built mock_app
 
--- where the walk over the arguments of the program ends, which come to `render`
-abbrev at_render : List Text → Walk
-at_render arguments = record (walk_from nothing_held) { stopped = Some (codes "render", arguments) }
+-- where the walk over the arguments of the program ends, which come to a command
+abbrev at : Text → List Text → Walk
+at name arguments = record (walk_from nothing_held) { stopped = Some (name, arguments) }
 
 -- the fault after a walk that found none, by where it ended
 abbrev below : Walk → Kinds
@@ -72,10 +72,11 @@ first_fault argument met = or_else (other_fault app.top met argument nothing_hel
     (subcommand_or_other app.top.rules met idle 1 argument nothing_held).1)
 
 names_none : (argument : Text) → bytes_eq (codes "render") argument ≡ false
-    → subcommand_met (names_of app) idle argument ≡ None
-names_none argument other =
-    ap (λ (t : Bool). option_map (λ (s : Text × List Text). s.0)
-    (if t || false then Some (codes "render", []) else None)) other
+    → bytes_eq (codes "check") argument ≡ false → subcommand_met (names_of app) idle argument ≡ None
+names_none argument no_render no_check =
+    ap₂ (λ (t u : Bool). option_map (λ (s : Text × List Text). s.0)
+    (if t || false then Some (codes "render", []) else (if u || false then Some (codes "check", []) else None)))
+    no_render no_check
 
 -- the same, by whether the argument is two dashes, and by what it is as a long flag
 abbrev flag_fault : Text → Bool → Option (Text × Option Text) → Kinds
@@ -107,25 +108,33 @@ is_stray c cs dash =
     ap₂ (flag_fault (c ∷ cs)) dashes long ∙ ap (bundle_fault_of (c ∷ cs)) short
 
 pub other_command : (c : ℕ) (cs : List ℕ) (rest : List Text) → bytes_eq (codes "render") (c ∷ cs) ≡ false
-    → c == 45 ≡ false
+    → bytes_eq (codes "check") (c ∷ cs) ≡ false → c == 45 ≡ false
     → fault_of mock_app (codes "mock" ∷ (c ∷ cs) ∷ rest) ≡ kind.UnknownArgument ∷ kind.InvalidSubcommand ∷ []
 unfolding clap_on_literals
-other_command c cs rest other dash =
+other_command c cs rest no_render no_check dash =
     ap (λ (k : Kinds). or_else
     (or_else k (walk_fault app.top (names_of app)
     (walked app.top.rules (names_of app) (walk_from nothing_held) (c ∷ cs)) rest))
     (below (walk app.top.rules (names_of app) nothing_held ((c ∷ cs) ∷ rest))))
-    (ap (first_fault (c ∷ cs)) (names_none (c ∷ cs) other) ∙ is_stray c cs dash)
+    (ap (first_fault (c ∷ cs)) (names_none (c ∷ cs) no_render no_check) ∙ is_stray c cs dash)
 
--- ---- arguments of `render`
+-- ---- arguments of a command
 
 of_render : (arguments : List Text)
-    → fault_of mock_app (codes "mock" ∷ codes "render" ∷ arguments) ≡ below (at_render arguments)
+    → fault_of mock_app (codes "mock" ∷ codes "render" ∷ arguments) ≡ below (at (codes "render") arguments)
 unfolding clap_on_literals
 of_render arguments =
     ap₂ (λ (k : Kinds) (end : Walk). or_else k (below end))
     (stopped_fault app.top (names_of app) (walk_from nothing_held) (codes "render", []) arguments)
     (sym (walk_stopped app.top.rules (names_of app) (walk_from nothing_held) (codes "render") [] arguments))
+
+of_check : (arguments : List Text)
+    → fault_of mock_app (codes "mock" ∷ codes "check" ∷ arguments) ≡ below (at (codes "check") arguments)
+unfolding clap_on_literals
+of_check arguments =
+    ap₂ (λ (k : Kinds) (end : Walk). or_else k (below end))
+    (stopped_fault app.top (names_of app) (walk_from nothing_held) (codes "check", []) arguments)
+    (sym (walk_stopped app.top.rules (names_of app) (walk_from nothing_held) (codes "check") [] arguments))
 
 pub help_of_render : (rest : List Text)
     → fault_of mock_app (codes "mock" ∷ codes "render" ∷ codes "--help" ∷ rest) ≡ kind.DisplayHelp ∷ []
@@ -137,16 +146,40 @@ pub short_help_of_render : (rest : List Text)
 unfolding clap_on_literals
 short_help_of_render rest = of_render (codes "-h" ∷ rest)
 
-pub nothing_given : fault_of mock_app (codes "mock" ∷ codes "render" ∷ []) ≡ kind.MissingRequiredArgument ∷ []
+pub help_of_check : (rest : List Text)
+    → fault_of mock_app (codes "mock" ∷ codes "check" ∷ codes "--help" ∷ rest) ≡ kind.DisplayHelp ∷ []
 unfolding clap_on_literals
-nothing_given = refl
+help_of_check rest = of_check (codes "--help" ∷ rest)
 
-pub too_few_or_many : (given : List Text) → length given ≢ 3
-    → (fault_of mock_app (codes "mock" ∷ codes "render" ∷ codes "--" ∷ given) ≡ kind.MissingRequiredArgument ∷ [])
-    ⊎ (fault_of mock_app (codes "mock" ∷ codes "render" ∷ codes "--" ∷ given) ≡ kind.UnknownArgument ∷ [])
+pub short_help_of_check : (rest : List Text)
+    → fault_of mock_app (codes "mock" ∷ codes "check" ∷ codes "-h" ∷ rest) ≡ kind.DisplayHelp ∷ []
 unfolding clap_on_literals
-too_few_or_many [] count = inl refl
-too_few_or_many (a ∷ []) count = inl refl
-too_few_or_many (a ∷ b ∷ []) count = inl refl
-too_few_or_many (a ∷ b ∷ c ∷ []) count = absurd (count refl)
-too_few_or_many (a ∷ b ∷ c ∷ d ∷ rest) count = inr (of_render (codes "--" ∷ a ∷ b ∷ c ∷ d ∷ rest))
+short_help_of_check rest = of_check (codes "-h" ∷ rest)
+
+pub nothing_to_render : fault_of mock_app (codes "mock" ∷ codes "render" ∷ []) ≡ kind.MissingRequiredArgument ∷ []
+unfolding clap_on_literals
+nothing_to_render = refl
+
+pub nothing_to_check : fault_of mock_app (codes "mock" ∷ codes "check" ∷ []) ≡ kind.MissingRequiredArgument ∷ []
+unfolding clap_on_literals
+nothing_to_check = refl
+
+-- an argument is missing, or one is too many
+abbrev pub IsMiscounted : Kinds → Type 0
+IsMiscounted kinds = (kinds ≡ kind.MissingRequiredArgument ∷ []) ⊎ (kinds ≡ kind.UnknownArgument ∷ [])
+
+pub miscounted_render : (given : List Text) → length given ≢ 3
+    → IsMiscounted (fault_of mock_app (codes "mock" ∷ codes "render" ∷ codes "--" ∷ given))
+unfolding clap_on_literals
+miscounted_render [] count = inl refl
+miscounted_render (a ∷ []) count = inl refl
+miscounted_render (a ∷ b ∷ []) count = inl refl
+miscounted_render (a ∷ b ∷ c ∷ []) count = absurd (count refl)
+miscounted_render (a ∷ b ∷ c ∷ d ∷ rest) count = inr (of_render (codes "--" ∷ a ∷ b ∷ c ∷ d ∷ rest))
+
+pub miscounted_check : (given : List Text) → length given ≢ 1
+    → IsMiscounted (fault_of mock_app (codes "mock" ∷ codes "check" ∷ codes "--" ∷ given))
+unfolding clap_on_literals
+miscounted_check [] count = inl refl
+miscounted_check (a ∷ []) count = absurd (count refl)
+miscounted_check (a ∷ b ∷ rest) count = inr (of_check (codes "--" ∷ a ∷ b ∷ rest))

@@ -2,16 +2,18 @@
 use Rattle.std.proofs.Common.{◌≡◌, ◌≢◌, ◌<◌, ◌==◌, ℕ, false, List, [], ◌∷◌, ◌++◌, length, codes, refl, sym, ap, ◌∙◌}
 use Rattle.std.proofs.Common.{inl, inr, subst, arith}
 use Rattle.std.proofs.lemmas.Bool.Decides.{eqb_tells}
+use Rattle.std.specs.Str.{bytes_eq}
 use Rattle.clap.specs.Words.{IsAmong, Kinds, Text, fault_of}
 use Rattle.clap.specs.declared.error.kind.ErrorKind.{ErrorKind}
 use Rattle.clap.specs.declared.error.kind.ErrorKind.TheVariants as kind
 use Rattle.mock_program.specs.Inner.Parser.{IsHelp, answers_to, mock_app}
-use Rattle.mock_program.specs.CommandLine.{AreInvalid, BeginsWithDash, CallsForHelp, GivesRender, IsHelpFlag}
+use Rattle.mock_program.specs.CommandLine.{AreInvalid, BeginsWithDash, CallsForHelp, Gives, IsCommand, IsHelpFlag}
 use Rattle.mock_program.specs.Inner.Arguments.{delimiter, parser_arguments}
-use Rattle.mock_program.proofs.RenderArguments.{differs, is_no_flag}
-use Rattle.mock_program.proofs.ParserAnswers.{answers_are, empty_command, help_of_mock, help_of_render, no_command}
-use Rattle.mock_program.proofs.ParserAnswers.{nothing_given, other_command, short_help_of_mock}
-use Rattle.mock_program.proofs.ParserAnswers.{short_help_of_render, too_few_or_many, version_of_mock}
+use Rattle.mock_program.proofs.CommandArguments.{differs, is_no_flag}
+use Rattle.mock_program.proofs.ParserAnswers.{IsMiscounted, answers_are, empty_command, help_of_check, help_of_mock}
+use Rattle.mock_program.proofs.ParserAnswers.{help_of_render, miscounted_check, miscounted_render, no_command}
+use Rattle.mock_program.proofs.ParserAnswers.{nothing_to_check, nothing_to_render, other_command, short_help_of_check}
+use Rattle.mock_program.proofs.ParserAnswers.{short_help_of_mock, short_help_of_render, version_of_mock}
 
 -- what the parser makes of the arguments that it is given for these
 abbrev fault : List Text → Kinds
@@ -35,12 +37,24 @@ help_of flag rest (inl short) =
 help_of flag rest (inr long) =
     ap (λ (f : Text). fault (codes "mock" ∷ f ∷ rest)) long ∙ help_of_mock (delimiter rest ++ rest)
 
-render_help_of : (flag : Text) (rest : List Text) → IsHelpFlag flag
-    → fault (codes "mock" ∷ codes "render" ∷ flag ∷ rest) ≡ kind.DisplayHelp ∷ []
-render_help_of flag rest (inl short) =
-    ap (λ (f : Text). fault (codes "mock" ∷ codes "render" ∷ f ∷ rest)) short ∙ short_help_of_render rest
-render_help_of flag rest (inr long) =
-    ap (λ (f : Text). fault (codes "mock" ∷ codes "render" ∷ f ∷ rest)) long ∙ help_of_render rest
+-- help of a command, where its two flags give it
+command_help_of : (name flag : Text) (rest : List Text) → IsHelpFlag flag
+    → fault (codes "mock" ∷ name ∷ codes "-h" ∷ rest) ≡ kind.DisplayHelp ∷ []
+    → fault (codes "mock" ∷ name ∷ codes "--help" ∷ rest) ≡ kind.DisplayHelp ∷ []
+    → fault (codes "mock" ∷ name ∷ flag ∷ rest) ≡ kind.DisplayHelp ∷ []
+command_help_of name flag rest (inl short) by_short by_long =
+    ap (λ (f : Text). fault (codes "mock" ∷ name ∷ f ∷ rest)) short ∙ by_short
+command_help_of name flag rest (inr long) by_short by_long =
+    ap (λ (f : Text). fault (codes "mock" ∷ name ∷ f ∷ rest)) long ∙ by_long
+
+help_at : (name flag : Text) (count : ℕ) (rest : List Text) → IsCommand name count → IsHelpFlag flag
+    → fault (codes "mock" ∷ name ∷ flag ∷ rest) ≡ kind.DisplayHelp ∷ []
+help_at name flag count rest (inl render) help =
+    ap (λ (n : Text). fault (codes "mock" ∷ n ∷ flag ∷ rest)) render.0
+    ∙ command_help_of (codes "render") flag rest help (short_help_of_render rest) (help_of_render rest)
+help_at name flag count rest (inr check) help =
+    ap (λ (n : Text). fault (codes "mock" ∷ n ∷ flag ∷ rest)) check.0
+    ∙ command_help_of (codes "check") flag rest help (short_help_of_check rest) (help_of_check rest)
 
 by_help : (arguments : List Text) → CallsForHelp arguments → FailsByHelp (fault arguments)
 by_help arguments (program, flag, rest, inl (inl help, is)) =
@@ -51,8 +65,8 @@ by_help arguments (program, flag, rest, inl (inr version, is)) = (
   ap fault (is ∙ ap (λ (f : Text). program ∷ f ∷ rest) version) ∙ version_of_mock
       (delimiter rest ++ rest),
 )
-by_help arguments (program, flag, rest, inr (help, is)) =
-    (kind.DisplayHelp, inl refl, ap fault is ∙ render_help_of flag rest help)
+by_help arguments (program, flag, rest, inr (help, (name, count, command, is))) =
+    (kind.DisplayHelp, inl refl, ap fault is ∙ help_at name flag count rest command help)
 
 pub fails_by_help : (arguments : List Text) → CallsForHelp arguments
     → FailsByHelp (answers_to (parser_arguments arguments))
@@ -110,45 +124,61 @@ begins_otherwise c cs plain = elim (eqb_tells c 45) [
   | inr other ↦ other.0
 ]
 
-other_argument : (program command : Text) (rest : List Text) → command ≢ codes "render" → ¬ (BeginsWithDash command)
-    → FailsByMistake (fault (program ∷ command ∷ rest))
-other_argument program [] rest other plain =
+no_command_named : (name other : Text) → ((count : ℕ) → ¬ (IsCommand name count)) → (count : ℕ)
+    → (name ≡ other → IsCommand name count) → bytes_eq other name ≡ false
+no_command_named name other none count is = differs other name (λ e. none count (is (sym e)))
+
+other_argument : (program name : Text) (rest : List Text) → ((count : ℕ) → ¬ (IsCommand name count))
+    → ¬ (BeginsWithDash name) → FailsByMistake (fault (program ∷ name ∷ rest))
+other_argument program [] rest none plain =
     subst FailsByMistake (sym (empty_command (delimiter rest ++ rest))) stray_argument
-other_argument program (c ∷ cs) rest other plain =
+other_argument program (c ∷ cs) rest none plain =
     subst FailsByMistake
-    (sym (other_command c cs (delimiter rest ++ rest) (differs (codes "render") (c ∷ cs) (λ e. other (sym e)))
+    (sym (other_command c cs (delimiter rest ++ rest)
+    (no_command_named (c ∷ cs) (codes "render") none 3 (λ e. inl (e, refl)))
+    (no_command_named (c ∷ cs) (codes "check") none 1 (λ e. inr (e, refl)))
     (begins_otherwise c cs plain))) stray_argument
 
-miscounted : (given : List Text) → length given ≢ 3
-    → FailsByMistake (fault_of mock_app (codes "mock" ∷ codes "render" ∷ codes "--" ∷ given))
-miscounted given count = elim (too_few_or_many given count) [
-  | inl few ↦ subst FailsByMistake (sym few) missing_argument
-  | inr many ↦ subst FailsByMistake (sym many) one_argument_more
-]
+by_count : (kinds : Kinds) → IsMiscounted kinds → FailsByMistake kinds
+by_count kinds (inl few) = subst FailsByMistake (sym few) missing_argument
+by_count kinds (inr many) = subst FailsByMistake (sym many) one_argument_more
 
 too_short : (arguments : List Text) → length arguments < 2 → FailsByMistake (fault arguments)
 too_short [] short = subst FailsByMistake (sym no_command) missing_command
 too_short (a ∷ []) short = subst FailsByMistake (sym no_command) missing_command
 too_short (a ∷ b ∷ rest) short = absurd (omega arith)
 
-render_fails : (arguments given : List Text) → GivesRender arguments given → length given ≢ 3
+-- a command, where it is refused after a `--`, and without arguments
+command_fails : (arguments : List Text) (name : Text) (given : List Text) → Gives arguments name given
+    → IsMiscounted (fault_of mock_app (codes "mock" ∷ name ∷ codes "--" ∷ given))
+    → fault_of mock_app (codes "mock" ∷ name ∷ []) ≡ kind.MissingRequiredArgument ∷ []
     → FailsByMistake (fault arguments)
-render_fails arguments [] (program, inl (plain, is)) count =
-    subst FailsByMistake (sym (ap fault is ∙ nothing_given)) missing_argument
-render_fails arguments (argument ∷ given) (program, inl (plain, is)) count =
+command_fails arguments name [] (program, inl (plain, is)) miscounted nothing =
+    subst FailsByMistake (sym (ap fault is ∙ nothing)) missing_argument
+command_fails arguments name (argument ∷ given) (program, inl (plain, is)) miscounted nothing =
     let marks : delimiter (argument ∷ given) ≡ codes "--" ∷ [] = rw (is_no_flag argument plain) refl in
     subst FailsByMistake
     (sym (ap fault is ∙ ap
-    (λ (m : List Text). fault_of mock_app (codes "mock" ∷ codes "render" ∷ (m ++ argument ∷ given))) marks))
-    (miscounted (argument ∷ given) count)
-render_fails arguments given (program, inr is) count =
-    subst FailsByMistake (sym (ap fault is)) (miscounted given count)
+    (λ (m : List Text). fault_of mock_app (codes "mock" ∷ name ∷ (m ++ argument ∷ given))) marks))
+    (by_count _ miscounted)
+command_fails arguments name given (program, inr is) miscounted nothing =
+    subst FailsByMistake (sym (ap fault is)) (by_count _ miscounted)
+
+miscounted_at : (arguments : List Text) (name : Text) (count : ℕ) (given : List Text) → IsCommand name count
+    → Gives arguments name given → length given ≢ count → FailsByMistake (fault arguments)
+miscounted_at arguments name count given (inl (render, three)) gives wrong =
+    command_fails arguments (codes "render") given (subst (λ n. Gives arguments n given) render gives)
+    (miscounted_render given (λ e. wrong (e ∙ sym three))) nothing_to_render
+miscounted_at arguments name count given (inr (check, one)) gives wrong =
+    command_fails arguments (codes "check") given (subst (λ n. Gives arguments n given) check gives)
+    (miscounted_check given (λ e. wrong (e ∙ sym one))) nothing_to_check
 
 by_mistake : (arguments : List Text) → AreInvalid arguments → FailsByMistake (fault arguments)
 by_mistake arguments (inl short) = too_short arguments short
-by_mistake arguments (inr (inl (program, command, rest, is, other, plain))) =
-    subst FailsByMistake (sym (ap fault is)) (other_argument program command rest other plain)
-by_mistake arguments (inr (inr (given, gives, count))) = render_fails arguments given gives count
+by_mistake arguments (inr (inl (program, name, rest, is, none, plain))) =
+    subst FailsByMistake (sym (ap fault is)) (other_argument program name rest none plain)
+by_mistake arguments (inr (inr (name, count, given, command, gives, wrong))) =
+    miscounted_at arguments name count given command gives wrong
 
 pub fails_by_mistake : (arguments : List Text) → AreInvalid arguments
     → FailsByMistake (answers_to (parser_arguments arguments))

@@ -1,8 +1,28 @@
--- Which arguments of the command line ask for a rendering, which call for help and which are invalid. The first of
--- them is the program's name.
+-- Which arguments of the command line ask for which command, which call for help and which are invalid. The first of them
+-- is the program's name.
 use Rattle.std.specs.Prelude.{◌≡◌, ◌≢◌, ◌⊎◌, ◌<◌, ⊤, ℕ, List, [], ◌∷◌, ◌++◌, length, codes}
 
--- an argument that is a template where a template is expected: no call for help, and not the end of the flags
+-- a command with its arguments
+pub data Asked : Type 0 where
+  -- `render TEMPLATE METHOD URL`
+  render : List ℕ → List ℕ → List ℕ → Asked
+  -- `check FILE`
+  check : List ℕ → Asked
+
+abbrev pub name_of : Asked → List ℕ
+name_of (render template method target) = codes "render"
+name_of (check file) = codes "check"
+
+abbrev pub given_to : Asked → List (List ℕ)
+given_to (render template method target) = template ∷ method ∷ target ∷ []
+given_to (check file) = file ∷ []
+
+-- a command's name, and how many arguments it has
+abbrev pub IsCommand : List ℕ → ℕ → Type 0
+IsCommand name count = ((name ≡ codes "render") × (count ≡ 3)) ⊎ ((name ≡ codes "check") × (count ≡ 1))
+
+-- an argument that is taken as it is where a command's first one is expected: no call for help, and not the end of the
+-- flags
 abbrev pub IsPlainArgument : List ℕ → Type 0
 IsPlainArgument argument = (argument ≢ codes "-h") × (argument ≢ codes "--help") × (argument ≢ codes "--")
 
@@ -11,36 +31,37 @@ abbrev pub BeginsPlain : List (List ℕ) → Type 0
 BeginsPlain [] = ⊤
 BeginsPlain (first ∷ rest) = IsPlainArgument first
 
--- `PROGRAM render GIVEN..`, where each of the given arguments is taken as it is; after a `--` the first may be any
-abbrev pub GivesRender : List (List ℕ) → List (List ℕ) → Type 0
-GivesRender arguments given = (program : List ℕ)
-    × ((BeginsPlain given × (arguments ≡ program ∷ codes "render" ∷ given))
-    ⊎ (arguments ≡ program ∷ codes "render" ∷ codes "--" ∷ given))
+-- `PROGRAM NAME GIVEN..`, where each of the given arguments is taken as it is; after a `--` the first may be any
+abbrev pub Gives : List (List ℕ) → List ℕ → List (List ℕ) → Type 0
+Gives arguments name given = (program : List ℕ)
+    × ((BeginsPlain given × (arguments ≡ program ∷ name ∷ given))
+    ⊎ (arguments ≡ program ∷ name ∷ codes "--" ∷ given))
 
--- `PROGRAM render TEMPLATE METHOD URL`
-abbrev pub AsksFor : List (List ℕ) → List ℕ → List ℕ → List ℕ → Type 0
-AsksFor arguments template method target = GivesRender arguments (template ∷ method ∷ target ∷ [])
+abbrev pub AsksFor : List (List ℕ) → Asked → Type 0
+AsksFor arguments asked = Gives arguments (name_of asked) (given_to asked)
 
 abbrev pub IsHelpFlag : List ℕ → Type 0
 IsHelpFlag argument = (argument ≡ codes "-h") ⊎ (argument ≡ codes "--help")
 
--- help of the program or its version, or help of `render`, whatever follows
+-- help of the program or its version, or help of a command, whatever follows
 abbrev pub CallsForHelp : List (List ℕ) → Type 0
 CallsForHelp arguments = (program flag : List ℕ) × (rest : List (List ℕ))
     × (((IsHelpFlag flag ⊎ (flag ≡ codes "--version")) × (arguments ≡ program ∷ flag ∷ rest))
-    ⊎ (IsHelpFlag flag × (arguments ≡ program ∷ codes "render" ∷ flag ∷ rest)))
+    ⊎ (IsHelpFlag flag × ((name : List ℕ) × (count : ℕ) × IsCommand name count
+    × (arguments ≡ program ∷ name ∷ flag ∷ rest))))
 
 abbrev pub BeginsWithDash : List ℕ → Type 0
 BeginsWithDash argument = (rest : List ℕ) × (argument ≡ codes "-" ++ rest)
 
 -- the argument after the program's name is neither a command nor a flag
 abbrev pub NamesNoCommand : List (List ℕ) → Type 0
-NamesNoCommand arguments = (program command : List ℕ) × (rest : List (List ℕ))
-    × (arguments ≡ program ∷ command ∷ rest) × (command ≢ codes "render") × (¬ (BeginsWithDash command))
+NamesNoCommand arguments = (program name : List ℕ) × (rest : List (List ℕ))
+    × (arguments ≡ program ∷ name ∷ rest) × ((count : ℕ) → ¬ (IsCommand name count)) × (¬ (BeginsWithDash name))
 
--- a rendering with too few or too many arguments
+-- a command with too few or too many arguments
 abbrev pub HasWrongCount : List (List ℕ) → Type 0
-HasWrongCount arguments = (given : List (List ℕ)) × GivesRender arguments given × (length given ≢ 3)
+HasWrongCount arguments = (name : List ℕ) × (count : ℕ) × (given : List (List ℕ)) × IsCommand name count
+    × Gives arguments name given × (length given ≢ count)
 
 -- no command, an unknown one, or a wrong number of arguments
 abbrev pub AreInvalid : List (List ℕ) → Type 0

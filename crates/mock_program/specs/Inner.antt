@@ -1,2 +1,3 @@
 pub mod Arguments
 pub mod Parser
+pub mod Totals

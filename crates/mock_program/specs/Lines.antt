@@ -18,6 +18,20 @@ abbrev pub measure_line : List ℕ → ℕ → List ℕ → List ℕ
 measure_line name taken budget =
     name ++ (codes " " ++ (decimal taken ++ (codes " of " ++ (numbers_text budget ++ codes "\n"))))
 
+-- a mapping without templates, as `1 plain`
+abbrev pub plain_line : ℕ → List ℕ
+plain_line number = decimal number ++ codes " plain\n"
+
+-- a mapping with the budgets of its templates, as `2 steps [5] bytes [6,1]`
+abbrev pub budget_line : ℕ → List ℕ → List ℕ → List ℕ
+budget_line number steps bytes =
+    decimal number ++ (codes " steps " ++ (numbers_text steps
+    ++ (codes " bytes " ++ (numbers_text bytes ++ codes "\n"))))
+
+-- a mapping that is refused, as `3 error 11`
+abbrev pub refused_line : ℕ → ErrorCode → List ℕ
+refused_line number code = decimal number ++ (codes " error " ++ (decimal (number_of code) ++ codes "\n"))
+
 -- the byte offset of the error, for an error in a template
 abbrev pub offset_text : Option ℕ → List ℕ
 offset_text None = []
@@ -34,3 +48,7 @@ out_of_memory = record { code = ErrorCode.OutOfMemory; at = None }
 
 abbrev pub not_utf8_line : List ℕ
 not_utf8_line = codes "error: the arguments aren't UTF-8\n"
+
+-- the file at the path can't be read, or is too large
+abbrev pub unreadable_line : List ℕ → List ℕ
+unreadable_line path = codes "error: cannot read " ++ (path ++ codes "\n")

@@ -1,16 +1,18 @@
 //! The command line: the command that the arguments name, help, and what is reported of invalid arguments.
-ghost use Rattle.std.specs.Prelude.{◌≡◌, ◌⊎◌, ℕ, List, map, string_bytes};
+ghost use Rattle.std.specs.Prelude.{◌≡◌, ◌⊎◌, map, string_bytes};
 ghost use Rattle.clap.specs.Words.{kind_of};
 ghost use Rattle.clap.specs.declared.error.kind.ErrorKind.{ErrorKind};
-ghost use Rattle.mock_program.specs.CommandLine.{AreInvalid, AsksFor, CallsForHelp};
-ghost use Rattle.mock_program.specs.Inner.Parser.{IsHelp};
+ghost use Rattle.mock_program.specs.CommandLine.{AreInvalid, Asked, AsksFor, CallsForHelp};
+ghost use Rattle.mock_program.specs.Commands.{Does};
+ghost use Rattle.mock_program.specs.Inner.Parser.{IsHelp, asked_of};
 ghost use Rattle.mock_program.specs.Lines.{error_line, out_of_memory};
 ghost use Rattle.mock_program.specs.Output.{AppendsFront, WritesOneStream};
-ghost use Rattle.mock_program.specs.Rendering.{Renders};
 
 use crate::arguments::parser_arguments;
+use crate::check::check_file;
 use crate::error::CommandError;
-use crate::parser::call_of;
+use crate::files::FileReader;
+use crate::parser::{Call, call_of};
 use crate::render::render_to;
 use crate::status::{FAILURE, INVALID_ARGUMENTS, SUCCESS};
 use clap::Error;
@@ -22,11 +24,16 @@ use std::io::Write;
 /// Runs the command that the arguments name, the first of them being the program's name, and gives the exit status:
 /// 0; 1 for an error or output that can't be written; 2 for invalid arguments. The text of `clap` for invalid
 /// arguments goes to `err`, its help to `out`.
-pub fn run<O: Write, E: Write>(alloc: Global, arguments: &[String], out: &mut O, err: &mut E) -> u8
-    // Arguments that ask for a rendering give what `render_to` gives for them, each taken as it is.
-    ensures rendering { (template method target : List ℕ)
-        → AsksFor (map string_bytes arguments.now) template method target
-        → Renders O.contents E.contents template method target out.old out.new err.old err.new result }
+pub fn run<F: FileReader, O: Write, E: Write>(
+    alloc: Global,
+    files: &F,
+    arguments: &[String],
+    out: &mut O,
+    err: &mut E,
+) -> u8
+    // Arguments that ask for a command do what that command does, each argument taken as it is.
+    ensures command { (asked : Asked) → AsksFor (map string_bytes arguments.now) asked
+        → Does O.contents E.contents (F.content files.now) asked out.old out.new err.old err.new result }
 
     // Help is no mistake, and invalid arguments are one. Where the text can't be made or written, the status is 1.
     ensures help { CallsForHelp (map string_bytes arguments.now) → (result ≡ 0) ⊎ (result ≡ 1) }
@@ -38,9 +45,28 @@ pub fn run<O: Write, E: Write>(alloc: Global, arguments: &[String], out: &mut O,
         return FAILURE;
     };
     match call_of(alloc, arguments.as_slice()) {
-        Ok(Some(call)) => render_to(alloc, call.template, call.method, call.target, out, err),
+        Ok(Some(call)) => run_call(alloc, files, call, out, err),
         Ok(None) => FAILURE,
         Err(error) => write_parser_message(&error, out, err),
+    }
+}
+
+fn run_call<F: FileReader, O: Write, E: Write>(
+    alloc: Global,
+    files: &F,
+    call: Call<'_>,
+    out: &mut O,
+    err: &mut E,
+) -> u8
+    ensures { Does O.contents E.contents (F.content files.now) (asked_of call.entry) out.old out.new err.old err.new result }
+{
+    match call {
+        Call::Render {
+            template,
+            method,
+            target,
+        } => render_to(alloc, template, method, target, out, err),
+        Call::Check { file } => check_file(alloc, files, file, out, err),
     }
 }
 

@@ -4,6 +4,7 @@ use crate::output::put_all;
 use data_tree::request_data::DataError;
 use error_code::error_code::ErrorCode;
 use itoa::Buffer;
+use mapping_json::error::MappingError;
 use mock_request::error::SnapshotError;
 use std::alloc::AllocError;
 use std::io;
@@ -29,7 +30,7 @@ impl CommandError {
         let _ = self.write_to(err);
     }
 
-    fn write_to<W: Write>(self, out: &mut W) -> io::Result<()>
+    pub(crate) fn write_to<W: Write>(self, out: &mut W) -> io::Result<()>
         ensures { Writes result (W.contents out.old) (W.contents out.new) (error_line self) }
     {
         let mut number = Buffer::new();
@@ -70,6 +71,17 @@ impl From<ProgramError> for CommandError {
             code: lower.error_code(),
             at: lower.at(),
         }
+    }
+}
+
+impl From<MappingError> for CommandError {
+    ghost use Rattle.std.specs.Prelude.{◌≡◌, None};
+    ghost use Rattle.mapping_json.specs.Errors.{error_code_of};
+
+    ghost from_gives = { λ lower error. error ≡ record { code = error_code_of lower; at = None } };
+
+    fn from(lower: MappingError) -> CommandError {
+        CommandError::from(lower.error_code())
     }
 }
 

@@ -1,4 +1,4 @@
-//! The lines in front of a rendered text.
+//! Lines with budgets.
 ghost use Rattle.std.specs.Prelude.{◌≡◌, ◌++◌, IfOk, OnOk, string_bytes};
 ghost use Rattle.mock_program.specs.Lines.{next_number, numbers_text, measure_line};
 
@@ -26,6 +26,23 @@ fn numbers(alloc: Global, list: &[u64]) -> Result<String, AllocError>
         [first, rest @ ..] => {
             let mut text = format!(in alloc; "[{first}")?;
             for number in rest {
+                push_next(&mut text, u128::from(*number))?;
+            }
+            text.push_str("]")?;
+            Ok(text)
+        }
+    }
+}
+
+/// Numbers in brackets, as `[6,1]`.
+pub(crate) fn total_text(alloc: Global, list: &[u128]) -> Result<String, AllocError>
+    ensures { IfOk result (λ text. string_bytes text ≡ numbers_text list.now) }
+{
+    match list {
+        [] => String::from_str(alloc, "[]"),
+        [first, rest @ ..] => {
+            let mut text = format!(in alloc; "[{first}")?;
+            for number in rest {
                 push_next(&mut text, *number)?;
             }
             text.push_str("]")?;
@@ -34,7 +51,7 @@ fn numbers(alloc: Global, list: &[u64]) -> Result<String, AllocError>
     }
 }
 
-fn push_next(text: &mut String, number: u64) -> Result<(), AllocError>
+fn push_next(text: &mut String, number: u128) -> Result<(), AllocError>
     ensures { OnOk result (string_bytes text.new ≡ string_bytes text.old ++ next_number number) }
 {
     let mut digits = Buffer::new();

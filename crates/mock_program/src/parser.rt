@@ -1,15 +1,16 @@
 //! The commands of the program, and what `clap` makes of its arguments.
-ghost use Rattle.std.specs.Prelude.{◌≡◌, ℕ, List, IfOk, IfErr, Some, false, map, codes};
-ghost use Rattle.clap.specs.Words.{FailsBy, app_of, first_value, found_of, kind_of, rule_of};
+ghost use Rattle.std.specs.Prelude.{◌≡◌, IfOk, IfErr, false, map, option_map, true};
+ghost use Rattle.clap.specs.Words.{FailsBy, app_of, first_of, found_of, kind_of, rows_of, rule_of};
 ghost use Rattle.clap.specs.declared.error.kind.ErrorKind.{ErrorKind};
-ghost use Rattle.mock_program.specs.Inner.Arguments.{render_arguments};
-ghost use Rattle.mock_program.specs.Inner.Parser.{IsRenderOf, answers_to, mock_app, required_rule};
+ghost use Rattle.mock_program.specs.Inner.Parser.{answers_to, asked_by, asked_in, asked_of, check_in, is_taken};
+ghost use Rattle.mock_program.specs.Inner.Parser.{mock_app, render_in, required_rule};
 
 use clap::{Arg, ArgMatches, Command, Error};
 use std::alloc::{AllocError, Global};
 
-const MOCK_HELP: &str = "Example:
-  mock render 'Hello {{request.path.[1]}}' GET /hi/Ann";
+const MOCK_HELP: &str = "Examples:
+  mock render 'Hello {{request.path.[1]}}' GET /hi/Ann
+  mock check mappings.json";
 
 const RENDER_HELP: &str =
     "It prints the steps that the run took and the bytes that it wrote, each beside its budget, and
@@ -21,47 +22,80 @@ Example:
 
 A template that is `-h`, `--help` or `--` follows a `--`; all other arguments are taken as they are.";
 
-/// A rendering that is asked for, with its arguments as they are on the command line.
+const CHECK_HELP: &str =
+    "It prints a line for each mapping of the file, numbered from 1: `1 plain`; or, with the budgets of
+its templates added up, `2 steps [5] bytes [6,1]`; or `3 error 11`, with the code of its first
+error. The status is 1 where a mapping has an error.
+
+Example:
+  mock check mappings.json
+
+A file that is `-h`, `--help` or `--` follows a `--`.";
+
+/// A command that is asked for, with its arguments as they are on the command line.
 #[derive(Clone, Copy)]
-pub(crate) struct Call<'a> {
-    pub(crate) template: &'a str,
-    pub(crate) method: &'a str,
-    pub(crate) target: &'a str,
+pub(crate) enum Call<'a> {
+    Render {
+        template: &'a str,
+        method: &'a str,
+        target: &'a str,
+    },
+    Check {
+        file: &'a str,
+    },
 }
 
-/// The rendering that the arguments ask for, or the text of `clap` in place of one. The parser gives no other call:
-/// it requires a command, and `render` is the only one.
+/// The command that the arguments ask for, or the text of `clap` in place of one. The parser requires one of the
+/// commands.
 pub(crate) fn call_of<'a>(
     alloc: Global,
     arguments: &'a [&'a str],
 ) -> Result<Option<Call<'a>>, Error>
-    ensures ok { (template method target : List ℕ)
-        → map (λ argument. argument.now) arguments.now ≡ render_arguments template method target
-        → IfOk result (λ call. IsRenderOf call template method target) }
-    ensures err { (template method target : List ℕ)
-        → map (λ argument. argument.now) arguments.now ≡ render_arguments template method target
+    ensures ok { IfOk result (λ call.
+        option_map asked_of call ≡ asked_by (map (λ argument. argument.now) arguments.now)) }
+    ensures err { is_taken (map (λ argument. argument.now) arguments.now) ≡ true
         → IfErr result (λ error. kind_of error ≡ ErrorKind.OutOfMemory) }
     ensures kinds { FailsBy (answers_to (map (λ argument. argument.now) arguments.now)) result }
 {
     let matches = command(alloc)?.try_get_matches_from(arguments)?;
     match matches.subcommand() {
-        Some((_, arguments)) => Ok(render_call(arguments)),
+        Some((name, arguments)) => Ok(call_in(name, arguments)),
         None => Ok(None),
     }
 }
 
-fn render_call<'a>(arguments: &ArgMatches<'a>) -> Option<Call<'a>>
-    ensures { (template method target : List ℕ)
-        → first_value (found_of arguments.now) (codes "template") ≡ Some template
-        → first_value (found_of arguments.now) (codes "method") ≡ Some method
-        → first_value (found_of arguments.now) (codes "url") ≡ Some target
-        → IsRenderOf result template method target }
+fn call_in<'a>(name: &str, arguments: &ArgMatches<'a>) -> Option<Call<'a>>
+    ensures { option_map asked_of result ≡ asked_in name.now (rows_of (found_of arguments.now)) }
 {
-    Some(Call {
-        template: arguments.get_str("template")?,
-        method: arguments.get_str("method")?,
-        target: arguments.get_str("url")?,
+    match name {
+        "render" => render_call(arguments),
+        "check" => check_call(arguments),
+        _ => None,
+    }
+}
+
+fn render_call<'a>(arguments: &ArgMatches<'a>) -> Option<Call<'a>>
+    ensures { option_map asked_of result ≡ render_in (rows_of (found_of arguments.now)) }
+{
+    Some(Call::Render {
+        template: value(arguments, "template")?,
+        method: value(arguments, "method")?,
+        target: value(arguments, "url")?,
     })
+}
+
+fn check_call<'a>(arguments: &ArgMatches<'a>) -> Option<Call<'a>>
+    ensures { option_map asked_of result ≡ check_in (rows_of (found_of arguments.now)) }
+{
+    Some(Call::Check {
+        file: value(arguments, "file")?,
+    })
+}
+
+fn value<'a>(arguments: &ArgMatches<'a>, id: &str) -> Option<&'a str>
+    ensures { option_map (λ value. value.now) result ≡ first_of id.now (rows_of (found_of arguments.now)) }
+{
+    arguments.get_str(id)
 }
 
 fn command<'a>(alloc: Global) -> Result<Command<'a>, AllocError>
@@ -83,13 +117,23 @@ fn command<'a>(alloc: Global) -> Result<Command<'a>, AllocError>
             "URL",
             "The request's target, as /hi/Ann?q=1 or http://host/hi/Ann",
         ))?;
+    let check = Command::new(alloc, "check")
+        .about("Says which mappings of a file are taken, and what their templates may cost")
+        .after_help(CHECK_HELP)
+        .arg(required(
+            alloc,
+            "file",
+            "FILE",
+            "A JSON file: a mapping, or an object with a list `mappings`",
+        ))?;
     Command::new(alloc, "mock")
         .version("1")
         .about("A stub server for HTTP whose answers are proved")
         .after_help(MOCK_HELP)
         .subcommand_required(true)
         .disable_help_subcommand(true)
-        .subcommand(render)
+        .subcommand(render)?
+        .subcommand(check)
 }
 
 fn required<'a>(alloc: Global, id: &'a str, name: &'a str, help: &'a str) -> Arg<'a>

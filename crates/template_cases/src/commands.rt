@@ -1,5 +1,6 @@
 //! Commands: what they write to standard output and standard error, and their exit status.
 
+use crate::files::OneFile;
 use crate::writer::SlowWriter;
 use case_table::row::Row;
 use mock_program::arguments::report_unreadable;
@@ -7,6 +8,11 @@ use mock_program::command_line::run;
 use std::alloc::{AllocError, Global};
 use std::io;
 use std::io::ErrorKind;
+
+const NO_FILE: OneFile<'static> = OneFile {
+    path: "",
+    content: "",
+};
 
 /// What was written, and the exit status.
 #[derive(Drop)]
@@ -17,24 +23,50 @@ struct Outcome {
 }
 
 // Once more where memory ran out, which a stream with less room reports in part.
-fn run_command(alloc: Global, arguments: &[String], room: usize) -> Result<Outcome, AllocError> {
-    let outcome = run_once(alloc, arguments, room)?;
+fn run_command(
+    alloc: Global,
+    file: OneFile<'_>,
+    arguments: &[String],
+    room: usize,
+) -> Result<Outcome, AllocError> {
+    let outcome = run_once(alloc, file, arguments, room)?;
     if outcome.out.taken.is_empty() && "error 50: out of memory\n".starts_with(text(&outcome.err)) {
-        return run_once(alloc, arguments, room);
+        return run_once(alloc, file, arguments, room);
     }
     Ok(outcome)
 }
 
-fn run_once(alloc: Global, arguments: &[String], room: usize) -> Result<Outcome, AllocError> {
+fn run_once(
+    alloc: Global,
+    file: OneFile<'_>,
+    arguments: &[String],
+    room: usize,
+) -> Result<Outcome, AllocError> {
     let mut out = SlowWriter::new(alloc, room)?;
     let mut err = SlowWriter::new(alloc, room)?;
-    let status = run(alloc, arguments, &mut out, &mut err);
+    let status = run(alloc, &file, arguments, &mut out, &mut err);
     Ok(Outcome { out, err, status })
 }
 
 /// What the arguments write to standard output and to standard error, and the exit status.
 pub fn streams(alloc: Global, row: &Row) -> Result<String, AllocError> {
-    let outcome = run_command(alloc, row.given.as_slice(), 100_000)?;
+    written(alloc, NO_FILE, row.given.as_slice())
+}
+
+/// The same of arguments that follow a file's path and its bytes.
+pub fn streams_with_file(alloc: Global, row: &Row) -> Result<String, AllocError> {
+    let [path, content, arguments @ ..] = row.given.as_slice() else {
+        return Err(AllocError);
+    };
+    let file = OneFile {
+        path: path.as_str(),
+        content: content.as_str(),
+    };
+    written(alloc, file, arguments)
+}
+
+fn written(alloc: Global, file: OneFile<'_>, arguments: &[String]) -> Result<String, AllocError> {
+    let outcome = run_command(alloc, file, arguments, 100_000)?;
     let (out, err) = (text(&outcome.out), text(&outcome.err));
     let status = outcome.status;
     format!(in alloc; "\t{out}\t{err}\t{status}")
@@ -50,7 +82,7 @@ pub fn message(alloc: Global, row: &Row, room: usize) -> Result<String, AllocErr
     let [wanted, arguments @ ..] = row.given.as_slice() else {
         return Err(AllocError);
     };
-    let outcome = run_command(alloc, arguments, room)?;
+    let outcome = run_command(alloc, NO_FILE, arguments, room)?;
     let stream = stream_of(&outcome, wanted.as_str());
     let status = outcome.status;
     format!(in alloc; "\t{stream}\t{status}")

@@ -3,6 +3,7 @@
 
 mod code;
 mod commands;
+mod files;
 mod helpers;
 mod programs;
 mod table;
@@ -29,6 +30,7 @@ fn main(rt: HostRuntime) -> io::Result<ExitCode> {
             Table::Programs,
             Table::RenderText,
             Table::Commands,
+            Table::FileCommands,
             Table::Messages,
             Table::BrokenOff,
             Table::Unreadable,

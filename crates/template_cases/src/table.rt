@@ -20,6 +20,8 @@ pub enum Table {
     /// Renderings that an independent program computed.
     RenderText,
     Commands,
+    /// Commands that read a file.
+    FileCommands,
     Messages,
     BrokenOff,
     Unreadable,
@@ -39,6 +41,7 @@ impl CaseTable for Table {
             Table::Programs => "programs.tsv",
             Table::RenderText => "render_text.tsv",
             Table::Commands => "commands.tsv",
+            Table::FileCommands => "file_commands.tsv",
             Table::Messages => "messages.tsv",
             Table::BrokenOff => "broken_off.tsv",
             Table::Unreadable => "unreadable.tsv",
@@ -56,6 +59,7 @@ impl CaseTable for Table {
             Table::Codes | Table::HelperCodes => code::verdict(alloc, row),
             Table::Programs => programs::program(alloc, row),
             Table::RenderText | Table::Commands => commands::streams(alloc, row),
+            Table::FileCommands => commands::streams_with_file(alloc, row),
             Table::Messages => commands::message(alloc, row, 100_000),
             Table::BrokenOff => commands::message(alloc, row, 3),
             Table::Unreadable => commands::unreadable(alloc, row.cell(0)),

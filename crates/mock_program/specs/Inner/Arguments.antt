@@ -1,6 +1,7 @@
 -- The arguments that the parser is given for those of the command line, for private contracts.
 use Rattle.std.specs.Prelude.{ℕ, Bool, false, not, ◌||◌, if◌then◌else◌, List, [], ◌∷◌, ◌++◌, codes}
 use Rattle.std.specs.Str.{bytes_eq}
+use Rattle.mock_program.specs.CommandLine.{Asked, name_of, given_to}
 
 abbrev pub is_flag : List ℕ → Bool
 is_flag argument =
@@ -20,6 +21,6 @@ abbrev pub parser_arguments : List (List ℕ) → List (List ℕ)
 parser_arguments (program ∷ command ∷ rest) = codes "mock" ∷ command ∷ (delimiter rest ++ rest)
 parser_arguments _ = codes "mock" ∷ []
 
--- those of a rendering
-abbrev pub render_arguments : List ℕ → List ℕ → List ℕ → List (List ℕ)
-render_arguments template method target = codes "mock" ∷ codes "render" ∷ codes "--" ∷ template ∷ method ∷ target ∷ []
+-- those of a command that is asked for
+abbrev pub arguments_of : Asked → List (List ℕ)
+arguments_of asked = codes "mock" ∷ name_of asked ∷ codes "--" ∷ given_to asked

@@ -1,8 +1,13 @@
 -- The program's commands as the parser of the command line knows them, and what it answers, for private contracts.
-use Rattle.std.specs.Prelude.{◌≡◌, ◌⊎◌, ℕ, true, List, codes, Option, Some, None}
-use Rattle.clap.specs.Words.{App, Kinds, Rule, fault_of, new_app, new_rule, with_rule, with_subcommand}
+use Rattle.std.specs.Prelude.{◌≡◌, ◌⊎◌, ℕ, Bool, true, List, codes, Option, Some, None, option_and_then, if◌then◌else◌}
+use Rattle.std.specs.Prelude.{option_map}
+use Rattle.std.specs.Str.{bytes_eq}
+use Rattle.clap.specs.Words.{App, Kinds, Row, Rule, Text, fault_of, first_of, new_app, new_rule, subcommand_of, takes}
+use Rattle.clap.specs.Words.{with_rule, with_subcommand}
 use Rattle.clap.specs.declared.error.kind.ErrorKind.{ErrorKind}
+use Rattle.mock_program.specs.CommandLine.{Asked, render, check}
 use Rattle.mock_program.specs.declared.parser.Call.{Call}
+use Rattle.mock_program.specs.declared.parser.Call.TheVariants as call
 
 -- an argument that is required
 abbrev pub required_rule : List ℕ → Rule
@@ -11,6 +16,9 @@ required_rule id = record (new_rule id) { value_names = 1; required = true }
 abbrev pub render_app : App
 render_app = with_rule (with_rule (with_rule (new_app (codes "render"))
     (required_rule (codes "template"))) (required_rule (codes "method"))) (required_rule (codes "url"))
+
+abbrev pub check_app : App
+check_app = with_rule (new_app (codes "check")) (required_rule (codes "file"))
 
 -- the program without its commands
 abbrev pub program_app : App
@@ -23,18 +31,40 @@ program_app = record (new_app (codes "mock")) {
 }
 
 abbrev pub mock_app : App
-mock_app = with_subcommand program_app render_app.top
+mock_app = with_subcommand (with_subcommand program_app render_app.top) check_app.top
 
 -- the parser's answer is no mistake, but a text that was called for
 abbrev pub IsHelp : ErrorKind → Type 0
 IsHelp kind = (kind ≡ ErrorKind.DisplayHelp) ⊎ (kind ≡ ErrorKind.DisplayVersion)
 
 -- the kinds of answer of which it gives one in place of a call, and none where it takes the arguments
-unfoldable pub answers_to : List (List ℕ) → Kinds
+unfoldable pub answers_to : List Text → Kinds
 answers_to arguments = fault_of mock_app arguments
 
--- the command is that rendering
-abbrev pub IsRenderOf : Option Call → List ℕ → List ℕ → List ℕ → Type 0
-IsRenderOf (Some c) template method target =
-    (c.template.now ≡ template) × (c.method.now ≡ method) × (c.target.now ≡ target)
-IsRenderOf None template method target = ⊥
+-- whether it takes the arguments
+unfoldable pub is_taken : List Text → Bool
+is_taken arguments = takes mock_app arguments
+
+-- ---- the command that it finds
+
+-- from the values of its arguments
+abbrev pub render_in : List Row → Option Asked
+render_in rows =
+    option_and_then (λ template. option_and_then (λ method. option_map (λ target. render template method target)
+    (first_of (codes "url") rows)) (first_of (codes "method") rows)) (first_of (codes "template") rows)
+
+abbrev pub check_in : List Row → Option Asked
+check_in rows = option_map check (first_of (codes "file") rows)
+
+abbrev pub asked_in : Text → List Row → Option Asked
+asked_in name rows =
+    if bytes_eq name (codes "render") then render_in rows
+    else (if bytes_eq name (codes "check") then check_in rows else None)
+
+-- the command that these arguments name, with its own
+unfoldable pub asked_by : List Text → Option Asked
+asked_by arguments = option_and_then (λ p. asked_in p.0 p.1) (subcommand_of mock_app arguments)
+
+abbrev pub asked_of : Call → Asked
+asked_of (call.Render template method target) = render template.now method.now target.now
+asked_of (call.Check file) = check file.now

@@ -1,7 +1,7 @@
 use Rattle.std.proofs.Common.{◌≡◌, refl, rules, ap, ap₂, ◌∙◌, codes}
 use Rattle.std.proofs.lemmas.Result.{IfOk-weaker}
 use Rattle.clap.specs.Words.{App, app_of, new_app, rule_of, with_rule, with_subcommand}
-use Rattle.mock_program.specs.Inner.Parser.{program_app, render_app, required_rule}
+use Rattle.mock_program.specs.Inner.Parser.{check_app, program_app, render_app, required_rule}
 use Rattle.mock_program.proofs.parser.command.Goals as goal
 
 pub returns : goal.returns
@@ -9,19 +9,28 @@ returns c =
     let template_is : rule_of c.required.result ≡ required_rule (codes "template") = search rules in
     let method_is : rule_of c.required-2.result ≡ required_rule (codes "method") = search rules in
     let url_is : rule_of c.required-3.result ≡ required_rule (codes "url") = search rules in
-    let empty_is : app_of c.after_help.result ≡ new_app (codes "render") =
+    let file_is : rule_of c.required-4.result ≡ required_rule (codes "file") = search rules in
+    let no_render : app_of c.after_help.result ≡ new_app (codes "render") =
     rw (c.after_help.ensures, c.about.ensures) c.new.ensures.app in
     let render_is : app_of c.in_ok-render.render ≡ render_app = c.in_ok-render.ensures.shape c.required-3.ensures.local
     ∙ ap₂ with_rule (c.in_ok-arg-2.ensures.shape c.required-2.ensures.local
     ∙ ap₂ with_rule
-    (c.in_ok-arg.ensures.shape c.required.ensures.local ∙ ap₂ with_rule empty_is template_is) method_is) url_is in
+    (c.in_ok-arg.ensures.shape c.required.ensures.local ∙ ap₂ with_rule no_render template_is) method_is) url_is in
+    let no_check : app_of c.after_help-2.result ≡ new_app (codes "check") =
+    rw (c.after_help-2.ensures, c.about-2.ensures) c.new-2.ensures.app in
+    let check_is : app_of c.in_ok-check.check ≡ check_app =
+    c.in_ok-check.ensures.shape c.required-4.ensures.local ∙ ap₂ with_rule no_check file_is in
     let program_is : app_of c.disable_help_subcommand.result ≡ program_app =
-    rw (c.disable_help_subcommand.ensures, c.subcommand_required.ensures, c.after_help-2.ensures)
-    (rw (c.about-2.ensures, c.version.ensures) (search rules)) in
-    IfOk-weaker c.subcommand.result _ _
-    (λ made added. added.shape
+    rw (c.disable_help_subcommand.ensures, c.subcommand_required.ensures, c.after_help-3.ensures)
+    (rw (c.about-3.ensures, c.version.ensures) (search rules)) in
+    let with_render = c.in_ok-subcommand.ensures.shape
     (rw (c.in_ok-render.ensures.globals, c.in_ok-arg-2.ensures.globals, c.in_ok-arg.ensures.globals)
     (rw (c.after_help.ensures, c.about.ensures, c.new.ensures.local)
     (rw (c.required.ensures.local, c.required-2.ensures.local, c.required-3.ensures.local) refl)))
-    ∙ ap₂ with_subcommand program_is (ap (λ (a : App). a.top) render_is))
-    c.subcommand.ensures
+    ∙ ap₂ with_subcommand program_is (ap (λ (a : App). a.top) render_is) in
+    IfOk-weaker c.subcommand-2.result _ _
+    (λ made added. added.shape
+    (rw c.in_ok-check.ensures.globals
+    (rw (c.after_help-2.ensures, c.about-2.ensures, c.new-2.ensures.local) (rw c.required-4.ensures.local refl)))
+    ∙ ap₂ with_subcommand with_render (ap (λ (a : App). a.top) check_is))
+    c.subcommand-2.ensures

@@ -1,0 +1,4 @@
+use Rattle.mock_program.proofs.command_line.run_call.Goals as goal
+
+pub returns-in-Render : goal.returns-in-Render
+returns-in-Render g c = rw c.in-Render.is c.render_to.ensures

@@ -1,0 +1,66 @@
+//! The files that a command reads.
+ghost use Rattle.std.specs.Prelude.{◌≡◌, IfOk, IfErr};
+ghost use Rattle.mock_program.specs.Files.{IsFile, IsFileError};
+
+use std::alloc::Global;
+use std::fs::File;
+use std::io;
+use std::io::{ErrorKind, Read};
+
+/// The most bytes that a file may have.
+pub const FILE_LIMIT: u64 = 16_777_216;
+
+/// Where the files of a command are: the file system, or what a case program has in its place.
+pub trait FileReader {
+    ghost use Rattle.std.specs.Prelude.{◌≡◌, List, ℕ, Option, None, IfOk, IfErr, IfSome, take};
+    ghost use Rattle.std.specs.IoError.{error_kind};
+
+    // The bytes of the file at a path, where they are known.
+    ghost content: { Self → List ℕ → Option (List ℕ) } = { λ _ _. None };
+
+    /// The first bytes of the file at the path, at most so many.
+    fn read_at_most(&self, alloc: Global, path: &str, limit: u64) -> io::Result<Vec<u8>>
+        ensures front { IfOk result (λ front. IfSome (content self.now path.now) (λ all. front.items ≡ take limit all)) }
+        ensures error { IfErr result (λ error. IfSome (content self.now path.now)
+            (λ _. error_kind error ≡ ErrorKind.OutOfMemory)) };
+}
+
+impl FileReader for HostRuntime {
+    fn read_at_most(&self, alloc: Global, path: &str, limit: u64) -> io::Result<Vec<u8>> {
+        let mut front = Vec::new(alloc);
+        File::open(self, path)?.take(limit).read_to_end(&mut front)?;
+        Ok(front)
+    }
+}
+
+/// Why no file is read.
+#[derive(Clone, Copy, Debug)]
+pub enum FileError {
+    /// It can't be read, or is over the limit.
+    CannotRead,
+    OutOfMemory,
+}
+
+/// The file at the path, whole.
+pub(crate) fn read_file<F: FileReader>(
+    alloc: Global,
+    files: &F,
+    path: &str,
+) -> Result<Vec<u8>, FileError>
+    ensures ok { IfOk result (λ bytes. IsFile (F.content files.now path.now) bytes.items) }
+    ensures err { IfErr result (IsFileError (F.content files.now path.now)) }
+{
+    match files.read_at_most(alloc, path, FILE_LIMIT + 1) {
+        Ok(bytes) => {
+            if bytes.len() as u64 <= FILE_LIMIT {
+                Ok(bytes)
+            } else {
+                Err(FileError::CannotRead)
+            }
+        }
+        Err(error) => Err(match error.kind() {
+            ErrorKind::OutOfMemory => FileError::OutOfMemory,
+            _ => FileError::CannotRead,
+        }),
+    }
+}
