@@ -1,11 +1,7 @@
 pub mod CommandArguments
-pub mod FileFacts
-pub mod LinesOf
 pub mod OneStream
 pub mod ParserAnswers
 pub mod ParserCalls
 pub mod ParserErrors
-pub mod PartsWritten
 pub mod Refused
 pub mod RequestRefusals
-pub mod Totals

@@ -1,9 +1,9 @@
 -- A command leaves one of both writers as it was.
 use Rattle.std.proofs.Common.{◌≡◌, ◌⊎◌, ℕ, List, Option, inl, inr, arith, Bool, true, false, if◌then◌else◌}
-use Rattle.mock_program.specs.Checking.{Checks}
+use Rattle.mapping_check.specs.Checking.{Checks, ChecksFile}
 use Rattle.mock_program.specs.CommandLine.{Asked, render, check}
-use Rattle.mock_program.specs.Commands.{ChecksFile, Does}
-use Rattle.mock_program.specs.Output.{WritesOneStream}
+use Rattle.mock_program.specs.Commands.{Does}
+use Rattle.command_output.specs.Output.{WritesOneStream}
 use Rattle.mock_program.specs.Rendering.{Renders}
 
 module _ {O E : Type 0} (out_holds : O → Option (List ℕ)) (err_holds : E → Option (List ℕ)) where

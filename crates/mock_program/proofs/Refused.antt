@@ -2,9 +2,9 @@
 use Rattle.std.proofs.Common.{◌≡◌, ℕ, List, Option, inl, inr, refl}
 use Rattle.mock_program.specs.CommandLine.{Asked, render, check}
 use Rattle.mock_program.specs.Commands.{Does}
-use Rattle.mock_program.specs.Lines.{error_line, out_of_memory}
-use Rattle.mock_program.specs.Output.{AppendsFront}
-use Rattle.mock_program.specs.declared.files.FileError.TheVariants as file
+use Rattle.command_output.specs.Lines.{error_line, out_of_memory}
+use Rattle.command_output.specs.Output.{AppendsFront}
+use Rattle.command_output.specs.declared.files.FileError.TheVariants as file
 
 pub without_memory : {O E : Type 0} (out_holds : O → Option (List ℕ)) (err_holds : E → Option (List ℕ))
     (files : List ℕ → Option (List ℕ)) (asked : Asked) (out out' : O) (err err' : E) (status : ℕ) → status ≡ 1

@@ -11,9 +11,9 @@ use Rattle.mock_request.specs.Target.{HasUrl}
 use Rattle.mock_request.specs.declared.error.SnapshotError.{SnapshotError}
 use Rattle.mock_request.specs.declared.error.SnapshotError.TheVariants.{BadUrl, BodyTooLarge, OutOfMemory}
 use Rattle.template_machine.specs.Program.{IsProgramText}
-use Rattle.mock_program.specs.Lines.{out_of_memory}
+use Rattle.command_output.specs.Lines.{out_of_memory}
 use Rattle.mock_program.specs.Rendering.{IsDataOf, IsRefusal, RefusesUrl, RefusesData}
-use Rattle.mock_program.specs.declared.error.CommandError.{CommandError}
+use Rattle.command_output.specs.declared.error.CommandError.{CommandError}
 
 abbrev pub IsPlainRefusal : List ℕ → List ℕ → CommandError → Type 0
 IsPlainRefusal method target error =

@@ -14,9 +14,9 @@ use Rattle.template_machine.specs.Safe.{IsSafe}
 use Rattle.template_machine.specs.Program.{ProgramParts, IsProgram, IsProgramText, IsMeant}
 use Rattle.template_machine.specs.Errors.{IsErrorOf, error_code_of, offset_of}
 use Rattle.template_machine.specs.declared.error.ProgramError.{ProgramError}
-use Rattle.mock_program.specs.Lines.{measure_line, error_line, out_of_memory}
-use Rattle.mock_program.specs.Output.{AppendsPart, AppendsFront}
-use Rattle.mock_program.specs.declared.error.CommandError.{CommandError}
+use Rattle.command_output.specs.Lines.{measure_line, error_line, out_of_memory}
+use Rattle.command_output.specs.Output.{AppendsPart, AppendsFront}
+use Rattle.command_output.specs.declared.error.CommandError.{CommandError}
 
 -- the coefficients of both budgets, the steps that the run took, and the text that it wrote
 pub record Report : Type 0 where

@@ -4,12 +4,12 @@ ghost use Rattle.std.specs.Prelude.{◌≡◌, ◌≢◌, ◌⊎◌, ◌++◌, I
 ghost use Rattle.std.specs.IoError.{error_kind};
 ghost use Rattle.std.specs.Io.KnownBytes.{Appends};
 ghost use Rattle.mock_program.specs.Inner.Arguments.{delimiter, is_flag, needs_delimiter, parser_arguments};
-ghost use Rattle.mock_program.specs.Lines.{error_line, not_utf8_line, out_of_memory};
-ghost use Rattle.mock_program.specs.Output.{AppendsFront, AppendsPart};
+ghost use Rattle.command_output.specs.Lines.{error_line, not_utf8_line, out_of_memory};
+ghost use Rattle.command_output.specs.Output.{AppendsFront, AppendsPart};
 
-use crate::error::CommandError;
-use crate::output::put;
-use crate::status::{FAILURE, INVALID_ARGUMENTS};
+use command_output::error::CommandError;
+use command_output::output::put;
+use command_output::status::{FAILURE, INVALID_ARGUMENTS};
 use error_code::error_code::ErrorCode;
 use std::alloc::{AllocError, Global};
 use std::io;

@@ -2,14 +2,14 @@
 ghost use Rattle.std.specs.Prelude.{◌≡◌, ◌⊎◌, IfOk, IfErr, string_bytes};
 ghost use Rattle.data_tree.specs.RequestData.{root_of};
 ghost use Rattle.template_machine.specs.Safe.{IsSafe};
-ghost use Rattle.mock_program.specs.Lines.{out_of_memory};
+ghost use Rattle.command_output.specs.Lines.{out_of_memory};
 ghost use Rattle.mock_program.specs.Rendering.{Report, IsDataOf, IsReportText, IsRefusal, IsRun, report_text};
 ghost use Rattle.mock_program.specs.Rendering.{RefusesUrl, RefusesData, Renders};
 
-use crate::error::CommandError;
-use crate::lines::measure_line;
-use crate::output::put;
-use crate::status::{FAILURE, SUCCESS};
+use command_output::error::CommandError;
+use command_output::lines::measure_line;
+use command_output::output::put;
+use command_output::status::{FAILURE, SUCCESS};
 use data_tree::request_data::RequestData;
 use mock_request::snapshot::Snapshot;
 use request_data::tree::request_data;

@@ -6,9 +6,9 @@ use Rattle.mock_program.specs.CommandLine.{Asked}
 use Rattle.mock_program.specs.Commands.{Does}
 use Rattle.mock_program.specs.Inner.Arguments.{arguments_of, parser_arguments}
 use Rattle.mock_program.specs.Inner.Parser.{IsHelp, answers_to, asked_by, asked_of, is_taken}
-use Rattle.mock_program.specs.Lines.{error_line}
-use Rattle.mock_program.specs.Output.{AppendsFront}
-use Rattle.mock_program.specs.declared.error.CommandError.{CommandError}
+use Rattle.command_output.specs.Lines.{error_line}
+use Rattle.command_output.specs.Output.{AppendsFront}
+use Rattle.command_output.specs.declared.error.CommandError.{CommandError}
 use Rattle.mock_program.proofs.CommandArguments.{parser_arguments-asked}
 use Rattle.mock_program.proofs.OneStream.{of_command}
 use Rattle.mock_program.proofs.Refused.{without_memory}

@@ -1,7 +1,7 @@
 use Rattle.std.proofs.Common.{refl, subst}
-use Rattle.mock_program.specs.Lines.{error_line}
-use Rattle.mock_program.specs.Output.{AppendsFront}
-use Rattle.mock_program.specs.declared.error.CommandError.{CommandError}
+use Rattle.command_output.specs.Lines.{error_line}
+use Rattle.command_output.specs.Output.{AppendsFront}
+use Rattle.command_output.specs.declared.error.CommandError.{CommandError}
 use Rattle.mock_program.proofs.command_line.write_parser_message.Goals as goal
 
 pub returns-then-eq-clause-no_memory : goal.returns-then-eq-clause-no_memory

@@ -1,0 +1,91 @@
+//! The files that a command reads.
+ghost use Rattle.std.specs.Prelude.{◌≡◌, IfOk, IfErr};
+ghost use Rattle.command_output.specs.Files.{IsFile, IsFileError};
+
+use crate::error::CommandError;
+use crate::output::put_all;
+use error_code::error_code::ErrorCode;
+use std::alloc::Global;
+use std::fs::File;
+use std::io;
+use std::io::{ErrorKind, Read, Write};
+
+/// The most bytes that a file may have.
+pub const FILE_LIMIT: u64 = 16_777_216;
+
+/// Where the files of a command are: the file system, or what a case program has in its place.
+pub trait FileReader {
+    ghost use Rattle.std.specs.Prelude.{◌≡◌, List, ℕ, Option, None, IfOk, IfErr, IfSome, take};
+    ghost use Rattle.std.specs.IoError.{error_kind};
+
+    // The bytes of the file at a path, where they are known.
+    ghost content: { Self → List ℕ → Option (List ℕ) } = { λ _ _. None };
+
+    /// The first bytes of the file at the path, at most so many.
+    fn read_at_most(&self, alloc: Global, path: &str, limit: u64) -> io::Result<Vec<u8>>
+        ensures front { IfOk result (λ front. IfSome (content self.now path.now) (λ all. front.items ≡ take limit all)) }
+        ensures error { IfErr result (λ error. IfSome (content self.now path.now)
+            (λ _. error_kind error ≡ ErrorKind.OutOfMemory)) };
+}
+
+impl FileReader for HostRuntime {
+    fn read_at_most(&self, alloc: Global, path: &str, limit: u64) -> io::Result<Vec<u8>> {
+        let mut front = Vec::new(alloc);
+        File::open(self, path)?.take(limit).read_to_end(&mut front)?;
+        Ok(front)
+    }
+}
+
+/// Why no file is read.
+#[derive(Clone, Copy, Debug)]
+pub enum FileError {
+    /// It can't be read, or is over the limit.
+    CannotRead,
+    OutOfMemory,
+}
+
+impl FileError {
+    ghost use Rattle.command_output.specs.Files.{file_error_line};
+    ghost use Rattle.command_output.specs.Output.{AppendsFront, Writes};
+
+    /// Writes its line, as far as the writer takes it. Takes no memory.
+    pub fn report<W: Write>(self, path: &str, err: &mut W)
+        ensures { AppendsFront (W.contents err.old) (W.contents err.new) (file_error_line path.now self) }
+    {
+        // The caller's exit status is 1 in any case.
+        let _ = self.write_to(path, err);
+    }
+
+    fn write_to<W: Write>(self, path: &str, out: &mut W) -> io::Result<()>
+        ensures { Writes result (W.contents out.old) (W.contents out.new) (file_error_line path.now self) }
+    {
+        match self {
+            FileError::CannotRead => put_all(out, ["error: cannot read ", path, "\n"].as_slice()),
+            FileError::OutOfMemory => CommandError::from(ErrorCode::OutOfMemory).write_to(out),
+        }
+    }
+}
+
+/// The file at the path, whole.
+pub fn read_file<F: FileReader>(
+    alloc: Global,
+    files: &F,
+    path: &str,
+) -> Result<Vec<u8>, FileError>
+    ensures ok { IfOk result (λ bytes. IsFile (F.content files.now path.now) bytes.items) }
+    ensures err { IfErr result (IsFileError (F.content files.now path.now)) }
+{
+    match files.read_at_most(alloc, path, FILE_LIMIT + 1) {
+        Ok(bytes) => {
+            if bytes.len() as u64 <= FILE_LIMIT {
+                Ok(bytes)
+            } else {
+                Err(FileError::CannotRead)
+            }
+        }
+        Err(error) => Err(match error.kind() {
+            ErrorKind::OutOfMemory => FileError::OutOfMemory,
+            _ => FileError::CannotRead,
+        }),
+    }
+}

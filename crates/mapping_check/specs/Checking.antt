@@ -1,0 +1,119 @@
+-- What `mock check` prints for a document: a line for each of its mappings.
+use Rattle.std.specs.Prelude.{◌≡◌, ◌⊎◌, ℕ, suc, List, [], ◌∷◌, ◌++◌, Bool, map, is_err, if◌then◌else◌}
+use Rattle.std.specs.Prelude.{Option, None, Result, Ok, Err, codes, decimal}
+use Rattle.std.specs.Io.KnownBytes.{Appends}
+use Rattle.std.specs.List.{AllZip, list_any}
+use Rattle.mapping_json.specs.Documents.{AreResults, IsOuterError}
+use Rattle.mapping_json.specs.Errors.{error_code_of}
+use Rattle.mapping_json.specs.declared.error.MappingError.{MappingError}
+use Rattle.mapping_model.specs.declared.mapping_spec.MappingSpec.{MappingSpec}
+use Rattle.mapping_model.specs.declared.response_spec.Content.{Content}
+use Rattle.mapping_model.specs.declared.response_spec.Content.TheVariants.{Plain, Templated}
+use Rattle.command_output.specs.Files.{IsFile, IsFileError, file_error_line}
+use Rattle.command_output.specs.Lines.{error_line, numbers_text}
+use Rattle.command_output.specs.Output.{AppendsPart, AppendsFront}
+use Rattle.command_output.specs.declared.error.CommandError.{CommandError}
+use Rattle.command_output.specs.declared.files.FileError.{FileError}
+use Rattle.error_code.specs.Codes.{number_of}
+use Rattle.error_code.specs.declared.error_code.ErrorCode.{ErrorCode}
+use Rattle.response_json.specs.Draft.{values_of, body_templates}
+use Rattle.template_code.specs.Bounds.{as_printed, sum_of}
+use Rattle.template_code.specs.Budget.{budget}
+use Rattle.template_machine.specs.Program.{ProgramParts, IsProgram}
+
+-- ---- lines
+
+-- a mapping without templates, as `1 plain`
+abbrev pub plain_line : ℕ → List ℕ
+plain_line number = decimal number ++ codes " plain\n"
+
+-- a mapping with the budgets of its templates, as `2 steps [5] bytes [6,1]`
+abbrev pub budget_line : ℕ → List ℕ → List ℕ → List ℕ
+budget_line number steps bytes =
+    decimal number ++ (codes " steps " ++ (numbers_text steps
+    ++ (codes " bytes " ++ (numbers_text bytes ++ codes "\n"))))
+
+-- a mapping that is refused, as `3 error 11`
+abbrev pub refused_line : ℕ → ErrorCode → List ℕ
+refused_line number code = decimal number ++ (codes " error " ++ (decimal (number_of code) ++ codes "\n"))
+
+-- the budgets of several programs, added up; of none they are zero
+abbrev pub total_steps : List ProgramParts → List ℕ
+total_steps programs = as_printed (sum_of (map (λ p. (budget p.code).steps) programs))
+
+abbrev pub total_bytes : List ProgramParts → List ℕ
+total_bytes programs = as_printed (sum_of (map (λ p. (budget p.code).bytes) programs))
+
+-- the program of a template
+abbrev pub IsProgramOf : List ℕ → ProgramParts → Type 0
+IsProgramOf template p = (p.source ≡ template) × IsProgram p
+
+-- the line of a mapping with these templates
+abbrev pub IsBudgetLine : ℕ → List (List ℕ) → List ℕ → Type 0
+IsBudgetLine number templates line =
+    (programs : List ProgramParts) × AllZip IsProgramOf templates programs
+    × (line ≡ budget_line number (total_steps programs) (total_bytes programs))
+
+abbrev pub IsContentLine : ℕ → Content → List ℕ → Type 0
+IsContentLine number (Plain headers body) line = line ≡ plain_line number
+IsContentLine number (Templated headers body) line =
+    IsBudgetLine number (values_of headers ++ body_templates body) line
+
+-- what is read of a mapping: its line
+abbrev pub IsLineOf : ℕ → Result MappingSpec MappingError → List ℕ → Type 0
+IsLineOf number (Ok mapping) line = IsContentLine number mapping.response.content line
+IsLineOf number (Err error) line = line ≡ refused_line number (error_code_of error)
+
+-- the lines of what is read, numbered from there on
+abbrev pub AreLines : ℕ → List (Result MappingSpec MappingError) → List ℕ → Type 0
+AreLines number [] text = text ≡ []
+AreLines number (result ∷ results) text =
+    (line : List ℕ) × (rest : List ℕ) × IsLineOf number result line × AreLines (suc number) results rest
+    × (text ≡ line ++ rest)
+
+-- ---- the whole
+
+-- the lines of a document's mappings, numbered from 1, and whether one of them is refused
+abbrev pub IsReportOf : List ℕ → List ℕ → Bool → Type 0
+IsReportOf bytes text refused =
+    (results : List (Result MappingSpec MappingError)) × AreResults bytes results × AreLines 1 results text
+    × (refused ≡ list_any is_err results)
+
+-- the document has no mappings, or memory is out
+abbrev pub IsCheckError : List ℕ → CommandError → Type 0
+IsCheckError bytes error =
+    (e : MappingError) × IsOuterError bytes e × (error ≡ record { code = error_code_of e; at = None })
+
+-- the whole report was written; the status is 1 where a mapping is refused
+abbrev pub ShowsLines : List ℕ → Option (List ℕ) → Option (List ℕ) → ℕ → Type 0
+ShowsLines bytes old new status =
+    (text : List ℕ) × (refused : Bool) × IsReportOf bytes text refused × Appends old new text
+    × (status ≡ (if refused then 1 else 0))
+
+-- the report was begun, and the writer refused the rest
+abbrev pub BreaksLinesOff : List ℕ → Option (List ℕ) → Option (List ℕ) → Type 0
+BreaksLinesOff bytes old new =
+    (text : List ℕ) × (refused : Bool) × IsReportOf bytes text refused × AppendsPart old new text
+
+-- an error was reported, as far as the writer took its line
+abbrev pub ReportsDocument : List ℕ → Option (List ℕ) → Option (List ℕ) → Type 0
+ReportsDocument bytes old new =
+    (error : CommandError) × IsCheckError bytes error × AppendsFront old new (error_line error)
+
+-- How a check ends: the report is on standard output (0, or 1 where a mapping is refused), an error is on standard error
+-- (1), or standard output took a part of the report (1). Each time the other of both is as it was.
+abbrev pub Checks : {O E : Type 0} → (O → Option (List ℕ)) → (E → Option (List ℕ)) → List ℕ
+    → O → O → E → E → ℕ → Type 0
+Checks out_holds err_holds bytes out out' err err' status =
+    (ShowsLines bytes (out_holds out) (out_holds out') status × (err' ≡ err))
+    ⊎ ((status ≡ 1) × ReportsDocument bytes (err_holds err) (err_holds err') × (out' ≡ out))
+    ⊎ ((status ≡ 1) × BreaksLinesOff bytes (out_holds out) (out_holds out') × (err' ≡ err))
+
+-- How `mock check` ends: the file is read and checked, or an error in reading it is on standard error (1), as far as the
+-- writer took its line, and standard output is as it was. The file is known, or it isn't.
+abbrev pub ChecksFile : {O E : Type 0} → (O → Option (List ℕ)) → (E → Option (List ℕ)) → Option (List ℕ) → List ℕ
+    → O → O → E → E → ℕ → Type 0
+ChecksFile out_holds err_holds known path out out' err err' status =
+    ((bytes : List ℕ) × IsFile known bytes × Checks out_holds err_holds bytes out out' err err' status)
+    ⊎ ((error : FileError) × IsFileError known error × (status ≡ 1)
+    × AppendsFront (err_holds err) (err_holds err') (file_error_line path error) × (out' ≡ out))
