@@ -1,6 +1,6 @@
 //! What `mock check` writes for a document.
 
-use mock_program::check::check_to;
+use mapping_check::check::check_to;
 use std::alloc::{AllocError, Global};
 
 /// What is written to standard output and to standard error, and the exit status.

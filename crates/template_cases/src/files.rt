@@ -1,6 +1,6 @@
 //! The file that a row gives.
 
-use mock_program::files::FileReader;
+use command_output::files::FileReader;
 use std::alloc::Global;
 use std::io;
 use std::io::ErrorKind;
