@@ -1,5 +1,5 @@
 -- What the parser makes of arguments that ask for a command.
-use Rattle.std.proofs.Common.{◌≡◌, true, Option, Some, None, List, refl, sym, ap, ◌∙◌}
+use Rattle.std.proofs.Common.{◌≡◌, true, Option, Some, None, List, refl, ap, ◌∙◌}
 use Rattle.std.specs.Prelude.{Box, option_and_then, option_map}
 use Rattle.clap.specs.Words.{App, Row, Text, is_simple, subcommand_name_of, subcommand_of, subcommand_rows}
 use Rattle.clap.specs.Words.{subcommand_rows_of, takes}

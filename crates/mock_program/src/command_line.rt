@@ -9,15 +9,15 @@ ghost use Rattle.command_output.specs.Lines.{error_line, out_of_memory};
 ghost use Rattle.command_output.specs.Output.{AppendsFront, WritesOneStream};
 
 use crate::arguments::parser_arguments;
-use mapping_check::check::check_file;
-use command_output::error::CommandError;
-use command_output::files::FileReader;
 use crate::parser::{Call, call_of};
 use crate::render::render_to;
-use command_output::status::{FAILURE, INVALID_ARGUMENTS, SUCCESS};
 use clap::Error;
 use clap::error::ErrorKind;
+use command_output::error::CommandError;
+use command_output::files::FileReader;
+use command_output::status::{FAILURE, INVALID_ARGUMENTS, SUCCESS};
 use error_code::error_code::ErrorCode;
+use mapping_check::check::check_file;
 use std::alloc::Global;
 use std::io::Write;
 

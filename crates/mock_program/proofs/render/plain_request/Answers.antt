@@ -1,4 +1,4 @@
-use Rattle.std.proofs.Common.{◌≡◌, [], Err, None, refl, ap, ◌∙◌, length, arith}
+use Rattle.std.proofs.Common.{◌≡◌, [], Err, None, ap, arith}
 use Rattle.std.proofs.lemmas.Result.{err_from_is_err_and}
 use Rattle.request_data.specs.RequestTree.{request_tree}
 use Rattle.mock_program.specs.Rendering.{IsDataOf}
