@@ -58,35 +58,35 @@ pub fn code_cell(alloc: Global, code: ErrorCode) -> Result<String, AllocError> {
     format!(in alloc; "\t{number}")
 }
 
-/// The cell of a mapping: its JSON, which reads back as a mapping with the same JSON.
+/// The cell of a mapping: its JSON. It reads back as the same mapping; otherwise a cell more says what differs.
 fn written_twice(alloc: Global, mapping: &ReadyMapping) -> Result<String, AllocError> {
     let text = written(alloc, mapping)?;
-    let second = read_back(alloc, mapping, text.as_str())?;
-    if second.as_str() == text.as_str() {
-        format!(in alloc; "\t{text}")
-    } else {
-        format!(in alloc; "\t{text} reads back as {second}")
-    }
+    let difference = read_back(alloc, mapping, text.as_str())?;
+    format!(in alloc; "\t{text}{difference}")
 }
 
-// The JSON of the mapping that is read, or why it isn't the same.
 fn read_back(alloc: Global, mapping: &ReadyMapping, text: &str) -> Result<String, AllocError> {
     match read(alloc, text.as_bytes()) {
-        Ok(again) => written_if_same(alloc, mapping, &again),
+        Ok(again) => difference(alloc, mapping, &again, text),
         Err(error) => refused(alloc, error),
     }
 }
 
-fn written_if_same(
+// A mapping keeps the text of an `equalToJson` as it was given, and its JSON has the compact one.
+fn difference(
     alloc: Global,
     mapping: &ReadyMapping,
     again: &ReadyMapping,
+    text: &str,
 ) -> Result<String, AllocError> {
-    if are_same(mapping, again) {
-        written(alloc, again)
-    } else {
-        String::from_str(alloc, "another mapping")
+    let second = written(alloc, again)?;
+    if second.as_str() != text {
+        return format!(in alloc; "\treads back as {second}");
     }
+    if are_same(mapping, again) {
+        return Ok(String::new(alloc));
+    }
+    String::from_str(alloc, "\tother texts")
 }
 
 fn are_same(mapping: &ReadyMapping, again: &ReadyMapping) -> bool {
