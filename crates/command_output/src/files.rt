@@ -67,11 +67,7 @@ impl FileError {
 }
 
 /// The file at the path, whole.
-pub fn read_file<F: FileReader>(
-    alloc: Global,
-    files: &F,
-    path: &str,
-) -> Result<Vec<u8>, FileError>
+pub fn read_file<F: FileReader>(alloc: Global, files: &F, path: &str) -> Result<Vec<u8>, FileError>
     ensures ok { IfOk result (λ bytes. IsFile (F.content files.now path.now) bytes.items) }
     ensures err { IfErr result (IsFileError (F.content files.now path.now)) }
 {

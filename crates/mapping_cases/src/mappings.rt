@@ -1,0 +1,103 @@
+//! Single mappings: what is written for the mapping that a document spells, or the code of its error.
+
+use base64::DecodeAllocError;
+use base64::engine::general_purpose::STANDARD;
+use case_table::row::Row;
+use error_code::error_code::ErrorCode;
+use mapping_json::error::MappingError;
+use mapping_json::read::read_mapping;
+use mapping_json::write::write_mapping;
+use request_match::ready_mapping::ReadyMapping;
+use serde_json::Value;
+use std::alloc::{AllocError, Global};
+
+/// The document.
+pub fn of_text(alloc: Global, row: &Row) -> Result<String, AllocError> {
+    answer(alloc, row.cell(0).as_bytes())
+}
+
+/// The document's base64.
+pub fn of_bytes(alloc: Global, row: &Row) -> Result<String, AllocError> {
+    match STANDARD.decode(alloc, row.cell(0).as_bytes()) {
+        Ok(bytes) => answer(alloc, bytes.as_slice()),
+        Err(DecodeAllocError::OutOfMemory) => Err(AllocError),
+        Err(DecodeAllocError::DecodeError(_)) => String::from_str(alloc, "\tno base64"),
+    }
+}
+
+/// The document, of which only the code is compared.
+pub fn code(alloc: Global, row: &Row) -> Result<String, AllocError> {
+    match read(alloc, row.cell(0).as_bytes()) {
+        Ok(_mapping) => String::from_str(alloc, "\ttaken"),
+        Err(error) => refused(alloc, error),
+    }
+}
+
+// In each of the functions below one mapping is dropped at most, at one place.
+fn answer(alloc: Global, bytes: &[u8]) -> Result<String, AllocError> {
+    match read(alloc, bytes) {
+        Ok(mapping) => written_twice(alloc, &mapping),
+        Err(error) => refused(alloc, error),
+    }
+}
+
+fn read(alloc: Global, bytes: &[u8]) -> Result<ReadyMapping, MappingError> {
+    read_mapping(alloc, bytes)
+}
+
+/// The cell of an error.
+pub fn refused(alloc: Global, error: MappingError) -> Result<String, AllocError> {
+    code_cell(alloc, error.error_code())
+}
+
+pub fn code_cell(alloc: Global, code: ErrorCode) -> Result<String, AllocError> {
+    if code == ErrorCode::OutOfMemory {
+        return Err(AllocError);
+    }
+    let number = code.number();
+    format!(in alloc; "\t{number}")
+}
+
+/// The cell of a mapping: its JSON. It reads back as the same mapping; otherwise a cell more says what differs.
+fn written_twice(alloc: Global, mapping: &ReadyMapping) -> Result<String, AllocError> {
+    let text = written(alloc, mapping)?;
+    let difference = read_back(alloc, mapping, text.as_str())?;
+    format!(in alloc; "\t{text}{difference}")
+}
+
+fn read_back(alloc: Global, mapping: &ReadyMapping, text: &str) -> Result<String, AllocError> {
+    match read(alloc, text.as_bytes()) {
+        Ok(again) => difference(alloc, mapping, &again, text),
+        Err(error) => refused(alloc, error),
+    }
+}
+
+// A mapping keeps the text of an `equalToJson` as it was given, and its JSON has the compact one.
+fn difference(
+    alloc: Global,
+    mapping: &ReadyMapping,
+    again: &ReadyMapping,
+    text: &str,
+) -> Result<String, AllocError> {
+    let second = written(alloc, again)?;
+    if second.as_str() != text {
+        return format!(in alloc; "\treads back as {second}");
+    }
+    if are_same(mapping, again) {
+        return Ok(String::new(alloc));
+    }
+    String::from_str(alloc, "\tother texts")
+}
+
+fn are_same(mapping: &ReadyMapping, again: &ReadyMapping) -> bool {
+    again.spec().same(mapping.spec())
+}
+
+/// The compact text of its JSON.
+pub fn written(alloc: Global, mapping: &ReadyMapping) -> Result<String, AllocError> {
+    write(alloc, mapping)?.to_string(alloc)
+}
+
+fn write(alloc: Global, mapping: &ReadyMapping) -> Result<Value, AllocError> {
+    write_mapping(alloc, mapping.spec())
+}
