@@ -1,5 +1,5 @@
 -- The lines of members are as many as are counted, and where a line is wrong, it has another shape.
-use Rattle.std.proofs.Common.{◌≡◌, ℕ, ◌+◌, ◌<◌, List, [], ◌∷◌, ◌++◌, length, Option, Some, None, refl, sym, ap, ◌∙◌, arith}
+use Rattle.std.proofs.Common.{◌≡◌, ℕ, ◌+◌, ◌<◌, List, [], ◌∷◌, length, Option, Some, None, refl, ap, ◌∙◌, arith}
 use Rattle.std.proofs.Common.{if◌then◌else◌, length-append}
 use Rattle.std.proofs.lemmas.Bool.{lt-leb}
 use Rattle.json_reading.specs.Fields.{each_item}

@@ -1,6 +1,6 @@
 -- The JSON of a response, with names in byte order: `status` always; no headers, no body, an empty text and no transformers
 -- are left out.
-use Rattle.std.specs.Prelude.{ℕ, List, [], ◌∷◌, Option, Some, None, map, unwrap_or, codes, if◌then◌else◌}
+use Rattle.std.specs.Prelude.{ℕ, List, [], ◌∷◌, Option, Some, None, unwrap_or, codes, if◌then◌else◌}
 use Rattle.std.specs.Str.{bytes_eq}
 use Rattle.base64.specs.Engines.{standard}
 use Rattle.base64.specs.GeneralPurpose.{encode_of}
@@ -11,7 +11,7 @@ use Rattle.mapping_model.specs.declared.response_spec.Content.{Content}
 use Rattle.mapping_model.specs.declared.response_spec.Content.TheVariants.{Plain, Templated}
 use Rattle.mapping_model.specs.declared.response_spec.ResponseSpec.{ResponseSpec}
 use Rattle.response_json.specs.Reading.{Line}
-use Rattle.serde_json.specs.Data.{Data, number, string, array, object, Items, no_items, item, Members, no_members, put}
+use Rattle.serde_json.specs.Data.{Data, number, string, array, object, no_items, item, Members, no_members, put}
 use Rattle.serde_json.specs.Data.{unsigned}
 use Rattle.serde_json.specs.Read.{read}
 use Rattle.serde_json.specs.View.{items_of}
