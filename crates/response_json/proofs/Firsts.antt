@@ -1,14 +1,13 @@
 -- The first error of a list of templates.
-use Rattle.std.proofs.Common.{◌≡◌, ◌⊎◌, inl, inr, ℕ, List, [], ◌∷◌, ◌++◌, All, append_assoc, refl, sym, ap, subst, ◌∙◌}
-use Rattle.std.proofs.Common.{take, drop, set, get_or, suc, ◌<◌, ◌+◌, length, Result, Ok, Err, IsErrAnd, IfErr, map}
+use Rattle.std.proofs.Common.{◌≡◌, inl, inr, ℕ, List, [], ◌∷◌, ◌++◌, All, append_assoc, refl, sym, ap, subst, ◌∙◌}
+use Rattle.std.proofs.Common.{take, drop, set, get_or, suc, ◌<◌, ◌+◌, length, Result, Ok, Err, IsErrAnd, IfErr}
 use Rattle.std.proofs.lemmas.List.{take_more, map-append, set_split, set-get_or}
 use Rattle.std.proofs.lemmas.List.Elements.{All-append, All-cons, All-nil}
 use Rattle.mapping_model.specs.declared.header_lines.HeaderLine.{HeaderLine}
-use Rattle.response_json.specs.Draft.{IsFirstOf, IsFirstError, values_of}
+use Rattle.response_json.specs.Draft.{IsFirstError, values_of}
 use Rattle.template_machine.specs.Errors.{IsErrorOf}
 use Rattle.template_machine.specs.Program.{IsProgramText}
 use Rattle.template_machine.specs.declared.error.ProgramError.{ProgramError}
-use Rattle.template_machine.specs.declared.error.ProgramError.TheVariants.{OutOfMemory}
 
 pub err_is : {T E : Type 0} (r : Result T E) (x : E) (P : E → Type 0) → IsErrAnd r (λ e. e ≡ x) → P x → IfErr r P
 err_is (Ok v) x P h p = absurd h

@@ -2,3 +2,4 @@ pub mod Firsts
 pub mod Lines
 pub mod Judged
 pub mod Texts
+pub mod Counts

@@ -3,7 +3,6 @@ use Rattle.std.proofs.Common.{◌≡◌, ℕ, List, [], ◌∷◌, ◌++◌, app
 use Rattle.std.proofs.Common.{Option, Some, None, IsSome, IfSome, ◌↔◌, true≢false, arith, if◌then◌else◌}
 use Rattle.std.proofs.lemmas.List.Sums.{AllPass-from_list_all, list_all-from_AllPass}
 use Rattle.http_header.specs.Token.{IsToken, is_token_byte}
-use Rattle.json_reading.specs.Reading.{both, read_map}
 use Rattle.json_reading.specs.declared.reading.Reading.{Reading}
 use Rattle.json_reading.specs.declared.reading.Reading.TheVariants.{Read, Wrong}
 use Rattle.json_reading.proofs.Lists.{first_assoc}

@@ -1,3 +1,4 @@
 pub mod Draft
 pub mod Reading
 pub mod Writing
+pub mod Inner

@@ -17,7 +17,7 @@ use Rattle.mapping_model.specs.declared.header_lines.TheConstants.{HEADER_LIMIT}
 use Rattle.mapping_model.specs.declared.response_spec.Body.{Body}
 use Rattle.mapping_model.specs.declared.response_spec.Body.TheVariants as body
 use Rattle.response_json.specs.declared.draft.ResponseDraft.{ResponseDraft}
-use Rattle.serde_json.specs.Data.{Data, string, array, object, Items, Members, no_members, member}
+use Rattle.serde_json.specs.Data.{Data, array, object, Members, no_members, member}
 use Rattle.serde_json.specs.Find.{as_number, as_u64, get}
 
 -- the reading of a field, or this where it is absent

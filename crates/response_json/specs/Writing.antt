@@ -1,5 +1,6 @@
--- The JSON of a response, with names in byte order: `status` always; no headers, no body and no transformers are left out.
-use Rattle.std.specs.Prelude.{ℕ, List, [], ◌∷◌, Option, Some, None, map, unwrap_or, codes, if◌then◌else◌}
+-- The JSON of a response, with names in byte order: `status` always; no headers, no body, an empty text and no transformers
+-- are left out.
+use Rattle.std.specs.Prelude.{ℕ, List, [], ◌∷◌, Option, Some, None, unwrap_or, codes, if◌then◌else◌}
 use Rattle.std.specs.Str.{bytes_eq}
 use Rattle.base64.specs.Engines.{standard}
 use Rattle.base64.specs.GeneralPurpose.{encode_of}
@@ -10,7 +11,7 @@ use Rattle.mapping_model.specs.declared.response_spec.Content.{Content}
 use Rattle.mapping_model.specs.declared.response_spec.Content.TheVariants.{Plain, Templated}
 use Rattle.mapping_model.specs.declared.response_spec.ResponseSpec.{ResponseSpec}
 use Rattle.response_json.specs.Reading.{Line}
-use Rattle.serde_json.specs.Data.{Data, number, string, array, object, Items, no_items, item, Members, no_members, put}
+use Rattle.serde_json.specs.Data.{Data, number, string, array, object, no_items, item, Members, no_members, put}
 use Rattle.serde_json.specs.Data.{unsigned}
 use Rattle.serde_json.specs.Read.{read}
 use Rattle.serde_json.specs.View.{items_of}
@@ -39,9 +40,14 @@ json_of_headers (line ∷ lines) = Some (object (with_lines (line ∷ lines) (li
 abbrev pub json_of_text : List ℕ → Data
 json_of_text text = unwrap_or (read text) (string text)
 
+-- an empty text is no body
+abbrev pub with_text : List ℕ → Members → Members
+with_text [] ms = ms
+with_text (byte ∷ bytes) ms = put (codes "body") (string (byte ∷ bytes)) ms
+
 abbrev pub with_body : Body (List ℕ) → Members → Members
 with_body body.Empty ms = ms
-with_body (body.Text text) ms = put (codes "body") (string text) ms
+with_body (body.Text text) ms = with_text text ms
 with_body (body.Json text) ms = put (codes "jsonBody") (json_of_text text) ms
 with_body (body.Base64 bytes) ms = put (codes "base64Body") (string (encode_of standard bytes)) ms
 

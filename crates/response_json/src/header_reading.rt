@@ -1,6 +1,7 @@
 // The header lines of a response.
-ghost use Rattle.std.specs.Prelude.{◌≡◌, IfOk};
+ghost use Rattle.std.specs.Prelude.{◌≡◌, ◌≤◌, ◌↔◌, IfOk, IsTrue};
 ghost use Rattle.json_reading.specs.Fields.{each_item};
+ghost use Rattle.response_json.specs.Inner.Counts.{line_count, count_in};
 ghost use Rattle.response_json.specs.Reading.{headers_of, lines_in, lines_at, lines_of, line_of, joined, within, name_of};
 ghost use Rattle.serde_json.specs.View.{view, items_view, members_view};
 
@@ -8,19 +9,48 @@ use json_reading::fields::text_of;
 use json_reading::kind::Kind;
 use json_reading::reading::{Reading, both, push};
 use mapping_model::field_name::FieldName;
-use mapping_model::header_lines::{HeaderLine, HeaderLines};
+use mapping_model::header_lines::{HEADER_LIMIT, HeaderLine, HeaderLines};
 use plain_text::items::Items;
 use plain_text::text::Text;
 use serde_json::{Map, Value};
 use std::alloc::{AllocError, Global};
 
-/// The lines of an object whose members are a header each.
+/// The lines of an object whose members are a header each. Each line has a copy of its name, so lines are counted before
+/// any is read.
 pub fn headers_of(alloc: Global, value: &Value) -> Result<Reading<HeaderLines<Text>>, AllocError>
     ensures { IfOk result (λ headers. headers ≡ headers_of (view value.now)) }
 {
     match value {
-        Value::Object(members) => Ok(within(lines_in(alloc, members)?)),
+        Value::Object(members) => if has_room(members) {
+            Ok(within(lines_in(alloc, members)?))
+        } else {
+            Ok(Reading::Wrong(Kind::Misshapen))
+        },
         _ => Ok(Reading::Wrong(Kind::Misshapen)),
+    }
+}
+
+/// Whether the members are no more lines than a response may have.
+fn has_room(members: &Map<String, Value>) -> bool
+    ensures { IsTrue result ↔ (count_in (members_view members.now.entries) ≤ HEADER_LIMIT) }
+{
+    let mut left = HEADER_LIMIT;
+    for (_name, value) in members.iter() {
+        let count = line_count(value);
+        if count > left {
+            return false;
+        }
+        left -= count;
+    }
+    true
+}
+
+fn line_count(value: &Value) -> usize
+    ensures { result ≡ line_count (view value.now) }
+{
+    match value {
+        Value::Array(values) => values.len(),
+        _ => 1,
     }
 }
 

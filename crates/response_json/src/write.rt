@@ -3,14 +3,13 @@ ghost use Rattle.std.specs.Prelude.{◌≡◌, IfOk, OnOk, codes, map};
 ghost use Rattle.base64.specs.Engines.{standard};
 ghost use Rattle.base64.specs.GeneralPurpose.{encode_of};
 ghost use Rattle.json_reading.specs.Written.{with_field};
-ghost use Rattle.response_json.specs.Writing.{json_of_response, with_content, with_parts, with_body, with_lines};
+ghost use Rattle.response_json.specs.Writing.{json_of_response, with_content, with_parts, with_body, with_lines, with_text};
 ghost use Rattle.response_json.specs.Writing.{json_of_headers, json_of_texts, json_of_text, texts_of};
 ghost use Rattle.response_json.specs.Writing.{template_transformers};
 ghost use Rattle.serde_json.specs.Data.{put, string, object, no_members};
 ghost use Rattle.serde_json.specs.View.{view, members_view};
 
 use base64::engine::general_purpose::STANDARD;
-use json_reading::written::put_text;
 use mapping_model::header_lines::HeaderLine;
 use mapping_model::response_spec::{Body, Content, ResponseSpec};
 use mapping_model::template_text::TemplateText;
@@ -145,7 +144,7 @@ fn put_body(
 {
     match body {
         Body::Empty => Ok(()),
-        Body::Text(text) => put_text(alloc, members, "body", text),
+        Body::Text(text) => put_text_body(alloc, members, text.as_str()),
         Body::Json(text) => put_json(alloc, members, text),
         Body::Base64(bytes) => put_base64(alloc, members, bytes),
     }
@@ -162,13 +161,24 @@ fn put_source(
 {
     match body {
         Body::Empty => Ok(()),
-        Body::Text(template) => {
-            let text = Value::try_from_str(alloc, template.source())?;
-            serde_json::put(members, alloc, "body", text)
-        }
+        Body::Text(template) => put_text_body(alloc, members, template.source()),
         Body::Json(text) => put_json(alloc, members, text),
         Body::Base64(bytes) => put_base64(alloc, members, bytes),
     }
+}
+
+/// An empty text is left out: it reads as no body.
+fn put_text_body(
+    alloc: Global,
+    members: &mut Map<String, Value>,
+    text: &str,
+) -> Result<(), AllocError>
+    ensures { OnOk result (members_view members.new.entries ≡ with_text text.now (members_view members.old.entries)) }
+{
+    if text.is_empty() {
+        return Ok(());
+    }
+    serde_json::put(members, alloc, "body", Value::try_from_str(alloc, text)?)
 }
 
 fn put_json(alloc: Global, members: &mut Map<String, Value>, text: &Text) -> Result<(), AllocError>

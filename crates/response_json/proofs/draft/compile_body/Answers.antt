@@ -1,4 +1,4 @@
-use Rattle.std.proofs.Common.{All, ap, inl, inr, subst, sym, [], ◌∙◌}
+use Rattle.std.proofs.Common.{All, subst, sym, []}
 use Rattle.response_json.specs.Draft.{IsFirstError, body_templates}
 use Rattle.response_json.proofs.Firsts.{err_is, first_here, one_program, no_programs}
 use Rattle.template_machine.specs.Program.{IsProgramText}

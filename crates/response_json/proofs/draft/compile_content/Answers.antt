@@ -1,4 +1,4 @@
-use Rattle.std.proofs.Common.{All, ◌++◌}
+use Rattle.std.proofs.Common.{◌++◌}
 use Rattle.std.proofs.lemmas.List.Elements.{All-append}
 use Rattle.response_json.specs.Draft.{IsFirstError, values_of, body_templates}
 use Rattle.response_json.proofs.Firsts.{err_is, first_of_more, first_after}

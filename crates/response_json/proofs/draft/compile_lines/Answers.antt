@@ -1,4 +1,4 @@
-use Rattle.std.proofs.Common.{◌≡◌, take, length, ◌+◌, All, ap, subst, sym, arith, ◌∙◌, ◌∷◌, ◌++◌, []}
+use Rattle.std.proofs.Common.{◌≡◌, take, ◌+◌, All, ap, subst, sym, arith, ◌∙◌, ◌∷◌, ◌++◌, []}
 use Rattle.std.proofs.lemmas.List.{take_all}
 use Rattle.response_json.specs.Draft.{IsFirstError, values_of}
 use Rattle.response_json.proofs.Firsts.{err_is, line_at_fails, one_more, one_taken}

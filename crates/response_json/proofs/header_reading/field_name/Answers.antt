@@ -1,4 +1,4 @@
-use Rattle.std.proofs.Common.{◌≡◌, subst, string_bytes, ◌∙◌, ◌↔◌, IsSome, IfSome, List, ℕ}
+use Rattle.std.proofs.Common.{◌≡◌, subst, ◌∙◌, ◌↔◌, IsSome, IfSome, List, ℕ}
 use Rattle.http_header.specs.Token.{IsToken}
 use Rattle.response_json.proofs.Lines.{named_is}
 use Rattle.response_json.proofs.header_reading.field_name.Goals as goal

@@ -1,4 +1,4 @@
-use Rattle.std.proofs.Common.{All, subst, sym, true, false, ◌++◌, [], if◌then◌else◌}
+use Rattle.std.proofs.Common.{All, subst, sym, ◌++◌, [], if◌then◌else◌}
 use Rattle.response_json.specs.Draft.{values_of, body_templates}
 use Rattle.response_json.proofs.Firsts.{no_programs}
 use Rattle.template_machine.specs.Program.{IsProgramText}
