@@ -1,6 +1,12 @@
-//! Compares what recordings and their mappings are with the tables in `data/`.
+//! Compares what books, recordings and their mappings do with the tables in `data/`.
 #![tactic(auto)]
 
+mod book_answers;
+mod book_copies;
+mod book_inputs;
+mod book_mappings;
+mod book_words;
+mod books;
 mod bytes_cell;
 mod exchanges;
 mod groups;
@@ -25,6 +31,7 @@ fn main(rt: HostRuntime) -> io::Result<ExitCode> {
             Table::Exchanges,
             Table::Keys,
             Table::Recordings,
+            Table::Books,
         ]
         .as_slice(),
     )

@@ -1,6 +1,6 @@
 //! The tables, and which call each of them is about.
 
-use crate::{groups, mappings, recordings, scenarios};
+use crate::{books, groups, mappings, recordings, scenarios};
 use case_table::compare::CaseTable;
 use case_table::row::Row;
 use std::alloc::{AllocError, Global};
@@ -16,6 +16,7 @@ pub enum Table {
     Exchanges,
     Keys,
     Recordings,
+    Books,
 }
 
 impl CaseTable for Table {
@@ -28,6 +29,7 @@ impl CaseTable for Table {
             Table::Exchanges => "exchanges.tsv",
             Table::Keys => "keys.tsv",
             Table::Recordings => "recordings.tsv",
+            Table::Books => "books.tsv",
         }
     }
 
@@ -40,6 +42,7 @@ impl CaseTable for Table {
             Table::Exchanges => mappings::same(alloc, row),
             Table::Keys => mappings::key(alloc, row),
             Table::Recordings => mappings::recorded(alloc, row),
+            Table::Books => books::answers(alloc, row),
         }
     }
 }
