@@ -12,6 +12,7 @@ mod exchanges;
 mod groups;
 mod mappings;
 mod recordings;
+mod responses;
 mod scenarios;
 mod table;
 
@@ -32,6 +33,7 @@ fn main(rt: HostRuntime) -> io::Result<ExitCode> {
             Table::Keys,
             Table::Recordings,
             Table::Books,
+            Table::Responses,
         ]
         .as_slice(),
     )

@@ -1,6 +1,6 @@
 //! The tables, and which call each of them is about.
 
-use crate::{books, groups, mappings, recordings, scenarios};
+use crate::{books, groups, mappings, recordings, responses, scenarios};
 use case_table::compare::CaseTable;
 use case_table::row::Row;
 use std::alloc::{AllocError, Global};
@@ -17,6 +17,7 @@ pub enum Table {
     Keys,
     Recordings,
     Books,
+    Responses,
 }
 
 impl CaseTable for Table {
@@ -30,6 +31,7 @@ impl CaseTable for Table {
             Table::Keys => "keys.tsv",
             Table::Recordings => "recordings.tsv",
             Table::Books => "books.tsv",
+            Table::Responses => "responses.tsv",
         }
     }
 
@@ -43,6 +45,7 @@ impl CaseTable for Table {
             Table::Keys => mappings::key(alloc, row),
             Table::Recordings => mappings::recorded(alloc, row),
             Table::Books => books::answers(alloc, row),
+            Table::Responses => responses::answers(alloc, row),
         }
     }
 }

@@ -5,6 +5,7 @@
 #![tactic(auto)]
 
 pub mod accepted;
+mod apply;
 pub mod book;
 mod checks;
 pub mod error;
@@ -14,3 +15,4 @@ mod recordings;
 mod resets;
 mod scenarios;
 mod serve;
+mod stop;
