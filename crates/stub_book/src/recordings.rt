@@ -1,5 +1,9 @@
 // The calls that start a recording and add to it.
-ghost use Rattle.std.specs.Prelude.{◌≡◌, IfErr, IfOk, OnErr};
+ghost use Rattle.std.specs.Prelude.{◌≡◌, ◌⊎◌, IfErr, IfOk, OnErr};
+ghost use Rattle.error_code.specs.declared.error_code.ErrorCode.TheVariants as code;
+ghost use Rattle.recorder.specs.Recording.{IsOn};
+ghost use Rattle.recorder.specs.Target.{IsTarget};
+ghost use Rattle.request_journal.specs.Recording.{recording};
 ghost use Rattle.request_journal.specs.declared.input.BookInput.TheVariants as input;
 ghost use Rattle.stub_book.specs.Growth.{IsAccepted};
 ghost use Rattle.stub_book.specs.Refusals.{IsRefusal};
@@ -12,7 +16,8 @@ use error_code::error_code::ErrorCode;
 use plain_text::items::Items;
 use plain_text::text::Text;
 use recorder::exchange::SharedExchange;
-use recorder::recording::Recording;
+use recorder::exchanges::Exchanges;
+use recorder::recording::{Recording, Session};
 use recorder::target::Target;
 use request_journal::event::Event;
 
@@ -31,27 +36,39 @@ impl Book {
             (λ error. IsRefusal self.old (input.StartRecording target captured repeats) error.code) }
     {
         self.has_number()?;
-        if let Recording::On(_) = &self.recording {
-            return Err(BookError::from(ErrorCode::AlreadyRecording));
-        }
-        let upstream = Target::parse(self.alloc, target.as_str())?;
+        let upstream = self.upstream(target.as_str())?;
+        let kept = upstream.try_clone()?;
         let names = captured.try_clone()?;
         let event = Event::StartRecording {
-            target: upstream,
+            target: kept,
             captured: names,
             repeats,
         };
         let made = prepare(self.alloc, &mut self.history, event)?;
-        let number = self.history.last_number() + 1;
-        let started = self
-            .recording
-            .start(self.alloc, number, target.as_str(), captured, repeats);
-        // None is on, and the target was judged: only memory can be lacking.
-        if started.is_err() {
-            return Err(BookError::from(ErrorCode::OutOfMemory));
-        }
+        let start = self.history.last_number() + 1;
+        self.recording = Recording::On(Session {
+            start,
+            target: upstream,
+            captured,
+            repeats,
+            exchanges: Exchanges::new(self.alloc),
+        });
         self.history.push_reserved(made.event);
         Ok(made.accepted)
+    }
+
+    // Where a recording may be started, what it forwards to.
+    fn upstream(&self, target: &str) -> Result<Target, BookError>
+        ensures ok { IfOk result (λ upstream. (upstream ≡ target.now) × IsTarget target.now
+            × ¬ (IsOn (recording self.now))) }
+        ensures why { IfErr result (λ error. (error.code ≡ code.OutOfMemory)
+            ⊎ ((error.code ≡ code.AlreadyRecording) × IsOn (recording self.now))
+            ⊎ ((error.code ≡ code.BadTarget) × ¬ (IsOn (recording self.now)) × ¬ (IsTarget target.now))) }
+    {
+        if let Recording::On(_) = &self.recording {
+            return Err(BookError::from(ErrorCode::AlreadyRecording));
+        }
+        Ok(Target::parse(self.alloc, target)?)
     }
 
     /// Takes the exchange of the serve with this number into the recording that is on.

@@ -28,7 +28,7 @@ invariant_of-self-2 c =
     let room : ¬ (recorder.IsFull old) = λ h. let is = c.in_ok-take.ensures.full.1 (takes, h) in cc in
     let taken : IsTaken past c.args.serve = record {
       takes = subst (λ (r : Recording). TakesFrom r c.args.serve) c.self.invariant.same_recording takes;
-      known = omega (arith, c.if-serve-gt-last_number.false, c.last_number.ensures.value);
+      known = omega (arith, c.if-serve-last_number.false, c.last_number.ensures.value);
       room = subst (λ (r : Recording). ¬ (recorder.IsFull r)) c.self.invariant.same_recording room;
     } in
     let given = ap (λ (x : Exchange). event.Record c.args.serve x) c.in_ok-kept.ensures in
@@ -53,7 +53,7 @@ returns-clause-ok c =
     let room : ¬ (recorder.IsFull old) = λ h. let is = c.in_ok-take.ensures.full.1 (takes, h) in cc in
     let taken : IsTaken past c.args.serve = record {
       takes = subst (λ (r : Recording). TakesFrom r c.args.serve) c.self.invariant.same_recording takes;
-      known = omega (arith, c.if-serve-gt-last_number.false, c.last_number.ensures.value);
+      known = omega (arith, c.if-serve-last_number.false, c.last_number.ensures.value);
       room = subst (λ (r : Recording). ¬ (recorder.IsFull r)) c.self.invariant.same_recording room;
     } in
     let given = ap (λ (x : Exchange). event.Record c.args.serve x) c.in_ok-kept.ensures in
