@@ -98,8 +98,9 @@ fn template(alloc: Global, text: &str) -> Result<TemplateText, AllocError> {
 
 // The response of the version that was chosen.
 fn reply(alloc: Global, book: &mut Book, request: &Snapshot) -> Result<Reply, AllocError> {
-    match book.serve(request.try_clone()?) {
-        Ok(ServeAnswer::Stub(captured)) => respond(
+    let answer = book.serve(request.try_clone()?).ok().ok_or(AllocError)?;
+    match &answer {
+        ServeAnswer::Stub(captured) => respond(
             alloc,
             captured.mapping.spec.spec(),
             request,
