@@ -1,11 +1,18 @@
-//! Compares what recordings and their mappings are with the tables in `data/`.
+//! Compares what books, recordings and their mappings do with the tables in `data/`.
 #![tactic(auto)]
 
+mod book_answers;
+mod book_copies;
+mod book_inputs;
+mod book_mappings;
+mod book_words;
+mod books;
 mod bytes_cell;
 mod exchanges;
 mod groups;
 mod mappings;
 mod recordings;
+mod responses;
 mod scenarios;
 mod table;
 
@@ -25,6 +32,8 @@ fn main(rt: HostRuntime) -> io::Result<ExitCode> {
             Table::Exchanges,
             Table::Keys,
             Table::Recordings,
+            Table::Books,
+            Table::Responses,
         ]
         .as_slice(),
     )

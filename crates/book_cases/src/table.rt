@@ -1,6 +1,6 @@
 //! The tables, and which call each of them is about.
 
-use crate::{groups, mappings, recordings, scenarios};
+use crate::{books, groups, mappings, recordings, responses, scenarios};
 use case_table::compare::CaseTable;
 use case_table::row::Row;
 use std::alloc::{AllocError, Global};
@@ -16,6 +16,8 @@ pub enum Table {
     Exchanges,
     Keys,
     Recordings,
+    Books,
+    Responses,
 }
 
 impl CaseTable for Table {
@@ -28,6 +30,8 @@ impl CaseTable for Table {
             Table::Exchanges => "exchanges.tsv",
             Table::Keys => "keys.tsv",
             Table::Recordings => "recordings.tsv",
+            Table::Books => "books.tsv",
+            Table::Responses => "responses.tsv",
         }
     }
 
@@ -40,6 +44,8 @@ impl CaseTable for Table {
             Table::Exchanges => mappings::same(alloc, row),
             Table::Keys => mappings::key(alloc, row),
             Table::Recordings => mappings::recorded(alloc, row),
+            Table::Books => books::answers(alloc, row),
+            Table::Responses => responses::answers(alloc, row),
         }
     }
 }
