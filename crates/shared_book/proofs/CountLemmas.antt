@@ -96,8 +96,10 @@ pub too_low : (start : ℕ) (xs : List Receipt) (i : ℕ) (d : Receipt) → i < 
     → IsNonDecreasingBy (λ r. r.number) xs → numbers (take i xs) ≡ range_with_len (start + 1) i
     → (get_or xs i d).number < start + 1 + i → IsMiscounted start xs (get_or xs i d).number
 too_low start xs zero d l up e low =
-    inr ((λ (due : IsDue start xs (get_or xs 0 d).number). absurd (let a = due.0 in omega (arith, a, low))),
-    (let some = count_some (get_or xs 0 d).number xs 0 d l refl in omega (arith, some)))
+    inr (
+      (λ (due : IsDue start xs (get_or xs 0 d).number). absurd (let a = due.0 in omega (arith, a, low))),
+      (let some = count_some (get_or xs 0 d).number xs 0 d l refl in omega (arith, some)),
+    )
 too_low start xs (suc i) d l up e low =
     let before : (get_or xs i d).number ≡ start + 1 + i = number_before (start + 1) xs (suc i) i d (omega arith) (omega arith) e in
     let le : (get_or xs i d).number ≤ (get_or xs (suc i) d).number = up i (suc i) d (omega arith) l in

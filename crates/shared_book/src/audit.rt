@@ -36,11 +36,7 @@ pub(crate) fn audit<L: Origin>(entries: &mut ledger::Book<L>, seats: &mut [Seat<
 }
 
 // The same of one share and these seats. Each lends its share until all are counted.
-fn audit_with<L: Origin>(
-    entries: &mut ledger::Book<L>,
-    share: &mut Share<L>,
-    seats: &mut [Seat<L>],
-)
+fn audit_with<L: Origin>(entries: &mut ledger::Book<L>, share: &mut Share<L>, seats: &mut [Seat<L>])
     requires whole { share.old.parts + all_parts seats.old ≡ L.parts }
     requires some { 0 < share.old.parts }
     ensures counted { entries.old.total ≡ share.old.amount + length (receipts_of (all_lists seats.old)) }

@@ -9,7 +9,10 @@ use crate::seat::Seat;
 use std::alloc::{AllocError, Global};
 
 /// Copies of all receipts. They share the events.
-pub(crate) fn gather<L: Origin>(alloc: Global, seats: &[Seat<L>]) -> Result<Vec<Receipt>, AllocError>
+pub(crate) fn gather<L: Origin>(
+    alloc: Global,
+    seats: &[Seat<L>],
+) -> Result<Vec<Receipt>, AllocError>
     ensures { IfOk result (λ all. all.items ≡ receipts_of (all_lists seats.now)) }
 {
     let mut all = Vec::new(alloc);

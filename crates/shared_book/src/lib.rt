@@ -1,17 +1,18 @@
 //! One book for several threads. A lock keeps it, each accepted call is one event under it, and who makes calls has a
 //! seat, which keeps a receipt for each. Once all seats are there, `settle` compares their receipts with the book's
-//! history: they are those of one history, of which none is missing, doubled or invented.
+//! history: they are those of one history, none missing or doubled, each the event that the history keeps under its number.
+//! Of events that a checkpoint dropped only the numbers are compared.
 #![tactic(auto)]
 
+mod audit;
 pub mod book_read;
+mod compare;
+mod gather;
+mod locked;
+mod look;
 pub mod origin;
 pub mod receipt;
 pub mod seat;
 pub mod settle;
 pub mod settled;
 pub mod shared_book;
-mod audit;
-mod compare;
-mod gather;
-mod locked;
-mod look;

@@ -115,7 +115,11 @@ impl<L: Origin> Locked<L> {
 
     /// Makes the change, and enters that for the share.
     #[tactic(auto, using(crate::proofs::ReachedLemmas::reached_next, crate::proofs::ReachedLemmas::number_grown))]
-    pub(crate) fn apply(&mut self, share: &mut Share<L>, input: BookInput) -> Result<Receipt, BookError>
+    pub(crate) fn apply(
+        &mut self,
+        share: &mut Share<L>,
+        input: BookInput,
+    ) -> Result<Receipt, BookError>
         requires { 0 < share.old.parts }
         ensures reached { IsReached L.origin self.old }
         ensures ok { IfOk result (λ receipt. IsAsked input receipt.event × Grows self.old self.new receipt.event

@@ -18,11 +18,7 @@ use std::alloc::{AllocError, Global};
 use stub_book::book::Book;
 
 /// Looks up what is asked for. Where requests are to be matched, it gives all that the journal shows.
-pub(crate) fn look(
-    book: &Book,
-    alloc: Global,
-    asked: &BookRead,
-) -> Result<ReadAnswer, AllocError>
+pub(crate) fn look(book: &Book, alloc: Global, asked: &BookRead) -> Result<ReadAnswer, AllocError>
     ensures { IfOk result (IsLooked book.now asked.now) }
 {
     Ok(match asked {

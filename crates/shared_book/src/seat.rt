@@ -118,6 +118,8 @@ impl<L: Origin> Seat<L> {
     }
 
     /// Serves a request, and lends the receipt that it keeps.
+    // The clause `after` says of the value that the seat has once the lent receipt is no longer used that it is as
+    // `LendsServed` says.
     pub fn serve<R: Wait>(
         &mut self,
         rt: &R,
@@ -138,6 +140,7 @@ impl<L: Origin> Seat<L> {
     }
 
     /// Makes a change, and lends the receipt that it keeps.
+    // `after`: as at `serve`, with `LendsApplied`.
     pub fn apply<R: Wait>(
         &mut self,
         rt: &R,

@@ -9,12 +9,12 @@ use Rattle.shared_book.proofs.gather.fall.Goals as goal
 pub returns-in-Some : goal.returns-in-Some
 returns-in-Some g c =
     any_flat (Falls c.in-Some.number) lists c.args.seats.now c.loop-seat.seat-index c.seat-item.result (omega arith)
-        (subst (λ (s : Held). Any (Falls c.in-Some.number) (lists s)) c.seat-item.is c.in-Some.ensures)
+    (subst (λ (s : Held). Any (Falls c.in-Some.number) (lists s)) c.seat-item.is c.in-Some.ensures)
 
 pub loop-seat-preserved : goal.loop-seat-preserved
 loop-seat-preserved g c =
     all_flat_more IsRising lists c.args.seats.now c.loop-seat.seat-index c.seat-item.result (omega arith)
-        c.loop-seat.invariant (subst (λ (s : Held). All IsRising (lists s)) c.seat-item.is c.in_default.ensures)
+    c.loop-seat.invariant (subst (λ (s : Held). All IsRising (lists s)) c.seat-item.is c.in_default.ensures)
 
 pub returns : goal.returns
 returns g c =

@@ -9,4 +9,4 @@ returns-then-number-list c =
 pub loop-i-preserved : goal.loop-i-preserved
 loop-i-preserved c =
     rises_more _ _ c.index-list-i.result c.index-list-i-in-loop-i.result (omega arith) (omega arith)
-        c.loop-i.invariant c.if-number-list.false
+    c.loop-i.invariant c.if-number-list.false

@@ -9,12 +9,12 @@ use Rattle.shared_book.proofs.gather.fall_in_seat.Goals as goal
 pub returns-in-None : goal.returns-in-None
 returns-in-None g c =
     let joined : map (λ (v : Vec Receipt Global). v.items) c.as_slice-in-None.result.now
-            ≡ map (λ (v : Vec Receipt Global). v.items) c.seat.inside.joined.items =
-        ap (map (λ (v : Vec Receipt Global). v.items)) c.as_slice-in-None.ensures.value in
+    ≡ map (λ (v : Vec Receipt Global). v.items) c.seat.inside.joined.items =
+    ap (map (λ (v : Vec Receipt Global). v.items)) c.as_slice-in-None.ensures.value in
     subst (λ (s : Held). MatchOption c.fall_in_lists.result (All IsRising (lists s)) (λ n. Any (Falls n) (lists s)))
-        c.seat.view_is
-        (seat_fall c.fall_in_lists.result c.seat.inside.own.items
-        (map (λ (v : Vec Receipt Global). v.items) c.seat.inside.joined.items)
-        (subst IsRising c.as_slice.ensures.value c.in-None.ensures)
-        (subst (λ (l : List (List Receipt)). MatchOption c.fall_in_lists.result (All IsRising l) (λ n. Any (Falls n) l)) joined
-        c.fall_in_lists.ensures))
+    c.seat.view_is
+    (seat_fall c.fall_in_lists.result c.seat.inside.own.items
+    (map (λ (v : Vec Receipt Global). v.items) c.seat.inside.joined.items)
+    (subst IsRising c.as_slice.ensures.value c.in-None.ensures)
+    (subst (λ (l : List (List Receipt)). MatchOption c.fall_in_lists.result (All IsRising l) (λ n. Any (Falls n) l)) joined
+    c.fall_in_lists.ensures))

@@ -4,8 +4,11 @@ use Rattle.shared_book.proofs.seat.Seat.apply.Goals as goal
 
 pub returns-in-Ok : goal.returns-in-Ok
 returns-in-Ok g c = (
-  (refl, (λ _. tt),
-  lends_applied g.L.Origin.origin c.args.self.now c.keep_applied.new.self c.args.input c.last.result.now c.in-Ok.ensures.ok c.last.ensures),
+  (
+    refl,
+    (λ _. tt),
+    lends_applied g.L.Origin.origin c.args.self.now c.keep_applied.new.self c.args.input c.last.result.now c.in-Ok.ensures.ok c.last.ensures,
+  ),
   record { after = tt; why = tt },
 )
 
