@@ -1,1 +1,2 @@
 mod ReplyLemmas
+mod ResultLemmas

@@ -45,7 +45,7 @@ IsNotRead old new message reply =
 
 abbrev pub IsRead : Past → Limits → Held → Held → Message (List ℕ) → Reply → Type 0
 IsRead origin limits old new message reply =
-    (request : Request) × IsReceived message request × (length request.body ≤ BODY_LIMIT)
+    (request : Request) × IsReceived message request × (length (body_of message) ≤ BODY_LIMIT)
     × IsRequestAnswered origin limits old new request reply
 
 -- the reply to a message, and what the seat has gained by it

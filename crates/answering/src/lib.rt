@@ -5,6 +5,7 @@
 #![tactic(auto)]
 
 pub mod answer;
+mod event_reply;
 pub mod gate;
 mod reply;
 mod response;

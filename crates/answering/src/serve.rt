@@ -1,23 +1,17 @@
 // Requests that are no admin calls.
 ghost use Rattle.std.specs.Prelude.{IfErr, IfOk};
-ghost use Rattle.answering.specs.Served.{IsEventReply, IsNotServed, IsServeReply, IsServedWith};
-ghost use Rattle.stub_book.specs.Growth.{IsServed};
+ghost use Rattle.answering.specs.Served.{IsNotServed, IsServedWith};
 
+use crate::event_reply::event_reply;
 use crate::gate::Gate;
 use crate::site::Site;
-use error_code::error_code::ErrorCode;
 use mapping_model::reply::Reply;
 use mock_request::snapshot::Snapshot;
-use request_journal::event::{Event, ServeAnswer};
 use shared_book::origin::Origin;
-use shared_book::receipt::Receipt;
 use shared_book::seat::Seat;
-use std::alloc::{AllocError, Global};
+use std::alloc::Global;
 use std::sync::Wait;
 use stub_book::error::BookError;
-use stub_response::error_reply::error_reply;
-use stub_response::respond::respond;
-use stub_response::unmatched_reply::unmatched_reply;
 
 /// Serves the request, and gives the reply. It is made after the lock was let go, from the event that the receipt has.
 pub(crate) fn serve<L: Origin, R: Wait, G: Gate>(
@@ -31,42 +25,14 @@ pub(crate) fn serve<L: Origin, R: Wait, G: Gate>(
     ensures refused { IfErr result (λ error. IsNotServed L.origin seat.old seat.new request error.code) }
 {
     match seat.serve(rt, &site.book, request) {
-        Ok(receipt) => Ok(receipt_reply(alloc, site, receipt)?),
+        Ok(receipt) => Ok(event_reply(
+            alloc,
+            site.limits,
+            &site.gate,
+            receipt.number,
+            receipt.event.event(),
+        )?),
         Err(error) => Err(error),
     }
 }
 
-fn receipt_reply<L: Origin, G: Gate>(
-    alloc: Global,
-    site: &Site<L, G>,
-    receipt: &Receipt,
-) -> Result<Reply, AllocError>
-    requires { (request : _) × IsServed request receipt.now.event }
-    ensures { IfOk result (IsEventReply site.now.limits receipt.now.event) }
-{
-    match receipt.event.event() {
-        Event::Serve { request, answer } => {
-            serve_reply(alloc, site, receipt.number, request.request(), answer)
-        }
-        _ => unreachable!(),
-    }
-}
-
-fn serve_reply<L: Origin, G: Gate>(
-    alloc: Global,
-    site: &Site<L, G>,
-    number: u64,
-    request: &Snapshot,
-    answer: &ServeAnswer,
-) -> Result<Reply, AllocError>
-    ensures { IfOk result (IsServeReply site.now.limits request.now answer.now) }
-{
-    match answer {
-        ServeAnswer::Stub(captured) => {
-            site.gate.between_choice_and_render(number);
-            respond(alloc, captured.mapping.spec.spec(), request, site.limits)
-        }
-        ServeAnswer::Proxy(_target) => error_reply(alloc, 502, ErrorCode::UpstreamFailed),
-        ServeAnswer::Unmatched => unmatched_reply(alloc),
-    }
-}
