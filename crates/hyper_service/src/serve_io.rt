@@ -1,0 +1,56 @@
+// One connection.
+use crate::answers::Answers;
+use crate::desk::Desk;
+use crate::error::ServiceError;
+use crate::service::SiteService;
+use futures::executor::block_on;
+use hyper::server::conn::http1::Builder;
+use std::alloc::{AllocError, AllocGlobal, Global};
+use std::hash::RandomState;
+use std::random::RandomSource;
+use std::sync::{Arc, Wait};
+use tokio::io::{AsyncRead, AsyncWrite};
+
+/// How many lines of headers a request may have.
+pub const HEADER_LINES: usize = 256;
+
+/// Serves one connection until it ends, and gives its seat back.
+pub fn serve_io<R, A, I>(
+    rt: R,
+    site: &Arc<A>,
+    seat: A::Seat,
+    io: I,
+) -> (Option<A::Seat>, Result<(), ServiceError>)
+where
+    R: Wait + RandomSource + AllocGlobal + Copy + Drop,
+    A: Answers,
+    I: AsyncRead + AsyncWrite,
+{
+    let desk = match desk_of(rt.alloc(), site) {
+        Ok(desk) => desk,
+        Err(error) => return (Some(seat), Err(error.into())),
+    };
+    desk.put(&rt, seat);
+    let served = serve_at(rt, &desk, io);
+    (desk.take(&rt), served)
+}
+
+fn desk_of<A: Answers>(alloc: Global, site: &Arc<A>) -> Result<Arc<Desk<A>>, AllocError> {
+    Ok(Arc::new(alloc, Desk::new(Arc::try_clone(site)?))?)
+}
+
+// Serves one connection by the seat of the desk.
+fn serve_at<R, A, I>(rt: R, desk: &Arc<Desk<A>>, io: I) -> Result<(), ServiceError>
+where
+    R: Wait + RandomSource + AllocGlobal + Copy + Drop,
+    A: Answers,
+    I: AsyncRead + AsyncWrite,
+{
+    let mut builder = Builder::new(rt.alloc(), RandomState::new(&rt)?);
+    builder.max_headers(HEADER_LINES);
+    let service = SiteService::new(rt, Arc::try_clone(desk)?);
+    match block_on(&rt, builder.serve_connection(io, service))? {
+        Ok(()) => Ok(()),
+        Err(error) => Err(ServiceError::Connection(error)),
+    }
+}
