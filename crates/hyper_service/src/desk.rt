@@ -4,6 +4,7 @@ use crate::error::ServiceError;
 use bytes::Bytes;
 use http::{Request, Response};
 use http_body_util::Full;
+use std::alloc::Global;
 use std::sync::{Arc, Mutex, Wait};
 
 /// A site, and the place of one connection's seat. The seat stays in it while a request is answered.
@@ -36,11 +37,12 @@ impl<A: Answers> Desk<A> {
     pub fn answer<R: Wait>(
         &self,
         rt: &R,
+        alloc: Global,
         request: Request<Bytes>,
     ) -> Result<Response<Full<Bytes>>, ServiceError> {
         let mut held = self.seat.lock(rt);
         match &mut *held {
-            Some(seat) => Ok(self.site.answer(rt, seat, request)?),
+            Some(seat) => Ok(self.site.answer(rt, alloc, seat, request)?),
             None => Err(ServiceError::NoSeat),
         }
     }

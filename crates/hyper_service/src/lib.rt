@@ -3,8 +3,13 @@
 // implements `Answers`.
 #![tactic(auto)]
 
+pub mod accepting;
 pub mod answers;
 pub mod desk;
 pub mod error;
+pub mod hall;
+pub mod host;
 pub mod serve_io;
+pub mod serve_on;
 pub mod service;
+pub mod visit;

@@ -7,6 +7,7 @@ use futures::executor::block_on;
 use hyper::server::conn::http1::Builder;
 use std::alloc::{AllocError, AllocGlobal, Global};
 use std::hash::RandomState;
+use std::io;
 use std::random::RandomSource;
 use std::sync::{Arc, Wait};
 use tokio::io::{AsyncRead, AsyncWrite};
@@ -46,11 +47,16 @@ where
     A: Answers,
     I: AsyncRead + AsyncWrite,
 {
-    let mut builder = Builder::new(rt.alloc(), RandomState::new(&rt)?);
-    builder.max_headers(HEADER_LINES);
     let service = SiteService::new(rt, Arc::try_clone(desk)?);
-    match block_on(&rt, builder.serve_connection(io, service))? {
+    match block_on(&rt, builder(rt)?.serve_connection(io, service))? {
         Ok(()) => Ok(()),
         Err(error) => Err(ServiceError::Connection(error)),
     }
+}
+
+/// The settings of a connection.
+pub(crate) fn builder<R: AllocGlobal + RandomSource>(rt: R) -> io::Result<Builder> {
+    let mut builder = Builder::new(rt.alloc(), RandomState::new(&rt)?);
+    builder.max_headers(HEADER_LINES);
+    Ok(builder)
 }

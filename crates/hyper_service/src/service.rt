@@ -97,7 +97,11 @@ where
             Err(LimitedError::LengthLimit) => overlong(self.rt.alloc())?,
             Err(LimitedError::Body(_error)) => return Err(ServiceError::BodyBrokeOff),
         };
-        desk.answer(&self.rt, Request::from_parts(head, bytes))
+        desk.answer(
+            &self.rt,
+            self.rt.alloc(),
+            Request::from_parts(head, bytes),
+        )
     }
 }
 
