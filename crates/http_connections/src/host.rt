@@ -5,7 +5,7 @@ use crate::accepting::Greets;
 use crate::answers::Answers;
 use crate::desk::Desk;
 use crate::hall::{Hall, Place};
-use crate::service::SiteService;
+use crate::service::MessageService;
 use crate::visit::Visit;
 use bytes::Bytes;
 use http_body_util::Full;
@@ -55,7 +55,7 @@ where
     R: Wait + AllocGlobal + Copy + Drop,
     A: Answers,
 {
-    type Task = Visit<R, A, Connection<TcpStream, SiteService<R, A>, Full<Bytes>>>;
+    type Task = Visit<R, A, Connection<TcpStream, MessageService<R, A>, Full<Bytes>>>;
 
     fn wants_more(&self) -> bool {
         self.left != Some(0) && self.hall.is_open(&self.rt)
@@ -65,7 +65,7 @@ where
         self.left = self.left.map(|left| left.saturating_sub(1));
         let hall = Arc::try_clone(&self.hall).ok()?;
         let desk = self.place()?;
-        let service = SiteService::new(self.rt, Arc::try_clone(&desk).ok()?);
+        let service = MessageService::new(self.rt, Arc::try_clone(&desk).ok()?);
         // Answers are written whole, so there is nothing to wait for.
         let _ = socket.set_nodelay(true);
         let connection = self.builder.serve_connection(socket, service);

@@ -6,7 +6,6 @@
 pub mod accepting;
 pub mod answers;
 pub mod desk;
-pub mod error;
 pub mod hall;
 pub mod host;
 pub mod serve_io;

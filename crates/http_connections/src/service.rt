@@ -1,7 +1,7 @@
 // The requests of one connection.
 use crate::answers::Answers;
 use crate::desk::Desk;
-use crate::error::ServiceError;
+use http_messages::error::ServiceError;
 use bytes::{Bytes, BytesMut};
 use futures::task::{Context, Poll};
 use futures::{Future, ready};
@@ -19,7 +19,7 @@ pub const GATHERED: usize = 1_048_577;
 
 /// Answers the requests of one connection, by the seat of its desk.
 #[derive(Drop)]
-pub struct SiteService<R, A: Answers> {
+pub struct MessageService<R, A: Answers> {
     rt: R,
     desk: Arc<Desk<A>>,
 }
@@ -33,13 +33,13 @@ pub struct Answering<R, A: Answers, G> {
     body: G,
 }
 
-impl<R, A: Answers> SiteService<R, A> {
-    pub fn new(rt: R, desk: Arc<Desk<A>>) -> SiteService<R, A> {
-        SiteService { rt, desk }
+impl<R, A: Answers> MessageService<R, A> {
+    pub fn new(rt: R, desk: Arc<Desk<A>>) -> MessageService<R, A> {
+        MessageService { rt, desk }
     }
 }
 
-impl<R, A, I> Service<Request<Incoming<I>>> for SiteService<R, A>
+impl<R, A, I> Service<Request<Incoming<I>>> for MessageService<R, A>
 where
     R: Wait + AllocGlobal + Copy + Drop,
     A: Answers,
@@ -95,7 +95,7 @@ where
         let bytes = match gathered {
             Ok(collected) => collected.to_bytes()?,
             Err(LimitedError::LengthLimit) => overlong(self.rt.alloc())?,
-            Err(LimitedError::Body(_error)) => return Err(ServiceError::BodyBrokeOff),
+            Err(LimitedError::Body(_error)) => return Err(ServiceError::Broken),
         };
         desk.answer(
             &self.rt,

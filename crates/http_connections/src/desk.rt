@@ -1,9 +1,10 @@
 // Where a connection's seat lies, beside the site that it answers for.
 use crate::answers::Answers;
-use crate::error::ServiceError;
 use bytes::Bytes;
 use http::{Request, Response};
 use http_body_util::Full;
+use http_messages::error::ServiceError;
+use http_messages::wire::sent;
 use std::alloc::Global;
 use std::sync::{Arc, Mutex, Wait};
 
@@ -33,8 +34,18 @@ impl<A: Answers> Desk<A> {
         self.seat.lock(rt).take()
     }
 
-    /// The answer to a request, by the seat.
+    /// What is sent of the answer to a request, by the seat.
     pub fn answer<R: Wait>(
+        &self,
+        rt: &R,
+        alloc: Global,
+        request: Request<Bytes>,
+    ) -> Result<Response<Full<Bytes>>, ServiceError> {
+        let answer = self.answer_at_seat(rt, alloc, request)?;
+        Ok(sent(alloc, answer)?)
+    }
+
+    fn answer_at_seat<R: Wait>(
         &self,
         rt: &R,
         alloc: Global,
@@ -42,8 +53,8 @@ impl<A: Answers> Desk<A> {
     ) -> Result<Response<Full<Bytes>>, ServiceError> {
         let mut held = self.seat.lock(rt);
         match &mut *held {
-            Some(seat) => Ok(self.site.answer(rt, alloc, seat, request)?),
-            None => Err(ServiceError::NoSeat),
+            Some(seat) => self.site.answer(rt, alloc, seat, request),
+            None => Err(ServiceError::Broken),
         }
     }
 }

@@ -2,7 +2,8 @@
 use bytes::Bytes;
 use http::{Request, Response};
 use http_body_util::Full;
-use std::alloc::{AllocError, Global};
+use http_messages::error::ServiceError;
+use std::alloc::Global;
 use std::sync::Wait;
 
 /// Answers the requests of connections, each of which has a seat of its own.
@@ -16,27 +17,11 @@ pub trait Answers: Drop {
         alloc: Global,
         seat: &mut Self::Seat,
         request: Request<Bytes>,
-    ) -> Result<Response<Full<Bytes>>, AllocError>;
+    ) -> Result<Response<Full<Bytes>>, ServiceError>;
 
     /// A new seat for a connection, `None` where the seat can't be split.
     fn split(seat: &mut Self::Seat) -> Option<Self::Seat>;
 
     /// Takes over the seat of a connection that has ended, or hands it back where memory runs out.
     fn join(seat: &mut Self::Seat, other: Self::Seat) -> Result<(), Self::Seat>;
-
-    /// Compares what the seats saw with what the site keeps, and gives the number of events.
-    fn settle<R: Wait>(
-        &self,
-        rt: &R,
-        alloc: Global,
-        seats: Vec<Self::Seat>,
-    ) -> Result<u64, Unsettled>;
-}
-
-/// Why seats aren't settled.
-#[derive(Clone, Copy, Debug, PartialEq, Eq)]
-pub enum Unsettled {
-    SeatsMissing,
-    Mismatch,
-    OutOfMemory,
 }

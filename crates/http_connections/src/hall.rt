@@ -33,20 +33,24 @@ pub enum Place<A: Answers> {
 }
 
 impl<A: Answers> Hall<A> {
-    pub fn new(alloc: Global, site: Arc<A>, seat: A::Seat) -> Hall<A> {
+    /// A hall without a seat.
+    pub fn new(alloc: Global, site: Arc<A>) -> Hall<A> {
         Hall {
             site,
             seats: Mutex::new(Seats {
-                own: Some(seat),
+                own: None,
                 desks: Vec::new(alloc),
                 free: Vec::new(alloc),
-                is_open: true,
+                is_open: false,
             }),
         }
     }
 
-    pub fn site(&self) -> &Arc<A> {
-        &self.site
+    /// Lets connections come in, with the seat that theirs are split off.
+    pub fn open<R: Wait>(&self, rt: &R, seat: A::Seat) {
+        let mut seats = self.seats.lock(rt);
+        seats.own = Some(seat);
+        seats.is_open = true;
     }
 
     /// Makes a place for a connection.

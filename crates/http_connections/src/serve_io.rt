@@ -1,13 +1,14 @@
 // One connection.
 use crate::answers::Answers;
 use crate::desk::Desk;
-use crate::error::ServiceError;
-use crate::service::SiteService;
+use http_messages::error::ServiceError;
+use crate::service::MessageService;
 use futures::executor::block_on;
 use hyper::server::conn::http1::Builder;
 use std::alloc::{AllocError, AllocGlobal, Global};
 use std::hash::RandomState;
 use std::io;
+use std::io::ErrorKind;
 use std::random::RandomSource;
 use std::sync::{Arc, Wait};
 use tokio::io::{AsyncRead, AsyncWrite};
@@ -47,16 +48,29 @@ where
     A: Answers,
     I: AsyncRead + AsyncWrite,
 {
-    let service = SiteService::new(rt, Arc::try_clone(desk)?);
-    match block_on(&rt, builder(rt)?.serve_connection(io, service))? {
-        Ok(()) => Ok(()),
-        Err(error) => Err(ServiceError::Connection(error)),
+    let service = MessageService::new(rt, Arc::try_clone(desk)?);
+    let Ok(builder) = builder(&rt) else {
+        return Err(ServiceError::Broken);
+    };
+    match block_on(&rt, builder.serve_connection(io, service)) {
+        Ok(Ok(())) => Ok(()),
+        Ok(Err(_error)) => Err(ServiceError::Broken),
+        Err(error) => Err(refused(&error)),
     }
 }
 
 /// The settings of a connection.
-pub(crate) fn builder<R: AllocGlobal + RandomSource>(rt: R) -> io::Result<Builder> {
-    let mut builder = Builder::new(rt.alloc(), RandomState::new(&rt)?);
+pub(crate) fn builder<R: AllocGlobal + RandomSource>(rt: &R) -> io::Result<Builder> {
+    let mut builder = Builder::new(rt.alloc(), RandomState::new(rt)?);
     builder.max_headers(HEADER_LINES);
     Ok(builder)
+}
+
+/// Why the system refused a call.
+pub(crate) fn refused(error: &io::Error) -> ServiceError {
+    if error.kind() == ErrorKind::OutOfMemory {
+        ServiceError::OutOfMemory
+    } else {
+        ServiceError::Broken
+    }
 }
