@@ -2,5 +2,6 @@
 // (`wire`). Contracts cite `specs/Received.antt` and `specs/Wire.antt`.
 #![tactic(auto)]
 
+pub mod error;
 pub mod received;
 pub mod wire;
