@@ -3,7 +3,7 @@
 use crate::responses::responses_in;
 use crate::stand_in::{Counter, Ticket};
 use http_connections::serve_on::{Day, End, serve_all};
-use std::alloc::{AllocGlobal, Global};
+use std::alloc::{AllocError, AllocGlobal, Global};
 use std::io::{Read, Write};
 use std::net::{Ipv4Addr, Net, SocketAddr, TcpStream};
 use std::random::RandomSource;
@@ -14,9 +14,45 @@ use std::{io, net};
 use tokio::net::TcpListener;
 use tokio::runtime::Runtime;
 
-/// Three connections: the first is silent, the second is answered nevertheless, the third breaks off in its request. What the
-/// second was sent, how many requests were answered, how many parts all seats have, and how the day ended.
-pub fn day<R>(rt: R) -> io::Result<String>
+const CLOSING: &str = "GET /x HTTP/1.1\r\nHost: h\r\nConnection: close\r\n\r\n";
+
+/// What the clients of a day do, one after the other.
+#[derive(Clone, Copy)]
+pub enum Clients {
+    /// The first is silent, the second is answered nevertheless, the third breaks off in its request.
+    SilentFirst,
+    /// One waits to be told to go on before it sends its content.
+    Expectant,
+    /// The first is silent, and no seat is left for the second.
+    OneTooMany,
+    /// One asks and is gone, so many times.
+    Hasty(u32),
+    /// Each asks once, so many times.
+    Short(u32),
+}
+
+impl Clients {
+    // How many connections they are served.
+    fn connections(self) -> u64 {
+        match self {
+            Clients::SilentFirst => 3,
+            Clients::Expectant => 1,
+            Clients::OneTooMany => 2,
+            Clients::Hasty(count) | Clients::Short(count) => u64::from(count),
+        }
+    }
+
+    fn parts(self) -> u64 {
+        match self {
+            Clients::OneTooMany => 2,
+            _ => 9,
+        }
+    }
+}
+
+/// What the clients of a day were sent, how many requests were answered, how many parts how many seats have, and how the
+/// day ended.
+pub fn day<R>(rt: R, clients: Clients) -> io::Result<String>
 where
     R: Net<Stream = TcpStream, Listener = net::TcpListener>
         + Wait
@@ -34,43 +70,106 @@ where
     let listener = TcpListener::bind(&rt, address, runtime.handle().reactor())?;
     let address = listener.local_addr()?;
     let site = Arc::new(rt.alloc(), Counter)?;
-    let seat = Ticket { count: 0, parts: 9 };
+    let seat = Ticket {
+        count: 0,
+        parts: clients.parts(),
+    };
     let runtime = &mut runtime;
     let (day, sent) = join(
         &rt,
-        move || serve_all(rt, runtime, listener, &site, seat, Some(3)),
-        move || visits(rt, address),
+        move || serve_all(rt, runtime, listener, &site, seat, Some(clients.connections())),
+        move || visits(&rt, clients, address),
     );
-    let sent = responses_in(rt.alloc(), sent?.as_str(), false)?;
-    let Day { seats, end } = day?;
-    let mut count = 0u64;
-    let mut parts = 0u64;
-    for seat in &seats {
-        count = count.saturating_add(seat.count);
-        parts = parts.saturating_add(seat.parts);
-    }
-    let end = if end == End::AllServed { "all served" } else { "stopped" };
-    Ok(format!(in rt.alloc(); "sent{sent}, answered {count}, parts {parts}, {end}")?)
+    let sent = sent?;
+    Ok(told(rt.alloc(), sent.as_str(), &day?)?)
 }
 
-fn visits<R>(rt: R, address: SocketAddr) -> io::Result<String>
+fn told(alloc: Global, sent: &str, day: &Day<Ticket>) -> Result<String, AllocError> {
+    let sent = responses_in(alloc, sent, false)?;
+    let mut answered = 0u64;
+    let mut parts = 0u64;
+    for seat in &day.seats {
+        answered = answered.saturating_add(seat.count);
+        parts = parts.saturating_add(seat.parts);
+    }
+    let end = match day.end {
+        End::AllServed => "all served",
+        End::AcceptFailed => "accept failed",
+        End::OutOfMemory => "out of memory",
+    };
+    let seats = day.seats.len();
+    format!(in alloc; "{answered} answered, {seats} seats, {parts} parts, {end}{sent}")
+}
+
+// What the last client that listens was sent.
+fn visits<R>(rt: &R, clients: Clients, address: SocketAddr) -> io::Result<String>
 where
     R: Net<Stream = TcpStream> + AllocGlobal,
 {
-    let silent = TcpStream::connect(&rt, address)?;
-    let sent = ask(&rt, rt.alloc(), address, "GET /x HTTP/1.1\r\nHost: h\r\nConnection: close\r\n\r\n")?;
-    let mut broken = TcpStream::connect(&rt, address)?;
+    match clients {
+        Clients::SilentFirst => silent_first(rt, address),
+        Clients::Expectant => expectant(rt, address),
+        Clients::OneTooMany => {
+            let silent = TcpStream::connect(rt, address)?;
+            let sent = ask(rt, address)?;
+            drop(silent);
+            Ok(sent)
+        }
+        Clients::Hasty(count) => {
+            for _ in 0..count {
+                TcpStream::connect(rt, address)?.write_all(CLOSING.as_bytes())?;
+            }
+            Ok(String::new(rt.alloc()))
+        }
+        Clients::Short(count) => {
+            let mut sent = String::new(rt.alloc());
+            for _ in 0..count {
+                sent = ask(rt, address)?;
+            }
+            Ok(sent)
+        }
+    }
+}
+
+fn silent_first<R>(rt: &R, address: SocketAddr) -> io::Result<String>
+where
+    R: Net<Stream = TcpStream> + AllocGlobal,
+{
+    let silent = TcpStream::connect(rt, address)?;
+    let sent = ask(rt, address)?;
+    let mut broken = TcpStream::connect(rt, address)?;
     broken.write_all(b"GET /x HT")?;
     drop(broken);
     drop(silent);
     Ok(sent)
 }
 
-// What is sent until the connection ends.
-fn ask<R: Net<Stream = TcpStream>>(rt: &R, alloc: Global, address: SocketAddr, text: &str) -> io::Result<String> {
+// Sends content once it is told to go on (RFC 9110, 10.1.1).
+fn expectant<R>(rt: &R, address: SocketAddr) -> io::Result<String>
+where
+    R: Net<Stream = TcpStream> + AllocGlobal,
+{
     let mut stream = TcpStream::connect(rt, address)?;
-    stream.write_all(text.as_bytes())?;
-    let mut sent = String::new(alloc);
+    stream.write_all(
+        b"POST /x HTTP/1.1\r\nHost: h\r\nConnection: close\r\nExpect: 100-continue\r\nContent-Length: 3\r\n\r\n",
+    )?;
+    let mut told = [0; 25];
+    stream.read_exact(&mut told)?;
+    stream.write_all(b"abc")?;
+    let mut sent = String::from_utf8(Vec::from_slice(rt.alloc(), &told)?).unwrap_or(String::new(rt.alloc()));
     stream.read_to_string(&mut sent)?;
+    Ok(sent)
+}
+
+// What is sent until the connection ends; nothing where it is cut off.
+fn ask<R>(rt: &R, address: SocketAddr) -> io::Result<String>
+where
+    R: Net<Stream = TcpStream> + AllocGlobal,
+{
+    let mut stream = TcpStream::connect(rt, address)?;
+    let mut sent = String::new(rt.alloc());
+    if stream.write_all(CLOSING.as_bytes()).is_ok() {
+        let _ = stream.read_to_string(&mut sent);
+    }
     Ok(sent)
 }

@@ -46,7 +46,7 @@ impl<R: Wait + RandomSource + AllocGlobal + Copy + Drop> CaseTable for Exchanges
     }
 }
 
-fn peer_of<R>(rt: R, alloc: Global, row: &Row, sent: Sent) -> Result<Peer<R>, AllocError> {
+fn peer_of<R: Drop>(rt: R, alloc: Global, row: &Row, sent: Sent) -> Result<Peer<R>, AllocError> {
     let mut says = BytesMut::new(alloc);
     says.extend_from_slice(row.cell(2).as_bytes())?;
     let piece = row.cell(1).parse::<usize>().unwrap_or(1);

@@ -5,6 +5,7 @@ use case_table::cells::Cells;
 use std::alloc::{AllocError, Global};
 
 /// A response, and the text after it.
+#[derive(Drop)]
 struct Parted<'a> {
     status: &'a str,
     content: &'a str,
@@ -38,7 +39,8 @@ pub fn responses_in(alloc: Global, text: &str, are_heads: bool) -> Result<String
 
 fn first_response(text: &str, are_heads: bool) -> Option<Parted<'_>> {
     let (head, after) = text.split_once("\r\n\r\n")?;
-    let status = head.strip_prefix("HTTP/1.1 ")?.split(' ').next()?;
+    let version = if head.starts_with("HTTP/1.0 ") { "HTTP/1.0 " } else { "HTTP/1.1 " };
+    let status = head.strip_prefix(version)?.split(' ').next()?;
     let has_none = are_heads || status.starts_with('1') || status == "204" || status == "304";
     let (content, rest) = if has_none {
         ("", after)
