@@ -45,7 +45,7 @@ impl Clients {
     fn parts(self) -> u64 {
         match self {
             Clients::OneTooMany => 2,
-            _ => 9,
+            _ => 1_000,
         }
     }
 }
