@@ -1,0 +1,30 @@
+// One connection.
+use answering::gate::Gate;
+use answering::site::Site;
+use http_connections::service::MessageService;
+use http_messages::error::ServiceError;
+use shared_book::origin::Origin;
+use shared_book::seat::Seat;
+use std::alloc::AllocGlobal;
+use std::random::RandomSource;
+use std::sync::{Arc, Wait};
+use tokio::io::{AsyncRead, AsyncWrite};
+
+/// Answers the requests of one connection.
+pub type SiteService<R, L, G> = MessageService<R, Site<L, G>>;
+
+/// Serves one connection until it ends, and gives its seat back, however it ends.
+pub fn serve_io<R, L, G, I>(
+    rt: R,
+    site: &Arc<Site<L, G>>,
+    seat: Seat<L>,
+    io: I,
+) -> (Option<Seat<L>>, Result<(), ServiceError>)
+where
+    R: Wait + RandomSource + AllocGlobal + Copy + Drop,
+    L: Origin,
+    G: Gate + Drop,
+    I: AsyncRead + AsyncWrite,
+{
+    http_connections::serve_io::serve_io(rt, site, seat, io)
+}
