@@ -65,7 +65,7 @@ def defines(code, name):
 
 
 def clause_exists(code, specs, name):
-    clause = rf"\b(?:ensures|requires)\s+{re.escape(name)}\s*\{{"
+    clause = rf"\b(?:ensures|requires)\*?\s+{re.escape(name)}\s*\{{"
     field = rf"^\s+pub {re.escape(name)} :"
     return re.search(clause, code) or re.search(field, specs, re.M)
 
@@ -75,7 +75,7 @@ def function_has_clause(code, function, clause):
         after = code[start.end() :]
         end = re.search(r"\bfn\s+\w+", after)
         contract = after[: end.start()] if end else after
-        if re.search(rf"\bensures\s+{re.escape(clause)}\s*\{{", contract):
+        if re.search(rf"\bensures\*?\s+{re.escape(clause)}\s*\{{", contract):
             return True
     return False
 

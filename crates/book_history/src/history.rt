@@ -8,9 +8,10 @@ ghost use Rattle.request_journal.specs.declared.limits.TheConstants.{NUMBER_LIMI
 
 use crate::error::HistoryError;
 use crate::events::Events;
-use crate::journal::{Shown, meets, visible};
+use crate::journal::{Shown, visible};
 use crate::known::Known;
 use crate::parts::Parts;
+use crate::pick::pick;
 use plain_text::items::Items;
 use request_journal::entry::Entry;
 use request_journal::limits;
@@ -197,14 +198,7 @@ impl History {
             (λ entry. MeetsRequest matcher.old entry.request) (requests self.now.past) found.items) }
         ensures same { matcher.new ≡ matcher.old }
     {
-        let shown = self.requests(alloc)?;
-        let mut found = Vec::new(alloc);
-        for entry in shown.as_slice() {
-            if meets(alloc, matcher, &entry.request)? {
-                found.push(entry.try_clone()?)?;
-            }
-        }
-        Ok(found)
+        pick(alloc, matcher, self.requests(alloc)?.as_slice())
     }
 
     /// How many meet the matcher.

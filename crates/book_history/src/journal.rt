@@ -1,14 +1,11 @@
 // What the journal shows of a list of events.
-ghost use Rattle.std.specs.Prelude.{◌≡◌, ◌+◌, ◌^◌, ◌<◌, ◌↔◌, length, option_copied, IfOk, IsTrue};
-ghost use Rattle.request_match.specs.Matching.{MeetsRequest};
+ghost use Rattle.std.specs.Prelude.{◌≡◌, ◌+◌, ◌^◌, ◌<◌, length, option_copied, IfOk};
 ghost use Rattle.book_history.specs.Inner.Shown.{found_by, visible_in};
 
 use request_journal::entry::Entry;
 use request_journal::event::Event;
 use request_journal::shared_event::SharedEvent;
 use request_journal::shared_request::SharedRequest;
-use request_match::parsed_request::ParsedRequest;
-use request_match::request_matcher::RequestMatcher;
 use std::alloc::{AllocError, Global};
 
 /// Which requests are shown.
@@ -59,17 +56,4 @@ pub(crate) fn visible(
         }
     }
     Ok(entries)
-}
-
-/// Whether the request meets the matcher.
-pub(crate) fn meets(
-    alloc: Global,
-    matcher: &mut RequestMatcher,
-    request: &SharedRequest,
-) -> Result<bool, AllocError>
-    ensures answer { IfOk result (λ yes. IsTrue yes ↔ MeetsRequest matcher.old request.now) }
-    ensures same { matcher.new ≡ matcher.old }
-{
-    let mut parsed = ParsedRequest::read(alloc, request.request())?;
-    matcher.matches(&mut parsed)
 }

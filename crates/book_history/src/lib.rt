@@ -8,3 +8,4 @@ pub mod history;
 mod journal;
 mod known;
 mod parts;
+pub mod pick;

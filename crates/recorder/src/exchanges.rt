@@ -21,7 +21,7 @@ impl Model for Exchanges {
 }
 
 impl Exchanges {
-    pub(crate) fn new(alloc: Global) -> Exchanges
+    pub fn new(alloc: Global) -> Exchanges
         ensures { result ≡ [] }
     {
         Exchanges {

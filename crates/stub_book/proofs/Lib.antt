@@ -7,3 +7,4 @@ pub mod OpenLemmas
 pub mod StateLemmas
 pub mod RefusalLemmas
 pub mod ApplyLemmas
+pub mod StopLemmas

@@ -9,7 +9,9 @@ use Rattle.recorder.specs.Recording.{IsOn, IsOnAnd, TakesFrom, IsFull, HasTaken,
 use Rattle.recorder.specs.declared.exchange.Exchange.{Exchange}
 use Rattle.recorder.specs.declared.recording.Recording.{Recording}
 use Rattle.recorder.specs.declared.recording.Recording.TheVariants.{NeverStarted, On, Stopped}
+use Rattle.recorder.specs.declared.recording.Session.{Session}
 use Rattle.request_journal.specs.State.{next_state}
+use Rattle.request_journal.specs.declared.mapping.Mapping.{Mapping}
 use Rattle.request_journal.specs.declared.event.Event.TheVariants as event
 use Rattle.request_journal.proofs.RecordingLemmas.{recording_by}
 use Rattle.scenario_core.specs.Scenarios.{States, state_of, MovesTo}
@@ -49,3 +51,23 @@ did_take serve exchange (On session) new h not = later session.start serve not
       ]
     ]
 did_take serve exchange (Stopped session) new h not = absurd h
+
+-- the recording after a stop
+pub after_stop :
+    (number skipped : ℕ) (mappings : List Mapping) (old new : Recording) → HasStopped old new
+    → new ≡ recording_by number (event.StopRecording mappings skipped) old
+after_stop number skipped mappings NeverStarted new h = absurd h
+after_stop number skipped mappings (On session) new h = h ∙ ap (λ xs. Stopped (record {
+  start = session.start;
+  target = session.target;
+  captured = session.captured;
+  repeats = session.repeats;
+  exchanges = xs;
+})) (sym (append-nil session.exchanges))
+after_stop number skipped mappings (Stopped session) new h = absurd h
+
+-- it stopped one that was on
+pub was_on : (P : Session → Type 0) (recording : Recording) → IsOnAnd recording P → IsOn recording
+was_on P NeverStarted h = absurd h
+was_on P (On session) h = tt
+was_on P (Stopped session) h = absurd h

@@ -1,24 +1,34 @@
 -- How the past of a book grows.
 use Rattle.std.specs.Prelude.{◌≡◌, MatchBool}
+use Rattle.mock_request.specs.Request.{Request}
 use Rattle.request_journal.specs.Input.{IsAsked, answer_of}
 use Rattle.request_journal.specs.Journal.{clears}
 use Rattle.request_journal.specs.Legal.{IsNext, IsCheckpoint}
 use Rattle.request_journal.specs.Past.{Past, with_event}
 use Rattle.request_journal.specs.declared.event.Event.{Event}
+use Rattle.request_journal.specs.declared.event.Event.TheVariants as event
+use Rattle.request_journal.specs.declared.event.ServeAnswer.{ServeAnswer}
 use Rattle.request_journal.specs.declared.input.BookAnswer.{BookAnswer}
 use Rattle.request_journal.specs.declared.input.BookInput.{BookInput}
+use Rattle.stub_book.specs.declared.accepted.Accepted.{Accepted}
 
 -- the past after an event: the old one with it, or, where it clears the journal, a checkpoint of the old one with it
 abbrev pub IsAfter : Past → Event → Past → Type 0
-IsAfter old event new =
-    MatchBool (clears event)
-    ((base : Past) × IsCheckpoint old base × (new ≡ with_event base event))
-    (new ≡ with_event old event)
+IsAfter old added new =
+    MatchBool (clears added)
+    ((base : Past) × IsCheckpoint old base × (new ≡ with_event base added))
+    (new ≡ with_event old added)
 
 -- by one event, which is what was asked for with the answer that the past demands
-pub record Grows (old new : Past) (event : Event) : Type 0 where
-  pub next : IsNext old event
-  pub after : IsAfter old event new
+pub record Grows (old new : Past) (added : Event) : Type 0 where
+  pub next : IsNext old added
+  pub after : IsAfter old added new
+
+-- by one such event, which is this input, and it was given back with its answer
+pub record IsAccepted (old new : Past) (asked : BookInput) (accepted : Accepted) : Type 0 where
+  pub asked_for : IsAsked asked accepted.event
+  pub answered : accepted.answer ≡ answer_of accepted.event
+  pub grows : Grows old new accepted.event
 
 -- by one such event, which is this input with this answer
 pub record Applies (old new : Past) (asked : BookInput) (answer : BookAnswer) : Type 0 where
@@ -26,3 +36,7 @@ pub record Applies (old new : Past) (asked : BookInput) (answer : BookAnswer) : 
   pub asked_for : IsAsked asked event
   pub answered : answer ≡ answer_of event
   pub grows : Grows old new event
+
+-- the event is that of the request, with whatever answer
+abbrev pub IsServed : Request → Event → Type 0
+IsServed request served = (answer : ServeAnswer) × (served ≡ event.Serve request answer)

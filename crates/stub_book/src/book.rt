@@ -1,6 +1,7 @@
 // The book.
 ghost use Rattle.std.specs.Prelude.{◌≡◌, ◌↔◌, ◌≤◌, ℕ, List, Any, IfErr, IfOk, IsErr, length};
 ghost use Rattle.error_code.specs.declared.error_code.ErrorCode.TheVariants as code;
+ghost use Rattle.mapping_store.specs.Stored.{IsNewestFirst};
 ghost use Rattle.request_journal.specs.Legal.{IsLegal, IsLive};
 ghost use Rattle.request_journal.specs.Live.{live};
 ghost use Rattle.request_journal.specs.Past.{last_number, opened};
@@ -17,10 +18,11 @@ use mapping_model::mapping_id::MappingId;
 use mapping_store::mapping_store::MappingStore;
 use recorder::recording::Recording;
 use request_journal::limits;
+use request_journal::mapping::Mapping;
 use request_match::ready_mapping::ReadyMapping;
 use request_match::shared_spec::SharedSpec;
 use scenario_core::scenarios::Scenarios;
-use std::alloc::Global;
+use std::alloc::{AllocError, Global};
 use std::marker::Model;
 
 /// A book, which contracts see as its past.
@@ -112,5 +114,12 @@ impl Book {
             Some(spec) => Ok(spec),
             None => Err(BookError::from(ErrorCode::UnknownMapping)),
         }
+    }
+
+    /// The live mappings, the newest first. They share their specifications.
+    pub fn mappings(&self) -> Result<Vec<Mapping>, AllocError>
+        ensures { IfOk result (λ listed. IsNewestFirst (live self.now) listed.items) }
+    {
+        self.store.newest_first(self.alloc)
     }
 }

@@ -57,4 +57,22 @@ impl Book {
         }
         Ok(())
     }
+
+    // The scenario is known and may be in the state.
+    pub(crate) fn has_state(&self, name: &str, state: &str) -> Result<(), BookError>
+        ensures ok { OnOk result (HasState self.now name.now state.now) }
+        ensures why { IfErr result (λ error.
+            IsOwnReason self.now (input.SetScenario name.now state.now) error.code) }
+    {
+        if !self.store.knows(name) {
+            return Err(BookError::from(ErrorCode::UnknownScenario));
+        }
+        if state == STARTED {
+            return Ok(());
+        }
+        if !self.store.names(name, state) {
+            return Err(BookError::from(ErrorCode::UnknownState));
+        }
+        Ok(())
+    }
 }

@@ -4,11 +4,15 @@
 // `specs/Refusals.antt` (what is refused, and why), over the definitions of `request_journal`.
 #![tactic(auto)]
 
+pub mod accepted;
+mod apply;
 pub mod book;
 mod checks;
 pub mod error;
 mod mappings;
-mod ready;
+mod prepared;
+mod recordings;
 mod resets;
 mod scenarios;
 mod serve;
+mod stop;

@@ -4,17 +4,18 @@ ghost use Rattle.mock_request.specs.Request.{Request};
 ghost use Rattle.request_journal.specs.Choice.{IsChoice};
 ghost use Rattle.request_journal.specs.Past.{Past};
 ghost use Rattle.request_journal.specs.declared.event.Event.TheVariants as event;
-ghost use Rattle.stub_book.specs.Growth.{Grows};
+ghost use Rattle.stub_book.specs.Growth.{Grows, IsServed};
 ghost use Rattle.stub_book.specs.Inner.Kept.{Agrees, IsUnchosen, StatesFollow};
 ghost use Rattle.stub_book.specs.Refusals.{IsServeRefusal};
 
 use crate::book::Book;
 use crate::error::BookError;
-use crate::ready::ready;
+use crate::prepared::prepare;
 use mapping_store::mapping_store::MappingStore;
 use mock_request::snapshot::Snapshot;
 use recorder::recording::Recording;
 use request_journal::event::{Captured, Event, ServeAnswer};
+use request_journal::shared_event::SharedEvent;
 use request_journal::shared_request::SharedRequest;
 use request_match::parsed_request::ParsedRequest;
 use scenario_core::scenarios::Scenarios;
@@ -31,17 +32,33 @@ impl Book {
         let shared = SharedRequest::new(self.alloc, request)?;
         let kept = shared.try_clone()?;
         let mut parsed = ParsedRequest::read(self.alloc, shared.request())?;
-        self.serve_read(kept, &mut parsed)
+        Ok(self.serve_parsed(kept, &mut parsed)?.answer)
     }
 
-    /// The same for a request that was taken apart before: under a lock no more than the choice is left to do.
+    /// The same for a request that was taken apart before: under a lock no more than the choice is left to do. It gives
+    /// the event, which is shared with the history.
     pub fn serve_read(
         &mut self,
         request: SharedRequest,
         parsed: &mut ParsedRequest<'_>,
-    ) -> Result<ServeAnswer, BookError>
+    ) -> Result<SharedEvent, BookError>
         requires { parsed.old ≡ request }
-        ensures ok { IfOk result (λ answer. Grows self.old self.new (event.Serve request answer)) }
+        ensures ok { IfOk result (λ served. IsServed request served × Grows self.old self.new served) }
+        ensures err { OnErr result (self.new ≡ self.old) }
+        ensures why { IfErr result (λ error. IsServeRefusal self.old error.code) }
+        ensures same_request { parsed.new ≡ parsed.old }
+    {
+        Ok(self.serve_parsed(request, parsed)?.event)
+    }
+
+    fn serve_parsed(
+        &mut self,
+        request: SharedRequest,
+        parsed: &mut ParsedRequest<'_>,
+    ) -> Result<Served, BookError>
+        requires { parsed.old ≡ request }
+        ensures ok { IfOk result (λ served. (served.event ≡ event.Serve request served.answer)
+            × Grows self.old self.new (event.Serve request served.answer)) }
         ensures err { OnErr result (self.new ≡ self.old) }
         ensures why { IfErr result (λ error. IsServeRefusal self.old error.code) }
         ensures same_request { parsed.new ≡ parsed.old }
@@ -53,11 +70,21 @@ impl Book {
             request,
             answer: copy,
         };
-        let event = ready(self.alloc, &mut self.history, event)?;
+        let made = prepare(self.alloc, &mut self.history, event)?;
         move_scenario(self.alloc, &mut self.scenarios, &answer)?;
-        self.history.push_reserved(event);
-        Ok(answer)
+        self.history.push_reserved(made.event);
+        Ok(Served {
+            event: made.accepted.event,
+            answer,
+        })
     }
+}
+
+// A request that was served.
+#[derive(Drop)]
+struct Served {
+    event: SharedEvent,
+    answer: ServeAnswer,
 }
 
 // What the request is answered with. The store is not changed.

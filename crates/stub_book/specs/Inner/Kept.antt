@@ -4,6 +4,7 @@ use Rattle.std.specs.List.Sorted.{IsPermutation}
 use Rattle.mapping_store.specs.Stored.{Stored}
 use Rattle.recorder.specs.Recording.{IsOn, IsOnAnd}
 use Rattle.recorder.specs.declared.recording.Recording.{Recording}
+use Rattle.request_journal.specs.Input.{answer_of}
 use Rattle.request_journal.specs.Legal.{IsLegal}
 use Rattle.request_journal.specs.Live.{live}
 use Rattle.request_journal.specs.Past.{Past, last_number, placed_from}
@@ -14,6 +15,7 @@ use Rattle.request_journal.specs.declared.event.ServeAnswer.{ServeAnswer}
 use Rattle.request_journal.specs.declared.event.ServeAnswer.TheVariants.{Stub, Proxy, Unmatched}
 use Rattle.request_journal.specs.declared.limits.TheConstants.{LIVE_LIMIT, NUMBER_LIMIT}
 use Rattle.scenario_core.specs.Scenarios.{States, state_of}
+use Rattle.stub_book.specs.declared.prepared.Prepared.{Prepared}
 
 -- the store has the live mappings, the states are those of the past, and so is the recording; the past is legal, and
 -- neither its mappings, nor those that a reset makes live, nor its events are more than there may be
@@ -37,3 +39,9 @@ abbrev pub IsUnchosen : Recording → ServeAnswer → Type 0
 IsUnchosen recording (Stub captured) = ⊥
 IsUnchosen recording (Proxy target) = IsOnAnd recording (λ session. session.target ≡ target)
 IsUnchosen recording Unmatched = ¬ (IsOn recording)
+
+-- prepared is this event, with its answer
+pub record IsPrepared (event : Event) (made : Prepared) : Type 0 where
+  pub is : made.event ≡ event
+  pub shared : made.accepted.event ≡ event
+  pub answered : made.accepted.answer ≡ answer_of event

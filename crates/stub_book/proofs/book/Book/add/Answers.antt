@@ -12,13 +12,14 @@ use Rattle.stub_book.specs.Growth.{Grows}
 use Rattle.stub_book.specs.Refusals.{IsTooMany}
 use Rattle.std.proofs.lemmas.Result.{err_from_is_err_and}
 use Rattle.stub_book.proofs.Fits.{fits_added, fits_roomier, fits_same, grew, number_of_next}
+use Rattle.stub_book.proofs.ApplyLemmas.{accepts}
 use Rattle.stub_book.proofs.book.Book.add.Goals as goal
 
 pub invariant_of-self-2 : goal.invariant_of-self-2
 invariant_of-self-2 c =
     let past = c.self.inside.history.past in
     let store = c.reserve.new.self in
-    let ok = c.in_ok-event.ensures.ok in
+    let ok = c.in_ok-made.ensures.ok in
     let m : Mapping = record { id = c.in_ok-id.id; spec = c.args.mapping } in
     let number = number_of_next past past c.last_number-number.result refl c.last_number-number.ensures.value in
     let few = c.in_ok-has_place.ensures.ok m refl in
@@ -27,10 +28,11 @@ invariant_of-self-2 c =
       few_live = subst (λ (p : Past). length (live (with_event p (event.Add m))) ≤ LIVE_LIMIT) (sym c.self.view_is) few;
       has_room = ok.2;
     } in
-    let same = ok.0 ∙ ap (λ (n : Mapping). event.Add n) (c.in_ok-copy.ensures ∙ c.in_ok-added.ensures) in
-    fits_added past c.ready.new.history.past c.push_reserved.new.self.past (event.Add m) c.in_ok-event.event
+    let given = ap (λ (n : Mapping). event.Add n) (c.in_ok-copy.ensures ∙ c.in_ok-added.ensures) in
+    let same = ok.0.is ∙ given in
+    fits_added past c.prepare.new.history.past c.push_reserved.new.self.past (event.Add m) c.in_ok-made.made.event
     store c.add.new.self c.self.inside.scenarios c.self.inside.scenarios c.self.inside.recording c.self.inside.recording
-    c.ready.ensures.same same c.push_reserved.ensures
+    c.prepare.ensures.same same c.push_reserved.ensures
     (fits_roomier past c.self.inside.store store c.self.inside.scenarios c.self.inside.recording
     c.reserve.ensures.same_defaults c.reserve.ensures.same_live c.self.invariant)
     next
@@ -41,7 +43,7 @@ invariant_of-self-2 c =
 pub returns-clause-ok : goal.returns-clause-ok
 returns-clause-ok c =
     let past = c.self.inside.history.past in
-    let ok = c.in_ok-event.ensures.ok in
+    let ok = c.in_ok-made.ensures.ok in
     let m : Mapping = record { id = c.in_ok-id.id; spec = c.args.mapping } in
     let number = number_of_next past past c.last_number-number.result refl c.last_number-number.ensures.value in
     let few = c.in_ok-has_place.ensures.ok m refl in
@@ -50,13 +52,12 @@ returns-clause-ok c =
       few_live = subst (λ (p : Past). length (live (with_event p (event.Add m))) ≤ LIVE_LIMIT) (sym c.self.view_is) few;
       has_room = ok.2;
     } in
-    let same = ok.0 ∙ ap (λ (n : Mapping). event.Add n) (c.in_ok-copy.ensures ∙ c.in_ok-added.ensures) in
-    let answered = c.in_ok-answer.ensures ∙ c.in_ok-added.ensures in (
-      ap (λ (n : Mapping). n.spec) answered,
-      subst (λ (n : Mapping). Grows c.args.self.now c.push_reserved.new.self.past (event.Add n)) (sym answered)
-          (grew c.args.self.now past c.ready.new.history.past c.push_reserved.new.self.past (event.Add m) c.in_ok-event.event
-          c.self.view_is c.ready.ensures.same same c.push_reserved.ensures refl next),
-    )
+    let given = ap (λ (n : Mapping). event.Add n) (c.in_ok-copy.ensures ∙ c.in_ok-added.ensures) in
+    let same = ok.0.is ∙ given in
+    accepts c.args.self.now c.push_reserved.new.self.past (input.Add c.args.mapping)
+    (event.Add c.in_ok-copy.copy) (event.Add m) c.in_ok-made.made ok.0 given refl
+    (grew c.args.self.now past c.prepare.new.history.past c.push_reserved.new.self.past (event.Add m) c.in_ok-made.made.event
+    c.self.view_is c.prepare.ensures.same same c.push_reserved.ensures refl next)
 
 -- more would be live than there may be
 pub returns-in_err-has_place-clause-why : goal.returns-in_err-has_place-clause-why
@@ -76,10 +77,10 @@ returns-in_err-has_place-clause-why c =
     rw (p.1, p.2) (inr (c.in_ok-has_number.ensures.ok, inr (why.0, many)))
 
 -- there is more room in the store, and the history is as before
-pub invariant_of-self-in_err-event : goal.invariant_of-self-in_err-event
-invariant_of-self-in_err-event c =
+pub invariant_of-self-in_err-made : goal.invariant_of-self-in_err-made
+invariant_of-self-in_err-made c =
     let past = c.self.inside.history.past in
-    fits_same c.ready.new.history.past past c.reserve.new.self c.self.inside.scenarios c.self.inside.recording
-    c.ready.ensures.same
+    fits_same c.prepare.new.history.past past c.reserve.new.self c.self.inside.scenarios c.self.inside.recording
+    c.prepare.ensures.same
     (fits_roomier past c.self.inside.store c.reserve.new.self c.self.inside.scenarios c.self.inside.recording
     c.reserve.ensures.same_defaults c.reserve.ensures.same_live c.self.invariant)

@@ -1,9 +1,0 @@
-use Rattle.std.proofs.Common.{◌≡◌, take}
-use Rattle.request_match.specs.Matching.{MeetsRequest}
-use Rattle.request_journal.specs.Journal.{Picks}
-use Rattle.book_history.proofs.history.History.find.Given as goal
-
-abbrev pub invariant-loop-entry : goal.invariant-loop-entry
-invariant-loop-entry l =
-    (l.matcher ≡ l.fn.matcher)
-    × Picks (λ entry. MeetsRequest l.fn.matcher entry.request) (take l.entry-index l.entry-items) l.found.items

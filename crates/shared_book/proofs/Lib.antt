@@ -1,0 +1,6 @@
+pub mod ReachedLemmas
+pub mod HeldLemmas
+pub mod ReceiptLemmas
+pub mod CountLemmas
+pub mod RefusalLemmas
+pub mod TellLemmas

@@ -1,0 +1,5 @@
+pub mod Kept
+pub mod Seat
+pub mod Gains
+pub mod Refusal
+pub mod Looked

@@ -1,0 +1,50 @@
+// What may be asked of a shared book without changing it, and what is answered.
+use mapping_model::mapping_id::MappingId;
+use recorder::recording::{Recording, RecordingStatus};
+use request_journal::entry::Entry;
+use request_journal::mapping::Mapping;
+use request_match::request_matcher::RequestMatcher;
+use scenario_core::scenarios::Scenarios;
+
+/// What is asked for: a case for each admin call that changes nothing.
+#[derive(Drop)]
+pub enum BookRead {
+    Mappings,
+    /// The live mapping with this id.
+    Mapping(MappingId),
+    Requests,
+    Unmatched,
+    /// The requests that meet the matcher.
+    Find(RequestMatcher),
+    /// How many meet it.
+    Count(RequestMatcher),
+    Scenarios,
+    RecordingStatus,
+    Recording,
+}
+
+/// What is answered. Mappings, requests and exchanges are shared with the book.
+#[derive(Drop)]
+pub enum ReadAnswer {
+    /// The newest first.
+    Mappings(Vec<Mapping>),
+    /// `None` where no live mapping has the id.
+    Mapping(Option<Mapping>),
+    /// The newest first.
+    Requests(Vec<Entry>),
+    Count(usize),
+    /// The states, and the live mappings, the newest first, which name the scenarios.
+    Scenarios {
+        states: Scenarios,
+        mappings: Vec<Mapping>,
+    },
+    RecordingStatus(RecordingStatus),
+    Recording(Recording),
+}
+
+/// An answer, with the number of the book's last event at the point at which it was read.
+#[derive(Drop)]
+pub struct Reading {
+    pub number: u64,
+    pub answer: ReadAnswer,
+}

@@ -1,0 +1,130 @@
+// Receipts beside a history.
+ghost use Rattle.std.specs.Prelude.{◌≡◌, ◌≢◌, ◌+◌, ◌<◌, ◌^◌, length, All, Any, IfErr, IfOk, IfSome, IsPermutation, IsSomeAnd, MatchOption};
+ghost use Rattle.std.specs.List.{range_with_len};
+ghost use Rattle.std.specs.List.Sorted.{IsNonDecreasingBy};
+ghost use Rattle.request_journal.specs.Journal.{event_at};
+ghost use Rattle.request_journal.specs.Past.{last_number};
+ghost use Rattle.shared_book.specs.Held.{all_lists, all_parts, receipts_of};
+ghost use Rattle.shared_book.specs.Inner.Refusal.{IsRefusalAt};
+ghost use Rattle.shared_book.specs.Reached.{IsReached};
+ghost use Rattle.shared_book.specs.Receipts.{numbers};
+ghost use Rattle.shared_book.specs.Settled.{IsMiscounted, IsSettled, IsUnsettled};
+
+use crate::gather::{fall, gather};
+use crate::origin::Origin;
+use crate::receipt::Receipt;
+use crate::seat::Seat;
+use crate::settled::{SettleRefusal, Settled};
+use book_history::history::History;
+use request_journal::shared_event::SharedEvent;
+use std::alloc::{AllocError, Global};
+use stub_book::book::Book;
+
+/// Compares the receipts of seats with the history of a book, which has as many events since the `start` as they have
+/// receipts.
+pub(crate) fn compare<L: Origin>(
+    book: &Book,
+    start: u64,
+    alloc: Global,
+    seats: &[Seat<L>],
+) -> Result<Settled, SettleRefusal>
+    requires reached { IsReached L.origin book.now }
+    requires start { start ≡ last_number L.origin }
+    requires counted { last_number book.now ≡ start + length (receipts_of (all_lists seats.now)) }
+    requires whole { all_parts seats.now ≡ L.parts }
+    ensures settled { IfOk result (IsSettled L.origin book.now (all_lists seats.now)) }
+    ensures why { IfErr result (IsUnsettled L.origin L.parts book.now seats.now) }
+{
+    let events = book.event_count();
+    if let Some(number) = fall(seats) {
+        return Err(mismatch(book, number));
+    }
+    let receipts = match gather(alloc, seats) {
+        Ok(receipts) => sorted(receipts),
+        Err(_error) => return Err(SettleRefusal::OutOfMemory),
+    };
+    if let Some(number) = miscounted(receipts.as_slice(), start) {
+        return Err(mismatch(book, number));
+    }
+    if let Some(number) = differing(receipts.as_slice(), book.history()) {
+        return Err(mismatch(book, number));
+    }
+    Ok(Settled { events, receipts })
+}
+
+// The number, with the event that the book keeps under it.
+fn mismatch(book: &Book, number: u64) -> SettleRefusal
+    ensures { IsRefusalAt (event_at book.now number) number result }
+{
+    match kept(book.history(), number) {
+        Ok(kept) => SettleRefusal::Mismatch { number, kept },
+        Err(_error) => SettleRefusal::OutOfMemory,
+    }
+}
+
+// Puts the receipts into the order of their numbers.
+fn sort(receipts: &mut [Receipt])
+    ensures moved { IsPermutation receipts.old receipts.new }
+    ensures sorted { IsNonDecreasingBy (λ r. r.number) receipts.new }
+{
+    receipts.sort_unstable_by_key(|receipt| receipt.number);
+}
+
+// The receipts in the order of their numbers.
+fn sorted(receipts: Vec<Receipt>) -> Vec<Receipt>
+    ensures moved { IsPermutation receipts.items result.items }
+    ensures sorted { IsNonDecreasingBy (λ r. r.number) result.items }
+{
+    let mut receipts = receipts;
+    sort(receipts.as_mut_slice());
+    receipts
+}
+
+/// A number that doesn't have the one receipt, or none, that it should have, where receipts have the numbers after
+/// `start`.
+pub(crate) fn miscounted(receipts: &[Receipt], start: u64) -> Option<u64>
+    requires sorted { IsNonDecreasingBy (λ r. r.number) receipts.now }
+    requires fits { start + length receipts.now < 2 ^ 64 }
+    ensures { MatchOption result
+        (numbers receipts.now ≡ range_with_len (start + 1) (length receipts.now))
+        (IsMiscounted start receipts.now) }
+{
+    for i in 0..receipts.len() {
+        let due = start + 1 + i as u64;
+        let number = receipts[i].number;
+        if number < due {
+            return Some(number);
+        }
+        if number > due {
+            return Some(due);
+        }
+    }
+    None
+}
+
+/// The number of a receipt that has another event than the history keeps.
+pub(crate) fn differing(receipts: &[Receipt], history: &History) -> Option<u64>
+    ensures { MatchOption result
+        (All (λ r. IfSome (event_at history.now.past r.number) (λ event. r.event ≡ event)) receipts.now)
+        (λ n. IsSomeAnd (event_at history.now.past n)
+        (λ event. Any (λ r. (r.number ≡ n) × (r.event ≢ event)) receipts.now)) }
+{
+    for receipt in receipts {
+        if let Some(kept) = history.event(receipt.number) {
+            if !kept.same(&receipt.event) {
+                return Some(receipt.number);
+            }
+        }
+    }
+    None
+}
+
+/// A copy of the event that the history keeps under the number. Takes no memory.
+pub(crate) fn kept(history: &History, number: u64) -> Result<Option<SharedEvent>, AllocError>
+    ensures { IfOk result (λ kept. kept ≡ event_at history.now.past number) }
+{
+    match history.event(number) {
+        Some(event) => Ok(Some(event.try_clone()?)),
+        None => Ok(None),
+    }
+}

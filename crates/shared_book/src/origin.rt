@@ -1,0 +1,17 @@
+// Which book is shared.
+use std::marker::Brand;
+use std::sync::ledger::Ledger;
+
+/// A ledger of accepted calls, with the past that the book had when it was shared.
+pub trait Origin: Ledger {
+    ghost use Rattle.request_journal.specs.Past.{Past};
+
+    ghost origin: { Past };
+}
+
+impl Origin for Brand {
+    ghost use Rattle.std.specs.Prelude.{[]};
+    ghost use Rattle.request_journal.specs.Past.{opened};
+
+    ghost origin = { opened 0 [] };
+}

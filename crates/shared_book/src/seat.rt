@@ -1,0 +1,277 @@
+// A seat, by which calls are made on a shared book.
+ghost use Rattle.std.specs.Prelude.{◌≡◌, ◌+◌, ◌-◌, ◌^◌, ◌<◌, ◌≤◌, ◌∷◌, ◌++◌, [], length, IfErr, IfOk, OnErr, OnOk, ⊤, map, vec_len, vec_capacity};
+ghost use Rattle.request_journal.specs.Input.{IsAsked};
+ghost use Rattle.shared_book.specs.Held.{new_seat, filled, with_seat};
+ghost use Rattle.shared_book.specs.Inner.Gains.{Serves, Applies};
+ghost use Rattle.shared_book.specs.Lent.{LendsServed, LendsApplied};
+ghost use Rattle.shared_book.specs.Reading.{IsRead};
+ghost use Rattle.shared_book.specs.Receipts.{IsLast};
+ghost use Rattle.shared_book.specs.Refused.{IsRefused, IsServeRefused};
+ghost use Rattle.std.specs.Borrow.{sem};
+ghost use denote.Follow.{follows_so};
+ghost use mathlib.Core.Option.{none};
+
+use crate::book_read::{BookRead, Reading};
+use crate::look::answer;
+use crate::origin::Origin;
+use crate::receipt::Receipt;
+use crate::shared_book::SharedBook;
+use mock_request::snapshot::Snapshot;
+use request_journal::input::BookInput;
+use request_journal::shared_request::SharedRequest;
+use request_match::parsed_request::ParsedRequest;
+use std::alloc::{AllocError, Global};
+use std::marker::Model;
+use std::sync::Wait;
+use std::sync::ledger::Share;
+use stub_book::error::BookError;
+
+/// By a seat, one thread makes calls on a shared book. It keeps a receipt for each call that was accepted.
+pub struct Seat<L: Origin> {
+    pub(crate) share: Share<L>,
+    /// How many parts of the ledger it has.
+    pub(crate) parts: u64,
+    /// How many receipts it has, in all lists.
+    pub(crate) count: u64,
+    pub(crate) own: Vec<Receipt>,
+    /// The lists of the seats that it took over.
+    pub(crate) joined: Vec<Vec<Receipt>>,
+}
+
+// Written out, so that a caller's proof sees one call and not the drop of each part.
+impl<L: Origin> Drop for Seat<L> {
+    fn drop(self) {
+        let Seat {
+            share: _share,
+            parts: _parts,
+            count: _count,
+            own: _own,
+            joined: _joined,
+        } = self;
+    }
+}
+
+impl<L: Origin> Model for Seat<L> {
+    ghost use Rattle.std.specs.Prelude.{◌∷◌, map};
+    ghost use Rattle.shared_book.specs.Held.{Held};
+    ghost use Rattle.shared_book.specs.Inner.Seat.{IsSeat};
+
+    ghost Value = { Held };
+
+    ghost view = { λ s. record { parts = s.parts; own = s.own.items; joined = map (λ list. list.items) s.joined.items } };
+
+    ghost invariant = { λ s. IsSeat L.parts s.share.parts s.share.amount s.parts s.count
+        (s.own.items ∷ map (λ list. list.items) s.joined.items) };
+}
+
+impl<L: Origin> Seat<L> {
+    ghost use Rattle.shared_book.specs.contracts.seat.Seat.{the_row};
+
+    pub(crate) fn new(alloc: Global, share: Share<L>, parts: u64) -> Seat<L>
+        requires parts { share.parts ≡ parts }
+        requires some { 0 < parts }
+        requires fits { L.parts < 2 ^ 64 }
+        requires empty { share.amount ≡ 0 }
+        ensures { result ≡ new_seat parts }
+    {
+        Seat {
+            share,
+            parts,
+            count: 0,
+            own: Vec::new(alloc),
+            joined: Vec::new(alloc),
+        }
+    }
+
+    /// How many parts of the ledger it has.
+    pub fn parts(&self) -> u64
+        ensures value { result ≡ self.now.parts }
+        ensures some { 0 < result }
+    {
+        self.parts
+    }
+
+    /// A new seat, with one of the parts.
+    pub fn split(&mut self) -> Seat<L>
+        requires { 1 < self.old.parts }
+        ensures new { result ≡ new_seat 1 }
+        ensures left { self.new ≡ record self.old { parts = self.old.parts - 1 } }
+    {
+        let share = self.share.split_off(1, 0);
+        self.parts -= 1;
+        Seat::new(*self.own.allocator(), share, 1)
+    }
+
+    /// The receipts of its own calls, in their order.
+    pub fn receipts(&self) -> &[Receipt]
+        ensures { result.now ≡ self.now.own }
+    {
+        self.own.as_slice()
+    }
+
+    /// The receipt of its last call.
+    fn last(&self) -> &Receipt
+        requires { 0 < length self.now.own }
+        ensures { IsLast result.now self.now.own }
+    {
+        &self.own[self.own.len() - 1]
+    }
+
+    /// Serves a request, and lends the receipt that it keeps.
+    pub fn serve<R: Wait>(
+        &mut self,
+        rt: &R,
+        shared: &SharedBook<L>,
+        request: Snapshot,
+    ) -> Result<&Receipt, BookError>
+        ensures* after { sem 𝓛 (follows_so
+            (the_row L.row (record { origin = L.origin }) (record { name = L.name; parts = L.parts }))
+            (the_row L.row (record { origin = L.origin }) (record { name = L.name; parts = L.parts }))
+            self.entry.ghost_name none (λ _ _. ⊤)
+            (λ seat. LendsServed L.origin self.old seat request result)) }
+        ensures why { IfErr result (λ error. IsServeRefused L.origin error.code) }
+    {
+        match self.keep_served(rt, shared, request) {
+            Ok(()) => Ok(self.last()),
+            Err(error) => Err(error),
+        }
+    }
+
+    /// Makes a change, and lends the receipt that it keeps.
+    pub fn apply<R: Wait>(
+        &mut self,
+        rt: &R,
+        shared: &SharedBook<L>,
+        input: BookInput,
+    ) -> Result<&Receipt, BookError>
+        ensures* after { sem 𝓛 (follows_so
+            (the_row L.row (record { origin = L.origin }) (record { name = L.name; parts = L.parts }))
+            (the_row L.row (record { origin = L.origin }) (record { name = L.name; parts = L.parts }))
+            self.entry.ghost_name none (λ _ _. ⊤)
+            (λ seat. LendsApplied L.origin self.old seat input result)) }
+        ensures why { IfErr result (λ error. IsRefused L.origin input error.code) }
+    {
+        match self.keep_applied(rt, shared, input) {
+            Ok(()) => Ok(self.last()),
+            Err(error) => Err(error),
+        }
+    }
+
+    /// Reads the book at one point. Requests are matched after the lock was let go. Adds no event, and keeps no receipt.
+    pub fn read<R: Wait>(
+        &self,
+        rt: &R,
+        shared: &SharedBook<L>,
+        asked: BookRead,
+    ) -> Result<Reading, AllocError>
+        ensures { IfOk result (IsRead L.origin asked) }
+    {
+        let alloc = *self.own.allocator();
+        let Reading {
+            number,
+            answer: found,
+        } = shared.read(rt, alloc, &asked)?;
+        Ok(Reading {
+            number,
+            answer: answer(alloc, asked, found)?,
+        })
+    }
+
+    /// Takes over the other seat: its parts, and its lists of receipts beside the own ones. Where memory runs out (or
+    /// there are more receipts than a number has room for) the other seat is handed back.
+    pub fn join(&mut self, other: Seat<L>) -> Result<(), Seat<L>>
+        ensures ok { OnOk result (self.new ≡ with_seat self.old other) }
+        ensures err { IfErr result (λ seat. (seat ≡ other) × (self.new ≡ self.old)) }
+    {
+        let Some(count) = self.count.checked_add(other.count) else {
+            return Err(other);
+        };
+        let Some(more) = other.joined.len().checked_add(1) else {
+            return Err(other);
+        };
+        if let Err(_error) = self.joined.reserve(more) {
+            return Err(other);
+        }
+        let Seat {
+            share,
+            parts,
+            count: _,
+            own,
+            joined,
+        } = other;
+        self.share.merge(share);
+        self.parts += parts;
+        self.count = count;
+        take_over(&mut self.joined, own, joined);
+        Ok(())
+    }
+
+    // Serves a request, and keeps the receipt as the last.
+    fn keep_served<R: Wait>(
+        &mut self,
+        rt: &R,
+        shared: &SharedBook<L>,
+        request: Snapshot,
+    ) -> Result<(), BookError>
+        ensures ok { OnOk result (Serves L.origin self.old self.new request) }
+        ensures err { OnErr result (self.new ≡ self.old) }
+        ensures why { IfErr result (λ error. IsServeRefused L.origin error.code) }
+    {
+        self.own.reserve(1)?;
+        let request = SharedRequest::new(*self.own.allocator(), request)?;
+        let mut parsed = ParsedRequest::read(*self.own.allocator(), request.request())?;
+        let receipt = shared.serve(rt, &mut self.share, request.try_clone()?, &mut parsed)?;
+        self.count += 1;
+        let Ok(()) = self.own.push(receipt) else {
+            unreachable!()
+        };
+        Ok(())
+    }
+
+    // Makes a change, and keeps the receipt as the last.
+    fn keep_applied<R: Wait>(
+        &mut self,
+        rt: &R,
+        shared: &SharedBook<L>,
+        input: BookInput,
+    ) -> Result<(), BookError>
+        ensures ok { OnOk result (Applies L.origin self.old self.new input) }
+        ensures err { OnErr result (self.new ≡ self.old) }
+        ensures why { IfErr result (λ error. IsRefused L.origin input error.code) }
+    {
+        self.own.reserve(1)?;
+        let receipt = shared.apply(rt, &mut self.share, input)?;
+        self.count += 1;
+        let Ok(()) = self.own.push(receipt) else {
+            unreachable!()
+        };
+        Ok(())
+    }
+}
+
+// Adds a list to these, unless it is empty. Takes no memory.
+fn add_list(lists: &mut Vec<Vec<Receipt>>, list: Vec<Receipt>)
+    requires { vec_len lists.old < vec_capacity lists.old }
+    ensures items { map (λ l. l.items) lists.new.items ≡ map (λ l. l.items) lists.old.items ++ filled (list.items ∷ []) }
+    ensures room { vec_capacity lists.old ≤ vec_capacity lists.new }
+    ensures length { vec_len lists.new ≤ vec_len lists.old + 1 }
+{
+    if list.is_empty() {
+        return;
+    }
+    let Ok(()) = lists.push(list) else {
+        unreachable!()
+    };
+}
+
+// Adds a seat's lists to these, but the empty ones. Takes no memory.
+fn take_over(lists: &mut Vec<Vec<Receipt>>, own: Vec<Receipt>, joined: Vec<Vec<Receipt>>)
+    requires { vec_len lists.old + (vec_len joined + 1) ≤ vec_capacity lists.old }
+    ensures { map (λ l. l.items) lists.new.items
+        ≡ map (λ l. l.items) lists.old.items ++ filled (own.items ∷ map (λ l. l.items) joined.items) }
+{
+    add_list(lists, own);
+    for list in joined {
+        add_list(lists, list);
+    }
+}
