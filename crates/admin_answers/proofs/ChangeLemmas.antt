@@ -1,8 +1,7 @@
 -- What a change that was refused leaves.
-use Rattle.std.proofs.Common.{◌≡◌, Result, Ok, Err, IfErr, inl, sym, ap, subst}
+use Rattle.std.proofs.Common.{◌≡◌, inl, sym, ap, subst}
 use Rattle.admin_answers.specs.Answers.{IsNotChanged}
 use Rattle.admin_answers.specs.declared.error.SharedError.{SharedError}
-use Rattle.mapping_model.specs.declared.reply.Reply.{Reply}
 use Rattle.request_journal.specs.Past.{Past}
 use Rattle.request_journal.specs.declared.input.BookInput.{BookInput}
 use Rattle.shared_book.specs.Held.{Held}
@@ -10,9 +9,8 @@ use Rattle.shared_book.specs.Refused.{IsRefused}
 use Rattle.stub_book.specs.declared.error.BookError.{BookError}
 
 pub not_changed
-    : (origin : Past) (old new : Held) (asked : BookInput) (lower : BookError) (result : Result Reply SharedError)
-    → new ≡ old → IsRefused origin asked lower.code → IfErr result (λ error. error ≡ record { code = lower.code })
-    → IfErr result (λ error. IsNotChanged origin old new asked error.code)
-not_changed origin old new asked lower (Ok reply) same why e = tt
-not_changed origin old new asked lower (Err error) same why e =
+    : (origin : Past) (old new : Held) (asked : BookInput) (lower : BookError) (error : SharedError)
+    → new ≡ old → IsRefused origin asked lower.code → error ≡ record { code = lower.code }
+    → IsNotChanged origin old new asked error.code
+not_changed origin old new asked lower error same why e =
     inl (same, subst (λ x. IsRefused origin asked x) (sym (ap (λ x. x.code) e)) why)

@@ -2,7 +2,9 @@
 use Rattle.std.proofs.Common.{◌≡◌, ◌⊎◌, ℕ, List, Vec, Option, Some, None, Any, Result, Ok, Err, IfOk, IfErr, inl, inr, sym, subst, ◌∙◌}
 use Rattle.std.specs.declared.alloc.AllocError.{AllocError}
 use Rattle.std.specs.declared.alloc.Global.{Global}
-use Rattle.admin_answers.specs.Answers.{InPast, IsReadReply}
+use Rattle.admin_answers.specs.Answers.{InPast, IsHeldReply, IsReadReply}
+use Rattle.admin_answers.specs.declared.error.SharedError.{SharedError}
+use Rattle.error_code.specs.declared.error_code.ErrorCode.TheVariants as code
 use Rattle.admin_answers.specs.JsonReply.{IsJsonReply}
 use Rattle.admin_json.specs.Mappings.{json_of_held, json_of_mappings}
 use Rattle.admin_json.specs.Requests.{json_of_requests, json_of_found, json_of_number}
@@ -97,3 +99,22 @@ pub missing
     : (origin : Past) (id : List ℕ) (reading : Reading) → IsRead origin (read.Mapping id) reading
     → reading.answer ≡ answer.Mapping None → InPast origin (λ past. ¬ (IsLive past id))
 missing origin id reading is e = (is.past, is.reached, said origin (read.Mapping id) reading _ is e)
+
+pub held
+    : (origin : Past) (id : List ℕ) (kept : Option Mapping) (reading : Reading) (result : Result Reply SharedError)
+    → IsRead origin (read.Mapping id) reading → reading.answer ≡ answer.Mapping kept → IfOk result (IsHeldReply kept)
+    → IfOk result (λ reply. InPast origin (IsReadReply (call.ReadMapping id) reply))
+held origin id (Some m) reading (Ok reply) is e json = mapping origin id m reading reply is e json
+held origin id None reading (Ok reply) is e json = absurd json
+held origin id kept reading (Err why) is e json = tt
+
+pub not_held
+    : (origin : Past) (id : List ℕ) (kept : Option Mapping) (reading : Reading) (result : Result Reply SharedError)
+    → IsRead origin (read.Mapping id) reading → reading.answer ≡ answer.Mapping kept
+    → IfErr result (λ error. (error.code ≡ code.OutOfMemory) ⊎ ((error.code ≡ code.UnknownMapping) × (kept ≡ None)))
+    → IfErr result (λ error. (error.code ≡ code.OutOfMemory)
+        ⊎ ((error.code ≡ code.UnknownMapping) × InPast origin (λ past. ¬ (IsLive past id))))
+not_held origin id kept reading (Ok reply) is e why = tt
+not_held origin id kept reading (Err error) is e (inl memory) = inl memory
+not_held origin id kept reading (Err error) is e (inr none) =
+    inr (none.0, missing origin id reading is (e ∙ (λ i. answer.Mapping (none.1 i))))

@@ -1,5 +1,5 @@
 -- What a shared book answers to an admin call (WireMock's documentation, "Admin API"), and why it is refused.
-use Rattle.std.specs.Prelude.{◌≡◌, ◌⊎◌, ℕ, List, Any, length}
+use Rattle.std.specs.Prelude.{◌≡◌, ◌⊎◌, ℕ, List, Option, Some, None, Any}
 use Rattle.admin_json.specs.Mappings.{json_of_held, json_of_mappings}
 use Rattle.admin_json.specs.Requests.{json_of_requests, json_of_found, json_of_number}
 use Rattle.admin_json.specs.Scenarios.{json_of_scenarios}
@@ -18,6 +18,7 @@ use Rattle.request_journal.specs.State.{state}
 use Rattle.request_journal.specs.declared.entry.Entry.{Entry}
 use Rattle.request_journal.specs.declared.event.Event.{Event}
 use Rattle.request_journal.specs.declared.event.Event.TheVariants as event
+use Rattle.request_journal.specs.declared.mapping.Mapping.{Mapping}
 use Rattle.request_journal.specs.declared.input.BookInput.{BookInput}
 use Rattle.request_journal.specs.declared.input.BookInput.TheVariants as input
 use Rattle.request_match.specs.Matching.{MeetsRequest}
@@ -61,6 +62,11 @@ IsNotChanged origin old new asked reason =
 -- the fact holds of a past that was reached
 abbrev pub InPast : Past → (Past → Type 0) → Type 0
 InPast origin P = (past : Past) × IsReached origin past × P past
+
+-- the mapping, where there is one
+abbrev pub IsHeldReply : Option Mapping → Reply → Type 0
+IsHeldReply None reply = ⊥
+IsHeldReply (Some mapping) reply = IsJsonReply 200 (json_of_held mapping) reply
 
 -- what a call that changes nothing is answered in a past: mappings and requests the newest first
 abbrev pub IsReadReply : AdminCall → Reply → Past → Type 0

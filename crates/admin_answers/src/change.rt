@@ -31,8 +31,10 @@ pub(crate) fn change<L: Origin, R: Wait>(
     ensures ok { IfOk result (IsChanged L.origin seat.old seat.new asked) }
     ensures refused { IfErr result (λ error. IsNotChanged L.origin seat.old seat.new asked error.code) }
 {
-    let receipt = seat.apply(rt, shared, asked)?;
-    Ok(event_reply(alloc, receipt.event.event())?)
+    match seat.apply(rt, shared, asked) {
+        Ok(receipt) => Ok(event_reply(alloc, receipt.event.event())?),
+        Err(error) => Err(SharedError::from(error)),
+    }
 }
 
 fn event_reply(alloc: Global, event: &Event) -> Result<Reply, AllocError>

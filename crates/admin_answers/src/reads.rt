@@ -1,6 +1,6 @@
 // Calls that read the book. The JSON is written after the lock was let go.
-ghost use Rattle.std.specs.Prelude.{◌≡◌, ◌⊎◌, IfErr, IfOk};
-ghost use Rattle.admin_answers.specs.Answers.{InPast, IsReadReply};
+ghost use Rattle.std.specs.Prelude.{◌≡◌, ◌⊎◌, IfErr, IfOk, None};
+ghost use Rattle.admin_answers.specs.Answers.{InPast, IsHeldReply, IsReadReply};
 ghost use Rattle.admin_answers.specs.JsonReply.{IsJsonReply};
 ghost use Rattle.admin_json.specs.Mappings.{json_of_held, json_of_mappings};
 ghost use Rattle.admin_json.specs.Requests.{json_of_found, json_of_number, json_of_requests};
@@ -45,7 +45,6 @@ pub(crate) fn list_mappings<L: Origin, R: Wait>(
     }
 }
 
-#[tactic(auto, using(crate::proofs::ReadLemmas::missing))]
 pub(crate) fn read_mapping<L: Origin, R: Wait>(
     rt: &R,
     alloc: Global,
@@ -59,8 +58,7 @@ pub(crate) fn read_mapping<L: Origin, R: Wait>(
 {
     let reading = seat.read(rt, shared, BookRead::Mapping(id))?;
     match &reading.answer {
-        ReadAnswer::Mapping(Some(mapping)) => Ok(mapping_reply(alloc, mapping)?),
-        ReadAnswer::Mapping(None) => Err(SharedError::from(ErrorCode::UnknownMapping)),
+        ReadAnswer::Mapping(held) => held_reply(alloc, held),
         _ => unreachable!(),
     }
 }
@@ -154,6 +152,17 @@ fn mappings_reply(alloc: Global, mappings: &[Mapping]) -> Result<Reply, AllocErr
     ensures { IfOk result (IsJsonReply 200 (json_of_mappings mappings.now)) }
 {
     value_reply(alloc, 200, &mappings_value(alloc, mappings)?)
+}
+
+fn held_reply(alloc: Global, held: &Option<Mapping>) -> Result<Reply, SharedError>
+    ensures ok { IfOk result (IsHeldReply held.now) }
+    ensures refused { IfErr result (λ error. (error.code ≡ code.OutOfMemory)
+        ⊎ ((error.code ≡ code.UnknownMapping) × (held.now ≡ None))) }
+{
+    match held {
+        Some(mapping) => Ok(mapping_reply(alloc, mapping)?),
+        None => Err(SharedError::from(ErrorCode::UnknownMapping)),
+    }
 }
 
 fn mapping_reply(alloc: Global, mapping: &Mapping) -> Result<Reply, AllocError>
