@@ -26,9 +26,9 @@ returns-in_err-upstream-clause-why c =
     let room = c.in_ok-has_number.ensures.ok in
     let reason = c.in_err-upstream.field-0.0.code in
     let why : (reason ≡ code.OutOfMemory) ⊎ ((reason ≡ code.AlreadyRecording) × IsOn (recording past))
-        ⊎ ((reason ≡ code.BadTarget) × ¬ (IsOn (recording past)) × ¬ (IsTarget c.args.target)) =
+    ⊎ ((reason ≡ code.BadTarget) × ¬ (IsOn (recording past)) × ¬ (IsTarget c.args.target)) =
     subst (λ (t : List ℕ). (reason ≡ code.OutOfMemory) ⊎ ((reason ≡ code.AlreadyRecording) × IsOn (recording past))
-        ⊎ ((reason ≡ code.BadTarget) × ¬ (IsOn (recording past)) × ¬ (IsTarget t))) c.as_str.ensures
+    ⊎ ((reason ≡ code.BadTarget) × ¬ (IsOn (recording past)) × ¬ (IsTarget t))) c.as_str.ensures
     c.in_err-upstream.ensures.why in
     let p = err_from_is_err_and c.from_residual-in_err-upstream.result c.from_residual-in_err-upstream.ensures.1 in
     rw (p.1, p.2) (elim why as (λ _. IsRefusal past (input.StartRecording c.args.target c.args.captured c.args.repeats) reason) [

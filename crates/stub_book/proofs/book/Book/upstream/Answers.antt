@@ -19,9 +19,9 @@ returns-in_err-parse c =
           ⊎ ((error_code_of c.in_err-parse.field-0.0 ≡ code.AlreadyRecording) × IsOn (recording c.args.self.now))
           ⊎ ((error_code_of c.in_err-parse.field-0.0 ≡ code.BadTarget) × ¬ (IsOn (recording c.args.self.now))
           × ¬ (IsTarget c.args.target.now))) [
-        | inl bad ↦
-            let is : c.in_err-parse.field-0.0 ≡ RecordingError.BadTarget = cc in
-            inr (inr (ap error_code_of is, none, c.in_err-parse.ensures.bad_target.0 bad))
-        | inr out ↦ let is : c.in_err-parse.field-0.0 ≡ RecordingError.OutOfMemory = cc in inl (ap error_code_of is)
-      ]);
+            | inl bad ↦
+                let is : c.in_err-parse.field-0.0 ≡ RecordingError.BadTarget = cc in
+                inr (inr (ap error_code_of is, none, c.in_err-parse.ensures.bad_target.0 bad))
+            | inr out ↦ let is : c.in_err-parse.field-0.0 ≡ RecordingError.OutOfMemory = cc in inl (ap error_code_of is)
+          ]);
     }
