@@ -1,6 +1,6 @@
-// The reply that reports an error.
+// Replies with a JSON body, and the one that reports an error.
 ghost use Rattle.std.specs.Prelude.{◌≡◌, IfOk, codes, string_bytes};
-ghost use Rattle.stub_response.specs.ErrorReply.{error_body, error_reply};
+ghost use Rattle.stub_response.specs.ErrorReply.{error_body, error_reply, json_reply};
 
 use bytes::Bytes;
 use error_code::error_code::ErrorCode;
@@ -16,6 +16,13 @@ use std::alloc::{AllocError, Global};
 pub fn error_reply(alloc: Global, status: u16, code: ErrorCode) -> Result<Reply, AllocError>
     ensures { IfOk result (λ reply. reply ≡ error_reply status code) }
 {
+    json_reply(alloc, status, error_body(alloc, code)?)
+}
+
+/// The reply with that status whose body is this JSON text.
+pub fn json_reply(alloc: Global, status: u16, body: String) -> Result<Reply, AllocError>
+    ensures { IfOk result (λ reply. reply ≡ json_reply status (string_bytes body)) }
+{
     let header = ReplyHeader {
         name: content_type(alloc)?,
         value: Octets::from(Vec::from_slice(alloc, b"application/json")?),
@@ -23,7 +30,7 @@ pub fn error_reply(alloc: Global, status: u16, code: ErrorCode) -> Result<Reply,
     Ok(Reply {
         status,
         headers: Items::from(vec![in alloc; header]?),
-        body: Bytes::from_string(error_body(alloc, code)?)?,
+        body: Bytes::from_string(body)?,
     })
 }
 
