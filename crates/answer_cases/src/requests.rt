@@ -28,15 +28,18 @@ pub fn reply_to<L: Origin, R: Wait>(
     seat: &mut Seat<L>,
     call: &[String],
 ) -> Result<Reply, AllocError> {
-    match request(alloc, call) {
-        Ok(request) if is_admin(request.url()) => admin_reply(rt, alloc, shared, seat, &request),
-        Ok(request) => served_reply(rt, alloc, shared, seat, request),
-        Err(SnapshotError::BadUrl) => error_reply(alloc, 400, ErrorCode::BadUrl),
-        Err(error) => refused(alloc, error.error_code()),
+    let request = match request_of(alloc, call) {
+        Ok(request) => request,
+        Err(SnapshotError::BadUrl) => return error_reply(alloc, 400, ErrorCode::BadUrl),
+        Err(error) => return refused(alloc, error.error_code()),
+    };
+    if is_admin(request.url()) {
+        return admin_reply(rt, alloc, shared, seat, &request);
     }
+    served_reply(rt, alloc, shared, seat, request)
 }
 
-fn request(alloc: Global, call: &[String]) -> Result<Snapshot, SnapshotError> {
+fn request_of(alloc: Global, call: &[String]) -> Result<Snapshot, SnapshotError> {
     let [method, target, lines, body] = call else {
         return Err(SnapshotError::OutOfMemory);
     };
