@@ -11,7 +11,7 @@ pub returns-then-is_admin : goal.returns-then-is_admin
 returns-then-is_admin g c =
     let admin : IsAdmin c.args.request.url = subst IsAdmin c.url.ensures.value (c.is_admin.ensures.0 c.if-is_admin.true) in
     given (IsRequestAnswered g.L.Origin.origin c.args.site.now.limits c.args.seat.now c.args.seat.now c.args.request)
-    (error_reply 404 UnknownAdminCall) c.error_reply.result (inl (admin, refl, refl)) c.error_reply.ensures
+    (error_reply 404 UnknownAdminCall) c.error_reply.result (inl (admin, (refl, refl))) c.error_reply.ensures
 
 pub returns-in-Err : goal.returns-in-Err
 returns-in-Err g c =
