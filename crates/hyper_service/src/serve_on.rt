@@ -1,4 +1,5 @@
 // The connections of a listener, until as many as are wanted were served.
+use crate::site_answers::SiteAnswers;
 use answering::gate::Gate;
 use answering::site::Site;
 use command_output::error::CommandError;
@@ -73,8 +74,9 @@ where
     G: Gate + Send + Sync + Drop,
 {
     let book = site.book.try_clone()?;
-    let site = Arc::new(rt.alloc(), site)?;
-    let Day { seats, end } = serve_all(rt, runtime, listener, &site, seat, connections)?;
+    let answers = SiteAnswers::new(Arc::new(rt.alloc(), site)?);
+    let answers = Arc::new(rt.alloc(), answers)?;
+    let Day { seats, end } = serve_all(rt, runtime, listener, &answers, seat, connections)?;
     Ok((events(&rt, rt.alloc(), book, seats), end))
 }
 
