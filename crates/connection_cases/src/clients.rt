@@ -1,6 +1,6 @@
 //! Clients over sockets.
 
-use crate::responses::responses_in;
+use connection_clients::responses::responses_in;
 use crate::stand_in::{Counter, Ticket};
 use http_connections::serve_on::{Day, End, serve_all};
 use std::alloc::{AllocError, AllocGlobal, Global};

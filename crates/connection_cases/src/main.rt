@@ -4,8 +4,6 @@
 
 mod clients;
 mod exchanges;
-mod peer;
-mod responses;
 mod stand_in;
 
 use case_table::compare::compare_all;

@@ -12,7 +12,7 @@ use std::sync::{Arc, Wait};
 use std::thread::Threads;
 use std::time::Clock;
 use tokio::net::TcpListener;
-use tokio::runtime::Runtime;
+use tokio::runtime::{LocalRuntime, Runtime};
 
 /// How a server's day ended, and the seats of all connections.
 #[derive(Drop)]
@@ -48,8 +48,37 @@ where
     let hall = hall_of(rt.alloc(), site)?;
     hall.open(&rt, seat);
     let ran = run(rt, runtime, listener, &hall, connections);
-    let end = end_of(&ran, hall.is_open(&rt));
-    let seats = hall.take_all(&rt, rt.alloc())?;
+    day_of(&rt, rt.alloc(), &hall, &ran)
+}
+
+/// As `serve_all`, on the calling thread.
+pub fn serve_all_here<R, A>(
+    rt: R,
+    runtime: &mut LocalRuntime,
+    listener: TcpListener,
+    site: &Arc<A>,
+    seat: A::Seat,
+    connections: Option<u64>,
+) -> Result<Day<A::Seat>, AllocError>
+where
+    R: Wait + Clock + RandomSource + AllocGlobal + Copy + Drop,
+    A: Answers,
+{
+    let hall = hall_of(rt.alloc(), site)?;
+    hall.open(&rt, seat);
+    let ran = run_here(rt, runtime, listener, &hall, connections);
+    day_of(&rt, rt.alloc(), &hall, &ran)
+}
+
+// The day of a hall that nobody is in any more.
+fn day_of<R: Wait, A: Answers>(
+    rt: &R,
+    alloc: Global,
+    hall: &Hall<A>,
+    ran: &io::Result<()>,
+) -> Result<Day<A::Seat>, AllocError> {
+    let end = end_of(ran, hall.is_open(rt));
+    let seats = hall.take_all(rt, alloc)?;
     Ok(Day { seats, end })
 }
 
@@ -76,6 +105,21 @@ where
     R: Wait + Threads + Clock + RandomSource + AllocGlobal + Sync + Send + Copy + Drop,
     A: Answers + Send + Sync,
     A::Seat: Send,
+{
+    let host = Host::new(rt, builder(&rt)?, Arc::try_clone(hall)?, connections);
+    runtime.run_all(&rt, Accepting::new(listener, host))
+}
+
+fn run_here<R, A>(
+    rt: R,
+    runtime: &mut LocalRuntime,
+    listener: TcpListener,
+    hall: &Arc<Hall<A>>,
+    connections: Option<u64>,
+) -> io::Result<()>
+where
+    R: Wait + Clock + RandomSource + AllocGlobal + Copy + Drop,
+    A: Answers,
 {
     let host = Host::new(rt, builder(&rt)?, Arc::try_clone(hall)?, connections);
     runtime.run_all(&rt, Accepting::new(listener, host))

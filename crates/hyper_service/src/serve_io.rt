@@ -1,17 +1,18 @@
 // One connection.
+use crate::site_answers::SiteAnswers;
 use answering::gate::Gate;
 use answering::site::Site;
 use http_connections::service::MessageService;
 use http_messages::error::ServiceError;
 use shared_book::origin::Origin;
 use shared_book::seat::Seat;
-use std::alloc::AllocGlobal;
+use std::alloc::{AllocError, AllocGlobal, Global};
 use std::random::RandomSource;
 use std::sync::{Arc, Wait};
 use tokio::io::{AsyncRead, AsyncWrite};
 
 /// Answers the requests of one connection.
-pub type SiteService<R, L, G> = MessageService<R, Site<L, G>>;
+pub type SiteService<R, L, G> = MessageService<R, SiteAnswers<L, G>>;
 
 /// Serves one connection until it ends, and gives its seat back, however it ends.
 pub fn serve_io<R, L, G, I>(
@@ -26,5 +27,15 @@ where
     G: Gate + Drop,
     I: AsyncRead + AsyncWrite,
 {
-    http_connections::serve_io::serve_io(rt, site, seat, io)
+    match answers_of(rt.alloc(), site) {
+        Ok(answers) => http_connections::serve_io::serve_io(rt, &answers, seat, io),
+        Err(error) => (Some(seat), Err(error.into())),
+    }
+}
+
+fn answers_of<L: Origin, G: Drop>(
+    alloc: Global,
+    site: &Arc<Site<L, G>>,
+) -> Result<Arc<SiteAnswers<L, G>>, AllocError> {
+    Ok(Arc::new(alloc, SiteAnswers::new(Arc::try_clone(site)?))?)
 }

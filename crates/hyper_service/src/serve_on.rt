@@ -1,10 +1,11 @@
 // The connections of a listener, until as many as are wanted were served.
+use crate::site_answers::SiteAnswers;
 use answering::gate::Gate;
 use answering::site::Site;
 use command_output::error::CommandError;
 use command_output::status::{FAILURE, SUCCESS};
 use error_code::error_code::ErrorCode;
-use http_connections::serve_on::{Day, End, serve_all};
+use http_connections::serve_on::{Day, End, serve_all_here};
 use shared_book::origin::Origin;
 use shared_book::seat::Seat;
 use shared_book::settle::settle;
@@ -15,16 +16,15 @@ use std::io;
 use std::io::Write;
 use std::random::RandomSource;
 use std::sync::{Arc, Wait};
-use std::thread::Threads;
 use std::time::Clock;
 use tokio::net::TcpListener;
-use tokio::runtime::Runtime;
+use tokio::runtime::LocalRuntime;
 
 /// Serves the connections of a listener, as many as are wanted, each with a seat of its own, and settles once all have
 /// ended. Writes where it listens before it accepts the first, how many events were settled, and an error to `err`. Gives the exit status.
 pub fn serve_on<R, L, G, O, E>(
     rt: R,
-    runtime: &mut Runtime,
+    runtime: &mut LocalRuntime,
     listener: TcpListener,
     site: Site<L, G>,
     seat: Seat<L>,
@@ -33,9 +33,9 @@ pub fn serve_on<R, L, G, O, E>(
     err: &mut E,
 ) -> u8
 where
-    R: Wait + Threads + Clock + RandomSource + AllocGlobal + Sync + Send + Copy + Drop,
-    L: Origin + Send + Sync,
-    G: Gate + Send + Sync + Drop,
+    R: Wait + Clock + RandomSource + AllocGlobal + Copy + Drop,
+    L: Origin,
+    G: Gate + Drop,
     O: Write,
     E: Write,
 {
@@ -61,20 +61,21 @@ fn announce<O: Write>(listener: &TcpListener, out: &mut O) -> io::Result<()> {
 // How many events were settled, or why not, and why no more connections were accepted.
 fn serve_site<R, L, G>(
     rt: R,
-    runtime: &mut Runtime,
+    runtime: &mut LocalRuntime,
     listener: TcpListener,
     site: Site<L, G>,
     seat: Seat<L>,
     connections: Option<u64>,
 ) -> Result<(Result<u64, SettleRefusal>, End), AllocError>
 where
-    R: Wait + Threads + Clock + RandomSource + AllocGlobal + Sync + Send + Copy + Drop,
-    L: Origin + Send + Sync,
-    G: Gate + Send + Sync + Drop,
+    R: Wait + Clock + RandomSource + AllocGlobal + Copy + Drop,
+    L: Origin,
+    G: Gate + Drop,
 {
     let book = site.book.try_clone()?;
-    let site = Arc::new(rt.alloc(), site)?;
-    let Day { seats, end } = serve_all(rt, runtime, listener, &site, seat, connections)?;
+    let answers = SiteAnswers::new(Arc::new(rt.alloc(), site)?);
+    let answers = Arc::new(rt.alloc(), answers)?;
+    let Day { seats, end } = serve_all_here(rt, runtime, listener, &answers, seat, connections)?;
     Ok((events(&rt, rt.alloc(), book, seats), end))
 }
 

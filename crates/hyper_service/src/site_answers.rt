@@ -10,9 +10,21 @@ use http_messages::error::ServiceError;
 use shared_book::origin::Origin;
 use shared_book::seat::Seat;
 use std::alloc::Global;
-use std::sync::Wait;
+use std::sync::{Arc, Wait};
 
-impl<L: Origin, G: Gate + Drop> Answers for Site<L, G> {
+/// A site, as what the connections of a server are served by.
+#[derive(Drop)]
+pub struct SiteAnswers<L: Origin, G> {
+    site: Arc<Site<L, G>>,
+}
+
+impl<L: Origin, G> SiteAnswers<L, G> {
+    pub fn new(site: Arc<Site<L, G>>) -> SiteAnswers<L, G> {
+        SiteAnswers { site }
+    }
+}
+
+impl<L: Origin, G: Gate + Drop> Answers for SiteAnswers<L, G> {
     type Seat = Seat<L>;
 
     fn answer<R: Wait>(
@@ -22,7 +34,7 @@ impl<L: Origin, G: Gate + Drop> Answers for Site<L, G> {
         seat: &mut Seat<L>,
         request: Request<Bytes>,
     ) -> Result<Response<Full<Bytes>>, ServiceError> {
-        answer(rt, alloc, self, seat, request)
+        answer(rt, alloc, &self.site, seat, request)
     }
 
     fn split(seat: &mut Seat<L>) -> Option<Seat<L>> {

@@ -1,6 +1,8 @@
 //! A client in memory: it sends its bytes in pieces, then nothing more, and keeps what is sent to it.
 
-use bytes::{Buf, Bytes};
+use crate::responses::responses_in;
+use bytes::{Buf, Bytes, BytesMut};
+use case_table::row::Row;
 use futures::task::{Context, Poll};
 use std::alloc::{AllocError, Global};
 use std::io;
@@ -36,6 +38,34 @@ impl<R> Peer<R> {
             sent,
         }
     }
+}
+
+/// The client of a row: how it sends is in its first cell (`gone` for one that can't be sent anything), in pieces of how many
+/// bytes in its second.
+pub fn peer_of<R: Drop>(rt: R, row: &Row, says: Bytes, sent: Sent) -> Peer<R> {
+    let piece = row.cell(1).parse::<usize>().unwrap_or(1).max(1);
+    Peer::new(rt, says, piece, row.cell(0) == "gone", sent)
+}
+
+/// What a client was sent, each response in a cell; without content where the row's first cell is `HEAD`.
+pub fn responses_to<R: Wait>(
+    rt: &R,
+    alloc: Global,
+    row: &Row,
+    sent: &Sent,
+) -> Result<String, AllocError> {
+    let sent = sent.lock(rt);
+    match str::from_utf8(sent.as_slice()) {
+        Ok(text) => responses_in(alloc, text, row.cell(0) == "HEAD"),
+        Err(_error) => String::from_str(alloc, "\tno text"),
+    }
+}
+
+/// The bytes of a text.
+pub fn bytes_of(alloc: Global, text: &str) -> Result<Bytes, AllocError> {
+    let mut bytes = BytesMut::new(alloc);
+    bytes.extend_from_slice(text.as_bytes())?;
+    Ok(bytes.freeze()?)
 }
 
 /// A place for what a client is sent.
