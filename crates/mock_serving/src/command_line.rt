@@ -2,21 +2,26 @@
 use crate::arguments::serve_arguments;
 use crate::serve::serve;
 use command_output::error::CommandError;
+use command_output::files::FileReader;
 use command_output::status::FAILURE;
 use error_code::error_code::ErrorCode;
 use mock_program::command_line::write_parser_message;
-use std::alloc::{AllocError, Global};
+use std::alloc::{AllocError, AllocGlobal, Global};
 use std::io::Write;
+use std::net::Net;
+use std::random::RandomSource;
+use std::sync::Wait;
+use std::time::Clock;
 
 /// Runs the command that the arguments name, the first of them being the program's name, and gives the exit status:
 /// 0; 1 for an error or output that can't be written; 2 for invalid arguments. The text of `clap` for invalid
 /// arguments goes to `err`, its help to `out`.
-pub fn run<O: Write, E: Write>(
-    rt: HostRuntime,
-    arguments: &[String],
-    out: &mut O,
-    err: &mut E,
-) -> u8 {
+pub fn run<R, O, E>(rt: R, arguments: &[String], out: &mut O, err: &mut E) -> u8
+where
+    R: Wait + Net + Clock + RandomSource + AllocGlobal + FileReader + Copy + Drop,
+    O: Write,
+    E: Write,
+{
     match arguments {
         [_program, command, ..] if command.as_str() == "serve" => {
             run_serve(rt, &arguments[1..], out, err)
@@ -25,12 +30,12 @@ pub fn run<O: Write, E: Write>(
     }
 }
 
-fn run_serve<O: Write, E: Write>(
-    rt: HostRuntime,
-    arguments: &[String],
-    out: &mut O,
-    err: &mut E,
-) -> u8 {
+fn run_serve<R, O, E>(rt: R, arguments: &[String], out: &mut O, err: &mut E) -> u8
+where
+    R: Wait + Net + Clock + RandomSource + AllocGlobal + FileReader + Copy + Drop,
+    O: Write,
+    E: Write,
+{
     let Ok(words) = words_of(rt.alloc(), arguments) else {
         CommandError::from(ErrorCode::OutOfMemory).report(err);
         return FAILURE;

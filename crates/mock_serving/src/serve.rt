@@ -6,17 +6,22 @@ use crate::book::book_of;
 use answering::gate::NoGate;
 use answering::site::Site;
 use command_output::error::CommandError;
+use command_output::files::FileReader;
 use command_output::output::put;
 use command_output::status::FAILURE;
 use error_code::error_code::ErrorCode;
 use hyper_service::serve_on::serve_on;
 use shared_book::origin::Origin;
 use shared_book::shared_book::SharedBook;
+use std::alloc::AllocGlobal;
 use std::io;
 use std::io::{ErrorKind, Write};
 use std::marker::Brand;
-use std::net::{Ipv4Addr, SocketAddr};
+use std::net::{Ipv4Addr, Net, SocketAddr};
+use std::random::RandomSource;
+use std::sync::Wait;
 use std::sync::ledger::Blank;
+use std::time::Clock;
 use stub_book::book::Book;
 use stub_response::limits::Limits;
 use tokio::net::TcpListener;
@@ -27,22 +32,22 @@ const PARTS: u64 = 4_294_967_296;
 
 /// Serves as the arguments say, and gives the exit status: 0, or 1 with a line on `err`. First the file is judged, then
 /// its mappings, the book, and the port.
-pub fn serve<O: Write, E: Write>(
-    rt: HostRuntime,
-    arguments: ServeArguments<'_>,
-    out: &mut O,
-    err: &mut E,
-) -> u8 {
+pub fn serve<R, O, E>(rt: R, arguments: ServeArguments<'_>, out: &mut O, err: &mut E) -> u8
+where
+    R: Wait + Net + Clock + RandomSource + AllocGlobal + FileReader + Copy + Drop,
+    O: Write,
+    E: Write,
+{
     match book_of(rt.alloc(), &rt, arguments.mappings, err) {
         Some(book) => {
-            serve_book::<Brand, O, E>(rt, Blank::new(PARTS), PARTS, book, arguments, out, err)
+            serve_book::<Brand, R, O, E>(rt, Blank::new(PARTS), PARTS, book, arguments, out, err)
         }
         None => FAILURE,
     }
 }
 
-fn serve_book<L: Origin, O: Write, E: Write>(
-    rt: HostRuntime,
+fn serve_book<L, R, O, E>(
+    rt: R,
     blank: Blank,
     parts: u64,
     book: Book,
@@ -50,6 +55,11 @@ fn serve_book<L: Origin, O: Write, E: Write>(
     out: &mut O,
     err: &mut E,
 ) -> u8
+where
+    L: Origin,
+    R: Wait + Net + Clock + RandomSource + AllocGlobal + Copy + Drop,
+    O: Write,
+    E: Write,
     requires name { blank.name ≡ L.name }
     requires ledger { blank.parts ≡ L.parts }
     requires parts { parts ≡ L.parts }
@@ -84,7 +94,10 @@ fn serve_book<L: Origin, O: Write, E: Write>(
     )
 }
 
-fn listen(rt: &HostRuntime, port: u16) -> io::Result<(LocalRuntime, TcpListener)> {
+fn listen<R>(rt: &R, port: u16) -> io::Result<(LocalRuntime, TcpListener)>
+where
+    R: Net + Clock + RandomSource + AllocGlobal,
+{
     let runtime = LocalRuntime::new(rt)?;
     let address = SocketAddr::from((Ipv4Addr::LOCALHOST, port));
     let listener = TcpListener::bind(rt, address, runtime.handle().reactor())?;
