@@ -1,7 +1,7 @@
 //! Clients over sockets.
 
-use connection_clients::responses::responses_in;
 use crate::stand_in::{Counter, Ticket};
+use connection_clients::responses::responses_in;
 use http_connections::serve_on::{Day, End, serve_all};
 use std::alloc::{AllocError, AllocGlobal, Global};
 use std::io::{Read, Write};
@@ -77,7 +77,14 @@ where
     let runtime = &mut runtime;
     let (day, sent) = join(
         &rt,
-        move || serve_all(rt, runtime, listener, &site, seat, Some(clients.connections())),
+        move || serve_all(
+            rt,
+            runtime,
+            listener,
+            &site,
+            seat,
+            Some(clients.connections()),
+        ),
         move || visits(&rt, clients, address),
     );
     let sent = sent?;
@@ -156,7 +163,9 @@ where
     let mut told = [0; 25];
     stream.read_exact(&mut told)?;
     stream.write_all(b"abc")?;
-    let mut sent = String::from_utf8(Vec::from_slice(rt.alloc(), &told)?).unwrap_or(String::new(rt.alloc()));
+    let mut sent = String::from_utf8(Vec::from_slice(rt.alloc(), &told)?).unwrap_or(String::new(
+        rt.alloc(),
+    ));
     stream.read_to_string(&mut sent)?;
     Ok(sent)
 }

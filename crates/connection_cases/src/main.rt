@@ -9,8 +9,8 @@ mod stand_in;
 use case_table::compare::compare_all;
 use clients::{Clients, day};
 use exchanges::Exchanges;
-use std::{env, io};
 use std::process::ExitCode;
+use std::{env, io};
 
 fn main(rt: HostRuntime) -> io::Result<ExitCode> {
     if let Some(count) = count_asked(&rt)? {

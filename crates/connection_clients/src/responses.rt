@@ -39,13 +39,20 @@ pub fn responses_in(alloc: Global, text: &str, are_heads: bool) -> Result<String
 
 fn first_response(text: &str, are_heads: bool) -> Option<Parted<'_>> {
     let (head, after) = text.split_once("\r\n\r\n")?;
-    let version = if head.starts_with("HTTP/1.0 ") { "HTTP/1.0 " } else { "HTTP/1.1 " };
+    let version = if head.starts_with("HTTP/1.0 ") {
+        "HTTP/1.0 "
+    } else {
+        "HTTP/1.1 "
+    };
     let status = head.strip_prefix(version)?.split(' ').next()?;
     let has_none = are_heads || status.starts_with('1') || status == "204" || status == "304";
     let (content, rest) = if has_none {
         ("", after)
     } else {
-        (after.get(..length_in(head)?)?, after.get(length_in(head)?..)?)
+        (
+            after.get(..length_in(head)?)?,
+            after.get(length_in(head)?..)?,
+        )
     };
     Some(Parted {
         status,
