@@ -1,9 +1,9 @@
 // One connection.
 use crate::answers::Answers;
 use crate::desk::Desk;
-use http_messages::error::ServiceError;
 use crate::service::MessageService;
 use futures::executor::block_on;
+use http_messages::error::ServiceError;
 use hyper::server::conn::http1::Builder;
 use std::alloc::{AllocError, AllocGlobal, Global};
 use std::hash::RandomState;

@@ -1,7 +1,6 @@
 // The requests of one connection.
 use crate::answers::Answers;
 use crate::desk::Desk;
-use http_messages::error::ServiceError;
 use bytes::{Bytes, BytesMut};
 use futures::task::{Context, Poll};
 use futures::{Future, ready};
@@ -9,6 +8,7 @@ use http::request::Parts;
 use http::{Request, Response};
 use http_body_util::combinators::Collect;
 use http_body_util::{BodyExt, Collected, Full, Limited, LimitedError};
+use http_messages::error::ServiceError;
 use hyper::body::Incoming;
 use hyper::service::Service;
 use std::alloc::{AllocError, AllocGlobal, Global};
@@ -97,11 +97,7 @@ where
             Err(LimitedError::LengthLimit) => overlong(self.rt.alloc())?,
             Err(LimitedError::Body(_error)) => return Err(ServiceError::Broken),
         };
-        desk.answer(
-            &self.rt,
-            self.rt.alloc(),
-            Request::from_parts(head, bytes),
-        )
+        desk.answer(&self.rt, self.rt.alloc(), Request::from_parts(head, bytes))
     }
 }
 
