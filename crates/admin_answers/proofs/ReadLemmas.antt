@@ -76,9 +76,11 @@ pub scenarios
     → IfOk result (IsJsonReply 200 (json_of_scenarios states list.items))
     → IfOk result (λ reply. InPast origin (IsReadReply call.ListScenarios reply))
 scenarios origin states list reading (Ok reply) is e json =
-    let says = said origin read.Scenarios reading _ is e in
-    (is.past, is.reached,
-    (states, says.0, (list.items, says.1, json)))
+    let says = said origin read.Scenarios reading _ is e in (
+      is.past,
+      is.reached,
+      (states, says.0, (list.items, says.1, json)),
+    )
 scenarios origin states list reading (Err why) is e json = tt
 
 same_mapping : (a b : Mapping) → a.id ≡ b.id → a.spec ≡ b.spec → a ≡ b
@@ -91,9 +93,11 @@ pub mapping
 mapping origin id held reading reply is e json =
     let says = said origin (read.Mapping id) reading _ is e in
     let at = says.1 in
-    let same = same_mapping held at.1.mapping (says.0 ∙ sym at.4.0) (sym at.4.1) in
-    (is.past, is.reached,
-    (at.0, at.1, at.2, at.3, (at.4.0, subst (λ m. IsJsonReply 200 (json_of_held m) reply) same json)))
+    let same = same_mapping held at.1.mapping (says.0 ∙ sym at.4.0) (sym at.4.1) in (
+      is.past,
+      is.reached,
+      (at.0, at.1, at.2, at.3, (at.4.0, subst (λ m. IsJsonReply 200 (json_of_held m) reply) same json)),
+    )
 
 pub missing
     : (origin : Past) (id : List ℕ) (reading : Reading) → IsRead origin (read.Mapping id) reading
@@ -113,7 +117,7 @@ pub not_held
     → IsRead origin (read.Mapping id) reading → reading.answer ≡ answer.Mapping kept
     → IfErr result (λ error. (error.code ≡ code.OutOfMemory) ⊎ ((error.code ≡ code.UnknownMapping) × (kept ≡ None)))
     → IfErr result (λ error. (error.code ≡ code.OutOfMemory)
-        ⊎ ((error.code ≡ code.UnknownMapping) × InPast origin (λ past. ¬ (IsLive past id))))
+    ⊎ ((error.code ≡ code.UnknownMapping) × InPast origin (λ past. ¬ (IsLive past id))))
 not_held origin id kept reading (Ok reply) is e why = tt
 not_held origin id kept reading (Err error) is e (inl memory) = inl memory
 not_held origin id kept reading (Err error) is e (inr none) =

@@ -85,7 +85,7 @@ IsReadReply (call.CountRequests matcher) reply past =
 IsReadReply call.ListScenarios reply past =
     (states : States) × ((name : List ℕ) → state_of states name ≡ state past name)
     × ((listed : List Mapping) × IsNewestFirst (live past) listed
-        × IsJsonReply 200 (json_of_scenarios states listed) reply)
+    × IsJsonReply 200 (json_of_scenarios states listed) reply)
 IsReadReply other reply past = ⊥
 
 -- ---- calls

@@ -4,8 +4,10 @@ ghost use Rattle.admin_answers.specs.Answers.{IsAnswered, IsNotAnswered};
 
 use crate::change::change;
 use crate::error::SharedError;
-use crate::reads::{count_requests, find_requests, list_mappings, list_requests, list_scenarios};
-use crate::reads::{list_unmatched, read_mapping};
+use crate::reads::{
+    count_requests, find_requests, list_mappings, list_requests, list_scenarios, list_unmatched,
+    read_mapping,
+};
 use admin_routes::call::AdminCall;
 use mapping_model::reply::Reply;
 use request_journal::input::BookInput;
@@ -39,7 +41,13 @@ pub fn answer_admin<L: Origin, R: Wait>(
         AdminCall::ClearRequests => change(rt, alloc, shared, seat, BookInput::ClearJournal),
         AdminCall::ResetScenarios => change(rt, alloc, shared, seat, BookInput::ResetScenarios),
         AdminCall::SetScenario { name, state } => {
-            change(rt, alloc, shared, seat, BookInput::SetScenario { name, state })
+            change(
+                rt,
+                alloc,
+                shared,
+                seat,
+                BookInput::SetScenario { name, state },
+            )
         }
         AdminCall::ListMappings => Ok(list_mappings(rt, alloc, shared, seat)?),
         AdminCall::ReadMapping(id) => read_mapping(rt, alloc, shared, seat, id),

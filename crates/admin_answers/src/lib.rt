@@ -3,7 +3,7 @@
 #![tactic(auto)]
 
 pub mod answer;
-pub mod error;
 mod change;
+pub mod error;
 mod json_reply;
 mod reads;

@@ -38,9 +38,7 @@ pub(crate) fn list_mappings<L: Origin, R: Wait>(
 {
     let reading = seat.read(rt, shared, BookRead::Mappings)?;
     match &reading.answer {
-        ReadAnswer::Mappings(mappings) => {
-            mappings_reply(alloc, mappings.as_slice())
-        }
+        ReadAnswer::Mappings(mappings) => { mappings_reply(alloc, mappings.as_slice()) }
         _ => unreachable!(),
     }
 }
@@ -73,9 +71,7 @@ pub(crate) fn list_requests<L: Origin, R: Wait>(
 {
     let reading = seat.read(rt, shared, BookRead::Requests)?;
     match &reading.answer {
-        ReadAnswer::Requests(entries) => {
-            requests_reply(alloc, entries.as_slice())
-        }
+        ReadAnswer::Requests(entries) => { requests_reply(alloc, entries.as_slice()) }
         _ => unreachable!(),
     }
 }
@@ -90,9 +86,7 @@ pub(crate) fn list_unmatched<L: Origin, R: Wait>(
 {
     let reading = seat.read(rt, shared, BookRead::Unmatched)?;
     match &reading.answer {
-        ReadAnswer::Requests(entries) => {
-            found_reply(alloc, entries.as_slice())
-        }
+        ReadAnswer::Requests(entries) => { found_reply(alloc, entries.as_slice()) }
         _ => unreachable!(),
     }
 }
@@ -108,9 +102,7 @@ pub(crate) fn find_requests<L: Origin, R: Wait>(
 {
     let reading = seat.read(rt, shared, BookRead::Find(matcher))?;
     match &reading.answer {
-        ReadAnswer::Requests(entries) => {
-            found_reply(alloc, entries.as_slice())
-        }
+        ReadAnswer::Requests(entries) => { found_reply(alloc, entries.as_slice()) }
         _ => unreachable!(),
     }
 }

@@ -7,13 +7,13 @@ ghost use Rattle.stub_response.specs.ErrorReply.{error_reply};
 
 use crate::gate::Gate;
 use crate::reply::reply_to;
+use crate::response::response_of;
 use crate::site::Site;
 use bytes::Bytes;
 use error_code::error_code::ErrorCode;
 use http::{Request, Response};
 use http_body_util::Full;
 use http_messages::error::ServiceError;
-use crate::response::response_of;
 use shared_book::origin::Origin;
 use shared_book::seat::Seat;
 use std::alloc::{AllocError, Global};

@@ -35,4 +35,3 @@ pub(crate) fn serve<L: Origin, R: Wait, G: Gate>(
         Err(error) => Err(error),
     }
 }
-

@@ -83,7 +83,12 @@ pub(crate) fn reply_by(
 {
     match answer {
         ServeAnswer::Stub(captured) => {
-            respond(alloc, captured.mapping.spec.spec(), request, Limits::usual())
+            respond(
+                alloc,
+                captured.mapping.spec.spec(),
+                request,
+                Limits::usual(),
+            )
         }
         ServeAnswer::Proxy(_target) => unreachable!(),
         ServeAnswer::Unmatched => unmatched_reply(alloc),

@@ -9,12 +9,7 @@ use std::{env, io};
 
 fn main(rt: HostRuntime) -> ExitCode {
     ExitCode::from(match arguments(&rt) {
-        Ok(arguments) => run(
-            rt,
-            arguments.as_slice(),
-            &mut rt.stdout(),
-            &mut rt.stderr(),
-        ),
+        Ok(arguments) => run(rt, arguments.as_slice(), &mut rt.stdout(), &mut rt.stderr()),
         Err(error) => report_unreadable(&error, &mut rt.stderr()),
     })
 }

@@ -5,7 +5,8 @@ ghost use Rattle.clap.specs.Words.{first_of, found_of, rows_of};
 use clap::{Arg, ArgMatches, Command, Error, value_parser};
 use std::alloc::{AllocError, Global};
 
-const SERVE_HELP: &str = "It serves on 127.0.0.1, tells where on the first line, `listening on 127.0.0.1:PORT`, and goes on until it
+const SERVE_HELP: &str =
+    "It serves on 127.0.0.1, tells where on the first line, `listening on 127.0.0.1:PORT`, and goes on until it
 is stopped. Port 0 takes a free port. The mappings of FILE are those that a reset brings back.
 With --connections it ends after that many connections, compares what each has seen, and tells the
 number of events: `settled 3 events`.

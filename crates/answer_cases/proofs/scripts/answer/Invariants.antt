@@ -1,7 +1,0 @@
-use Rattle.answer_cases.proofs.scripts.answer.Given as goal
-
-abbrev pub ghosts-play-L-Origin : goal.ghosts-play-L-Origin
-ghosts-play-L-Origin g a = record { origin = a.book }
-
-abbrev pub ghosts-play-L-Ledger : goal.ghosts-play-L-Ledger
-ghosts-play-L-Ledger g a = record { name = a.blank.name; parts = a.blank.parts }
