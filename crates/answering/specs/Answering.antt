@@ -2,7 +2,7 @@
 use Rattle.std.specs.Prelude.{◌≡◌, ◌⊎◌, ◌<◌, ◌≤◌, ℕ, List, length}
 use Rattle.admin_table.specs.Routes.{IsAdmin}
 use Rattle.error_code.specs.declared.error_code.ErrorCode.{ErrorCode}
-use Rattle.error_code.specs.declared.error_code.ErrorCode.TheVariants.{BadUrl, OutOfMemory, TooLarge, UnknownAdminCall}
+use Rattle.error_code.specs.declared.error_code.ErrorCode.TheVariants.{BadUrl, OutOfMemory, TooLarge}
 use Rattle.http.specs.Request.{body_of}
 use Rattle.http.specs.declared.request.Request.{Request as Message}
 use Rattle.http.specs.declared.response.Response.{Response}
@@ -15,6 +15,7 @@ use Rattle.mock_request.specs.Target.{HasUrl}
 use Rattle.mock_request.specs.declared.snapshot.TheConstants.{BODY_LIMIT}
 use Rattle.request_journal.specs.Past.{Past}
 use Rattle.shared_book.specs.Held.{Held}
+use Rattle.answering.specs.Admin.{IsAdminAnswered}
 use Rattle.answering.specs.Served.{IsServedWith, IsNotServed}
 use Rattle.stub_response.specs.ErrorReply.{error_reply}
 use Rattle.stub_response.specs.declared.limits.Limits.{Limits}
@@ -25,13 +26,9 @@ IsServeAnswered origin limits old new request reply =
     IsServedWith origin limits old new request reply
     ⊎ ((reason : ErrorCode) × IsNotServed origin old new request reason × (reply ≡ error_reply 503 reason))
 
--- the reply to an admin call
-abbrev pub IsAdminAnswered : Held → Held → Request → Reply → Type 0
-IsAdminAnswered old new request reply = (new ≡ old) × (reply ≡ error_reply 404 UnknownAdminCall)
-
 abbrev pub IsRequestAnswered : Past → Limits → Held → Held → Request → Reply → Type 0
 IsRequestAnswered origin limits old new request reply =
-    (IsAdmin request.url × IsAdminAnswered old new request reply)
+    (IsAdmin request.url × IsAdminAnswered origin old new request reply)
     ⊎ (¬ (IsAdmin request.url) × IsServeAnswered origin limits old new request reply)
 
 -- a message that is no request of ours makes no event: its target is bad, or else its body is too large; or memory ran out

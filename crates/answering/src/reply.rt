@@ -1,8 +1,9 @@
 // Replies to messages.
 ghost use Rattle.std.specs.Prelude.{◌≤◌, length, MatchResult};
 ghost use Rattle.mock_request.specs.declared.snapshot.TheConstants.{BODY_LIMIT};
-ghost use Rattle.answering.specs.Answering.{IsAdminAnswered, IsNotAnswered, IsReply, IsRequestAnswered};
+ghost use Rattle.answering.specs.Answering.{IsNotAnswered, IsReply, IsRequestAnswered};
 
+use crate::admin_reply::admin_reply;
 use crate::gate::Gate;
 use crate::serve::serve;
 use crate::site::Site;
@@ -52,7 +53,7 @@ fn reply_to_request<L: Origin, R: Wait, G: Gate>(
         (λ _. (reply : _) × IsRequestAnswered L.origin site.now.limits seat.old seat.new request reply) }
 {
     if is_admin(request.url()) {
-        return error_reply(alloc, 404, ErrorCode::UnknownAdminCall);
+        return admin_reply(rt, alloc, &site.book, seat, &request);
     }
     match serve(rt, alloc, site, seat, request) {
         Ok(reply) => Ok(reply),
