@@ -11,7 +11,8 @@ use std::alloc::{AllocError, Global};
 const MOCK_HELP: &str = "Examples:
   mock render 'Hello {{request.path.[1]}}' GET /hi/Ann
   mock check mappings.json
-  mock answer mappings.json GET /hi/Ann";
+  mock answer mappings.json GET /hi/Ann
+  mock serve --port 8080 --mappings mappings.json";
 
 const RENDER_HELP: &str =
     "It prints the steps that the run took and the bytes that it wrote, each beside its budget, and
