@@ -3,4 +3,5 @@ pub mod HeldLemmas
 pub mod ReceiptLemmas
 pub mod CountLemmas
 pub mod RefusalLemmas
+pub mod ScriptLemmas
 pub mod TellLemmas
