@@ -1,5 +1,6 @@
 //! Plays calls of one and two threads on shared books, and prints what each case shows.
 #![tactic(auto)]
+
 ghost use Rattle.std.specs.Prelude.{◌≡◌, ◌≤◌};
 
 mod books;

@@ -1,9 +1,8 @@
 //! Two scripts, and a gate.
 ghost use Rattle.std.specs.Prelude.{◌≤◌};
 
-use crate::books;
 use crate::books::Change;
-use crate::calls;
+use crate::{books, calls};
 use shared_book::origin::Origin;
 use shared_book::script::{Call, Gate, Script, run_scripts};
 use shared_book::seat::Seat;

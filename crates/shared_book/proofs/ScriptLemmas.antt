@@ -35,7 +35,7 @@ plays_on origin a b c calls call one two = (
   one.0 ++ two.0,
   told_on origin calls call one.0 two.0 one.1 two.1,
   two.2 ∙ ap (λ (s : Held). record s { own = s.own ++ two.0 }) one.2
-  ∙ ap (λ (l : List Receipt). record a { own = l }) (append_assoc a.own one.0 two.0),
+      ∙ ap (λ (l : List Receipt). record a { own = l }) (append_assoc a.own one.0 two.0),
 )
 
 pub plays_accepted : (origin : Past) (old new : Held) (call : Call) (receipt : Receipt) → new ≡ with_receipt old receipt
@@ -74,7 +74,7 @@ pub played_by : {E : Type 0} (origin : Past) (seat left a b : Held) (cs ds : Lis
     → IfOk result (λ s. IsPlayed origin seat cs ds s)
 played_by origin seat left a b cs ds seats (Ok settled) same one two is told =
     played origin told.0 seat left a b cs ds settled same one two
-        (subst (λ (l : List Held). IsSettled origin told.0 (all_lists l) settled) is told.1)
+    (subst (λ (l : List Held). IsSettled origin told.0 (all_lists l) settled) is told.1)
 played_by origin seat left a b cs ds seats (Err error) same one two is told = told
 
 -- the same seats, where they couldn't be settled

@@ -25,7 +25,7 @@ abbrev pub IsTold : Past → List Call → List Receipt → Type 0
 IsTold origin [] receipts = receipts ≡ []
 IsTold origin (call ∷ calls) receipts =
     ((receipt : Receipt) × (rest : List Receipt) × (receipts ≡ receipt ∷ rest)
-        × IsOf call receipt.event × IsReceipt origin receipt × IsTold origin calls rest)
+    × IsOf call receipt.event × IsReceipt origin receipt × IsTold origin calls rest)
     ⊎ IsTold origin calls receipts
 
 -- a seat has made the calls: the receipts of those that were accepted are at the end of its own list

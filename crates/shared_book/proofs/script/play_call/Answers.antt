@@ -7,6 +7,6 @@ use Rattle.shared_book.proofs.script.play_call.Goals as goal
 pub returns-in-Apply : goal.returns-in-Apply
 returns-in-Apply g c =
     subst (λ (call : Call). Plays g.L.Origin.origin c.args.seat.now c.apply.follows.lender-at-none (call ∷ []))
-        (sym c.in-Apply.is)
-        (plays_applied g.L.Origin.origin c.args.seat.now c.apply.follows.lender-at-none c.in-Apply.input c.apply.result
-        c.apply.follows.holds-at-none)
+    (sym c.in-Apply.is)
+    (plays_applied g.L.Origin.origin c.args.seat.now c.apply.follows.lender-at-none c.in-Apply.input c.apply.result
+    c.apply.follows.holds-at-none)
