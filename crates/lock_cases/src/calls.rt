@@ -165,9 +165,9 @@ pub fn settled<L: Origin, R: Wait>(
 /// How many events and receipts there are, or why there are none.
 pub fn outcome<L: Origin>(
     alloc: Global,
-    result: &Result<Settled, SettleError<L>>,
+    settled: &Result<Settled, SettleError<L>>,
 ) -> Result<String, AllocError> {
-    match result {
+    match settled {
         Ok(settled) => {
             let events = settled.events;
             let receipts = settled.receipts.len();

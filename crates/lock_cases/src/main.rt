@@ -36,19 +36,26 @@ enum Case {
 }
 
 fn main(rt: HostRuntime) -> io::Result<()> {
-    print(&rt, "two threads", Case::TwoThreads)?;
-    print(&rt, "scripts", Case::Scripts)?;
-    print(&rt, "versions", Case::Versions)?;
-    print(&rt, "cleared", Case::Cleared)
+    let text = play_again(&rt, rt.alloc(), Case::TwoThreads)?;
+    println!(rt; "two threads: {text}")?;
+    let text = play_again(&rt, rt.alloc(), Case::Scripts)?;
+    println!(rt; "scripts: {text}")?;
+    let text = play_again(&rt, rt.alloc(), Case::Versions)?;
+    println!(rt; "versions: {text}")?;
+    let text = play_again(&rt, rt.alloc(), Case::Cleared)?;
+    println!(rt; "cleared: {text}")
 }
 
-// The case is played once more where memory ran out.
-fn print(rt: &HostRuntime, name: &str, case: Case) -> io::Result<()> {
-    let text = match play(rt, rt.alloc(), case) {
-        Ok(text) => text,
-        Err(_error) => play(rt, rt.alloc(), case)?,
-    };
-    println!(rt; "{name}: {text}")
+// Once more where memory ran out.
+fn play_again<R: Threads + Wait + Sync>(
+    rt: &R,
+    alloc: Global,
+    case: Case,
+) -> Result<String, AllocError> {
+    match play(rt, alloc, case) {
+        Ok(text) => Ok(text),
+        Err(_error) => play(rt, alloc, case),
+    }
 }
 
 fn play<R: Threads + Wait + Sync>(rt: &R, alloc: Global, case: Case) -> Result<String, AllocError> {

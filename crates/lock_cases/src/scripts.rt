@@ -13,6 +13,7 @@ use std::sync::atomic::{AtomicU64, Ordering};
 use std::thread::Threads;
 
 /// Holds its first call until its second.
+#[derive(Drop)]
 struct FirstWaits {
     calls: AtomicU64,
     /// Whether the second didn't come.
