@@ -9,7 +9,7 @@ use std::marker::Model;
 use uuid::Uuid;
 
 /// The id of a mapping: a UUID (RFC 9562), which contracts see as its bytes.
-#[derive(Clone, Copy, Debug, PartialEq, Eq)]
+#[derive(Clone, Copy, Debug, PartialEq, Eq, Hash)]
 pub struct MappingId {
     uuid: Uuid,
 }

@@ -3,7 +3,7 @@ use Rattle.std.proofs.Common.{◌≡◌, ℕ, ◌+◌, ◌<◌, Bool, true, fals
 use Rattle.std.proofs.Common.{refl, sym, ap, ◌∙◌}
 use Rattle.std.specs.Prelude.{◌&&◌}
 use Rattle.std.specs.List.{filter, list_all, slice_get}
-use Rattle.std.specs.Str.{bytes_eq, is_utf8}
+use Rattle.std.specs.Str.{is_utf8, str_eq_ignore_ascii_case}
 use Rattle.std.proofs.lemmas.Bool.{and_parts, cond-true}
 use Rattle.std.proofs.lemmas.List.{drop_more, length_push, take-append-drop}
 use Rattle.std.proofs.lemmas.List.Elements.{filter-append}
@@ -25,13 +25,13 @@ and_last false b = refl
 
 module _ (name : List ℕ) (headers : List Header) (i : ℕ) (header : Header) (within : i < length headers)
     (here : Some header ≡ slice_get headers i) where
-  pub count_more : bytes_eq name header.name ≡ true
+  pub count_more : str_eq_ignore_ascii_case name header.name ≡ true
       → length (headers_named name (take (i + 1) headers)) ≡ length (headers_named name (take i headers)) + 1
   count_more named =
       ap length (one_more name headers i header within here named)
       ∙ length_push (headers_named name (take i headers)) header
 
-  pub texts_more : bytes_eq name header.name ≡ true
+  pub texts_more : str_eq_ignore_ascii_case name header.name ≡ true
       → list_all is_text (headers_named name (take (i + 1) headers))
       ≡ (list_all is_text (headers_named name (take i headers)) && is_utf8 header.value)
   texts_more named =
@@ -40,10 +40,10 @@ module _ (name : List ℕ) (headers : List Header) (i : ℕ) (header : Header) (
       ∙ and_last (list_all is_text (headers_named name (take i headers))) (is_utf8 header.value)
 
   -- the first header of the name
-  found : bytes_eq name header.name ≡ true → headers_named name (take i headers) ≡ []
+  found : str_eq_ignore_ascii_case name header.name ≡ true → headers_named name (take i headers) ≡ []
       → headers_named name headers ≡ header ∷ headers_named name (drop (i + 1) headers)
   found named none =
-      let p : Header → Bool = λ h. bytes_eq name h.name in
+      let p : Header → Bool = λ h. str_eq_ignore_ascii_case name h.name in
       ap (filter p) (sym (take-append-drop i headers))
       ∙ filter-append p (take i headers) (drop i headers)
       ∙ ap (λ before. before ++ filter p (drop i headers)) none
@@ -51,11 +51,11 @@ module _ (name : List ℕ) (headers : List Header) (i : ℕ) (header : Header) (
       ∙ ap (λ h. filter p (h ∷ drop (i + 1) headers)) (get_or_from_slice_get headers i header header (sym here))
       ∙ cond-true (p header) _ _ named
 
-  pub first_is : bytes_eq name header.name ≡ true → headers_named name (take i headers) ≡ []
+  pub first_is : str_eq_ignore_ascii_case name header.name ≡ true → headers_named name (take i headers) ≡ []
       → first_value (headers_named name headers) ≡ value.EqualTo header.value
   first_is named none = ap first_value (found named none)
 
-  pub first_is_text : bytes_eq name header.name ≡ true → headers_named name (take i headers) ≡ []
+  pub first_is_text : str_eq_ignore_ascii_case name header.name ≡ true → headers_named name (take i headers) ≡ []
       → list_all is_text (headers_named name headers) ≡ true → is_utf8 header.value ≡ true
   first_is_text named none all =
       (and_parts (is_utf8 header.value) (list_all is_text (headers_named name (drop (i + 1) headers)))

@@ -12,6 +12,7 @@ use mapping_model::reply::{Reply, ReplyHeader};
 use mock_request::snapshot::Snapshot;
 use plain_text::text::Text;
 use recorder::exchange::{Exchange, SharedExchange};
+use recorder::key::is_named;
 use std::alloc::{AllocError, Global};
 
 /// The exchanges that can be mappings.
@@ -60,7 +61,7 @@ fn named_count(request: &Snapshot, name: &str) -> usize
     let mut count = 0;
     for index in 0..request.header_count() {
         if let Some((header, _value)) = request.header(index) {
-            if name == header {
+            if is_named(header, name) {
                 count += 1;
             }
         }
@@ -74,7 +75,7 @@ fn are_texts(request: &Snapshot, name: &str) -> bool
     let mut are_texts = true;
     for index in 0..request.header_count() {
         if let Some((header, value)) = request.header(index) {
-            if name == header {
+            if is_named(header, name) {
                 are_texts &= is_utf8(value);
             }
         }

@@ -14,6 +14,7 @@ use mock_request::snapshot::Snapshot;
 use plain_text::items::Items;
 use plain_text::text::Text;
 use recorder::exchange::Exchange;
+use recorder::key::is_named;
 use std::alloc::{AllocError, Global};
 use value_match::value_spec::ValueSpec;
 
@@ -64,7 +65,7 @@ fn first_value(alloc: Global, request: &Snapshot, name: &str) -> Result<ValueSpe
 {
     for index in 0..request.header_count() {
         if let Some((header, value)) = request.header(index) {
-            if name == header {
+            if is_named(header, name) {
                 return Ok(ValueSpec::EqualTo(utf8_text(alloc, value)?));
             }
         }

@@ -2,7 +2,7 @@
 use Rattle.std.proofs.Common.{◌≡◌, ℕ, ◌+◌, ◌<◌, true, false, List, [], ◌∷◌}
 use Rattle.std.proofs.Common.{◌++◌, Bor, Some, length, take, append_assoc, append-nil, refl, ap, ◌∙◌}
 use Rattle.std.specs.List.{slice_get}
-use Rattle.std.specs.Str.{bytes_eq}
+use Rattle.std.specs.Str.{str_eq_ignore_ascii_case}
 use Rattle.std.proofs.lemmas.List.{map-append}
 use Rattle.std.proofs.lemmas.List.Elements.{filter-append}
 use Rattle.mock_request.specs.Request.{Header}
@@ -15,13 +15,13 @@ module _ (name : List ℕ) (headers : List Header) (i : ℕ) (header : Header) (
       ≡ headers_named name (take i headers) ++ headers_named name (header ∷ [])
   appended =
       ap (headers_named name) (more_taken headers i header within here)
-      ∙ filter-append (λ h. bytes_eq name h.name) (take i headers) (header ∷ [])
+      ∙ filter-append (λ h. str_eq_ignore_ascii_case name h.name) (take i headers) (header ∷ [])
 
-  pub one_more : bytes_eq name header.name ≡ true
+  pub one_more : str_eq_ignore_ascii_case name header.name ≡ true
       → headers_named name (take (i + 1) headers) ≡ headers_named name (take i headers) ++ header ∷ []
   one_more named = appended ∙ ap (λ t. headers_named name (take i headers) ++ t) (rw named refl)
 
-  pub none_more : bytes_eq name header.name ≡ false
+  pub none_more : str_eq_ignore_ascii_case name header.name ≡ false
       → headers_named name (take (i + 1) headers) ≡ headers_named name (take i headers)
   none_more other =
       appended ∙ ap (λ t. headers_named name (take i headers) ++ t) (rw other refl)

@@ -3,12 +3,12 @@ use Rattle.std.specs.Prelude.{ℕ, Bool, ◌&&◌, List, map}
 use Rattle.std.specs.Borrow.{Bor}
 use Rattle.std.specs.Cmp.Lexicographic.{pointwise}
 use Rattle.std.specs.List.{filter, flat_map}
-use Rattle.std.specs.Str.{bytes_eq}
+use Rattle.std.specs.Str.{bytes_eq, str_eq_ignore_ascii_case}
 use Rattle.mock_request.specs.Request.{Header, Request}
 
--- the headers of a name, in their order
+-- the headers of a name, which has no case (RFC 9110, 5.1), in their order
 abbrev pub headers_named : List ℕ → List Header → List Header
-headers_named name headers = filter (λ header. bytes_eq name header.name) headers
+headers_named name headers = filter (λ header. str_eq_ignore_ascii_case name header.name) headers
 
 -- for each captured name the headers of that name
 abbrev pub captured_headers : List (List ℕ) → List Header → List Header

@@ -3,6 +3,7 @@ ghost use Rattle.std.specs.Prelude.{◌≡◌, ◌++◌, List, map, fold, IfOk, 
 ghost use Rattle.std.specs.Cmp.{partial_equiv_from_equiv};
 ghost use Rattle.std.specs.Cmp.Lexicographic.{pointwise};
 ghost use Rattle.std.specs.Hash.{slice as slice_writes};
+ghost use Rattle.std.specs.Str.{str_eq_ignore_ascii_case};
 ghost use Rattle.recorder.specs.Key.{key_of, headers_named, fields_of, same_header, same_key};
 ghost use Rattle.recorder.specs.Inner.Keys.{bytes_writes, header_writes, key_writes, same_key_laws, key_Alike};
 
@@ -118,7 +119,7 @@ fn write_bytes<H: Hasher>(bytes: &[u8], state: &mut H)
     state.write(bytes);
 }
 
-/// The key of an exchange's request; the captured names are in lower case.
+/// The key of an exchange's request.
 pub fn key_of<'a>(
     alloc: Global,
     exchange: &'a Exchange,
@@ -139,6 +140,13 @@ pub fn key_of<'a>(
     })
 }
 
+/// Whether a header has that name; names of headers have no case (RFC 9110, 5.1).
+pub fn is_named(header: &str, name: &str) -> bool
+    ensures { result ≡ str_eq_ignore_ascii_case name.now header.now }
+{
+    name.eq_ignore_ascii_case(header)
+}
+
 // Appends the headers of that name.
 fn push_named<'a>(
     headers: &mut Vec<(&'a str, &'a [u8])>,
@@ -150,7 +158,7 @@ fn push_named<'a>(
 {
     for index in 0..request.header_count() {
         if let Some((header, value)) = request.header(index) {
-            if name == header {
+            if is_named(header, name) {
                 headers.push((header, value))?;
             }
         }

@@ -21,7 +21,7 @@ pub struct Session {
     /// The number of the event that started it.
     pub start: u64,
     pub target: Target,
-    /// The names of the captured headers, in lower case.
+    /// The names of the captured headers.
     pub captured: Items<Text>,
     /// Whether equal requests become a scenario.
     pub repeats: bool,

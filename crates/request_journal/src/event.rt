@@ -108,7 +108,7 @@ pub enum Event {
     ClearJournal,
     StartRecording {
         target: Target,
-        /// The names, in lower case, of the request headers that recorded mappings match.
+        /// The names of the request headers that recorded mappings match.
         captured: Items<Text>,
         /// Whether equal requests become a scenario.
         repeats: bool,

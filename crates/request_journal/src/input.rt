@@ -28,7 +28,7 @@ pub enum BookInput {
     StartRecording {
         /// As it was written: the book judges it.
         target: Text,
-        /// The names, in lower case, of the request headers that recorded mappings match.
+        /// The names of the request headers that recorded mappings match.
         captured: Items<Text>,
         /// Whether equal requests become a scenario.
         repeats: bool,

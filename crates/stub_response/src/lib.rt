@@ -1,5 +1,5 @@
 // The response of a mapping for a request: the mapping's status, headers and body, or what they give as templates over
-// the request's data, within the server's limits; and the reply that reports an error. Its contracts cite
+// the request's data, within the server's limits; and the replies of the server's own. Its contracts cite
 // `specs/Response.antt` (the response), `specs/Limits.antt` (what keeps to the limits), `specs/HeaderText.antt` (the
 // values of headers) and `specs/ErrorReply.antt`.
 #![tactic(auto)]
@@ -10,3 +10,5 @@ pub mod limits;
 mod plain;
 mod rendered;
 pub mod respond;
+mod typed_reply;
+pub mod unmatched_reply;

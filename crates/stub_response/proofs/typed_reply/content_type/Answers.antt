@@ -2,7 +2,7 @@ use Rattle.std.proofs.Common.{refl, sym, ◌∙◌, codes, subst, arith}
 use Rattle.std.proofs.lemmas.Bool.{false≢true}
 use Rattle.std.proofs.lemmas.List.Sums.{AllPass-from_list_all}
 use Rattle.http_header.specs.Token.{IsToken, is_token_byte, token_test}
-use Rattle.stub_response.proofs.error_reply.content_type.Goals as goal
+use Rattle.stub_response.proofs.typed_reply.content_type.Goals as goal
 
 token : IsToken (codes "content-type")
 unfolding is_token_byte
