@@ -4,4 +4,5 @@ pub mod ReceiptLemmas
 pub mod CountLemmas
 pub mod RefusalLemmas
 pub mod ScriptLemmas
+pub mod SendLemmas
 pub mod TellLemmas
