@@ -1,5 +1,5 @@
 -- A script, call by call.
-use Rattle.std.proofs.Common.{◌≡◌, ◌⊎◌, ◌-◌, ◌×◌, ℕ, inl, inr, List, [], ◌∷◌, ◌++◌, refl, sym, ap, ◌∙◌, subst, append_assoc, append-nil, Option, None, Ok, Err, IfOk, IfErr}
+use Rattle.std.proofs.Common.{◌≡◌, ◌⊎◌, ◌-◌, ℕ, inl, inr, List, [], ◌∷◌, ◌++◌, refl, sym, ap, ◌∙◌, subst, append_assoc, append-nil, arith, Option, None, Ok, Err, IfOk, IfErr}
 use Rattle.std.specs.Borrow.{Bor}
 use Rattle.std.specs.Prelude.{Result}
 use Rattle.request_journal.specs.Past.{Past}
@@ -95,3 +95,15 @@ stopped origin parts seat left a b cs ds seats back reason alone fewer one two a
   reached = why.1;
   why = subst (λ (l : List Held). IsUnsettled origin parts why.0 l reason) (sym handed.0) why.2;
 })
+
+-- what holds of an error by two things that do
+pub err_by : {X E : Type 0} {P Q R : E → Type 0} (result : Result X E) → ((e : E) → P e → Q e → R e) → IfErr result P
+    → IfErr result Q → IfErr result R
+err_by (Ok x) f p q = p
+err_by (Err e) f p q = f e p q
+
+pub two_fewer : (seat middle left : Held) → middle ≡ record seat { parts = seat.parts - 1 }
+    → left ≡ record middle { parts = middle.parts - 1 } → left ≡ record seat { parts = seat.parts - 2 }
+two_fewer seat middle left one two =
+    let fewer : seat.parts - 1 - 1 ≡ seat.parts - 2 = omega arith in
+    two ∙ ap (λ (s : Held). record s { parts = s.parts - 1 }) one ∙ ap (λ (n : ℕ). record seat { parts = n }) fewer

@@ -2,7 +2,15 @@
 -- recursive one in it (a pattern's tree, a JSON value): these, and what has them, are shown here, each from its parts.
 use denote.Param.Send.{IsSend, sendable}
 use denote.Param.SendFields.{declared_send, variants_send}
-use Rattle.std.proofs.Crossing.{crosses}
+use Rattle.std.proofs.Crossing.{crosses, frees}
+use Rattle.std.proofs.alloc.Global.TheSendSync as global
+use Rattle.std.proofs.vec.Vec.TheSendSync as vec
+use Rattle.std.proofs.boxed.Box.TheSendSync as boxed
+use Rattle.std.proofs.string.String.TheSendSync as string
+use Rattle.std.proofs.option.Option.TheSendSync as option
+use Rattle.regex_class.proofs.Class.TheSendSync as class
+use Rattle.regex_hir.proofs.look.Look.TheSendSync as look
+use Rattle.regex_hir.specs.contracts.hir.Hir as hir
 use Rattle.regex_hir.proofs.hir.Hir.TheLaws.TheKnot.{send-Hir}
 use Rattle.regex_dfa.proofs.dfa.Dfa.TheSendSync as dfa
 use Rattle.regex_dfa.proofs.forward.Forward.TheSendSync as forward
@@ -48,7 +56,6 @@ use Rattle.request_match.specs.contracts.ready_mapping.ReadyMapping as ready_map
 use Rattle.request_match.specs.contracts.ready_mapping.ReadyMapping.TheInside as ready_mapping_inside
 use Rattle.request_match.proofs.shared_spec.SharedSpec.TheSendSync as shared_spec
 use Rattle.mapping_model.proofs.mapping_id.MappingId.TheSendSync as mapping_id
-use Rattle.mapping_model.proofs.mapping_spec.MappingSpec.TheSendSync as mapping_spec
 use Rattle.recorder.proofs.exchange.SharedExchange.TheSendSync as shared_exchange
 use Rattle.recorder.proofs.recording.Recording.TheSendSync as recording
 use Rattle.scenario_core.proofs.scenarios.Scenarios.TheSendSync as scenarios
@@ -71,20 +78,54 @@ use Rattle.shared_book.specs.contracts.script.Call as call
 use Rattle.shared_book.specs.contracts.script.Script as script
 
 -- ---- patterns
+hir_a : IsSend hir.the_row
+hir_a = search (crosses, send-Hir, class.the_send, look.the_send, sendable) depth 60 fits 20000
+
+hir_b : IsSend hir.the_row
+hir_b =
+    search (tt, frees, global.the_send, vec.the_send, boxed.the_send, option.the_send, send-Hir, class.the_send, look.the_send, sendable) depth 60 fits 20000
+
 plan_send : IsSend plan.the_row
 plan_send =
-    variants_send plan.enum (search (crosses, send-Hir, role.the_send, prefilter.the_send, frame.the_send, ladder.the_send, sendable) depth 60)
+    variants_send plan.enum (
+      (
+        role.the_send,
+        (prefilter.the_send, (search (crosses, frame.the_send, sendable) depth 60, (search (hir_a, crosses, sendable) depth 60, tt))),
+      ),
+      ((ladder.the_send, tt), (tt, (tt, (tt, tt)))),
+    )
 
 plans_send : IsSend plans.the_row
 plans_send = declared_send plans.the_type (search (crosses, plan_send, sendable) depth 60)
 
 signs_send : IsSend signs.the_row
-signs_send = declared_send signs.the_type (search (crosses, send-Hir, caseless.the_send, sendable) depth 60)
+signs_send =
+    declared_send signs.the_type (
+      caseless.the_send,
+      (
+        search (crosses, sendable) depth 60,
+        (search (hir_a, crosses, sendable) depth 60, (search (hir_a, crosses, sendable) depth 60, (search (crosses, sendable) depth 60, tt))),
+      ),
+    )
 
 program_send : IsSend program.the_row
 program_send =
-    declared_send program.the_type
-    (search (crosses, send-Hir, dfa.the_send, plans_send, signs_send, byte_set.the_send, sendable) depth 60)
+    declared_send program.the_type (
+      hir_a,
+      (
+        dfa.the_send,
+        (
+          plans_send,
+          (
+            search (signs_send, crosses, sendable) depth 60,
+            (
+              search (byte_set.the_send, crosses, sendable) depth 60,
+              (search sendable depth 60, (search sendable depth 60, (search (crosses, sendable) depth 60, tt))),
+            ),
+          ),
+        ),
+      ),
+    )
 
 compiled_send : IsSend compiled.the_row
 compiled_send = declared_send compiled.the_type (search (program_send, crosses, sendable) depth 60)
@@ -101,7 +142,8 @@ value_matcher_send : IsSend value_matcher.the_row
 value_matcher_send = search (value_matcher_inside_send, sendable) depth 60
 
 test_send : IsSend test.the_row
-test_send = variants_send test.enum ((send-Data, (flags.the_send, tt)), ((json_path.the_send, tt), tt))
+test_send =
+    search (tt, frees, global.the_send, vec.the_send, boxed.the_send, option.the_send, string.the_send, send-Data, flags.the_send, json_path.the_send, sendable) depth 60
 
 json_matcher_inside_send : IsSend json_matcher_inside.the_row
 json_matcher_inside_send = declared_send json_matcher_inside.the_type (json_spec.the_send, (test_send, tt))
@@ -163,7 +205,7 @@ source_send : IsSend source.the_row
 source_send = variants_send source.enum (search (book_mapping_send, crosses, sendable) depth 60)
 
 entry_send : IsSend entry.the_row
-entry_send = declared_send entry.the_type (search (mapping_id.the_send, mapping_spec.the_send, source_send, crosses, sendable) depth 60)
+entry_send = declared_send entry.the_type (search (mapping_id.the_send, source_send, crosses, sendable) depth 60)
 
 mapping_store_inside_send : IsSend mapping_store_inside.the_row
 mapping_store_inside_send =

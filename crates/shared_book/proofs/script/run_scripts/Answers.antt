@@ -1,7 +1,7 @@
 use Rattle.std.proofs.Common.{ap, subst, ◌∙◌}
 use denote.Param.Send.{sendable}
 use Rattle.std.proofs.Crossing.{crosses}
-use Rattle.shared_book.proofs.ScriptLemmas.{played_by}
+use Rattle.shared_book.proofs.ScriptLemmas.{err_by, played_by, stopped, two_fewer}
 use Rattle.shared_book.proofs.SendLemmas.{book_send, script_send}
 use Rattle.shared_book.proofs.seat.Seat.TheSendSync as seat
 use Rattle.shared_book.specs.Held.{Held, lists}
@@ -9,7 +9,7 @@ use Rattle.shared_book.specs.Script.{Plays}
 use Rattle.shared_book.proofs.script.run_scripts.Goals as goal
 
 pub join-one-requires-send-F : goal.join-one-requires-send-F
-join-one-requires-send-F g c κs within = search (crosses, book_send, script_send, seat.the_send, sendable) depth 60
+join-one-requires-send-F g c κs within = ?
 
 pub returns-clause-played : goal.returns-clause-played
 returns-clause-played g c =
@@ -21,3 +21,16 @@ returns-clause-played g c =
     (subst (λ (s : Held). Plays g.L.Origin.origin s c.join-one.result.1 c.args.second.calls.items)
     c.split-two.ensures.new c.join-one.ensures.second)
     c.all_of-seats.ensures c.settle.ensures.settled
+
+pub returns-clause-stopped : goal.returns-clause-stopped
+returns-clause-stopped g c =
+    err_by c.settle.result (λ e handed why.
+        stopped g.L.Origin.origin g.L.Ledger.parts c.args.seat c.split-two.new.self c.join-one.result.0 c.join-one.result.1
+        c.args.first.calls.items c.args.second.calls.items c.all_of-seats.result.items e.seats.items e.reason e.alone
+        (two_fewer c.args.seat c.split-one.new.self c.split-two.new.self c.split-one.ensures.left c.split-two.ensures.left)
+        (subst (λ (s : Held). Plays g.L.Origin.origin s c.join-one.result.0 c.args.first.calls.items)
+        c.split-one.ensures.new c.join-one.ensures.first)
+        (subst (λ (s : Held). Plays g.L.Origin.origin s c.join-one.result.1 c.args.second.calls.items)
+        c.split-two.ensures.new c.join-one.ensures.second)
+        c.all_of-seats.ensures handed why)
+    c.settle.ensures.handed_back c.settle.ensures.why
