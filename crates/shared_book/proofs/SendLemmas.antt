@@ -1,15 +1,14 @@
 -- What a book consists of may go to another thread. The toolchain shows that of a type by itself, unless the type has a
 -- recursive one in it (a pattern's tree, a JSON value): these, and what has them, are shown here, each from its parts.
-use denote.Param.Send.{IsSend, sendable}
-use denote.Param.SendFields.{declared_send, variants_send}
+use denote.RattleType.{RattleType}
+use denote.Param.Send.{IsSend, IsSync, sendable}
+use denote.Param.SendFields.{declared_send, declared_sync, variants_send}
 use Rattle.std.proofs.Crossing.{crosses, frees}
 use Rattle.std.proofs.alloc.Global.TheSendSync as global
 use Rattle.std.proofs.vec.Vec.TheSendSync as vec
-use Rattle.std.proofs.boxed.Box.TheSendSync as boxed
+use Rattle.std.proofs.sync.ledger.Book.TheSendSync as entries
+use Rattle.std.specs.declared.sync.ledger.Ledger as ledger
 use Rattle.std.proofs.string.String.TheSendSync as string
-use Rattle.std.proofs.option.Option.TheSendSync as option
-use Rattle.regex_class.proofs.Class.TheSendSync as class
-use Rattle.regex_hir.proofs.look.Look.TheSendSync as look
 use Rattle.regex_hir.specs.contracts.hir.Hir as hir
 use Rattle.regex_hir.proofs.hir.Hir.TheLaws.TheKnot.{send-Hir}
 use Rattle.regex_dfa.proofs.dfa.Dfa.TheSendSync as dfa
@@ -26,7 +25,6 @@ use Rattle.regex_meta.specs.contracts.plan.Plans as plans
 use Rattle.regex_meta.specs.contracts.plan.Plan as plan
 use Rattle.regex_meta.specs.contracts.signs.Signs as signs
 use Rattle.data_tree.proofs.data.Data.TheLaws.TheKnot.{send-Data}
-use Rattle.json_match.proofs.compare.Flags.TheSendSync as flags
 use Rattle.json_match.proofs.json_spec.JsonSpec.TheSendSync as json_spec
 use Rattle.json_bridge.proofs.json_path.JsonPath.TheSendSync as json_path
 use Rattle.json_match.specs.contracts.json_matcher.Test as test
@@ -74,23 +72,23 @@ use Rattle.mapping_store.specs.contracts.mapping_store.MappingStore as mapping_s
 use Rattle.mapping_store.specs.contracts.mapping_store.MappingStore.TheInside as mapping_store_inside
 use Rattle.stub_book.specs.contracts.book.Book as book
 use Rattle.stub_book.specs.contracts.book.Book.TheInside as book_inside
+use Rattle.shared_book.specs.declared.origin.Origin as origin
+use Rattle.shared_book.specs.contracts.locked.Locked as locked
+use Rattle.shared_book.specs.contracts.locked.Locked.TheInside as locked_inside
+use Rattle.shared_book.specs.contracts.shared_book.SharedBook as shared_book
 use Rattle.shared_book.specs.contracts.script.Call as call
 use Rattle.shared_book.specs.contracts.script.Script as script
 
 -- ---- patterns
-hir_a : IsSend hir.the_row
-hir_a = search (crosses, send-Hir, class.the_send, look.the_send, sendable) depth 60 fits 20000
-
-hir_b : IsSend hir.the_row
-hir_b =
-    search (tt, frees, global.the_send, vec.the_send, boxed.the_send, option.the_send, send-Hir, class.the_send, look.the_send, sendable) depth 60 fits 20000
+hir_send : IsSend hir.the_row
+hir_send = search (crosses, send-Hir, sendable) depth 60 fits 20000
 
 plan_send : IsSend plan.the_row
 plan_send =
     variants_send plan.enum (
       (
         role.the_send,
-        (prefilter.the_send, (search (crosses, frame.the_send, sendable) depth 60, (search (hir_a, crosses, sendable) depth 60, tt))),
+        (prefilter.the_send, (search (crosses, frame.the_send, sendable) depth 60, (search (hir_send, crosses, sendable) depth 60, tt))),
       ),
       ((ladder.the_send, tt), (tt, (tt, (tt, tt)))),
     )
@@ -104,14 +102,14 @@ signs_send =
       caseless.the_send,
       (
         search (crosses, sendable) depth 60,
-        (search (hir_a, crosses, sendable) depth 60, (search (hir_a, crosses, sendable) depth 60, (search (crosses, sendable) depth 60, tt))),
+        (search (hir_send, crosses, sendable) depth 60, (search (hir_send, crosses, sendable) depth 60, (search (crosses, sendable) depth 60, tt))),
       ),
     )
 
 program_send : IsSend program.the_row
 program_send =
     declared_send program.the_type (
-      hir_a,
+      hir_send,
       (
         dfa.the_send,
         (
@@ -143,7 +141,7 @@ value_matcher_send = search (value_matcher_inside_send, sendable) depth 60
 
 test_send : IsSend test.the_row
 test_send =
-    search (tt, frees, global.the_send, vec.the_send, boxed.the_send, option.the_send, string.the_send, send-Data, flags.the_send, json_path.the_send, sendable) depth 60
+    search (tt, frees, global.the_send, vec.the_send, string.the_send, send-Data, json_path.the_send, sendable) depth 60
 
 json_matcher_inside_send : IsSend json_matcher_inside.the_row
 json_matcher_inside_send = declared_send json_matcher_inside.the_type (json_spec.the_send, (test_send, tt))
@@ -233,6 +231,22 @@ book_inside_send =
 
 pub book_send : IsSend book.the_row
 book_send = search (book_inside_send, sendable) depth 60
+
+-- ---- the shared book
+module _ (L : RattleType) (o : origin.Ghosts L.Denot) (l : ledger.Ghosts L.Denot) where
+  locked_inside_send : IsSend (locked_inside.the_row L o l)
+  locked_inside_send =
+      declared_send (locked_inside.the_type L o l)
+      (book_send, (entries.the_send L l, (search sendable depth 60, (search sendable depth 60, tt))))
+
+  locked_send : IsSend (locked.the_row L o l)
+  locked_send = search (locked_inside_send, sendable) depth 60
+
+  pub shared_book_send : IsSend (shared_book.the_row L o l)
+  shared_book_send = declared_send (shared_book.the_type L o l) (search (locked_send, crosses, sendable) depth 60, tt)
+
+  pub shared_book_sync : IsSync (shared_book.the_row L o l)
+  shared_book_sync = declared_sync (shared_book.the_type L o l) (search (locked_send, crosses, sendable) depth 60, tt)
 
 -- ---- calls
 pub book_input_send : IsSend book_input.the_row

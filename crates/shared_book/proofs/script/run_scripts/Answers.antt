@@ -2,14 +2,14 @@ use Rattle.std.proofs.Common.{ap, subst, ◌∙◌}
 use denote.Param.Send.{sendable}
 use Rattle.std.proofs.Crossing.{crosses}
 use Rattle.shared_book.proofs.ScriptLemmas.{err_by, played_by, stopped, two_fewer}
-use Rattle.shared_book.proofs.SendLemmas.{book_send, script_send}
+use Rattle.shared_book.proofs.SendLemmas.{script_send, shared_book_sync}
 use Rattle.shared_book.proofs.seat.Seat.TheSendSync as seat
 use Rattle.shared_book.specs.Held.{Held, lists}
 use Rattle.shared_book.specs.Script.{Plays}
 use Rattle.shared_book.proofs.script.run_scripts.Goals as goal
 
 pub join-one-requires-send-F : goal.join-one-requires-send-F
-join-one-requires-send-F g c κs within = ?
+join-one-requires-send-F g c κs within = search (sendable, shared_book_sync, script_send, seat.the_send, crosses) depth 60
 
 pub returns-clause-played : goal.returns-clause-played
 returns-clause-played g c =
