@@ -12,6 +12,7 @@ mod locked;
 mod look;
 pub mod origin;
 pub mod receipt;
+pub mod script;
 pub mod seat;
 pub mod settle;
 pub mod settled;
