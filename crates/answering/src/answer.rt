@@ -5,7 +5,6 @@ ghost use Rattle.answering.specs.Reply.{IsResponseOf};
 ghost use Rattle.answering.specs.Answering.{IsAnswered, IsNotAnswered, IsReply};
 ghost use Rattle.stub_response.specs.ErrorReply.{error_reply};
 
-use crate::gate::Gate;
 use crate::reply::reply_to;
 use crate::response::response_of;
 use crate::site::Site;
@@ -14,6 +13,7 @@ use error_code::error_code::ErrorCode;
 use http::{Request, Response};
 use http_body_util::Full;
 use http_messages::error::ServiceError;
+use shared_book::gate::Gate;
 use shared_book::origin::Origin;
 use shared_book::seat::Seat;
 use std::alloc::{AllocError, Global};

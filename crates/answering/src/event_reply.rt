@@ -3,11 +3,11 @@ ghost use Rattle.std.specs.Prelude.{IfOk};
 ghost use Rattle.answering.specs.Served.{IsEventReply, IsServeReply};
 ghost use Rattle.stub_book.specs.Growth.{IsServed};
 
-use crate::gate::Gate;
 use error_code::error_code::ErrorCode;
 use mapping_model::reply::Reply;
 use mock_request::snapshot::Snapshot;
 use request_journal::event::{Event, ServeAnswer};
+use shared_book::gate::Gate;
 use std::alloc::{AllocError, Global};
 use stub_response::error_reply::error_reply;
 use stub_response::limits::Limits;

@@ -4,7 +4,6 @@ ghost use Rattle.mock_request.specs.declared.snapshot.TheConstants.{BODY_LIMIT};
 ghost use Rattle.answering.specs.Answering.{IsNotAnswered, IsReply, IsRequestAnswered};
 
 use crate::admin_reply::admin_reply;
-use crate::gate::Gate;
 use crate::serve::serve;
 use crate::site::Site;
 use admin_table::route::is_admin;
@@ -15,6 +14,7 @@ use http_messages::received::snapshot_of;
 use mapping_model::reply::Reply;
 use mock_request::error::SnapshotError;
 use mock_request::snapshot::Snapshot;
+use shared_book::gate::Gate;
 use shared_book::origin::Origin;
 use shared_book::seat::Seat;
 use std::alloc::{AllocError, Global};

@@ -3,10 +3,10 @@ ghost use Rattle.std.specs.Prelude.{IfErr, IfOk};
 ghost use Rattle.answering.specs.Served.{IsNotServed, IsServedWith};
 
 use crate::event_reply::event_reply;
-use crate::gate::Gate;
 use crate::site::Site;
 use mapping_model::reply::Reply;
 use mock_request::snapshot::Snapshot;
+use shared_book::gate::Gate;
 use shared_book::origin::Origin;
 use shared_book::seat::Seat;
 use std::alloc::Global;

@@ -1,9 +1,9 @@
 // One connection.
 use crate::site_answers::SiteAnswers;
-use answering::gate::Gate;
 use answering::site::Site;
 use http_connections::service::MessageService;
 use http_messages::error::ServiceError;
+use shared_book::gate::Gate;
 use shared_book::origin::Origin;
 use shared_book::seat::Seat;
 use std::alloc::{AllocError, AllocGlobal, Global};

@@ -1,11 +1,11 @@
 // The connections of a listener, until as many as are wanted were served.
 use crate::site_answers::SiteAnswers;
-use answering::gate::Gate;
 use answering::site::Site;
 use command_output::error::CommandError;
 use command_output::status::{FAILURE, SUCCESS};
 use error_code::error_code::ErrorCode;
 use http_connections::serve_on::{Day, End, serve_all_here};
+use shared_book::gate::Gate;
 use shared_book::origin::Origin;
 use shared_book::seat::Seat;
 use shared_book::settle::settle;
@@ -21,7 +21,8 @@ use tokio::net::TcpListener;
 use tokio::runtime::LocalRuntime;
 
 /// Serves the connections of a listener, as many as are wanted, each with a seat of its own, and settles once all have
-/// ended. Writes where it listens before it accepts the first, how many events were settled, and an error to `err`. Gives the exit status.
+/// ended. Writes where it listens before it accepts the first, how many events were settled, and an error to `err`.
+/// Gives the exit status.
 pub fn serve_on<R, L, G, O, E>(
     rt: R,
     runtime: &mut LocalRuntime,

@@ -1,12 +1,12 @@
 // A site answers the requests of connections.
 use answering::answer::answer;
-use answering::gate::Gate;
 use answering::site::Site;
 use bytes::Bytes;
 use http::{Request, Response};
 use http_body_util::Full;
 use http_connections::answers::Answers;
 use http_messages::error::ServiceError;
+use shared_book::gate::Gate;
 use shared_book::origin::Origin;
 use shared_book::seat::Seat;
 use std::alloc::Global;

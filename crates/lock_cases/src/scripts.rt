@@ -3,8 +3,9 @@ ghost use Rattle.std.specs.Prelude.{◌≤◌};
 
 use crate::books::Change;
 use crate::{books, calls};
+use shared_book::gate::Gate;
 use shared_book::origin::Origin;
-use shared_book::script::{Call, Gate, Script, run_scripts};
+use shared_book::script::{Call, Script, run_scripts};
 use shared_book::seat::Seat;
 use shared_book::shared_book::SharedBook;
 use std::alloc::{AllocError, Global};

@@ -3,7 +3,6 @@ ghost use Rattle.std.specs.Prelude.{◌≡◌, ◌<◌};
 
 use crate::arguments::ServeArguments;
 use crate::book::book_of;
-use answering::gate::NoGate;
 use answering::site::Site;
 use command_output::error::CommandError;
 use command_output::files::FileReader;
@@ -11,6 +10,7 @@ use command_output::output::put;
 use command_output::status::FAILURE;
 use error_code::error_code::ErrorCode;
 use hyper_service::serve_on::serve_on;
+use shared_book::gate::NoGate;
 use shared_book::origin::Origin;
 use shared_book::shared_book::SharedBook;
 use std::alloc::AllocGlobal;

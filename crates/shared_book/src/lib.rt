@@ -7,6 +7,7 @@
 mod audit;
 pub mod book_read;
 mod compare;
+pub mod gate;
 mod gather;
 mod locked;
 mod look;

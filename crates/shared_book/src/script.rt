@@ -2,6 +2,7 @@
 ghost use Rattle.std.specs.Prelude.{◌≡◌, ◌⊎◌, ◌<◌, ◌≤◌, ◌∷◌, ◌++◌, [], IfErr, IfOk, vec_capacity, vec_len};
 ghost use Rattle.shared_book.specs.Script.{IsPlayed, IsStopped, IsUnplayed, Plays};
 
+use crate::gate::Gate;
 use crate::origin::Origin;
 use crate::seat::Seat;
 use crate::settle::{SettleError, settle};
@@ -13,11 +14,6 @@ use std::alloc::Global;
 use std::sync::Wait;
 use std::thread;
 use std::thread::Threads;
-
-/// What is called after each request that was served, outside the lock.
-pub trait Gate {
-    fn between_choice_and_render(&self, number: u64);
-}
 
 /// A call on a shared book.
 #[derive(Drop)]

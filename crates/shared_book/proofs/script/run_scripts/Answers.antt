@@ -25,12 +25,12 @@ returns-clause-played g c =
 pub returns-clause-stopped : goal.returns-clause-stopped
 returns-clause-stopped g c =
     err_by c.settle.result (λ e handed why.
-        stopped g.L.Origin.origin g.L.Ledger.parts c.args.seat c.split-two.new.self c.join-one.result.0 c.join-one.result.1
-        c.args.first.calls.items c.args.second.calls.items c.all_of-seats.result.items e.seats.items e.reason e.alone
-        (two_fewer c.args.seat c.split-one.new.self c.split-two.new.self c.split-one.ensures.left c.split-two.ensures.left)
-        (subst (λ (s : Held). Plays g.L.Origin.origin s c.join-one.result.0 c.args.first.calls.items)
-        c.split-one.ensures.new c.join-one.ensures.first)
-        (subst (λ (s : Held). Plays g.L.Origin.origin s c.join-one.result.1 c.args.second.calls.items)
-        c.split-two.ensures.new c.join-one.ensures.second)
-        c.all_of-seats.ensures handed why)
+    stopped g.L.Origin.origin g.L.Ledger.parts c.args.seat c.split-two.new.self c.join-one.result.0 c.join-one.result.1
+    c.args.first.calls.items c.args.second.calls.items c.all_of-seats.result.items e.seats.items e.reason e.alone
+    (two_fewer c.args.seat c.split-one.new.self c.split-two.new.self c.split-one.ensures.left c.split-two.ensures.left)
+    (subst (λ (s : Held). Plays g.L.Origin.origin s c.join-one.result.0 c.args.first.calls.items)
+    c.split-one.ensures.new c.join-one.ensures.first)
+    (subst (λ (s : Held). Plays g.L.Origin.origin s c.join-one.result.1 c.args.second.calls.items)
+    c.split-two.ensures.new c.join-one.ensures.second)
+    c.all_of-seats.ensures handed why)
     c.settle.ensures.handed_back c.settle.ensures.why

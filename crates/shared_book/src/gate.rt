@@ -1,6 +1,6 @@
 // What happens between a choice and its response.
 
-/// What is called after each request that a mapping was chosen for, outside the lock, before its response is made.
+/// What is called after each request that was served, outside the lock, before its response is made.
 pub trait Gate {
     fn between_choice_and_render(&self, number: u64);
 }
