@@ -1,9 +1,12 @@
-//! Compares what the calls of `mapping_json` and `request_document`, and `mock check`, answer with the tables in `data/`.
+//! Compares what the calls of `mapping_json` and `request_document`, the matchers and mappings that they give, and `mock
+//! check` answer with the tables in `data/`.
 #![tactic(auto)]
 
 mod checks;
 mod lists;
+mod literals;
 mod mappings;
+mod ready;
 mod requests;
 mod table;
 
@@ -22,6 +25,8 @@ fn main(rt: HostRuntime) -> io::Result<ExitCode> {
             Table::Lists,
             Table::Requests,
             Table::Matches,
+            Table::Literals,
+            Table::Ready,
             Table::Checks,
             Table::Examples,
         ]

@@ -41,7 +41,7 @@ fn answer(alloc: Global, bytes: &[u8]) -> Result<String, AllocError> {
     }
 }
 
-fn read(alloc: Global, bytes: &[u8]) -> Result<ReadyMapping, MappingError> {
+pub fn read(alloc: Global, bytes: &[u8]) -> Result<ReadyMapping, MappingError> {
     read_mapping(alloc, bytes)
 }
 

@@ -14,10 +14,13 @@ use std::alloc::{AllocError, Global};
 /// Whether the request meets the matcher, or the code of the document's error.
 pub fn answer(alloc: Global, row: &Row) -> Result<String, AllocError> {
     match answer_of(alloc, row) {
-        Ok(true) => String::from_str(alloc, "\tyes"),
-        Ok(false) => String::from_str(alloc, "\tno"),
+        Ok(yes) => String::from_str(alloc, yes_or_no(yes)),
         Err(error) => code_cell(alloc, error.error_code()),
     }
+}
+
+pub fn yes_or_no(yes: bool) -> &'static str {
+    if yes { "\tyes" } else { "\tno" }
 }
 
 // In each of the functions below one value is dropped, at one place.
@@ -26,7 +29,8 @@ fn answer_of(alloc: Global, row: &Row) -> Result<bool, RequestDocumentError> {
     Ok(meets(alloc, &mut matcher, row)?)
 }
 
-fn read(alloc: Global, document: &str) -> Result<RequestMatcher, RequestDocumentError> {
+/// The matcher that a document is.
+pub fn read(alloc: Global, document: &str) -> Result<RequestMatcher, RequestDocumentError> {
     read_request(alloc, document.as_bytes())
 }
 
@@ -43,7 +47,7 @@ fn meets_request(
     matches(matcher, &mut request)
 }
 
-fn parsed<'a>(alloc: Global, request: &'a Snapshot) -> Result<ParsedRequest<'a>, AllocError> {
+pub fn parsed<'a>(alloc: Global, request: &'a Snapshot) -> Result<ParsedRequest<'a>, AllocError> {
     ParsedRequest::read(alloc, request)
 }
 
@@ -54,8 +58,8 @@ fn matches(
     matcher.matches(request)
 }
 
-// None of the requests is refused.
-fn snapshot(alloc: Global, row: &Row) -> Result<Snapshot, AllocError> {
+/// The request of a row's later cells. None of the tables is refused.
+pub fn snapshot(alloc: Global, row: &Row) -> Result<Snapshot, AllocError> {
     let headers = headers(alloc, row.cell(3))?;
     let body = latin1(alloc, row.cell(4))?;
     let made = Snapshot::new(alloc, row.cell(1), row.cell(2), &headers, &body);

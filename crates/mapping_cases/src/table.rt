@@ -1,6 +1,6 @@
 //! The tables, and which call each of them is about.
 
-use crate::{checks, lists, mappings, requests};
+use crate::{checks, lists, literals, mappings, ready, requests};
 use case_table::compare::CaseTable;
 use case_table::row::Row;
 use std::alloc::{AllocError, Global};
@@ -17,6 +17,9 @@ pub enum Table {
     Requests,
     /// Request matchers and requests, whose results an independent program computed.
     Matches,
+    Literals,
+    /// Mappings that are ready to be served.
+    Ready,
     Checks,
     /// The files of the folder `examples`.
     Examples,
@@ -31,6 +34,8 @@ impl CaseTable for Table {
             Table::Lists => "lists.tsv",
             Table::Requests => "requests.tsv",
             Table::Matches => "matches.tsv",
+            Table::Literals => "literals.tsv",
+            Table::Ready => "ready.tsv",
             Table::Checks => "checks.tsv",
             Table::Examples => "examples.tsv",
         }
@@ -43,6 +48,8 @@ impl CaseTable for Table {
             Table::Rules => mappings::code(alloc, row),
             Table::Lists => lists::answer(alloc, row),
             Table::Requests | Table::Matches => requests::answer(alloc, row),
+            Table::Literals => literals::answer(alloc, row.cell(0)),
+            Table::Ready => ready::answer(alloc, row),
             Table::Checks => checks::answer(alloc, row.cell(0)),
             Table::Examples => checks::answer(alloc, row.cell(1)),
         }

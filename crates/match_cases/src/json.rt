@@ -1,12 +1,12 @@
 //! JSON matchers: equal to an expected value, and found by a path alone.
 
+use crate::answers::{refused, yes_or_no};
+use crate::matchers::{equal_spec, text_of};
 use case_table::row::Row;
 use json_bridge::read::read_json;
 use json_match::error::JsonMatchError;
 use json_match::json_matcher::JsonMatcher;
 use json_match::json_spec::JsonSpec;
-use matcher_cells::answers::{refused, yes_or_no};
-use matcher_cells::matchers::{equal_spec, text_of};
 use std::alloc::{AllocError, Global};
 
 /// The flags, the expected and the actual JSON text.

@@ -1,7 +1,9 @@
 //! Compares what the matchers of `value_match`, `json_match` and `path_template` answer with the tables in `data/`.
 #![tactic(auto)]
 
+mod answers;
 mod json;
+mod matchers;
 mod path_templates;
 mod table;
 mod values;

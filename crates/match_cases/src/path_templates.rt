@@ -1,7 +1,7 @@
 //! Path templates: the paths that match them and what they bind. A row gives a template and a path, or two templates.
 
+use crate::answers::{refused, yes_or_no};
 use case_table::row::Row;
-use matcher_cells::answers::{refused, yes_or_no};
 use path_template::error::PathTemplateError;
 use path_template::path_template::PathTemplate;
 use std::alloc::{AllocError, Global};

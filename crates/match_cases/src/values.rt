@@ -1,8 +1,8 @@
 //! Value matchers: a kind, its text or pattern, and the value, if there is one.
 
+use crate::answers::{refused, yes_or_no};
+use crate::matchers::value_spec;
 use case_table::row::Row;
-use matcher_cells::answers::{refused, yes_or_no};
-use matcher_cells::matchers::value_spec;
 use std::alloc::{AllocError, Global};
 use value_match::error::ValueError;
 use value_match::value_matcher::ValueMatcher;
