@@ -1,5 +1,5 @@
 //! The command line of the program: `mock serve` is done here, each other command by `mock_program`.
-ghost use Rattle.std.specs.Prelude.{◌≡◌, ◌⊎◌, map, string_bytes};
+ghost use Rattle.std.specs.Prelude.{◌≡◌, ◌⊎◌, ◌≤◌, map, string_bytes};
 ghost use Rattle.command_output.specs.Output.{WritesOneStream};
 ghost use Rattle.mock_program.specs.CommandLine.{AreInvalid, Asked, AsksFor, CallsForHelp};
 ghost use Rattle.mock_program.specs.Commands.{Does};
@@ -36,6 +36,9 @@ where
     ensures help { CallsForHelp (map string_bytes arguments.now) → (result ≡ 0) ⊎ (result ≡ 1) }
     ensures invalid { AreInvalid (map string_bytes arguments.now) → ¬ (AskToServe (map string_bytes arguments.now))
         → (result ≡ 2) ⊎ (result ≡ 1) }
+    ensures range { result ≤ 2 }
+
+    // What the other commands write goes to one of both streams.
     ensures streams { ¬ (AskToServe (map string_bytes arguments.now))
         → WritesOneStream out.old out.new err.old err.new result }
 {
@@ -60,6 +63,7 @@ where
     R: Wait + Net + Clock + RandomSource + AllocGlobal + FileReader + Copy + Drop,
     O: Write,
     E: Write,
+    ensures { result ≤ 2 }
 {
     let Ok(words) = words_of(rt.alloc(), arguments) else {
         CommandError::from(ErrorCode::OutOfMemory).report(err);
