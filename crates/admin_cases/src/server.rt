@@ -3,9 +3,11 @@
 use crate::octets::add_octets;
 use admin_answers::answer::answer_admin;
 use admin_routes::admin::admin;
+use admin_routes::call::AdminCall;
 use admin_table::route::is_admin;
 use case_table::cells::Cells;
 use error_code::error_code::ErrorCode;
+use mapping_model::mapping_spec::MappingSpec;
 use mapping_model::reply::Reply;
 use mock_request::error::SnapshotError;
 use mock_request::snapshot::Snapshot;
@@ -45,12 +47,33 @@ fn admin_reply<L: Origin, R: Wait>(
     seat: &mut Seat<L>,
     request: &Snapshot,
 ) -> Result<Reply, AllocError> {
+    let call = match call_of(alloc, request) {
+        Ok(call) => call,
+        Err(code) => return refused(alloc, code),
+    };
+    match answered(rt, alloc, shared, seat, call) {
+        Ok(reply) => Ok(reply),
+        Err(code) => refused(alloc, code),
+    }
+}
+
+fn call_of(alloc: Global, request: &Snapshot) -> Result<AdminCall, ErrorCode> {
     match admin(alloc, request.method(), request.url(), request.body()) {
-        Ok(call) => match answer_admin(rt, alloc, shared, seat, call) {
-            Ok(reply) => Ok(reply),
-            Err(error) => refused(alloc, error.code),
-        },
-        Err(error) => refused(alloc, error.error_code()),
+        Ok(call) => Ok(call),
+        Err(error) => Err(error.error_code()),
+    }
+}
+
+fn answered<L: Origin, R: Wait>(
+    rt: &R,
+    alloc: Global,
+    shared: &SharedBook<L>,
+    seat: &mut Seat<L>,
+    call: AdminCall,
+) -> Result<Reply, ErrorCode> {
+    match answer_admin(rt, alloc, shared, seat, call) {
+        Ok(reply) => Ok(reply),
+        Err(error) => Err(error.code),
     }
 }
 
@@ -73,12 +96,13 @@ fn response(alloc: Global, event: &Event) -> Result<Reply, AllocError> {
         Event::Serve {
             request,
             answer: ServeAnswer::Stub(captured),
-        } => {
-            let spec = captured.mapping.spec.spec();
-            respond(alloc, spec, request.request(), Limits::usual())
-        }
+        } => stub_reply(alloc, captured.mapping.spec.spec(), request.request()),
         _ => unmatched_reply(alloc),
     }
+}
+
+fn stub_reply(alloc: Global, spec: &MappingSpec, request: &Snapshot) -> Result<Reply, AllocError> {
+    respond(alloc, spec, request, Limits::usual())
 }
 
 fn refused(alloc: Global, code: ErrorCode) -> Result<Reply, AllocError> {
