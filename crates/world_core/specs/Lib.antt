@@ -1,0 +1,4 @@
+pub mod Schedule
+pub mod Laws
+pub mod Replay
+pub mod Inner
