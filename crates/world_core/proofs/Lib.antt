@@ -11,5 +11,6 @@ pub mod ReplayedRuns
 pub mod ReplyLemmas
 pub mod RequestLemmas
 pub mod Runs
+pub mod SilentRuns
 pub mod StepLemmas
 pub mod StubMembers

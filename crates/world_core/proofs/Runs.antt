@@ -1,6 +1,11 @@
 -- Runs, one after the other.
-use Rattle.std.proofs.Common.{◌≡◌, ℕ, suc, List, [], ◌∷◌, ◌++◌, length, refl, sym, ap, ◌∙◌, subst}
-use Rattle.world_core.specs.Schedule.{IsRun, IsStep, Outcome, WorldState}
+use Rattle.std.proofs.Common.{◌≡◌, ◌+◌, ◌<◌, ℕ, suc, List, [], ◌∷◌, ◌++◌, length, map, take, Option, refl, sym, ap, ◌∙◌, subst}
+use Rattle.std.proofs.Common.{arith, length-append}
+use Rattle.std.proofs.Math.Seq.{take-append_seam}
+use Rattle.std.proofs.lemmas.List.{length-map, map-append}
+use Rattle.mapping_model.specs.declared.reply.Reply.{Reply}
+use Rattle.request_journal.specs.declared.event.Event.{Event}
+use Rattle.world_core.specs.Schedule.{IsRun, IsStep, IsStopped, Outcome, Runs, WorldState}
 use Rattle.world_core.specs.declared.step.Step.{Step}
 
 same_length : (m n : ℕ) → suc m ≡ suc n → m ≡ n
@@ -35,3 +40,36 @@ run_length start end [] outcomes (none, same) = sym (ap length none)
 run_length start end (step ∷ steps) [] run = absurd run
 run_length start end (step ∷ steps) (outcome ∷ outcomes) (between, first, rest) =
     ap suc (run_length between end steps outcomes rest)
+
+-- ---- runs with their replies
+
+pub runs_none : (start : WorldState) → Runs start [] [] start
+runs_none start = ([], (refl, refl), refl)
+
+pub runs_on : (start end next : WorldState) (steps : List Step) (replies : List (Option Reply)) (step : Step)
+    (event : Option Event) (reply : Option Reply) → Runs start steps replies end
+    → IsStep end step (record { event = event; reply = reply }) next
+    → Runs start (steps ++ step ∷ []) (replies ++ reply ∷ []) next
+runs_on start end next steps replies step event reply (outcomes, run, are) more =
+    let last : Outcome = record { event = event; reply = reply } in (
+      outcomes ++ last ∷ [],
+      run_on start end next steps outcomes step last run more,
+      ap (λ (l : List (Option Reply)). l ++ reply ∷ []) are
+          ∙ sym (map-append (λ (o : Outcome). o.reply) outcomes (last ∷ [])),
+    )
+
+-- a run that goes no further than these steps
+pub stopped : (start end new : WorldState) (steps front rest : List Step) (step : Step) (replies : List (Option Reply))
+    → steps ≡ front ++ step ∷ rest → Runs start front replies end → new ≡ end
+    → IsStopped start steps (length replies) new
+stopped start end new steps front rest step replies whole (outcomes, run, are) same =
+    let made : length replies ≡ length front =
+    ap length are ∙ length-map outcomes (λ (o : Outcome). o.reply) ∙ sym (run_length start end front outcomes run) in
+    let taken : take (length replies) steps ≡ front =
+    ap (λ (n : ℕ). take n steps) made ∙ ap (take (length front)) whole ∙ take-append_seam front (step ∷ rest) in
+    let all : length steps ≡ length front + length (step ∷ rest) = ap length whole ∙ length-append front (step ∷ rest) in (
+      omega (arith, made, all),
+      outcomes,
+      subst (λ (w : WorldState). IsRun start (take (length replies) steps) outcomes w) (sym same)
+          (subst (λ (ss : List Step). IsRun start ss outcomes end) (sym taken) run),
+    )

@@ -28,12 +28,15 @@ abbrev pub PassesBy : ℕ → Step → Outcome → Type 0
 PassesBy actor (Act other call) outcome = (other ≢ actor) ⊎ IsNoStub outcome.event
 PassesBy actor (Finish other) outcome = other ≢ actor
 
--- what comes of a request that this mapping is chosen for, and of a finish with this reply
+-- what comes of a request that this mapping is chosen for, of a finish with this reply, and of one without a reply
 abbrev pub choosing : Request → Captured → Outcome
 choosing request captured = record { event = Some (event.Serve request (Stub captured)); reply = None }
 
 abbrev pub giving : Reply → Outcome
 giving reply = record { event = None; reply = Some reply }
+
+abbrev pub silent : Outcome
+silent = record { event = None; reply = None }
 
 -- Of these steps this is the last act that chose a mapping for the actor's request: it chose what the past of that moment
 -- demands, and the steps since pass the actor by.

@@ -1,4 +1,3 @@
 pub mod Schedule
 pub mod Laws
 pub mod Replay
-pub mod Inner

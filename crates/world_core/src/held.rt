@@ -1,7 +1,7 @@
 // What actors hold between the choice of a mapping and the response.
 ghost use Rattle.std.specs.Prelude.{◌≡◌, ◌++◌, [], ◌∷◌, ◌<◌, ◌≤◌, vec_len, option_copied};
 ghost use Rattle.std.specs.Vec.{vec_capacity};
-ghost use Rattle.world_core.specs.Schedule.{chooses, held_by, held_by_others};
+ghost use Rattle.world_core.specs.Schedule.{chooses, held_after, held_by, held_by_others};
 
 use request_journal::event::{Event, ServeAnswer};
 use request_journal::shared_event::SharedEvent;
@@ -13,8 +13,8 @@ pub struct Held {
     pub event: SharedEvent,
 }
 
-/// Whether the event chose a mapping for a request.
-pub(crate) fn chooses(event: &Event) -> bool
+// Whether the event chose a mapping for a request.
+fn chooses(event: &Event) -> bool
     ensures { result ≡ chooses event.now }
 {
     match event {
@@ -39,13 +39,23 @@ pub(crate) fn let_go(held: &mut Vec<Held>, actor: u64)
     held.retain(|one| one.actor != actor);
 }
 
-/// The actor holds this, and nothing else.
-pub(crate) fn hold(held: &mut Vec<Held>, new: Held)
+/// After its event an actor holds the event, if it chose a mapping for a request, and else what it held.
+pub(crate) fn hold(held: &mut Vec<Held>, actor: u64, event: SharedEvent)
+    requires room { vec_len held.old < vec_capacity held.old }
+    ensures { held.new.items ≡ held_after actor event held.old.items }
+{
+    if chooses(event.event()) {
+        put(held, Held { actor, event });
+    }
+}
+
+// The actor holds this, and nothing else.
+fn put(held: &mut Vec<Held>, new: Held)
     requires room { vec_len held.old < vec_capacity held.old }
     ensures { held.new.items ≡ held_by_others new.actor held.old.items ++ new ∷ [] }
 {
     let_go(held, new.actor);
-    if let Err(_refused) = held.push(new) {
+    let Ok(()) = held.push(new) else {
         unreachable!()
-    }
+    };
 }

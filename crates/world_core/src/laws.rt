@@ -7,7 +7,8 @@ ghost use Rattle.recorder.specs.declared.exchange.Exchange.{Exchange};
 ghost use Rattle.request_journal.specs.Events.{last_of};
 ghost use Rattle.request_journal.specs.Legal.{IsLegal};
 ghost use Rattle.request_journal.specs.State.{state, touch};
-ghost use Rattle.world_core.specs.Laws.{IsAnswered, IsServedOnce, events_of, giving};
+ghost use Rattle.request_journal.specs.declared.event.Captured.{Captured};
+ghost use Rattle.world_core.specs.Laws.{IsAnswered, IsLastChoice, IsServedOnce, events_of, giving, silent};
 ghost use Rattle.world_core.specs.Replay.{HasRecorded, IsReplayable, replies_of, sending};
 ghost use Rattle.world_core.specs.Schedule.{IsRun, IsStep, Outcome, WorldState};
 ghost use Rattle.world_core.specs.declared.step.Call.TheVariants.{Serve};
@@ -22,13 +23,17 @@ pub fn law_legal()
 {}
 
 /// Wherever in a schedule a finish gives a reply, it is the response of the version that was chosen at its actor's act,
-/// whatever came between.
-#[tactic(auto, using(crate::proofs::AnsweredRuns::answered_run))]
+/// whatever came between. It gives none only where no mapping was chosen for its actor since that actor's last finish.
+#[tactic(auto, using(crate::proofs::AnsweredRuns::answered_run, crate::proofs::SilentRuns::silent_run))]
 pub fn law_response()
-    ensures { (start end : WorldState) (steps after : List Step) (outcomes more : List Outcome) (actor : ℕ) (reply : Reply)
+    ensures given { (start end : WorldState) (steps after : List Step) (outcomes more : List Outcome) (actor : ℕ) (reply : Reply)
         → start.held ≡ [] → length steps ≡ length outcomes
         → IsRun start (steps ++ Finish actor ∷ after) (outcomes ++ giving reply ∷ more) end
         → IsAnswered start steps outcomes actor reply }
+    ensures silent { (start end : WorldState) (steps after : List Step) (outcomes more : List Outcome) (actor : ℕ)
+        (request : Request) (captured : Captured) → length steps ≡ length outcomes
+        → IsRun start (steps ++ Finish actor ∷ after) (outcomes ++ silent ∷ more) end
+        → ¬ (IsLastChoice start steps outcomes actor request captured) }
 {}
 
 /// Each request that is served moves its scenario once, where its event is in the history, and a finish moves none.

@@ -1,7 +1,8 @@
 // A whole schedule.
-ghost use Rattle.std.specs.Prelude.{◌≡◌, [], IfErr, IfOk, OnErr, OnOk};
-ghost use Rattle.world_core.specs.Schedule.{IsStopped, Runs};
-ghost use Rattle.world_core.specs.Inner.Fronts.{RunsFront};
+ghost use Rattle.std.specs.Prelude.{◌≡◌, ◌++◌, ◌∷◌, [], IfErr, IfOk, OnErr, OnOk, Option, length};
+ghost use Rattle.mapping_model.specs.declared.reply.Reply.{Reply};
+ghost use Rattle.request_journal.specs.declared.event.Event.{Event};
+ghost use Rattle.world_core.specs.Schedule.{IsStep, IsStopped, Runs};
 
 use crate::step::Step;
 use crate::world::World;
@@ -31,6 +32,7 @@ impl World {
         }
     }
 
+    // Where memory runs out there are as many replies as steps were made.
     fn run_into(
         &mut self,
         steps: Vec<Step>,
@@ -38,15 +40,30 @@ impl World {
     ) -> Result<(), AllocError>
         requires { replies.old.items ≡ [] }
         ensures ok { OnOk result (Runs self.old steps.items replies.new.items self.new) }
-        ensures err { OnErr result (RunsFront self.old steps.items replies.new.items self.new) }
+        ensures err { OnErr result (IsStopped self.old steps.items (length replies.new.items) self.new) }
     {
-        replies.reserve(steps.len())?;
         for step in steps {
-            let reply = self.step(step)?;
-            if let Err(_refused) = replies.push(reply) {
-                unreachable!()
-            }
+            self.step_into(step, replies)?;
         }
+        Ok(())
+    }
+
+    // Makes room for the reply first, so that each step that is made has its reply.
+    fn step_into(
+        &mut self,
+        step: Step,
+        replies: &mut Vec<Option<Reply>>,
+    ) -> Result<(), AllocError>
+        ensures ok { OnOk result ((reply : Option Reply) × (event : Option Event)
+            × IsStep self.old step (record { event = event; reply = reply }) self.new
+            × (replies.new.items ≡ replies.old.items ++ reply ∷ [])) }
+        ensures err { OnErr result ((self.new ≡ self.old) × (replies.new.items ≡ replies.old.items)) }
+    {
+        replies.reserve(1)?;
+        let reply = self.step(step)?;
+        let Ok(()) = replies.push(reply) else {
+            unreachable!()
+        };
         Ok(())
     }
 }

@@ -7,7 +7,7 @@ ghost use Rattle.world_core.specs.Schedule as schedule;
 ghost use Rattle.world_core.specs.Schedule.{IsAct, IsFinish, IsGiven, IsResponseOf, IsStep};
 ghost use Rattle.world_core.specs.declared.step.Call.TheVariants.{Apply, Serve};
 
-use crate::held::{Held, chooses, held_by, hold, let_go};
+use crate::held::{Held, held_by, hold, let_go};
 use crate::step::{Call, Step};
 use error_code::error_code::ErrorCode;
 use mapping_model::reply::Reply;
@@ -117,9 +117,7 @@ impl World {
         self.held.reserve(1)?;
         match self.book.serve_read(kept, &mut parsed) {
             Ok(event) => {
-                if chooses(event.event()) {
-                    hold(&mut self.held, Held { actor, event });
-                }
+                hold(&mut self.held, actor, event);
                 Ok(())
             }
             Err(error) => refused(error),
