@@ -69,7 +69,9 @@ stopped start end new steps front rest step replies whole (outcomes, run, are) s
     ap (λ (n : ℕ). take n steps) made ∙ ap (take (length front)) whole ∙ take-append_seam front (step ∷ rest) in
     let all : length steps ≡ length front + length (step ∷ rest) = ap length whole ∙ length-append front (step ∷ rest) in (
       omega (arith, made, all),
-      outcomes,
-      subst (λ (w : WorldState). IsRun start (take (length replies) steps) outcomes w) (sym same)
-          (subst (λ (ss : List Step). IsRun start ss outcomes end) (sym taken) run),
+      (
+        outcomes,
+        subst (λ (w : WorldState). IsRun start (take (length replies) steps) outcomes w) (sym same)
+            (subst (λ (ss : List Step). IsRun start ss outcomes end) (sym taken) run),
+      ),
     )

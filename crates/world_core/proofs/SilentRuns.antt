@@ -23,7 +23,7 @@ stays_at : (other actor : ℕ) (e : Event) (held : List Held) → (other ≢ act
     → held_by actor (held_after other e held) ≡ held_by actor held
 stays_at other actor (event.Serve request (Stub captured)) held (inl differ) =
     put_others actor other held (record { actor = other; event = event.Serve request (Stub captured) }) refl differ
-stays_at other actor (event.Serve request (Stub captured)) held (inr no) = absurd no
+stays_at other actor (event.Serve request (Stub captured)) held (inr none) = absurd none
 stays_at other actor e held passes = refl
 
 stays_act : (old new : WorldState) (other actor : ℕ) (call : Call) (e : Option Event) → IsAct old other call e new
@@ -49,7 +49,7 @@ stays start end (step ∷ steps) (outcome ∷ outcomes) actor (next, first, rest
 
 -- ---- the last choice is held
 
-chosen : Request → Captured → ℕ → Held
+abbrev chosen : Request → Captured → ℕ → Held
 chosen request captured actor = record { actor = actor; event = event.Serve request (Stub captured) }
 
 holds : (start end : WorldState) (steps : List Step) (outcomes : List Outcome) (actor : ℕ) (request : Request)

@@ -1,5 +1,5 @@
 -- What a call of the book is as a step.
-use Rattle.std.proofs.Common.{◌≡◌, ◌≢◌, ◌++◌, ◌∷◌, [], ℕ, List, Option, Some, None, Ok, Err, IfOk, refl, sym, subst, ◌∙◌, inl, inr}
+use Rattle.std.proofs.Common.{◌≡◌, ◌≢◌, ◌++◌, ◌∷◌, [], ℕ, List, Option, Some, None, Ok, Err, IfOk, OnOk, refl, sym, subst, ◌∙◌, inl, inr}
 use Rattle.std.specs.Prelude.{Result}
 use Rattle.error_code.specs.declared.error_code.ErrorCode.{ErrorCode}
 use Rattle.error_code.specs.declared.error_code.ErrorCode.TheVariants.{OutOfMemory}
@@ -74,10 +74,12 @@ module _ (old seen : WorldState) (is : seen ≡ old) where
   pub refused : (actor : ℕ) (call : Call) (past : Past) (held : List Held) → past ≡ seen.past → held ≡ seen.held
       → IsRefusedBy seen.past call
       → (event : Option Event) × IsAct old actor call event (record { past = past; held = held; limits = seen.limits })
-  refused actor call past held same_past same_held why = (
+  refused actor call past held past_is held_is why = (
     None,
-    subst (λ (w : WorldState). IsRefusedBy w.past call) is why,
-    (λ i. record { past = same_past i; held = same_held i; limits = seen.limits }) ∙ is,
+    (
+      subst (λ (w : WorldState). IsRefusedBy w.past call) is why,
+      (λ i. record { past = past_is i; held = held_is i; limits = seen.limits }) ∙ is,
+    ),
   )
 
 pub full : (past : Past) (code : ErrorCode) → IsServeRefusal past code → code ≢ OutOfMemory → IsFull past
@@ -85,6 +87,9 @@ full past code (inl (is, no_number)) other = no_number
 full past code (inr (memory, room)) other = absurd (other memory)
 
 -- ---- steps
+
+pub on_ok_at : {T E P : Type 0} {r s : Result T E} → r ≡ s → OnOk s P → OnOk r P
+on_ok_at {T} {E} {P} e ok = subst (λ (x : Result T E). OnOk x P) (sym e) ok
 
 pub acted : (old new : WorldState) (step : Step) (actor : ℕ) (call : Call) → step ≡ Act actor call
     → (event : Option Event) × IsAct old actor call event new

@@ -24,7 +24,6 @@ pub fn law_legal()
 
 /// Wherever in a schedule a finish gives a reply, it is the response of the version that was chosen at its actor's act,
 /// whatever came between. It gives none only where no mapping was chosen for its actor since that actor's last finish.
-#[tactic(auto, using(crate::proofs::AnsweredRuns::answered_run, crate::proofs::SilentRuns::silent_run))]
 pub fn law_response()
     ensures given { (start end : WorldState) (steps after : List Step) (outcomes more : List Outcome) (actor : ℕ) (reply : Reply)
         → start.held ≡ [] → length steps ≡ length outcomes

@@ -2,7 +2,7 @@
 use Rattle.std.proofs.Common.{◌≡◌, ◌++◌, length}
 use Rattle.std.specs.Vec.Iter.{into_iter_items, into_iter_len}
 use Rattle.world_core.specs.Schedule.{Runs}
-use Rattle.world_core.proofs.run.World.run_into.Given as goal
+use Rattle.world_core.proofs.world.World.run_into.Given as goal
 
 abbrev pub invariant-loop-step : goal.invariant-loop-step
 invariant-loop-step l = record {
