@@ -1,5 +1,5 @@
 -- What a call of the book is as a step.
-use Rattle.std.proofs.Common.{◌≡◌, ◌≢◌, ◌++◌, ◌∷◌, [], ℕ, List, Option, Some, None, Ok, Err, IfOk, OnOk, refl, sym, subst, ◌∙◌, inl, inr}
+use Rattle.std.proofs.Common.{◌≡◌, ◌≢◌, ◌++◌, ◌∷◌, [], ℕ, List, Option, Some, None, Ok, Err, IfOk, OnErr, OnOk, refl, sym, subst, ◌∙◌, inl, inr}
 use Rattle.std.specs.Prelude.{Result}
 use Rattle.error_code.specs.declared.error_code.ErrorCode.{ErrorCode}
 use Rattle.error_code.specs.declared.error_code.ErrorCode.TheVariants.{OutOfMemory}
@@ -88,8 +88,12 @@ full past code (inr (memory, room)) other = absurd (other memory)
 
 -- ---- steps
 
-pub on_ok_at : {T E P : Type 0} {r s : Result T E} → r ≡ s → OnOk s P → OnOk r P
-on_ok_at {T} {E} {P} e ok = subst (λ (x : Result T E). OnOk x P) (sym e) ok
+pub on_ok_at : {T E : Type 0} (r s : Result T E) (P : Type 0) → r ≡ s → OnOk s P → OnOk r P
+on_ok_at {T} {E} r s P e ok = subst (λ (x : Result T E). OnOk x P) (sym e) ok
+
+pub on_err : {T E : Type 0} (r : Result T E) (P : Type 0) → P → OnErr r P
+on_err (Ok x) P p = tt
+on_err (Err e) P p = p
 
 pub acted : (old new : WorldState) (step : Step) (actor : ℕ) (call : Call) → step ≡ Act actor call
     → (event : Option Event) × IsAct old actor call event new

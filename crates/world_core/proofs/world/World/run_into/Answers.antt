@@ -4,6 +4,7 @@ use Rattle.mapping_model.specs.declared.reply.Reply.{Reply}
 use Rattle.world_core.specs.Schedule.{IsStopped, Runs}
 use Rattle.world_core.specs.declared.step.Step.{Step}
 use Rattle.world_core.proofs.Runs.{runs_none, runs_on, stopped}
+use Rattle.world_core.proofs.StepLemmas.{on_err}
 use Rattle.world_core.proofs.world.World.run_into.Goals as goal
 
 pub loop-step-init : goal.loop-step-init
@@ -37,5 +38,6 @@ returns-in_err-step_into-clause-err c =
     let err = c.in_err-step_into.ensures.err in
     let new = c.step_into.new.self in
     let whole = l.invariant.whole ∙ ap (λ (ss : List Step). l.yielded ++ ss) c.in-Some.ensures.steps.0 in
-    subst (λ (rs : List (Option Reply)). IsStopped c.args.self.now c.args.steps.items (length rs) new) (sym err.1)
-    (stopped c.args.self.now l.self new c.args.steps.items l.yielded rest step l.replies.items whole l.invariant.runs err.0)
+    on_err c.from_residual.result _
+    (subst (λ (rs : List (Option Reply)). IsStopped c.args.self.now c.args.steps.items (length rs) new) (sym err.1)
+    (stopped c.args.self.now l.self new c.args.steps.items l.yielded rest step l.replies.items whole l.invariant.runs err.0))
