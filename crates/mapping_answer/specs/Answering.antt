@@ -61,6 +61,8 @@ IsRequest method target request =
 pub record IsReply (bytes method target : List ℕ) (reply : Reply) : Type 0 where
   pub mappings : List MappingSpec
   pub document : SpellMappings bytes mappings
+  -- a book can be opened with them
+  pub few : length (live (opened 0 mappings)) ≤ LIVE_LIMIT
   pub request : Request
   pub asked : IsRequest method target request
   pub answer : ServeAnswer
