@@ -11,7 +11,7 @@ use Rattle.request_journal.specs.declared.event.Captured.{Captured}
 use Rattle.request_journal.specs.declared.event.Event.{Event}
 use Rattle.request_journal.specs.declared.event.Event.TheVariants as event
 use Rattle.request_journal.specs.declared.event.ServeAnswer.TheVariants.{Stub, Proxy, Unmatched}
-use Rattle.stub_response.specs.Response.{IsResponse}
+use Rattle.stub_response.specs.Response.{IsRendering, IsResponse}
 use Rattle.stub_response.specs.declared.limits.Limits.{Limits}
 use Rattle.world_core.specs.Laws.{IsAnswered, IsLastChoice, IsNoStub, PassesBy, choosing, giving}
 use Rattle.world_core.specs.Schedule.{Happens, IsAct, IsFinish, IsGiven, IsResponseOf, IsRun, IsStep, Outcome, WorldState}
@@ -211,12 +211,14 @@ no_reply reply e = cc
 by_event : (start : WorldState) (steps : List Step) (outcomes : List Outcome) (actor : ℕ) (limits : Limits) (reply : Reply)
     (e : Event) → limits ≡ start.limits → IsLast start steps outcomes actor e → IsResponseOf limits e (Some reply)
     → IsAnswered start steps outcomes actor reply
-by_event start steps outcomes actor limits reply (event.Serve request (Stub captured)) same known (given, is, response) = (
+by_event start steps outcomes actor limits reply (event.Serve request (Stub captured)) same known (given, is, response, rendering) = (
   request,
   captured,
   known,
   subst (λ l. IsResponse l captured.mapping.spec request reply) same
       (subst (λ r. IsResponse limits captured.mapping.spec request r) (sym (same_reply reply given is)) response),
+  subst (λ l. IsRendering l captured.mapping.spec request reply) same
+      (subst (λ r. IsRendering limits captured.mapping.spec request r) (sym (same_reply reply given is)) rendering),
 )
 by_event start steps outcomes actor limits reply other same known none = absurd (no_reply reply none)
 

@@ -79,7 +79,10 @@ of_act old new actor request (Some e) room chooses act = of_event old new actor 
 of_given : (limits : Limits) (actor : ℕ) (request : Request) (c : Captured) (found : Option Held) (reply : Option Reply)
     → found ≡ Some (record { actor = actor; event = event.Serve request (Stub c) }) → IsGiven limits found reply
     → (given : Reply) × (reply ≡ Some given) × IsResponse limits c.mapping.spec request given
-of_given limits actor request c found reply is given = subst (λ o. IsGiven limits o reply) is given
+of_given limits actor request c found reply is given =
+    let held : IsGiven limits (Some (record { actor = actor; event = event.Serve request (Stub c) })) reply =
+    subst (λ o. IsGiven limits o reply) is given in
+    (held.0, held.1, held.2)
 
 two_more : (first second : Outcome) (rest : List Outcome) (reply : Reply) → first.reply ≡ None → second.reply ≡ Some reply
     → replies_of (first ∷ second ∷ rest) ≡ reply ∷ replies_of rest

@@ -10,7 +10,7 @@ use Rattle.request_journal.specs.declared.event.Event.{Event}
 use Rattle.request_journal.specs.declared.event.Event.TheVariants as event
 use Rattle.request_journal.specs.declared.event.ServeAnswer.{ServeAnswer}
 use Rattle.request_journal.specs.declared.event.ServeAnswer.TheVariants.{Stub}
-use Rattle.stub_response.specs.Response.{IsResponse}
+use Rattle.stub_response.specs.Response.{IsRendering, IsResponse}
 use Rattle.world_core.specs.Schedule.{Outcome, WorldState, IsRun}
 use Rattle.world_core.specs.declared.step.Call.TheVariants.{Serve}
 use Rattle.world_core.specs.declared.step.Step.{Step}
@@ -53,11 +53,13 @@ pub record IsLastChoice (start : WorldState) (steps : List Step) (outcomes : Lis
   pub choice : IsChoice then.past request (Stub captured)
   pub passed : AllZip (PassesBy actor) later late
 
--- the reply is the response of the version that was chosen at the actor's last act, whatever came since
+-- The reply is the response of the version that was chosen at the actor's last act, whatever came since; each templated
+-- text was written by a run of safe code within its budget.
 abbrev pub IsAnswered : WorldState → List Step → List Outcome → ℕ → Reply → Type 0
 IsAnswered start steps outcomes actor reply =
     (request : Request) × (captured : Captured) × IsLastChoice start steps outcomes actor request captured
     × IsResponse start.limits captured.mapping.spec request reply
+    × IsRendering start.limits captured.mapping.spec request reply
 
 -- ---- scenarios
 

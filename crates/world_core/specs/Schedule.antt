@@ -13,7 +13,7 @@ use Rattle.request_journal.specs.declared.event.Event.TheVariants as event
 use Rattle.request_journal.specs.declared.event.ServeAnswer.TheVariants.{Stub}
 use Rattle.stub_book.specs.Growth.{Grows}
 use Rattle.stub_book.specs.Refusals.{IsFull, IsRefusal}
-use Rattle.stub_response.specs.Response.{IsResponse}
+use Rattle.stub_response.specs.Response.{IsRendering, IsResponse}
 use Rattle.stub_response.specs.declared.limits.Limits.{Limits}
 use Rattle.world_core.specs.declared.held.Held.{Held}
 use Rattle.world_core.specs.declared.step.Call.{Call}
@@ -69,10 +69,11 @@ abbrev pub IsAct : WorldState → ℕ → Call → Option Event → WorldState �
 IsAct old actor call event new =
     MatchOption event (IsRefusedBy old.past call × (new ≡ old)) (λ e. Happens old actor call e new)
 
--- the response of the mapping that an event chose, as it was then
+-- the response of the mapping that an event chose, as it was then, with the runs that wrote its texts
 abbrev pub IsResponseOf : Limits → Event → Option Reply → Type 0
 IsResponseOf limits (event.Serve request (Stub captured)) reply =
     (given : Reply) × (reply ≡ Some given) × IsResponse limits captured.mapping.spec request given
+    × IsRendering limits captured.mapping.spec request given
 IsResponseOf limits other reply = reply ≡ None
 
 -- the reply to what is held, if anything is
