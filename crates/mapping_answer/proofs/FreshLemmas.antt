@@ -1,5 +1,5 @@
 -- A book that was just opened has room, and sends nothing on.
-use Rattle.std.proofs.Common.{◌≡◌, ◌≤◌, ℕ, List, inl, inr, subst, arith}
+use Rattle.std.proofs.Common.{ℕ, List, subst, arith}
 use Rattle.mapping_model.specs.declared.mapping_spec.MappingSpec.{MappingSpec}
 use Rattle.mock_request.specs.Request.{Request}
 use Rattle.request_journal.specs.Choice.{IsChoice}

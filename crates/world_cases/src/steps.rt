@@ -74,7 +74,9 @@ fn input(alloc: Global, word: &str, text: &str) -> Result<BookInput, AllocError>
 }
 
 fn mapping(alloc: Global, document: &str) -> Result<ReadyMapping, AllocError> {
-    read_mapping(alloc, document.as_bytes()).ok().ok_or(AllocError)
+    read_mapping(alloc, document.as_bytes())
+        .ok()
+        .ok_or(AllocError)
 }
 
 fn id(text: &str) -> Result<MappingId, AllocError> {

@@ -1,5 +1,5 @@
 -- A finish gives the response of what its actor holds, which is what was chosen at its last act.
-use Rattle.std.proofs.Common.{◌≡◌, ◌≢◌, ◌⊎◌, ◌==◌, ℕ, Bool, true, false, List, [], ◌∷◌, ◌++◌, length, append_assoc, append-nil}
+use Rattle.std.proofs.Common.{◌≡◌, ℕ, List, [], ◌∷◌, ◌++◌, length, append_assoc, append-nil}
 use Rattle.std.proofs.Common.{Option, Some, None, refl, sym, ap, ◌∙◌, subst, inl, inr}
 use Rattle.std.specs.Prelude.{IfSome}
 use Rattle.std.specs.List.{AllZip}
@@ -10,12 +10,12 @@ use Rattle.request_journal.specs.Choice.{IsChoice}
 use Rattle.request_journal.specs.declared.event.Captured.{Captured}
 use Rattle.request_journal.specs.declared.event.Event.{Event}
 use Rattle.request_journal.specs.declared.event.Event.TheVariants as event
-use Rattle.request_journal.specs.declared.event.ServeAnswer.TheVariants.{Stub, Proxy, Unmatched}
+use Rattle.request_journal.specs.declared.event.ServeAnswer.TheVariants.{Stub}
 use Rattle.stub_response.specs.Response.{IsRendering, IsResponse}
 use Rattle.stub_response.specs.declared.limits.Limits.{Limits}
-use Rattle.world_core.specs.Laws.{IsAnswered, IsLastChoice, IsNoStub, PassesBy, choosing, giving}
+use Rattle.world_core.specs.Laws.{IsAnswered, IsLastChoice, PassesBy, choosing, giving}
 use Rattle.world_core.specs.Schedule.{Happens, IsAct, IsFinish, IsGiven, IsResponseOf, IsRun, IsStep, Outcome, WorldState}
-use Rattle.world_core.specs.Schedule.{held_after, held_by, held_by_others}
+use Rattle.world_core.specs.Schedule.{held_by, held_by_others}
 use Rattle.world_core.specs.declared.held.Held.{Held}
 use Rattle.world_core.specs.declared.step.Call.{Call}
 use Rattle.world_core.specs.declared.step.Call.TheVariants.{Serve, Apply}

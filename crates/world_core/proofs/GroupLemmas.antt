@@ -1,7 +1,7 @@
 -- Equal keys among the keys of a list, where a test tells which keys are equal.
-use Rattle.std.proofs.Common.{◌≡◌, ◌⊎◌, ◌<◌, ◌≤◌, ◌+◌, ◌==◌, ℕ, zero, suc, Bool, true, false, cond, List, [], ◌∷◌, ◌++◌, length, map}
-use Rattle.std.proofs.Common.{Option, Some, None, refl, sym, ap, ap₂, ◌∙◌, subst, arith, inl, inr, append_assoc}
-use Rattle.std.specs.Prelude.{◌&&◌, nat_lt, if◌then◌else◌}
+use Rattle.std.proofs.Common.{◌≡◌, ◌⊎◌, ◌<◌, ◌≤◌, ◌+◌, ℕ, Bool, true, false, cond, List, [], ◌∷◌, ◌++◌, length, map}
+use Rattle.std.proofs.Common.{Some, None, refl, sym, ap, ap₂, ◌∙◌, subst, arith, inl, inr}
+use Rattle.std.specs.Prelude.{◌&&◌, if◌then◌else◌}
 use Rattle.std.specs.List.{position_from}
 use Rattle.std.proofs.lemmas.Bool.{cases_Bool, cases_lt, eq-eqb, lt-ltb}
 use Rattle.std.proofs.lemmas.List.Sums.{sum_by-append, sum_by-cons}
@@ -69,23 +69,23 @@ position_of_both p q n g [] e f = absurd (never_none g (sym e))
 position_of_both p q n g (x ∷ xs) e f =
     elim (cases_Bool (p x)) [
       | inl hit ↦ elim (cases_Bool (q x)) [
-          | inl also ↦ (x, hit, also)
-          | inr miss ↦
-              let is : n ≡ g = same_some n g (sym (ap (λ b. cond b (Some n) (position_from p (n + 1) xs)) hit) ∙ e) in
-              let later : n + 1 ≤ g = position_at_least q (n + 1) g xs
-              (sym (ap (λ b. cond b (Some n) (position_from q (n + 1) xs)) miss) ∙ f) in
-              absurd (omega (arith, is, later))
-        ]
+        | inl also ↦ (x, hit, also)
+        | inr miss ↦
+            let is : n ≡ g = same_some n g (sym (ap (λ b. cond b (Some n) (position_from p (n + 1) xs)) hit) ∙ e) in
+            let later : n + 1 ≤ g = position_at_least q (n + 1) g xs
+            (sym (ap (λ b. cond b (Some n) (position_from q (n + 1) xs)) miss) ∙ f) in
+            absurd (omega (arith, is, later))
+      ]
       | inr not ↦ elim (cases_Bool (q x)) [
-          | inl hit ↦
-              let is : n ≡ g = same_some n g (sym (ap (λ b. cond b (Some n) (position_from q (n + 1) xs)) hit) ∙ f) in
-              let later : n + 1 ≤ g = position_at_least p (n + 1) g xs
-              (sym (ap (λ b. cond b (Some n) (position_from p (n + 1) xs)) not) ∙ e) in
-              absurd (omega (arith, is, later))
-          | inr miss ↦ position_of_both p q (n + 1) g xs
-              (sym (ap (λ b. cond b (Some n) (position_from p (n + 1) xs)) not) ∙ e)
-              (sym (ap (λ b. cond b (Some n) (position_from q (n + 1) xs)) miss) ∙ f)
-        ]
+        | inl hit ↦
+            let is : n ≡ g = same_some n g (sym (ap (λ b. cond b (Some n) (position_from q (n + 1) xs)) hit) ∙ f) in
+            let later : n + 1 ≤ g = position_at_least p (n + 1) g xs
+            (sym (ap (λ b. cond b (Some n) (position_from p (n + 1) xs)) not) ∙ e) in
+            absurd (omega (arith, is, later))
+        | inr miss ↦ position_of_both p q (n + 1) g xs
+            (sym (ap (λ b. cond b (Some n) (position_from p (n + 1) xs)) not) ∙ e)
+            (sym (ap (λ b. cond b (Some n) (position_from q (n + 1) xs)) miss) ∙ f)
+      ]
     ]
 
 -- one of the items passes
@@ -99,10 +99,10 @@ has_position p n (x ∷ xs) passes e =
     elim (cases_Bool (p x)) [
       | inl hit ↦ never_none n (sym (ap (λ b. cond b (Some n) (position_from p (n + 1) xs)) hit) ∙ e)
       | inr miss ↦ elim passes [
-          | inl hit ↦ true_is_no (p x) hit miss
-          | inr later ↦ has_position p (n + 1) xs later
-              (sym (ap (λ b. cond b (Some n) (position_from p (n + 1) xs)) miss) ∙ e)
-        ]
+        | inl hit ↦ true_is_no (p x) hit miss
+        | inr later ↦ has_position p (n + 1) xs later
+            (sym (ap (λ b. cond b (Some n) (position_from p (n + 1) xs)) miss) ∙ e)
+      ]
     ]
 
 passes_after : {A : Type 0} (p : A → Bool) (xs ys : List A) → SomePasses p ys → SomePasses p (xs ++ ys)

@@ -2,7 +2,7 @@
 use Rattle.std.proofs.Common.{◌≡◌, ◌⊎◌, ◌≤◌, ℕ, Bool, true, false, List, [], ◌∷◌, ◌++◌, length, refl, ap, subst, sym, ◌∙◌, inl, inr, append-nil}
 use Rattle.std.specs.Prelude.{MatchBool, unwrap_or}
 use Rattle.request_journal.specs.Journal.{clears}
-use Rattle.request_journal.specs.Legal.{IsLegal, IsNext, IsCheckpoint}
+use Rattle.request_journal.specs.Legal.{IsLegal, IsCheckpoint}
 use Rattle.request_journal.specs.Live.{left_by, live}
 use Rattle.request_journal.specs.Past.{Past, with_event, with_events}
 use Rattle.request_journal.specs.State.{state, touch}

@@ -1,6 +1,6 @@
 -- Serves move scenarios, each once, and finishes move none.
-use Rattle.std.proofs.Common.{◌≡◌, ℕ, List, [], ◌∷◌, refl, sym, ap, ◌∙◌, subst, Option, Some, None}
-use Rattle.std.specs.Prelude.{unwrap_or, MatchOption}
+use Rattle.std.proofs.Common.{◌≡◌, ℕ, List, [], ◌∷◌, sym, ap, ◌∙◌, subst, Option, Some, None}
+use Rattle.std.specs.Prelude.{unwrap_or}
 use Rattle.mock_request.specs.Request.{Request}
 use Rattle.request_journal.specs.Choice.{IsChoice}
 use Rattle.request_journal.specs.Events.{last_of}
@@ -10,11 +10,10 @@ use Rattle.request_journal.specs.State.{state, touch}
 use Rattle.request_journal.specs.declared.event.Event.{Event}
 use Rattle.request_journal.specs.declared.event.Event.TheVariants as event
 use Rattle.request_journal.proofs.LiveLemmas.{unwrap_or_more}
-use Rattle.stub_book.specs.Growth.{Grows}
 use Rattle.world_core.specs.Laws.{IsServedOnce, MovesBy, events_of}
-use Rattle.world_core.specs.Schedule.{Happens, IsAct, IsAskedBy, IsRun, IsStep, Outcome, WorldState}
+use Rattle.world_core.specs.Schedule.{Happens, IsAct, IsRun, IsStep, Outcome, WorldState}
 use Rattle.world_core.specs.declared.step.Call.{Call}
-use Rattle.world_core.specs.declared.step.Call.TheVariants.{Serve, Apply}
+use Rattle.world_core.specs.declared.step.Call.TheVariants.{Serve}
 use Rattle.world_core.specs.declared.step.Step.{Step}
 use Rattle.world_core.specs.declared.step.Step.TheVariants.{Act, Finish}
 use Rattle.world_core.proofs.Grown.{state_grown}

@@ -1,6 +1,6 @@
 -- The names of scenarios and states differ.
-use Rattle.std.proofs.Common.{◌≡◌, ◌<◌, ◌≤◌, ◌+◌, ◌^◌, ℕ, Bool, true, false, cond, List, [], ◌∷◌, ◌++◌, length, refl, sym, ap, ◌∙◌, inl, inr, arith, codes, subst}
-use Rattle.std.specs.Prelude.{decimal, nat_le, if◌then◌else◌}
+use Rattle.std.proofs.Common.{◌≡◌, ◌<◌, ◌≤◌, ◌^◌, ℕ, sym, ap, ◌∙◌, inl, inr, arith, codes, subst}
+use Rattle.std.specs.Prelude.{decimal, if◌then◌else◌}
 use Rattle.std.specs.Str.Parse.{IsNumeral}
 use Rattle.std.proofs.lemmas.Bool.{cases_lt, le-leb, lt-leb}
 use Rattle.std.proofs.lemmas.Fmt.{decimal_injective, decimal_is_IsNumeral}
@@ -29,11 +29,11 @@ pub same_state : (j k : ℕ) → 1 ≤ j → 1 ≤ k → j < 2 ^ 64 → k < 2 ^ 
 same_state j k one also few fewer is =
     elim (cases_lt 1 j) [
       | inl many ↦ elim (cases_lt 1 k) [
-          | inl too ↦ decimal_injective j k few fewer (sym (number_at j many) ∙ is ∙ number_at k too)
-          | inr first ↦ absurd (no_number j few (sym (started_at k first) ∙ sym is ∙ number_at j many))
-        ]
+        | inl too ↦ decimal_injective j k few fewer (sym (number_at j many) ∙ is ∙ number_at k too)
+        | inr first ↦ absurd (no_number j few (sym (started_at k first) ∙ sym is ∙ number_at j many))
+      ]
       | inr first ↦ elim (cases_lt 1 k) [
-          | inl too ↦ absurd (no_number k fewer (sym (started_at j first) ∙ is ∙ number_at k too))
-          | inr also_first ↦ omega arith
-        ]
+        | inl too ↦ absurd (no_number k fewer (sym (started_at j first) ∙ is ∙ number_at k too))
+        | inr also_first ↦ omega arith
+      ]
     ]

@@ -1,24 +1,22 @@
 -- What is recorded is what is replayed.
-use Rattle.std.proofs.Common.{◌≡◌, ◌≢◌, ◌⊎◌, ◌↔◌, ◌<◌, ◌≤◌, ◌+◌, ◌^◌, ℕ, zero, suc, Bool, true, false, cond, List, [], ◌∷◌, ◌++◌, length, map, All}
-use Rattle.std.proofs.Common.{Option, Some, None, refl, sym, ap, ap₂, ◌∙◌, inl, inr, arith, subst, codes, append_assoc, append-nil, option_map}
+use Rattle.std.proofs.Common.{◌≡◌, ◌≢◌, ◌↔◌, ◌<◌, ◌≤◌, ◌+◌, ◌^◌, ℕ, true, false, cond, List, [], ◌∷◌, ◌++◌, length, All}
+use Rattle.std.proofs.Common.{Option, Some, None, refl, sym, ap, ap₂, ◌∙◌, inl, inr, arith, subst, codes, append-nil, option_map}
 use Rattle.std.specs.Prelude.{Any, Contains, IfSome, bytes_eq, decimal, nat_lt, if◌then◌else◌, unwrap_or}
-use Rattle.std.specs.Str.Lossy.{utf8_lossy}
-use Rattle.std.proofs.lemmas.Bool.{cases_Bool, cond-true, false_from_ne_true, lt-ltb}
+use Rattle.std.proofs.lemmas.Bool.{cases_Bool, false_from_ne_true, lt-ltb}
 use Rattle.std.proofs.lemmas.List.{length-append, length-map, map-append}
 use Rattle.std.proofs.lemmas.List.Sums.{count_by-le-length}
 use Rattle.std.proofs.lemmas.Slice.Eq.{bytes_eq-Decides}
-use Rattle.key_groups.specs.Groups.{group_of, place_of, times}
+use Rattle.key_groups.specs.Groups.{group_of, times}
 use Rattle.mapping_model.specs.declared.mapping_spec.MappingSpec.{MappingSpec}
-use Rattle.mapping_model.specs.declared.reply.Reply.{Reply}
 use Rattle.mapping_model.specs.declared.scenario_spec.ScenarioSpec.{ScenarioSpec}
 use Rattle.mock_request.specs.Request.{Header, Request}
 use Rattle.recorder.specs.Key.{KeyParts, key_of, same_key}
-use Rattle.recorder.specs.Stubs.{is_kept, keys_of, mappings_of, scenario_name, scenario_of, scenario_part, state_name}
+use Rattle.recorder.specs.Stubs.{is_kept, keys_of, mappings_of, scenario_name, scenario_part, state_name}
 use Rattle.recorder.specs.declared.exchange.Exchange.{Exchange}
 use Rattle.request_journal.specs.Choice.{IsChoice, IsEligible, IsMissed, IsReady}
 use Rattle.request_journal.specs.Live.{left_by, live}
 use Rattle.request_journal.specs.Past.{Past, Placed, last_number, with_event}
-use Rattle.request_journal.specs.State.{next_state, state, touch}
+use Rattle.request_journal.specs.State.{next_state, state}
 use Rattle.request_journal.specs.declared.event.Captured.{Captured}
 use Rattle.request_journal.specs.declared.event.Event.{Event}
 use Rattle.request_journal.specs.declared.event.Event.TheVariants as event
@@ -32,7 +30,7 @@ use Rattle.scenario_core.specs.Scenarios.{started}
 use Rattle.http_header.specs.FieldName.{IsHeaderName}
 use Rattle.world_core.specs.Replay.{HasRecorded, IsReplayable}
 use Rattle.world_core.proofs.GroupLemmas.{equal_in_group, few_groups, once_at_most, same_split, times_append, times_item, times_other, times_same, true_is_no}
-use Rattle.world_core.proofs.ListFacts.{IsItem, all_item, contains_item, item_after, item_between, item_of, item_split, one_further}
+use Rattle.world_core.proofs.ListFacts.{IsItem, all_item, contains_item, item_between, item_of, item_split, one_further}
 use Rattle.world_core.proofs.NameLemmas.{number_at, same_scenario, same_state, started_at}
 use Rattle.world_core.proofs.RequestLemmas.{IsLower, equal_key, itself_key, meets_its_key, meets_itself}
 use Rattle.world_core.proofs.StubMembers.{mapping_after, mapping_is_one, own_mapping}
@@ -204,11 +202,14 @@ module _ (captured : List (List ℕ)) (number : ℕ) (exchanges : List Exchange)
     pub chosen : (answer : ServeAnswer) → IsChoice past e.request answer
         → (c : Captured) × (answer ≡ Stub c) × (c.mapping.spec ≡ own done e)
     chosen (Stub c) choice =
-        let (k, lt, at) = choice.is_live in
-        (c, refl, own_chosen c.mapping.spec
-        (subst (λ ps. Any (λ (p : Placed). p.mapping.spec ≡ c.mapping.spec) ps) now.same_live
-        (k, choice.placed, lt, at, ap (λ m. m.spec) choice.same))
-        choice.eligible.meets choice.eligible.ready)
+        let (k, lt, at) = choice.is_live in (
+          c,
+          refl,
+          own_chosen c.mapping.spec
+              (subst (λ ps. Any (λ (p : Placed). p.mapping.spec ≡ c.mapping.spec) ps) now.same_live
+              (k, choice.placed, lt, at, ap (λ m. m.spec) choice.same))
+              choice.eligible.meets choice.eligible.ready,
+        )
     chosen (Proxy target) choice = absurd (never_missed choice.0)
     chosen Unmatched choice = absurd (never_missed choice.0)
 

@@ -1,17 +1,15 @@
 -- Recorded requests that are sent again get the recorded replies.
-use Rattle.std.proofs.Common.{◌≡◌, ◌<◌, ◌≤◌, ◌+◌, ℕ, suc, true, List, [], ◌∷◌, ◌++◌, length, map, All, Option, Some, None, refl, sym, ap, ◌∙◌, subst, arith}
-use Rattle.std.specs.Prelude.{Any, Contains, ◌↔◌, filter_map}
+use Rattle.std.proofs.Common.{◌≡◌, ℕ, true, List, [], ◌∷◌, ◌++◌, map, All, Option, Some, None, refl, sym, ap, ◌∙◌, subst, arith}
+use Rattle.std.specs.Prelude.{Any, Contains, ◌↔◌}
 use Rattle.std.specs.List.{cons_option}
-use Rattle.http_header.specs.Token.{is_value_byte}
 use Rattle.mapping_model.specs.declared.mapping_spec.MappingSpec.{MappingSpec}
 use Rattle.mapping_model.specs.declared.reply.Reply.{Reply}
-use Rattle.mapping_model.specs.declared.reply.ReplyHeader.{ReplyHeader}
 use Rattle.mock_request.specs.Request.{Request}
-use Rattle.recorder.specs.Stubs.{mappings_of, response_of}
+use Rattle.recorder.specs.Stubs.{mappings_of}
 use Rattle.recorder.specs.declared.exchange.Exchange.{Exchange}
 use Rattle.request_journal.specs.Choice.{IsChoice}
 use Rattle.request_journal.specs.Live.{live}
-use Rattle.request_journal.specs.Past.{Past, Placed, last_number, with_event}
+use Rattle.request_journal.specs.Past.{Past, Placed, with_event}
 use Rattle.request_journal.specs.declared.event.Captured.{Captured}
 use Rattle.request_journal.specs.declared.event.Event.{Event}
 use Rattle.request_journal.specs.declared.event.Event.TheVariants as event
@@ -21,7 +19,7 @@ use Rattle.stub_book.specs.Refusals.{IsFull}
 use Rattle.stub_response.specs.Response.{IsResponse}
 use Rattle.stub_response.specs.declared.limits.Limits.{Limits}
 use Rattle.world_core.specs.Replay.{HasRecorded, IsReplayable, replies_of, sending}
-use Rattle.world_core.specs.Schedule.{Happens, IsAct, IsFinish, IsGiven, IsRun, Outcome, WorldState, held_by}
+use Rattle.world_core.specs.Schedule.{Happens, IsAct, IsGiven, IsRun, Outcome, WorldState, held_by}
 use Rattle.world_core.specs.declared.held.Held.{Held}
 use Rattle.world_core.specs.declared.step.Call.TheVariants.{Serve}
 use Rattle.world_core.proofs.HeldLemmas.{put_own}

@@ -1,5 +1,5 @@
 -- What a call of the book is as a step.
-use Rattle.std.proofs.Common.{◌≡◌, ◌≢◌, ◌++◌, ◌∷◌, [], ℕ, List, Option, Some, None, Ok, Err, IfOk, OnErr, OnOk, refl, sym, subst, ◌∙◌, inl, inr}
+use Rattle.std.proofs.Common.{◌≡◌, ◌≢◌, ℕ, List, Option, Some, None, Ok, Err, IfOk, OnErr, OnOk, refl, sym, subst, ◌∙◌, inl, inr}
 use Rattle.std.specs.Prelude.{Result}
 use Rattle.error_code.specs.declared.error_code.ErrorCode.{ErrorCode}
 use Rattle.error_code.specs.declared.error_code.ErrorCode.TheVariants.{OutOfMemory}
@@ -13,7 +13,7 @@ use Rattle.request_journal.specs.declared.event.ServeAnswer.{ServeAnswer}
 use Rattle.request_journal.specs.declared.input.BookInput.{BookInput}
 use Rattle.request_journal.specs.declared.input.BookInput.TheVariants as input
 use Rattle.stub_book.specs.Growth.{Grows, IsServed}
-use Rattle.stub_book.specs.Refusals.{IsFull, IsRefusal, IsServeRefusal}
+use Rattle.stub_book.specs.Refusals.{IsFull, IsServeRefusal}
 use Rattle.world_core.specs.Schedule.{Happens, IsAct, IsAskedBy, IsFinish, IsRefusedBy, IsStep, WorldState, held_after}
 use Rattle.world_core.specs.declared.held.Held.{Held}
 use Rattle.world_core.specs.declared.step.Call.{Call}

@@ -32,15 +32,12 @@ pub record IsReplayable (captured : List (List ℕ)) (exchanges : List Exchange)
   -- none of them is skipped, and they are no more than a recording takes
   pub kept : All (λ e. is_kept captured e ≡ true) exchanges
   pub few : length exchanges ≤ EXCHANGE_LIMIT
-
   -- header names are in lower case, as those of each received request, and no method is the one that stands for all
   pub names : All (λ e. All (λ h. IsHeaderName h.name) e.request.headers) exchanges
   pub methods : All (λ e. e.request.method ≢ codes "ANY") exchanges
-
   -- bodies that differ also differ as texts
   pub bodies : (a b : Exchange) → Contains exchanges a → Contains exchanges b
       → utf8_lossy a.request.body ≡ utf8_lossy b.request.body → a.request.body ≡ b.request.body
-
   -- the header values of replies have no control byte but tabs
   pub values : All (λ e. All (λ h. All (λ b. is_value_byte b ≡ true) h.value) e.reply.headers) exchanges
 
@@ -49,10 +46,8 @@ pub record HasRecorded (captured : List (List ℕ)) (number : ℕ) (exchanges : 
   -- the live mappings are those that the stop with this number gave, equal requests as scenarios, and no others
   pub same_mappings : (spec : MappingSpec) → Any (λ p. p.mapping.spec ≡ spec) (live past)
       ↔ Contains (mappings_of captured exchanges true number) spec
-
   -- their scenarios are where they begin
   pub all_started : All (λ spec. IfSome spec.scenario (λ s. state past s.name ≡ started))
       (mappings_of captured exchanges true number)
-
   -- there is a number for each request
   pub room : last_number past + length exchanges ≤ NUMBER_LIMIT

@@ -49,11 +49,7 @@ impl World {
     }
 
     // Makes room for the reply first, so that each step that is made has its reply.
-    fn step_into(
-        &mut self,
-        step: Step,
-        replies: &mut Vec<Option<Reply>>,
-    ) -> Result<(), AllocError>
+    fn step_into(&mut self, step: Step, replies: &mut Vec<Option<Reply>>) -> Result<(), AllocError>
         ensures ok { OnOk result ((reply : Option Reply) × (event : Option Event)
             × IsStep self.old step (record { event = event; reply = reply }) self.new
             × (replies.new.items ≡ replies.old.items ++ reply ∷ [])) }

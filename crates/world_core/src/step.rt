@@ -12,12 +12,7 @@ pub enum Call {
 /// A step of an actor. Actors are told apart by their numbers.
 #[derive(Drop)]
 pub enum Step {
-    Act {
-        actor: u64,
-        call: Call,
-    },
+    Act { actor: u64, call: Call },
     /// The response of the mapping that was chosen for the actor's last request.
-    Finish {
-        actor: u64,
-    },
+    Finish { actor: u64 },
 }

@@ -1,4 +1,4 @@
-use Rattle.std.proofs.Common.{Option, refl}
+use Rattle.std.proofs.Common.{refl}
 use Rattle.std.proofs.lemmas.Result.{on_ok_weaker}
 use Rattle.world_core.specs.Schedule.{WorldState}
 use Rattle.world_core.specs.declared.step.Call.TheVariants.{Apply}
