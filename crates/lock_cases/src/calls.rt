@@ -2,7 +2,7 @@
 //! were, so that nothing differs after the second call.
 
 use crate::books;
-use crate::books::Change;
+use crate::books::{Change, word_of};
 use mapping_model::mapping_id::MappingId;
 use mapping_model::request_spec::RequestSpec;
 use request_match::request_matcher::RequestMatcher;
@@ -15,28 +15,30 @@ use shared_book::shared_book::SharedBook;
 use std::alloc::{AllocError, Global};
 use std::sync::Wait;
 
+/// Gives the number of the event.
 pub fn serve<L: Origin, R: Wait>(
     rt: &R,
     alloc: Global,
     shared: &SharedBook<L>,
     seat: &mut Seat<L>,
-) -> Result<(), AllocError> {
-    if served(rt, alloc, shared, seat) || served(rt, alloc, shared, seat) {
-        return Ok(());
+) -> Result<u64, AllocError> {
+    match served(rt, alloc, shared, seat) {
+        Some(number) => Ok(number),
+        None => served(rt, alloc, shared, seat).ok_or(AllocError),
     }
-    Err(AllocError)
 }
 
-// Whether it is accepted.
+// The number of the event, where the request is accepted.
 fn served<L: Origin, R: Wait>(
     rt: &R,
     alloc: Global,
     shared: &SharedBook<L>,
     seat: &mut Seat<L>,
-) -> bool {
-    match books::request(alloc) {
-        Ok(request) => seat.serve(rt, shared, request).is_ok(),
-        Err(_error) => false,
+) -> Option<u64> {
+    let request = books::request(alloc).ok()?;
+    match seat.serve(rt, shared, request) {
+        Ok(receipt) => Some(receipt.number),
+        Err(_error) => None,
     }
 }
 
@@ -165,22 +167,37 @@ pub fn settled<L: Origin, R: Wait>(
 /// How many events and receipts there are, or why there are none.
 pub fn outcome<L: Origin>(
     alloc: Global,
-    settled: &Result<Settled, SettleError<L>>,
+    result: Result<Settled, SettleError<L>>,
 ) -> Result<String, AllocError> {
-    match settled {
-        Ok(settled) => {
-            let events = settled.events;
-            let receipts = settled.receipts.len();
-            format!(in alloc; "{events} events, {receipts} receipts")
-        }
-        Err(error) => {
-            let reason = match &error.reason {
-                SettleRefusal::SeatsMissing => "seats missing",
-                SettleRefusal::Mismatch { .. } => "mismatch",
-                SettleRefusal::OutOfMemory => "out of memory",
-            };
-            let seats = error.seats.len();
-            format!(in alloc; "{reason}, {seats} handed back")
-        }
+    match result {
+        Ok(settled) => counts(alloc, &settled),
+        Err(error) => refusal(alloc, &error.reason, error.seats.len()),
     }
+}
+
+/// How many events and receipts there are.
+pub fn counts(alloc: Global, settled: &Settled) -> Result<String, AllocError> {
+    let events = settled.events;
+    let receipts = settled.receipts.len();
+    format!(in alloc; "{events} events, {receipts} receipts")
+}
+
+/// Why seats aren't settled, and how many of them came back.
+pub fn refusal(alloc: Global, reason: &SettleRefusal, seats: usize) -> Result<String, AllocError> {
+    let reason = match reason {
+        SettleRefusal::SeatsMissing => "seats missing",
+        SettleRefusal::Mismatch { .. } => "mismatch",
+        SettleRefusal::OutOfMemory => "out of memory",
+    };
+    format!(in alloc; "{reason}, {seats} handed back")
+}
+
+/// What the events of the receipts are, in a word each.
+pub fn words(alloc: Global, settled: &Settled) -> Result<String, AllocError> {
+    let mut words = String::new(alloc);
+    for receipt in settled.receipts.as_slice() {
+        words.push_str(" ")?;
+        words.push_str(word_of(receipt))?;
+    }
+    Ok(words)
 }

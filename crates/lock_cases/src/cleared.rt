@@ -26,9 +26,14 @@ pub fn cleared<L: Origin, R: Wait>(
     let read = everything(rt, alloc, &shared, &seat)?;
     let mut seats = Vec::with_capacity(alloc, 1)?;
     seats.push(seat)?;
-    let result = calls::settled(rt, alloc, shared, seats);
-    let text = calls::outcome(alloc, &result)?;
-    format!(in alloc; "{read}then {text}")
+    match calls::settled(rt, alloc, shared, seats) {
+        Ok(settled) => {
+            let counts = calls::counts(alloc, &settled)?;
+            let words = calls::words(alloc, &settled)?;
+            format!(in alloc; "{read}then {counts}:{words}")
+        }
+        Err(error) => calls::refusal(alloc, &error.reason, error.seats.len()),
+    }
 }
 
 // A word for each reading: what was asked, how many items the answer has, and at which event.

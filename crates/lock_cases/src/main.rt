@@ -6,6 +6,7 @@ ghost use Rattle.std.specs.Prelude.{◌≡◌, ◌≤◌};
 mod books;
 mod calls;
 mod cleared;
+mod first_waits;
 mod scripts;
 mod two_threads;
 mod versions;

@@ -6,14 +6,15 @@ use crate::calls;
 use crate::calls::Asked;
 use shared_book::origin::Origin;
 use shared_book::seat::Seat;
+use shared_book::settle::SettleError;
 use shared_book::shared_book::SharedBook;
 use std::alloc::{AllocError, Global};
 use std::sync::Wait;
 use std::thread;
 use std::thread::Threads;
 
-/// Each thread serves 500 requests and makes 10 edits. Then the journal shows 1,000 requests. Without the second seat
-/// nothing is settled, and book and seats are handed back; with it, 1,020 events are.
+/// Each thread serves 500 requests and makes 10 edits, by an owner of its own. Then the journal shows 1,000 requests.
+/// Without the second seat nothing is settled, and book and seats are handed back; with it, 1,020 events are.
 pub fn two_threads<L: Origin + Send + Sync, R: Threads + Wait + Sync>(
     rt: &R,
     alloc: Global,
@@ -25,11 +26,13 @@ pub fn two_threads<L: Origin + Send + Sync, R: Threads + Wait + Sync>(
     let mut seat = seat;
     let one = seat.split();
     let two = seat.split();
-    let book = &shared;
+    let other = shared.try_clone()?;
+    let first = &shared;
+    let second = &other;
     let (one, two) = thread::join(
         rt,
-        move || work(rt, alloc, book, one),
-        move || work(rt, alloc, book, two),
+        move || work(rt, alloc, first, one),
+        move || work(rt, alloc, second, two),
     );
     let reading = calls::read(rt, alloc, &shared, &seat, Asked::Count)?;
     let number = reading.number;
@@ -65,14 +68,28 @@ fn settle_without<L: Origin, R: Wait>(
 ) -> Result<String, AllocError> {
     let mut seats = Vec::with_capacity(alloc, 2)?;
     seats.push(seat)?;
-    let first = calls::settled(rt, alloc, shared, seats);
-    let without = calls::outcome(alloc, &first)?;
-    let Err(error) = first else {
-        return Ok(without);
-    };
-    let mut seats = error.seats;
+    match calls::settled(rt, alloc, shared, seats) {
+        Ok(settled) => calls::counts(alloc, &settled),
+        Err(error) => settle_with(rt, alloc, error, other),
+    }
+}
+
+// Settles what came back, with the other seat.
+fn settle_with<L: Origin, R: Wait>(
+    rt: &R,
+    alloc: Global,
+    error: SettleError<L>,
+    other: Seat<L>,
+) -> Result<String, AllocError> {
+    let SettleError {
+        reason,
+        shared,
+        seats,
+        alone: _alone,
+    } = error;
+    let without = calls::refusal(alloc, &reason, seats.len())?;
+    let mut seats = seats;
     seats.push(other)?;
-    let second = calls::settled(rt, alloc, error.shared, seats);
-    let with = calls::outcome(alloc, &second)?;
+    let with = calls::outcome(alloc, calls::settled(rt, alloc, shared, seats))?;
     format!(in alloc; "{without}; then {with}")
 }
