@@ -167,9 +167,9 @@ pub fn settled<L: Origin, R: Wait>(
 /// How many events and receipts there are, or why there are none.
 pub fn outcome<L: Origin>(
     alloc: Global,
-    result: Result<Settled, SettleError<L>>,
+    ending: Result<Settled, SettleError<L>>,
 ) -> Result<String, AllocError> {
-    match result {
+    match ending {
         Ok(settled) => counts(alloc, &settled),
         Err(error) => refusal(alloc, &error.reason, error.seats.len()),
     }
