@@ -1,12 +1,12 @@
 //! Calls on a shared book. Each is made once more where it is refused: then memory ran out, and book and seat are as they
-//! were, so that nothing differs after the second call.
+//! were, so that nothing differs after the second call. One that is refused again is missing in what is counted.
 
 use crate::books;
-use crate::books::{Change, word_of};
+use crate::books::Change;
 use mapping_model::mapping_id::MappingId;
 use mapping_model::request_spec::RequestSpec;
 use request_match::request_matcher::RequestMatcher;
-use shared_book::book_read::{BookRead, ReadAnswer, Reading};
+use shared_book::book_read::{BookRead, Reading};
 use shared_book::origin::Origin;
 use shared_book::seat::Seat;
 use shared_book::settle::{SettleError, settle};
@@ -15,30 +15,27 @@ use shared_book::shared_book::SharedBook;
 use std::alloc::{AllocError, Global};
 use std::sync::Wait;
 
-/// Gives the number of the event.
 pub fn serve<L: Origin, R: Wait>(
     rt: &R,
     alloc: Global,
     shared: &SharedBook<L>,
     seat: &mut Seat<L>,
-) -> Result<u64, AllocError> {
-    match served(rt, alloc, shared, seat) {
-        Some(number) => Ok(number),
-        None => served(rt, alloc, shared, seat).ok_or(AllocError),
+) {
+    if !served(rt, alloc, shared, seat) {
+        let _accepted = served(rt, alloc, shared, seat);
     }
 }
 
-// The number of the event, where the request is accepted.
+// Whether it is accepted.
 fn served<L: Origin, R: Wait>(
     rt: &R,
     alloc: Global,
     shared: &SharedBook<L>,
     seat: &mut Seat<L>,
-) -> Option<u64> {
-    let request = books::request(alloc).ok()?;
-    match seat.serve(rt, shared, request) {
-        Ok(receipt) => Some(receipt.number),
-        Err(_error) => None,
+) -> bool {
+    match books::request(alloc) {
+        Ok(request) => seat.serve(rt, shared, request).is_ok(),
+        Err(_error) => false,
     }
 }
 
@@ -48,11 +45,10 @@ pub fn apply<L: Origin, R: Wait>(
     shared: &SharedBook<L>,
     seat: &mut Seat<L>,
     change: Change,
-) -> Result<(), AllocError> {
-    if applied(rt, alloc, shared, seat, change) || applied(rt, alloc, shared, seat, change) {
-        return Ok(());
+) {
+    if !applied(rt, alloc, shared, seat, change) {
+        let _accepted = applied(rt, alloc, shared, seat, change);
     }
-    Err(AllocError)
 }
 
 // Whether it is accepted.
@@ -104,7 +100,11 @@ fn read_once<L: Origin, R: Wait>(
     seat: &Seat<L>,
     asked: Asked,
 ) -> Result<Reading, AllocError> {
-    let read = match asked {
+    seat.read(rt, shared, question(alloc, asked)?)
+}
+
+fn question(alloc: Global, asked: Asked) -> Result<BookRead, AllocError> {
+    Ok(match asked {
         Asked::Mappings => BookRead::Mappings,
         Asked::Default => BookRead::Mapping(MappingId::of_default(alloc, 0)?),
         Asked::Unknown => BookRead::Mapping(MappingId::of_default(alloc, 1)?),
@@ -115,8 +115,7 @@ fn read_once<L: Origin, R: Wait>(
         Asked::Scenarios => BookRead::Scenarios,
         Asked::RecordingStatus => BookRead::RecordingStatus,
         Asked::Recording => BookRead::Recording,
-    };
-    seat.read(rt, shared, read)
+    })
 }
 
 // A matcher that every request meets.
@@ -125,27 +124,17 @@ fn any_request(alloc: Global) -> Result<RequestMatcher, AllocError> {
     matcher.ok().ok_or(AllocError)
 }
 
-/// How many items an answer has.
-pub fn size_of(answer: &ReadAnswer) -> usize {
-    match answer {
-        ReadAnswer::Mappings(mappings) => mappings.len(),
-        ReadAnswer::Mapping(mapping) => usize::from(mapping.is_some()),
-        ReadAnswer::Requests(entries) => entries.len(),
-        ReadAnswer::Count(count) => *count,
-        ReadAnswer::Scenarios { mappings, .. } => mappings.len(),
-        ReadAnswer::RecordingStatus(_status) => 1,
-        ReadAnswer::Recording(recording) => usize::from(recording.session().is_some()),
+pub fn join<L: Origin>(seat: &mut Seat<L>, other: Seat<L>) {
+    if let Err(other) = seat.join(other) {
+        let _joined = seat.join(other);
     }
 }
 
-pub fn join<L: Origin>(seat: &mut Seat<L>, other: Seat<L>) -> Result<(), AllocError> {
-    let Err(other) = seat.join(other) else {
-        return Ok(());
-    };
-    match seat.join(other) {
-        Ok(()) => Ok(()),
-        Err(_other) => Err(AllocError),
-    }
+/// A list of the seat, with room for another.
+pub fn list<L: Origin>(alloc: Global, seat: Seat<L>) -> Result<Vec<Seat<L>>, AllocError> {
+    let mut seats = Vec::with_capacity(alloc, 2)?;
+    seats.push(seat)?;
+    Ok(seats)
 }
 
 /// Settles a book with these seats.
@@ -162,42 +151,4 @@ pub fn settled<L: Origin, R: Wait>(
             _ => Err(error),
         },
     }
-}
-
-/// How many events and receipts there are, or why there are none.
-pub fn outcome<L: Origin>(
-    alloc: Global,
-    ending: Result<Settled, SettleError<L>>,
-) -> Result<String, AllocError> {
-    match ending {
-        Ok(settled) => counts(alloc, &settled),
-        Err(error) => refusal(alloc, &error.reason, error.seats.len()),
-    }
-}
-
-/// How many events and receipts there are.
-pub fn counts(alloc: Global, settled: &Settled) -> Result<String, AllocError> {
-    let events = settled.events;
-    let receipts = settled.receipts.len();
-    format!(in alloc; "{events} events, {receipts} receipts")
-}
-
-/// Why seats aren't settled, and how many of them came back.
-pub fn refusal(alloc: Global, reason: &SettleRefusal, seats: usize) -> Result<String, AllocError> {
-    let reason = match reason {
-        SettleRefusal::SeatsMissing => "seats missing",
-        SettleRefusal::Mismatch { .. } => "mismatch",
-        SettleRefusal::OutOfMemory => "out of memory",
-    };
-    format!(in alloc; "{reason}, {seats} handed back")
-}
-
-/// What the events of the receipts are, in a word each.
-pub fn words(alloc: Global, settled: &Settled) -> Result<String, AllocError> {
-    let mut words = String::new(alloc);
-    for receipt in settled.receipts.as_slice() {
-        words.push_str(" ")?;
-        words.push_str(word_of(receipt))?;
-    }
-    Ok(words)
 }

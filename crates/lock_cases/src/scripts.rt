@@ -1,9 +1,11 @@
 //! Two scripts, and a gate.
 ghost use Rattle.std.specs.Prelude.{◌≤◌};
 
+use crate::books;
 use crate::books::Change;
 use crate::first_waits::FirstWaits;
-use crate::{books, calls};
+use crate::words::{add_counts, add_number};
+use case_table::cells::Cells;
 use shared_book::origin::Origin;
 use shared_book::script::{Call, Script, run_scripts};
 use shared_book::seat::Seat;
@@ -17,29 +19,33 @@ use std::thread::Threads;
 pub fn scripts<L: Origin + Send + Sync, R: Threads + Wait + Sync>(
     rt: &R,
     alloc: Global,
+    cells: &mut Cells,
     shared: SharedBook<L>,
     seat: Seat<L>,
-) -> Result<String, AllocError>
+) -> Result<(), AllocError>
     requires { 3 ≤ seat.parts }
 {
     let gate = FirstWaits::new();
     let first = script(alloc)?;
     let second = script(alloc)?;
     match run_scripts(rt, alloc, shared, seat, first, second, &gate) {
-        Ok(settled) => words(alloc, &gate, &settled),
+        Ok(settled) => add_played(cells, &gate, &settled),
         Err(_error) => Err(AllocError),
     }
 }
 
 // A call that runs out of memory is refused, and its script goes on: then all is played again.
-fn words(alloc: Global, gate: &FirstWaits, settled: &Settled) -> Result<String, AllocError> {
+fn add_played(cells: &mut Cells, gate: &FirstWaits, settled: &Settled) -> Result<(), AllocError> {
     if settled.events != 1020 {
         return Err(AllocError);
     }
-    let count = gate.count();
-    let held = gate.outcome();
-    let counts = calls::counts(alloc, settled)?;
-    format!(in alloc; "gate called {count} times, the first {held}; {counts}")
+    cells.add("gate called ");
+    add_number(cells, gate.count());
+    cells.add(" times, the first ");
+    cells.add(gate.outcome());
+    cells.add("; ");
+    add_counts(cells, settled);
+    Ok(())
 }
 
 fn script(alloc: Global) -> Result<Script, AllocError> {
