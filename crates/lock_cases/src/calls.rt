@@ -1,12 +1,12 @@
 //! Calls on a shared book. Each is made once more where it is refused: then memory ran out, and book and seat are as they
-//! were, so that nothing differs after the second call.
+//! were, so that nothing differs after the second call. One that is refused again is missing in what is counted.
 
 use crate::books;
 use crate::books::Change;
 use mapping_model::mapping_id::MappingId;
 use mapping_model::request_spec::RequestSpec;
 use request_match::request_matcher::RequestMatcher;
-use shared_book::book_read::{BookRead, ReadAnswer, Reading};
+use shared_book::book_read::{BookRead, Reading};
 use shared_book::origin::Origin;
 use shared_book::seat::Seat;
 use shared_book::settle::{SettleError, settle};
@@ -20,11 +20,10 @@ pub fn serve<L: Origin, R: Wait>(
     alloc: Global,
     shared: &SharedBook<L>,
     seat: &mut Seat<L>,
-) -> Result<(), AllocError> {
-    if served(rt, alloc, shared, seat) || served(rt, alloc, shared, seat) {
-        return Ok(());
+) {
+    if !served(rt, alloc, shared, seat) {
+        let _accepted = served(rt, alloc, shared, seat);
     }
-    Err(AllocError)
 }
 
 // Whether it is accepted.
@@ -46,11 +45,10 @@ pub fn apply<L: Origin, R: Wait>(
     shared: &SharedBook<L>,
     seat: &mut Seat<L>,
     change: Change,
-) -> Result<(), AllocError> {
-    if applied(rt, alloc, shared, seat, change) || applied(rt, alloc, shared, seat, change) {
-        return Ok(());
+) {
+    if !applied(rt, alloc, shared, seat, change) {
+        let _accepted = applied(rt, alloc, shared, seat, change);
     }
-    Err(AllocError)
 }
 
 // Whether it is accepted.
@@ -102,7 +100,11 @@ fn read_once<L: Origin, R: Wait>(
     seat: &Seat<L>,
     asked: Asked,
 ) -> Result<Reading, AllocError> {
-    let read = match asked {
+    seat.read(rt, shared, question(alloc, asked)?)
+}
+
+fn question(alloc: Global, asked: Asked) -> Result<BookRead, AllocError> {
+    Ok(match asked {
         Asked::Mappings => BookRead::Mappings,
         Asked::Default => BookRead::Mapping(MappingId::of_default(alloc, 0)?),
         Asked::Unknown => BookRead::Mapping(MappingId::of_default(alloc, 1)?),
@@ -113,8 +115,7 @@ fn read_once<L: Origin, R: Wait>(
         Asked::Scenarios => BookRead::Scenarios,
         Asked::RecordingStatus => BookRead::RecordingStatus,
         Asked::Recording => BookRead::Recording,
-    };
-    seat.read(rt, shared, read)
+    })
 }
 
 // A matcher that every request meets.
@@ -123,27 +124,17 @@ fn any_request(alloc: Global) -> Result<RequestMatcher, AllocError> {
     matcher.ok().ok_or(AllocError)
 }
 
-/// How many items an answer has.
-pub fn size_of(answer: &ReadAnswer) -> usize {
-    match answer {
-        ReadAnswer::Mappings(mappings) => mappings.len(),
-        ReadAnswer::Mapping(mapping) => usize::from(mapping.is_some()),
-        ReadAnswer::Requests(entries) => entries.len(),
-        ReadAnswer::Count(count) => *count,
-        ReadAnswer::Scenarios { mappings, .. } => mappings.len(),
-        ReadAnswer::RecordingStatus(_status) => 1,
-        ReadAnswer::Recording(recording) => usize::from(recording.session().is_some()),
+pub fn join<L: Origin>(seat: &mut Seat<L>, other: Seat<L>) {
+    if let Err(other) = seat.join(other) {
+        let _joined = seat.join(other);
     }
 }
 
-pub fn join<L: Origin>(seat: &mut Seat<L>, other: Seat<L>) -> Result<(), AllocError> {
-    let Err(other) = seat.join(other) else {
-        return Ok(());
-    };
-    match seat.join(other) {
-        Ok(()) => Ok(()),
-        Err(_other) => Err(AllocError),
-    }
+/// A list of the seat, with room for another.
+pub fn list<L: Origin>(alloc: Global, seat: Seat<L>) -> Result<Vec<Seat<L>>, AllocError> {
+    let mut seats = Vec::with_capacity(alloc, 2)?;
+    seats.push(seat)?;
+    Ok(seats)
 }
 
 /// Settles a book with these seats.
@@ -159,28 +150,5 @@ pub fn settled<L: Origin, R: Wait>(
             SettleRefusal::OutOfMemory => settle(rt, alloc, error.shared, error.seats),
             _ => Err(error),
         },
-    }
-}
-
-/// How many events and receipts there are, or why there are none.
-pub fn outcome<L: Origin>(
-    alloc: Global,
-    settled: &Result<Settled, SettleError<L>>,
-) -> Result<String, AllocError> {
-    match settled {
-        Ok(settled) => {
-            let events = settled.events;
-            let receipts = settled.receipts.len();
-            format!(in alloc; "{events} events, {receipts} receipts")
-        }
-        Err(error) => {
-            let reason = match &error.reason {
-                SettleRefusal::SeatsMissing => "seats missing",
-                SettleRefusal::Mismatch { .. } => "mismatch",
-                SettleRefusal::OutOfMemory => "out of memory",
-            };
-            let seats = error.seats.len();
-            format!(in alloc; "{reason}, {seats} handed back")
-        }
     }
 }

@@ -3,7 +3,9 @@
 use crate::books::Change;
 use crate::calls;
 use crate::calls::Asked;
-use shared_book::book_read::ReadAnswer;
+use crate::one_seat::settle_seat;
+use crate::words::add_read;
+use case_table::cells::Cells;
 use shared_book::origin::Origin;
 use shared_book::seat::Seat;
 use shared_book::shared_book::SharedBook;
@@ -14,51 +16,46 @@ use std::sync::Wait;
 pub fn cleared<L: Origin, R: Wait>(
     rt: &R,
     alloc: Global,
+    cells: &mut Cells,
     shared: SharedBook<L>,
     seat: Seat<L>,
-) -> Result<String, AllocError> {
+) -> Result<(), AllocError> {
     let mut seat = seat;
-    calls::apply(rt, alloc, &shared, &mut seat, Change::Add)?;
-    calls::serve(rt, alloc, &shared, &mut seat)?;
-    calls::serve(rt, alloc, &shared, &mut seat)?;
-    calls::apply(rt, alloc, &shared, &mut seat, Change::Clear)?;
-    calls::serve(rt, alloc, &shared, &mut seat)?;
-    let read = everything(rt, alloc, &shared, &seat)?;
-    let mut seats = Vec::with_capacity(alloc, 1)?;
-    seats.push(seat)?;
-    let result = calls::settled(rt, alloc, shared, seats);
-    let text = calls::outcome(alloc, &result)?;
-    format!(in alloc; "{read}then {text}")
+    change(rt, alloc, &shared, &mut seat);
+    read_all(rt, alloc, cells, &shared, &seat)?;
+    settle_seat(rt, alloc, cells, shared, seat)
 }
 
-// A word for each reading: what was asked, how many items the answer has, and at which event.
-fn everything<L: Origin, R: Wait>(
+fn change<L: Origin, R: Wait>(rt: &R, alloc: Global, shared: &SharedBook<L>, seat: &mut Seat<L>) {
+    calls::apply(rt, alloc, shared, seat, Change::Add);
+    calls::serve(rt, alloc, shared, seat);
+    calls::serve(rt, alloc, shared, seat);
+    calls::apply(rt, alloc, shared, seat, Change::Clear);
+    calls::serve(rt, alloc, shared, seat);
+}
+
+fn read_all<L: Origin, R: Wait>(
     rt: &R,
     alloc: Global,
+    cells: &mut Cells,
     shared: &SharedBook<L>,
     seat: &Seat<L>,
-) -> Result<String, AllocError> {
-    let mut text = String::new(alloc);
-    for (name, asked) in [
-        ("mappings", Asked::Mappings),
-        ("default", Asked::Default),
-        ("unknown", Asked::Unknown),
-        ("requests", Asked::Requests),
-        ("unmatched", Asked::Unmatched),
-        ("found", Asked::Find),
-        ("counted", Asked::Count),
-        ("scenarios", Asked::Scenarios),
-        ("status", Asked::RecordingStatus),
-        ("recording", Asked::Recording),
-    ] {
-        let reading = calls::read(rt, alloc, shared, seat, asked)?;
-        let number = reading.number;
-        let size = calls::size_of(&reading.answer);
-        text.push_str(format!(in alloc; "{name} {size} at {number}, ")?.as_str())?;
-        if let ReadAnswer::Scenarios { states, .. } = &reading.answer {
-            text.push_str(states.state("s"))?;
-            text.push_str(", ")?;
-        }
+) -> Result<(), AllocError> {
+    for asked in [
+        Asked::Mappings,
+        Asked::Default,
+        Asked::Unknown,
+        Asked::Requests,
+        Asked::Unmatched,
+        Asked::Find,
+        Asked::Count,
+        Asked::Scenarios,
+        Asked::RecordingStatus,
+        Asked::Recording,
+    ]
+    .as_slice()
+    {
+        add_read(rt, alloc, cells, shared, seat, *asked)?;
     }
-    Ok(text)
+    Ok(())
 }

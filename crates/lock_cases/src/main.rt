@@ -6,13 +6,19 @@ ghost use Rattle.std.specs.Prelude.{◌≡◌, ◌≤◌};
 mod books;
 mod calls;
 mod cleared;
+mod first_waits;
+mod one_seat;
 mod scripts;
+mod threads;
 mod two_threads;
 mod versions;
+mod words;
 
+use case_table::cells::Cells;
 use cleared::cleared;
 use scripts::scripts;
 use shared_book::origin::Origin;
+use shared_book::seat::Seat;
 use shared_book::shared_book::SharedBook;
 use std::alloc::{AllocError, Global};
 use std::io;
@@ -35,15 +41,30 @@ enum Case {
     Cleared,
 }
 
+impl Case {
+    fn name(self) -> &'static str {
+        match self {
+            Case::TwoThreads => "two threads: ",
+            Case::Scripts => "scripts: ",
+            Case::Versions => "versions: ",
+            Case::Cleared => "cleared: ",
+        }
+    }
+}
+
 fn main(rt: HostRuntime) -> io::Result<()> {
-    let text = play_again(&rt, rt.alloc(), Case::TwoThreads)?;
-    println!(rt; "two threads: {text}")?;
-    let text = play_again(&rt, rt.alloc(), Case::Scripts)?;
-    println!(rt; "scripts: {text}")?;
-    let text = play_again(&rt, rt.alloc(), Case::Versions)?;
-    println!(rt; "versions: {text}")?;
-    let text = play_again(&rt, rt.alloc(), Case::Cleared)?;
-    println!(rt; "cleared: {text}")
+    for case in [
+        Case::TwoThreads,
+        Case::Scripts,
+        Case::Versions,
+        Case::Cleared,
+    ]
+    .as_slice()
+    {
+        let line = play_again(&rt, rt.alloc(), *case)?;
+        println!(rt; "{line}")?;
+    }
+    Ok(())
 }
 
 // Once more where memory ran out.
@@ -78,10 +99,26 @@ fn play_on<L: Origin + Send + Sync, R: Threads + Wait + Sync>(
     requires origin { book ≡ L.origin }
 {
     let (shared, seat) = SharedBook::<L>::new(alloc, blank, parts, book)?;
+    let mut cells = Cells::new(alloc);
+    cells.add(case.name());
+    play_case(rt, alloc, case, &mut cells, shared, seat)?;
+    cells.finish()
+}
+
+fn play_case<L: Origin + Send + Sync, R: Threads + Wait + Sync>(
+    rt: &R,
+    alloc: Global,
+    case: Case,
+    cells: &mut Cells,
+    shared: SharedBook<L>,
+    seat: Seat<L>,
+) -> Result<(), AllocError>
+    requires { 3 ≤ seat.parts }
+{
     match case {
-        Case::TwoThreads => two_threads(rt, alloc, shared, seat),
-        Case::Scripts => scripts(rt, alloc, shared, seat),
-        Case::Versions => versions(rt, alloc, shared, seat),
-        Case::Cleared => cleared(rt, alloc, shared, seat),
+        Case::TwoThreads => two_threads(rt, alloc, cells, shared, seat),
+        Case::Scripts => scripts(rt, alloc, cells, shared, seat),
+        Case::Versions => versions(rt, alloc, cells, shared, seat),
+        Case::Cleared => cleared(rt, alloc, cells, shared, seat),
     }
 }

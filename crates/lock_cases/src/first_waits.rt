@@ -1,0 +1,52 @@
+//! A gate that holds its first call until its second.
+
+use shared_book::gate::Gate;
+use std::sync::atomic::{AtomicU64, Ordering};
+
+/// Gives up after 100,000,000 turns.
+#[derive(Drop)]
+pub struct FirstWaits {
+    calls: AtomicU64,
+    /// Whether a call that was waited for didn't come.
+    gave_up: AtomicU64,
+}
+
+impl FirstWaits {
+    pub fn new() -> FirstWaits {
+        FirstWaits {
+            calls: AtomicU64::new(0),
+            gave_up: AtomicU64::new(0),
+        }
+    }
+
+    /// How often it was called.
+    pub fn count(&self) -> u64 {
+        self.calls.load(Ordering::SeqCst)
+    }
+
+    /// Waits until it was called this often.
+    pub fn wait_for(&self, count: u64) {
+        for _turn in 0..100_000_000u32 {
+            if self.count() >= count {
+                return;
+            }
+        }
+        self.gave_up.store(1, Ordering::SeqCst);
+    }
+
+    /// How its first call was held, in words.
+    pub fn outcome(&self) -> &'static str {
+        match self.gave_up.load(Ordering::SeqCst) {
+            0 => "held until the second",
+            _ => "given up",
+        }
+    }
+}
+
+impl Gate for FirstWaits {
+    fn between_choice_and_render(&self, _number: u64) {
+        if self.calls.fetch_add(1, Ordering::SeqCst) == 0 {
+            self.wait_for(2);
+        }
+    }
+}
