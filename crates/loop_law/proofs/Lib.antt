@@ -1,0 +1,5 @@
+mod Sums
+pub mod Nests
+mod Shares
+pub mod Due
+mod Examples
