@@ -1,6 +1,6 @@
-//! All paths of some segments. After the book a row gives a body, the methods, and for each segment of a path the words
-//! that it may be, with blanks between them. Added are how many paths there are, and the replies with another body, each
-//! with its method and its path.
+//! All paths of some segments. After the book a row gives a body, the methods, and for each segment of a path the
+//! words that it may be, with blanks between them. Added are how many paths there are, and the replies with another
+//! body, each with its method and its path.
 
 use crate::server::{add_reply, reply_to};
 use case_table::cells::Cells;

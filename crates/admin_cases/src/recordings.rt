@@ -1,5 +1,5 @@
-//! What is read and written of recordings. A row gives `start` and a body, `status` and a word, or `recorded`, how many
-//! exchanges were skipped, and a document of mappings with ids.
+//! What is read and written of recordings. A row gives `start` and a body, `status` and a word, or `recorded`, how
+//! many exchanges were skipped, and a document of mappings with ids.
 
 use crate::books::mappings_of;
 use admin_json::error::BodyError;

@@ -1,4 +1,5 @@
-//! What a server answers to a request: the book's answer to an admin call, or the response of the mapping that is chosen.
+//! What a server answers to a request: the book's answer to an admin call, or the response of the mapping that is
+//! chosen.
 
 use crate::octets::add_octets;
 use admin_answers::answer::answer_admin;
