@@ -1,30 +1,47 @@
-//! Compares what `admin_table`, `admin_routes` and `admin_json` answer with the tables in `data/`.
+//! Compares what a shared book answers to admin calls and to other requests, and what `admin_json` reads and writes of
+//! recordings, with the tables in `data/`.
 #![tactic(auto)]
 
-mod bodies;
-mod calls;
+mod books;
+mod octets;
 mod paths;
+mod recordings;
 mod requests;
-mod routes;
+mod server;
 mod table;
-mod values;
 
 use case_table::compare::compare_all;
 use std::io;
 use std::process::ExitCode;
-use table::Table;
+use table::{Rows, Table};
 
 fn main(rt: HostRuntime) -> io::Result<ExitCode> {
-    compare_all(
-        &rt,
-        [
-            Table::Paths,
-            Table::Routes,
-            Table::Calls,
-            Table::Bodies,
-            Table::Values,
-            Table::Requests,
-        ]
-        .as_slice(),
-    )
+    let tables = [
+        Table {
+            rt,
+            file: "calls.tsv",
+            rows: Rows::Calls,
+        },
+        Table {
+            rt,
+            file: "books.tsv",
+            rows: Rows::Calls,
+        },
+        Table {
+            rt,
+            file: "scripts.tsv",
+            rows: Rows::Calls,
+        },
+        Table {
+            rt,
+            file: "paths.tsv",
+            rows: Rows::Paths,
+        },
+        Table {
+            rt,
+            file: "recordings.tsv",
+            rows: Rows::Recordings,
+        },
+    ];
+    compare_all(&rt, tables.as_slice())
 }

@@ -1,91 +1,79 @@
-//! All paths of some segments. A row gives the first segment and how many follow it.
+//! All paths of some segments. After the book a row gives a body, the methods, and for each segment of a path the words
+//! that it may be, with blanks between them. Added are how many paths there are, and the replies with another body, each
+//! with its method and its path.
 
-use crate::routes::{call_of, name_of, parameter_of};
-use admin_table::route::Route;
+use crate::server::{add_reply, reply_to};
 use case_table::cells::Cells;
 use case_table::row::Row;
+use mapping_model::reply::Reply;
+use mock_request::snapshot::Snapshot;
+use shared_book::origin::Origin;
+use shared_book::seat::Seat;
+use shared_book::shared_book::SharedBook;
 use std::alloc::{AllocError, Global};
+use std::sync::Wait;
 
-const METHODS: [&str; 6] = ["GET", "POST", "PUT", "DELETE", "PATCH", "get"];
-
-/// How many words there are.
-const WORDS: u32 = 11;
-
-/// The calls among all paths with this first segment and so many more out of the words, with each method: how many,
-/// and each with its method and its path.
-pub fn answer(alloc: Global, row: &Row) -> Result<String, AllocError> {
-    let more = row.cell(1).parse::<u32>().unwrap_or(0);
-    let mut found = Cells::new(alloc);
-    let mut calls = 0u32;
-    for index in 0..paths_of(more) {
-        let path = path_at(alloc, row.cell(0), more, index)?;
-        calls = calls.saturating_add(add_calls(&mut found, path.as_str()));
-    }
-    let mut cells = Cells::new(alloc);
+pub fn add_paths<L: Origin, R: Wait>(
+    rt: &R,
+    alloc: Global,
+    shared: &SharedBook<L>,
+    seat: &mut Seat<L>,
+    cells: &mut Cells,
+    row: &Row,
+) -> Result<(), AllocError> {
+    let paths = paths_of(alloc, row)?;
     cells.add_cell("");
-    cells.add_number(calls);
-    cells.add(found.finish()?.as_str());
-    cells.finish()
-}
-
-// How many paths have so many more segments.
-fn paths_of(more: u32) -> u32 {
-    match more {
-        0 => 1,
-        1 => WORDS,
-        2 => WORDS * WORDS,
-        _ => WORDS * WORDS * WORDS,
-    }
-}
-
-fn path_at(alloc: Global, first: &str, more: u32, index: u32) -> Result<String, AllocError> {
-    let mut path = String::from_str(alloc, "/__admin/")?;
-    path.push_str(first)?;
-    let mut rest = index;
-    for _ in 0..more {
-        path.push('/')?;
-        path.push_str(word(rest % WORDS))?;
-        rest /= WORDS;
-    }
-    Ok(path)
-}
-
-fn word(index: u32) -> &'static str {
-    match index {
-        0 => "mappings",
-        1 => "reset",
-        2 => "requests",
-        3 => "unmatched",
-        4 => "find",
-        5 => "count",
-        6 => "scenarios",
-        7 => "state",
-        8 => "recordings",
-        9 => "x",
-        _ => "",
-    }
-}
-
-// Adds the calls of the path, and says how many.
-fn add_calls(cells: &mut Cells, path: &str) -> u32 {
-    let mut calls = 0u32;
-    for method in METHODS.as_slice() {
-        if let Some(found) = call_of(method, path) {
-            add_call(cells, method, path, &found);
-            calls = calls.saturating_add(1);
+    cells.add_number(u32::try_from(paths.len()).unwrap_or(0));
+    for path in paths.as_slice() {
+        for method in row.cell(3).split(' ') {
+            let request = Snapshot::new(alloc, method, path.as_str(), &[], &[]);
+            let reply = reply_to(rt, alloc, shared, seat, request)?;
+            add_other(alloc, cells, row.cell(2), method, path.as_str(), &reply)?;
         }
     }
-    calls
+    Ok(())
 }
 
-fn add_call(cells: &mut Cells, method: &str, path: &str, found: &Route<'_>) {
+fn add_other(
+    alloc: Global,
+    cells: &mut Cells,
+    body: &str,
+    method: &str,
+    path: &str,
+    reply: &Reply,
+) -> Result<(), AllocError> {
+    if reply.body.as_slice() == body.as_bytes() {
+        return Ok(());
+    }
     cells.add_cell(method);
     cells.add(" ");
     cells.add(path);
-    cells.add(" ");
-    cells.add(name_of(found));
-    if let Some(parameter) = parameter_of(found) {
-        cells.add(" ");
-        cells.add(parameter);
+    add_reply(alloc, cells, reply)
+}
+
+fn paths_of(alloc: Global, row: &Row) -> Result<Vec<String>, AllocError> {
+    let mut paths = Vec::new(alloc);
+    paths.push(String::from_str(alloc, "/__admin")?)?;
+    for words in row.given.get(4..).unwrap_or(&[]) {
+        paths = longer(alloc, paths.as_slice(), words.as_str())?;
     }
+    Ok(paths)
+}
+
+// Each path with each of the words after it.
+fn longer(alloc: Global, paths: &[String], words: &str) -> Result<Vec<String>, AllocError> {
+    let mut longer = Vec::new(alloc);
+    for path in paths {
+        for word in words.split(' ') {
+            longer.push(joined(alloc, path.as_str(), word)?)?;
+        }
+    }
+    Ok(longer)
+}
+
+fn joined(alloc: Global, path: &str, word: &str) -> Result<String, AllocError> {
+    let mut joined = String::from_str(alloc, path)?;
+    joined.push_str("/")?;
+    joined.push_str(word)?;
+    Ok(joined)
 }

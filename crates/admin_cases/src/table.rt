@@ -1,42 +1,39 @@
-//! The tables, and which call each of them is about.
+//! The tables, and what their rows are.
 
-use crate::{bodies, calls, paths, requests, routes, values};
+use crate::{books, recordings};
 use case_table::compare::CaseTable;
 use case_table::row::Row;
 use std::alloc::{AllocError, Global};
+use std::sync::Wait;
 
-/// A table, named for what it has in each row.
+/// What the rows of a table are.
 #[derive(Clone, Copy)]
-pub enum Table {
-    /// All paths of one to four segments out of some words, with each method.
-    Paths,
-    Routes,
+pub enum Rows {
+    /// Calls on a book, one after the other.
     Calls,
-    Bodies,
-    Values,
-    Requests,
+    /// All paths of some segments, with some methods.
+    Paths,
+    /// What is read and written of recordings.
+    Recordings,
 }
 
-impl CaseTable for Table {
+#[derive(Clone, Copy)]
+pub struct Table<R: Wait> {
+    pub rt: R,
+    pub file: &'static str,
+    pub rows: Rows,
+}
+
+impl<R: Wait + Copy> CaseTable for Table<R> {
     fn file(self) -> &'static str {
-        match self {
-            Table::Paths => "paths.tsv",
-            Table::Routes => "routes.tsv",
-            Table::Calls => "calls.tsv",
-            Table::Bodies => "bodies.tsv",
-            Table::Values => "values.tsv",
-            Table::Requests => "requests.tsv",
-        }
+        self.file
     }
 
     fn answer(self, alloc: Global, row: &Row) -> Result<String, AllocError> {
-        match self {
-            Table::Paths => paths::answer(alloc, row),
-            Table::Routes => routes::answer(alloc, row),
-            Table::Calls => calls::answer(alloc, row),
-            Table::Bodies => bodies::answer(alloc, row),
-            Table::Values => values::answer(alloc, row),
-            Table::Requests => requests::answer(alloc, row),
+        match self.rows {
+            Rows::Calls => books::answer(&self.rt, alloc, row, false),
+            Rows::Paths => books::answer(&self.rt, alloc, row, true),
+            Rows::Recordings => recordings::answer(alloc, row),
         }
     }
 }

@@ -3,6 +3,7 @@ use Rattle.std.specs.Prelude.{◌≡◌, ℕ, Bool, ◌&&◌, List, [], fold, le
 use Rattle.std.specs.List.{list_all}
 use Rattle.http.specs.Response.{head_of, body_of}
 use Rattle.http.specs.declared.response.Response.{Response}
+use Rattle.http.specs.declared.version.TheConstants.Version.{HTTP_11}
 use Rattle.http_body_util.specs.declared.full.Full.{Full}
 use Rattle.http_header.specs.FieldValue.{FieldValue, plain_value}
 use Rattle.http_header.specs.HeaderMap.{Entries, append}
@@ -30,6 +31,7 @@ abbrev pub content : Full (List ℕ) → List ℕ
 content body = unwrap_or body.buf []
 
 pub record IsResponseOf (reply : Reply) (response : Response (Full (List ℕ))) : Type 0 where
+  pub version : (head_of response).version ≡ HTTP_11
   pub status : (head_of response).status ≡ response_status reply.status
   pub headers : (head_of response).headers ≡ headers_of reply.headers
   pub body : content (body_of response) ≡ reply.body

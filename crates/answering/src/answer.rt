@@ -1,6 +1,7 @@
 // The response to a message.
 ghost use Rattle.std.specs.Prelude.{◌≡◌, ◌⊎◌, IfErr, IfOk, MatchResult};
 ghost use Rattle.error_code.specs.declared.error_code.ErrorCode.TheVariants.{OutOfMemory};
+ghost use Rattle.http_messages.specs.declared.error.ServiceError.TheVariants.{OutOfMemory as NoMemory};
 ghost use Rattle.answering.specs.Reply.{IsResponseOf};
 ghost use Rattle.answering.specs.Answering.{IsAnswered, IsNotAnswered, IsReply};
 ghost use Rattle.stub_response.specs.ErrorReply.{error_reply};
@@ -31,7 +32,8 @@ pub fn answer<L: Origin, R: Wait, G: Gate>(
     message: Request<Bytes>,
 ) -> Result<Response<Full<Bytes>>, ServiceError>
     ensures ok { IfOk result (IsAnswered L.origin site.now.limits seat.old seat.new message) }
-    ensures err { IfErr result (λ _. IsNotAnswered L.origin site.now.limits seat.old seat.new message) }
+    ensures err { IfErr result (λ error. (error ≡ NoMemory)
+        × IsNotAnswered L.origin site.now.limits seat.old seat.new message) }
 {
     match written(rt, alloc, site, seat, &message) {
         Ok(response) => Ok(response),

@@ -1,4 +1,6 @@
 // The connections of a listener, until as many as are wanted were served.
+ghost use Rattle.std.specs.Prelude.{◌≤◌};
+
 use crate::site_answers::SiteAnswers;
 use answering::site::Site;
 use command_output::error::CommandError;
@@ -39,6 +41,7 @@ where
     G: Gate + Drop,
     O: Write,
     E: Write,
+    ensures { result ≤ 1 }
 {
     if announce(&listener, out).is_err() {
         return FAILURE;
@@ -99,7 +102,9 @@ fn report<O: Write, E: Write>(
     end: End,
     out: &mut O,
     err: &mut E,
-) -> u8 {
+) -> u8
+    ensures { result ≤ 1 }
+{
     match settled {
         Ok(events) => match write!(out, "settled {events} events\n") {
             Ok(()) => report_end(end, err),
@@ -112,7 +117,9 @@ fn report<O: Write, E: Write>(
     }
 }
 
-fn report_end<E: Write>(end: End, err: &mut E) -> u8 {
+fn report_end<E: Write>(end: End, err: &mut E) -> u8
+    ensures { result ≤ 1 }
+{
     match end {
         End::AllServed => return SUCCESS,
         End::AcceptFailed => report_line("error: accept failed\n", err),

@@ -23,7 +23,7 @@ use Rattle.request_journal.specs.declared.event.ServeAnswer.{ServeAnswer}
 use Rattle.request_journal.specs.declared.event.ServeAnswer.TheVariants.{Stub, Proxy, Unmatched}
 use Rattle.request_journal.specs.declared.limits.TheConstants.{LIVE_LIMIT}
 use Rattle.stub_response.specs.ErrorReply.{unmatched_reply}
-use Rattle.stub_response.specs.Response.{IsResponse}
+use Rattle.stub_response.specs.Response.{IsRendering, IsResponse}
 use Rattle.stub_response.specs.declared.limits.Limits.{Limits}
 use Rattle.stub_response.specs.declared.limits.TheConstants.{STEP_LIMIT, BYTE_LIMIT}
 
@@ -44,10 +44,12 @@ reply_text reply =
 abbrev pub usual_limits : Limits
 usual_limits = record { steps = STEP_LIMIT; bytes = BYTE_LIMIT }
 
--- by what the book answers the request with: the response of the mapping that it chose, or a 404. Without a recording
--- nothing is sent on
+-- by what the book answers the request with: the response of the mapping that it chose, with the runs that wrote its
+-- texts, or a 404. Without a recording nothing is sent on
 abbrev pub IsReplyBy : ServeAnswer → Request → Reply → Type 0
-IsReplyBy (Stub captured) request reply = IsResponse usual_limits captured.mapping.spec request reply
+IsReplyBy (Stub captured) request reply =
+    IsResponse usual_limits captured.mapping.spec request reply
+    × IsRendering usual_limits captured.mapping.spec request reply
 IsReplyBy (Proxy target) request reply = ⊥
 IsReplyBy Unmatched request reply = reply ≡ unmatched_reply
 
@@ -61,6 +63,8 @@ IsRequest method target request =
 pub record IsReply (bytes method target : List ℕ) (reply : Reply) : Type 0 where
   pub mappings : List MappingSpec
   pub document : SpellMappings bytes mappings
+  -- a book can be opened with them
+  pub few : length (live (opened 0 mappings)) ≤ LIVE_LIMIT
   pub request : Request
   pub asked : IsRequest method target request
   pub answer : ServeAnswer

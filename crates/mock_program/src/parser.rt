@@ -8,7 +8,10 @@ ghost use Rattle.mock_program.specs.Inner.Parser.{is_taken, mock_app, render_in,
 use clap::{Arg, ArgMatches, Command, Error};
 use std::alloc::{AllocError, Global};
 
-const MOCK_HELP: &str = "Examples:
+const MOCK_HELP: &str = "Server:
+  serve   Serves the mappings of a file over HTTP; `mock serve --help` tells how
+
+Examples:
   mock render 'Hello {{request.path.[1]}}' GET /hi/Ann
   mock check mappings.json
   mock answer mappings.json GET /hi/Ann

@@ -1,4 +1,11 @@
 //! The command line of the program: `mock serve` is done here, each other command by `mock_program`.
+ghost use Rattle.std.specs.Prelude.{◌≡◌, ◌⊎◌, ◌≤◌, map, string_bytes};
+ghost use Rattle.command_output.specs.Output.{WritesOneStream};
+ghost use Rattle.mock_program.specs.CommandLine.{AreInvalid, Asked, AsksFor, CallsForHelp};
+ghost use Rattle.mock_program.specs.Commands.{Does};
+ghost use Rattle.mock_serving.specs.CommandLine.{AskToServe};
+ghost use Rattle.mock_serving.specs.Inner.Arguments.{ask_to_serve};
+
 use crate::arguments::serve_arguments;
 use crate::serve::serve;
 use command_output::error::CommandError;
@@ -21,12 +28,33 @@ where
     R: Wait + Net + Clock + RandomSource + AllocGlobal + FileReader + Copy + Drop,
     O: Write,
     E: Write,
+    // Arguments that ask for a command other than `serve` do what that command does, each argument taken as it is.
+    ensures command { (asked : Asked) → AsksFor (map string_bytes arguments.now) asked
+        → Does O.contents E.contents (R.content rt) asked out.old out.new err.old err.new result }
+
+    // Help is no mistake, and invalid arguments are one. Where the text can't be made or written, the status is 1.
+    ensures help { CallsForHelp (map string_bytes arguments.now) → (result ≡ 0) ⊎ (result ≡ 1) }
+    ensures invalid { AreInvalid (map string_bytes arguments.now) → ¬ (AskToServe (map string_bytes arguments.now))
+        → (result ≡ 2) ⊎ (result ≡ 1) }
+    ensures range { result ≤ 2 }
+
+    // What the other commands write goes to one of both streams.
+    ensures streams { ¬ (AskToServe (map string_bytes arguments.now))
+        → WritesOneStream out.old out.new err.old err.new result }
+{
+    if ask_to_serve(arguments) {
+        run_serve(rt, arguments, out, err)
+    } else {
+        mock_program::command_line::run(rt.alloc(), &rt, arguments, out, err)
+    }
+}
+
+fn ask_to_serve(arguments: &[String]) -> bool
+    ensures { result ≡ ask_to_serve (map string_bytes arguments.now) }
 {
     match arguments {
-        [_program, command, ..] if command.as_str() == "serve" => {
-            run_serve(rt, &arguments[1..], out, err)
-        }
-        _ => mock_program::command_line::run(rt.alloc(), &rt, arguments, out, err),
+        [_program, command, ..] => command.as_str() == "serve",
+        _ => false,
     }
 }
 
@@ -35,6 +63,7 @@ where
     R: Wait + Net + Clock + RandomSource + AllocGlobal + FileReader + Copy + Drop,
     O: Write,
     E: Write,
+    ensures { result ≤ 2 }
 {
     let Ok(words) = words_of(rt.alloc(), arguments) else {
         CommandError::from(ErrorCode::OutOfMemory).report(err);
@@ -47,12 +76,14 @@ where
     }
 }
 
-// The words that the parser is given: the program's name, and the arguments.
+// The words that the parser is given: the program's name as it is known, and the arguments after it.
 fn words_of<'a>(alloc: Global, arguments: &'a [String]) -> Result<Vec<&'a str>, AllocError> {
     let mut words = Vec::with_capacity(alloc, arguments.len().saturating_add(1))?;
     words.push("mock")?;
-    for argument in arguments {
-        words.push(argument.as_str())?;
+    if let [_program, given @ ..] = arguments {
+        for argument in given {
+            words.push(argument.as_str())?;
+        }
     }
     Ok(words)
 }

@@ -1,5 +1,5 @@
 // The server of a book.
-ghost use Rattle.std.specs.Prelude.{◌≡◌, ◌<◌};
+ghost use Rattle.std.specs.Prelude.{◌≡◌, ◌<◌, ◌≤◌};
 
 use crate::arguments::ServeArguments;
 use crate::book::book_of;
@@ -37,6 +37,7 @@ where
     R: Wait + Net + Clock + RandomSource + AllocGlobal + FileReader + Copy + Drop,
     O: Write,
     E: Write,
+    ensures { result ≤ 1 }
 {
     match book_of(rt.alloc(), &rt, arguments.mappings, err) {
         Some(book) => {
@@ -65,6 +66,7 @@ where
     requires parts { parts ≡ L.parts }
     requires some { 0 < parts }
     requires origin { book ≡ L.origin }
+    ensures { result ≤ 1 }
 {
     let Ok((book, seat)) = SharedBook::<L>::new(rt.alloc(), blank, parts, book) else {
         CommandError::from(ErrorCode::OutOfMemory).report(err);

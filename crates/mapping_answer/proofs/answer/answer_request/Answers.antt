@@ -1,5 +1,7 @@
-use Rattle.std.proofs.Common.{subst}
+use Rattle.std.proofs.Common.{◌≤◌, length, subst}
 use Rattle.request_journal.specs.Choice.{IsChoice}
+use Rattle.request_journal.specs.Live.{live}
+use Rattle.request_journal.specs.declared.limits.TheConstants.{LIVE_LIMIT}
 use Rattle.mapping_answer.proofs.answer.answer_request.Goals as goal
 
 pub returns-clause-reply : goal.returns-clause-reply
@@ -11,6 +13,7 @@ returns-clause-reply c =
       record {
         mappings = fresh.0;
         document = fresh.1;
+        few = subst (λ p. length (live p) ≤ LIVE_LIMIT) fresh.2 fresh.3;
         request = request;
         asked = c.in_ok-request.ensures.ok;
         answer = answer;

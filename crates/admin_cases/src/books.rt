@@ -1,0 +1,91 @@
+//! Calls on a shared book. A row gives the number that the book is opened with, its default mappings (a document, or
+//! nothing), and the calls.
+ghost use Rattle.std.specs.Prelude.{◌≡◌, ◌<◌};
+
+use crate::paths::add_paths;
+use crate::requests::request_of;
+use crate::server::{add_reply, reply_to};
+use case_table::cells::Cells;
+use case_table::row::Row;
+use mapping_json::read::read_mappings;
+use request_match::ready_mapping::ReadyMapping;
+use shared_book::origin::Origin;
+use shared_book::seat::Seat;
+use shared_book::shared_book::SharedBook;
+use std::alloc::{AllocError, Global};
+use std::marker::Brand;
+use std::sync::Wait;
+use std::sync::ledger::Blank;
+use stub_book::book::Book;
+
+/// Into how many parts the ledger is cut: one, for the one seat.
+const PARTS: u64 = 1;
+
+/// The replies. Where memory runs out the whole row is played once more, on a book of its own.
+pub fn answer<R: Wait>(
+    rt: &R,
+    alloc: Global,
+    row: &Row,
+    has_paths: bool,
+) -> Result<String, AllocError> {
+    let book = book_of(alloc, row)?;
+    play::<Brand, R>(rt, alloc, Blank::new(PARTS), PARTS, book, row, has_paths)
+}
+
+// No book is refused.
+fn book_of(alloc: Global, row: &Row) -> Result<Book, AllocError> {
+    let opening = row.cell(0).parse::<u64>().unwrap_or(0);
+    let book = Book::new(alloc, mappings_of(alloc, row.cell(1))?, opening);
+    book.ok().ok_or(AllocError)
+}
+
+/// The mappings of a document, or of no text none. None of the documents is refused.
+pub fn mappings_of(alloc: Global, document: &str) -> Result<Vec<ReadyMapping>, AllocError> {
+    if document.is_empty() {
+        return Ok(Vec::new(alloc));
+    }
+    let mappings = read_mappings(alloc, document.as_bytes());
+    mappings.ok().ok_or(AllocError)
+}
+
+fn play<L: Origin, R: Wait>(
+    rt: &R,
+    alloc: Global,
+    blank: Blank,
+    parts: u64,
+    book: Book,
+    row: &Row,
+    has_paths: bool,
+) -> Result<String, AllocError>
+    requires name { blank.name ≡ L.name }
+    requires ledger { blank.parts ≡ L.parts }
+    requires parts { parts ≡ L.parts }
+    requires some { 0 < parts }
+    requires origin { book ≡ L.origin }
+{
+    let (shared, seat) = SharedBook::<L>::new(alloc, blank, parts, book)?;
+    let mut seat = seat;
+    let mut cells = Cells::new(alloc);
+    if has_paths {
+        add_paths(rt, alloc, &shared, &mut seat, &mut cells, row)?;
+    } else {
+        add_calls(rt, alloc, &shared, &mut seat, &mut cells, row)?;
+    }
+    cells.finish()
+}
+
+// A call has four cells: its method, its target, its header lines with a line feed between two, and its body.
+fn add_calls<L: Origin, R: Wait>(
+    rt: &R,
+    alloc: Global,
+    shared: &SharedBook<L>,
+    seat: &mut Seat<L>,
+    cells: &mut Cells,
+    row: &Row,
+) -> Result<(), AllocError> {
+    for call in row.given.get(2..).unwrap_or(&[]).chunks(4) {
+        let reply = reply_to(rt, alloc, shared, seat, request_of(alloc, call))?;
+        add_reply(alloc, cells, &reply)?;
+    }
+    Ok(())
+}

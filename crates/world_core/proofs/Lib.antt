@@ -1,0 +1,16 @@
+pub mod AnsweredRuns
+pub mod GroupLemmas
+pub mod Grown
+pub mod HeldLemmas
+pub mod LegalRuns
+pub mod ListFacts
+pub mod MovedRuns
+pub mod NameLemmas
+pub mod Replayed
+pub mod ReplayedRuns
+pub mod ReplyLemmas
+pub mod RequestLemmas
+pub mod Runs
+pub mod SilentRuns
+pub mod StepLemmas
+pub mod StubMembers

@@ -1,0 +1,3 @@
+pub mod Schedule
+pub mod Laws
+pub mod Replay

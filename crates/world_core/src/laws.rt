@@ -1,0 +1,57 @@
+// What holds of every schedule. They are laws over the definitions that the calls of this crate cite, so the functions do
+// nothing.
+ghost use Rattle.std.specs.Prelude.{◌≡◌, ℕ, List, [], ◌∷◌, ◌++◌, length, map, None, unwrap_or};
+ghost use Rattle.mapping_model.specs.declared.reply.Reply.{Reply};
+ghost use Rattle.mock_request.specs.Request.{Request};
+ghost use Rattle.recorder.specs.declared.exchange.Exchange.{Exchange};
+ghost use Rattle.request_journal.specs.Events.{last_of};
+ghost use Rattle.request_journal.specs.Legal.{IsLegal};
+ghost use Rattle.request_journal.specs.State.{state, touch};
+ghost use Rattle.request_journal.specs.declared.event.Captured.{Captured};
+ghost use Rattle.world_core.specs.Laws.{IsAnswered, IsLastChoice, IsServedOnce, events_of, giving, silent};
+ghost use Rattle.world_core.specs.Replay.{HasRecorded, IsReplayable, replies_of, sending};
+ghost use Rattle.world_core.specs.Schedule.{IsRun, IsStep, Outcome, WorldState};
+ghost use Rattle.world_core.specs.declared.step.Call.TheVariants.{Serve};
+ghost use Rattle.world_core.specs.declared.step.Step.{Step};
+ghost use Rattle.world_core.specs.declared.step.Step.TheVariants.{Act, Finish};
+
+/// The history of each schedule is legal.
+#[tactic(auto, using(crate::proofs::LegalRuns::legal_run))]
+pub fn law_legal()
+    ensures { (start end : WorldState) (steps : List Step) (outcomes : List Outcome)
+        → IsLegal start.past → IsRun start steps outcomes end → IsLegal end.past }
+{}
+
+/// Wherever in a schedule a finish gives a reply, it is the response of the version that was chosen at its actor's act,
+/// whatever came between. It gives none only where no mapping was chosen for its actor since that actor's last finish.
+pub fn law_response()
+    ensures given { (start end : WorldState) (steps after : List Step) (outcomes more : List Outcome) (actor : ℕ) (reply : Reply)
+        → start.held ≡ [] → length steps ≡ length outcomes
+        → IsRun start (steps ++ Finish actor ∷ after) (outcomes ++ giving reply ∷ more) end
+        → IsAnswered start steps outcomes actor reply }
+    ensures silent { (start end : WorldState) (steps after : List Step) (outcomes more : List Outcome) (actor : ℕ)
+        (request : Request) (captured : Captured) → length steps ≡ length outcomes
+        → IsRun start (steps ++ Finish actor ∷ after) (outcomes ++ silent ∷ more) end
+        → ¬ (IsLastChoice start steps outcomes actor request captured) }
+{}
+
+/// Each request that is served moves its scenario once, where its event is in the history, and a finish moves none.
+#[tactic(auto, using(crate::proofs::MovedRuns::moved_run, crate::proofs::MovedRuns::served_once, crate::proofs::MovedRuns::no_move))]
+pub fn law_once()
+    ensures served { (old new : WorldState) (actor : ℕ) (request : Request) (outcome : Outcome)
+        → IsStep old (Act actor (Serve request)) outcome new → IsServedOnce old request outcome.event new }
+    ensures finish { (old new : WorldState) (actor : ℕ) (outcome : Outcome)
+        → IsStep old (Finish actor) outcome new → (outcome.event ≡ None) × (new.past ≡ old.past) }
+    ensures schedule { (start end : WorldState) (steps : List Step) (outcomes : List Outcome) (name : List ℕ)
+        → IsRun start steps outcomes end
+        → state end.past name ≡ unwrap_or (last_of (touch name) (events_of outcomes)) (state start.past name) }
+{}
+
+/// Recorded requests that are sent again, in their order, to a book whose live mappings are those of the recording get the
+/// recorded replies.
+pub fn law_replay()
+    ensures { (captured : List (List ℕ)) (number : ℕ) (exchanges : List Exchange) (actor : ℕ) (start end : WorldState)
+        (outcomes : List Outcome) → IsReplayable captured exchanges
+        → HasRecorded captured number exchanges start.past → IsRun start (sending actor exchanges) outcomes end
+        → replies_of outcomes ≡ map (λ e. e.reply) exchanges }
+{}
