@@ -1,9 +1,11 @@
 //! A gate that holds its first call until its second.
 
 use shared_book::gate::Gate;
+use std::alloc::AllocError;
 use std::sync::atomic::{AtomicU64, Ordering};
+use std::thread;
 
-/// Gives up after 100,000,000 turns.
+/// Gives up after 20,000,000 turns, in each of which another thread may run.
 #[derive(Drop)]
 pub struct FirstWaits {
     calls: AtomicU64,
@@ -26,19 +28,20 @@ impl FirstWaits {
 
     /// Waits until it was called this often.
     pub fn wait_for(&self, count: u64) {
-        for _turn in 0..100_000_000u32 {
+        for _turn in 0..20_000_000u32 {
             if self.count() >= count {
                 return;
             }
+            thread::yield_now();
         }
         self.gave_up.store(1, Ordering::SeqCst);
     }
 
-    /// How its first call was held, in words.
-    pub fn outcome(&self) -> &'static str {
+    /// An error where it gave up: perhaps there was no memory for a thread.
+    pub fn held(&self) -> Result<(), AllocError> {
         match self.gave_up.load(Ordering::SeqCst) {
-            0 => "held until the second",
-            _ => "given up",
+            0 => Ok(()),
+            _ => Err(AllocError),
         }
     }
 }

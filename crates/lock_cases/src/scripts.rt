@@ -41,11 +41,9 @@ fn add_played(cells: &mut Cells, gate: &FirstWaits, settled: &Settled) -> Result
     }
     cells.add("gate called ");
     add_number(cells, gate.count());
-    cells.add(" times, the first ");
-    cells.add(gate.outcome());
-    cells.add("; ");
+    cells.add(" times, the first held until the second; ");
     add_counts(cells, settled);
-    Ok(())
+    gate.held()
 }
 
 fn script(alloc: Global) -> Result<Script, AllocError> {

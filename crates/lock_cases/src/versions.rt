@@ -38,16 +38,15 @@ pub fn versions<L: Origin + Send + Sync, R: Threads + Wait + Sync>(
         Job::Serve,
         Job::EditAndServe,
     );
-    cells.add("the first, ");
-    cells.add(gate.outcome());
-    cells.add(", has ");
+    cells.add("the first, held until the second, has ");
     cells.add(last_word(&one));
     cells.add(", the second ");
     cells.add(last_word(&two));
     cells.add("; ");
     let mut seat = one;
     calls::join(&mut seat, two);
-    settle_seat(rt, alloc, cells, shared, seat)
+    settle_seat(rt, alloc, cells, shared, seat)?;
+    gate.held()
 }
 
 fn last_word<L: Origin>(seat: &Seat<L>) -> &str {
