@@ -110,8 +110,8 @@ round-back c x y (n ∷ ns) [] h all = omega arith
 round-back c x y (n ∷ ns) (l ∷ ls) h all =
     let f = share_round c ns (n ∷ ns) in
     let skip =
-        from-skip f c.places x y h
-        (λ z le lt. skipped (inside (n ∷ ns) (nest c z)) (share_at c ns z) (all z le lt)) in
+    from-skip f c.places x y h
+    (λ z le lt. skipped (inside (n ∷ ns) (nest c z)) (share_at c ns z) (all z le lt)) in
     let here = value-le (from f c.places x) (from f c.places y) (item_size ls) skip in
     let rest = round-back c x y ns ls h (λ z le lt. inside-outer n ns (nest c z) (all z le lt)) in
     omega (here, rest, arith)
