@@ -1,0 +1,4 @@
+mod Sums
+mod Nests
+mod Shares
+pub mod Due
