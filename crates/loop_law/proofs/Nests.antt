@@ -60,22 +60,21 @@ inside-length outer ns h =
     (λ le. le)
     (cases_lt (length ns) (length outer))
 
-inside-drop_inner : (opener : ℕ) (outer ns : List ℕ) → inside (opener ∷ outer) ns ≡ true → inside outer ns ≡ true
-inside-drop_inner opener outer [] h = absurd (true≢false (sym h))
-inside-drop_inner opener outer (n ∷ ns) h = by (same_nest (opener ∷ outer) (n ∷ ns)) refl
+-- what lies in a loop lies in the loops round it
+pub inside-outer : (opener : ℕ) (outer ns : List ℕ) → inside (opener ∷ outer) ns ≡ true → inside outer ns ≡ true
+inside-outer opener outer [] h = absurd (true≢false (sym h))
+inside-outer opener outer (n ∷ ns) h =
+    by (λ k. inside-outer opener outer ns k) (same_nest (opener ∷ outer) (n ∷ ns)) refl
   where
-    by : (b : Bool) → same_nest (opener ∷ outer) (n ∷ ns) ≡ b → inside outer (n ∷ ns) ≡ true
-    by true e =
+    by : (inside (opener ∷ outer) ns ≡ true → inside outer ns ≡ true) → (b : Bool) →
+        same_nest (opener ∷ outer) (n ∷ ns) ≡ b → inside outer (n ∷ ns) ≡ true
+    by further true e =
         let same : outer ≡ ns = ap (drop 1) (same-true (opener ∷ outer) (n ∷ ns) e) in
         or-right (same_nest outer (n ∷ ns)) (inside outer ns)
         (subst (λ o. inside o ns ≡ true) (sym same) (inside-self ns))
-    by false e =
+    by further false e =
         or-right (same_nest outer (n ∷ ns)) (inside outer ns)
-        (inside-drop_inner opener outer ns (or-false (same_nest (opener ∷ outer) (n ∷ ns)) (inside (opener ∷ outer) ns) e h))
-
--- what lies in a loop lies in the loops round it
-pub inside-outer : (opener : ℕ) (outer ns : List ℕ) → inside (opener ∷ outer) ns ≡ true → inside outer ns ≡ true
-inside-outer opener outer ns h = inside-drop_inner opener outer ns h
+        (further (or-false (same_nest (opener ∷ outer) (n ∷ ns)) (inside (opener ∷ outer) ns) e h))
 
 step-open : (opener y : ℕ) (outer ns : List ℕ) → opener < y → inside (opener ∷ outer) (y ∷ ns) ≡ true →
     inside (opener ∷ outer) ns ≡ true

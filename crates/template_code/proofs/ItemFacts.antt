@@ -23,13 +23,20 @@ opened-open : (a next : ℕ) (over : Tree) (found : List Tree) (loops : List Loo
 opened-open a next over [] loops e h = h
 opened-open a next over (item ∷ more) loops e h = (omega (arith, ap length e), h)
 
+abbrev again : ℕ → Loop → List Loop → Way
+again start l loops = record { index = start; loops = record { over = l.over; turn = suc l.turn } ∷ loops }
+
+abbrev left : ℕ → List Loop → Way
+left next loops = record { index = next; loops = loops }
+
 closed-open : (a next : ℕ) (l : Loop) (loops : List Loop) → HaveItems loops →
     HaveItems (closed a next l loops).loops
 closed-open a next l loops h = by (has_next l) refl
   where
-    by : (b : Bool) → has_next l ≡ b →
-        HaveItems (if b then record { index = a; loops = record { over = l.over; turn = suc l.turn } ∷ loops }
-            else record { index = next; loops = loops }).loops
+    one_of : Bool → Way
+    one_of b = if b then again a l loops else left next loops
+
+    by : (b : Bool) → has_next l ≡ b → HaveItems (one_of b).loops
     by true e = (ltb-true (suc l.turn) (length (items l.over)) e, h)
     by false e = h
 

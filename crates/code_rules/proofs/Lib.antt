@@ -1,0 +1,2 @@
+pub mod TableFacts
+pub mod ViolationFacts
