@@ -73,10 +73,10 @@ closes_wrongly (Flow.Close a) (opener ∷ nest) = not (nat_eq a (suc opener))
 closes_wrongly Flow.End nest = not (is_empty nest)
 closes_wrongly f nest = false
 
--- the loop that it names isn't one of so many open ones
+-- the loop that it names isn't one of that many open ones
 abbrev pub lacks_loop : Option ℕ → ℕ → Bool
-lacks_loop None open = false
-lacks_loop (Some k) open = not (nat_lt k open)
+lacks_loop None count = false
+lacks_loop (Some k) count = not (nat_lt k count)
 
 -- the first of the rules up to V12 that an instruction with that index and that entry breaks, to which jumps from these
 -- nests go

@@ -34,7 +34,7 @@ pub record IsTable (code : StackCode) (table : ℕ → Entry) : Type 0 where
       (index : ℕ) (i : Instr) → slice_get code.instrs index ≡ Some i →
       table (suc index) ≡ entry_after index i (table index)
 
-abbrev entry_next : ℕ → Option Instr → Entry → Entry
+abbrev pub entry_next : ℕ → Option Instr → Entry → Entry
 entry_next index None e = e
 entry_next index (Some i) e = entry_after index i e
 

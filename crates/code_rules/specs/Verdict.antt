@@ -8,7 +8,7 @@ use Rattle.template_code.specs.declared.flow.Flow.{Flow}
 use Rattle.template_code.specs.declared.instr.Instr.{Instr}
 use Rattle.code_rules.specs.Bounds.{bound_fits}
 use Rattle.code_rules.specs.Costs.{pushed_bounds, bounds_at, cost_fits}
-use Rattle.code_rules.specs.Table.{Entry, IsTable}
+use Rattle.code_rules.specs.Table.{Entry, IsTable, entry_at}
 use Rattle.code_rules.specs.Rules.{broken}
 use Rattle.code_rules.specs.Regions.{region}
 use Rattle.code_rules.specs.declared.rule.Rule.{Rule}
@@ -36,10 +36,9 @@ is_over code table index (Some i) =
 abbrev pub is_over_at : StackCode → (ℕ → Entry) → ℕ → Bool
 is_over_at code table index = is_over code table index (slice_get code.instrs index)
 
--- no bound and no cost has a coefficient that is too large, by each table
+-- no bound and no cost has a coefficient that is too large
 abbrev pub IsWithinLimits : StackCode → Type 0
-IsWithinLimits code =
-    (table : ℕ → Entry) → IsTable code table → (index : ℕ) → is_over_at code table index ≡ false
+IsWithinLimits code = (index : ℕ) → is_over_at code (entry_at code) index ≡ false
 
 abbrev pub or_over : Option Rule → Bool → Option Rule
 or_over (Some rule) over = Some rule
