@@ -1,3 +1,7 @@
+pub mod PolynomialFacts
+pub mod CostFacts
+pub mod NestFacts
+pub mod RegionFacts
 pub mod CallFacts
 pub mod MachineFacts
 pub mod TableFacts

@@ -1,4 +1,4 @@
 mod Sums
-mod Nests
+pub mod Nests
 mod Shares
 pub mod Due

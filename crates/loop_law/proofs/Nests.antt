@@ -128,6 +128,15 @@ nest-below c (suc x) = below-by x (c.bracket x) (nest c x) (nest-below c x)
 pub opener-before : (c : Course) (x opener : ℕ) (outer : List ℕ) → nest c x ≡ opener ∷ outer → opener < x
 opener-before c x opener outer e = (subst (λ ns. Below x ns) e (nest-below c x)).0
 
+apart-below : (x place : ℕ) (ms ns : List ℕ) → Below x ns → x ≤ place → inside (place ∷ ms) ns ≡ false
+apart-below x place ms [] h le = refl
+apart-below x place ms (n ∷ ns) h le =
+    rw (differ-first place n ms ns (λ e. omega (arith, h.0, le, e)), apart-below x place ms ns h.1 le) refl
+
+-- a loop isn't open at the places up to where it opens
+pub below-outside : (c : Course) (place y : ℕ) (ms : List ℕ) → y ≤ place → inside (place ∷ ms) (nest c y) ≡ false
+below-outside c place y ms le = apart-below y place ms (nest c y) (nest-below c y) le
+
 -- each loop of a nest: at its first place the nest is what it is from that loop on
 abbrev Opened : Course → List ℕ → Type 0
 Opened c [] = Unit {0}
