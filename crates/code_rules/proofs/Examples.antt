@@ -1,5 +1,6 @@
 -- Worked examples, which the checker computes.
 use Rattle.std.specs.Prelude.{◌≡◌, ℕ, zero, suc, List, [], ◌∷◌, ◌++◌, replicate, Option, Some, None, codes, pos}
+use Rattle.std.specs.Fmt.{digits}
 use Rattle.std.proofs.Common.{refl, sym, ap, length, ◌^◌, ◌-◌, Bool, true, false, true≢false}
 use Rattle.data_tree.specs.Tree.{Tree, text, nothing, list, fields, named, no_items, item, no_members, member}
 use Rattle.data_tree.specs.declared.step.Step.TheVariants as steps
@@ -326,6 +327,7 @@ plain_bytes_of_each_index : (plain_budget each_index).bytes ≡ 4 ∷ 22 ∷ 1 �
 plain_bytes_of_each_index = refl
 
 run_of_each_index : Runs each_index a_and_b 27 (codes "0:a;1:b")
+unfolding digits
 run_of_each_index = (
   record { index = 16; stack = []; loops = []; output = codes "0:a;1:b" },
   (26, refl, refl, refl),

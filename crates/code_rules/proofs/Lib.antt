@@ -9,4 +9,5 @@ pub mod MachineFacts
 pub mod TableFacts
 pub mod ViolationFacts
 pub mod FormFacts
+pub mod OutermostFacts
 mod Examples

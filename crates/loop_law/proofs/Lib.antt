@@ -2,3 +2,4 @@ mod Sums
 pub mod Nests
 mod Shares
 pub mod Due
+mod Examples

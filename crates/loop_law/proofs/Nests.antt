@@ -157,3 +157,19 @@ nest-opened c (suc x) = opened-by c x (c.bracket x) (nest c x) refl (nest-opened
 pub first-place : (c : Course) (x opener : ℕ) (outer : List ℕ) → nest c x ≡ opener ∷ outer →
     nest c (suc opener) ≡ opener ∷ outer
 first-place c x opener outer e = (subst (λ ns. Opened c ns) e (nest-opened c x)).0
+
+opened-back : (b : Bracket) (x opener : ℕ) (outer ns : List ℕ) → Below x ns → x ≤ opener →
+    nest_after b x ns ≡ opener ∷ outer → ns ≡ outer
+opened-back level x opener outer ns h le e =
+    absurd (let k = subst (λ ms. Below x ms) e h in omega (arith, k.0, le))
+opened-back opens_over_part x opener outer ns h le e = ap (drop 1) e
+opened-back opens_over_data x opener outer ns h le e = ap (drop 1) e
+opened-back ends x opener outer [] h le e = absurd (omega (arith, ap length e))
+opened-back ends x opener outer (n ∷ ns) h le e =
+    absurd (let k = subst (λ ms. Below x ms) e h.1 in omega (arith, k.0, le))
+
+-- where a loop opens the loops round it are open
+pub opened-from : (c : Course) (x opener : ℕ) (outer : List ℕ) → nest c x ≡ opener ∷ outer → nest c opener ≡ outer
+opened-from c x opener outer e =
+    opened-back (c.bracket opener) opener opener outer (nest c opener) (nest-below c opener) (omega arith)
+    (first-place c x opener outer e)
