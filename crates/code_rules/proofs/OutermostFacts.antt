@@ -181,7 +181,7 @@ module _ (code : StackCode) (well : IsWellFormed code) where
       let rest = formed-empty_rest code well index i is (ap requires_empty_stack f) in
       let none = closes-empty i a (well.table index).kinds f rest in
       let same = length-slots_after code i (bounds_at code index) (well.table index).kinds
-          (length-bounds_at code well.table index well.follows le) in
+      (length-bounds_at code well.table index well.follows le) in
       no_bounds (bounds_after code i (bounds_at code index)) (same ∙ ap length none)
   flat-next index i g is f out earlier le =
       flat-after code i (bounds_at code index)
@@ -263,8 +263,8 @@ module _ (code : StackCode) (well : IsWellFormed code) where
       let own = share code [] ns (cost_at code n) in
       let h = flat-region n (omega (arith, le)) in
       let k = flat-share ns (cost_at code n)
-          (λ out. flat-cost (bounds_at code n) (slice_get code.instrs n) (flat-bounds n (omega (arith, le)) out))
-          (whole n ns (omega (arith, le)) refl) in
+      (λ out. flat-cost (bounds_at code n) (slice_get code.instrs n) (flat-bounds n (omega (arith, le)) out))
+      (whole n ns (omega (arith, le)) refl) in
       (flat-plus before.steps own.steps h.0 k.0, flat-plus before.bytes own.bytes h.1 k.1)
 
 pub whole-flat : (code : StackCode) → IsWellFormed code →

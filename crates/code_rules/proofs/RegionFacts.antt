@@ -70,7 +70,7 @@ share-inside code opener outer (n ∷ ns) k h =
     turns c = cost_of_turns (goes_over_part code opener) c
 
     by : (inside (opener ∷ outer) ns ≡ true →
-            share code outer ns turned ≡ turns (share code (opener ∷ outer) ns turned)) →
+        share code outer ns turned ≡ turns (share code (opener ∷ outer) ns turned)) →
         (b : Bool) → same_nest (opener ∷ outer) (n ∷ ns) ≡ b →
         share code outer (n ∷ ns) k ≡ turns (share code (opener ∷ outer) (n ∷ ns) k)
     by further true e =
@@ -139,7 +139,7 @@ module _ (code : StackCode) (index opener : ℕ) (outer : List ℕ)
   in-loop : (y : ℕ) → opener < y → y ≤ index → inside (opener ∷ outer) (entry_at code y).nest ≡ true
   in-loop y lt le =
       let here = subst (λ ms. inside (opener ∷ outer) ms ≡ true) (sym (nest-shape code index ∙ at))
-          (inside-self (opener ∷ outer)) in
+      (inside-self (opener ∷ outer)) in
       subst (λ ms. inside (opener ∷ outer) ms ≡ true) (nest-shape code y)
       (inside-before (shape code) opener y index outer lt le here)
 

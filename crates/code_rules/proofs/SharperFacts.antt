@@ -30,16 +30,16 @@ plain-turns true b n =
     let a = value b.alone n in
     let p = value b.per n in
     let here : value (plain (of_turns true b)) n ≡ n * (a + p) =
-        value-plain (of_turns true b) n ∙ (ap (λ x. 0 + n * x) (value-plus b.alone b.per n) ∙ omega arith) in
+    value-plain (of_turns true b) n ∙ (ap (λ x. 0 + n * x) (value-plus b.alone b.per n) ∙ omega arith) in
     let there : n * value (plain b) n ≡ n * (a + n * p) = ap (λ x. n * x) (value-plain b n) in
     omega (here, there, once-more a p n, arith)
 plain-turns false b n =
     let a = value b.alone n in
     let p = value b.per n in
     let here : value (plain (of_turns false b)) n ≡ n * (a + p) + n * 0 =
-        value-plain (of_turns false b) n
-        ∙ ap (λ x. x + n * 0) (value-times_size (plus b.alone b.per) n
-        ∙ ap (λ x. n * x) (value-plus b.alone b.per n)) in
+    value-plain (of_turns false b) n
+    ∙ ap (λ x. x + n * 0) (value-times_size (plus b.alone b.per) n
+    ∙ ap (λ x. n * x) (value-plus b.alone b.per n)) in
     let none : n * 0 ≡ 0 = grind arith in
     let there : n * value (plain b) n ≡ n * (a + n * p) = ap (λ x. n * x) (value-plain b n) in
     omega (here, none, there, once-more a p n, arith)
@@ -67,9 +67,9 @@ module _ (code : StackCode) (part : Cost → Bound) (is : IsPart part) (n : ℕ)
       let turned = cost_of_turns (goes_over_part code o) c in
       let rest = plain-share ns turned in
       let once : value (plain (part turned)) n ≤ n * value (plain (part c)) n =
-          let e : value (plain (part turned)) n ≡ value (plain (of_turns (goes_over_part code o) (part c))) n =
-              ap (λ b. value (plain b) n) (is.turns (goes_over_part code o) c) in
-          omega (e, plain-turns (goes_over_part code o) (part c) n, arith) in
+      let e : value (plain (part turned)) n ≡ value (plain (of_turns (goes_over_part code o) (part c))) n =
+      ap (λ b. value (plain b) n) (is.turns (goes_over_part code o) c) in
+      omega (e, plain-turns (goes_over_part code o) (part c) n, arith) in
       let more = often-more (plain (part turned)) (plain (part c)) n (length ns) once in
       omega (rest, more, arith)
 
@@ -85,9 +85,9 @@ module _ (code : StackCode) (part : Cost → Bound) (is : IsPart part) (n : ℕ)
       let here = plain-share (entry_at code index).nest (cost_at code index) in
       let alone = value-plain (part own) n in
       let e : value (part (plus_cost before own)).alone n ≡ value (part before).alone n + value (part own).alone n =
-          ap (λ (b : Bound). value b.alone n) (is.sum before own) ∙ value-plus (part before).alone (part own).alone n in
+      ap (λ (b : Bound). value b.alone n) (is.sum before own) ∙ value-plus (part before).alone (part own).alone n in
       let f = value-plus (plain_total part code index)
-          (times_size_often (length (entry_at code index).nest) (plain (part (cost_at code index)))) n in
+      (times_size_often (length (entry_at code index).nest) (plain (part (cost_at code index)))) n in
       omega (earlier, here, alone, e, f, arith)
 
 is-steps : IsPart (λ c. c.steps)

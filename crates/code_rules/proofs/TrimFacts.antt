@@ -163,7 +163,7 @@ trim-region code outer (suc n) =
     let own = share code outer (entry_at code n).nest (cost_at code n) in
     let h = trim-region code outer n in
     let k = trim-share code outer (entry_at code n).nest (cost_at code n)
-        (trim-at code (bounds_at code n) (slice_get code.instrs n) (trim-along code (take n code.instrs) [] tt)) in
+    (trim-at code (bounds_at code n) (slice_get code.instrs n) (trim-along code (take n code.instrs) [] tt)) in
     (trim-plus before.steps own.steps h.0 k.0, trim-plus before.bytes own.bytes h.1 k.1)
 
 pub budget-trimmed : (code : StackCode) → (ends_in_zero (budget code).steps ≡ false)

@@ -132,8 +132,8 @@ pub violation-V13 : (code : StackCode) (index : ℕ) (rule : Rule) → IsViolati
     (rule ≡ V13) × (is_over_at code (entry_at code) index ≡ true)
 violation-V13 code index rule f w =
     let o = over_is (is_over_at code w.table index)
-        (sym (ap (λ o. or_over o (is_over_at code w.table index)) (w.unbroken index))
-        ∙ here-by code index rule f w.table w.follows) in
+    (sym (ap (λ o. or_over o (is_over_at code w.table index)) (w.unbroken index))
+    ∙ here-by code index rule f w.table w.follows) in
     (o.0, over-same code (entry_at code) w.table (IsTable-entry_at code) w.follows index ∙ o.1)
   where
     over_is : (over : Bool) → or_over None over ≡ Some rule → (rule ≡ V13) × (over ≡ true)

@@ -1,13 +1,13 @@
 -- What is due in a state: what is left of the innermost region at its item, and for each open loop what its turns to come
 -- cost and what is left of the region round it at the item there. No move makes it fall by less than its place costs.
-use Rattle.std.proofs.Common.{◌≡◌, ℕ, zero, suc, ◌+◌, ◌-◌, ◌*◌, ◌<◌, ◌≤◌, ◌⊎◌, Bool, true, false, true≢false, List, []}
+use Rattle.std.proofs.Common.{◌≡◌, ℕ, zero, suc, ◌+◌, ◌-◌, ◌*◌, ◌<◌, ◌≤◌, Bool, true, false, true≢false, List, []}
 use Rattle.std.proofs.Common.{◌∷◌, length, drop, refl, sym, ap, ◌∙◌, subst, ⊎_elim, arith}
 use Rattle.std.specs.Prelude.{if◌then◌else◌}
 use Rattle.loop_law.specs.Course.{Cost, nothing, plus, value, Bracket, level, opens_over_part, opens_over_data, ends}
 use Rattle.loop_law.specs.Course.{Course, nest_after, nest, of_turns, share, region, budget}
 use Rattle.loop_law.specs.Run.{Loop, State, item_size, sum_of, Fit, GoesAhead, Enters, Repeats, Leaves, GoesBy, Goes}
 use Rattle.loop_law.specs.Run.{cost_at, Runs, first}
-use Rattle.loop_law.proofs.Sums.{Le, le-of, le-trans, le-nothing, times-le, value-le, value-plus, total, from, from-next}
+use Rattle.loop_law.proofs.Sums.{Le, le-of, le-nothing, times-le, value-le, value-plus, total, from, from-next}
 use Rattle.loop_law.proofs.Sums.{from-later, from-le, from-skip, from-split}
 use Rattle.loop_law.proofs.Nests.{inside, inside-self, inside-short, inside-outer, inside-before, opener-before, first-place}
 use Rattle.loop_law.proofs.Shares.{share-self, share-split}
@@ -134,8 +134,8 @@ paid-enter c x size l ls lt opens turns fit =
     let there = due-as c (suc x) (l ∷ ls) (x ∷ ns) opens in
     let here = value-here c x m lt in
     let split =
-        from-split (share_at c ns) (share_at c (x ∷ ns)) (share_round c ns (x ∷ ns)) c.size (c.bracket x) c.places (suc x)
-        (λ y. share-split c x ns (nest c y) (c.cost y)) in
+    from-split (share_at c ns) (share_at c (x ∷ ns)) (share_round c ns (x ∷ ns)) c.size (c.bracket x) c.places (suc x)
+    (λ y. share-split c x ns (nest c y) (c.cost y)) in
     let whole = value-le (plus (of_turns c.size (c.bracket x) body) outer) (left c ns (suc x)) m split in
     let parts = value-plus (of_turns c.size (c.bracket x) body) outer m in
     let all = fit-items body size l fit in
@@ -153,15 +153,15 @@ paid-repeat c x opener done outer l ls lt at =
     let there = due-as c (suc opener) (l ∷ ls) ns (first-place c x opener outer at) in
     let here = due-as c x (record { item = done; to_come = l.item ∷ l.to_come } ∷ ls) ns at in
     let cost = subst (λ ms. value (c.cost x) done + value (left c ms (suc x)) done ≤ value (left c ms x) done) at
-        (value-here c x done lt) in
+    (value-here c x done lt) in
     let self = subst (λ ms. inside ns ms ≡ true) (sym at) (inside-self ns) in
     let within : (z : ℕ) → suc opener ≤ z → z < x → inside ns (nest c z) ≡ true =
-        λ z le less. inside-before c opener z x outer (omega (arith, le)) (omega (arith, less)) self in
+    λ z le less. inside-before c opener z x outer (omega (arith, le)) (omega (arith, less)) self in
     let skip = from-skip (share_round c outer ns) c.places (suc opener) x (omega (arith, before))
-        (λ z le less. skipped (inside ns (nest c z)) (share_at c outer z) (within z le less)) in
+    (λ z le less. skipped (inside ns (nest c z)) (share_at c outer z) (within z le less)) in
     let outside = value-le (left_round c outer ns (suc opener)) (left_round c outer ns x) (item_size ls) skip in
     let round = round-back c (suc opener) x outer ls (omega (arith, before))
-        (λ z le less. inside-outer opener outer (nest c z) (within z le less)) in
+    (λ z le less. inside-outer opener outer (nest c z) (within z le less)) in
     omega (there, here, cost, outside, round, arith)
 
 kept : (b : Bool) (k : Cost) → b ≡ false → Le k (if b then nothing else k)
@@ -190,9 +190,9 @@ paid-leave c x opener outer l ls lt at next =
     let there = due-as c (suc x) ls outer next in
     let here = due-as c x (l ∷ ls) ns at in
     let cost = subst (λ ms. value (c.cost x) l.item + value (left c ms (suc x)) l.item ≤ value (left c ms x) l.item) at
-        (value-here c x l.item lt) in
+    (value-here c x l.item lt) in
     let out = from-le (share_at c outer) (share_round c outer ns) c.places (suc x)
-        (λ y le. kept (inside ns (nest c y)) (share_at c outer y) (outside-after c x opener outer at next y le)) in
+    (λ y le. kept (inside ns (nest c y)) (share_at c outer y) (outside-after c x opener outer at next y le)) in
     let same = value-le (left c outer (suc x)) (left_round c outer ns (suc x)) m out in
     let fewer = value-later (share_round c outer ns) c.places m x (suc x) (omega arith) in
     let round = round-later c x (suc x) outer ls (omega arith) in
@@ -280,7 +280,7 @@ pub run-paid : (c : Course) (moves spent : ℕ) (s last : State) → Runs c move
     spent + cost_at c last ≤ due c s.place s.loops
 run-paid c zero spent s last r lt =
     let same : cost_at c last ≤ due c s.place s.loops =
-        subst (λ t. cost_at c last ≤ due c t.place t.loops) (sym r.0) (paid-last c last lt) in
+    subst (λ t. cost_at c last ≤ due c t.place t.loops) (sym r.0) (paid-last c last lt) in
     omega (arith, r.1, same)
 run-paid c (suc moves) spent s last r lt =
     let rest = run-paid c moves r.1 r.0 last r.3 lt in

@@ -1,7 +1,7 @@
 -- Nests, and which of them lie in which.
 use Rattle.std.proofs.Common.{◌≡◌, ℕ, zero, suc, ◌+◌, ◌-◌, ◌<◌, ◌≤◌, Bool, true, false, true≢false, nat_eq, List, []}
 use Rattle.std.proofs.Common.{◌∷◌, length, drop, refl, sym, ap, ◌∙◌, subst, ⊎_elim, arith}
-use Rattle.std.specs.Prelude.{◌||◌, ◌&&◌}
+use Rattle.std.specs.Prelude.{◌||◌}
 use Rattle.std.specs.Cmp.Lexicographic.{same_text}
 use Rattle.std.proofs.lemmas.Bool.{cases_lt}
 use Rattle.loop_law.specs.Course.{Bracket, level, opens_over_part, opens_over_data, ends, Course, nest_after, nest}

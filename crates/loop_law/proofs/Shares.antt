@@ -1,5 +1,5 @@
 -- Shares of places, seen from nests that lie in one another.
-use Rattle.std.proofs.Common.{◌≡◌, ℕ, ◌<◌, ◌≤◌, Bool, true, false, true≢false, List, [], ◌∷◌, length, drop, refl, sym, ap}
+use Rattle.std.proofs.Common.{◌≡◌, ℕ, Bool, true, false, true≢false, List, [], ◌∷◌, length, drop, refl, sym, ap}
 use Rattle.std.proofs.Common.{◌∙◌, subst, arith}
 use Rattle.std.specs.Prelude.{if◌then◌else◌, ◌||◌}
 use Rattle.loop_law.specs.Course.{Cost, nothing, plus, of_turns, Course, same_nest, share}
@@ -39,7 +39,7 @@ share-inside c opener outer (n ∷ ns) k h =
     turned = of_turns c.size (c.bracket n) k
 
     by : (inside (opener ∷ outer) ns ≡ true →
-            share c outer ns turned ≡ of_turns c.size (c.bracket opener) (share c (opener ∷ outer) ns turned)) →
+        share c outer ns turned ≡ of_turns c.size (c.bracket opener) (share c (opener ∷ outer) ns turned)) →
         (b : Bool) → same_nest (opener ∷ outer) (n ∷ ns) ≡ b →
         share c outer (n ∷ ns) k ≡ of_turns c.size (c.bracket opener) (share c (opener ∷ outer) (n ∷ ns) k)
     by further true e =
@@ -76,6 +76,6 @@ share-split c opener outer ns k = by (inside (opener ∷ outer) ns) refl
         (record { alone = omega arith; per = omega arith })
     by false e =
         let none : Le turns nothing =
-            subst (λ s. Le (of_turns c.size (c.bracket opener) s) nothing)
-            (sym (share-outside c (opener ∷ outer) ns k e)) (turns-nothing c.size (c.bracket opener)) in
+        subst (λ s. Le (of_turns c.size (c.bracket opener) s) nothing)
+        (sym (share-outside c (opener ∷ outer) ns k e)) (turns-nothing c.size (c.bracket opener)) in
         record { alone = omega (arith, none.alone); per = omega (arith, none.per) }
