@@ -11,10 +11,12 @@ use Rattle.helper_set.specs.Helpers.{argument_kinds, result_kind, signature_of}
 use Rattle.helper_set.specs.declared.kind.Kind.{Kind}
 use Rattle.helper_set.specs.declared.signature.Growth.{Growth}
 use Rattle.template_code.specs.Code.{StackCode}
-use Rattle.template_code.specs.Instructions.{flow, loop_named, pops, pushes, slots_kept, slots_after, requires_empty_stack}
+use Rattle.template_code.specs.Instructions.{flow, loop_named, pops, pushes, slots_kept, slots_after}
+use Rattle.template_code.specs.Instructions.{requires_empty_stack}
 use Rattle.template_code.specs.declared.flow.Flow.{Flow}
 use Rattle.template_code.specs.declared.instr.Instr.{Instr}
-use Rattle.template_code.specs.declared.instr.Instr.TheVariants.{Emit, Root, Item, Index, Key, First, Last, Text, Number}
+use Rattle.template_code.specs.declared.instr.Instr.TheVariants.{Emit, Root, Item, Index, Key, First, Last, Text}
+use Rattle.template_code.specs.declared.instr.Instr.TheVariants.{Number}
 use Rattle.template_code.specs.declared.instr.Instr.TheVariants.{Truth, Show, Test, Call, Escape, Print, Jump, Branch}
 use Rattle.template_code.specs.declared.instr.Instr.TheVariants.{Each, Next, Halt}
 use Rattle.code_rules.specs.Polynomial.{Polynomial, plus, times}
@@ -185,7 +187,8 @@ module _ (code : StackCode) (well : IsWellFormed code) where
       no_bounds (bounds_after code i (bounds_at code index)) (same ∙ ap length none)
   flat-next index i g is f out earlier le =
       flat-after code i (bounds_at code index)
-      (sym (ap (λ (ns : List ℕ). lacks_loop (loop_named i) (length ns)) out) ∙ (formed-keeps code well index i is).open_loop)
+      (sym (ap (λ (ns : List ℕ). lacks_loop (loop_named i) (length ns)) out)
+      ∙ (formed-keeps code well index i is).open_loop)
       (earlier out)
 
   flat-at : (index : ℕ) → index ≤ length code.instrs → (well.table index).nest ≡ [] → AllFlat (bounds_at code index)
@@ -211,7 +214,8 @@ module _ (code : StackCode) (well : IsWellFormed code) where
       AllFlat (bounds_at code index)
   flat-bounds index le out =
       flat-at index le
-      (ap (λ (e : Entry). e.nest) (entry-same code well.table (entry_at code) well.follows (IsTable-entry_at code) index le)
+      (ap (λ (e : Entry). e.nest)
+      (entry-same code well.table (entry_at code) well.follows (IsTable-entry_at code) index le)
       ∙ out)
 
   -- the outermost of these loops goes over no part of an item

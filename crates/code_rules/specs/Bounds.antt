@@ -34,9 +34,9 @@ bound_value b n m = value b.alone n + value b.per n * m
 abbrev pub bound_fits : Bound → Bool
 bound_fits b = fits b.alone && fits b.per
 
--- what all turns of a loop cost, seen from outside of it, where one turn costs that much. The items of what it goes over
--- are no more in number, and no more in the sum of their sizes, than its size: that of the item round the loop, if it is
--- a part of it, or that of all data
+-- what all turns of a loop cost, seen from outside of it, where one turn costs that much. The items of what it goes
+-- over are no more in number, and no more in the sum of their sizes, than its size: that of the item round the loop,
+-- if it is a part of it, or that of all data
 abbrev pub of_turns : Bool → Bound → Bound
 of_turns is_part b =
     if is_part then record { alone = []; per = plus b.alone b.per }

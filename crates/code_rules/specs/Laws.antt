@@ -1,5 +1,6 @@
 -- What holds of all code.
-use Rattle.std.specs.Prelude.{◌≡◌, ℕ, zero, suc, ◌<◌, ◌≤◌, false, not, ◌&&◌, ◌⊎◌, List, [], ◌∷◌, ◌++◌, map, length, drop}
+use Rattle.std.specs.Prelude.{◌≡◌, ℕ, zero, suc, ◌<◌, ◌≤◌, false, not, ◌&&◌, ◌⊎◌, List, [], ◌∷◌, ◌++◌, map, length}
+use Rattle.std.specs.Prelude.{drop}
 use Rattle.std.specs.Prelude.{Some, is_some, slice_get}
 use Rattle.data_tree.specs.Tree.{Tree}
 use Rattle.helper_set.specs.Values.{Value, kind_of}
@@ -11,7 +12,8 @@ use Rattle.template_code.specs.declared.instr.Instr.{Instr}
 use Rattle.template_code.specs.declared.limits.TheConstants.{MAX_INSTRUCTIONS}
 use Rattle.code_rules.specs.Polynomial.{Polynomial, ends_in_zero, plus, times_size, value, as_printed}
 use Rattle.code_rules.specs.Bounds.{Bound}
-use Rattle.code_rules.specs.Costs.{bounds_after, bounds_at, goes_over_part, Cost, no_cost, plus_cost, cost_of_turns, cost_at}
+use Rattle.code_rules.specs.Costs.{bounds_after, bounds_at, goes_over_part, Cost, no_cost, plus_cost, cost_of_turns}
+use Rattle.code_rules.specs.Costs.{cost_at}
 use Rattle.code_rules.specs.Table.{Entry, IsTable, entry_at}
 use Rattle.code_rules.specs.Rules.{lacks_slots, kinds_fit, lacks_loop, broken}
 use Rattle.code_rules.specs.Regions.{region, Budget, budget}

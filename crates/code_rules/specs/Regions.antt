@@ -1,6 +1,6 @@
--- The cost of regions, and the budget of code. All of the code is a region, and so is each loop, from after its `Each` up
--- to and with its `Next`. Its instructions cost what they do once, whether a run passes them or not, and those of a loop
--- in it once for each turn.
+-- The cost of regions, and the budget of code. All of the code is a region, and so is each loop, from after its
+-- `Each` up to and with its `Next`. Its instructions cost what they do once, whether a run passes them or not, and
+-- those of a loop in it once for each turn.
 use Rattle.std.specs.Prelude.{ℕ, zero, suc, if◌then◌else◌, List, [], ◌∷◌, length}
 use Rattle.template_code.specs.Code.{StackCode}
 use Rattle.code_rules.specs.Polynomial.{Polynomial}
@@ -8,8 +8,8 @@ use Rattle.code_rules.specs.Costs.{goes_over_part, Cost, no_cost, plus_cost, cos
 use Rattle.code_rules.specs.Table.{Entry, entry_at}
 use Rattle.code_rules.specs.Rules.{same_nest}
 
--- the cost of an instruction of the second nest, in the region of the first: that of the turns of each loop between them;
--- nothing, where it isn't in the region
+-- the cost of an instruction of the second nest, in the region of the first: that of the turns of each loop between
+-- them; nothing, where it isn't in the region
 abbrev pub share : StackCode → List ℕ → List ℕ → Cost → Cost
 share code region [] c = if same_nest region [] then c else no_cost
 share code region (opener ∷ nest) c =

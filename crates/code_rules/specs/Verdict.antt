@@ -25,8 +25,8 @@ abbrev pub judged_nests : Flow → List ℕ → List (List ℕ)
 judged_nests (Flow.Close a) nest = nest ∷ drop 1 nest ∷ []
 judged_nests f nest = nest ∷ []
 
--- the bound of a slot that the instruction pushes, or the cost up to and with it of a region that is judged there, has a
--- coefficient that is too large
+-- the bound of a slot that the instruction pushes, or the cost up to and with it of a region that is judged there,
+-- has a coefficient that is too large
 abbrev pub is_over : StackCode → (ℕ → Entry) → ℕ → Option Instr → Bool
 is_over code table index None = false
 is_over code table index (Some i) =

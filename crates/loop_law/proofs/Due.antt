@@ -1,5 +1,6 @@
--- What is due in a state: what is left of the innermost region at its item, and for each open loop what its turns to come
--- cost and what is left of the region round it at the item there. No move makes it fall by less than its place costs.
+-- What is due in a state: what is left of the innermost region at its item, and for each open loop what its turns to
+-- come cost and what is left of the region round it at the item there. No move makes it fall by less than its place
+-- costs.
 use Rattle.std.proofs.Common.{◌≡◌, ℕ, zero, suc, ◌+◌, ◌-◌, ◌*◌, ◌<◌, ◌≤◌, Bool, true, false, true≢false, List, []}
 use Rattle.std.proofs.Common.{◌∷◌, length, drop, refl, sym, ap, ◌∙◌, subst, ⊎_elim, arith}
 use Rattle.std.specs.Prelude.{if◌then◌else◌}
@@ -9,7 +10,8 @@ use Rattle.loop_law.specs.Run.{Loop, State, item_size, sum_of, Fit, GoesAhead, E
 use Rattle.loop_law.specs.Run.{cost_at, Runs, first}
 use Rattle.loop_law.proofs.Sums.{Le, le-of, le-nothing, times-le, value-le, value-plus, total, from, from-next}
 use Rattle.loop_law.proofs.Sums.{from-later, from-le, from-skip, from-split}
-use Rattle.loop_law.proofs.Nests.{inside, inside-self, inside-short, inside-outer, inside-before, opener-before, first-place}
+use Rattle.loop_law.proofs.Nests.{inside, inside-self, inside-short, inside-outer, inside-before, opener-before}
+use Rattle.loop_law.proofs.Nests.{first-place}
 use Rattle.loop_law.proofs.Shares.{share-self, share-split}
 
 -- what a place costs, seen from a nest
@@ -107,7 +109,9 @@ round-back c x y [] ls h all = omega arith
 round-back c x y (n ∷ ns) [] h all = omega arith
 round-back c x y (n ∷ ns) (l ∷ ls) h all =
     let f = share_round c ns (n ∷ ns) in
-    let skip = from-skip f c.places x y h (λ z le lt. skipped (inside (n ∷ ns) (nest c z)) (share_at c ns z) (all z le lt)) in
+    let skip =
+        from-skip f c.places x y h
+        (λ z le lt. skipped (inside (n ∷ ns) (nest c z)) (share_at c ns z) (all z le lt)) in
     let here = value-le (from f c.places x) (from f c.places y) (item_size ls) skip in
     let rest = round-back c x y ns ls h (λ z le lt. inside-outer n ns (nest c z) (all z le lt)) in
     omega (here, rest, arith)

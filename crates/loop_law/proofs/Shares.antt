@@ -33,7 +33,8 @@ share-inside : (c : Course) (opener : ℕ) (outer ns : List ℕ) (k : Cost) → 
     share c outer ns k ≡ of_turns c.size (c.bracket opener) (share c (opener ∷ outer) ns k)
 share-inside c opener outer [] k h = absurd (true≢false (sym h))
 share-inside c opener outer (n ∷ ns) k h =
-    by (λ j. share-inside c opener outer ns (of_turns c.size (c.bracket n) k) j) (same_nest (opener ∷ outer) (n ∷ ns)) refl
+    by (λ j. share-inside c opener outer ns (of_turns c.size (c.bracket n) k) j)
+    (same_nest (opener ∷ outer) (n ∷ ns)) refl
   where
     turned : Cost
     turned = of_turns c.size (c.bracket n) k

@@ -1,5 +1,5 @@
--- Places with loops round them, what each place costs, and the budget of all of them. A cost is alone + per * m, where m
--- is the size of the item that the innermost loop is at.
+-- Places with loops round them, what each place costs, and the budget of all of them. A cost is alone + per * m,
+-- where m is the size of the item that the innermost loop is at.
 use Rattle.std.specs.Prelude.{ℕ, zero, suc, ◌+◌, ◌*◌, nat_eq, Bool, if◌then◌else◌, List, [], ◌∷◌, drop}
 use lib.Pointwise.{pointwise}
 
@@ -17,8 +17,8 @@ plus c d = record { alone = c.alone + d.alone; per = c.per + d.per }
 abbrev pub value : Cost → ℕ → ℕ
 value c m = c.alone + c.per * m
 
--- what a place does: no loop opens or closes; one opens, over a part of the item of the loop round it or over other data;
--- or the innermost loop ends, or begins again with its next item
+-- what a place does: no loop opens or closes; one opens, over a part of the item of the loop round it or over other
+-- data; or the innermost loop ends, or begins again with its next item
 pub data Bracket : Type 0 where
   level : Bracket
   opens_over_part : Bracket
@@ -43,8 +43,9 @@ abbrev pub nest : Course → ℕ → List ℕ
 nest c zero = []
 nest c (suc place) = nest_after (c.bracket place) place (nest c place)
 
--- what all turns of a loop cost, seen from outside, where one turn costs that much: there are no more items than the size
--- of what the loop goes over, and no more is the sum of their sizes. The size of a part is that of the item round it
+-- what all turns of a loop cost, seen from outside, where one turn costs that much: there are no more items than the
+-- size of what the loop goes over, and no more is the sum of their sizes. The size of a part is that of the item
+-- round it
 abbrev pub of_turns : ℕ → Bracket → Cost → Cost
 of_turns size opens_over_part c = record { alone = 0; per = c.alone + c.per }
 of_turns size bracket c = record { alone = size * (c.alone + c.per); per = 0 }

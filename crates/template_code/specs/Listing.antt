@@ -4,7 +4,8 @@ use Rattle.std.specs.Fmt.{signed_decimal}
 use Rattle.data_tree.specs.Json.{truth_text}
 use Rattle.helper_set.specs.Helpers.{name_of}
 use Rattle.template_code.specs.declared.instr.Instr.{Instr}
-use Rattle.template_code.specs.declared.instr.Instr.TheVariants.{Emit, Root, Item, Index, Key, First, Last, Text, Number}
+use Rattle.template_code.specs.declared.instr.Instr.TheVariants.{Emit, Root, Item, Index, Key, First, Last, Text}
+use Rattle.template_code.specs.declared.instr.Instr.TheVariants.{Number}
 use Rattle.template_code.specs.declared.instr.Instr.TheVariants.{Truth, Show, Test, Call, Escape, Print, Jump, Branch}
 use Rattle.template_code.specs.declared.instr.Instr.TheVariants.{Each, Next, Halt}
 
