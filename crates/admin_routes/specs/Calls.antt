@@ -14,6 +14,7 @@ use Rattle.mapping_json.specs.Spelling.{SpellsDocument, IsDocumentError}
 use Rattle.mapping_model.specs.declared.mapping_spec.MappingSpec.{MappingSpec}
 use Rattle.mapping_model.specs.declared.request_spec.RequestSpec.{RequestSpec}
 use Rattle.request_document.specs.Refusal.{Spells, IsRefused}
+use Rattle.request_match.specs.Refusal.{CanBeBuilt}
 use Rattle.uuid.specs.Text.{parsed}
 
 -- the call of the route that this body makes it; calls that take no body ignore it
@@ -34,9 +35,9 @@ IsCallOf route.ListRequests body found = found ≡ call.ListRequests
 IsCallOf route.ClearRequests body found = found ≡ call.ClearRequests
 IsCallOf route.ListUnmatched body found = found ≡ call.ListUnmatched
 IsCallOf route.FindRequests body found =
-    (matcher : RequestSpec) × Spells body (Read matcher) × (found ≡ call.FindRequests matcher)
+    (matcher : RequestSpec) × Spells body (Read matcher) × CanBeBuilt matcher × (found ≡ call.FindRequests matcher)
 IsCallOf route.CountRequests body found =
-    (matcher : RequestSpec) × Spells body (Read matcher) × (found ≡ call.CountRequests matcher)
+    (matcher : RequestSpec) × Spells body (Read matcher) × CanBeBuilt matcher × (found ≡ call.CountRequests matcher)
 IsCallOf route.ListScenarios body found = found ≡ call.ListScenarios
 IsCallOf route.ResetScenarios body found = found ≡ call.ResetScenarios
 IsCallOf (route.SetScenario name) body found =

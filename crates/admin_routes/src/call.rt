@@ -5,6 +5,7 @@ use request_match::ready_mapping::ReadyMapping;
 use request_match::request_matcher::RequestMatcher;
 
 /// An admin call, with what its path and its body give.
+#[derive(Drop)]
 pub enum AdminCall {
     ListMappings,
     AddMapping(ReadyMapping),
@@ -30,33 +31,4 @@ pub enum AdminCall {
         /// `Started` where no state was asked for.
         state: Text,
     },
-}
-
-impl Drop for AdminCall {
-    fn drop(self) {
-        match self {
-            AdminCall::ListMappings => {}
-            AdminCall::AddMapping(_mapping) => {}
-            AdminCall::DeleteMappings => {}
-            AdminCall::ReadMapping(_id) => {}
-            AdminCall::EditMapping {
-                id: _id,
-                mapping: _mapping,
-            } => {}
-            AdminCall::DeleteMapping(_id) => {}
-            AdminCall::ResetMappings => {}
-            AdminCall::ResetAll => {}
-            AdminCall::ListRequests => {}
-            AdminCall::ClearRequests => {}
-            AdminCall::ListUnmatched => {}
-            AdminCall::FindRequests(_matcher) => {}
-            AdminCall::CountRequests(_matcher) => {}
-            AdminCall::ListScenarios => {}
-            AdminCall::ResetScenarios => {}
-            AdminCall::SetScenario {
-                name: _name,
-                state: _state,
-            } => {}
-        }
-    }
 }

@@ -1,21 +1,15 @@
-//! The program: it hands its arguments, the file system and its standard streams to `mock_program`, and ends with the
+//! The program: it hands its arguments and its standard streams to `mock_serving`, and ends with the
 //! exit status that comes back.
 #![tactic(auto)]
 
 use mock_program::arguments::report_unreadable;
-use mock_program::command_line::run;
+use mock_serving::command_line::run;
 use std::process::ExitCode;
 use std::{env, io};
 
 fn main(rt: HostRuntime) -> ExitCode {
     ExitCode::from(match arguments(&rt) {
-        Ok(arguments) => run(
-            rt.alloc(),
-            &rt,
-            arguments.as_slice(),
-            &mut rt.stdout(),
-            &mut rt.stderr(),
-        ),
+        Ok(arguments) => run(rt, arguments.as_slice(), &mut rt.stdout(), &mut rt.stderr()),
         Err(error) => report_unreadable(&error, &mut rt.stderr()),
     })
 }

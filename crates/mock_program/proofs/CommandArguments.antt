@@ -2,7 +2,7 @@
 use Rattle.std.proofs.Common.{◌≡◌, ℕ, Bool, true, false, List, [], ◌∷◌, codes, refl, inl, inr}
 use Rattle.std.specs.Str.{bytes_eq}
 use Rattle.std.proofs.lemmas.Slice.Eq.{bytes_eq-Decides}
-use Rattle.mock_program.specs.CommandLine.{Asked, render, check, AsksFor, Gives, IsPlainArgument}
+use Rattle.mock_program.specs.CommandLine.{Asked, render, check, answer, AsksFor, Gives, IsPlainArgument}
 use Rattle.mock_program.specs.Inner.Arguments.{is_flag, arguments_of, parser_arguments}
 
 pub differs : (argument other : List ℕ) → ¬ (argument ≡ other) → bytes_eq argument other ≡ false
@@ -33,3 +33,5 @@ pub parser_arguments-asked : (arguments : List (List ℕ)) (asked : Asked) → A
 parser_arguments-asked arguments (render template method target) asks =
     parser_arguments-given arguments (codes "render") template (method ∷ target ∷ []) asks
 parser_arguments-asked arguments (check file) asks = parser_arguments-given arguments (codes "check") file [] asks
+parser_arguments-asked arguments (answer file method target) asks =
+    parser_arguments-given arguments (codes "answer") file (method ∷ target ∷ []) asks

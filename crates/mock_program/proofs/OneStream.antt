@@ -1,7 +1,8 @@
 -- A command leaves one of both writers as it was.
 use Rattle.std.proofs.Common.{◌≡◌, ◌⊎◌, ℕ, List, Option, inl, inr, arith, Bool, true, false, if◌then◌else◌}
+use Rattle.mapping_answer.specs.Answering.{Answers, AnswersFile}
 use Rattle.mapping_check.specs.Checking.{Checks, ChecksFile}
-use Rattle.mock_program.specs.CommandLine.{Asked, render, check}
+use Rattle.mock_program.specs.CommandLine.{Asked, render, check, answer}
 use Rattle.mock_program.specs.Commands.{Does}
 use Rattle.command_output.specs.Output.{WritesOneStream}
 use Rattle.mock_program.specs.Rendering.{Renders}
@@ -57,6 +58,24 @@ module _ {O E : Type 0} (out_holds : O → Option (List ℕ)) (err_holds : E →
   of_file known path out out' err err' status (inr (error, is, one, as_reported, same)) =
       of_error out out' err err' status one same
 
+  of_answering : (bytes method target : List ℕ) (out out' : O) (err err' : E) (status : ℕ)
+      → Answers out_holds err_holds bytes method target out out' err err' status
+      → WritesOneStream out out' err err' status
+  of_answering bytes method target out out' err err' status (inl (zero, shown, same)) =
+      of_output out out' err err' status (inl zero) same
+  of_answering bytes method target out out' err err' status (inr (inl (one, as_reported, same))) =
+      of_error out out' err err' status one same
+  of_answering bytes method target out out' err err' status (inr (inr (one, begun, same))) =
+      of_output out out' err err' status (inr one) same
+
+  of_mappings : (known : Option (List ℕ)) (path method target : List ℕ) (out out' : O) (err err' : E) (status : ℕ)
+      → AnswersFile out_holds err_holds known path method target out out' err err' status
+      → WritesOneStream out out' err err' status
+  of_mappings known path method target out out' err err' status (inl (bytes, file, answered)) =
+      of_answering bytes method target out out' err err' status answered
+  of_mappings known path method target out out' err err' status (inr (error, is, one, as_reported, same)) =
+      of_error out out' err err' status one same
+
   pub of_command : (files : List ℕ → Option (List ℕ)) (asked : Asked) (out out' : O) (err err' : E) (status : ℕ)
       → Does out_holds err_holds files asked out out' err err' status
       → WritesOneStream out out' err err' status
@@ -64,3 +83,5 @@ module _ {O E : Type 0} (out_holds : O → Option (List ℕ)) (err_holds : E →
       of_rendering template method target out out' err err' status done
   of_command files (check path) out out' err err' status done =
       of_file (files path) path out out' err err' status done
+  of_command files (answer path method target) out out' err err' status done =
+      of_mappings (files path) path method target out out' err err' status done

@@ -72,11 +72,13 @@ first_fault argument met = or_else (other_fault app.top met argument nothing_hel
     (subcommand_or_other app.top.rules met idle 1 argument nothing_held).1)
 
 names_none : (argument : Text) → bytes_eq (codes "render") argument ≡ false
-    → bytes_eq (codes "check") argument ≡ false → subcommand_met (names_of app) idle argument ≡ None
-names_none argument no_render no_check =
-    ap₂ (λ (t u : Bool). option_map (λ (s : Text × List Text). s.0)
-    (if t || false then Some (codes "render", []) else (if u || false then Some (codes "check", []) else None)))
-    no_render no_check
+    → bytes_eq (codes "check") argument ≡ false → bytes_eq (codes "answer") argument ≡ false
+    → subcommand_met (names_of app) idle argument ≡ None
+names_none argument no_render no_check no_answer = λ i.
+    option_map (λ (s : Text × List Text). s.0)
+    (if no_render i || false then Some (codes "render", [])
+    else (if no_check i || false then Some (codes "check", [])
+    else (if no_answer i || false then Some (codes "answer", []) else None)))
 
 -- the same, by whether the argument is two dashes, and by what it is as a long flag
 abbrev flag_fault : Text → Bool → Option (Text × Option Text) → Kinds
@@ -108,15 +110,15 @@ is_stray c cs dash =
     ap₂ (flag_fault (c ∷ cs)) dashes long ∙ ap (bundle_fault_of (c ∷ cs)) short
 
 pub other_command : (c : ℕ) (cs : List ℕ) (rest : List Text) → bytes_eq (codes "render") (c ∷ cs) ≡ false
-    → bytes_eq (codes "check") (c ∷ cs) ≡ false → c == 45 ≡ false
+    → bytes_eq (codes "check") (c ∷ cs) ≡ false → bytes_eq (codes "answer") (c ∷ cs) ≡ false → c == 45 ≡ false
     → fault_of mock_app (codes "mock" ∷ (c ∷ cs) ∷ rest) ≡ kind.UnknownArgument ∷ kind.InvalidSubcommand ∷ []
 unfolding clap_on_literals
-other_command c cs rest no_render no_check dash =
+other_command c cs rest no_render no_check no_answer dash =
     ap (λ (k : Kinds). or_else
     (or_else k (walk_fault app.top (names_of app)
     (walked app.top.rules (names_of app) (walk_from nothing_held) (c ∷ cs)) rest))
     (below (walk app.top.rules (names_of app) nothing_held ((c ∷ cs) ∷ rest))))
-    (ap (first_fault (c ∷ cs)) (names_none (c ∷ cs) no_render no_check) ∙ is_stray c cs dash)
+    (ap (first_fault (c ∷ cs)) (names_none (c ∷ cs) no_render no_check no_answer) ∙ is_stray c cs dash)
 
 -- ---- arguments of a command
 
@@ -135,6 +137,14 @@ of_check arguments =
     ap₂ (λ (k : Kinds) (end : Walk). or_else k (below end))
     (stopped_fault app.top (names_of app) (walk_from nothing_held) (codes "check", []) arguments)
     (sym (walk_stopped app.top.rules (names_of app) (walk_from nothing_held) (codes "check") [] arguments))
+
+of_answer : (arguments : List Text)
+    → fault_of mock_app (codes "mock" ∷ codes "answer" ∷ arguments) ≡ below (at (codes "answer") arguments)
+unfolding clap_on_literals
+of_answer arguments =
+    ap₂ (λ (k : Kinds) (end : Walk). or_else k (below end))
+    (stopped_fault app.top (names_of app) (walk_from nothing_held) (codes "answer", []) arguments)
+    (sym (walk_stopped app.top.rules (names_of app) (walk_from nothing_held) (codes "answer") [] arguments))
 
 pub help_of_render : (rest : List Text)
     → fault_of mock_app (codes "mock" ∷ codes "render" ∷ codes "--help" ∷ rest) ≡ kind.DisplayHelp ∷ []
@@ -156,6 +166,16 @@ pub short_help_of_check : (rest : List Text)
 unfolding clap_on_literals
 short_help_of_check rest = of_check (codes "-h" ∷ rest)
 
+pub help_of_answer : (rest : List Text)
+    → fault_of mock_app (codes "mock" ∷ codes "answer" ∷ codes "--help" ∷ rest) ≡ kind.DisplayHelp ∷ []
+unfolding clap_on_literals
+help_of_answer rest = of_answer (codes "--help" ∷ rest)
+
+pub short_help_of_answer : (rest : List Text)
+    → fault_of mock_app (codes "mock" ∷ codes "answer" ∷ codes "-h" ∷ rest) ≡ kind.DisplayHelp ∷ []
+unfolding clap_on_literals
+short_help_of_answer rest = of_answer (codes "-h" ∷ rest)
+
 pub nothing_to_render : fault_of mock_app (codes "mock" ∷ codes "render" ∷ []) ≡ kind.MissingRequiredArgument ∷ []
 unfolding clap_on_literals
 nothing_to_render = refl
@@ -163,6 +183,10 @@ nothing_to_render = refl
 pub nothing_to_check : fault_of mock_app (codes "mock" ∷ codes "check" ∷ []) ≡ kind.MissingRequiredArgument ∷ []
 unfolding clap_on_literals
 nothing_to_check = refl
+
+pub nothing_to_answer : fault_of mock_app (codes "mock" ∷ codes "answer" ∷ []) ≡ kind.MissingRequiredArgument ∷ []
+unfolding clap_on_literals
+nothing_to_answer = refl
 
 -- an argument is missing, or one is too many
 abbrev pub IsMiscounted : Kinds → Type 0
@@ -183,3 +207,12 @@ unfolding clap_on_literals
 miscounted_check [] count = inl refl
 miscounted_check (a ∷ []) count = absurd (count refl)
 miscounted_check (a ∷ b ∷ rest) count = inr (of_check (codes "--" ∷ a ∷ b ∷ rest))
+
+pub miscounted_answer : (given : List Text) → length given ≢ 3
+    → IsMiscounted (fault_of mock_app (codes "mock" ∷ codes "answer" ∷ codes "--" ∷ given))
+unfolding clap_on_literals
+miscounted_answer [] count = inl refl
+miscounted_answer (a ∷ []) count = inl refl
+miscounted_answer (a ∷ b ∷ []) count = inl refl
+miscounted_answer (a ∷ b ∷ c ∷ []) count = absurd (count refl)
+miscounted_answer (a ∷ b ∷ c ∷ d ∷ rest) count = inr (of_answer (codes "--" ∷ a ∷ b ∷ c ∷ d ∷ rest))

@@ -10,9 +10,10 @@ use Rattle.mock_program.specs.Inner.Parser.{IsHelp, answers_to, mock_app}
 use Rattle.mock_program.specs.CommandLine.{AreInvalid, BeginsWithDash, CallsForHelp, Gives, IsCommand, IsHelpFlag}
 use Rattle.mock_program.specs.Inner.Arguments.{delimiter, parser_arguments}
 use Rattle.mock_program.proofs.CommandArguments.{differs, is_no_flag}
-use Rattle.mock_program.proofs.ParserAnswers.{IsMiscounted, answers_are, empty_command, help_of_check, help_of_mock}
-use Rattle.mock_program.proofs.ParserAnswers.{help_of_render, miscounted_check, miscounted_render, no_command}
-use Rattle.mock_program.proofs.ParserAnswers.{nothing_to_check, nothing_to_render, other_command, short_help_of_check}
+use Rattle.mock_program.proofs.ParserAnswers.{IsMiscounted, answers_are, empty_command, help_of_answer, help_of_check}
+use Rattle.mock_program.proofs.ParserAnswers.{help_of_mock, help_of_render, miscounted_answer, miscounted_check}
+use Rattle.mock_program.proofs.ParserAnswers.{miscounted_render, no_command, nothing_to_answer, nothing_to_check}
+use Rattle.mock_program.proofs.ParserAnswers.{nothing_to_render, other_command, short_help_of_answer, short_help_of_check}
 use Rattle.mock_program.proofs.ParserAnswers.{short_help_of_mock, short_help_of_render, version_of_mock}
 
 -- what the parser makes of the arguments that it is given for these
@@ -52,9 +53,12 @@ help_at : (name flag : Text) (count : ℕ) (rest : List Text) → IsCommand name
 help_at name flag count rest (inl render) help =
     ap (λ (n : Text). fault (codes "mock" ∷ n ∷ flag ∷ rest)) render.0
     ∙ command_help_of (codes "render") flag rest help (short_help_of_render rest) (help_of_render rest)
-help_at name flag count rest (inr check) help =
+help_at name flag count rest (inr (inl check)) help =
     ap (λ (n : Text). fault (codes "mock" ∷ n ∷ flag ∷ rest)) check.0
     ∙ command_help_of (codes "check") flag rest help (short_help_of_check rest) (help_of_check rest)
+help_at name flag count rest (inr (inr answer)) help =
+    ap (λ (n : Text). fault (codes "mock" ∷ n ∷ flag ∷ rest)) answer.0
+    ∙ command_help_of (codes "answer") flag rest help (short_help_of_answer rest) (help_of_answer rest)
 
 by_help : (arguments : List Text) → CallsForHelp arguments → FailsByHelp (fault arguments)
 by_help arguments (program, flag, rest, inl (inl help, is)) =
@@ -136,7 +140,8 @@ other_argument program (c ∷ cs) rest none plain =
     subst FailsByMistake
     (sym (other_command c cs (delimiter rest ++ rest)
     (no_command_named (c ∷ cs) (codes "render") none 3 (λ e. inl (e, refl)))
-    (no_command_named (c ∷ cs) (codes "check") none 1 (λ e. inr (e, refl)))
+    (no_command_named (c ∷ cs) (codes "check") none 1 (λ e. inr (inl (e, refl))))
+    (no_command_named (c ∷ cs) (codes "answer") none 3 (λ e. inr (inr (e, refl))))
     (begins_otherwise c cs plain))) stray_argument
 
 by_count : (kinds : Kinds) → IsMiscounted kinds → FailsByMistake kinds
@@ -169,9 +174,12 @@ miscounted_at : (arguments : List Text) (name : Text) (count : ℕ) (given : Lis
 miscounted_at arguments name count given (inl (render, three)) gives wrong =
     command_fails arguments (codes "render") given (subst (λ n. Gives arguments n given) render gives)
     (miscounted_render given (λ e. wrong (e ∙ sym three))) nothing_to_render
-miscounted_at arguments name count given (inr (check, one)) gives wrong =
+miscounted_at arguments name count given (inr (inl (check, one))) gives wrong =
     command_fails arguments (codes "check") given (subst (λ n. Gives arguments n given) check gives)
     (miscounted_check given (λ e. wrong (e ∙ sym one))) nothing_to_check
+miscounted_at arguments name count given (inr (inr (answer, three))) gives wrong =
+    command_fails arguments (codes "answer") given (subst (λ n. Gives arguments n given) answer gives)
+    (miscounted_answer given (λ e. wrong (e ∙ sym three))) nothing_to_answer
 
 by_mistake : (arguments : List Text) → AreInvalid arguments → FailsByMistake (fault arguments)
 by_mistake arguments (inl short) = too_short arguments short

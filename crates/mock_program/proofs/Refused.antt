@@ -1,6 +1,6 @@
 -- A command that is refused, since memory is out.
 use Rattle.std.proofs.Common.{◌≡◌, ℕ, List, Option, inl, inr, refl}
-use Rattle.mock_program.specs.CommandLine.{Asked, render, check}
+use Rattle.mock_program.specs.CommandLine.{Asked, render, check, answer}
 use Rattle.mock_program.specs.Commands.{Does}
 use Rattle.command_output.specs.Lines.{error_line, out_of_memory}
 use Rattle.command_output.specs.Output.{AppendsFront}
@@ -13,4 +13,6 @@ pub without_memory : {O E : Type 0} (out_holds : O → Option (List ℕ)) (err_h
 without_memory out_holds err_holds files (render template method target) out out' err err' status one shown same =
     inr (inl (one, (out_of_memory, inr (inr refl), shown), same))
 without_memory out_holds err_holds files (check path) out out' err err' status one shown same =
+    inr (file.OutOfMemory, tt, one, shown, same)
+without_memory out_holds err_holds files (answer path method target) out out' err err' status one shown same =
     inr (file.OutOfMemory, tt, one, shown, same)

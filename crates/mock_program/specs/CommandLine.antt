@@ -8,18 +8,24 @@ pub data Asked : Type 0 where
   render : List ℕ → List ℕ → List ℕ → Asked
   -- `check FILE`
   check : List ℕ → Asked
+  -- `answer MAPPINGS METHOD URL`
+  answer : List ℕ → List ℕ → List ℕ → Asked
 
 abbrev pub name_of : Asked → List ℕ
 name_of (render template method target) = codes "render"
 name_of (check file) = codes "check"
+name_of (answer file method target) = codes "answer"
 
 abbrev pub given_to : Asked → List (List ℕ)
 given_to (render template method target) = template ∷ method ∷ target ∷ []
 given_to (check file) = file ∷ []
+given_to (answer file method target) = file ∷ method ∷ target ∷ []
 
 -- a command's name, and how many arguments it has
 abbrev pub IsCommand : List ℕ → ℕ → Type 0
-IsCommand name count = ((name ≡ codes "render") × (count ≡ 3)) ⊎ ((name ≡ codes "check") × (count ≡ 1))
+IsCommand name count =
+    ((name ≡ codes "render") × (count ≡ 3)) ⊎ ((name ≡ codes "check") × (count ≡ 1))
+    ⊎ ((name ≡ codes "answer") × (count ≡ 3))
 
 -- an argument that is taken as it is where a command's first one is expected: no call for help, and not the end of the
 -- flags

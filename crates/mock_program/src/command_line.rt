@@ -17,6 +17,7 @@ use command_output::error::CommandError;
 use command_output::files::FileReader;
 use command_output::status::{FAILURE, INVALID_ARGUMENTS, SUCCESS};
 use error_code::error_code::ErrorCode;
+use mapping_answer::answer::answer_file;
 use mapping_check::check::check_file;
 use std::alloc::Global;
 use std::io::Write;
@@ -67,11 +68,16 @@ fn run_call<F: FileReader, O: Write, E: Write>(
             target,
         } => render_to(alloc, template, method, target, out, err),
         Call::Check { file } => check_file(alloc, files, file, out, err),
+        Call::Answer {
+            file,
+            method,
+            target,
+        } => answer_file(alloc, files, file, method, target, out, err),
     }
 }
 
-// Writes the text of `clap`, and gives the exit status.
-fn write_parser_message<O: Write, E: Write>(error: &Error, out: &mut O, err: &mut E) -> u8
+/// Writes the text of `clap` for help or invalid arguments, and gives the exit status.
+pub fn write_parser_message<O: Write, E: Write>(error: &Error, out: &mut O, err: &mut E) -> u8
     ensures no_memory { kind_of error.now ≡ ErrorKind.OutOfMemory
         → (result ≡ 1) × AppendsFront (E.contents err.old) (E.contents err.new) (error_line out_of_memory)
         × (out.new ≡ out.old) }

@@ -2,15 +2,17 @@
 ghost use Rattle.std.specs.Prelude.{◌≡◌, IfOk, IfErr, false, map, option_map, true};
 ghost use Rattle.clap.specs.Words.{FailsBy, app_of, first_of, found_of, kind_of, rows_of, rule_of};
 ghost use Rattle.clap.specs.declared.error.kind.ErrorKind.{ErrorKind};
-ghost use Rattle.mock_program.specs.Inner.Parser.{answers_to, asked_by, asked_in, asked_of, check_in, is_taken};
-ghost use Rattle.mock_program.specs.Inner.Parser.{mock_app, render_in, required_rule};
+ghost use Rattle.mock_program.specs.Inner.Parser.{answer_in, answers_to, asked_by, asked_in, asked_of, check_in};
+ghost use Rattle.mock_program.specs.Inner.Parser.{is_taken, mock_app, render_in, required_rule};
 
 use clap::{Arg, ArgMatches, Command, Error};
 use std::alloc::{AllocError, Global};
 
 const MOCK_HELP: &str = "Examples:
   mock render 'Hello {{request.path.[1]}}' GET /hi/Ann
-  mock check mappings.json";
+  mock check mappings.json
+  mock answer mappings.json GET /hi/Ann
+  mock serve --port 8080 --mappings mappings.json";
 
 const RENDER_HELP: &str =
     "It prints the steps that the run took and the bytes that it wrote, each beside its budget, and
@@ -32,6 +34,15 @@ Example:
 
 A file that is `-h`, `--help` or `--` follows a `--`.";
 
+const ANSWER_HELP: &str =
+    "It prints the reply to one request, without headers and body, of a server that has just started with
+the mappings of the file: the status, the headers, an empty line and the body.
+
+Example:
+  mock answer mappings.json GET /hi/Ann
+
+A file that is `-h`, `--help` or `--` follows a `--`; all other arguments are taken as they are.";
+
 /// A command that is asked for, with its arguments as they are on the command line.
 #[derive(Clone, Copy)]
 pub(crate) enum Call<'a> {
@@ -42,6 +53,11 @@ pub(crate) enum Call<'a> {
     },
     Check {
         file: &'a str,
+    },
+    Answer {
+        file: &'a str,
+        method: &'a str,
+        target: &'a str,
     },
 }
 
@@ -70,6 +86,7 @@ fn call_in<'a>(name: &str, arguments: &ArgMatches<'a>) -> Option<Call<'a>>
     match name {
         "render" => render_call(arguments),
         "check" => check_call(arguments),
+        "answer" => answer_call(arguments),
         _ => None,
     }
 }
@@ -89,6 +106,16 @@ fn check_call<'a>(arguments: &ArgMatches<'a>) -> Option<Call<'a>>
 {
     Some(Call::Check {
         file: value(arguments, "file")?,
+    })
+}
+
+fn answer_call<'a>(arguments: &ArgMatches<'a>) -> Option<Call<'a>>
+    ensures { option_map asked_of result ≡ answer_in (rows_of (found_of arguments.now)) }
+{
+    Some(Call::Answer {
+        file: value(arguments, "mappings")?,
+        method: value(arguments, "method")?,
+        target: value(arguments, "url")?,
     })
 }
 
@@ -126,6 +153,22 @@ fn command<'a>(alloc: Global) -> Result<Command<'a>, AllocError>
             "FILE",
             "A JSON file: a mapping, or an object with a list `mappings`",
         ))?;
+    let answer = Command::new(alloc, "answer")
+        .about("Prints the reply to one request of a server with the mappings of a file")
+        .after_help(ANSWER_HELP)
+        .arg(required(
+            alloc,
+            "mappings",
+            "MAPPINGS",
+            "A JSON file: a mapping, or an object with a list `mappings`",
+        ))?
+        .arg(required(alloc, "method", "METHOD", "The request's method, as GET"))?
+        .arg(required(
+            alloc,
+            "url",
+            "URL",
+            "The request's target, as /hi/Ann?q=1 or http://host/hi/Ann",
+        ))?;
     Command::new(alloc, "mock")
         .version("1")
         .about("A stub server for HTTP whose answers are proved")
@@ -133,7 +176,8 @@ fn command<'a>(alloc: Global) -> Result<Command<'a>, AllocError>
         .subcommand_required(true)
         .disable_help_subcommand(true)
         .subcommand(render)?
-        .subcommand(check)
+        .subcommand(check)?
+        .subcommand(answer)
 }
 
 fn required<'a>(alloc: Global, id: &'a str, name: &'a str, help: &'a str) -> Arg<'a>

@@ -5,4 +5,5 @@ pub mod Lent
 pub mod Refused
 pub mod Reading
 pub mod Settled
+pub mod Script
 pub mod Inner

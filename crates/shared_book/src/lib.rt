@@ -7,11 +7,13 @@
 mod audit;
 pub mod book_read;
 mod compare;
+pub mod gate;
 mod gather;
 mod locked;
 mod look;
 pub mod origin;
 pub mod receipt;
+pub mod script;
 pub mod seat;
 pub mod settle;
 pub mod settled;

@@ -145,8 +145,9 @@ impl<L: Origin> Locked<L> {
         ensures number { IfOk result (λ reading. reading.number ≡ last_number self.now) }
         ensures answer { IfOk result (λ reading. IsLooked self.now asked.now reading.answer) }
     {
+        let number = self.book.event_count();
         Ok(Reading {
-            number: self.book.event_count(),
+            number,
             answer: look(&self.book, alloc, asked)?,
         })
     }

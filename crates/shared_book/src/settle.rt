@@ -1,5 +1,5 @@
 // Comparing the receipts of all seats with the book's history.
-ghost use Rattle.std.specs.Prelude.{◌≡◌, ◌≢◌, ◌+◌, ◌^◌, ◌<◌, ◌↔◌, IfErr, IfOk, MatchOption, length};
+ghost use Rattle.std.specs.Prelude.{◌≡◌, ◌≢◌, ◌+◌, ◌^◌, ◌<◌, ◌↔◌, IfErr, IfOk, MatchOption, None, length};
 ghost use Rattle.request_journal.specs.Past.{Past};
 ghost use Rattle.shared_book.specs.Held.{all_lists, all_parts, receipts_of};
 ghost use Rattle.shared_book.specs.Reached.{IsReached};
@@ -18,6 +18,8 @@ pub struct SettleError<L: Origin> {
     pub reason: SettleRefusal,
     pub shared: SharedBook<L>,
     pub seats: Vec<Seat<L>>,
+    /// The one seat of `run_scripts`, where there was no memory for a list.
+    pub alone: Option<Seat<L>>,
 }
 
 /// Compares the receipts of all seats with the book's history. Where they are those of one history, gives them by their
@@ -29,7 +31,7 @@ pub fn settle<L: Origin, R: Wait>(
     seats: Vec<Seat<L>>,
 ) -> Result<Settled, SettleError<L>>
     ensures settled { IfOk result (λ settled. (past : Past) × IsSettled L.origin past (all_lists seats.items) settled) }
-    ensures handed_back { IfErr result (λ error. error.seats.items ≡ seats.items) }
+    ensures handed_back { IfErr result (λ error. (error.seats.items ≡ seats.items) × (error.alone ≡ None)) }
     ensures why { IfErr result (λ error. (past : Past) × IsReached L.origin past
         × IsUnsettled L.origin L.parts past seats.items error.reason) }
 {
@@ -40,6 +42,7 @@ pub fn settle<L: Origin, R: Wait>(
             reason,
             shared,
             seats,
+            alone: None,
         }),
     }
 }

@@ -26,13 +26,25 @@ use std::alloc::{AllocError, Global};
 use std::marker::Model;
 
 /// A book, which contracts see as its past.
-#[derive(Drop)]
 pub struct Book {
     pub(crate) history: History,
     pub(crate) store: MappingStore,
     pub(crate) scenarios: Scenarios,
     pub(crate) recording: Recording,
     pub(crate) alloc: Global,
+}
+
+// Written out, so that a caller's proof sees one call and not the drop of each part.
+impl Drop for Book {
+    fn drop(self) {
+        let Book {
+            history: _history,
+            store: _store,
+            scenarios: _scenarios,
+            recording: _recording,
+            alloc: _alloc,
+        } = self;
+    }
 }
 
 impl Model for Book {

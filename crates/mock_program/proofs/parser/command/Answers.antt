@@ -1,7 +1,7 @@
 use Rattle.std.proofs.Common.{◌≡◌, refl, rules, ap, ap₂, ◌∙◌, codes}
 use Rattle.std.proofs.lemmas.Result.{IfOk-weaker}
 use Rattle.clap.specs.Words.{App, app_of, new_app, rule_of, with_rule, with_subcommand}
-use Rattle.mock_program.specs.Inner.Parser.{check_app, program_app, render_app, required_rule}
+use Rattle.mock_program.specs.Inner.Parser.{answer_app, check_app, program_app, render_app, required_rule}
 use Rattle.mock_program.proofs.parser.command.Goals as goal
 
 pub returns : goal.returns
@@ -20,17 +20,31 @@ returns c =
     rw (c.after_help-2.ensures, c.about-2.ensures) c.new-2.ensures.app in
     let check_is : app_of c.in_ok-check.check ≡ check_app =
     c.in_ok-check.ensures.shape c.required-4.ensures.local ∙ ap₂ with_rule no_check file_is in
+    let mappings_is : rule_of c.required-5.result ≡ required_rule (codes "mappings") = search rules in
+    let method_too : rule_of c.required-6.result ≡ required_rule (codes "method") = search rules in
+    let url_too : rule_of c.required-7.result ≡ required_rule (codes "url") = search rules in
+    let no_answer : app_of c.after_help-3.result ≡ new_app (codes "answer") =
+    rw (c.after_help-3.ensures, c.about-3.ensures) c.new-3.ensures.app in
+    let answer_is : app_of c.in_ok-answer.answer ≡ answer_app = c.in_ok-answer.ensures.shape c.required-7.ensures.local
+    ∙ ap₂ with_rule (c.in_ok-arg-4.ensures.shape c.required-6.ensures.local
+    ∙ ap₂ with_rule
+    (c.in_ok-arg-3.ensures.shape c.required-5.ensures.local ∙ ap₂ with_rule no_answer mappings_is) method_too) url_too in
     let program_is : app_of c.disable_help_subcommand.result ≡ program_app =
-    rw (c.disable_help_subcommand.ensures, c.subcommand_required.ensures, c.after_help-3.ensures)
-    (rw (c.about-3.ensures, c.version.ensures) (search rules)) in
+    rw (c.disable_help_subcommand.ensures, c.subcommand_required.ensures, c.after_help-4.ensures)
+    (rw (c.about-4.ensures, c.version.ensures) (search rules)) in
     let with_render = c.in_ok-subcommand.ensures.shape
     (rw (c.in_ok-render.ensures.globals, c.in_ok-arg-2.ensures.globals, c.in_ok-arg.ensures.globals)
     (rw (c.after_help.ensures, c.about.ensures, c.new.ensures.local)
     (rw (c.required.ensures.local, c.required-2.ensures.local, c.required-3.ensures.local) refl)))
     ∙ ap₂ with_subcommand program_is (ap (λ (a : App). a.top) render_is) in
-    IfOk-weaker c.subcommand-2.result _ _
-    (λ made added. added.shape
+    let with_check = c.in_ok-subcommand-2.ensures.shape
     (rw c.in_ok-check.ensures.globals
     (rw (c.after_help-2.ensures, c.about-2.ensures, c.new-2.ensures.local) (rw c.required-4.ensures.local refl)))
-    ∙ ap₂ with_subcommand with_render (ap (λ (a : App). a.top) check_is))
-    c.subcommand-2.ensures
+    ∙ ap₂ with_subcommand with_render (ap (λ (a : App). a.top) check_is) in
+    IfOk-weaker c.subcommand-3.result _ _
+    (λ made added. added.shape
+    (rw (c.in_ok-answer.ensures.globals, c.in_ok-arg-4.ensures.globals, c.in_ok-arg-3.ensures.globals)
+    (rw (c.after_help-3.ensures, c.about-3.ensures, c.new-3.ensures.local)
+    (rw (c.required-5.ensures.local, c.required-6.ensures.local, c.required-7.ensures.local) refl)))
+    ∙ ap₂ with_subcommand with_check (ap (λ (a : App). a.top) answer_is))
+    c.subcommand-3.ensures

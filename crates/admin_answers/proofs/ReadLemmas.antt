@@ -1,0 +1,124 @@
+-- What is answered from a reading is what the past that was read says.
+use Rattle.std.proofs.Common.{◌≡◌, ◌⊎◌, ℕ, List, Vec, Option, Some, None, Any, Result, Ok, Err, IfOk, IfErr, inl, inr, sym, subst, ◌∙◌}
+use Rattle.std.specs.declared.alloc.AllocError.{AllocError}
+use Rattle.std.specs.declared.alloc.Global.{Global}
+use Rattle.admin_answers.specs.Answers.{InPast, IsHeldReply, IsReadReply}
+use Rattle.admin_answers.specs.declared.error.SharedError.{SharedError}
+use Rattle.error_code.specs.declared.error_code.ErrorCode.TheVariants as code
+use Rattle.admin_answers.specs.JsonReply.{IsJsonReply}
+use Rattle.admin_json.specs.Mappings.{json_of_held, json_of_mappings}
+use Rattle.admin_json.specs.Requests.{json_of_requests, json_of_found, json_of_number}
+use Rattle.admin_json.specs.Scenarios.{json_of_scenarios}
+use Rattle.admin_routes.specs.declared.call.AdminCall.TheVariants as call
+use Rattle.mapping_model.specs.declared.reply.Reply.{Reply}
+use Rattle.mapping_model.specs.declared.request_spec.RequestSpec.{RequestSpec}
+use Rattle.request_journal.specs.Legal.{IsLive}
+use Rattle.request_journal.specs.Live.{live}
+use Rattle.request_journal.specs.Past.{Past, Placed}
+use Rattle.request_journal.specs.declared.entry.Entry.{Entry}
+use Rattle.request_journal.specs.declared.mapping.Mapping.{Mapping}
+use Rattle.scenario_core.specs.Scenarios.{States}
+use Rattle.shared_book.specs.Reading.{IsRead, IsReadAnswer}
+use Rattle.shared_book.specs.declared.book_read.BookRead.{BookRead}
+use Rattle.shared_book.specs.declared.book_read.BookRead.TheVariants as read
+use Rattle.shared_book.specs.declared.book_read.ReadAnswer.{ReadAnswer}
+use Rattle.shared_book.specs.declared.book_read.ReadAnswer.TheVariants as answer
+use Rattle.shared_book.specs.declared.book_read.Reading.{Reading}
+
+-- what the past that was read says of this answer
+said : (origin : Past) (asked : BookRead) (reading : Reading) (found : ReadAnswer) → (is : IsRead origin asked reading)
+    → reading.answer ≡ found → IsReadAnswer is.past asked found
+said origin asked reading found is e = subst (IsReadAnswer is.past asked) e is.answer
+
+pub mappings
+    : (origin : Past) (list : Vec Mapping Global) (reading : Reading) (result : Result Reply AllocError)
+    → IsRead origin read.Mappings reading → reading.answer ≡ answer.Mappings list
+    → IfOk result (IsJsonReply 200 (json_of_mappings list.items)) → IfOk result (λ reply. InPast origin (IsReadReply call.ListMappings reply))
+mappings origin list reading (Ok reply) is e json =
+    (is.past, is.reached, (list.items, said origin read.Mappings reading _ is e, json))
+mappings origin list reading (Err why) is e json = tt
+
+pub requests
+    : (origin : Past) (list : Vec Entry Global) (reading : Reading) (result : Result Reply AllocError)
+    → IsRead origin read.Requests reading → reading.answer ≡ answer.Requests list
+    → IfOk result (IsJsonReply 200 (json_of_requests list.items)) → IfOk result (λ reply. InPast origin (IsReadReply call.ListRequests reply))
+requests origin list reading (Ok reply) is e json =
+    (is.past, is.reached, subst (λ es. IsJsonReply 200 (json_of_requests es) reply) (said origin read.Requests reading _ is e) json)
+requests origin list reading (Err why) is e json = tt
+
+pub unmatched
+    : (origin : Past) (list : Vec Entry Global) (reading : Reading) (result : Result Reply AllocError)
+    → IsRead origin read.Unmatched reading → reading.answer ≡ answer.Requests list
+    → IfOk result (IsJsonReply 200 (json_of_found list.items)) → IfOk result (λ reply. InPast origin (IsReadReply call.ListUnmatched reply))
+unmatched origin list reading (Ok reply) is e json =
+    (is.past, is.reached, subst (λ es. IsJsonReply 200 (json_of_found es) reply) (said origin read.Unmatched reading _ is e) json)
+unmatched origin list reading (Err why) is e json = tt
+
+pub found
+    : (origin : Past) (matcher : RequestSpec) (list : Vec Entry Global) (reading : Reading) (result : Result Reply AllocError)
+    → IsRead origin (read.Find matcher) reading → reading.answer ≡ answer.Requests list
+    → IfOk result (IsJsonReply 200 (json_of_found list.items)) → IfOk result (λ reply. InPast origin (IsReadReply (call.FindRequests matcher) reply))
+found origin matcher list reading (Ok reply) is e json =
+    (is.past, is.reached, (list.items, said origin (read.Find matcher) reading _ is e, json))
+found origin matcher list reading (Err why) is e json = tt
+
+pub counted
+    : (origin : Past) (matcher : RequestSpec) (count : ℕ) (reading : Reading) (result : Result Reply AllocError)
+    → IsRead origin (read.Count matcher) reading → reading.answer ≡ answer.Count count
+    → IfOk result (IsJsonReply 200 (json_of_number count)) → IfOk result (λ reply. InPast origin (IsReadReply (call.CountRequests matcher) reply))
+counted origin matcher count reading (Ok reply) is e json =
+    (is.past, is.reached, (count, said origin (read.Count matcher) reading _ is e, json))
+counted origin matcher count reading (Err why) is e json = tt
+
+pub scenarios
+    : (origin : Past) (states : States) (list : Vec Mapping Global) (reading : Reading) (result : Result Reply AllocError)
+    → IsRead origin read.Scenarios reading → reading.answer ≡ answer.Scenarios states list
+    → IfOk result (IsJsonReply 200 (json_of_scenarios states list.items))
+    → IfOk result (λ reply. InPast origin (IsReadReply call.ListScenarios reply))
+scenarios origin states list reading (Ok reply) is e json =
+    let says = said origin read.Scenarios reading _ is e in (
+      is.past,
+      is.reached,
+      (states, says.0, (list.items, says.1, json)),
+    )
+scenarios origin states list reading (Err why) is e json = tt
+
+same_mapping : (a b : Mapping) → a.id ≡ b.id → a.spec ≡ b.spec → a ≡ b
+same_mapping a b id spec = λ i. record { id = id i; spec = spec i }
+
+pub mapping
+    : (origin : Past) (id : List ℕ) (held : Mapping) (reading : Reading) (reply : Reply)
+    → IsRead origin (read.Mapping id) reading → reading.answer ≡ answer.Mapping (Some held)
+    → IsJsonReply 200 (json_of_held held) reply → InPast origin (IsReadReply (call.ReadMapping id) reply)
+mapping origin id held reading reply is e json =
+    let says = said origin (read.Mapping id) reading _ is e in
+    let at = says.1 in
+    let same = same_mapping held at.1.mapping (says.0 ∙ sym at.4.0) (sym at.4.1) in (
+      is.past,
+      is.reached,
+      (at.0, at.1, at.2, at.3, (at.4.0, subst (λ m. IsJsonReply 200 (json_of_held m) reply) same json)),
+    )
+
+pub missing
+    : (origin : Past) (id : List ℕ) (reading : Reading) → IsRead origin (read.Mapping id) reading
+    → reading.answer ≡ answer.Mapping None → InPast origin (λ past. ¬ (IsLive past id))
+missing origin id reading is e = (is.past, is.reached, said origin (read.Mapping id) reading _ is e)
+
+pub held
+    : (origin : Past) (id : List ℕ) (kept : Option Mapping) (reading : Reading) (result : Result Reply SharedError)
+    → IsRead origin (read.Mapping id) reading → reading.answer ≡ answer.Mapping kept → IfOk result (IsHeldReply kept)
+    → IfOk result (λ reply. InPast origin (IsReadReply (call.ReadMapping id) reply))
+held origin id (Some m) reading (Ok reply) is e json = mapping origin id m reading reply is e json
+held origin id None reading (Ok reply) is e json = absurd json
+held origin id kept reading (Err why) is e json = tt
+
+pub not_held
+    : (origin : Past) (id : List ℕ) (kept : Option Mapping) (reading : Reading) (result : Result Reply SharedError)
+    → IsRead origin (read.Mapping id) reading → reading.answer ≡ answer.Mapping kept
+    → IfErr result (λ error. (error.code ≡ code.OutOfMemory) ⊎ ((error.code ≡ code.UnknownMapping) × (kept ≡ None)))
+    → IfErr result (λ error. (error.code ≡ code.OutOfMemory)
+    ⊎ ((error.code ≡ code.UnknownMapping) × InPast origin (λ past. ¬ (IsLive past id))))
+not_held origin id kept reading (Ok reply) is e why = tt
+not_held origin id kept reading (Err error) is e (inl memory) = inl memory
+not_held origin id kept reading (Err error) is e (inr none) =
+    inr (none.0, missing origin id reading is (e ∙ (λ i. answer.Mapping (none.1 i))))

@@ -1,0 +1,124 @@
+-- What a shared book answers to an admin call (WireMock's documentation, "Admin API"), and why it is refused.
+use Rattle.std.specs.Prelude.{◌≡◌, ◌⊎◌, ℕ, List, Option, Some, None, Any}
+use Rattle.admin_json.specs.Mappings.{json_of_held, json_of_mappings}
+use Rattle.admin_json.specs.Requests.{json_of_requests, json_of_found, json_of_number}
+use Rattle.admin_json.specs.Scenarios.{json_of_scenarios}
+use Rattle.admin_answers.specs.JsonReply.{IsJsonReply}
+use Rattle.admin_routes.specs.declared.call.AdminCall.{AdminCall}
+use Rattle.admin_routes.specs.declared.call.AdminCall.TheVariants as call
+use Rattle.error_code.specs.declared.error_code.ErrorCode.{ErrorCode}
+use Rattle.error_code.specs.declared.error_code.ErrorCode.TheVariants as code
+use Rattle.mapping_model.specs.declared.reply.Reply.{Reply}
+use Rattle.mapping_store.specs.Stored.{IsNewestFirst}
+use Rattle.request_journal.specs.Input.{IsAsked}
+use Rattle.request_journal.specs.Journal.{requests, unmatched, IsCount, Picks}
+use Rattle.request_journal.specs.Legal.{IsLive}
+use Rattle.request_journal.specs.Live.{live}
+use Rattle.request_journal.specs.Past.{Past}
+use Rattle.request_journal.specs.State.{state}
+use Rattle.request_journal.specs.declared.entry.Entry.{Entry}
+use Rattle.request_journal.specs.declared.event.Event.{Event}
+use Rattle.request_journal.specs.declared.event.Event.TheVariants as event
+use Rattle.request_journal.specs.declared.mapping.Mapping.{Mapping}
+use Rattle.request_journal.specs.declared.input.BookInput.{BookInput}
+use Rattle.request_journal.specs.declared.input.BookInput.TheVariants as input
+use Rattle.request_match.specs.Matching.{MeetsRequest}
+use Rattle.scenario_core.specs.Scenarios.{States, state_of}
+use Rattle.serde_json.specs.Data.{object, no_members}
+use Rattle.shared_book.specs.Held.{Held, with_receipt}
+use Rattle.shared_book.specs.Reached.{IsReached}
+use Rattle.shared_book.specs.Receipts.{IsReceipt}
+use Rattle.shared_book.specs.Refused.{IsRefused}
+use Rattle.shared_book.specs.declared.receipt.Receipt.{Receipt}
+
+-- ---- changes
+
+-- the seat has gained the receipt of what was asked for
+pub record Gains (origin : Past) (old new : Held) (asked : BookInput) (receipt : Receipt) : Type 0 where
+  pub gained : new ≡ with_receipt old receipt
+  pub is_asked : IsAsked asked receipt.event
+  pub is_receipt : IsReceipt origin receipt
+
+-- the mapping as it is after the event, and 201 where it is a new one; `{}` with any other event
+abbrev pub IsEventReply : Event → Reply → Type 0
+IsEventReply (event.Add mapping) reply = IsJsonReply 201 (json_of_held mapping) reply
+IsEventReply (event.Edit id spec) reply = IsJsonReply 200 (json_of_held (record { id = id; spec = spec })) reply
+IsEventReply other reply = IsJsonReply 200 (object no_members) reply
+
+-- the change was made, and this is answered
+abbrev pub IsChanged : Past → Held → Held → BookInput → Reply → Type 0
+IsChanged origin old new asked reply =
+    (receipt : Receipt) × Gains origin old new asked receipt × IsEventReply receipt.event reply
+
+-- the change was refused, and the seat is as before; or memory ran out while the answer was written, and the change
+-- stands
+abbrev pub IsNotChanged : Past → Held → Held → BookInput → ErrorCode → Type 0
+IsNotChanged origin old new asked reason =
+    ((new ≡ old) × IsRefused origin asked reason)
+    ⊎ ((reason ≡ code.OutOfMemory) × ((receipt : Receipt) × Gains origin old new asked receipt))
+
+-- ---- readings
+
+-- the fact holds of a past that was reached
+abbrev pub InPast : Past → (Past → Type 0) → Type 0
+InPast origin P = (past : Past) × IsReached origin past × P past
+
+-- the mapping, where there is one
+abbrev pub IsHeldReply : Option Mapping → Reply → Type 0
+IsHeldReply None reply = ⊥
+IsHeldReply (Some mapping) reply = IsJsonReply 200 (json_of_held mapping) reply
+
+-- what a call that changes nothing is answered in a past: mappings and requests the newest first
+abbrev pub IsReadReply : AdminCall → Reply → Past → Type 0
+IsReadReply call.ListMappings reply past =
+    (listed : List Mapping) × IsNewestFirst (live past) listed × IsJsonReply 200 (json_of_mappings listed) reply
+IsReadReply (call.ReadMapping id) reply past =
+    Any (λ p. (p.mapping.id ≡ id) × IsJsonReply 200 (json_of_held p.mapping) reply) (live past)
+IsReadReply call.ListRequests reply past = IsJsonReply 200 (json_of_requests (requests past)) reply
+IsReadReply call.ListUnmatched reply past = IsJsonReply 200 (json_of_found (unmatched past)) reply
+IsReadReply (call.FindRequests matcher) reply past =
+    (found : List Entry) × Picks (λ entry. MeetsRequest matcher entry.request) (requests past) found
+    × IsJsonReply 200 (json_of_found found) reply
+IsReadReply (call.CountRequests matcher) reply past =
+    (count : ℕ) × IsCount (λ entry. MeetsRequest matcher entry.request) (requests past) count
+    × IsJsonReply 200 (json_of_number count) reply
+IsReadReply call.ListScenarios reply past =
+    (states : States) × ((name : List ℕ) → state_of states name ≡ state past name)
+    × ((listed : List Mapping) × IsNewestFirst (live past) listed
+    × IsJsonReply 200 (json_of_scenarios states listed) reply)
+IsReadReply other reply past = ⊥
+
+-- ---- calls
+
+-- the call was answered: what it changed, or read, is that of the one history, and the seat has one more receipt exactly
+-- where it changed something
+abbrev pub IsAnswered : Past → Held → Held → AdminCall → Reply → Type 0
+IsAnswered origin old new (call.AddMapping mapping) reply = IsChanged origin old new (input.Add mapping) reply
+IsAnswered origin old new (call.EditMapping id mapping) reply = IsChanged origin old new (input.Edit id mapping) reply
+IsAnswered origin old new (call.DeleteMapping id) reply = IsChanged origin old new (input.Delete id) reply
+IsAnswered origin old new call.DeleteMappings reply = IsChanged origin old new input.DeleteAll reply
+IsAnswered origin old new call.ResetMappings reply = IsChanged origin old new input.ResetMappings reply
+IsAnswered origin old new call.ResetAll reply = IsChanged origin old new input.ResetAll reply
+IsAnswered origin old new call.ClearRequests reply = IsChanged origin old new input.ClearJournal reply
+IsAnswered origin old new call.ResetScenarios reply = IsChanged origin old new input.ResetScenarios reply
+IsAnswered origin old new (call.SetScenario name state) reply =
+    IsChanged origin old new (input.SetScenario name state) reply
+IsAnswered origin old new read reply = (new ≡ old) × InPast origin (IsReadReply read reply)
+
+-- why the call has no answer, and what it left
+abbrev pub IsNotAnswered : Past → Held → Held → AdminCall → ErrorCode → Type 0
+IsNotAnswered origin old new (call.AddMapping mapping) reason = IsNotChanged origin old new (input.Add mapping) reason
+IsNotAnswered origin old new (call.EditMapping id mapping) reason =
+    IsNotChanged origin old new (input.Edit id mapping) reason
+IsNotAnswered origin old new (call.DeleteMapping id) reason = IsNotChanged origin old new (input.Delete id) reason
+IsNotAnswered origin old new call.DeleteMappings reason = IsNotChanged origin old new input.DeleteAll reason
+IsNotAnswered origin old new call.ResetMappings reason = IsNotChanged origin old new input.ResetMappings reason
+IsNotAnswered origin old new call.ResetAll reason = IsNotChanged origin old new input.ResetAll reason
+IsNotAnswered origin old new call.ClearRequests reason = IsNotChanged origin old new input.ClearJournal reason
+IsNotAnswered origin old new call.ResetScenarios reason = IsNotChanged origin old new input.ResetScenarios reason
+IsNotAnswered origin old new (call.SetScenario name state) reason =
+    IsNotChanged origin old new (input.SetScenario name state) reason
+IsNotAnswered origin old new (call.ReadMapping id) reason =
+    (new ≡ old)
+    × ((reason ≡ code.OutOfMemory) ⊎ ((reason ≡ code.UnknownMapping) × InPast origin (λ past. ¬ (IsLive past id))))
+IsNotAnswered origin old new read reason = (new ≡ old) × (reason ≡ code.OutOfMemory)

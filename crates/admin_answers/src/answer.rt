@@ -1,0 +1,60 @@
+// What a shared book answers to an admin call.
+ghost use Rattle.std.specs.Prelude.{IfOk, IfErr};
+ghost use Rattle.admin_answers.specs.Answers.{IsAnswered, IsNotAnswered};
+
+use crate::change::change;
+use crate::error::SharedError;
+use crate::reads::{
+    count_requests, find_requests, list_mappings, list_requests, list_scenarios, list_unmatched,
+    read_mapping,
+};
+use admin_routes::call::AdminCall;
+use mapping_model::reply::Reply;
+use request_journal::input::BookInput;
+use shared_book::origin::Origin;
+use shared_book::seat::Seat;
+use shared_book::shared_book::SharedBook;
+use std::alloc::Global;
+use std::sync::Wait;
+
+/// Makes the one change, or the one reading, that the call asks for, and answers it. Where memory runs out while the
+/// answer is written, the change and its receipt stand.
+pub fn answer_admin<L: Origin, R: Wait>(
+    rt: &R,
+    alloc: Global,
+    shared: &SharedBook<L>,
+    seat: &mut Seat<L>,
+    call: AdminCall,
+) -> Result<Reply, SharedError>
+    ensures ok { IfOk result (IsAnswered L.origin seat.old seat.new call) }
+    ensures refused { IfErr result (λ error. IsNotAnswered L.origin seat.old seat.new call error.code) }
+{
+    match call {
+        AdminCall::AddMapping(mapping) => change(rt, alloc, shared, seat, BookInput::Add(mapping)),
+        AdminCall::EditMapping { id, mapping } => {
+            change(rt, alloc, shared, seat, BookInput::Edit { id, mapping })
+        }
+        AdminCall::DeleteMapping(id) => change(rt, alloc, shared, seat, BookInput::Delete(id)),
+        AdminCall::DeleteMappings => change(rt, alloc, shared, seat, BookInput::DeleteAll),
+        AdminCall::ResetMappings => change(rt, alloc, shared, seat, BookInput::ResetMappings),
+        AdminCall::ResetAll => change(rt, alloc, shared, seat, BookInput::ResetAll),
+        AdminCall::ClearRequests => change(rt, alloc, shared, seat, BookInput::ClearJournal),
+        AdminCall::ResetScenarios => change(rt, alloc, shared, seat, BookInput::ResetScenarios),
+        AdminCall::SetScenario { name, state } => {
+            change(
+                rt,
+                alloc,
+                shared,
+                seat,
+                BookInput::SetScenario { name, state },
+            )
+        }
+        AdminCall::ListMappings => Ok(list_mappings(rt, alloc, shared, seat)?),
+        AdminCall::ReadMapping(id) => read_mapping(rt, alloc, shared, seat, id),
+        AdminCall::ListRequests => Ok(list_requests(rt, alloc, shared, seat)?),
+        AdminCall::ListUnmatched => Ok(list_unmatched(rt, alloc, shared, seat)?),
+        AdminCall::FindRequests(matcher) => Ok(find_requests(rt, alloc, shared, seat, matcher)?),
+        AdminCall::CountRequests(matcher) => Ok(count_requests(rt, alloc, shared, seat, matcher)?),
+        AdminCall::ListScenarios => Ok(list_scenarios(rt, alloc, shared, seat)?),
+    }
+}

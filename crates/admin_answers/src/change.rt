@@ -1,0 +1,55 @@
+// Calls that change the book.
+ghost use Rattle.std.specs.Prelude.{◌≡◌, IfOk, IfErr};
+ghost use Rattle.admin_answers.specs.Answers.{IsChanged, IsNotChanged, IsEventReply};
+ghost use Rattle.admin_answers.specs.JsonReply.{IsJsonReply};
+ghost use Rattle.admin_json.specs.Mappings.{json_of_held};
+
+use crate::error::SharedError;
+use crate::json_reply::value_reply;
+use admin_json::mappings::mapping_value;
+use mapping_model::mapping_id::MappingId;
+use mapping_model::reply::Reply;
+use request_journal::event::Event;
+use request_journal::input::BookInput;
+use request_journal::mapping::Mapping;
+use request_match::shared_spec::SharedSpec;
+use serde_json::{Map, Value};
+use shared_book::origin::Origin;
+use shared_book::seat::Seat;
+use shared_book::shared_book::SharedBook;
+use std::alloc::{AllocError, Global};
+use std::sync::Wait;
+
+/// Makes the change, and answers it. The JSON is written after the lock was let go, from the event that the receipt has.
+pub(crate) fn change<L: Origin, R: Wait>(
+    rt: &R,
+    alloc: Global,
+    shared: &SharedBook<L>,
+    seat: &mut Seat<L>,
+    asked: BookInput,
+) -> Result<Reply, SharedError>
+    ensures ok { IfOk result (IsChanged L.origin seat.old seat.new asked) }
+    ensures refused { IfErr result (λ error. IsNotChanged L.origin seat.old seat.new asked error.code) }
+{
+    match seat.apply(rt, shared, asked) {
+        Ok(receipt) => Ok(event_reply(alloc, receipt.event.event())?),
+        Err(error) => Err(SharedError::from(error)),
+    }
+}
+
+fn event_reply(alloc: Global, event: &Event) -> Result<Reply, AllocError>
+    ensures { IfOk result (IsEventReply event.now) }
+{
+    match event {
+        Event::Add(mapping) => value_reply(alloc, 201, &mapping_value(alloc, mapping)?),
+        Event::Edit { id, spec } => edited_reply(alloc, *id, spec),
+        _ => value_reply(alloc, 200, &Value::Object(Map::new(alloc))),
+    }
+}
+
+fn edited_reply(alloc: Global, id: MappingId, spec: &SharedSpec) -> Result<Reply, AllocError>
+    ensures { IfOk result (IsJsonReply 200 (json_of_held (record { id = id; spec = spec.now }))) }
+{
+    let spec = spec.try_clone()?;
+    value_reply(alloc, 200, &mapping_value(alloc, &Mapping { id, spec })?)
+}

@@ -1,0 +1,192 @@
+// Calls that read the book. The JSON is written after the lock was let go.
+ghost use Rattle.std.specs.Prelude.{◌≡◌, ◌⊎◌, IfErr, IfOk, None};
+ghost use Rattle.admin_answers.specs.Answers.{InPast, IsHeldReply, IsReadReply};
+ghost use Rattle.admin_answers.specs.JsonReply.{IsJsonReply};
+ghost use Rattle.admin_json.specs.Mappings.{json_of_held, json_of_mappings};
+ghost use Rattle.admin_json.specs.Requests.{json_of_found, json_of_number, json_of_requests};
+ghost use Rattle.admin_json.specs.Scenarios.{json_of_scenarios};
+ghost use Rattle.admin_routes.specs.declared.call.AdminCall.TheVariants as call;
+ghost use Rattle.error_code.specs.declared.error_code.ErrorCode.TheVariants as code;
+ghost use Rattle.request_journal.specs.Legal.{IsLive};
+
+use crate::error::SharedError;
+use crate::json_reply::value_reply;
+use admin_json::mappings::{mapping_value, mappings_value};
+use admin_json::requests::{count_value, found_value, requests_value};
+use admin_json::scenarios::scenarios_value;
+use error_code::error_code::ErrorCode;
+use mapping_model::mapping_id::MappingId;
+use mapping_model::reply::Reply;
+use request_journal::entry::Entry;
+use request_journal::mapping::Mapping;
+use request_match::request_matcher::RequestMatcher;
+use scenario_core::scenarios::Scenarios;
+use shared_book::book_read::{BookRead, ReadAnswer};
+use shared_book::origin::Origin;
+use shared_book::seat::Seat;
+use shared_book::shared_book::SharedBook;
+use std::alloc::{AllocError, Global};
+use std::sync::Wait;
+
+pub(crate) fn list_mappings<L: Origin, R: Wait>(
+    rt: &R,
+    alloc: Global,
+    shared: &SharedBook<L>,
+    seat: &Seat<L>,
+) -> Result<Reply, AllocError>
+    ensures { IfOk result (λ reply. InPast L.origin (IsReadReply call.ListMappings reply)) }
+{
+    let reading = seat.read(rt, shared, BookRead::Mappings)?;
+    match &reading.answer {
+        ReadAnswer::Mappings(mappings) => { mappings_reply(alloc, mappings.as_slice()) }
+        _ => unreachable!(),
+    }
+}
+
+pub(crate) fn read_mapping<L: Origin, R: Wait>(
+    rt: &R,
+    alloc: Global,
+    shared: &SharedBook<L>,
+    seat: &Seat<L>,
+    id: MappingId,
+) -> Result<Reply, SharedError>
+    ensures ok { IfOk result (λ reply. InPast L.origin (IsReadReply (call.ReadMapping id) reply)) }
+    ensures refused { IfErr result (λ error. (error.code ≡ code.OutOfMemory)
+        ⊎ ((error.code ≡ code.UnknownMapping) × InPast L.origin (λ past. ¬ (IsLive past id)))) }
+{
+    let reading = seat.read(rt, shared, BookRead::Mapping(id))?;
+    match &reading.answer {
+        ReadAnswer::Mapping(held) => held_reply(alloc, held),
+        _ => unreachable!(),
+    }
+}
+
+pub(crate) fn list_requests<L: Origin, R: Wait>(
+    rt: &R,
+    alloc: Global,
+    shared: &SharedBook<L>,
+    seat: &Seat<L>,
+) -> Result<Reply, AllocError>
+    ensures { IfOk result (λ reply. InPast L.origin (IsReadReply call.ListRequests reply)) }
+{
+    let reading = seat.read(rt, shared, BookRead::Requests)?;
+    match &reading.answer {
+        ReadAnswer::Requests(entries) => { requests_reply(alloc, entries.as_slice()) }
+        _ => unreachable!(),
+    }
+}
+
+pub(crate) fn list_unmatched<L: Origin, R: Wait>(
+    rt: &R,
+    alloc: Global,
+    shared: &SharedBook<L>,
+    seat: &Seat<L>,
+) -> Result<Reply, AllocError>
+    ensures { IfOk result (λ reply. InPast L.origin (IsReadReply call.ListUnmatched reply)) }
+{
+    let reading = seat.read(rt, shared, BookRead::Unmatched)?;
+    match &reading.answer {
+        ReadAnswer::Requests(entries) => { found_reply(alloc, entries.as_slice()) }
+        _ => unreachable!(),
+    }
+}
+
+pub(crate) fn find_requests<L: Origin, R: Wait>(
+    rt: &R,
+    alloc: Global,
+    shared: &SharedBook<L>,
+    seat: &Seat<L>,
+    matcher: RequestMatcher,
+) -> Result<Reply, AllocError>
+    ensures { IfOk result (λ reply. InPast L.origin (IsReadReply (call.FindRequests matcher) reply)) }
+{
+    let reading = seat.read(rt, shared, BookRead::Find(matcher))?;
+    match &reading.answer {
+        ReadAnswer::Requests(entries) => { found_reply(alloc, entries.as_slice()) }
+        _ => unreachable!(),
+    }
+}
+
+pub(crate) fn count_requests<L: Origin, R: Wait>(
+    rt: &R,
+    alloc: Global,
+    shared: &SharedBook<L>,
+    seat: &Seat<L>,
+    matcher: RequestMatcher,
+) -> Result<Reply, AllocError>
+    ensures { IfOk result (λ reply. InPast L.origin (IsReadReply (call.CountRequests matcher) reply)) }
+{
+    let reading = seat.read(rt, shared, BookRead::Count(matcher))?;
+    match &reading.answer {
+        ReadAnswer::Count(count) => count_reply(alloc, *count),
+        _ => unreachable!(),
+    }
+}
+
+pub(crate) fn list_scenarios<L: Origin, R: Wait>(
+    rt: &R,
+    alloc: Global,
+    shared: &SharedBook<L>,
+    seat: &Seat<L>,
+) -> Result<Reply, AllocError>
+    ensures { IfOk result (λ reply. InPast L.origin (IsReadReply call.ListScenarios reply)) }
+{
+    let reading = seat.read(rt, shared, BookRead::Scenarios)?;
+    match &reading.answer {
+        ReadAnswer::Scenarios { states, mappings } => {
+            scenarios_reply(alloc, states, mappings.as_slice())
+        }
+        _ => unreachable!(),
+    }
+}
+
+fn mappings_reply(alloc: Global, mappings: &[Mapping]) -> Result<Reply, AllocError>
+    ensures { IfOk result (IsJsonReply 200 (json_of_mappings mappings.now)) }
+{
+    value_reply(alloc, 200, &mappings_value(alloc, mappings)?)
+}
+
+fn held_reply(alloc: Global, held: &Option<Mapping>) -> Result<Reply, SharedError>
+    ensures ok { IfOk result (IsHeldReply held.now) }
+    ensures refused { IfErr result (λ error. (error.code ≡ code.OutOfMemory)
+        ⊎ ((error.code ≡ code.UnknownMapping) × (held.now ≡ None))) }
+{
+    match held {
+        Some(mapping) => Ok(mapping_reply(alloc, mapping)?),
+        None => Err(SharedError::from(ErrorCode::UnknownMapping)),
+    }
+}
+
+fn mapping_reply(alloc: Global, mapping: &Mapping) -> Result<Reply, AllocError>
+    ensures { IfOk result (IsJsonReply 200 (json_of_held mapping.now)) }
+{
+    value_reply(alloc, 200, &mapping_value(alloc, mapping)?)
+}
+
+fn requests_reply(alloc: Global, entries: &[Entry]) -> Result<Reply, AllocError>
+    ensures { IfOk result (IsJsonReply 200 (json_of_requests entries.now)) }
+{
+    value_reply(alloc, 200, &requests_value(alloc, entries)?)
+}
+
+fn found_reply(alloc: Global, entries: &[Entry]) -> Result<Reply, AllocError>
+    ensures { IfOk result (IsJsonReply 200 (json_of_found entries.now)) }
+{
+    value_reply(alloc, 200, &found_value(alloc, entries)?)
+}
+
+fn count_reply(alloc: Global, count: usize) -> Result<Reply, AllocError>
+    ensures { IfOk result (IsJsonReply 200 (json_of_number count)) }
+{
+    value_reply(alloc, 200, &count_value(alloc, count)?)
+}
+
+fn scenarios_reply(
+    alloc: Global,
+    states: &Scenarios,
+    mappings: &[Mapping],
+) -> Result<Reply, AllocError>
+    ensures { IfOk result (IsJsonReply 200 (json_of_scenarios states.now mappings.now)) }
+{
+    value_reply(alloc, 200, &scenarios_value(alloc, states, mappings)?)
+}

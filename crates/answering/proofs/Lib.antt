@@ -1,0 +1,2 @@
+mod ReplyLemmas
+mod ResultLemmas

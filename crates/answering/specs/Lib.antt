@@ -1,0 +1,4 @@
+pub mod Admin
+pub mod Answering
+pub mod Reply
+pub mod Served

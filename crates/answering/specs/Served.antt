@@ -1,0 +1,47 @@
+-- How a request is answered that is no admin call.
+use Rattle.std.specs.Prelude.{◌≡◌, ◌⊎◌}
+use Rattle.error_code.specs.declared.error_code.ErrorCode.{ErrorCode}
+use Rattle.error_code.specs.declared.error_code.ErrorCode.TheVariants.{OutOfMemory, UpstreamFailed}
+use Rattle.mapping_model.specs.declared.reply.Reply.{Reply}
+use Rattle.mock_request.specs.Request.{Request}
+use Rattle.request_journal.specs.Past.{Past}
+use Rattle.request_journal.specs.declared.event.Event.{Event}
+use Rattle.request_journal.specs.declared.event.Event.TheVariants as event
+use Rattle.request_journal.specs.declared.event.ServeAnswer.{ServeAnswer}
+use Rattle.request_journal.specs.declared.event.ServeAnswer.TheVariants.{Stub, Proxy, Unmatched}
+use Rattle.shared_book.specs.Held.{Held, with_receipt}
+use Rattle.shared_book.specs.Receipts.{IsReceipt}
+use Rattle.shared_book.specs.Refused.{IsServeRefused}
+use Rattle.shared_book.specs.declared.receipt.Receipt.{Receipt}
+use Rattle.stub_book.specs.Growth.{IsServed}
+use Rattle.stub_response.specs.ErrorReply.{error_reply, unmatched_reply}
+use Rattle.stub_response.specs.Response.{IsResponse}
+use Rattle.stub_response.specs.declared.limits.Limits.{Limits}
+
+-- the reply to a request that the book answered so: the response of the version that was captured then. A request that
+-- is to be forwarded isn't yet, which is reported as a failure of the upstream.
+abbrev pub IsServeReply : Limits → Request → ServeAnswer → Reply → Type 0
+IsServeReply limits request (Stub captured) reply = IsResponse limits captured.mapping.spec request reply
+IsServeReply limits request (Proxy target) reply = reply ≡ error_reply 502 UpstreamFailed
+IsServeReply limits request Unmatched reply = reply ≡ unmatched_reply
+
+abbrev pub IsEventReply : Limits → Event → Reply → Type 0
+IsEventReply limits (event.Serve request answer) reply = IsServeReply limits request answer reply
+IsEventReply limits other reply = ⊥
+
+-- the seat has gained one receipt, of the serve of this request
+pub record GainsServe (origin : Past) (old new : Held) (request : Request) (receipt : Receipt) : Type 0 where
+  pub gained : new ≡ with_receipt old receipt
+  pub served : IsServed request receipt.event
+  pub genuine : IsReceipt origin receipt
+
+-- the request was served, and this is the reply by the event in its receipt
+abbrev pub IsServedWith : Past → Limits → Held → Held → Request → Reply → Type 0
+IsServedWith origin limits old new request reply =
+    (receipt : Receipt) × GainsServe origin old new request receipt × IsEventReply limits receipt.event reply
+
+-- the request wasn't served, and the seat is as before; or memory ran out while its reply was made, and the serve stands
+abbrev pub IsNotServed : Past → Held → Held → Request → ErrorCode → Type 0
+IsNotServed origin old new request reason =
+    ((new ≡ old) × IsServeRefused origin reason)
+    ⊎ ((reason ≡ OutOfMemory) × ((receipt : Receipt) × GainsServe origin old new request receipt))

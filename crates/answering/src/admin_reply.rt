@@ -1,0 +1,57 @@
+// Admin calls.
+ghost use Rattle.std.specs.Prelude.{◌≡◌, IfOk, MatchResult};
+ghost use Rattle.answering.specs.Admin.{IsAdminAnswered, IsAnsweredCall, reporting};
+
+use admin_answers::answer::answer_admin;
+use admin_routes::admin::admin;
+use admin_routes::call::AdminCall;
+use error_code::error_code::ErrorCode;
+use mapping_model::reply::Reply;
+use mock_request::snapshot::Snapshot;
+use shared_book::origin::Origin;
+use shared_book::seat::Seat;
+use shared_book::shared_book::SharedBook;
+use std::alloc::{AllocError, Global};
+use std::sync::Wait;
+use stub_response::error_reply::error_reply;
+
+/// Makes the admin call that the request is, and gives the reply. The error says that there was no memory to write it.
+pub(crate) fn admin_reply<L: Origin, R: Wait>(
+    rt: &R,
+    alloc: Global,
+    shared: &SharedBook<L>,
+    seat: &mut Seat<L>,
+    request: &Snapshot,
+) -> Result<Reply, AllocError>
+    ensures { MatchResult result
+        (IsAdminAnswered L.origin seat.old seat.new request.now)
+        (λ _. (reply : _) × IsAdminAnswered L.origin seat.old seat.new request.now reply) }
+{
+    match admin(alloc, request.method(), request.url(), request.body()) {
+        Ok(call) => call_reply(rt, alloc, shared, seat, call),
+        Err(error) => reporting(alloc, error.error_code()),
+    }
+}
+
+fn call_reply<L: Origin, R: Wait>(
+    rt: &R,
+    alloc: Global,
+    shared: &SharedBook<L>,
+    seat: &mut Seat<L>,
+    call: AdminCall,
+) -> Result<Reply, AllocError>
+    ensures { MatchResult result
+        (IsAnsweredCall L.origin seat.old seat.new call)
+        (λ _. (reply : _) × IsAnsweredCall L.origin seat.old seat.new call reply) }
+{
+    match answer_admin(rt, alloc, shared, seat, call) {
+        Ok(reply) => Ok(reply),
+        Err(error) => reporting(alloc, error.code),
+    }
+}
+
+fn reporting(alloc: Global, reason: ErrorCode) -> Result<Reply, AllocError>
+    ensures { IfOk result (λ reply. reply ≡ reporting reason) }
+{
+    error_reply(alloc, reason.status().unwrap_or(500), reason)
+}

@@ -1,0 +1,60 @@
+// Where a connection's seat lies, beside the site that it answers for.
+use crate::answers::Answers;
+use bytes::Bytes;
+use http::{Request, Response};
+use http_body_util::Full;
+use http_messages::error::ServiceError;
+use http_messages::wire::sent;
+use std::alloc::Global;
+use std::sync::{Arc, Mutex, Wait};
+
+/// A site, and the place of one connection's seat. The seat stays in it while a request is answered.
+#[derive(Drop)]
+pub struct Desk<A: Answers> {
+    site: Arc<A>,
+    seat: Mutex<Option<A::Seat>>,
+}
+
+impl<A: Answers> Desk<A> {
+    /// A desk without a seat.
+    pub fn new(site: Arc<A>) -> Desk<A> {
+        Desk {
+            site,
+            seat: Mutex::new(None),
+        }
+    }
+
+    /// Puts a seat into its place.
+    pub fn put<R: Wait>(&self, rt: &R, seat: A::Seat) {
+        *self.seat.lock(rt) = Some(seat);
+    }
+
+    /// Takes the seat out of its place.
+    pub fn take<R: Wait>(&self, rt: &R) -> Option<A::Seat> {
+        self.seat.lock(rt).take()
+    }
+
+    /// What is sent of the answer to a request, by the seat.
+    pub fn answer<R: Wait>(
+        &self,
+        rt: &R,
+        alloc: Global,
+        request: Request<Bytes>,
+    ) -> Result<Response<Full<Bytes>>, ServiceError> {
+        let answer = self.answer_at_seat(rt, alloc, request)?;
+        Ok(sent(alloc, answer)?)
+    }
+
+    fn answer_at_seat<R: Wait>(
+        &self,
+        rt: &R,
+        alloc: Global,
+        request: Request<Bytes>,
+    ) -> Result<Response<Full<Bytes>>, ServiceError> {
+        let mut held = self.seat.lock(rt);
+        match &mut *held {
+            Some(seat) => self.site.answer(rt, alloc, seat, request),
+            None => Err(ServiceError::Broken),
+        }
+    }
+}

@@ -1,0 +1,14 @@
+// The server's connections: requests of HTTP/1.1 over any reader and writer of `tokio`, and over the sockets of a listener.
+// It knows how a request is gathered, which seat answers it, and where the seat is kept; what the answer is, says who
+// implements `Answers`.
+#![tactic(auto)]
+
+pub mod accepting;
+pub mod answers;
+pub mod desk;
+pub mod hall;
+pub mod host;
+pub mod serve_io;
+pub mod serve_on;
+pub mod service;
+pub mod visit;

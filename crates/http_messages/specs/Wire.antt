@@ -1,0 +1,57 @@
+-- What is sent of a response.
+use Rattle.std.specs.Prelude.{◌≡◌, ℕ, Bool, ◌==◌, ◌||◌, List, [], ◌∷◌, codes, fold, reverse, None, if◌then◌else◌, bytes_eq}
+use Rattle.std.specs.List.{list_any}
+use Rattle.http.specs.Response.{head_of, body_of}
+use Rattle.http.specs.declared.response.Response.{Response}
+use Rattle.http_body_util.specs.declared.full.Full.{Full}
+use Rattle.http_header.specs.FieldValue.{FieldValue}
+use Rattle.http_header.specs.HeaderMap.{Entries, append, pairs}
+use Rattle.http_header.specs.Token.{space, tab}
+
+-- Headers that say how a message is framed (RFC 9112, sections 6 and 9.6; RFC 9110, section 7.6.1): they are those of the
+-- connection, and not of who wrote the response.
+abbrev pub framing_names : List (List ℕ)
+framing_names =
+    codes "content-length" ∷ codes "transfer-encoding" ∷ codes "connection" ∷ codes "keep-alive"
+    ∷ codes "proxy-connection" ∷ codes "te" ∷ codes "trailer" ∷ codes "upgrade" ∷ []
+
+abbrev pub is_framing : List ℕ → Bool
+is_framing name = list_any (bytes_eq name) framing_names
+
+abbrev pub is_blank : ℕ → Bool
+is_blank b = (b == space) || (b == tab)
+
+-- without the blanks at its ends, which are no part of a value (RFC 9110, section 5.5)
+abbrev pub without_front_blanks : List ℕ → List ℕ
+without_front_blanks [] = []
+without_front_blanks (b ∷ bs) = if is_blank b then without_front_blanks bs else b ∷ bs
+
+abbrev pub without_end_blanks : List ℕ → List ℕ
+without_end_blanks bytes = reverse (without_front_blanks (reverse bytes))
+
+abbrev pub without_blanks : List ℕ → List ℕ
+without_blanks bytes = without_end_blanks (without_front_blanks bytes)
+
+-- one more header, unless it is one of framing
+abbrev pub with_sent : Entries FieldValue → List ℕ × FieldValue → Entries FieldValue
+with_sent headers field =
+    if is_framing field.0 then headers
+    else append headers field.0 (record field.1 { bytes = without_blanks field.1.bytes })
+
+abbrev pub sent_headers : Entries FieldValue → Entries FieldValue
+sent_headers headers = fold with_sent [] (pairs headers)
+
+-- A response with this status has no content (RFC 9110, sections 15.3.5, 15.3.6 and 15.4.5). Nor has one to HEAD: there the
+-- content is left for the connection, which says how long it is and doesn't send it.
+abbrev pub has_no_content : ℕ → Bool
+has_no_content status = (status == 204) || ((status == 205) || (status == 304))
+
+abbrev pub sent_body : ℕ → Full (List ℕ) → Full (List ℕ)
+sent_body status body = if has_no_content status then record { buf = None } else body
+
+-- what is sent of a response
+pub record IsSent (response sent : Response (Full (List ℕ))) : Type 0 where
+  pub status : (head_of sent).status ≡ (head_of response).status
+  pub version : (head_of sent).version ≡ (head_of response).version
+  pub headers : (head_of sent).headers ≡ sent_headers (head_of response).headers
+  pub body : body_of sent ≡ sent_body (head_of response).status (body_of response)

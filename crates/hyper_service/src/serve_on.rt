@@ -1,0 +1,137 @@
+// The connections of a listener, until as many as are wanted were served.
+use crate::site_answers::SiteAnswers;
+use answering::site::Site;
+use command_output::error::CommandError;
+use command_output::status::{FAILURE, SUCCESS};
+use error_code::error_code::ErrorCode;
+use http_connections::serve_on::{Day, End, serve_all_here};
+use shared_book::gate::Gate;
+use shared_book::origin::Origin;
+use shared_book::seat::Seat;
+use shared_book::settle::settle;
+use shared_book::settled::SettleRefusal;
+use shared_book::shared_book::SharedBook;
+use std::alloc::{AllocError, AllocGlobal, Global};
+use std::io;
+use std::io::Write;
+use std::random::RandomSource;
+use std::sync::{Arc, Wait};
+use std::time::Clock;
+use tokio::net::TcpListener;
+use tokio::runtime::LocalRuntime;
+
+/// Serves the connections of a listener, as many as are wanted, each with a seat of its own, and settles once all have
+/// ended. Writes where it listens before it accepts the first, how many events were settled, and an error to `err`.
+/// Gives the exit status.
+pub fn serve_on<R, L, G, O, E>(
+    rt: R,
+    runtime: &mut LocalRuntime,
+    listener: TcpListener,
+    site: Site<L, G>,
+    seat: Seat<L>,
+    connections: Option<u64>,
+    out: &mut O,
+    err: &mut E,
+) -> u8
+where
+    R: Wait + Clock + RandomSource + AllocGlobal + Copy + Drop,
+    L: Origin,
+    G: Gate + Drop,
+    O: Write,
+    E: Write,
+{
+    if announce(&listener, out).is_err() {
+        return FAILURE;
+    }
+    match serve_site(rt, runtime, listener, site, seat, connections) {
+        Ok((settled, end)) => report(settled, end, out, err),
+        Err(_error) => {
+            CommandError::from(ErrorCode::OutOfMemory).report(err);
+            FAILURE
+        }
+    }
+}
+
+// Says where it listens, at once.
+fn announce<O: Write>(listener: &TcpListener, out: &mut O) -> io::Result<()> {
+    let address = listener.local_addr()?;
+    write!(out, "listening on {address}\n")?;
+    out.flush()
+}
+
+// How many events were settled, or why not, and why no more connections were accepted.
+fn serve_site<R, L, G>(
+    rt: R,
+    runtime: &mut LocalRuntime,
+    listener: TcpListener,
+    site: Site<L, G>,
+    seat: Seat<L>,
+    connections: Option<u64>,
+) -> Result<(Result<u64, SettleRefusal>, End), AllocError>
+where
+    R: Wait + Clock + RandomSource + AllocGlobal + Copy + Drop,
+    L: Origin,
+    G: Gate + Drop,
+{
+    let book = site.book.try_clone()?;
+    let answers = SiteAnswers::new(Arc::new(rt.alloc(), site)?);
+    let answers = Arc::new(rt.alloc(), answers)?;
+    let Day { seats, end } = serve_all_here(rt, runtime, listener, &answers, seat, connections)?;
+    Ok((events(&rt, rt.alloc(), book, seats), end))
+}
+
+// How many events there are in the one history of all seats.
+fn events<L: Origin, R: Wait>(
+    rt: &R,
+    alloc: Global,
+    book: SharedBook<L>,
+    seats: Vec<Seat<L>>,
+) -> Result<u64, SettleRefusal> {
+    match settle(rt, alloc, book, seats) {
+        Ok(settled) => Ok(settled.events),
+        Err(error) => Err(error.reason),
+    }
+}
+
+// Writes how the day ended, and gives the exit status.
+fn report<O: Write, E: Write>(
+    settled: Result<u64, SettleRefusal>,
+    end: End,
+    out: &mut O,
+    err: &mut E,
+) -> u8 {
+    match settled {
+        Ok(events) => match write!(out, "settled {events} events\n") {
+            Ok(()) => report_end(end, err),
+            Err(_error) => FAILURE,
+        },
+        Err(refusal) => {
+            report_refusal(&refusal, err);
+            FAILURE
+        }
+    }
+}
+
+fn report_end<E: Write>(end: End, err: &mut E) -> u8 {
+    match end {
+        End::AllServed => return SUCCESS,
+        End::AcceptFailed => report_line("error: accept failed\n", err),
+        End::OutOfMemory => CommandError::from(ErrorCode::OutOfMemory).report(err),
+    }
+    FAILURE
+}
+
+fn report_refusal<E: Write>(refusal: &SettleRefusal, err: &mut E) {
+    match refusal {
+        SettleRefusal::SeatsMissing => report_line("error: seats missing\n", err),
+        SettleRefusal::Mismatch { number: _, kept: _ } => {
+            report_line("error: history mismatch\n", err);
+        }
+        SettleRefusal::OutOfMemory => CommandError::from(ErrorCode::OutOfMemory).report(err),
+    }
+}
+
+// The exit status is 1 in any case.
+fn report_line<E: Write>(line: &str, err: &mut E) {
+    let _ = err.write_all(line.as_bytes());
+}

@@ -1,0 +1,26 @@
+-- A book that was just opened has room, and sends nothing on.
+use Rattle.std.proofs.Common.{◌≡◌, ◌≤◌, ℕ, List, inl, inr, subst, arith}
+use Rattle.mapping_model.specs.declared.mapping_spec.MappingSpec.{MappingSpec}
+use Rattle.mock_request.specs.Request.{Request}
+use Rattle.request_journal.specs.Choice.{IsChoice}
+use Rattle.request_journal.specs.Past.{Past, opened}
+use Rattle.request_journal.specs.declared.event.ServeAnswer.{ServeAnswer}
+use Rattle.request_journal.specs.declared.event.ServeAnswer.TheVariants.{Stub, Proxy, Unmatched}
+use Rattle.stub_book.specs.Refusals.{IsFull}
+use Rattle.mapping_answer.specs.Inner.Fresh.{IsFresh, IsOwn}
+
+pub has_room : (bytes : List ℕ) (past : Past) → IsFresh bytes past → ¬ (IsFull past)
+has_room bytes past (mappings, spelled, is) full =
+    let none : ¬ (IsFull (opened 0 mappings)) = λ f. absurd (omega (arith, f)) in
+    none (subst IsFull is full)
+
+own_answer : (mappings : List MappingSpec) (request : Request) (answer : ServeAnswer)
+    → IsChoice (opened 0 mappings) request answer → IsOwn answer
+own_answer mappings request (Stub captured) chosen = tt
+own_answer mappings request (Proxy target) chosen = chosen.1
+own_answer mappings request Unmatched chosen = tt
+
+pub is_own : (bytes : List ℕ) (past : Past) (request : Request) (answer : ServeAnswer) → IsFresh bytes past
+    → IsChoice past request answer → IsOwn answer
+is_own bytes past request answer (mappings, spelled, is) chosen =
+    own_answer mappings request answer (subst (λ p. IsChoice p request answer) is chosen)

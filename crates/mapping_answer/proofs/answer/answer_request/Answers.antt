@@ -1,0 +1,21 @@
+use Rattle.std.proofs.Common.{subst}
+use Rattle.request_journal.specs.Choice.{IsChoice}
+use Rattle.mapping_answer.proofs.answer.answer_request.Goals as goal
+
+pub returns-clause-reply : goal.returns-clause-reply
+returns-clause-reply c =
+    let fresh = c.in_ok-book.ensures.ok in
+    let request = c.in_ok-request.request in
+    let answer = c.in_ok-answer.answer in (
+      c.in_ok-reply.reply,
+      record {
+        mappings = fresh.0;
+        document = fresh.1;
+        request = request;
+        asked = c.in_ok-request.ensures.ok;
+        answer = answer;
+        chosen = subst (λ p. IsChoice p request answer) fresh.2 c.in_ok-answer.ensures.ok;
+        replied = c.in_ok-reply.ensures;
+      },
+      c.in_ok-reply_text.ensures,
+    )

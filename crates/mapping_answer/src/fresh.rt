@@ -1,0 +1,96 @@
+// A book that was just opened with the mappings of a document, and what it answers a request with.
+ghost use Rattle.std.specs.Prelude.{◌≡◌, ◌⊎◌, ◌<◌, ◌≤◌, IfErr, IfOk, OnOk, length};
+ghost use Rattle.command_output.specs.Lines.{out_of_memory};
+ghost use Rattle.mapping_answer.specs.Answering.{HasBook, IsReplyBy, IsRequest, RefusesBook, RefusesDocument, RefusesUrl};
+ghost use Rattle.mapping_answer.specs.Inner.Fresh.{IsFresh, IsOwn};
+ghost use Rattle.mapping_json.specs.Documents.{SpellMappings};
+ghost use Rattle.request_journal.specs.Choice.{IsChoice};
+ghost use Rattle.request_journal.specs.Past.{opened};
+ghost use Rattle.stub_book.specs.Refusals.{IsFull};
+
+use command_output::error::CommandError;
+use mapping_json::read::read_mappings;
+use mapping_model::reply::Reply;
+use mock_request::snapshot::Snapshot;
+use request_journal::event::ServeAnswer;
+use request_match::ready_mapping::ReadyMapping;
+use std::alloc::{AllocError, Global};
+use stub_book::book::Book;
+use stub_response::limits::Limits;
+use stub_response::respond::respond;
+use stub_response::unmatched_reply::unmatched_reply;
+
+/// A book whose first event has the number 1.
+pub(crate) fn fresh_book(alloc: Global, bytes: &[u8]) -> Result<Book, CommandError>
+    ensures ok { IfOk result (IsFresh bytes.now) }
+    ensures opens { OnOk result (HasBook bytes.now) }
+    ensures refusal { IfErr result (λ error. RefusesDocument bytes.now error ⊎ RefusesBook bytes.now error
+        ⊎ (error ≡ out_of_memory)) }
+{
+    let mappings = mappings_of(alloc, bytes)?;
+    match Book::new(alloc, mappings, 0) {
+        Ok(book) => {
+            // For its clause: no more mappings are live than may be.
+            let _number = book.event_count();
+            Ok(book)
+        }
+        Err(error) => Err(CommandError::from(error.code)),
+    }
+}
+
+fn mappings_of(alloc: Global, bytes: &[u8]) -> Result<Vec<ReadyMapping>, CommandError>
+    ensures ok { IfOk result (λ mappings. SpellMappings bytes.now mappings.items) }
+    ensures refusal { IfErr result (RefusesDocument bytes.now) }
+{
+    match read_mappings(alloc, bytes) {
+        Ok(mappings) => Ok(mappings),
+        Err(error) => Err(CommandError::from(error.error.error_code())),
+    }
+}
+
+/// The request of that method for the target's URL, without headers and body.
+pub(crate) fn plain_request(
+    alloc: Global,
+    method: &str,
+    target: &str,
+) -> Result<Snapshot, CommandError>
+    ensures ok { IfOk result (IsRequest method.now target.now) }
+    ensures refusal { IfErr result (λ error. RefusesUrl target.now error ⊎ (error ≡ out_of_memory)) }
+{
+    Ok(Snapshot::new(alloc, method, target, &[], &[])?)
+}
+
+/// What the book answers the request with.
+pub(crate) fn answer_of(book: &mut Book, request: &Snapshot) -> Result<ServeAnswer, CommandError>
+    requires { ¬ (IsFull book.old) }
+    ensures ok { IfOk result (IsChoice book.old request.now) }
+    ensures refusal { IfErr result (λ error. error ≡ out_of_memory) }
+{
+    match book.serve(request.try_clone()?) {
+        Ok(answer) => Ok(answer),
+        Err(error) => Err(CommandError::from(error.code)),
+    }
+}
+
+/// The reply, by that answer.
+pub(crate) fn reply_by(
+    alloc: Global,
+    answer: &ServeAnswer,
+    request: &Snapshot,
+) -> Result<Reply, AllocError>
+    requires { IsOwn answer.now }
+    ensures { IfOk result (IsReplyBy answer.now request.now) }
+{
+    match answer {
+        ServeAnswer::Stub(captured) => {
+            respond(
+                alloc,
+                captured.mapping.spec.spec(),
+                request,
+                Limits::usual(),
+            )
+        }
+        ServeAnswer::Proxy(_target) => unreachable!(),
+        ServeAnswer::Unmatched => unmatched_reply(alloc),
+    }
+}

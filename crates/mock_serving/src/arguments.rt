@@ -1,0 +1,85 @@
+//! The arguments of `mock serve`.
+ghost use Rattle.std.specs.Prelude.{◌≡◌, IfOk, option_map};
+ghost use Rattle.clap.specs.Words.{first_of, found_of, rows_of};
+
+use clap::{Arg, ArgMatches, Command, Error, value_parser};
+use std::alloc::{AllocError, Global};
+
+const SERVE_HELP: &str =
+    "It serves on 127.0.0.1, tells where on the first line, `listening on 127.0.0.1:PORT`, and goes on until it
+is stopped. Port 0 takes a free port. The mappings of FILE are those that a reset brings back.
+With --connections it ends after that many connections, compares what each has seen, and tells the
+number of events: `settled 3 events`.
+
+Example:
+  mock serve --port 8080 --mappings mappings.json
+
+Then, elsewhere:
+  curl http://127.0.0.1:8080/hi
+  curl http://127.0.0.1:8080/__admin/requests";
+
+/// What is to be served, and where.
+#[derive(Clone, Copy)]
+pub struct ServeArguments<'a> {
+    pub port: u16,
+    /// The path of the file of mappings.
+    pub mappings: Option<&'a str>,
+    /// After how many connections it ends.
+    pub connections: Option<u64>,
+}
+
+/// The arguments of `mock serve`, the first being `serve`; or the text of `clap` in place of them, for help or for
+/// arguments that aren't valid.
+pub fn serve_arguments<'a>(
+    alloc: Global,
+    arguments: &'a [&'a str],
+) -> Result<Option<ServeArguments<'a>>, Error> {
+    let matches = command(alloc)?.try_get_matches_from(arguments)?;
+    match matches.subcommand() {
+        Some((_name, given)) => Ok(arguments_in(given)),
+        None => Ok(None),
+    }
+}
+
+fn arguments_in<'a>(given: &ArgMatches<'a>) -> Option<ServeArguments<'a>> {
+    Some(ServeArguments {
+        port: given.get_one("port")?,
+        mappings: given.get_str("mappings"),
+        connections: given.get_one("connections"),
+    })
+}
+
+fn command<'a>(alloc: Global) -> Result<Command<'a>, AllocError> {
+    let serve = Command::new(alloc, "serve")
+        .about("Serves the mappings of a file, and those that come over /__admin")
+        .after_help(SERVE_HELP)
+        .arg(port(alloc))?
+        .arg(
+            Arg::new(alloc, "mappings")
+                .long("mappings")
+                .value_name("FILE")
+                .help("A JSON file: a mapping, or an object with a list `mappings`"),
+        )?
+        .arg(connections(alloc))?;
+    Command::new(alloc, "mock")
+        .version("1")
+        .subcommand_required(true)
+        .subcommand(serve)
+}
+
+fn port<'a>(alloc: Global) -> Arg<'a> {
+    Arg::new(alloc, "port")
+        .long("port")
+        .value_name("PORT")
+        .help("The port to listen on; 0 for a free one")
+        .required(true)
+        .value_parser(value_parser!(u16))
+}
+
+fn connections<'a>(alloc: Global) -> Arg<'a> {
+    Arg::new(alloc, "connections")
+        .long("connections")
+        .value_name("N")
+        .help("Ends after so many connections")
+        .value_parser(value_parser!(u64))
+}

@@ -1,0 +1,54 @@
+// The book that is served.
+use command_output::error::CommandError;
+use command_output::files::{FileReader, read_file};
+use mapping_json::read::read_mappings;
+use request_match::ready_mapping::ReadyMapping;
+use std::alloc::Global;
+use std::io::Write;
+use stub_book::book::Book;
+
+/// A book with the mappings of the file, or with none. What is wrong is told on `err`: first the file, then its mappings,
+/// then that they are too many.
+pub(crate) fn book_of<F: FileReader, E: Write>(
+    alloc: Global,
+    files: &F,
+    path: Option<&str>,
+    err: &mut E,
+) -> Option<Book> {
+    let mappings = match path {
+        Some(path) => mappings_of(alloc, files, path, err)?,
+        None => Vec::new(alloc),
+    };
+    match Book::new(alloc, mappings, 0) {
+        Ok(book) => Some(book),
+        Err(error) => {
+            CommandError::from(error.code).report(err);
+            None
+        }
+    }
+}
+
+fn mappings_of<F: FileReader, E: Write>(
+    alloc: Global,
+    files: &F,
+    path: &str,
+    err: &mut E,
+) -> Option<Vec<ReadyMapping>> {
+    match read_file(alloc, files, path) {
+        Ok(bytes) => read(alloc, bytes.as_slice(), err),
+        Err(error) => {
+            error.report(path, err);
+            None
+        }
+    }
+}
+
+fn read<E: Write>(alloc: Global, bytes: &[u8], err: &mut E) -> Option<Vec<ReadyMapping>> {
+    match read_mappings(alloc, bytes) {
+        Ok(mappings) => Some(mappings),
+        Err(error) => {
+            CommandError::from(error.error.error_code()).report(err);
+            None
+        }
+    }
+}

@@ -1,0 +1,115 @@
+// The server of a book.
+ghost use Rattle.std.specs.Prelude.{◌≡◌, ◌<◌};
+
+use crate::arguments::ServeArguments;
+use crate::book::book_of;
+use answering::site::Site;
+use command_output::error::CommandError;
+use command_output::files::FileReader;
+use command_output::output::put;
+use command_output::status::FAILURE;
+use error_code::error_code::ErrorCode;
+use hyper_service::serve_on::serve_on;
+use shared_book::gate::NoGate;
+use shared_book::origin::Origin;
+use shared_book::shared_book::SharedBook;
+use std::alloc::AllocGlobal;
+use std::io;
+use std::io::{ErrorKind, Write};
+use std::marker::Brand;
+use std::net::{Ipv4Addr, Net, SocketAddr};
+use std::random::RandomSource;
+use std::sync::Wait;
+use std::sync::ledger::Blank;
+use std::time::Clock;
+use stub_book::book::Book;
+use stub_response::limits::Limits;
+use tokio::net::TcpListener;
+use tokio::runtime::LocalRuntime;
+
+// Into how many parts the ledger is cut: as many connections may be open at once, less one.
+const PARTS: u64 = 4_294_967_296;
+
+/// Serves as the arguments say, and gives the exit status: 0, or 1 with a line on `err`. First the file is judged, then
+/// its mappings, the book, and the port.
+pub fn serve<R, O, E>(rt: R, arguments: ServeArguments<'_>, out: &mut O, err: &mut E) -> u8
+where
+    R: Wait + Net + Clock + RandomSource + AllocGlobal + FileReader + Copy + Drop,
+    O: Write,
+    E: Write,
+{
+    match book_of(rt.alloc(), &rt, arguments.mappings, err) {
+        Some(book) => {
+            serve_book::<Brand, R, O, E>(rt, Blank::new(PARTS), PARTS, book, arguments, out, err)
+        }
+        None => FAILURE,
+    }
+}
+
+fn serve_book<L, R, O, E>(
+    rt: R,
+    blank: Blank,
+    parts: u64,
+    book: Book,
+    arguments: ServeArguments<'_>,
+    out: &mut O,
+    err: &mut E,
+) -> u8
+where
+    L: Origin,
+    R: Wait + Net + Clock + RandomSource + AllocGlobal + Copy + Drop,
+    O: Write,
+    E: Write,
+    requires name { blank.name ≡ L.name }
+    requires ledger { blank.parts ≡ L.parts }
+    requires parts { parts ≡ L.parts }
+    requires some { 0 < parts }
+    requires origin { book ≡ L.origin }
+{
+    let Ok((book, seat)) = SharedBook::<L>::new(rt.alloc(), blank, parts, book) else {
+        CommandError::from(ErrorCode::OutOfMemory).report(err);
+        return FAILURE;
+    };
+    let (mut runtime, listener) = match listen(&rt, arguments.port) {
+        Ok(listening) => listening,
+        Err(error) => {
+            report(&error, err);
+            return FAILURE;
+        }
+    };
+    let site = Site {
+        book,
+        limits: Limits::usual(),
+        gate: NoGate,
+    };
+    serve_on(
+        rt,
+        &mut runtime,
+        listener,
+        site,
+        seat,
+        arguments.connections,
+        out,
+        err,
+    )
+}
+
+fn listen<R>(rt: &R, port: u16) -> io::Result<(LocalRuntime, TcpListener)>
+where
+    R: Net + Clock + RandomSource + AllocGlobal,
+{
+    let runtime = LocalRuntime::new(rt)?;
+    let address = SocketAddr::from((Ipv4Addr::LOCALHOST, port));
+    let listener = TcpListener::bind(rt, address, runtime.handle().reactor())?;
+    Ok((runtime, listener))
+}
+
+// Why it can't listen.
+fn report<E: Write>(error: &io::Error, err: &mut E) {
+    if error.kind() == ErrorKind::OutOfMemory {
+        CommandError::from(ErrorCode::OutOfMemory).report(err);
+    } else {
+        // The exit status is 1 in any case.
+        let _ = put(err, "error: cannot listen\n".as_bytes());
+    }
+}
