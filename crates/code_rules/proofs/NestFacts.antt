@@ -1,7 +1,8 @@
 -- Code as a course of places with loops round them; so the nests of its table are those of a course.
 use Rattle.std.proofs.Common.{◌≡◌, ℕ, zero, suc, List, ◌∷◌, length, Option, Some, None, refl, sym, ap, ◌∙◌}
 use Rattle.std.specs.Prelude.{slice_get, Bool, if◌then◌else◌}
-use Rattle.loop_law.specs.Course.{Cost, Bracket, level, opens_over_part, opens_over_data, ends, Course, nest}
+use Rattle.loop_law.specs.Course.{Cost, Bracket, level, opens_over_part, opens_over_data, ends, Course, nothing, nest}
+use Rattle.loop_law.proofs.Nests.{opened-from}
 use Rattle.template_code.specs.Code.{StackCode}
 use Rattle.template_code.specs.Instructions.{flow}
 use Rattle.template_code.specs.declared.flow.Flow.{Flow}
@@ -59,3 +60,10 @@ same-nests code n cost (suc index) = by (slice_get code.instrs index) refl (same
     by (Some i) e same =
         rw e (after-by (flow i) (goes_over_part code index) index (nest (course_of code n cost) index)
         ∙ ap (nest_after (flow i) index) same)
+
+-- the nest at the `Each` of the innermost loop is that of the loops round it
+pub opener-nest : (code : StackCode) (index opener : ℕ) (outer : List ℕ) →
+    (entry_at code index).nest ≡ opener ∷ outer → (entry_at code opener).nest ≡ outer
+opener-nest code index opener outer at =
+    sym (same-nests code 0 (λ i. nothing) opener)
+    ∙ opened-from (course_of code 0 (λ i. nothing)) index opener outer (same-nests code 0 (λ i. nothing) index ∙ at)
