@@ -129,7 +129,7 @@ mark-next code index target marks (Some t) lt h = by (nat_eq t target) refl
         ap (λ n. get_or (set marks n (new n)) target Unmarked) same
         ∙ (get_or-set_same marks target (new target) Unmarked lt ∙ ap (with_jump from) h)
     by false at = get_or-set_other marks t target (new t) Unmarked
-        (λ same. true≢false (sym (same_index t) ∙ (ap (nat_eq t) same ∙ at))) ∙ h
+        (λ same. true≢false (sym (same_index t) ∙ (ap (nat_eq t) (sym same) ∙ at))) ∙ h
 
 pub length-with_target : (jump l : Option ℕ) (marks : List Mark) → length (with_target jump l marks) ≡ length marks
 length-with_target None l marks = refl

@@ -47,7 +47,7 @@ pub record IsKnown (code : StackCode) (index : ℕ) (slots : List Slot) (loops :
     (spent : Cost) : Type 0 where
   pub kinds : kinds_of slots ≡ (entry_at code index).kinds
   pub bounds : bounds_of slots ≡ bounds_at code index
-  pub open : AreOpen code (entry_at code index).nest loops
+  pub loops_open : AreOpen code (entry_at code index).nest loops
   pub cost : spent ≡ region code (entry_at code) (entry_at code index).nest index
   pub clean : (earlier : ℕ) → earlier < index → verdict code (entry_at code) earlier ≡ None
   pub early : index ≤ MAX_INSTRUCTIONS
@@ -63,7 +63,7 @@ known-start code indices slots loops marks spent s l p t c =
     record {
       kinds = ap kinds_of s;
       bounds = ap bounds_of s;
-      open = subst (AreOpen code []) (sym l) tt;
+      loops_open = subst (AreOpen code []) (sym l) tt;
       cost = c;
       clean = λ earlier lt. absurd (omega (arith, lt));
       early = omega arith;
@@ -111,7 +111,7 @@ module _ (code : StackCode) (index : ℕ) (i : Instr) (slots : List Slot) (loops
   broken-is : (mark : Mark) → mark ≡ mark_of sources →
       broken_seen code index i mark loops slots ≡ broken_by code index sources i here
   broken-is mark m =
-      let nest = open-nest code here.nest loops k.open in
+      let nest = open-nest code here.nest loops k.loops_open in
       ap (λ ns. broken_parts code index i ns (kinds_of slots) (agrees (innermost ns) mark) (is_marked mark)) nest
       ∙ (ap (λ ks. broken_parts code index i here.nest ks (agrees (innermost here.nest) mark) (is_marked mark)) k.kinds
       ∙ (ap (λ x. broken_parts code index i here.nest here.kinds (agrees (innermost here.nest) x) (is_marked x)) m
@@ -127,7 +127,7 @@ module _ (code : StackCode) (index : ℕ) (i : Instr) (slots : List Slot) (loops
       ap (λ bs. not (bound_fits (top (pushed_bounds code i bs)) && rest)) k.bounds
       ∙ (ap (λ b. not (b && rest)) (sym (fits-top code i (bounds_at code index)))
       ∙ ap (λ b. not (list_all bound_fits pushed && b))
-      (fits-after code index own (takes_part slots) (flow i) loops k.open own-region))
+      (fits-after code index own (takes_part slots) (flow i) loops k.loops_open own-region))
 
   pub judged-verdict : (mark : Mark) (rule : Option Rule) → mark ≡ get_or marks index Unmarked →
       index < length code.instrs → rule ≡ judged code index i mark loops slots spent →
@@ -146,7 +146,7 @@ module _ (code : StackCode) (index : ℕ) (i : Instr) (slots : List Slot) (loops
       new ≡ loops_after (flow i) index (takes_part slots) own loops → sum ≡ cost_after (flow i) loops own →
       IsTyped i → IsKnown code (suc index) after new next sum
   known-next after new next sum v ks bs ms ls cs typed =
-      let nest = open-nest code here.nest loops k.open in
+      let nest = open-nest code here.nest loops k.loops_open in
       let entry = entry_at-next code index i at in
       let keeps = verdict-keeps code index i at v in
       let from = ms ∙ ap (λ ns. with_target (target_of (flow i)) (innermost ns) marks) nest in
@@ -155,12 +155,12 @@ module _ (code : StackCode) (index : ℕ) (i : Instr) (slots : List Slot) (loops
       record {
         kinds = ks ∙ (ap (slots_after i (pushes i)) k.kinds ∙ sym (ap (λ e. e.kinds) entry));
         bounds = bs ∙ (ap (bounds_after code i) k.bounds ∙ sym (bounds_at-next code index i at));
-        open =
+        loops_open =
             subst (λ ns. AreOpen code ns new) (sym (ap (λ e. e.nest) entry))
             (subst (AreOpen code (nest_after (flow i) index here.nest)) (sym ls)
-            (loops-next code index own (takes_part slots) (flow i) loops k.open own-region part-is));
+            (loops-next code index own (takes_part slots) (flow i) loops k.loops_open own-region part-is));
         cost =
-            cs ∙ (cost-after code index own (takes_part slots) (flow i) loops k.open own-region
+            cs ∙ (cost-after code index own (takes_part slots) (flow i) loops k.loops_open own-region
             ∙ ap (λ ns. region code (entry_at code) ns (suc index)) (sym (ap (λ e. e.nest) entry)));
         clean = λ earlier lt. ⊎_elim (λ e. rw e v) (λ less. k.clean earlier less)
             (eq-or-lt_of_le {n = earlier} {m = index} (omega (arith, lt)));

@@ -74,6 +74,6 @@ pub some-cond : (b : Bool) (x y : ℕ) → Some y ≡ cond b (Some x) None → (
 some-cond true x y h = (refl, same_Some y x h)
 some-cond false x y h = absurd (none-some y (sym h))
 
-pub fits-times_size : (ps : Polynomial) → fits (times_size ps) ≡ fits ps
-fits-times_size [] = refl
-fits-times_size (p ∷ ps) = refl
+pub fits_times_size : (ps : Polynomial) → fits (times_size ps) ≡ fits ps
+fits_times_size [] = refl
+fits_times_size (p ∷ ps) = refl

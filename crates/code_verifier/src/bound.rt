@@ -71,7 +71,7 @@ impl Bound {
 
     /// The part that doesn't depend on the item.
     pub fn into_alone(self) -> Polynomial
-        ensures { result ≡ self.entry.alone }
+        ensures { result ≡ self.alone }
     {
         self.alone
     }
@@ -101,7 +101,7 @@ impl Bound {
     }
 
     /// What all turns of a loop cost, where one turn costs that much; none if a coefficient is too large.
-    #[tactic(auto, using(crate::proofs::SumFacts::fits-times_size))]
+    #[tactic(auto, using(crate::proofs::SumFacts::fits_times_size))]
     pub fn of_turns(&self, alloc: Global, is_part: bool) -> Result<Option<Bound>, AllocError>
         ensures { IfOk result (λ turns. turns ≡ bound_within (of_turns is_part self.now)) }
     {

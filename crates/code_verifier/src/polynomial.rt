@@ -70,7 +70,7 @@ impl Polynomial {
 
     /// The list as it is printed, which has a coefficient: a polynomial that is zero is `[0]`.
     pub fn into_printed(self) -> Result<Polynomial, AllocError>
-        ensures { IfOk result (λ p. p ≡ as_printed self.entry) }
+        ensures { IfOk result (λ p. p ≡ as_printed self) }
     {
         let mut coefficients = self.coefficients;
         if coefficients.is_empty() {
@@ -81,7 +81,7 @@ impl Polynomial {
 
     /// The size times the polynomial.
     pub fn times_size(self) -> Result<Polynomial, AllocError>
-        ensures { IfOk result (λ product. product ≡ times_size self.entry) }
+        ensures { IfOk result (λ product. product ≡ times_size self) }
     {
         let mut coefficients = self.coefficients;
         if !coefficients.is_empty() {

@@ -1,7 +1,9 @@
 pub mod Printed
+pub mod Bounds
 pub mod CallProgress
 pub mod Calls
 pub mod Progress
+pub mod Steps
 pub mod Reached
 pub mod Safety
 pub mod Running

@@ -10,4 +10,4 @@ returns-in-None c =
     let bounds = bounds_of c.args.stack.now in
     rw (c.if-not-has_two.false, two-bounds bounds)
     (within-right (top bounds) (plus_bound (top (drop 1 bounds)) (at_most 0))
-    (rw c.empty-empty.ensures at (sym c.in-None.is ∙ c.in_ok-plus_bound.ensures)))
+    (rw c.zero-empty.ensures at (sym c.in-None.is ∙ c.in_ok-plus_bound.ensures)))
