@@ -1,5 +1,5 @@
 -- What the pass knows before an instruction, and what it knows after it.
-use Rattle.std.proofs.Common.{◌≡◌, ℕ, suc, ◌<◌, ◌≤◌, Bool, true, false, true≢false, nat_eq, List, [], ◌∷◌, length, map}
+use Rattle.std.proofs.Common.{◌≡◌, ℕ, zero, suc, ◌<◌, ◌≤◌, Bool, true, false, true≢false, nat_eq, List, [], ◌∷◌, length, map}
 use Rattle.std.proofs.Common.{get_or, Option, Some, None, refl, sym, ap, ◌∙◌, subst, ⊎_elim, arith}
 use Rattle.std.specs.Prelude.{min, replicate, slice_get, not, ◌&&◌, if◌then◌else◌}
 use Rattle.std.specs.List.{list_all}
@@ -217,7 +217,7 @@ same_index n = grind arith
 
 out-at : (code : StackCode) (end : ℕ) → end ≡ length code.instrs → 0 < end →
     ((index : ℕ) → index < end → verdict code (entry_at code) index ≡ None) → (entry_at code end).nest ≡ []
-out-at code 0 e some clean = absurd (omega (arith, some))
+out-at code zero e some clean = absurd (omega (arith, some))
 out-at code (suc last) e some clean =
     by (slice_get code.instrs last) refl
   where
@@ -226,7 +226,7 @@ out-at code (suc last) e some clean =
       where
         none_inside : (is : List Instr) (n : ℕ) → n < length is → slice_get is n ≡ None → ⊥
         none_inside [] n lt h = omega (arith, lt)
-        none_inside (i ∷ is) 0 lt h = none-some i (sym h)
+        none_inside (i ∷ is) zero lt h = none-some i (sym h)
         none_inside (i ∷ is) (suc n) lt h = none_inside is n (omega (arith, lt)) h
     by (Some i) at =
         let keeps = verdict-keeps code last i at (clean last (omega arith)) in

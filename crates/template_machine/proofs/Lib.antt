@@ -4,6 +4,7 @@ pub mod CallProgress
 pub mod Calls
 pub mod Progress
 pub mod Steps
+pub mod Spent
 pub mod Reached
 pub mod Safety
 pub mod Running

@@ -72,6 +72,6 @@ returns c =
 
 pub loop-index-init : goal.loop-index-init
 loop-index-init c =
-    known-start c.args.code.now c.min-count.result _ _ _ _ c.new.ensures c.new-2.ensures
+    known-start c.args.code.now c.min-count.result _ _ _ _ c.new.ensures c.new-3.ensures
     (c.min-count.ensures ∙ ap (λ is. min (length is) (suc MAX_INSTRUCTIONS)) c.instrs-2.ensures)
     c.in_ok-new.ensures c.none.ensures
