@@ -1,5 +1,6 @@
 pub mod Printed
 pub mod Bounds
+pub mod PlainFacts
 pub mod CallProgress
 pub mod Calls
 pub mod Progress
