@@ -168,6 +168,14 @@ just_fits : (bytes : List ℕ) → length bytes ≡ 2 ^ 63 - 1 →
     verdict (one_text bytes) (entry_at (one_text bytes)) 0 ≡ None
 just_fits bytes h = rw h refl
 
+-- at the last index V12 comes before V13
+abbrev without_end : List ℕ → StackCode
+without_end bytes = record { instrs = Emit 0 ∷ []; texts = bytes ∷ []; paths = [] }
+
+too_long_at_the_end : (bytes : List ℕ) → length bytes ≡ 2 ^ 63 →
+    verdict (without_end bytes) (entry_at (without_end bytes)) 0 ≡ Some V12
+too_long_at_the_end bytes h = refl
+
 -- two that fit, of which the second takes the budget over the limit
 abbrev two_texts : List ℕ → StackCode
 two_texts bytes = record { instrs = Emit 0 ∷ Emit 0 ∷ Halt ∷ []; texts = bytes ∷ []; paths = [] }

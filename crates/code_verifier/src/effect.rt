@@ -122,11 +122,7 @@ fn text_bound(alloc: Global, code: &Code, text: usize) -> Result<Option<Bound>, 
 }
 
 // The length of the text that a helper's result prints as, at most; none if a coefficient is too large.
-fn helper_bound(
-    alloc: Global,
-    helper: Helper,
-    stack: &Stack,
-) -> Result<Option<Bound>, AllocError>
+fn helper_bound(alloc: Global, helper: Helper, stack: &Stack) -> Result<Option<Bound>, AllocError>
     ensures { IfOk result (λ bound. bound ≡ bound_within (helper_bound helper (bounds_of stack.now))) }
 {
     let signature = signature(helper);
@@ -174,11 +170,7 @@ fn scaled(
 }
 
 // The sum of the bounds of the one slot or the two at the top.
-fn argument_bounds(
-    alloc: Global,
-    has_two: bool,
-    stack: &Stack,
-) -> Result<Option<Bound>, AllocError>
+fn argument_bounds(alloc: Global, has_two: bool, stack: &Stack) -> Result<Option<Bound>, AllocError>
     ensures { IfOk result
         (λ sum. sum ≡ bound_within (sum_of (take (if has_two then 2 else 1) (bounds_of stack.now)))) }
 {

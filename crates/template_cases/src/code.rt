@@ -131,10 +131,7 @@ fn read_instr(name: &[u8], operand: &str) -> Option<Instr> {
 
 fn item(operands: &str) -> Option<Instr> {
     let (depth, path) = operands.split_once(' ')?;
-    Some(Instr::Item(
-        depth.parse::<usize>().ok()?,
-        path.parse::<usize>().ok()?,
-    ))
+    Some(Instr::Item(depth.parse::<usize>().ok()?, path.parse::<usize>().ok()?))
 }
 
 fn with_index(name: &[u8], index: usize) -> Option<Instr> {

@@ -104,11 +104,11 @@ module _ (code : StackCode) (plain : IsPlainCode code) where
       let more : index + 1 ≡ suc index = omega arith in
       record {
         steps =
-            rw e
+            subst (λ (x : Cost). IsBelow (suc index) 0 x.steps.alone) (sym e)
             (subst (λ n. IsBelow n 0 (plus (spent_at code index).steps.alone (1 ∷ []))) more
             (below-plus index 0 1 0 (spent_at code index).steps.alone (1 ∷ []) s.steps (omega arith)));
         bytes_written =
-            rw e
+            subst (λ (x : Cost). IsBelow (c + a) (suc index) x.bytes.alone) (sym e)
             (subst (λ n. IsBelow (c + a) n (plus (spent_at code index).bytes.alone (written_bound code i bounds).alone)) more
             (below-plus c index a 1 (spent_at code index).bytes.alone (written_bound code i bounds).alone s.bytes_written w));
         flat_steps = ap (λ (x : Cost). x.steps.per) e ∙ ap (λ ps. plus ps []) s.flat_steps;
@@ -178,7 +178,7 @@ module _ (code : StackCode) (plain : IsPlainCode code) where
       (omega arith) in
       let two =
       one_within (suc p) (c + 0) 0 Show (all_data ∷ []) (all_data ∷ []) h.instrs.1.0 one.2 refl refl refl tt refl
-      one.1       (omega arith) (omega arith) in
+      one.1 (omega arith) (omega arith) in
       let three =
       one_within (suc (suc p)) (c + 0 + 0) 0 Print (all_data ∷ []) [] h.instrs.1.1.0 two.2 refl refl refl
       (omega arith, omega arith) refl two.1 (omega arith) (omega arith) in
