@@ -1,6 +1,6 @@
 -- Sums of costs, and the cost of turns.
-use Rattle.std.proofs.Common.{◌≡◌, Bool, true, false, refl, sym, ap, ◌∙◌}
-use Rattle.code_rules.specs.Polynomial.{plus, times_size}
+use Rattle.std.proofs.Common.{◌≡◌, Bool, true, false, refl}
+use Rattle.code_rules.specs.Polynomial.{plus}
 use Rattle.code_rules.specs.Bounds.{Bound, plus_bound, of_turns}
 use Rattle.code_rules.specs.Costs.{Cost, no_cost, plus_cost, cost_of_turns}
 use Rattle.code_rules.proofs.PolynomialFacts.{plus-empty, plus-assoc, plus-crossed, times_size-plus}

@@ -2,14 +2,14 @@
 use Rattle.std.specs.Prelude.{◌≡◌, ℕ, zero, suc, List, [], ◌∷◌, ◌++◌, replicate, Option, Some, None, codes, pos}
 use Rattle.std.specs.Fmt.{digits}
 use Rattle.std.proofs.Common.{refl, sym, ap, length, ◌^◌, ◌-◌, Bool, true, false, true≢false}
-use Rattle.data_tree.specs.Tree.{Tree, text, nothing, list, fields, named, no_items, item, no_members, member}
+use Rattle.data_tree.specs.Tree.{Tree, text, nothing, list, fields, no_items, item, no_members, member}
 use Rattle.data_tree.specs.declared.step.Step.TheVariants as steps
 use Rattle.helper_set.specs.Values.{a_datum}
 use Rattle.helper_set.specs.declared.helper.Helper.TheVariants.{Not, UrlEncode}
 use Rattle.template_code.specs.Code.{StackCode}
 use Rattle.template_code.specs.Machine.{advance, first, IsTrap, State, Runs}
 use Rattle.template_code.specs.declared.instr.Instr.{Instr}
-use Rattle.template_code.specs.declared.instr.Instr.TheVariants.{Emit, Root, Item, Index, Key, First, Last, Text}
+use Rattle.template_code.specs.declared.instr.Instr.TheVariants.{Emit, Root, Item, Index, Key, Last, Text}
 use Rattle.template_code.specs.declared.instr.Instr.TheVariants.{Number}
 use Rattle.template_code.specs.declared.instr.Instr.TheVariants.{Truth, Show, Test, Call, Escape, Print, Jump, Branch}
 use Rattle.template_code.specs.declared.instr.Instr.TheVariants.{Each, Next, Halt}

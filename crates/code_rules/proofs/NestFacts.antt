@@ -1,6 +1,6 @@
 -- Code as a course of places with loops round them; so the nests of its table are those of a course.
 use Rattle.std.proofs.Common.{◌≡◌, ℕ, zero, suc, List, ◌∷◌, length, Option, Some, None, refl, sym, ap, ◌∙◌}
-use Rattle.std.specs.Prelude.{slice_get, Bool, if◌then◌else◌}
+use Rattle.std.specs.Prelude.{slice_get, Bool}
 use Rattle.loop_law.specs.Course.{Cost, Bracket, level, opens_over_part, opens_over_data, ends, Course, nothing, nest}
 use Rattle.loop_law.proofs.Nests.{opened-from}
 use Rattle.template_code.specs.Code.{StackCode}
@@ -8,7 +8,7 @@ use Rattle.template_code.specs.Instructions.{flow}
 use Rattle.template_code.specs.declared.flow.Flow.{Flow}
 use Rattle.template_code.specs.declared.instr.Instr.{Instr}
 use Rattle.code_rules.specs.Costs.{goes_over_part}
-use Rattle.code_rules.specs.Table.{Entry, nest_after, entry_at}
+use Rattle.code_rules.specs.Table.{nest_after, entry_at}
 use Rattle.loop_law.specs.Course as course
 
 abbrev pub opening : Bool → Bracket

@@ -1,8 +1,8 @@
 -- Outside of the loops of well-formed code no bound and no cost depends on an item.
-use Rattle.std.proofs.Common.{◌≡◌, ℕ, zero, suc, ◌<◌, ◌≤◌, Bool, true, false, true≢false, List, [], ◌∷◌, ◌++◌, length}
-use Rattle.std.proofs.Common.{take, drop, Option, Some, None, nat_lt, refl, sym, ap, ◌∙◌, subst, ⊎_elim, arith}
+use Rattle.std.proofs.Common.{◌≡◌, ℕ, zero, suc, ◌≤◌, Bool, true, false, true≢false, List, [], ◌∷◌, ◌++◌, length}
+use Rattle.std.proofs.Common.{take, drop, Option, Some, None, refl, sym, ap, ◌∙◌, subst, ⊎_elim, arith}
 use Rattle.std.proofs.Common.{length-append}
-use Rattle.std.specs.Prelude.{slice_get, if◌then◌else◌, not}
+use Rattle.std.specs.Prelude.{slice_get, not}
 use Rattle.std.specs.Option.{option_map_or}
 use Rattle.std.proofs.lemmas.Option.{slice_get_cases}
 use Rattle.loop_law.specs.Course as course
@@ -19,10 +19,10 @@ use Rattle.template_code.specs.declared.instr.Instr.TheVariants.{Emit, Root, Ite
 use Rattle.template_code.specs.declared.instr.Instr.TheVariants.{Number}
 use Rattle.template_code.specs.declared.instr.Instr.TheVariants.{Truth, Show, Test, Call, Escape, Print, Jump, Branch}
 use Rattle.template_code.specs.declared.instr.Instr.TheVariants.{Each, Next, Halt}
-use Rattle.code_rules.specs.Polynomial.{Polynomial, plus, times}
+use Rattle.code_rules.specs.Polynomial.{times}
 use Rattle.code_rules.specs.Bounds.{Bound, plus_bound, times_bound, sum_of, at_most, of_turns}
 use Rattle.code_rules.specs.Costs.{is_empty, top, bound_by, pushed_bounds, bounds_after, bounds_at, written_bound}
-use Rattle.code_rules.specs.Costs.{goes_over_part, Cost, no_cost, plus_cost, cost_of_turns, cost, cost_at}
+use Rattle.code_rules.specs.Costs.{goes_over_part, Cost, no_cost, cost_of_turns, cost, cost_at}
 use Rattle.code_rules.specs.Table.{Entry, nest_after, IsTable, entry_at}
 use Rattle.code_rules.specs.Rules.{lacks_loop}
 use Rattle.code_rules.specs.Regions.{share, region}

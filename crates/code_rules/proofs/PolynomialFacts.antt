@@ -1,6 +1,6 @@
 -- Sums of polynomials, and their values.
-use Rattle.std.proofs.Common.{◌≡◌, ℕ, zero, suc, ◌+◌, ◌*◌, ◌≤◌, List, [], ◌∷◌, refl, sym, ap, ◌∙◌, arith}
-use Rattle.code_rules.specs.Polynomial.{Polynomial, constant, plus, times, times_size, value, as_printed}
+use Rattle.std.proofs.Common.{◌≡◌, ℕ, zero, suc, ◌+◌, ◌*◌, [], ◌∷◌, refl, sym, ap, ◌∙◌, arith}
+use Rattle.code_rules.specs.Polynomial.{Polynomial, constant, plus, times_size, value}
 
 pub value-constant : (c n : ℕ) → value (constant c) n ≡ c
 value-constant zero n = refl

@@ -11,7 +11,7 @@ use Rattle.template_code.specs.declared.instr.Instr.{Instr}
 use Rattle.code_rules.specs.Bounds.{Bound}
 use Rattle.code_rules.specs.Costs.{bounds_after, bounds_along, bounds_at, goes_over_part, Cost, no_cost, plus_cost}
 use Rattle.code_rules.specs.Costs.{cost_of_turns, cost_at}
-use Rattle.code_rules.specs.Table.{Entry, entry_at}
+use Rattle.code_rules.specs.Table.{entry_at}
 use Rattle.code_rules.specs.Rules.{same_nest}
 use Rattle.code_rules.specs.Regions.{share, region}
 use Rattle.code_rules.proofs.CostFacts.{plus_cost-no_cost, plus_cost-assoc, turns-no_cost, turns-plus}

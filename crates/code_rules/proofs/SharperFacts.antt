@@ -1,5 +1,5 @@
 -- At each size the budget is at most the one that takes each item for as large as all of the data.
-use Rattle.std.proofs.Common.{◌≡◌, ℕ, zero, suc, ◌+◌, ◌*◌, ◌≤◌, Bool, true, false, List, [], ◌∷◌, length, refl, sym, ap}
+use Rattle.std.proofs.Common.{◌≡◌, ℕ, zero, suc, ◌+◌, ◌*◌, ◌≤◌, Bool, true, false, List, [], ◌∷◌, length, refl, ap}
 use Rattle.std.proofs.Common.{◌∙◌, arith}
 use Rattle.template_code.specs.Code.{StackCode}
 use Rattle.code_rules.specs.Polynomial.{Polynomial, plus, times_size, value}

@@ -1,6 +1,6 @@
 -- Each code has a table, and all its tables agree on its instructions; so one rule is broken by all of them.
-use Rattle.std.proofs.Common.{◌≡◌, ℕ, zero, suc, ◌<◌, ◌≤◌, Bool, true, false, List, [], ◌∷◌, length, map, Option, Some}
-use Rattle.std.proofs.Common.{None, refl, sym, ap, ◌∙◌, ⊎_elim, arith}
+use Rattle.std.proofs.Common.{◌≡◌, ℕ, zero, suc, ◌<◌, ◌≤◌, Bool, true, false, List, [], ◌∷◌, length, map, Some}
+use Rattle.std.proofs.Common.{refl, sym, ap, ◌∙◌, ⊎_elim, arith}
 use Rattle.std.specs.Prelude.{slice_get, not, ◌&&◌, if◌then◌else◌}
 use Rattle.std.specs.List.{list_all}
 use Rattle.std.proofs.lemmas.Option.{slice_get_cases}
@@ -8,7 +8,7 @@ use Rattle.template_code.specs.Code.{StackCode}
 use Rattle.template_code.specs.Instructions.{flow}
 use Rattle.template_code.specs.declared.instr.Instr.{Instr}
 use Rattle.code_rules.specs.Bounds.{bound_fits}
-use Rattle.code_rules.specs.Costs.{pushed_bounds, bounds_at, Cost, plus_cost, cost_fits, cost_at}
+use Rattle.code_rules.specs.Costs.{pushed_bounds, bounds_at, plus_cost, cost_fits, cost_at}
 use Rattle.code_rules.specs.Table.{Entry, entry_after, entry_next, IsTable, entry_at}
 use Rattle.code_rules.specs.Rules.{jumps, jumps_among, nests_to, broken, broken_where}
 use Rattle.code_rules.specs.Regions.{share, region}

@@ -17,7 +17,7 @@ use Rattle.template_code.specs.declared.instr.Instr.TheVariants.{Each, Next, Hal
 use Rattle.code_rules.specs.Polynomial.{Polynomial, ends_in_zero, constant, plus, times, times_size}
 use Rattle.code_rules.specs.Bounds.{Bound, at_most, plus_bound, times_bound, sum_of, of_turns}
 use Rattle.code_rules.specs.Costs.{top, bound_by, bounds_after, bounds_along, bounds_at, written_bound, goes_over_part}
-use Rattle.code_rules.specs.Costs.{Cost, no_cost, plus_cost, cost_of_turns, cost, cost_at}
+use Rattle.code_rules.specs.Costs.{Cost, no_cost, cost_of_turns, cost, cost_at}
 use Rattle.code_rules.specs.Table.{entry_at}
 use Rattle.code_rules.specs.Rules.{same_nest}
 use Rattle.code_rules.specs.Regions.{share, region, budget}

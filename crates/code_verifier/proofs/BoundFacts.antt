@@ -1,6 +1,6 @@
 -- Bounds and costs with a coefficient that is too large, and the bounds of slots.
 use Rattle.std.proofs.Common.{◌≡◌, ℕ, zero, suc, ◌<◌, Bool, true, false, List, [], ◌∷◌, take, drop, map, Some, None}
-use Rattle.std.proofs.Common.{refl, sym, ap, ◌∙◌, ⊎_elim}
+use Rattle.std.proofs.Common.{refl, sym, ◌∙◌, ⊎_elim}
 use Rattle.std.specs.Prelude.{◌&&◌, if◌then◌else◌}
 use Rattle.std.specs.List.{list_all}
 use Rattle.std.proofs.lemmas.Bool.{and_cases, and_left, and_right}
@@ -9,7 +9,6 @@ use Rattle.template_code.specs.Code.{StackCode}
 use Rattle.template_code.specs.Instructions.{pushes}
 use Rattle.template_code.specs.declared.instr.Instr.{Instr}
 use Rattle.template_code.specs.declared.instr.Instr.TheVariants.{Item, Text, Show, Call, Escape}
-use Rattle.code_rules.specs.Polynomial.{plus}
 use Rattle.code_rules.specs.Bounds.{Bound, at_most, plus_bound, times_bound, sum_of, bound_fits}
 use Rattle.code_rules.specs.Costs.{top, pushed_bounds, Cost, plus_cost, cost_fits}
 use Rattle.code_rules.proofs.PolynomialFacts.{plus-empty}

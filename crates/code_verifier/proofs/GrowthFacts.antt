@@ -1,7 +1,7 @@
 -- Where a part of a sum has a coefficient that is too large, the sum has one.
-use Rattle.std.proofs.Common.{◌≡◌, ℕ, zero, suc, ◌+◌, ◌<◌, ◌≤◌, nat_le, Bool, true, false, List, [], ◌∷◌, take, drop, map}
-use Rattle.std.proofs.Common.{Some, None, refl, sym, ap, subst, ⊎_elim, ◌-◌, arith}
-use Rattle.std.specs.Prelude.{if◌then◌else◌, is_some}
+use Rattle.std.proofs.Common.{◌≡◌, ℕ, zero, suc, ◌+◌, ◌<◌, ◌≤◌, nat_le, Bool, true, false, [], ◌∷◌}
+use Rattle.std.proofs.Common.{Some, None, refl, sym, subst, ⊎_elim, ◌-◌, arith}
+use Rattle.std.specs.Prelude.{if◌then◌else◌}
 use Rattle.std.proofs.lemmas.Bool.{and_cases, and_left, and_right}
 use Rattle.std.proofs.lemmas.Bool.Decides.{nat_tests}
 use Rattle.std.proofs.lemmas.Option.{none-some, same_Some}

@@ -16,7 +16,7 @@ use Rattle.code_rules.specs.Polynomial.{as_printed}
 use Rattle.code_rules.specs.Bounds.{bound_fits}
 use Rattle.code_rules.specs.Costs.{is_empty, top, pushed_bounds, bounds_after, bounds_at, goes_over_part, Cost, no_cost}
 use Rattle.code_rules.specs.Costs.{cost_fits}
-use Rattle.code_rules.specs.Regions.{region, Budget, budget}
+use Rattle.code_rules.specs.Regions.{region, Budget}
 use Rattle.code_rules.specs.Rules.{jumps, jumps_among, nests_to, same_nest, closes_wrongly, broken_by, broken_beyond}
 use Rattle.code_rules.specs.Rules.{broken_where, broken}
 use Rattle.code_rules.specs.Table.{Entry, blank, nest_after, entry_at}

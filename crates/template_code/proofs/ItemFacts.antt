@@ -2,12 +2,12 @@
 use Rattle.std.proofs.Common.{◌≡◌, ℕ, zero, suc, ◌<◌, List, [], ◌∷◌, length, Option, Some, None, Bool, true, false}
 use Rattle.std.proofs.Common.{refl}
 use Rattle.std.proofs.Common.{ap, subst, arith}
-use Rattle.std.specs.Prelude.{slice_get, option_map, option_and_then, if◌then◌else◌}
+use Rattle.std.specs.Prelude.{slice_get, option_map, if◌then◌else◌}
 use Rattle.std.proofs.lemmas.Bool.{ltb-true}
 use Rattle.std.proofs.lemmas.Option.{none-some, same_Some, option_and_then_some}
 use Rattle.data_tree.specs.Tree.{Tree}
 use Rattle.data_tree.specs.Parts.{items}
-use Rattle.helper_set.specs.Values.{Value, a_datum, a_text, a_number, a_truth}
+use Rattle.helper_set.specs.Values.{Value, a_datum}
 use Rattle.template_code.specs.Code.{StackCode}
 use Rattle.template_code.specs.Instructions.{flow}
 use Rattle.template_code.specs.Machine.{Loop, has_next, State, Effect, effect, Way, opened, closed, way, state_after}

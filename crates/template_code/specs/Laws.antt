@@ -1,5 +1,5 @@
 -- What holds of all runs.
-use Rattle.std.specs.Prelude.{◌≡◌, ℕ, ◌<◌, List, length, Some, slice_get}
+use Rattle.std.specs.Prelude.{◌≡◌, ℕ, ◌<◌, length, Some, slice_get}
 use Rattle.data_tree.specs.Tree.{Tree}
 use Rattle.data_tree.specs.Parts.{items}
 use Rattle.template_code.specs.Code.{StackCode}

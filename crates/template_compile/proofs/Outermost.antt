@@ -8,7 +8,7 @@ use Rattle.template_code.specs.Code.{StackCode}
 use Rattle.template_code.specs.Instructions.{flow, target_of}
 use Rattle.template_code.specs.declared.instr.Instr.{Instr}
 use Rattle.template_code.specs.declared.instr.Instr.TheVariants.{Each, Next, Halt}
-use Rattle.code_rules.specs.Costs.{bounds_at, Cost, no_cost, plus_cost, cost, cost_at}
+use Rattle.code_rules.specs.Costs.{bounds_at, no_cost, plus_cost, cost, cost_at}
 use Rattle.code_rules.specs.Regions.{region}
 use Rattle.code_rules.specs.Rules.{is_target, jumps, jumps_among, nests_to}
 use Rattle.code_rules.specs.Table.{nest_after, entry_next, entry_at}

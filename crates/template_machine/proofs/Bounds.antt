@@ -1,13 +1,13 @@
 -- The values of bounds outside of loops, where nothing depends on an item.
-use Rattle.std.proofs.Common.{◌≡◌, ℕ, zero, suc, ◌+◌, ◌*◌, ◌≤◌, ◌^◌, Bool, true, false, List, [], ◌∷◌, length, pos}
-use Rattle.std.proofs.Common.{negsuc, ℤ, Some, refl, ap, ◌∙◌, arith}
+use Rattle.std.proofs.Common.{◌≡◌, ℕ, zero, suc, ◌*◌, ◌≤◌, ◌^◌, Bool, true, false, List, [], ◌∷◌, length, pos}
+use Rattle.std.proofs.Common.{negsuc, ℤ, Some, ap, ◌∙◌, arith}
 use Rattle.std.specs.Prelude.{slice_get, unwrap_or, FitsSigned, decimal}
 use Rattle.std.specs.Fmt.{signed_decimal}
 use Rattle.std.specs.Int.{w64}
 use Rattle.std.proofs.lemmas.Fmt.{length-decimal-le}
 use Rattle.data_tree.specs.Json.{truth_text}
 use Rattle.template_code.specs.Code.{StackCode}
-use Rattle.code_rules.specs.Polynomial.{Polynomial, constant, plus, times, value}
+use Rattle.code_rules.specs.Polynomial.{Polynomial, constant, times, value}
 use Rattle.code_rules.specs.Costs.{text_bound}
 use Rattle.code_rules.proofs.PolynomialFacts.{value-constant, value-plus}
 

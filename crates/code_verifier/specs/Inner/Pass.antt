@@ -8,7 +8,7 @@ use Rattle.template_code.specs.Instructions.{slots_after}
 use Rattle.template_code.specs.declared.flow.Flow.{Flow}
 use Rattle.template_code.specs.declared.instr.Instr.{Instr}
 use Rattle.template_code.specs.declared.limits.TheConstants.{MAX_INSTRUCTIONS, MAX_SLOTS, MAX_LOOPS}
-use Rattle.code_rules.specs.Bounds.{Bound, bound_fits}
+use Rattle.code_rules.specs.Bounds.{bound_fits}
 use Rattle.code_rules.specs.Costs.{Cost, no_cost, plus_cost, cost_fits, cost_of_turns, cost, is_empty, top, pushed_bounds}
 use Rattle.code_rules.specs.Rules.{has_invalid_target, lacks_slots, kinds_fit, leaves_slots, closes_wrongly, lacks_loop}
 use Rattle.code_rules.specs.Table.{nest_after}
