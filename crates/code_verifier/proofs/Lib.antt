@@ -1,7 +1,8 @@
-pub mod PrintedFacts
 pub mod SumFacts
 pub mod GrowthFacts
+pub mod BoundFacts
 pub mod StackFacts
 pub mod PopFacts
-pub mod JudgeFacts
+pub mod MarkFacts
+pub mod LoopFacts
 pub mod PassFacts

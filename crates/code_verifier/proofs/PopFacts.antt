@@ -6,7 +6,7 @@ use Rattle.std.specs.List.{list_any}
 use Rattle.helper_set.specs.Values.{same_kind}
 use Rattle.helper_set.specs.declared.kind.Kind.{Kind}
 use Rattle.template_code.specs.Instructions.{flow, goes_on, pops, pushes, slots_kept, slots_after}
-use Rattle.template_code.specs.WellFormed.{lacks_slots, kinds_fit}
+use Rattle.code_rules.specs.Rules.{lacks_slots, kinds_fit}
 use Rattle.template_code.specs.declared.flow.Flow.{Flow}
 use Rattle.template_code.specs.declared.instr.Instr.{Instr}
 use Rattle.template_code.specs.declared.limits.TheConstants.{MAX_SLOTS}
@@ -42,7 +42,7 @@ fit-one w k kinds = true_and (list_any (same_kind k) w)
 
 over-by : {A : Type 0} (w : Flow) (xs : List A) → (goes_on w && nat_lt MAX_SLOTS (length xs))
     ≡ nat_lt MAX_SLOTS (length (slots_kept w xs))
-over-by Flow.Next xs = refl
+over-by Flow.Straight xs = refl
 over-by f xs = refl
 
 pub overfills-length : (i : Instr) (kinds : List Kind) → (goes_on (flow i)

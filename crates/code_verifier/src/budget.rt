@@ -1,16 +1,15 @@
 //! The budget of code, as it is printed.
-ghost use Rattle.std.specs.Prelude.{◌≡◌, ◌⊎◌, ◌≤◌, ◌^◌, ◌↔◌, [], ◌∷◌, IfOk, IfSome, IsNone};
-ghost use Rattle.template_code.specs.Bounds.{constant, value};
-ghost use Rattle.template_code.specs.Budget.{plus_cost};
-ghost use Rattle.code_verifier.specs.Inner.Pass.{cost_within};
+ghost use Rattle.std.specs.Prelude.{◌≡◌, ◌⊎◌, ◌≤◌, ◌^◌, ◌↔◌, IfOk, IfSome, IsNone};
+ghost use Rattle.code_rules.specs.Polynomial.{value, as_printed};
 
+use crate::cost::Cost;
 use crate::polynomial::Polynomial;
 use std::alloc::{AllocError, Global};
 use std::marker::Model;
 
 /// The steps that a run takes and the bytes that it writes, at most: two polynomials in the size of the request's
 /// data, as lists of coefficients, the constant first. No list but `[0]` ends in a zero, by
-/// `template_code::laws::law_budget_ends_in_no_zero`.
+/// `code_rules::laws::law_budget_ends_in_no_zero`.
 #[derive(Debug, Drop)]
 pub struct Budget {
     steps: Polynomial,
@@ -18,9 +17,9 @@ pub struct Budget {
 }
 
 impl Model for Budget {
-    ghost use Rattle.template_code.specs.Budget.{Cost};
+    ghost use Rattle.code_rules.specs.Regions.{Budget};
 
-    ghost Value = { Cost };
+    ghost Value = { Budget };
 
     ghost view = { λ b. record { steps = b.steps; bytes = b.bytes } };
 }
@@ -49,31 +48,14 @@ impl Budget {
         Some((steps, bytes))
     }
 
-    // The budget of no instructions.
-    pub(crate) fn of_no_code(alloc: Global) -> Result<Budget, AllocError>
-        ensures { IfOk result (λ b. b ≡ record { steps = 0 ∷ []; bytes = 0 ∷ [] }) }
+    // The cost of all of the code, as it is printed. Outside of loops nothing depends on an item.
+    pub(crate) fn of_whole(whole: Cost) -> Result<Budget, AllocError>
+        ensures { IfOk result (λ budget.
+            budget ≡ record { steps = as_printed whole.steps.alone; bytes = as_printed whole.bytes.alone }) }
     {
         Ok(Budget {
-            steps: Polynomial::zero_as_printed(alloc)?,
-            bytes: Polynomial::zero_as_printed(alloc)?,
+            steps: whole.steps.into_alone().into_printed()?,
+            bytes: whole.bytes.into_alone().into_printed()?,
         })
-    }
-
-    // The budget with one more step, which writes that many bytes; none if a coefficient is then too large.
-    pub(crate) fn with_step(
-        &self,
-        alloc: Global,
-        written: &Polynomial,
-    ) -> Result<Option<Budget>, AllocError>
-        ensures { IfOk result (λ sum.
-            sum ≡ cost_within (plus_cost self.now (record { steps = constant 1; bytes = written.now }))) }
-    {
-        let one = Polynomial::constant(alloc, 1)?;
-        let steps = self.steps.plus(alloc, &one)?;
-        let bytes = self.bytes.plus(alloc, written)?;
-        match (steps, bytes) {
-            (Some(steps), Some(bytes)) => Ok(Some(Budget { steps, bytes })),
-            _ => Ok(None),
-        }
     }
 }

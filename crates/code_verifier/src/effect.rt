@@ -1,17 +1,17 @@
-//! What an instruction does to what is known of the stack.
-ghost use Rattle.std.specs.Prelude.{◌≡◌, true, if◌then◌else◌, List, [], ◌∷◌, length, take, drop, slice_get};
-ghost use Rattle.std.specs.Prelude.{unwrap_or, IfOk, OnOk};
-ghost use Rattle.std.specs.List.{list_all};
-ghost use Rattle.helper_set.specs.Helpers.{result_kind};
-ghost use Rattle.template_code.specs.Bounds.{Bound, constant, plus, times, sum_of, fits};
+//! What an instruction pushes and writes, and what it does to what is known of the stack.
+ghost use Rattle.std.specs.Prelude.{◌≡◌, if◌then◌else◌, List, [], length, take, drop, slice_get, unwrap_or};
+ghost use Rattle.std.specs.Prelude.{IfOk, OnOk};
+ghost use Rattle.code_rules.specs.Bounds.{at_most, plus_bound, times_bound, sum_of};
+ghost use Rattle.code_rules.specs.Costs.{top, text_bound, helper_bound, pushed_bounds};
 ghost use Rattle.template_code.specs.Instructions.{pushes, slots_after};
-ghost use Rattle.template_code.specs.Budget.{top, helper_bound, pushed_bounds, bounds_after};
-ghost use Rattle.template_code.specs.Budget.{written_bound};
-ghost use Rattle.template_code.specs.declared.instr.Instr.TheVariants.{Call};
-ghost use Rattle.code_verifier.specs.Inner.Pass.{within};
-ghost use Rattle.code_verifier.specs.Inner.Slots.{kinds_of, bounds_of};
+ghost use Rattle.template_code.specs.declared.instr.Instr.TheVariants.{Item};
+ghost use Rattle.code_verifier.specs.Inner.Limited.{bound_within, cost_within};
+ghost use Rattle.code_verifier.specs.Inner.Pass.{own_cost};
+ghost use Rattle.code_verifier.specs.Inner.Slots.{kinds_of, bounds_of, bound_each};
 
-use crate::polynomial::{Polynomial, is_within_limit};
+use crate::bound::Bound;
+use crate::cost::Cost;
+use crate::polynomial::is_within_limit;
 use crate::stack::Stack;
 use helper_set::helper::Helper;
 use helper_set::kind::Kind;
@@ -20,105 +20,114 @@ use helper_set::signature::{Growth, signature};
 use std::alloc::{AllocError, Global};
 use template_code::code::Code;
 use template_code::instr::Instr;
+use template_code::limits::MAX_ESCAPE_GROWTH;
 
-/// Whether the bound of each slot that an instruction pushes has coefficients that aren't too large.
-pub fn pushed_bounds_fit(
+/// The length of what the slot that an instruction pushes prints as, at most; zero if it pushes none, and none if a
+/// coefficient is too large.
+pub fn pushed_bound(
     alloc: Global,
     code: &Code,
     instr: Instr,
     stack: &Stack,
-) -> Result<bool, AllocError>
-    ensures { IfOk result (λ fit. fit ≡ list_all fits (pushed_bounds code.now instr (bounds_of stack.now))) }
+) -> Result<Option<Bound>, AllocError>
+    ensures { IfOk result (λ bound. bound ≡ bound_within (top (pushed_bounds code.now instr (bounds_of stack.now)))) }
 {
     match instr {
-        Instr::Text(text) => Ok(is_within_limit(text_length(code, text))),
-        Instr::Show => match stack.top() {
-            None => Ok(true),
-            Some(slot) => Ok(slot.bound.fits()),
-        },
-        Instr::Call(helper) => Ok(helper_bound(alloc, helper, stack)?.is_some()),
-        _ => Ok(true),
+        Instr::Root(_) | Instr::Key(_) => Ok(Some(Bound::all_data(alloc)?)),
+        Instr::Item(depth, path) => item_bound(alloc, code, depth, path, stack),
+        Instr::Index(_) | Instr::Number(_) => Ok(Some(Bound::at_most(alloc, MAX_NUMBER_LENGTH)?)),
+        Instr::First(_) | Instr::Last(_) | Instr::Truth(_) | Instr::Test => {
+            Ok(Some(Bound::at_most(alloc, MAX_TRUTH_LENGTH)?))
+        }
+        Instr::Text(text) => text_bound(alloc, code, text),
+        Instr::Show => argument_bounds(alloc, false, stack),
+        Instr::Escape => scaled(alloc, MAX_ESCAPE_GROWTH, false, stack),
+        Instr::Call(helper) => helper_bound(alloc, helper, stack),
+        Instr::Emit(_)
+        | Instr::Print
+        | Instr::Jump(_)
+        | Instr::Branch(_)
+        | Instr::Each(_)
+        | Instr::Next(_)
+        | Instr::Halt => Ok(Some(Bound::zero(alloc))),
     }
 }
 
-/// Changes the stack as an instruction does, and returns the number of bytes that it writes, at most.
-pub fn apply_effect(
+/// The cost of a region with one more instruction; none if a coefficient is too large.
+pub fn own_cost(
     alloc: Global,
     code: &Code,
     instr: Instr,
-    stack: &mut Stack,
-) -> Result<Polynomial, AllocError>
-    requires { list_all fits (pushed_bounds code.now instr (bounds_of stack.old)) ≡ true }
-    ensures kinds { OnOk result (kinds_of stack.new ≡ slots_after instr (pushes instr) (kinds_of stack.old)) }
-    ensures bounds { OnOk result (bounds_of stack.new ≡ bounds_after code.now instr (bounds_of stack.old)) }
-    ensures written { IfOk result (λ written. written ≡ written_bound code.now instr (bounds_of stack.old)) }
+    stack: &Stack,
+    spent: &Cost,
+) -> Result<Option<Cost>, AllocError>
+    ensures { IfOk result (λ sum. sum ≡ cost_within (own_cost code.now instr stack.now spent.now)) }
 {
-    let mut written = Polynomial::empty(alloc);
     match instr {
-        Instr::Emit(text) => written = Polynomial::constant(alloc, text_length(code, text))?,
-        Instr::Root(_) => stack.push(Kind::Data, Polynomial::all_data(alloc)?)?,
-        Instr::Text(text) => push_constant(alloc, Kind::Text, text_length(code, text), stack)?,
-        Instr::Number(_) => push_constant(alloc, Kind::Number, MAX_NUMBER_LENGTH, stack)?,
-        Instr::Truth(_) => push_constant(alloc, Kind::Truth, MAX_TRUTH_LENGTH, stack)?,
-        Instr::Show => {
-            let bound = pop_bound(alloc, stack);
-            stack.push(Kind::Text, bound)?;
+        Instr::Emit(text) => {
+            spent.with_step(alloc, &Bound::at_most(alloc, text_length(code, text))?)
         }
-        Instr::Test => {
-            stack.pop_many(1);
-            push_constant(alloc, Kind::Truth, MAX_TRUTH_LENGTH, stack)?;
-        }
-        Instr::Call(helper) => call(alloc, helper, stack)?,
-        Instr::Print => written = pop_bound(alloc, stack),
-        Instr::Branch(_) => stack.pop_many(1),
-        Instr::Jump(_) | Instr::Halt => stack.clear(),
+        Instr::Print => match stack.top() {
+            None => spent.with_step(alloc, &Bound::zero(alloc)),
+            Some(slot) => spent.with_step(alloc, &slot.bound),
+        },
+        _ => spent.with_step(alloc, &Bound::zero(alloc)),
     }
-    Ok(written)
 }
 
-// Adds a slot that prints as a text of at most that length, in bytes.
-fn push_constant(
-    alloc: Global,
-    kind: Kind,
-    length: u64,
-    stack: &mut Stack,
-) -> Result<(), AllocError>
-    ensures kinds { OnOk result (kinds_of stack.new ≡ kind ∷ kinds_of stack.old) }
-    ensures bounds { OnOk result (bounds_of stack.new ≡ constant length ∷ bounds_of stack.old) }
-{
-    let bound = Polynomial::constant(alloc, length)?;
-    stack.push(kind, bound)
-}
-
-// Takes a helper's arguments, and adds its result.
-fn call(alloc: Global, helper: Helper, stack: &mut Stack) -> Result<(), AllocError>
-    requires { fits (helper_bound helper (bounds_of stack.old)) ≡ true }
-    ensures kinds { OnOk result
-        (kinds_of stack.new ≡ slots_after (Call helper) (result_kind helper ∷ []) (kinds_of stack.old)) }
+/// Changes the stack as an instruction does; the slot that it pushes, if it pushes one, has that bound.
+pub fn apply_effect(instr: Instr, bound: Bound, stack: &mut Stack) -> Result<(), AllocError>
+    ensures kinds { OnOk result (kinds_of stack.new ≡ slots_after instr (pushes instr) (kinds_of stack.old)) }
     ensures bounds { OnOk result
-        (bounds_of stack.new
-        ≡ slots_after (Call helper) (helper_bound helper (bounds_of stack.old) ∷ []) (bounds_of stack.old)) }
+        (bounds_of stack.new ≡ slots_after instr (bound_each bound (pushes instr)) (bounds_of stack.old)) }
 {
-    match helper_bound(alloc, helper, stack)? {
-        None => unreachable!(),
-        Some(bound) => {
-            stack.pop_many(Instr::Call(helper).popped().count());
-            stack.push(signature(helper).gives, bound)
-        }
+    stack.pop_many(instr.popped().count());
+    if !instr.flow().goes_on() {
+        stack.clear();
+        return Ok(());
+    }
+    match instr.pushed() {
+        None => Ok(()),
+        Some(kind) => stack.push(kind, bound),
+    }
+}
+
+// The bound of what a path finds in an item: that of the innermost loop is the one that costs are measured by.
+fn item_bound(
+    alloc: Global,
+    _code: &Code,
+    depth: usize,
+    _path: usize,
+    _stack: &Stack,
+) -> Result<Option<Bound>, AllocError>
+    ensures { IfOk result
+        (λ bound. bound ≡ bound_within (top (pushed_bounds _code.now (Item depth _path) (bounds_of _stack.now)))) }
+{
+    if depth == 0 {
+        Ok(Some(Bound::item_data(alloc)?))
+    } else {
+        Ok(Some(Bound::all_data(alloc)?))
+    }
+}
+
+fn text_bound(alloc: Global, code: &Code, text: usize) -> Result<Option<Bound>, AllocError>
+    ensures { IfOk result (λ bound. bound ≡ bound_within (text_bound code.now text)) }
+{
+    let length = text_length(code, text);
+    if is_within_limit(length) {
+        Ok(Some(Bound::at_most(alloc, length)?))
+    } else {
+        Ok(None)
     }
 }
 
 // The length of the text that a helper's result prints as, at most; none if a coefficient is too large.
-fn helper_bound(
-    alloc: Global,
-    helper: Helper,
-    stack: &Stack,
-) -> Result<Option<Polynomial>, AllocError>
-    ensures { IfOk result (λ bound. bound ≡ within (helper_bound helper (bounds_of stack.now))) }
+fn helper_bound(alloc: Global, helper: Helper, stack: &Stack) -> Result<Option<Bound>, AllocError>
+    ensures { IfOk result (λ bound. bound ≡ bound_within (helper_bound helper (bounds_of stack.now))) }
 {
     let signature = signature(helper);
     match signature.gives {
-        Kind::Data => Ok(Some(Polynomial::all_data(alloc)?)),
+        Kind::Data => Ok(Some(Bound::all_data(alloc)?)),
         Kind::Text | Kind::Number | Kind::Truth => {
             grown(alloc, signature.growth, signature.second.is_some(), stack)
         }
@@ -131,13 +140,13 @@ fn grown(
     growth: Growth,
     has_two: bool,
     stack: &Stack,
-) -> Result<Option<Polynomial>, AllocError>
-    ensures { IfOk result (λ bound. bound ≡ within (plus (times growth.times
-        (sum_of (take (if has_two then 2 else 1) (bounds_of stack.now)))) (constant growth.plus))) }
+) -> Result<Option<Bound>, AllocError>
+    ensures { IfOk result (λ bound. bound ≡ bound_within (plus_bound (times_bound growth.times
+        (sum_of (take (if has_two then 2 else 1) (bounds_of stack.now)))) (at_most growth.plus))) }
 {
     match scaled(alloc, growth.times, has_two, stack)? {
         None => Ok(None),
-        Some(scaled) => scaled.plus(alloc, &Polynomial::constant(alloc, growth.plus)?),
+        Some(scaled) => scaled.plus(alloc, &Bound::at_most(alloc, growth.plus)?),
     }
 }
 
@@ -147,12 +156,12 @@ fn scaled(
     count: u64,
     has_two: bool,
     stack: &Stack,
-) -> Result<Option<Polynomial>, AllocError>
+) -> Result<Option<Bound>, AllocError>
     ensures { IfOk result (λ bound. bound
-        ≡ within (times count (sum_of (take (if has_two then 2 else 1) (bounds_of stack.now))))) }
+        ≡ bound_within (times_bound count (sum_of (take (if has_two then 2 else 1) (bounds_of stack.now))))) }
 {
     if count == 0 {
-        return Ok(Some(Polynomial::empty(alloc)));
+        return Ok(Some(Bound::zero(alloc)));
     }
     match argument_bounds(alloc, has_two, stack)? {
         None => Ok(None),
@@ -161,15 +170,11 @@ fn scaled(
 }
 
 // The sum of the bounds of the one slot or the two at the top.
-fn argument_bounds(
-    alloc: Global,
-    has_two: bool,
-    stack: &Stack,
-) -> Result<Option<Polynomial>, AllocError>
+fn argument_bounds(alloc: Global, has_two: bool, stack: &Stack) -> Result<Option<Bound>, AllocError>
     ensures { IfOk result
-        (λ sum. sum ≡ within (sum_of (take (if has_two then 2 else 1) (bounds_of stack.now)))) }
+        (λ sum. sum ≡ bound_within (sum_of (take (if has_two then 2 else 1) (bounds_of stack.now)))) }
 {
-    let empty = Polynomial::empty(alloc);
+    let empty = Bound::zero(alloc);
     if !has_two {
         return plus_bound(alloc, stack, 0, &empty);
     }
@@ -184,12 +189,12 @@ fn plus_bound(
     alloc: Global,
     stack: &Stack,
     depth: usize,
-    other: &Polynomial,
-) -> Result<Option<Polynomial>, AllocError>
-    ensures { IfOk result (λ sum. sum ≡ within (plus (top (drop depth (bounds_of stack.now))) other.now)) }
+    other: &Bound,
+) -> Result<Option<Bound>, AllocError>
+    ensures { IfOk result (λ sum. sum ≡ bound_within (plus_bound (top (drop depth (bounds_of stack.now))) other.now)) }
 {
     match stack.slot(depth) {
-        None => Polynomial::empty(alloc).plus(alloc, other),
+        None => Bound::zero(alloc).plus(alloc, other),
         Some(slot) => slot.bound.plus(alloc, other),
     }
 }
@@ -201,16 +206,5 @@ fn text_length(code: &Code, text: usize) -> u64
     match code.texts().get(text) {
         None => 0,
         Some(text) => text.as_str().len() as u64,
-    }
-}
-
-// Takes the slot at the top, and returns its bound.
-fn pop_bound(alloc: Global, stack: &mut Stack) -> Polynomial
-    ensures bound { result ≡ top (bounds_of stack.old) }
-    ensures below { stack.new ≡ drop 1 stack.old }
-{
-    match stack.pop() {
-        None => Polynomial::empty(alloc),
-        Some(slot) => slot.bound,
     }
 }

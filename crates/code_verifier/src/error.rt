@@ -1,7 +1,7 @@
 //! Why code may not run.
 
+use code_rules::rule::Rule;
 use template_code::code::Code;
-use template_code::rule::Rule;
 
 /// Why there is no `Verified`. The code that was given comes back.
 #[derive(Debug, Drop)]

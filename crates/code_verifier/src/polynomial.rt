@@ -2,9 +2,10 @@
 ghost use Rattle.std.specs.Prelude.{◌≡◌, ◌+◌, ◌*◌, ◌≤◌, ◌^◌, ◌↔◌, cond, nat_le, [], ◌∷◌, Some, None, slice_index};
 ghost use Rattle.std.specs.Prelude.{IfOk, IfSome, IsNone};
 ghost use Rattle.std.specs.Option.{option_map};
-ghost use Rattle.template_code.specs.Bounds.{constant, all_data, plus, times, fits, value};
+ghost use Rattle.code_rules.specs.Polynomial.{constant, plus, times, times_size, fits, value, as_printed};
+ghost use Rattle.code_rules.specs.Costs.{is_empty};
 ghost use Rattle.template_code.specs.declared.limits.TheConstants.{MAX_COEFFICIENT};
-ghost use Rattle.code_verifier.specs.Inner.Pass.{within};
+ghost use Rattle.code_verifier.specs.Inner.Limited.{within};
 
 use std::alloc::{AllocError, Global};
 use std::marker::Model;
@@ -34,15 +35,6 @@ impl Polynomial {
         }
     }
 
-    /// The list of a polynomial that is zero, as it is printed: `[0]`.
-    pub fn zero_as_printed(alloc: Global) -> Result<Polynomial, AllocError>
-        ensures { IfOk result (λ p. p ≡ 0 ∷ []) }
-    {
-        Ok(Polynomial {
-            coefficients: vec![in alloc; 0]?,
-        })
-    }
-
     /// A number that doesn't depend on the size.
     pub fn constant(alloc: Global, number: u64) -> Result<Polynomial, AllocError>
         ensures { IfOk result (λ p. p ≡ constant number) }
@@ -55,8 +47,8 @@ impl Polynomial {
     }
 
     /// The size itself.
-    pub fn all_data(alloc: Global) -> Result<Polynomial, AllocError>
-        ensures { IfOk result (λ p. p ≡ all_data) }
+    pub fn size(alloc: Global) -> Result<Polynomial, AllocError>
+        ensures { IfOk result (λ p. p ≡ 0 ∷ 1 ∷ []) }
     {
         Ok(Polynomial {
             coefficients: vec![in alloc; 0, 1]?,
@@ -70,13 +62,32 @@ impl Polynomial {
         self.coefficients.as_slice()
     }
 
-    /// Whether no coefficient is over `MAX_COEFFICIENT`.
-    pub fn fits(&self) -> bool
-        ensures { result ≡ fits self.now }
+    pub fn is_zero(&self) -> bool
+        ensures { result ≡ is_empty self.now }
     {
-        self.coefficients
-            .iter()
-            .all(|coefficient| *coefficient <= MAX_COEFFICIENT)
+        self.coefficients.is_empty()
+    }
+
+    /// The list as it is printed, which has a coefficient: a polynomial that is zero is `[0]`.
+    pub fn into_printed(self) -> Result<Polynomial, AllocError>
+        ensures { IfOk result (λ p. p ≡ as_printed self) }
+    {
+        let mut coefficients = self.coefficients;
+        if coefficients.is_empty() {
+            coefficients.push(0)?;
+        }
+        Ok(Polynomial { coefficients })
+    }
+
+    /// The size times the polynomial.
+    pub fn times_size(self) -> Result<Polynomial, AllocError>
+        ensures { IfOk result (λ product. product ≡ times_size self) }
+    {
+        let mut coefficients = self.coefficients;
+        if !coefficients.is_empty() {
+            coefficients.insert(0, 0)?;
+        }
+        Ok(Polynomial { coefficients })
     }
 
     /// The sum; none if a coefficient of it is too large.
@@ -91,8 +102,8 @@ impl Polynomial {
         Ok(coefficients.map(|coefficients| Polynomial { coefficients }))
     }
 
-    /// That many times the polynomial; none if a coefficient is too large. It is summed up, since no helper's result
-    /// grows more than threefold.
+    /// That many times the polynomial; none if a coefficient is too large. It is summed up, since no result
+    /// grows more than sixfold.
     pub fn times(&self, alloc: Global, count: u64) -> Result<Option<Polynomial>, AllocError>
         ensures { IfOk result (λ product. product ≡ within (times count self.now)) }
     {

@@ -1,35 +1,39 @@
-//! The rules up to V12, judged at one instruction from what is known of its stack and of the jumps before it.
-ghost use Rattle.std.specs.Prelude.{◌≡◌, ℕ, suc, ◌<◌, nat_eq, nat_lt, not, ◌&&◌, false, [], ◌∷◌, List, length};
-ghost use Rattle.std.specs.Prelude.{drop, get_or};
+//! The rules up to V12, judged at one instruction from what is known of its stack, of the loops round it and of the
+//! jumps before it.
+ghost use Rattle.std.specs.Prelude.{◌≡◌, suc, ◌<◌, nat_eq, nat_lt, not, ◌&&◌, false, [], ◌∷◌, length, drop};
 ghost use Rattle.helper_set.specs.Helpers.{parameter_kinds};
-ghost use Rattle.template_code.specs.Instructions.{flow, target_of, pops, pushes, slots_after};
-ghost use Rattle.template_code.specs.WellFormed.{broken_by, has_invalid_target, kinds_fit, lacks_slots};
-ghost use Rattle.template_code.specs.WellFormed.{leaves_slots, is_empty, is_misplaced};
-ghost use Rattle.template_code.specs.declared.limits.TheConstants.{MAX_SLOTS};
+ghost use Rattle.template_code.specs.Instructions.{flow, target_of, is_misplaced, loop_named, pops, pushes, slots_after};
+ghost use Rattle.template_code.specs.declared.limits.TheConstants.{MAX_SLOTS, MAX_LOOPS};
+ghost use Rattle.code_rules.specs.Costs.{is_empty};
+ghost use Rattle.code_rules.specs.Rules.{has_invalid_target, kinds_fit, lacks_slots, leaves_slots, closes_wrongly};
+ghost use Rattle.code_rules.specs.Rules.{lacks_loop};
+ghost use Rattle.code_rules.specs.Table.{nest_after};
+ghost use Rattle.code_verifier.specs.Inner.Marks.{is_marked};
 ghost use Rattle.code_verifier.specs.Inner.Slots.{kinds_of};
-ghost use Rattle.code_verifier.specs.Inner.Pass.{IsMarkedTarget};
+ghost use Rattle.code_verifier.specs.Inner.Pass.{nest_of, broken_seen};
 
+use crate::loops::Loops;
 use crate::stack::Stack;
-use crate::targets::Targets;
+use crate::targets::Mark;
+use code_rules::rule::Rule;
 use helper_set::signature::Parameter;
 use template_code::code::Code;
+use template_code::flow::Flow;
 use template_code::instr::Instr;
-use template_code::limits::{MAX_INSTRUCTIONS, MAX_SLOTS};
+use template_code::limits::{MAX_INSTRUCTIONS, MAX_LOOPS, MAX_SLOTS};
 use template_code::popped::Popped;
-use template_code::rule::Rule;
 
 /// The first rule up to V12 that an instruction breaks.
 pub fn broken_rule(
     code: &Code,
     index: usize,
     instr: Instr,
+    mark: Mark,
+    loops: &Loops,
     stack: &Stack,
-    targets: &Targets,
 ) -> Option<Rule>
     requires inside { index < length code.now.instrs }
-    requires marked { IsMarkedTarget code.now index targets.now }
-    ensures { (nest : List ℕ) →
-        result ≡ broken_by code.now index instr (record { nest = nest; kinds = kinds_of stack.now }) }
+    ensures { result ≡ broken_seen code.now index instr mark loops.now stack.now }
 {
     if index == MAX_INSTRUCTIONS {
         Some(Rule::V1)
@@ -37,14 +41,22 @@ pub fn broken_rule(
         Some(Rule::V2)
     } else if has_invalid_target(code, index, instr) {
         Some(Rule::V3)
+    } else if !mark.agrees(loops.innermost()) {
+        Some(Rule::V4)
     } else if lacks_slots(instr, stack) {
         Some(Rule::V5)
     } else if !kinds_fit(instr, stack) {
         Some(Rule::V6)
     } else if overfills(instr, stack) {
         Some(Rule::V7)
-    } else if target_has_slots(index, stack, targets) || leaves_slots(instr, stack) {
+    } else if target_has_slots(mark, stack) || leaves_slots(instr, stack) {
         Some(Rule::V8)
+    } else if opens_too_many(index, instr, loops) {
+        Some(Rule::V9)
+    } else if closes_wrongly(instr, loops) {
+        Some(Rule::V10)
+    } else if lacks_loop(instr, loops) {
+        Some(Rule::V11)
     } else if is_misplaced(code, index, instr) {
         Some(Rule::V12)
     } else {
@@ -101,10 +113,10 @@ fn overfills(instr: Instr, stack: &Stack) -> bool
 }
 
 // Whether a jump goes to the instruction and its stack isn't empty.
-fn target_has_slots(index: usize, stack: &Stack, targets: &Targets) -> bool
-    ensures { result ≡ (get_or targets.now index false && not (is_empty (kinds_of stack.now))) }
+fn target_has_slots(mark: Mark, stack: &Stack) -> bool
+    ensures { result ≡ (is_marked mark && not (is_empty (kinds_of stack.now))) }
 {
-    targets.is_target(index) && stack.depth() > 0
+    mark.is_marked() && stack.depth() > 0
 }
 
 // Whether an instruction leaves slots that it must not leave.
@@ -112,6 +124,40 @@ fn leaves_slots(instr: Instr, stack: &Stack) -> bool
     ensures { result ≡ leaves_slots instr (kinds_of stack.now) }
 {
     instr.flow().requires_empty_stack() && stack.depth() > instr.popped().count()
+}
+
+fn opens_too_many(_index: usize, instr: Instr, loops: &Loops) -> bool
+    ensures { result ≡ nat_lt MAX_LOOPS (length (nest_after (flow instr) _index (nest_of loops.now))) }
+{
+    let depth = loops.depth();
+    match instr.flow() {
+        Flow::Open(_) => depth >= MAX_LOOPS,
+        Flow::Close(_) => depth > MAX_LOOPS + 1,
+        _ => depth > MAX_LOOPS,
+    }
+}
+
+// Whether an instruction closes a loop otherwise than by going back to its start, or ends the run in a loop.
+fn closes_wrongly(instr: Instr, loops: &Loops) -> bool
+    ensures { result ≡ closes_wrongly (flow instr) (nest_of loops.now) }
+{
+    match instr.flow() {
+        Flow::Close(start) => match loops.innermost() {
+            None => true,
+            Some(opener) => start <= opener || start - opener != 1,
+        },
+        Flow::End => loops.depth() > 0,
+        _ => false,
+    }
+}
+
+fn lacks_loop(instr: Instr, loops: &Loops) -> bool
+    ensures { result ≡ lacks_loop (loop_named instr) (length (nest_of loops.now)) }
+{
+    match instr.loop_named() {
+        None => false,
+        Some(depth) => depth >= loops.depth(),
+    }
 }
 
 fn is_misplaced(code: &Code, index: usize, instr: Instr) -> bool

@@ -1,8 +1,9 @@
 //! The slots that the pass keeps.
 ghost use Rattle.std.specs.Prelude.{◌≡◌, List, [], ◌∷◌, length, drop, OnOk, MatchOption};
+ghost use Rattle.code_verifier.specs.Inner.Pass.{takes_part};
 ghost use Rattle.code_verifier.specs.declared.stack.Slot.{Slot};
 
-use crate::polynomial::Polynomial;
+use crate::bound::Bound;
 use helper_set::kind::Kind;
 use std::alloc::{AllocError, Global};
 use std::marker::Model;
@@ -11,7 +12,7 @@ use std::marker::Model;
 #[derive(Drop)]
 pub struct Slot {
     pub kind: Kind,
-    pub bound: Polynomial,
+    pub bound: Bound,
 }
 
 /// The slots, seen with the top first.
@@ -65,18 +66,21 @@ impl Stack {
     }
 
     /// Adds a slot at the top.
-    pub fn push(&mut self, kind: Kind, bound: Polynomial) -> Result<(), AllocError>
+    pub fn push(&mut self, kind: Kind, bound: Bound) -> Result<(), AllocError>
         ensures { OnOk result (self.new ≡ record { kind = kind; bound = bound } ∷ self.old) }
     {
         self.slots.push(Slot { kind, bound })?;
         Ok(())
     }
 
-    /// Takes the slot at the top.
-    pub fn pop(&mut self) -> Option<Slot>
-        ensures { MatchOption result ((self.old ≡ []) × (self.new ≡ [])) (λ slot. self.old ≡ slot ∷ self.new) }
+    /// Whether a loop over the slot at the top goes over a part of an item.
+    pub fn takes_part(&self) -> bool
+        ensures { result ≡ takes_part self.now }
     {
-        self.slots.pop()
+        match self.top() {
+            None => false,
+            Some(slot) => slot.bound.depends_on_item(),
+        }
     }
 
     /// Takes that many slots from the top, or all if there are fewer.

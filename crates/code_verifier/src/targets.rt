@@ -1,19 +1,75 @@
 //! The targets of jumps.
-ghost use Rattle.std.specs.Prelude.{◌≡◌, true, false, get_or, set, replicate, IfOk};
+ghost use Rattle.std.specs.Prelude.{◌≡◌, get_or, set, replicate, IfOk};
+ghost use Rattle.code_verifier.specs.Inner.Marks.{same_loop, with_jump, agrees, is_marked};
+ghost use Rattle.code_verifier.specs.declared.targets.Mark.TheVariants.{Unmarked};
 
 use std::alloc::{AllocError, Global};
 use std::marker::Model;
 
-/// For each index whether a jump that was seen goes to it, seen as a list of truths.
+/// What is known of the jumps to an instruction. A loop is known by the index of its `Each`; none is outside of all
+/// loops.
+#[derive(Clone, Copy, Debug, PartialEq, Eq)]
+pub enum Mark {
+    /// There is none.
+    Unmarked,
+    /// There is one, and all are directly in that loop.
+    From(Option<usize>),
+    /// They are in different loops.
+    Mixed,
+}
+
+impl Mark {
+    /// The mark with one more jump.
+    pub fn with_jump(self, from: Option<usize>) -> Mark
+        ensures { result ≡ with_jump from self }
+    {
+        match self {
+            Mark::Unmarked => Mark::From(from),
+            Mark::From(earlier) if same_loop(from, earlier) => self,
+            Mark::From(_) | Mark::Mixed => Mark::Mixed,
+        }
+    }
+
+    /// Whether all jumps are in that loop.
+    pub fn agrees(self, inner: Option<usize>) -> bool
+        ensures { result ≡ agrees inner self }
+    {
+        match self {
+            Mark::Unmarked => true,
+            Mark::From(earlier) => same_loop(inner, earlier),
+            Mark::Mixed => false,
+        }
+    }
+
+    /// Whether there is a jump.
+    pub fn is_marked(self) -> bool
+        ensures { result ≡ is_marked self }
+    {
+        !matches!(self, Mark::Unmarked)
+    }
+}
+
+fn same_loop(left: Option<usize>, right: Option<usize>) -> bool
+    ensures { result ≡ same_loop left right }
+{
+    match (left, right) {
+        (None, None) => true,
+        (Some(left), Some(right)) => left == right,
+        _ => false,
+    }
+}
+
+/// For each index what is known of the jumps to it that were seen.
 #[derive(Drop)]
 pub struct Targets {
-    marks: Vec<bool>,
+    marks: Vec<Mark>,
 }
 
 impl Model for Targets {
-    ghost use Rattle.std.specs.Prelude.{List, Bool};
+    ghost use Rattle.std.specs.Prelude.{List};
+    ghost use Rattle.code_verifier.specs.declared.targets.Mark.{Mark};
 
-    ghost Value = { List Bool };
+    ghost Value = { List Mark };
 
     ghost view = { λ t. t.marks.items };
 }
@@ -21,26 +77,25 @@ impl Model for Targets {
 impl Targets {
     /// Marks for `count` indices, none of which is a target.
     pub fn new(alloc: Global, count: usize) -> Result<Targets, AllocError>
-        ensures { IfOk result (λ targets. targets ≡ replicate count false) }
+        ensures { IfOk result (λ targets. targets ≡ replicate count Unmarked) }
     {
         Ok(Targets {
-            marks: vec![in alloc; false; count]?,
+            marks: vec![in alloc; Mark::Unmarked; count]?,
         })
     }
 
-    /// Marks an index as a target, if there is a mark for it.
-    pub fn mark(&mut self, index: usize)
-        ensures { self.new ≡ set self.old index true }
+    /// Marks an index as the target of a jump, if there is a mark for it.
+    pub fn add_jump(&mut self, target: usize, from: Option<usize>)
+        ensures { self.new ≡ set self.old target (with_jump from (get_or self.old target Unmarked)) }
     {
-        if index < self.marks.len() {
-            self.marks[index] = true;
+        if target < self.marks.len() {
+            self.marks[target] = self.marks[target].with_jump(from);
         }
     }
 
-    /// Whether the index is a target.
-    pub fn is_target(&self, index: usize) -> bool
-        ensures { result ≡ get_or self.now index false }
+    pub fn mark_at(&self, index: usize) -> Mark
+        ensures { result ≡ get_or self.now index Unmarked }
     {
-        self.marks.get(index).copied().unwrap_or(false)
+        self.marks.get(index).copied().unwrap_or(Mark::Unmarked)
     }
 }

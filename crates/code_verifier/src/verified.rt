@@ -1,9 +1,9 @@
 //! Code that may run.
 ghost use Rattle.std.specs.Prelude.{◌≡◌};
-ghost use Rattle.template_code.specs.Budget.{budget};
+ghost use Rattle.code_rules.specs.Polynomial.{as_printed};
+ghost use Rattle.code_rules.specs.Regions.{budget};
+ghost use Rattle.code_rules.specs.Verdict.{IsWellFormed, IsWithinLimits};
 ghost use Rattle.template_code.specs.Code.{HasTypedNumbers};
-ghost use Rattle.template_code.specs.WellFormed.{IsWellFormed, IsWithinLimits};
-ghost use Rattle.template_code.specs.Bounds.{as_printed};
 ghost use Rattle.code_verifier.specs.Verdict.{IsVerified};
 
 use crate::budget::Budget;

@@ -1,6 +1,6 @@
 //! Decides whether code may run.
 ghost use Rattle.std.specs.Prelude.{◌≡◌, IfOk, IfErr, OnOk};
-ghost use Rattle.template_code.specs.WellFormed.{IsWellFormed, IsWithinLimits};
+ghost use Rattle.code_rules.specs.Verdict.{IsWellFormed, IsWithinLimits};
 ghost use Rattle.code_verifier.specs.Verdict.{IsVerifyErrorOf};
 ghost use Rattle.code_verifier.specs.declared.error.VerifyError.TheVariants.{OutOfMemory};
 

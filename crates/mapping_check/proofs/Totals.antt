@@ -3,29 +3,29 @@ use Rattle.std.proofs.Common.{◌≡◌, ℕ, zero, suc, ◌+◌, ◌^◌, ◌<�
 use Rattle.std.specs.Prelude.{decimal}
 use Rattle.std.proofs.lemmas.List.{append-nil, map-append}
 use Rattle.mapping_json.proofs.Zips.{zip_push}
-use Rattle.mapping_check.specs.Checking.{IsBudgetLine, IsProgramOf, budget_line}
+use Rattle.mapping_check.specs.Checking.{IsBudgetLine, IsProgramOf, budget_line, sum_of}
 use Rattle.mapping_check.specs.Inner.Totals.{AreTotals, IsWithin}
 use Rattle.command_output.specs.Lines.{numbers_text}
-use Rattle.template_code.specs.Bounds.{Bound, as_printed, plus, sum_of}
-use Rattle.template_code.specs.Budget.{budget}
-use Rattle.template_code.proofs.BoundFacts.{plus-assoc, plus-empty}
+use Rattle.code_rules.specs.Polynomial.{Polynomial, as_printed, plus}
+use Rattle.code_rules.specs.Regions.{budget}
+use Rattle.code_rules.proofs.PolynomialFacts.{plus-assoc, plus-empty}
 use Rattle.template_machine.specs.Program.{ProgramParts, IsProgram}
 
 -- ---- sums
 
-plus-printed : (ps qs : Bound) → plus (as_printed ps) (as_printed qs) ≡ as_printed (plus ps qs)
+plus-printed : (ps qs : Polynomial) → plus (as_printed ps) (as_printed qs) ≡ as_printed (plus ps qs)
 plus-printed [] [] = refl
 plus-printed [] (q ∷ qs) = let e : 0 + q ≡ q = omega arith in ap (λ x. x ∷ qs) e
 plus-printed (p ∷ ps) [] =
     let e : p + 0 ≡ p = omega arith in ap₂ (λ x xs. x ∷ xs) e (plus-empty ps)
 plus-printed (p ∷ ps) (q ∷ qs) = refl
 
-sum_of-push : (bs : List Bound) (b : Bound) → sum_of (bs ++ b ∷ []) ≡ plus (sum_of bs) b
+sum_of-push : (bs : List Polynomial) (b : Polynomial) → sum_of (bs ++ b ∷ []) ≡ plus (sum_of bs) b
 sum_of-push [] b = plus-empty b
 sum_of-push (c ∷ cs) b = ap (plus c) (sum_of-push cs b) ∙ sym (plus-assoc c (sum_of cs) b)
 
 -- the total with one program more
-printed_more : {A : Type 0} (f : A → Bound) (xs : List A) (x : A)
+printed_more : {A : Type 0} (f : A → Polynomial) (xs : List A) (x : A)
     → as_printed (sum_of (map f (xs ++ x ∷ []))) ≡ plus (as_printed (sum_of (map f xs))) (as_printed (f x))
 printed_more f xs x =
     ap (λ bs. as_printed (sum_of bs)) (map-append f xs (x ∷ []))

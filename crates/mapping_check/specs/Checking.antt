@@ -17,8 +17,8 @@ use Rattle.command_output.specs.declared.files.FileError.{FileError}
 use Rattle.error_code.specs.Codes.{number_of}
 use Rattle.error_code.specs.declared.error_code.ErrorCode.{ErrorCode}
 use Rattle.response_json.specs.Draft.{values_of, body_templates}
-use Rattle.template_code.specs.Bounds.{as_printed, sum_of}
-use Rattle.template_code.specs.Budget.{budget}
+use Rattle.code_rules.specs.Polynomial.{Polynomial, plus, as_printed}
+use Rattle.code_rules.specs.Regions.{budget}
 use Rattle.template_machine.specs.Program.{ProgramParts, IsProgram}
 
 -- ---- lines
@@ -36,6 +36,10 @@ budget_line number steps bytes =
 -- a mapping that is refused, as `3 error 11`
 abbrev pub refused_line : ℕ → ErrorCode → List ℕ
 refused_line number code = decimal number ++ (codes " error " ++ (decimal (number_of code) ++ codes "\n"))
+
+abbrev pub sum_of : List Polynomial → Polynomial
+sum_of [] = []
+sum_of (ps ∷ rest) = plus ps (sum_of rest)
 
 -- the budgets of several programs, added up; of none they are zero
 abbrev pub total_steps : List ProgramParts → List ℕ

@@ -3,8 +3,8 @@ ghost use Rattle.std.specs.Prelude.{◌≡◌, ◌≤◌, ◌+◌, ◌++◌, ◌
 ghost use Rattle.mapping_model.specs.declared.header_lines.TheConstants.{HEADER_LIMIT};
 ghost use Rattle.mapping_check.specs.Inner.Totals.{AreTotals, Grows, IsWithin};
 ghost use Rattle.response_json.specs.Draft.{values_of, body_templates};
-ghost use Rattle.template_code.specs.Bounds.{as_printed, plus};
-ghost use Rattle.template_code.specs.Budget.{budget};
+ghost use Rattle.code_rules.specs.Polynomial.{as_printed, plus};
+ghost use Rattle.code_rules.specs.Regions.{budget};
 
 use mapping_model::header_lines::HeaderLine;
 use mapping_model::response_spec::Body;

@@ -1,6 +1,6 @@
 // A template of a response.
 ghost use Rattle.std.specs.Prelude.{◌≡◌, ◌↔◌, ℕ, IfOk, IfErr, OnOk, IsErrOf, IsTrue};
-ghost use Rattle.template_code.specs.declared.rule.Rule.{Rule};
+ghost use Rattle.code_rules.specs.declared.rule.Rule.{Rule};
 ghost use Rattle.template_machine.specs.Errors.{IsErrorOf};
 ghost use Rattle.template_machine.specs.Program.{IsProgram, IsProgramText};
 ghost use Rattle.template_machine.specs.declared.error.ProgramError.TheVariants.{CodeRefused, OutOfMemory};

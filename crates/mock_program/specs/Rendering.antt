@@ -7,8 +7,8 @@ use Rattle.data_tree.specs.declared.request_data.TheConstants.{SIZE_LIMIT}
 use Rattle.error_code.specs.declared.error_code.ErrorCode.{ErrorCode}
 use Rattle.mock_request.specs.Target.{IsTarget, HasUrl}
 use Rattle.request_data.specs.RequestTree.{request_tree}
-use Rattle.template_code.specs.Bounds.{as_printed}
-use Rattle.template_code.specs.Budget.{budget}
+use Rattle.code_rules.specs.Polynomial.{as_printed}
+use Rattle.code_rules.specs.Regions.{budget}
 use Rattle.template_code.specs.Machine.{Runs}
 use Rattle.template_machine.specs.Safe.{IsSafe}
 use Rattle.template_machine.specs.Program.{ProgramParts, IsProgram, IsProgramText, IsMeant}

@@ -5,8 +5,8 @@ use Rattle.std.specs.List.{AllZip, sum_by}
 use Rattle.std.specs.Option.{is_some}
 use Rattle.std.proofs.lemmas.Bool.{false≢true}
 use Rattle.std.proofs.lemmas.List.Sums.{sum_by-cons}
-use Rattle.template_code.specs.Bounds.{Bound, value, as_printed}
-use Rattle.template_code.specs.Budget.{Cost, budget}
+use Rattle.code_rules.specs.Polynomial.{Polynomial, value, as_printed}
+use Rattle.code_rules.specs.Regions.{Budget, budget}
 use Rattle.template_compile.specs.Compiled.{stack_code}
 use Rattle.template_machine.specs.Program.{ProgramParts, IsProgram}
 use Rattle.template_tree.proofs.Unique.{one_tree}
@@ -14,7 +14,7 @@ use Rattle.template_tree.specs.Grammar.{Spells}
 use Rattle.stub_response.specs.Limits.{HasBudget, KeepTo}
 use Rattle.stub_response.specs.declared.limits.Limits.{Limits}
 
-pub value-as_printed : (ps : Bound) (n : ℕ) → value (as_printed ps) n ≡ value ps n
+pub value-as_printed : (ps : Polynomial) (n : ℕ) → value (as_printed ps) n ≡ value ps n
 value-as_printed [] n = omega arith
 value-as_printed (p ∷ ps) n = refl
 
@@ -26,68 +26,68 @@ budget_of p text same program = record {
   same = ap budget program.translated;
 }
 
-one_budget : (text : List ℕ) (a b : Cost) → HasBudget text a → HasBudget text b → a ≡ b
+one_budget : (text : List ℕ) (a b : Budget) → HasBudget text a → HasBudget text b → a ≡ b
 one_budget text a b p q =
     p.same ∙ ap (λ t. budget (stack_code t)) (one_tree text p.tree q.tree p.spelled q.spelled) ∙ sym q.same
 
-steps_at : ℕ → Cost → ℕ
+steps_at : ℕ → Budget → ℕ
 steps_at n c = value c.steps n
 
-bytes_at : ℕ → Cost → ℕ
+bytes_at : ℕ → Budget → ℕ
 bytes_at n c = value c.bytes n
 
 pub keep_one_more :
-    (limits rest : Limits) (text : List ℕ) (more : List (List ℕ)) (n : ℕ) (cost : Cost) → HasBudget text cost
+    (limits rest : Limits) (text : List ℕ) (more : List (List ℕ)) (n : ℕ) (cost : Budget) → HasBudget text cost
     → limits.steps ≡ value cost.steps n + rest.steps → limits.bytes ≡ value cost.bytes n + rest.bytes
     → KeepTo rest more n → KeepTo limits (text ∷ more) n
 keep_one_more limits rest text more n cost b s t k = record {
   costs = cost ∷ k.costs;
   budgets = (b, k.budgets);
   steps =
-      let e : sum_by (λ (c : Cost). value c.steps n) (cost ∷ k.costs) ≡ value cost.steps n + sum_by (λ (c : Cost). value c.steps n) k.costs =
-      sum_by-cons (λ (c : Cost). value c.steps n) cost k.costs in omega (arith, e, s, k.steps);
+      let e : sum_by (λ (c : Budget). value c.steps n) (cost ∷ k.costs) ≡ value cost.steps n + sum_by (λ (c : Budget). value c.steps n) k.costs =
+      sum_by-cons (λ (c : Budget). value c.steps n) cost k.costs in omega (arith, e, s, k.steps);
   bytes =
-      let e : sum_by (λ (c : Cost). value c.bytes n) (cost ∷ k.costs) ≡ value cost.bytes n + sum_by (λ (c : Cost). value c.bytes n) k.costs =
-      sum_by-cons (λ (c : Cost). value c.bytes n) cost k.costs in omega (arith, e, t, k.bytes);
+      let e : sum_by (λ (c : Budget). value c.bytes n) (cost ∷ k.costs) ≡ value cost.bytes n + sum_by (λ (c : Budget). value c.bytes n) k.costs =
+      sum_by-cons (λ (c : Budget). value c.bytes n) cost k.costs in omega (arith, e, t, k.bytes);
 }
 
 -- the sum's first part, where the first cost is known
 first_part :
-    (at : Cost → ℕ) (c cost : Cost) (costs : List Cost) (limit : ℕ) → c ≡ cost → sum_by at (c ∷ costs) ≤ limit
+    (at : Budget → ℕ) (c cost : Budget) (costs : List Budget) (limit : ℕ) → c ≡ cost → sum_by at (c ∷ costs) ≤ limit
     → at cost + sum_by at costs ≤ limit
 first_part at c cost costs limit same within =
     let e : sum_by at (c ∷ costs) ≡ at c + sum_by at costs = sum_by-cons at c costs in
     let f : at c ≡ at cost = ap at same in omega (arith, e, f, within)
 
 -- what is left of the limits, and that the first template is within them
-pub record Split (limits : Limits) (more : List (List ℕ)) (n : ℕ) (cost : Cost) : Type 0 where
-  pub costs : List Cost
+pub record Split (limits : Limits) (more : List (List ℕ)) (n : ℕ) (cost : Budget) : Type 0 where
+  pub costs : List Budget
   pub budgets : AllZip HasBudget more costs
-  pub steps : value cost.steps n + sum_by (λ (c : Cost). value c.steps n) costs ≤ limits.steps
-  pub bytes : value cost.bytes n + sum_by (λ (c : Cost). value c.bytes n) costs ≤ limits.bytes
+  pub steps : value cost.steps n + sum_by (λ (c : Budget). value c.steps n) costs ≤ limits.steps
+  pub bytes : value cost.bytes n + sum_by (λ (c : Budget). value c.bytes n) costs ≤ limits.bytes
 
 split_costs :
-    (limits : Limits) (text : List ℕ) (more : List (List ℕ)) (n : ℕ) (cost : Cost) → HasBudget text cost
-    → (costs : List Cost) → AllZip HasBudget (text ∷ more) costs
-    → sum_by (λ (c : Cost). value c.steps n) costs ≤ limits.steps
-    → sum_by (λ (c : Cost). value c.bytes n) costs ≤ limits.bytes → Split limits more n cost
+    (limits : Limits) (text : List ℕ) (more : List (List ℕ)) (n : ℕ) (cost : Budget) → HasBudget text cost
+    → (costs : List Budget) → AllZip HasBudget (text ∷ more) costs
+    → sum_by (λ (c : Budget). value c.steps n) costs ≤ limits.steps
+    → sum_by (λ (c : Budget). value c.bytes n) costs ≤ limits.bytes → Split limits more n cost
 split_costs limits text more n cost b [] h p q = absurd h
 split_costs limits text more n cost b (c ∷ costs) h p q =
     let same : c ≡ cost = one_budget text c cost h.0 b in
     record {
       costs = costs;
       budgets = h.1;
-      steps = first_part (λ (c : Cost). value c.steps n) c cost costs limits.steps same p;
-      bytes = first_part (λ (c : Cost). value c.bytes n) c cost costs limits.bytes same q;
+      steps = first_part (λ (c : Budget). value c.steps n) c cost costs limits.steps same p;
+      bytes = first_part (λ (c : Budget). value c.bytes n) c cost costs limits.bytes same q;
     }
 
 split :
-    (limits : Limits) (text : List ℕ) (more : List (List ℕ)) (n : ℕ) (cost : Cost) → HasBudget text cost
+    (limits : Limits) (text : List ℕ) (more : List (List ℕ)) (n : ℕ) (cost : Budget) → HasBudget text cost
     → KeepTo limits (text ∷ more) n → Split limits more n cost
 split limits text more n cost b k = split_costs limits text more n cost b k.costs k.budgets k.steps k.bytes
 
 pub keep_rest :
-    (limits rest : Limits) (text : List ℕ) (more : List (List ℕ)) (n : ℕ) (cost : Cost) → HasBudget text cost
+    (limits rest : Limits) (text : List ℕ) (more : List (List ℕ)) (n : ℕ) (cost : Budget) → HasBudget text cost
     → limits.steps ≡ value cost.steps n + rest.steps → limits.bytes ≡ value cost.bytes n + rest.bytes
     → KeepTo limits (text ∷ more) n → KeepTo rest more n
 keep_rest limits rest text more n cost b s t k =
@@ -100,7 +100,7 @@ keep_rest limits rest text more n cost b s t k =
     }
 
 pub too_much :
-    (limits : Limits) (text : List ℕ) (more : List (List ℕ)) (n : ℕ) (cost : Cost) → HasBudget text cost
+    (limits : Limits) (text : List ℕ) (more : List (List ℕ)) (n : ℕ) (cost : Budget) → HasBudget text cost
     → (limits.steps < value cost.steps n) ⊎ (limits.bytes < value cost.bytes n)
     → ¬ (KeepTo limits (text ∷ more) n)
 too_much limits text more n cost b over k = out over (split limits text more n cost b k)

@@ -18,7 +18,7 @@ use template_code::code::Code;
 use template_code::code_text::CodeText;
 use template_code::instr::Instr;
 use template_code::listing::listing;
-use template_machine::run::run;
+use template_machine::run::{is_plain, run};
 
 /// The listing of the code, its texts and its paths.
 pub fn parts(alloc: Global, row: &Row) -> Result<String, AllocError> {
@@ -46,7 +46,7 @@ fn add_tables(cells: &mut Cells, code: &Code) {
     }
 }
 
-/// The rule that the code breaks and at which instruction, or its budgets and what its run writes.
+/// The rule that the code breaks and at which instruction, or its budgets, and for plain code what its run writes.
 pub fn verdict(alloc: Global, row: &Row) -> Result<String, AllocError> {
     match verify(alloc, read_code(alloc, row)?) {
         Ok(verified) => accepted(alloc, &verified, row),
@@ -86,6 +86,9 @@ fn add_run(
 }
 
 fn written(alloc: Global, verified: &Verified, data: &RequestData) -> Result<String, AllocError> {
+    if !is_plain(verified.code()) {
+        return Ok(String::new(alloc));
+    }
     let rendered = run(alloc, verified, data)?;
     let (steps, text) = (rendered.steps, rendered.text.as_str());
     format!(in alloc; "\t{steps}\t{text}")
@@ -116,17 +119,30 @@ fn read_instr(name: &[u8], operand: &str) -> Option<Instr> {
         [b'S', ..] => Some(Instr::Show),
         [b'P', ..] => Some(Instr::Print),
         [b'H', ..] => Some(Instr::Halt),
+        [b'E', b's', ..] => Some(Instr::Escape),
         [b'C', ..] => Some(Instr::Call(Helper::from_name(operand)?)),
-        [b'N', ..] => Some(Instr::Number(operand.parse::<i64>().ok()?)),
+        [b'N', b'u', ..] => Some(Instr::Number(operand.parse::<i64>().ok()?)),
         [b'T', b'r', ..] => Some(Instr::Truth(operand == "true")),
         [b'T', _, b's', ..] => Some(Instr::Test),
+        [b'I', b't', ..] => item(operand),
         _ => with_index(name, operand.parse::<usize>().ok()?),
     }
 }
 
+fn item(operands: &str) -> Option<Instr> {
+    let (depth, path) = operands.split_once(' ')?;
+    Some(Instr::Item(depth.parse::<usize>().ok()?, path.parse::<usize>().ok()?))
+}
+
 fn with_index(name: &[u8], index: usize) -> Option<Instr> {
     match name {
-        [b'E', ..] => Some(Instr::Emit(index)),
+        [b'E', b'm', ..] => Some(Instr::Emit(index)),
+        [b'E', ..] => Some(Instr::Each(index)),
+        [b'N', ..] => Some(Instr::Next(index)),
+        [b'I', ..] => Some(Instr::Index(index)),
+        [b'K', ..] => Some(Instr::Key(index)),
+        [b'F', ..] => Some(Instr::First(index)),
+        [b'L', ..] => Some(Instr::Last(index)),
         [b'R', ..] => Some(Instr::Root(index)),
         [b'T', ..] => Some(Instr::Text(index)),
         [b'J', ..] => Some(Instr::Jump(index)),

@@ -27,6 +27,7 @@ fn main(rt: HostRuntime) -> io::Result<ExitCode> {
             Table::Listings,
             Table::Codes,
             Table::HelperCodes,
+            Table::LoopCodes,
             Table::Programs,
             Table::RenderText,
             Table::Commands,

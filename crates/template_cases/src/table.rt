@@ -16,6 +16,8 @@ pub enum Table {
     Listings,
     Codes,
     HelperCodes,
+    /// Code with loops or escapes.
+    LoopCodes,
     Programs,
     /// Renderings that an independent program computed.
     RenderText,
@@ -38,6 +40,7 @@ impl CaseTable for Table {
             Table::Listings => "listings.tsv",
             Table::Codes => "codes.tsv",
             Table::HelperCodes => "helper_codes.tsv",
+            Table::LoopCodes => "loop_codes.tsv",
             Table::Programs => "programs.tsv",
             Table::RenderText => "render_text.tsv",
             Table::Commands => "commands.tsv",
@@ -56,7 +59,7 @@ impl CaseTable for Table {
             Table::Trees => templates::tree(alloc, row.cell(0)),
             Table::Compiled => templates::compiled(alloc, row.cell(0)),
             Table::Listings => code::parts(alloc, row),
-            Table::Codes | Table::HelperCodes => code::verdict(alloc, row),
+            Table::Codes | Table::HelperCodes | Table::LoopCodes => code::verdict(alloc, row),
             Table::Programs => programs::program(alloc, row),
             Table::RenderText | Table::Commands => commands::streams(alloc, row),
             Table::FileCommands => commands::streams_with_file(alloc, row),

@@ -1,8 +1,6 @@
 pub mod Code
 pub mod Instructions
+pub mod Escape
 pub mod Machine
-pub mod Bounds
-pub mod Budget
-pub mod WellFormed
 pub mod Laws
 pub mod Listing

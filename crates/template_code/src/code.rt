@@ -62,7 +62,7 @@ impl Code {
     {
         match instr {
             Instr::Emit(text) | Instr::Text(text) => text < self.texts.len(),
-            Instr::Root(path) => path < self.paths.len(),
+            Instr::Root(path) | Instr::Item(_, path) => path < self.paths.len(),
             _ => true,
         }
     }

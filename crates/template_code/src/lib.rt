@@ -1,6 +1,6 @@
-//! The stack code that a template is compiled to: its instructions, the machine that runs them, the rules that
-//! make them safe to run, and the budget of a run. It uses `data_tree`, whose values the machine prints,
-//! and on `helper_set`, whose values its stack holds.
+//! The stack code that a template is compiled to: its instructions, and the machine that runs them. It uses
+//! `data_tree`, whose values the machine prints, and `helper_set`, whose values its stack holds. Which code is safe
+//! to run, and what a run costs at most, is said in `code_rules`.
 #![tactic(auto)]
 
 pub mod code;
@@ -11,4 +11,3 @@ pub mod laws;
 pub mod limits;
 pub mod listing;
 pub mod popped;
-pub mod rule;

@@ -1,7 +1,7 @@
 pub mod HasCode
 pub mod Runs
 pub mod Covers
-pub mod NoJumps
+pub mod Outermost
 pub mod Unbroken
 pub mod Limits
 mod Examples

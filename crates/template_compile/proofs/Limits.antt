@@ -1,17 +1,20 @@
 -- No bound and no budget of a template's code is too large, unless its texts are.
 use Rattle.std.proofs.Common.{◌≡◌, ℕ, zero, suc, ◌+◌, ◌-◌, ◌^◌, ◌<◌, ◌≤◌, List, [], ◌∷◌, ◌++◌, length, Some, refl}
 use Rattle.std.proofs.Common.{sym, ap, ◌∙◌, subst, ⊎_elim, arith, length-append}
-use Rattle.std.specs.Prelude.{true, false, not, nat_le, slice_get, unwrap_or}
+use Rattle.std.specs.Prelude.{Bool, true, false, not, ◌&&◌, nat_le, slice_get, unwrap_or}
 use Rattle.std.specs.List.{list_all}
 use Rattle.std.proofs.lemmas.Bool.{cases_lt, le-leb, and_from}
 use Rattle.std.proofs.lemmas.Option.{slice_get_past}
 use Rattle.template_code.specs.declared.limits.TheConstants.{MAX_INSTRUCTIONS}
 use Rattle.template_code.specs.Code.{StackCode}
-use Rattle.template_code.specs.Bounds.{Bound, constant, all_data, plus, fits}
-use Rattle.template_code.specs.Budget.{pushed_bounds, written_bound, bounds_after, bounds_at, cost_fits, cost_before}
-use Rattle.template_code.specs.Budget.{plus_cost, cost}
-use Rattle.template_code.specs.WellFormed.{is_over, is_over_at, IsWithinLimits}
-use Rattle.template_code.proofs.BudgetFacts.{bounds_at-next, cost_before-next}
+use Rattle.template_code.specs.Instructions.{flow}
+use Rattle.code_rules.specs.Polynomial.{Polynomial, constant, plus, fits}
+use Rattle.code_rules.specs.Bounds.{Bound, all_data, bound_fits}
+use Rattle.code_rules.specs.Costs.{pushed_bounds, written_bound, bounds_after, bounds_at, Cost, plus_cost, cost_fits, cost}
+use Rattle.code_rules.specs.Regions.{region}
+use Rattle.code_rules.specs.Table.{entry_at}
+use Rattle.code_rules.specs.Verdict.{judged_nests, is_over, is_over_at, IsWithinLimits}
+use Rattle.code_rules.proofs.RegionFacts.{bounds_at-next}
 use Rattle.template_code.specs.declared.instr.Instr.{Instr}
 use Rattle.template_code.specs.declared.instr.Instr.TheVariants.{Emit, Root, Show, Print, Halt}
 use Rattle.template_tree.specs.Tree.{Node, reading, piece, print, Nodes, no_nodes, first_node, node_bytes, text_bytes}
@@ -19,22 +22,24 @@ use Rattle.template_compile.specs.Compiled.{Offsets, start_offsets, offsets_afte
 use Rattle.template_compile.specs.Compiled.{nodes_code, stack_code}
 use Rattle.template_compile.specs.Length.{code_length}
 use Rattle.template_compile.proofs.HasCode.{HasCode, has_code-front, has_code-back, has_code-itself, length-stack_code}
+use Rattle.template_compile.specs.Plain.{IsPlainCode}
+use Rattle.template_compile.proofs.Outermost.{stack_code-plain, outermost, spent-next}
 use Rattle.template_compile.proofs.Covers.{Covers, covers-none, covers-one, covers-join}
 
 -- at most c and d * n
-abbrev IsBelow : ℕ → ℕ → Bound → Type 0
+abbrev IsBelow : ℕ → ℕ → Polynomial → Type 0
 IsBelow c d [] = Unit {0}
 IsBelow c d (x ∷ []) = x ≤ c
 IsBelow c d (x ∷ y ∷ []) = (x ≤ c) × (y ≤ d)
 IsBelow c d (x ∷ y ∷ z ∷ zs) = ⊥
 
-below-more : (c d a b : ℕ) (ps : Bound) → c ≤ a → d ≤ b → IsBelow c d ps → IsBelow a b ps
+below-more : (c d a b : ℕ) (ps : Polynomial) → c ≤ a → d ≤ b → IsBelow c d ps → IsBelow a b ps
 below-more c d a b [] le me h = tt
 below-more c d a b (x ∷ []) le me h = omega arith
 below-more c d a b (x ∷ y ∷ []) le me h = (omega (arith, h.0), omega (arith, h.1))
 below-more c d a b (x ∷ y ∷ z ∷ zs) le me h = absurd h
 
-below-plus : (c d a b : ℕ) (ps qs : Bound) → IsBelow c d ps → IsBelow a b qs → IsBelow (c + a) (d + b) (plus ps qs)
+below-plus : (c d a b : ℕ) (ps qs : Polynomial) → IsBelow c d ps → IsBelow a b qs → IsBelow (c + a) (d + b) (plus ps qs)
 below-plus c d a b [] qs h k = below-more a b (c + a) (d + b) qs (omega arith) (omega arith) k
 below-plus c d a b (x ∷ []) [] h k = omega arith
 below-plus c d a b (x ∷ []) (u ∷ []) h k = omega arith
@@ -50,7 +55,7 @@ below-constant : (c d : ℕ) → IsBelow c d (constant c)
 below-constant zero d = tt
 below-constant (suc c) d = omega arith
 
-below-fits : (c d : ℕ) (ps : Bound) → c < 2 ^ 63 → d < 2 ^ 63 → IsBelow c d ps → fits ps ≡ true
+below-fits : (c d : ℕ) (ps : Polynomial) → c < 2 ^ 63 → d < 2 ^ 63 → IsBelow c d ps → fits ps ≡ true
 below-fits c d [] lt mt h = refl
 below-fits c d (x ∷ []) lt mt h =
     let a : nat_le x (2 ^ 63 - 1) ≡ true = le-leb x (2 ^ 63 - 1) (omega arith) in rw a refl
@@ -60,14 +65,20 @@ below-fits c d (x ∷ y ∷ []) lt mt h =
     rw (a, b) refl
 below-fits c d (x ∷ y ∷ z ∷ zs) lt mt h = absurd h
 
--- the cost of the instructions before an index: one step each, and at most the bytes of the texts so far and n for each
--- instruction
+-- the cost of the instructions before an index
+abbrev spent_at : StackCode → ℕ → Cost
+spent_at code index = region code (entry_at code) [] index
+
+-- it is one step each, and at most the bytes of the texts so far and n for each instruction;
+-- nothing depends on an item
 record IsSpent (code : StackCode) (index bytes : ℕ) : Type 0 where
-  steps : IsBelow index 0 (cost_before code index).steps
-  bytes_written : IsBelow bytes index (cost_before code index).bytes
+  steps : IsBelow index 0 (spent_at code index).steps.alone
+  bytes_written : IsBelow bytes index (spent_at code index).bytes.alone
+  flat_steps : (spent_at code index).steps.per ≡ []
+  flat_bytes : (spent_at code index).bytes.per ≡ []
 
 abbrev IsWithin : StackCode → ℕ → Type 0
-IsWithin code index = is_over_at code index ≡ false
+IsWithin code index = is_over_at code (entry_at code) index ≡ false
 
 -- each index of a stretch is within the limits; after it the stack is empty, and the texts so far have `bytes` bytes
 record IsWithinTo (code : StackCode) (from to bytes : ℕ) : Type 0 where
@@ -75,7 +86,7 @@ record IsWithinTo (code : StackCode) (from to bytes : ℕ) : Type 0 where
   spent : IsSpent code to bytes
   ends : bounds_at code to ≡ []
 
-module _ (code : StackCode) where
+module _ (code : StackCode) (plain : IsPlainCode code) where
   bounds_on :
       (index : ℕ) (i : Instr) (bounds : List Bound)
       → slice_get code.instrs index ≡ Some i → bounds_at code index ≡ bounds
@@ -85,46 +96,59 @@ module _ (code : StackCode) where
   spent_on :
       (index c a : ℕ) (i : Instr) (bounds : List Bound)
       → slice_get code.instrs index ≡ Some i → bounds_at code index ≡ bounds
-      → IsBelow a 1 (written_bound code i bounds) → IsSpent code index c → IsSpent code (suc index) (c + a)
-  spent_on index c a i bounds h at w s =
-      let e = cost_before-next code index i h ∙ ap (λ bs. plus_cost (cost_before code index) (cost code i bs)) at in
+      → IsBelow a 1 (written_bound code i bounds).alone → (written_bound code i bounds).per ≡ []
+      → IsSpent code index c → IsSpent code (suc index) (c + a)
+  spent_on index c a i bounds h at w flat s =
+      let e : spent_at code (suc index) ≡ plus_cost (spent_at code index) (cost code i bounds) =
+      spent-next code plain index i h ∙ ap (λ bs. plus_cost (spent_at code index) (cost code i bs)) at in
       let more : index + 1 ≡ suc index = omega arith in
       record {
         steps =
-            rw e
-            (subst (λ n. IsBelow n 0 (plus (cost_before code index).steps (1 ∷ []))) more
-            (below-plus index 0 1 0 (cost_before code index).steps (1 ∷ []) s.steps (omega arith)));
+            subst (λ (x : Cost). IsBelow (suc index) 0 x.steps.alone) (sym e)
+            (subst (λ n. IsBelow n 0 (plus (spent_at code index).steps.alone (1 ∷ []))) more
+            (below-plus index 0 1 0 (spent_at code index).steps.alone (1 ∷ []) s.steps (omega arith)));
         bytes_written =
-            rw e
-            (subst (λ n. IsBelow (c + a) n (plus (cost_before code index).bytes (written_bound code i bounds))) more
-            (below-plus c index a 1 (cost_before code index).bytes (written_bound code i bounds) s.bytes_written w));
+            subst (λ (x : Cost). IsBelow (c + a) (suc index) x.bytes.alone) (sym e)
+            (subst (λ n. IsBelow (c + a) n (plus (spent_at code index).bytes.alone (written_bound code i bounds).alone)) more
+            (below-plus c index a 1 (spent_at code index).bytes.alone (written_bound code i bounds).alone s.bytes_written w));
+        flat_steps = ap (λ (x : Cost). x.steps.per) e ∙ ap (λ ps. plus ps []) s.flat_steps;
+        flat_bytes =
+            ap (λ (x : Cost). x.bytes.per) e
+            ∙ (ap (λ ps. plus ps (written_bound code i bounds).per) s.flat_bytes ∙ flat);
       }
 
   within_by :
       (index c : ℕ) (i : Instr) (bounds : List Bound)
       → slice_get code.instrs index ≡ Some i → bounds_at code index ≡ bounds
-      → list_all fits (pushed_bounds code i bounds) ≡ true → IsSpent code (suc index) c → c < 2 ^ 63
-      → index < MAX_INSTRUCTIONS → IsWithin code index
-  within_by index c i bounds h at p s lt mt =
-      let p' : list_all fits (pushed_bounds code i (bounds_at code index)) ≡ true =
-      ap (λ bs. list_all fits (pushed_bounds code i bs)) at ∙ p in
-      let a = below-fits (suc index) 0 (cost_before code (suc index)).steps (omega arith) (omega arith) s.steps in
-      let b = below-fits c (suc index) (cost_before code (suc index)).bytes lt (omega arith) s.bytes_written in
-      ap (is_over code index) h ∙ ap not
-      (and_from (list_all fits (pushed_bounds code i (bounds_at code index)))
-      (cost_fits (cost_before code (suc index))) p'
-      (and_from (fits (cost_before code (suc index)).steps) (fits (cost_before code (suc index)).bytes) a b))
+      → judged_nests (flow i) [] ≡ [] ∷ [] → list_all bound_fits (pushed_bounds code i bounds) ≡ true
+      → IsSpent code (suc index) c → c < 2 ^ 63 → index < MAX_INSTRUCTIONS → IsWithin code index
+  within_by index c i bounds h at j p s lt mt =
+      let pushed = list_all bound_fits (pushed_bounds code i (bounds_at code index)) in
+      let spent = spent_at code (suc index) in
+      let all : List (List ℕ) → Bool = λ nests.
+      list_all (λ nest. cost_fits (region code (entry_at code) nest (suc index))) nests in
+      let p' : pushed ≡ true = ap (λ bs. list_all bound_fits (pushed_bounds code i bs)) at ∙ p in
+      let a = below-fits (suc index) 0 spent.steps.alone (omega arith) (omega arith) s.steps in
+      let b = below-fits c (suc index) spent.bytes.alone lt (omega arith) s.bytes_written in
+      let steps = and_from (fits spent.steps.alone) (fits spent.steps.per) a (ap fits s.flat_steps) in
+      let bytes = and_from (fits spent.bytes.alone) (fits spent.bytes.per) b (ap fits s.flat_bytes) in
+      let whole = and_from (bound_fits spent.steps) (bound_fits spent.bytes) steps bytes in
+      ap (is_over code (entry_at code) index) h
+      ∙ (ap (λ ns. not (pushed && all (judged_nests (flow i) ns))) (outermost code plain index)
+      ∙ (ap (λ nests. not (pushed && all nests)) j
+      ∙ ap not (and_from pushed (cost_fits spent && true) p' (and_from (cost_fits spent) true whole refl))))
 
   -- one instruction
   one_within :
       (index c a : ℕ) (i : Instr) (bounds bounds' : List Bound)
       → slice_get code.instrs index ≡ Some i → bounds_at code index ≡ bounds → bounds_after code i bounds ≡ bounds'
-      → list_all fits (pushed_bounds code i bounds) ≡ true → IsBelow a 1 (written_bound code i bounds)
+      → judged_nests (flow i) [] ≡ [] ∷ [] → list_all bound_fits (pushed_bounds code i bounds) ≡ true
+      → IsBelow a 1 (written_bound code i bounds).alone → (written_bound code i bounds).per ≡ []
       → IsSpent code index c → c + a < 2 ^ 63 → index < MAX_INSTRUCTIONS
       → IsWithin code index × IsSpent code (suc index) (c + a) × (bounds_at code (suc index) ≡ bounds')
-  one_within index c a i bounds bounds' h at e p w s lt mt =
-      let after = spent_on index c a i bounds h at w s in
-      (within_by index (c + a) i bounds h at p after lt mt, after, bounds_on index i bounds h at ∙ e)
+  one_within index c a i bounds bounds' h at e j p w flat s lt mt =
+      let after = spent_on index c a i bounds h at w flat s in
+      (within_by index (c + a) i bounds h at j p after lt mt, after, bounds_on index i bounds h at ∙ e)
 
   within_to :
       (from to to' bytes bytes' : ℕ)
@@ -140,23 +164,24 @@ module _ (code : StackCode) where
       → IsWithinTo code offsets.index (offsets_after offsets (node_code node offsets)).index (c + node_bytes node)
   node_within (piece bytes) offsets c h at s lt le =
       let p = offsets.index in
-      let w : IsBelow (length bytes) 1 (written_bound code (Emit offsets.texts) []) =
+      let w : IsBelow (length bytes) 1 (written_bound code (Emit offsets.texts) []).alone =
       subst (λ o. IsBelow (length bytes) 1 (constant (length (unwrap_or o [])))) (sym h.texts.0)
       (below-constant (length bytes) 1) in
-      let one = one_within p c (length bytes) (Emit offsets.texts) [] [] h.instrs.0 at refl refl w s lt (omega arith) in
+      let one = one_within p c (length bytes) (Emit offsets.texts) [] [] h.instrs.0 at refl refl refl w refl s lt
+      (omega arith) in
       within_to p (suc p) (p + 1) (c + length bytes) (c + length bytes) (omega arith) refl
       (record { within = covers-one (IsWithin code) p one.0; spent = one.1; ends = one.2 })
   node_within (print (reading r)) offsets c h at s lt le =
       let p = offsets.index in
       let one =
-      one_within p c 0 (Root offsets.paths) [] (all_data ∷ []) h.instrs.0 at refl refl tt s (omega arith)
+      one_within p c 0 (Root offsets.paths) [] (all_data ∷ []) h.instrs.0 at refl refl refl tt refl s (omega arith)
       (omega arith) in
       let two =
-      one_within (suc p) (c + 0) 0 Show (all_data ∷ []) (all_data ∷ []) h.instrs.1.0 one.2 refl refl tt one.1
-      (omega arith) (omega arith) in
+      one_within (suc p) (c + 0) 0 Show (all_data ∷ []) (all_data ∷ []) h.instrs.1.0 one.2 refl refl refl tt refl
+      one.1 (omega arith) (omega arith) in
       let three =
-      one_within (suc (suc p)) (c + 0 + 0) 0 Print (all_data ∷ []) [] h.instrs.1.1.0 two.2 refl refl
-      (omega arith, omega arith) two.1 (omega arith) (omega arith) in
+      one_within (suc (suc p)) (c + 0 + 0) 0 Print (all_data ∷ []) [] h.instrs.1.1.0 two.2 refl refl refl
+      (omega arith, omega arith) refl two.1 (omega arith) (omega arith) in
       within_to p (suc (suc (suc p))) (p + 3) (c + 0 + 0 + 0) (c + 0) (omega arith) (omega arith) (record {
         within =
             covers-join (IsWithin code) p (suc p) (suc (suc (suc p))) (covers-one (IsWithin code) p one.0)
@@ -201,7 +226,7 @@ module _ (code : StackCode) where
   all_within index h =
       ⊎_elim
       (λ lt. h index (omega arith) lt)
-      (λ le. ap (is_over code index) (slice_get_past code.instrs index le))
+      (λ le. ap (is_over code (entry_at code) index) (slice_get_past code.instrs index le))
       (cases_lt index (length code.instrs))
 
 pub stack_code-within_limits :
@@ -217,14 +242,17 @@ stack_code-within_limits nodes le lt index =
     let halt = (has_code-back code start_offsets body (without_tables (Halt ∷ [])) whole).instrs.0 in
     let end : suc halt_index ≡ length code.instrs =
     omega (arith, length-append body.instrs (without_tables (Halt ∷ [])).instrs) in
-    let nothing : IsSpent code 0 0 = record { steps = tt; bytes_written = tt } in
+    let plain = stack_code-plain nodes in
+    let nothing : IsSpent code 0 0 =
+    record { steps = tt; bytes_written = tt; flat_steps = refl; flat_bytes = refl } in
     let front =
-    nodes_within code nodes start_offsets 0 before refl nothing (omega (arith, lt))
+    nodes_within code plain nodes start_offsets 0 before refl nothing (omega (arith, lt))
     (omega (arith, end, long, le)) in
     let last =
-    one_within code halt_index (0 + text_bytes nodes) 0 Halt [] [] halt front.ends refl refl tt front.spent
+    one_within code plain halt_index (0 + text_bytes nodes) 0 Halt [] [] halt front.ends refl refl refl tt refl
+    front.spent
     (omega (arith, lt)) (omega (arith, end, long, le)) in
     let all =
     covers-join (IsWithin code) 0 halt_index (suc halt_index) front.within
     (covers-one (IsWithin code) halt_index last.0) in
-    all_within code index (subst (Covers (IsWithin code) 0) end all)
+    all_within code plain index (subst (Covers (IsWithin code) 0) end all)

@@ -54,7 +54,7 @@ module _ (code : StackCode) (root : Tree) where
   emit_runs t bytes index stack loops output h k =
       one_step (Emit t) (state index stack loops output) (state (suc index) stack loops (output ++ bytes)) h
       (ap
-      (λ o. option_and_then (next_state Flow.Next (state index stack loops output))
+      (λ o. option_and_then (next_state Flow.Straight (state index stack loops output))
       (option_map (λ b. writes b stack) o)) k)
 
   root_runs :
@@ -65,7 +65,7 @@ module _ (code : StackCode) (root : Tree) where
   root_runs p path index stack loops output h k =
       quiet_step (Root p) index stack (a_datum (at path root) ∷ stack) loops output h
       (ap
-      (λ o. option_and_then (next_state Flow.Next (state index stack loops output))
+      (λ o. option_and_then (next_state Flow.Straight (state index stack loops output))
       (option_map (λ q. with_stack (a_datum (at q root) ∷ stack)) o)) k)
 
   -- a value is made a text and written

@@ -7,9 +7,10 @@ use Rattle.std.proofs.lemmas.Option.{slice_get_within, slice_get_past}
 use Rattle.data_tree.specs.declared.step.Step.{Step}
 use Rattle.template_code.specs.declared.limits.TheConstants.{MAX_INSTRUCTIONS}
 use Rattle.template_code.specs.Code.{StackCode}
-use Rattle.template_code.specs.WellFormed.{Entry, blank, entry_after, broken_by, broken_beyond, broken_where, broken}
-use Rattle.template_code.specs.WellFormed.{jumps_to, IsWellFormed}
-use Rattle.template_code.proofs.TableFacts.{entry_at, entry_at-next, IsTable-entry_at}
+use Rattle.code_rules.specs.Rules.{nests_to, broken_by, broken_beyond, broken_where, broken}
+use Rattle.code_rules.specs.Table.{Entry, blank, entry_after, entry_at}
+use Rattle.code_rules.specs.Verdict.{IsWellFormed}
+use Rattle.code_rules.proofs.TableFacts.{entry_at-next, IsTable-entry_at}
 use Rattle.template_code.specs.declared.instr.Instr.{Instr}
 use Rattle.template_code.specs.declared.instr.Instr.TheVariants.{Emit, Root, Show, Print, Halt}
 use Rattle.helper_set.specs.declared.kind.Kind.{Kind}
@@ -18,12 +19,12 @@ use Rattle.template_compile.specs.Compiled.{Offsets, start_offsets, offsets_afte
 use Rattle.template_compile.specs.Compiled.{nodes_code, stack_code}
 use Rattle.template_compile.specs.Length.{code_length}
 use Rattle.template_compile.proofs.HasCode.{HasCode, has_code-front, has_code-back, has_code-itself, length-stack_code}
-use Rattle.template_compile.proofs.NoJumps.{stack_code-no_jumps}
+use Rattle.template_compile.proofs.Outermost.{stack_code-no_jumps}
 use Rattle.template_compile.proofs.Covers.{Covers, covers-none, covers-one, covers-join}
 
 -- the instruction at an index breaks no rule
 abbrev IsSound : StackCode → ℕ → Type 0
-IsSound code index = broken code index (entry_at code index) ≡ None
+IsSound code index = broken code (entry_at code) index ≡ None
 
 abbrev with_kinds : List Kind → Entry
 with_kinds kinds = record { nest = []; kinds = kinds }
@@ -35,12 +36,15 @@ record IsSoundTo (code : StackCode) (from to : ℕ) : Type 0 where
 
 module _
     (code : StackCode) (short : length code.instrs ≤ MAX_INSTRUCTIONS)
-    (no_jump : (index : ℕ) → jumps_to code index ≡ []) where
+    (no_jump : (index : ℕ) → nests_to code (entry_at code) index ≡ []) where
   sound_by :
       (index : ℕ) (i : Instr) (e : Entry)
-      → slice_get code.instrs index ≡ Some i → entry_at code index ≡ e → broken_by code index i e ≡ None
+      → slice_get code.instrs index ≡ Some i → entry_at code index ≡ e → broken_by code index [] i e ≡ None
       → IsSound code index
-  sound_by index i e h at b = ap (broken code index) at ∙ (ap (λ o. broken_where code index o e) h ∙ b)
+  sound_by index i e h at b =
+      ap (λ sources. broken_where code index sources (slice_get code.instrs index) (entry_at code index)) (no_jump index)
+      ∙ (ap (broken_where code index [] (slice_get code.instrs index)) at
+      ∙ (ap (λ o. broken_where code index [] o e) h ∙ b))
 
   entry_on :
       (index : ℕ) (i : Instr) (e : Entry)
@@ -62,7 +66,7 @@ module _
       let a = not_at_limit index (omega arith) in
       let b = not_last index lt in
       let n = lt-ltb t (length code.texts) (slice_get_within code.texts t bytes k) in
-      sound_by index (Emit t) blank h at (rw (a, n, no_jump index, b) refl)
+      sound_by index (Emit t) blank h at (rw (a, n, b) refl)
 
   root_sound :
       (index p : ℕ) (path : List Step)
@@ -72,7 +76,7 @@ module _
       let a = not_at_limit index (omega arith) in
       let b = not_last index lt in
       let n = lt-ltb p (length code.paths) (slice_get_within code.paths p path k) in
-      sound_by index (Root p) blank h at (rw (a, n, no_jump index, b) refl)
+      sound_by index (Root p) blank h at (rw (a, n, b) refl)
 
   show_sound :
       (index : ℕ)
@@ -81,7 +85,7 @@ module _
   show_sound index h at lt =
       let a = not_at_limit index (omega arith) in
       let b = not_last index lt in
-      sound_by index Show (with_kinds (Kind.Data ∷ [])) h at (rw (a, no_jump index, b) refl)
+      sound_by index Show (with_kinds (Kind.Data ∷ [])) h at (rw (a, b) refl)
 
   print_sound :
       (index : ℕ)
@@ -90,7 +94,7 @@ module _
   print_sound index h at lt =
       let a = not_at_limit index (omega arith) in
       let b = not_last index lt in
-      sound_by index Print (with_kinds (Kind.Text ∷ [])) h at (rw (a, no_jump index, b) refl)
+      sound_by index Print (with_kinds (Kind.Text ∷ [])) h at (rw (a, b) refl)
 
   halt_sound :
       (index : ℕ)
@@ -99,7 +103,7 @@ module _
   halt_sound index h at last =
       let a = not_at_limit index (omega arith) in
       let b = eq-eqb (suc index) (length code.instrs) last in
-      sound_by index Halt blank h at (rw (a, no_jump index, b) refl)
+      sound_by index Halt blank h at (rw (a, b) refl)
 
   -- the same stretch, by another name of its end
   sound_to : (from to to' : ℕ) → to ≡ to' → IsSoundTo code from to → IsSoundTo code from to'
@@ -166,7 +170,8 @@ module _
   all_sound index some h =
       ⊎_elim
       (λ lt. h index (omega arith) lt)
-      (λ le. ap (λ o. broken_where code index o (entry_at code index)) (slice_get_past code.instrs index le)
+      (λ le. ap (λ o. broken_where code index (nests_to code (entry_at code) index) o (entry_at code index))
+      (slice_get_past code.instrs index le)
       ∙ beyond_unbroken code.instrs index some)
       (cases_lt index (length code.instrs))
 

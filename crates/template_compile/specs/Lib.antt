@@ -1,4 +1,5 @@
 pub mod Length
+pub mod Plain
 pub mod Compiled
 pub mod Correct
 pub mod Inner

@@ -1,12 +1,13 @@
 //! From a tree to code.
 ghost use Rattle.std.specs.Prelude.{◌≡◌, ℕ, ◌<◌, ◌↔◌, List, [], ◌∷◌, IfOk, OnOk, IsErrOf};
 ghost use Rattle.data_tree.specs.declared.step.Step.TheVariants.{Name};
-ghost use Rattle.template_code.specs.WellFormed.{IsWellFormed, IsWithinLimits};
+ghost use Rattle.code_rules.specs.Verdict.{IsWellFormed, IsWithinLimits};
 ghost use Rattle.template_code.specs.declared.limits.TheConstants.{MAX_INSTRUCTIONS};
 ghost use Rattle.template_compile.specs.Compiled.{root_path, expression_code, node_code, nodes_code, stack_code};
 ghost use Rattle.template_compile.specs.Correct.{WritesTextOf};
 ghost use Rattle.template_compile.specs.Inner.Drafts.{extended_by};
 ghost use Rattle.template_compile.specs.Length.{code_length};
+ghost use Rattle.template_compile.specs.Plain.{IsPlainCode};
 ghost use Rattle.template_tree.specs.Grammar.{Spells};
 ghost use Rattle.template_tree.specs.Tree.{tree_of, expression_view, node_view, nodes_view};
 
@@ -26,6 +27,7 @@ use template_words::reference::Reference;
 pub fn compile(alloc: Global, template: Template) -> Result<Code, CompileError>
     ensures translated { IfOk result (λ code. code ≡ stack_code (tree_of template)) }
     ensures runs { IfOk result (λ code. WritesTextOf code (tree_of template)) }
+    ensures plain { IfOk result IsPlainCode }
     ensures well_formed { IfOk result IsWellFormed }
     // A template that a text spells is too short for a coefficient of its code's budget to reach the limit.
     ensures within_limits { (text : List ℕ) → Spells text (tree_of template) → IfOk result IsWithinLimits }

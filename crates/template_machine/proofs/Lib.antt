@@ -1,7 +1,11 @@
 pub mod Printed
+pub mod Bounds
+pub mod PlainFacts
 pub mod CallProgress
 pub mod Calls
 pub mod Progress
+pub mod Steps
+pub mod Spent
 pub mod Reached
 pub mod Safety
 pub mod Running

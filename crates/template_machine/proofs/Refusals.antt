@@ -5,9 +5,9 @@ use Rattle.data_tree.specs.LookUp.{EmptyNameFindsNothing}
 use Rattle.template_code.specs.Machine.{first, Runs}
 use Rattle.template_code.proofs.RunFacts.{ends_alike}
 use Rattle.template_code.specs.Code.{StackCode}
-use Rattle.template_code.specs.WellFormed.{IsWellFormed}
+use Rattle.code_rules.specs.Verdict.{IsWellFormed}
 use Rattle.template_code.specs.declared.limits.TheConstants.{MAX_INSTRUCTIONS}
-use Rattle.template_code.proofs.FormFacts.{formed-few}
+use Rattle.code_rules.proofs.FormFacts.{formed-few}
 use Rattle.template_tree.specs.Tree.{Nodes}
 use Rattle.template_tree.specs.Grammar.{Spells, IsParseError}
 use Rattle.template_tree.specs.declared.error.ParseError.{ParseError}

@@ -1,9 +1,9 @@
 //! Why a text is no program.
 
+use code_rules::rule::Rule;
 use code_verifier::error::VerifyError;
 use error_code::error_code::ErrorCode;
 use std::alloc::AllocError;
-use template_code::rule::Rule;
 use template_compile::error::CompileError;
 use template_tree::error::{ParseError, TemplateError};
 

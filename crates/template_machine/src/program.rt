@@ -2,10 +2,10 @@
 ghost use Rattle.std.specs.Prelude.{◌≡◌, ◌≤◌, ℕ, length, string_bytes, IfOk, IfErr, OnOk, IsErrOf};
 ghost use Rattle.data_tree.specs.Json.{size};
 ghost use Rattle.data_tree.specs.RequestData.{root_of};
-ghost use Rattle.template_code.specs.Bounds.{value, as_printed};
-ghost use Rattle.template_code.specs.Budget.{budget};
+ghost use Rattle.code_rules.specs.Polynomial.{value, as_printed};
+ghost use Rattle.code_rules.specs.Regions.{budget};
+ghost use Rattle.code_rules.specs.declared.rule.Rule.{Rule};
 ghost use Rattle.template_code.specs.Machine.{Runs};
-ghost use Rattle.template_code.specs.declared.rule.Rule.{Rule};
 ghost use Rattle.template_machine.specs.Errors.{IsErrorOf};
 ghost use Rattle.template_machine.specs.Inner.Programs.{IsCodeOf, IsOnlyErrorOf};
 ghost use Rattle.template_machine.specs.Program.{IsProgram, IsProgramText, IsMeant};

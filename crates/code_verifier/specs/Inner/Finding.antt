@@ -1,6 +1,6 @@
 -- What the pass finds out about code.
 use Rattle.template_code.specs.Code.{StackCode}
-use Rattle.template_code.specs.WellFormed.{IsViolation}
+use Rattle.code_rules.specs.Verdict.{IsViolation}
 use Rattle.code_verifier.specs.Verdict.{IsVerified}
 use Rattle.code_verifier.specs.declared.pass.Finding.{Finding}
 use Rattle.code_verifier.specs.declared.pass.Finding.TheVariants.{Accepted, Violation}

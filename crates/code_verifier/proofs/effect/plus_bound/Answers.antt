@@ -1,13 +1,13 @@
 use Rattle.std.proofs.Common.{◌≡◌, drop, ◌∙◌}
-use Rattle.template_code.specs.Budget.{top}
+use Rattle.code_rules.specs.Costs.{top}
 use Rattle.code_verifier.specs.Inner.Slots.{bounds_of}
-use Rattle.code_verifier.proofs.GrowthFacts.{bound-there, no-bound}
+use Rattle.code_verifier.proofs.BoundFacts.{bound-there, no-bound}
 use Rattle.code_verifier.proofs.effect.plus_bound.Goals as goal
 
 pub returns-in-None : goal.returns-in-None
 returns-in-None c =
-    let e : c.empty.result ≡ top (drop c.args.depth (bounds_of c.args.stack.now)) =
-    c.empty.ensures ∙ no-bound c.args.depth c.args.stack.now c.in-None.ensures in
+    let e : c.zero.result ≡ top (drop c.args.depth (bounds_of c.args.stack.now)) =
+    c.zero.ensures ∙ no-bound c.args.depth c.args.stack.now c.in-None.ensures in
     rw e at c.plus-in-None.ensures
 
 pub returns-in-Some : goal.returns-in-Some

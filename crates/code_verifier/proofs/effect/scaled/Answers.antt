@@ -1,5 +1,5 @@
 use Rattle.std.proofs.Common.{sym, ◌∙◌, arith}
-use Rattle.code_verifier.proofs.GrowthFacts.{within-times}
+use Rattle.code_verifier.proofs.BoundFacts.{within-times}
 use Rattle.code_verifier.proofs.effect.scaled.Goals as goal
 
 pub returns-in-None : goal.returns-in-None

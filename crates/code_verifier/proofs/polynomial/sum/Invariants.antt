@@ -1,5 +1,5 @@
 use Rattle.std.proofs.Common.{◌≡◌, true, drop, ◌++◌}
-use Rattle.template_code.specs.Bounds.{plus, fits}
+use Rattle.code_rules.specs.Polynomial.{plus, fits}
 use Rattle.code_verifier.proofs.polynomial.sum.Given as goal
 
 -- what is summed and what is left to sum give the whole

@@ -1,7 +1,7 @@
 use Rattle.std.proofs.Common.{[], ◌∷◌, sym, ap, ◌∙◌}
 use Rattle.std.proofs.lemmas.List.{drop-map}
 use Rattle.helper_set.specs.Helpers.{parameter_kinds}
-use Rattle.template_code.specs.WellFormed.{kinds_fit}
+use Rattle.code_rules.specs.Rules.{kinds_fit}
 use Rattle.code_verifier.specs.Inner.Slots.{kinds_of}
 use Rattle.code_verifier.proofs.PopFacts.{fit-one}
 use Rattle.code_verifier.proofs.rules.accepts.Goals as goal

@@ -1,5 +1,5 @@
-use Rattle.template_code.specs.WellFormed.{IsViolation}
-use Rattle.template_code.proofs.ViolationFacts.{never_both}
+use Rattle.code_rules.specs.Verdict.{IsViolation}
+use Rattle.code_rules.proofs.ViolationFacts.{never_both}
 use Rattle.code_verifier.proofs.verify.verify.Goals as goal
 
 pub returns-in-Ok-Violation-clause-only : goal.returns-in-Ok-Violation-clause-only

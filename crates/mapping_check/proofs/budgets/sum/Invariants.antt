@@ -1,6 +1,6 @@
 -- What is added up and what is left give the whole.
 use Rattle.std.proofs.Common.{◌≡◌, ◌++◌, drop}
-use Rattle.template_code.specs.Bounds.{plus}
+use Rattle.code_rules.specs.Polynomial.{plus}
 use Rattle.mapping_check.proofs.budgets.sum.Given as goal
 
 abbrev pub invariant-loop-index : goal.invariant-loop-index

@@ -1,7 +1,7 @@
 use Rattle.std.proofs.Common.{◌≡◌, ℕ, List, ◌++◌, refl, rules, ap, ap₂, ◌∙◌, codes, length, string_bytes}
 use Rattle.std.proofs.lemmas.Result.{IfOk-weaker}
-use Rattle.template_code.specs.Bounds.{as_printed}
-use Rattle.template_code.specs.Budget.{budget}
+use Rattle.code_rules.specs.Polynomial.{as_printed}
+use Rattle.code_rules.specs.Regions.{budget}
 use Rattle.command_output.specs.Lines.{measure_line}
 use Rattle.mock_program.specs.Rendering.{Report, report_text}
 use Rattle.mock_program.proofs.render.report.Goals as goal

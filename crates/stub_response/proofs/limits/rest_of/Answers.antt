@@ -1,6 +1,6 @@
 use Rattle.std.proofs.Common.{◌≡◌, ◌≤◌, ◌<◌, ◌+◌, ◌^◌, ◌⊎◌, inl, inr, ℕ, refl, ap, ◌∙◌, arith}
-use Rattle.template_code.specs.Bounds.{value}
-use Rattle.template_code.specs.Budget.{Cost, budget}
+use Rattle.code_rules.specs.Polynomial.{value}
+use Rattle.code_rules.specs.Regions.{Budget, budget}
 use Rattle.stub_response.proofs.LimitLemmas.{budget_of, keep_one_more, keep_rest, too_much, value-as_printed}
 use Rattle.stub_response.specs.declared.limits.Limits.{Limits}
 use Rattle.stub_response.proofs.limits.rest_of.Goals as goal
@@ -13,7 +13,7 @@ returns-in_err-steps_taken-clause-none c =
     let limits : Limits = record { steps = c.args.steps; bytes = c.args.bytes } in
     let text = c.args.template.now in
     let program = c.program.result.now in
-    let cost : Cost = budget program.code in
+    let cost : Budget = budget program.code in
     let n = c.args.size in
     let known = budget_of program text c.program.ensures.source c.program.ensures.program in
     let same_steps : value c.budget.result.now.steps n ≡ value cost.steps n =
@@ -33,7 +33,7 @@ returns-in_err-left-clause-none c =
     let limits : Limits = record { steps = c.args.steps; bytes = c.args.bytes } in
     let text = c.args.template.now in
     let program = c.program.result.now in
-    let cost : Cost = budget program.code in
+    let cost : Budget = budget program.code in
     let n = c.args.size in
     let known = budget_of program text c.program.ensures.source c.program.ensures.program in
     let same_steps : value c.budget.result.now.steps n ≡ value cost.steps n =
@@ -50,7 +50,7 @@ returns-in_err-left-2-clause-none c =
     let limits : Limits = record { steps = c.args.steps; bytes = c.args.bytes } in
     let text = c.args.template.now in
     let program = c.program.result.now in
-    let cost : Cost = budget program.code in
+    let cost : Budget = budget program.code in
     let n = c.args.size in
     let known = budget_of program text c.program.ensures.source c.program.ensures.program in
     let same_steps : value c.budget.result.now.steps n ≡ value cost.steps n =
@@ -67,7 +67,7 @@ returns-clause-some c =
     let limits : Limits = record { steps = c.args.steps; bytes = c.args.bytes } in
     let text = c.args.template.now in
     let program = c.program.result.now in
-    let cost : Cost = budget program.code in
+    let cost : Budget = budget program.code in
     let n = c.args.size in
     let known = budget_of program text c.program.ensures.source c.program.ensures.program in
     let same_steps : value c.budget.result.now.steps n ≡ value cost.steps n =

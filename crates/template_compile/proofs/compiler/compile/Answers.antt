@@ -3,6 +3,7 @@ use Rattle.std.specs.Prelude.{Bool, true, false}
 use Rattle.template_tree.specs.Tree.{tree_of}
 use Rattle.template_compile.proofs.Runs.{stack_code-runs}
 use Rattle.template_compile.proofs.Unbroken.{stack_code-well_formed}
+use Rattle.template_compile.proofs.Outermost.{stack_code-plain}
 use Rattle.template_compile.proofs.Limits.{stack_code-within_limits}
 use Rattle.template_tree.proofs.Bytes.{spelled_bytes}
 use Rattle.template_compile.proofs.compiler.compile.Goals as goal
@@ -13,6 +14,10 @@ at_most b limit n h e = grind arith
 pub returns-clause-runs : goal.returns-clause-runs
 returns-clause-runs c =
     rw (c.in_ok-translate.ensures, c.into_nodes-nodes.ensures) (stack_code-runs (tree_of c.args.template))
+
+pub returns-clause-plain : goal.returns-clause-plain
+returns-clause-plain c =
+    rw (c.in_ok-translate.ensures, c.into_nodes-nodes.ensures) (stack_code-plain (tree_of c.args.template))
 
 pub returns-clause-well_formed : goal.returns-clause-well_formed
 returns-clause-well_formed c =

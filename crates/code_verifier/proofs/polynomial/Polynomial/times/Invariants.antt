@@ -1,6 +1,6 @@
 use Rattle.std.proofs.Common.{◌≡◌, Some}
-use Rattle.template_code.specs.Bounds.{times}
-use Rattle.code_verifier.specs.Inner.Pass.{within}
+use Rattle.code_rules.specs.Polynomial.{times}
+use Rattle.code_verifier.specs.Inner.Limited.{within}
 use Rattle.code_verifier.proofs.polynomial.Polynomial.times.Given as goal
 
 abbrev pub invariant-loop-done : goal.invariant-loop-done

@@ -1,0 +1,13 @@
+pub mod PolynomialFacts
+pub mod CostFacts
+pub mod NestFacts
+pub mod RegionFacts
+pub mod TrimFacts
+pub mod SharperFacts
+pub mod CallFacts
+pub mod MachineFacts
+pub mod TableFacts
+pub mod ViolationFacts
+pub mod FormFacts
+pub mod OutermostFacts
+mod Examples

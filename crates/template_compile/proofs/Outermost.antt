@@ -1,0 +1,102 @@
+-- No instruction of a template's code jumps, and each is plain. Outside of loops all of the code is one region.
+use Rattle.std.proofs.Common.{◌≡◌, ℕ, zero, suc, List, [], ◌∷◌, ◌++◌, map, Option, Some, None, true, false, true≢false}
+use Rattle.std.proofs.Common.{refl, sym, ap, ◌∙◌, subst}
+use Rattle.std.specs.Prelude.{slice_get, if◌then◌else◌}
+use Rattle.std.specs.Option.{option_map_or}
+use Rattle.std.proofs.lemmas.Option.{none-some, same_Some}
+use Rattle.template_code.specs.Code.{StackCode}
+use Rattle.template_code.specs.Instructions.{flow, target_of}
+use Rattle.template_code.specs.declared.instr.Instr.{Instr}
+use Rattle.template_code.specs.declared.instr.Instr.TheVariants.{Each, Next, Halt}
+use Rattle.code_rules.specs.Costs.{bounds_at, no_cost, plus_cost, cost, cost_at}
+use Rattle.code_rules.specs.Regions.{region}
+use Rattle.code_rules.specs.Rules.{is_target, jumps, jumps_among, nests_to}
+use Rattle.code_rules.specs.Table.{nest_after, entry_next, entry_at}
+use Rattle.code_rules.proofs.RegionFacts.{own-grows}
+use Rattle.code_rules.proofs.TableFacts.{entry_at-next}
+use Rattle.template_tree.specs.Tree.{Node, reading, piece, print, Nodes, no_nodes, first_node}
+use Rattle.template_compile.specs.Compiled.{Offsets, start_offsets, offsets_after, without_tables, node_code}
+use Rattle.template_compile.specs.Compiled.{nodes_code, stack_code}
+use Rattle.template_compile.specs.Plain.{is_plain, IsPlainCode}
+
+abbrev GoStraight : List Instr → Type 0
+GoStraight [] = Unit {0}
+GoStraight (i ∷ is) = (target_of (flow i) ≡ None) × (is_plain i ≡ true) × GoStraight is
+
+straight-join : (is js : List Instr) → GoStraight is → GoStraight js → GoStraight (is ++ js)
+straight-join [] js h k = k
+straight-join (i ∷ is) js h k = (h.0, h.1, straight-join is js h.2 k)
+
+straight-node : (node : Node) (offsets : Offsets) → GoStraight (node_code node offsets).instrs
+straight-node (piece bytes) offsets = (refl, refl, tt)
+straight-node (print (reading r)) offsets = (refl, refl, (refl, refl, (refl, refl, tt)))
+
+straight-nodes : (nodes : Nodes) (offsets : Offsets) → GoStraight (nodes_code nodes offsets).instrs
+straight-nodes no_nodes offsets = tt
+straight-nodes (first_node node nodes) offsets =
+    let next = offsets_after offsets (node_code node offsets) in
+    straight-join (node_code node offsets).instrs (nodes_code nodes next).instrs (straight-node node offsets)
+    (straight-nodes nodes next)
+
+none_at : (is : List Instr) → GoStraight is → (index target : ℕ) → jumps (slice_get is index) target ≡ false
+none_at [] h index target = refl
+none_at (i ∷ is) h zero target = ap (λ o. is_target o target) h.0
+none_at (i ∷ is) h (suc index) target = none_at is h.2 index target
+
+none_among : (code : StackCode) → GoStraight code.instrs → (index target : ℕ) → jumps_among code index target ≡ []
+none_among code h zero target = refl
+none_among code h (suc index) target =
+    ap (λ b. if b then index ∷ jumps_among code index target else jumps_among code index target)
+    (none_at code.instrs h index target)
+    ∙ none_among code h index target
+
+straight-code : (nodes : Nodes) → GoStraight (stack_code nodes).instrs
+straight-code nodes =
+    straight-join (nodes_code nodes start_offsets).instrs (without_tables (Halt ∷ [])).instrs
+    (straight-nodes nodes start_offsets) (refl, refl, tt)
+
+pub stack_code-no_jumps : (nodes : Nodes) (index : ℕ) →
+    nests_to (stack_code nodes) (entry_at (stack_code nodes)) index ≡ []
+stack_code-no_jumps nodes index =
+    let code = stack_code nodes in
+    ap (map (λ source. (entry_at code source).nest)) (none_among code (straight-code nodes) index index)
+
+plain-at : (is : List Instr) → GoStraight is → (index : ℕ) (i : Instr) → slice_get is index ≡ Some i →
+    is_plain i ≡ true
+plain-at [] h index i at = absurd (none-some i at)
+plain-at (j ∷ is) h zero i at = sym (ap is_plain (same_Some j i at)) ∙ h.1
+plain-at (j ∷ is) h (suc index) i at = plain-at is h.2 index i at
+
+pub stack_code-plain : (nodes : Nodes) → IsPlainCode (stack_code nodes)
+stack_code-plain nodes index i at = plain-at (stack_code nodes).instrs (straight-code nodes) index i at
+
+-- ---- plain code
+
+stays-out : (i : Instr) (index : ℕ) (nest : List ℕ) → is_plain i ≡ true → nest_after (flow i) index nest ≡ nest
+stays-out (Each a) index nest h = absurd (true≢false (sym h))
+stays-out (Next a) index nest h = absurd (true≢false (sym h))
+stays-out i index nest h = refl
+
+-- no instruction is in a loop
+pub outermost : (code : StackCode) → IsPlainCode code → (index : ℕ) → (entry_at code index).nest ≡ []
+outermost code plain zero = refl
+outermost code plain (suc index) = by (slice_get code.instrs index) refl (outermost code plain index)
+  where
+    by : (o : Option Instr) → slice_get code.instrs index ≡ o → (entry_at code index).nest ≡ [] →
+        (entry_at code (suc index)).nest ≡ []
+    by None at out = ap (λ o. (entry_next index o (entry_at code index)).nest) at ∙ out
+    by (Some i) at out =
+        ap (λ e. e.nest) (entry_at-next code index i at)
+        ∙ (stays-out i index (entry_at code index).nest (plain index i at) ∙ out)
+
+-- each instruction adds its cost to that of all of the code
+pub spent-next : (code : StackCode) → IsPlainCode code → (index : ℕ) (i : Instr) →
+    slice_get code.instrs index ≡ Some i →
+    region code (entry_at code) [] (suc index)
+    ≡ plus_cost (region code (entry_at code) [] index) (cost code i (bounds_at code index))
+spent-next code plain index i at =
+    subst (λ ns. region code (entry_at code) ns (suc index)
+    ≡ plus_cost (region code (entry_at code) ns index) (cost_at code index)) (outermost code plain index)
+    (own-grows code index)
+    ∙ ap (λ o. plus_cost (region code (entry_at code) [] index)
+    (option_map_or (λ j. cost code j (bounds_at code index)) o no_cost)) at
