@@ -5,6 +5,7 @@ use case_table::compare::CaseTable;
 use case_table::row::Row;
 use std::alloc::{AllocError, Global};
 use std::sync::Wait;
+use std::thread::Threads;
 
 /// What the rows of a table are.
 #[derive(Clone, Copy)]
@@ -13,6 +14,8 @@ pub enum Rows {
     Calls,
     /// All paths of some segments, with some methods.
     Paths,
+    /// Calls by two threads.
+    TwoThreads,
     /// What is read and written of recordings.
     Recordings,
 }
@@ -24,16 +27,15 @@ pub struct Table<R: Wait> {
     pub rows: Rows,
 }
 
-impl<R: Wait + Copy> CaseTable for Table<R> {
+impl<R: Threads + Wait + Sync + Copy> CaseTable for Table<R> {
     fn file(self) -> &'static str {
         self.file
     }
 
     fn answer(self, alloc: Global, row: &Row) -> Result<String, AllocError> {
         match self.rows {
-            Rows::Calls => books::answer(&self.rt, alloc, row, false),
-            Rows::Paths => books::answer(&self.rt, alloc, row, true),
             Rows::Recordings => recordings::answer(alloc, row),
+            rows => books::answer(&self.rt, alloc, row, rows),
         }
     }
 }
