@@ -16,7 +16,7 @@ pub trait Answers: Drop {
         rt: &R,
         alloc: Global,
         seat: &mut Self::Seat,
-        request: Request<Bytes>,
+        request: &Request<Bytes>,
     ) -> Result<Response<Full<Bytes>>, ServiceError>;
 
     /// A new seat for a connection, `None` where the seat can't be split.

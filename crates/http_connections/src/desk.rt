@@ -39,7 +39,7 @@ impl<A: Answers> Desk<A> {
         &self,
         rt: &R,
         alloc: Global,
-        request: Request<Bytes>,
+        request: &Request<Bytes>,
     ) -> Result<Response<Full<Bytes>>, ServiceError> {
         let answer = self.answer_at_seat(rt, alloc, request)?;
         Ok(sent(alloc, answer)?)
@@ -49,7 +49,7 @@ impl<A: Answers> Desk<A> {
         &self,
         rt: &R,
         alloc: Global,
-        request: Request<Bytes>,
+        request: &Request<Bytes>,
     ) -> Result<Response<Full<Bytes>>, ServiceError> {
         let mut held = self.seat.lock(rt);
         match &mut *held {

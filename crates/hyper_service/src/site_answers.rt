@@ -32,7 +32,7 @@ impl<L: Origin, G: Gate + Drop> Answers for SiteAnswers<L, G> {
         rt: &R,
         alloc: Global,
         seat: &mut Seat<L>,
-        request: Request<Bytes>,
+        request: &Request<Bytes>,
     ) -> Result<Response<Full<Bytes>>, ServiceError> {
         answer(rt, alloc, &self.site, seat, request)
     }
