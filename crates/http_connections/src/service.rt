@@ -1,5 +1,5 @@
 // The requests of one connection.
-ghost use Rattle.std.specs.Prelude.{IfSome};
+ghost use Rattle.std.specs.Prelude.{◌≡◌, length, IfOk, IfSome};
 
 use crate::answers::Answers;
 use crate::desk::Desk;
@@ -12,11 +12,12 @@ use http_body_util::{BodyExt, Collected, Full, Limited, LimitedError};
 use http_messages::error::ServiceError;
 use hyper::body::{Body, Incoming};
 use hyper::service::Service;
+use mock_request::snapshot::BODY_LIMIT;
 use std::alloc::{AllocError, AllocGlobal, Global};
 use std::sync::{Arc, Wait};
 
-/// More bytes of a body than these aren't gathered.
-pub const GATHERED: usize = 1_048_577;
+/// More bytes of a body than these aren't gathered: these are too many already.
+pub const GATHERED: usize = BODY_LIMIT + 1;
 
 /// Answers the requests of one connection, by the seat of its desk.
 #[derive(Drop)]
@@ -119,6 +120,8 @@ fn bytes_of<E: Drop>(
 }
 
 // A body that is too long, in the place of one that wasn't gathered whole.
-fn overlong(alloc: Global) -> Result<Bytes, AllocError> {
+fn overlong(alloc: Global) -> Result<Bytes, AllocError>
+    ensures { IfOk result (λ bytes. length bytes ≡ GATHERED) }
+{
     Ok(BytesMut::from(vec![in alloc; 0; GATHERED]?).freeze()?)
 }
