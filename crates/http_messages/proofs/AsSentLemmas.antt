@@ -37,7 +37,7 @@ more_values : (name : List ℕ) (values more : List FieldValue)
     → fold added ((name, values) ∷ []) (map (λ value. (name, value)) more) ≡ (name, values ++ more) ∷ []
 more_values name values [] = ap (λ vs. (name, vs) ∷ []) (sym (append-nil values))
 more_values name values (value ∷ more) =
-    rw ((bytes_eq-Decides name name).1 refl)
+    rw ((bytes_eq-Decides name name).1 refl, fold)
     (more_values name (values ++ value ∷ []) more ∙ ap (λ vs. (name, vs) ∷ []) (append_assoc values (value ∷ []) more))
 
 entry_again : (name : List ℕ) (values : List FieldValue) → 0 < length values
@@ -95,7 +95,3 @@ all_added headers (f ∷ fields) all =
 pub as_sent : (headers : Headers) → IsHeaderMap headers → All IsAsSent (pairs headers) → sent_headers headers ≡ headers
 as_sent headers valid all =
     all_added [] (pairs headers) all ∙ made_again headers valid.unique valid.filled
-
-pub none_sent : (headers : Headers) → length headers ≡ 0 → sent_headers headers ≡ headers
-none_sent [] none = refl
-none_sent (e ∷ headers) none = absurd (omega (arith, none))
