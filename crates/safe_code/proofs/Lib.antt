@@ -4,3 +4,9 @@ pub mod Calls
 pub mod Texts
 pub mod Data
 pub mod Courses
+pub mod Kept
+pub mod Nests
+pub mod Moves
+pub mod Steps
+pub mod Spent
+pub mod Safety
