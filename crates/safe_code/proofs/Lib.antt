@@ -10,3 +10,4 @@ pub mod Moves
 pub mod Steps
 pub mod Spent
 pub mod Safety
+pub mod Few
