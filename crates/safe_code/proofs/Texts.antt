@@ -3,7 +3,6 @@ use Rattle.std.proofs.Common.{◌≡◌, ℕ, zero, suc, ◌+◌, ◌*◌, ◌<�
 use Rattle.std.proofs.Common.{drop, Option, Some, None, refl, sym, ap, ◌∙◌, subst, arith, pos, nat_eq, codes, cond}
 use Rattle.std.proofs.Common.{length-append}
 use Rattle.std.specs.Prelude.{slice_get, option_map, option_and_then, not}
-use Rattle.std.specs.List.{flat_map}
 use Rattle.std.proofs.lemmas.List.Concat.{flat_map-cons}
 use Rattle.std.proofs.lemmas.Option.{none-some, same_Some}
 use Rattle.data_tree.specs.Tree.{Tree}
@@ -15,7 +14,7 @@ use Rattle.helper_set.specs.Helpers.{argument_kinds}
 use Rattle.template_code.specs.Code.{StackCode, IsTyped}
 use Rattle.template_code.specs.Escape.{html_escaped_byte, html_escaped}
 use Rattle.template_code.specs.Instructions.{pops}
-use Rattle.template_code.specs.Machine.{Loop, item_of, key_of, has_next, Effect, with_stack, writes, of_loop, called}
+use Rattle.template_code.specs.Machine.{Loop, item_of, key_of, has_next, Effect, with_stack, writes, of_loop}
 use Rattle.template_code.specs.Machine.{effect}
 use Rattle.template_code.specs.declared.instr.Instr.{Instr}
 use Rattle.template_code.specs.declared.instr.Instr.TheVariants.{Emit, Root, Item, Index, Key, First, Last, Text}
@@ -27,7 +26,7 @@ use Rattle.code_rules.specs.Costs.{written_bound, pushed_bounds, helper_bound, t
 use Rattle.code_rules.proofs.CallFacts.{call-given, pops-length}
 use Rattle.safe_code.proofs.Bounds.{bound-all, bound-item, bound-times, text-within, number-within, index-within}
 use Rattle.safe_code.proofs.Bounds.{truth-within}
-use Rattle.safe_code.proofs.Loops.{IsOpen, AreOpen, each-open, item-size, key-length, turn-small}
+use Rattle.safe_code.proofs.Loops.{AreOpen, each-open, item-size, key-length, turn-small}
 use Rattle.safe_code.proofs.Loops.{innermost, innermost-at}
 use Rattle.safe_code.proofs.Calls.{AllTexts, texts-below, result-within}
 
@@ -119,8 +118,12 @@ texts-fit code root n (Item (suc k) p) loops stack bounds e small le typed held 
     fit-then n m (λ path. of_loop (λ l. a_datum (at path (item_of l))) (suc k) loops stack) (slice_get code.paths p) e
     (all_data ∷ bounds) (at_most 0)
     (λ path. fit-loop n m (λ l. a_datum (at path (item_of l))) (suc k) loops stack all_data bounds e
-    (λ l is. omega (arith, item-size n l (each-open n loops (suc k) l held is), length_print_at path (item_of l),
-    bound-all n m)) fit) h
+    (λ l is. omega (
+      arith,
+      item-size n l (each-open n loops (suc k) l held is),
+      length_print_at path (item_of l),
+      bound-all n m,
+    )) fit) h
 texts-fit code root n (Index k) loops stack bounds e small le typed held fit h =
     let m = innermost loops in
     fit-loop n m (λ l. a_number (pos l.turn)) k loops stack (at_most 20) bounds e
