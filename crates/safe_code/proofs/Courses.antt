@@ -1,4 +1,5 @@
--- Code as a course, where each instruction costs its steps or its bytes at a size n of all data: so the budget of code at
+-- Code as a course, where each instruction costs its steps or its bytes at a size n of all data: so the budget of
+-- code at
 -- n is that of the course.
 use Rattle.std.proofs.Common.{◌≡◌, ℕ, zero, suc, Bool, true, false, List, [], ◌∷◌, length}
 use Rattle.std.proofs.Common.{Option, Some, None, refl, sym, ap, ◌∙◌}

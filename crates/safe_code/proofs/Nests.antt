@@ -1,4 +1,5 @@
--- The nests and the slots of a table, where code is well formed: those of the code's course, and none where a jump goes,
+-- The nests and the slots of a table, where code is well formed: those of the code's course, and none where a jump
+-- goes,
 -- where a loop starts, and where one ends.
 use Rattle.std.proofs.Common.{◌≡◌, ℕ, suc, ◌<◌, ◌≤◌, Bool, true, false, true≢false, List, [], ◌∷◌, ◌++◌, length, drop}
 use Rattle.std.proofs.Common.{map, Some, refl, sym, ap, ◌∙◌, subst, arith}
