@@ -5,11 +5,12 @@ use Rattle.std.proofs.Common.{refl, sym, ap, length, ◌^◌, ◌-◌, Bool, tru
 use Rattle.data_tree.specs.Tree.{Tree, text, nothing, list, fields, no_items, item, no_members, member}
 use Rattle.data_tree.specs.declared.step.Step.TheVariants as steps
 use Rattle.helper_set.specs.Values.{a_datum}
-use Rattle.helper_set.specs.declared.helper.Helper.TheVariants.{Not, UrlEncode}
+use Rattle.helper_set.specs.declared.helper.Helper.TheVariants.{Upper, Not, Base64, UrlEncode, DefaultIfEmpty}
 use Rattle.template_code.specs.Code.{StackCode}
+use Rattle.template_code.specs.Escape.{html_escaped}
 use Rattle.template_code.specs.Machine.{advance, first, IsTrap, State, Runs}
 use Rattle.template_code.specs.declared.instr.Instr.{Instr}
-use Rattle.template_code.specs.declared.instr.Instr.TheVariants.{Emit, Root, Item, Index, Key, Last, Text}
+use Rattle.template_code.specs.declared.instr.Instr.TheVariants.{Emit, Root, Item, Index, Key, First, Last, Text}
 use Rattle.template_code.specs.declared.instr.Instr.TheVariants.{Number}
 use Rattle.template_code.specs.declared.instr.Instr.TheVariants.{Truth, Show, Test, Call, Escape, Print, Jump, Branch}
 use Rattle.template_code.specs.declared.instr.Instr.TheVariants.{Each, Next, Halt}
@@ -419,6 +420,24 @@ three_loops_accepted = refl
 budget_of_three_loops : budget three_loops ≡ record { steps = 3 ∷ 3 ∷ 3 ∷ 2 ∷ []; bytes = 0 ∷ 0 ∷ 0 ∷ 1 ∷ [] }
 budget_of_three_loops = refl
 
+run_of_three_loops : Runs three_loops a_and_b 37 (codes "xxxxxxxx")
+run_of_three_loops = (
+  record { index = 10; stack = []; loops = []; output = codes "xxxxxxxx" },
+  (36, refl, refl, refl),
+  refl,
+)
+
+-- whether the loop is at its first item
+abbrev each_first : StackCode
+each_first = with_tables (Root 0 ∷ Each 6 ∷ First 0 ∷ Show ∷ Print ∷ Next 2 ∷ Halt ∷ [])
+
+run_of_each_first : Runs each_first a_and_b 11 (codes "truefalse")
+run_of_each_first = (
+  record { index = 6; stack = []; loops = []; output = codes "truefalse" },
+  (10, refl, refl, refl),
+  refl,
+)
+
 -- the name of an object's item, and none of a list's
 abbrev each_key : StackCode
 each_key = with_tables (Root 0 ∷ Each 5 ∷ Key 0 ∷ Print ∷ Next 2 ∷ Halt ∷ [])
@@ -433,6 +452,31 @@ run_of_each_key = (
   refl,
 )
 
+run_of_no_key : Runs each_key a_and_b 9 []
+run_of_no_key = (record { index = 5; stack = []; loops = []; output = [] }, (8, refl, refl, refl), refl)
+
+-- a helper's result grows from its arguments: 2b + 4 for `base64`, of each item and of a value,
+budget_of_each_base64 :
+    budget (with_tables (Root 0 ∷ Each 7 ∷ Item 0 0 ∷ Show ∷ Call Base64 ∷ Print ∷ Next 2 ∷ Halt ∷ []))
+    ≡ record { steps = 3 ∷ 5 ∷ []; bytes = 0 ∷ 6 ∷ [] }
+budget_of_each_base64 = refl
+
+budget_of_base64 : budget (with_tables (Root 0 ∷ Show ∷ Call Upper ∷ Call Base64 ∷ Print ∷ Halt ∷ []))
+    ≡ record { steps = 6 ∷ []; bytes = 4 ∷ 2 ∷ [] }
+budget_of_base64 = refl
+
+-- and the sum of both for `defaultIfEmpty`
+budget_of_default :
+    budget (with_tables (Root 0 ∷ Show ∷ Root 0 ∷ Show ∷ Call DefaultIfEmpty ∷ Print ∷ Halt ∷ []))
+    ≡ record { steps = 7 ∷ []; bytes = 0 ∷ 2 ∷ [] }
+budget_of_default = refl
+
+-- the item of the outer loop, once for each part of it
+budget_of_outer_for_parts :
+    budget (with_tables (Root 0 ∷ Each 9 ∷ Item 0 0 ∷ Each 8 ∷ Item 1 0 ∷ Show ∷ Print ∷ Next 4 ∷ Next 2 ∷ Halt ∷ []))
+    ≡ record { steps = 3 ∷ 7 ∷ []; bytes = 0 ∷ 0 ∷ 1 ∷ [] }
+budget_of_outer_for_parts = refl
+
 -- text that is escaped is up to six times as long
 abbrev escaped_value : StackCode
 escaped_value = with_tables (Root 0 ∷ Show ∷ Escape ∷ Print ∷ Halt ∷ [])
@@ -446,6 +490,9 @@ run_of_escaped_value = (
   (4, refl, refl, refl),
   refl,
 )
+
+escaped_characters : html_escaped (codes "a&<>\"'`=b") ≡ codes "a&amp;&lt;&gt;&quot;&#x27;&#x60;&#x3D;b"
+escaped_characters = refl
 
 escape_of_data : verdicts (Root 0 ∷ Escape ∷ Print ∷ Halt ∷ []) 2 ≡ None ∷ Some V6 ∷ []
 escape_of_data = refl
@@ -514,8 +561,39 @@ budget_of_encoded_39 : budget (with_tables (encoded 39 ++ Print ∷ Halt ∷ [])
     ≡ record { steps = 43 ∷ []; bytes = 0 ∷ 4052555153018976267 ∷ [] }
 budget_of_encoded_39 = refl
 
-encoded_40 : judged (encoded 40 ++ Print ∷ Halt ∷ []) 41 ≡ Some V13
+encoded_39_accepted : verdicts (encoded 39 ++ Print ∷ Halt ∷ []) 44 ≡ replicate 44 None
+encoded_39_accepted = refl
+
+encoded_40 : verdicts (encoded 40 ++ Print ∷ Halt ∷ []) 42 ≡ replicate 41 None ++ Some V13 ∷ []
 encoded_40 = refl
+
+-- written three times it is too much at the third `Print`, and not before
+abbrev thrice : List Instr
+thrice = (encoded 39 ++ Print ∷ []) ++ ((encoded 39 ++ Print ∷ []) ++ (encoded 39 ++ Print ∷ Halt ∷ []))
+
+before_third_print : judged thrice 124 ≡ None
+before_third_print = refl
+
+third_print : judged thrice 125 ≡ Some V13
+third_print = refl
+
+-- the coefficient of m is too large
+encoded_item_40 :
+    judged (Root 0 ∷ Each 46 ∷ Item 0 0 ∷ Show ∷ (replicate 40 (Call UrlEncode) ++ Print ∷ Next 2 ∷ Halt ∷ [])) 43
+    ≡ Some V13
+encoded_item_40 = refl
+
+-- 8 * 6^23 + 4 bytes and 6^24 * m: both fit, and their sum, where the loop closes, doesn't
+abbrev text_and_item : List Instr
+text_and_item =
+    Root 0 ∷ Each 57 ∷ Text 0 ∷ Call Base64 ∷ (replicate 23 Escape ++ Call Base64 ∷ Print ∷ Item 0 0 ∷ Show
+    ∷ (replicate 24 Escape ++ Print ∷ Next 2 ∷ Halt ∷ []))
+
+both_fit : judged text_and_item 55 ≡ None
+both_fit = refl
+
+sum_is_too_much : judged text_and_item 56 ≡ Some V13
+sum_is_too_much = refl
 
 -- a loop's turns are what takes the region round it over the limit, at its `Next`
 abbrev long_in_a_loop : List ℕ → StackCode

@@ -6,6 +6,7 @@ pub mod TrimFacts
 pub mod SharperFacts
 pub mod CallFacts
 pub mod MachineFacts
+pub mod StepFacts
 pub mod TableFacts
 pub mod ViolationFacts
 pub mod FormFacts
