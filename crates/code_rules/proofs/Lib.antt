@@ -12,3 +12,4 @@ pub mod ViolationFacts
 pub mod FormFacts
 pub mod OutermostFacts
 mod Examples
+mod LoopExamples
