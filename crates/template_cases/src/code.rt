@@ -10,7 +10,6 @@ use code_verifier::error::VerifyError;
 use code_verifier::verified::Verified;
 use code_verifier::verify::verify;
 use data_tree::plain_text::PlainText;
-use data_tree::request_data::RequestData;
 use data_tree::step::{Path, Step};
 use helper_set::helper::Helper;
 use std::alloc::{AllocError, Global};
@@ -81,17 +80,13 @@ fn add_run(
     verified: &Verified,
     row: &Row,
 ) -> Result<(), AllocError> {
-    let data = request(alloc, row.cell(3), row.cell(4))?;
-    cells.push_str(written(alloc, verified, &data)?.as_str())
-}
-
-fn written(alloc: Global, verified: &Verified, data: &RequestData) -> Result<String, AllocError> {
     if !is_plain(verified.code()) {
-        return Ok(String::new(alloc));
+        return Ok(());
     }
-    let rendered = run(alloc, verified, data)?;
+    let data = request(alloc, row.cell(3), row.cell(4))?;
+    let rendered = run(alloc, verified, &data)?;
     let (steps, text) = (rendered.steps, rendered.text.as_str());
-    format!(in alloc; "\t{steps}\t{text}")
+    cells.push_str(format!(in alloc; "\t{steps}\t{text}")?.as_str())
 }
 
 fn read_code(alloc: Global, row: &Row) -> Result<Code, AllocError> {
