@@ -4,8 +4,6 @@ use crate::{books, recordings};
 use case_table::compare::CaseTable;
 use case_table::row::Row;
 use std::alloc::{AllocError, Global};
-use std::sync::Wait;
-use std::thread::Threads;
 
 /// What the rows of a table are.
 #[derive(Clone, Copy)]
@@ -21,13 +19,13 @@ pub enum Rows {
 }
 
 #[derive(Clone, Copy)]
-pub struct Table<R: Wait> {
-    pub rt: R,
+pub struct Table {
+    pub rt: HostRuntime,
     pub file: &'static str,
     pub rows: Rows,
 }
 
-impl<R: Threads + Wait + Sync + Copy> CaseTable for Table<R> {
+impl CaseTable for Table {
     fn file(self) -> &'static str {
         self.file
     }
