@@ -9,7 +9,6 @@ mod recordings;
 mod requests;
 mod server;
 mod table;
-mod threads;
 
 use case_table::compare::compare_all;
 use std::io;
@@ -37,11 +36,6 @@ fn main(rt: HostRuntime) -> io::Result<ExitCode> {
             rt,
             file: "paths.tsv",
             rows: Rows::Paths,
-        },
-        Table {
-            rt,
-            file: "threads.tsv",
-            rows: Rows::TwoThreads,
         },
         Table {
             rt,

@@ -4,6 +4,7 @@ use crate::{books, recordings};
 use case_table::compare::CaseTable;
 use case_table::row::Row;
 use std::alloc::{AllocError, Global};
+use std::sync::Wait;
 
 /// What the rows of a table are.
 #[derive(Clone, Copy)]
@@ -12,28 +13,27 @@ pub enum Rows {
     Calls,
     /// All paths of some segments, with some methods.
     Paths,
-    /// Calls by two threads.
-    TwoThreads,
     /// What is read and written of recordings.
     Recordings,
 }
 
 #[derive(Clone, Copy)]
-pub struct Table {
-    pub rt: HostRuntime,
+pub struct Table<R: Wait> {
+    pub rt: R,
     pub file: &'static str,
     pub rows: Rows,
 }
 
-impl CaseTable for Table {
+impl<R: Wait + Copy> CaseTable for Table<R> {
     fn file(self) -> &'static str {
         self.file
     }
 
     fn answer(self, alloc: Global, row: &Row) -> Result<String, AllocError> {
         match self.rows {
+            Rows::Calls => books::answer(&self.rt, alloc, row, false),
+            Rows::Paths => books::answer(&self.rt, alloc, row, true),
             Rows::Recordings => recordings::answer(alloc, row),
-            rows => books::answer(&self.rt, alloc, row, rows),
         }
     }
 }
