@@ -5,9 +5,11 @@
 
 mod call;
 pub mod error;
+mod escape;
 mod held;
 pub mod laws;
 mod machine;
+mod open_loop;
 pub mod program;
 pub mod run;
 mod slot;
