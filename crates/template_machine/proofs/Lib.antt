@@ -1,6 +1,9 @@
 pub mod Printed
-pub mod Loops
 pub mod Escapes
+pub mod Loops
 pub mod Calls
+pub mod Formed
+pub mod SafeStub
+pub mod Running
 pub mod Programs
 pub mod Refusals
