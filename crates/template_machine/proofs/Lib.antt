@@ -3,7 +3,6 @@ pub mod Escapes
 pub mod Loops
 pub mod Calls
 pub mod Formed
-pub mod SafeStub
 pub mod Running
 pub mod Programs
 pub mod Refusals
