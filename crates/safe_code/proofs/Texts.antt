@@ -1,10 +1,7 @@
 -- What the slots print as, and what an instruction writes, keeps to the bounds.
-use Rattle.std.proofs.Common.{◌≡◌, ℕ, zero, suc, ◌+◌, ◌*◌, ◌<◌, ◌≤◌, ◌^◌, Bool, true, false, List, [], ◌∷◌, ◌++◌}
-use Rattle.std.proofs.Common.{length}
-use Rattle.std.proofs.Common.{drop, Some, sym, ap, ◌∙◌, subst, arith, pos, nat_eq, codes, cond}
-use Rattle.std.proofs.Common.{length-append}
+use Rattle.std.proofs.Common.{◌≡◌, ℕ, zero, suc, ◌<◌, ◌≤◌, ◌^◌, List, [], ◌∷◌, ◌++◌, length, drop, Some}
+use Rattle.std.proofs.Common.{sym, subst, arith, pos, nat_eq}
 use Rattle.std.specs.Prelude.{slice_get, not}
-use Rattle.std.proofs.lemmas.List.Concat.{flat_map-cons}
 use Rattle.std.proofs.lemmas.Option.{none-some}
 use Rattle.data_tree.specs.Tree.{Tree}
 use Rattle.data_tree.specs.Json.{size}
@@ -13,7 +10,7 @@ use Rattle.data_tree.proofs.Lookups.{length_print_at}
 use Rattle.helper_set.specs.Values.{Value, a_datum, a_text, a_number, a_truth, text_of, truth_of}
 use Rattle.helper_set.specs.Helpers.{argument_kinds}
 use Rattle.template_code.specs.Code.{StackCode, IsTyped}
-use Rattle.template_code.specs.Escape.{html_escaped_byte, html_escaped}
+use Rattle.template_code.specs.Escape.{html_escaped}
 use Rattle.template_code.specs.Instructions.{pops}
 use Rattle.template_code.specs.Machine.{Loop, item_of, key_of, has_next, Effect, with_stack, writes, of_loop}
 use Rattle.template_code.specs.Machine.{effect}
@@ -22,6 +19,7 @@ use Rattle.template_code.specs.declared.instr.Instr.TheVariants.{Emit, Root, Ite
 use Rattle.template_code.specs.declared.instr.Instr.TheVariants.{Number}
 use Rattle.template_code.specs.declared.instr.Instr.TheVariants.{Truth, Show, Test, Call, Escape, Print, Jump, Branch}
 use Rattle.template_code.specs.declared.instr.Instr.TheVariants.{Each, Next, Halt}
+use Rattle.template_code.proofs.EscapeFacts.{escaped-length}
 use Rattle.code_rules.specs.Bounds.{Bound, at_most, all_data, item_data, times_bound, bound_value}
 use Rattle.code_rules.specs.Costs.{written_bound, pushed_bounds, helper_bound, text_bound}
 use Rattle.code_rules.proofs.CallFacts.{call-given, pops-length}
@@ -31,28 +29,6 @@ use Rattle.safe_code.proofs.Effects.{some-holds, map-holds, then-holds}
 use Rattle.safe_code.proofs.Loops.{AreOpen, each-open, item-size, key-length, turn-small}
 use Rattle.safe_code.proofs.Loops.{innermost, innermost-at}
 use Rattle.safe_code.proofs.Calls.{AllTexts, texts-below, result-within}
-
-escaped-by : (a b c d e f g : Bool) (x : ℕ) →
-    length (cond a (codes "&amp;") (cond b (codes "&lt;") (cond c (codes "&gt;") (cond d (codes "&quot;")
-    (cond e (codes "&#x27;") (cond f (codes "&#x60;") (cond g (codes "&#x3D;") (x ∷ [])))))))) ≤ 6
-escaped-by true b c d e f g x = omega arith
-escaped-by false true c d e f g x = omega arith
-escaped-by false false true d e f g x = omega arith
-escaped-by false false false true e f g x = omega arith
-escaped-by false false false false true f g x = omega arith
-escaped-by false false false false false true g x = omega arith
-escaped-by false false false false false false true x = omega arith
-escaped-by false false false false false false false x = omega arith
-
-escaped-byte : (x : ℕ) → length (html_escaped_byte x) ≤ 6
-escaped-byte x = search escaped-by
-
-escaped-length : (s : List ℕ) → length (html_escaped s) ≤ 6 * length s
-escaped-length [] = omega arith
-escaped-length (x ∷ s) =
-    let e : length (html_escaped (x ∷ s)) ≡ length (html_escaped_byte x) + length (html_escaped s) =
-    ap length (flat_map-cons html_escaped_byte x s) ∙ length-append (html_escaped_byte x) (html_escaped s) in
-    omega (arith, e, escaped-byte x, escaped-length s)
 
 -- the slots print within these bounds, and what is written is within that one
 pub record TextsFit (n m : ℕ) (bounds : List Bound) (w : Bound) (e : Effect) : Type 0 where
