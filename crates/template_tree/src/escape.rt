@@ -1,0 +1,25 @@
+//! Whether the values that a template prints are escaped.
+
+/// What becomes of the special characters of HTML where a value is printed.
+#[derive(Clone, Copy, Debug)]
+pub enum Escape {
+    /// They stay as they are.
+    Off,
+    /// Each becomes its character reference, as Handlebars does it: `&`, `<`, `>`, `"`, `'`, the backtick and `=`.
+    Html,
+}
+
+impl Escape {
+    ghost use Rattle.std.specs.Prelude.{◌≡◌};
+    ghost use Rattle.template_tree.specs.Grammar.{escape_under};
+
+    /// How a print that is marked so is escaped in a template whose prints are escaped so.
+    pub(crate) fn under(self, escape: Escape) -> Escape
+        ensures { result ≡ escape_under escape self }
+    {
+        match escape {
+            Escape::Off => Escape::Off,
+            Escape::Html => self,
+        }
+    }
+}
