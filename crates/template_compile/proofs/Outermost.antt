@@ -14,6 +14,7 @@ use Rattle.code_rules.specs.Rules.{is_target, jumps, jumps_among, nests_to}
 use Rattle.code_rules.specs.Table.{nest_after, entry_next, entry_at}
 use Rattle.code_rules.proofs.RegionFacts.{own-grows}
 use Rattle.code_rules.proofs.TableFacts.{entry_at-next}
+use Rattle.template_tree.specs.declared.escape.Escape.TheVariants.{Off, Html}
 use Rattle.template_tree.specs.Tree.{Node, reading, piece, print, Nodes, no_nodes, first_node}
 use Rattle.template_compile.specs.Compiled.{Offsets, start_offsets, offsets_after, without_tables, node_code}
 use Rattle.template_compile.specs.Compiled.{nodes_code, stack_code}
@@ -29,7 +30,8 @@ straight-join (i ∷ is) js h k = (h.0, h.1, straight-join is js h.2 k)
 
 straight-node : (node : Node) (offsets : Offsets) → GoStraight (node_code node offsets).instrs
 straight-node (piece bytes) offsets = (refl, refl, tt)
-straight-node (print (reading r)) offsets = (refl, refl, (refl, refl, (refl, refl, tt)))
+straight-node (print Off (reading r)) offsets = (refl, refl, (refl, refl, (refl, refl, tt)))
+straight-node (print Html (reading r)) offsets = (refl, refl, (refl, refl, (refl, refl, (refl, refl, tt))))
 
 straight-nodes : (nodes : Nodes) (offsets : Offsets) → GoStraight (nodes_code nodes offsets).instrs
 straight-nodes no_nodes offsets = tt

@@ -27,10 +27,10 @@ returns-clause-well_formed c =
     rw (c.in_ok-translate.ensures, c.into_nodes-nodes.ensures) (stack_code-well_formed (tree_of c.args.template) short)
 
 pub returns-clause-within_limits : goal.returns-clause-within_limits
-returns-clause-within_limits c = λ text spells.
+returns-clause-within_limits c = λ source spells.
     let short =
     at_most _ _ _ (rw (c.as_slice.ensures.value, c.into_nodes-nodes.ensures) at c.is_too_long.ensures)
     c.if-is_too_long.false in
-    let few = spelled_bytes text (tree_of c.args.template) spells in
+    let few = spelled_bytes source (tree_of c.args.template) spells in
     rw (c.in_ok-translate.ensures, c.into_nodes-nodes.ensures)
     (stack_code-within_limits (tree_of c.args.template) short (omega (arith, few, spells.short)))
