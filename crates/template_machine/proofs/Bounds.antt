@@ -1,11 +1,12 @@
 -- The values of bounds outside of loops, where nothing depends on an item.
 use Rattle.std.proofs.Common.{◌≡◌, ℕ, zero, suc, ◌*◌, ◌≤◌, ◌^◌, Bool, true, false, List, [], ◌∷◌, length, pos}
-use Rattle.std.proofs.Common.{negsuc, ℤ, Some, ap, ◌∙◌, arith}
+use Rattle.std.proofs.Common.{negsuc, ℤ, Some, ap, ◌∙◌, arith, ◌==◌, if◌then◌else◌, codes, length-append}
 use Rattle.std.specs.Prelude.{slice_get, unwrap_or, FitsSigned, decimal}
 use Rattle.std.specs.Fmt.{signed_decimal}
 use Rattle.std.specs.Int.{w64}
 use Rattle.std.proofs.lemmas.Fmt.{length-decimal-le}
 use Rattle.data_tree.specs.Json.{truth_text}
+use Rattle.helper_set.specs.Escape.{html_escaped_byte, html_escaped}
 use Rattle.template_code.specs.Code.{StackCode}
 use Rattle.code_rules.specs.Polynomial.{Polynomial, constant, times, value}
 use Rattle.code_rules.specs.Costs.{text_bound}
@@ -38,3 +39,31 @@ number-within z n h = omega (arith, signed-short z h, value-constant 20 n)
 pub truth-within : (b : Bool) (n : ℕ) → length (truth_text b) ≤ value (constant 5) n
 truth-within true n = omega (arith, value-constant 5 n)
 truth-within false n = omega (arith, value-constant 5 n)
+
+at_most-six : (t : Bool) (xs rest : List ℕ) → length xs ≤ 6 → length rest ≤ 6 → length (if t then xs else rest) ≤ 6
+at_most-six true xs rest h k = h
+at_most-six false xs rest h k = k
+
+length-html_escaped_byte : (b : ℕ) → length (html_escaped_byte b) ≤ 6
+length-html_escaped_byte b =
+    at_most-six (b == 38) (codes "&amp;") _ (omega arith)
+    (at_most-six (b == 60) (codes "&lt;") _ (omega arith)
+    (at_most-six (b == 62) (codes "&gt;") _ (omega arith)
+    (at_most-six (b == 34) (codes "&quot;") _ (omega arith)
+    (at_most-six (b == 39) (codes "&#x27;") _ (omega arith)
+    (at_most-six (b == 96) (codes "&#x60;") _ (omega arith)
+    (at_most-six (b == 61) (codes "&#x3D;") (b ∷ []) (omega arith) (omega arith)))))))
+
+length-html_escaped : (s : List ℕ) → length (html_escaped s) ≤ 6 * length s
+length-html_escaped [] = omega arith
+length-html_escaped (b ∷ s) =
+    omega (
+      arith,
+      length-append (html_escaped_byte b) (html_escaped s),
+      length-html_escaped_byte b,
+      length-html_escaped s,
+    )
+
+pub escaped-within : (s : List ℕ) (b : Polynomial) (n : ℕ) → length s ≤ value b n →
+    length (html_escaped s) ≤ value (times 6 b) n
+escaped-within s b n h = omega (arith, length-html_escaped s, value-times 6 b n, h)

@@ -1,4 +1,5 @@
 pub mod Printed
+pub mod Escapes
 pub mod Bounds
 pub mod PlainFacts
 pub mod CallProgress

@@ -5,6 +5,7 @@
 
 mod call;
 pub mod error;
+mod escape;
 mod held;
 pub mod laws;
 mod machine;

@@ -2,6 +2,7 @@
 //! helpers made. The text of a value is made where it is printed, or where a helper reads it.
 ghost use Rattle.std.specs.Prelude.{◌≡◌};
 
+use crate::escape::escaped;
 use crate::value::Value;
 use std::alloc::{AllocError, Global};
 use template_code::code_text::CodeText;
@@ -38,7 +39,8 @@ impl<'a> Default for Slot<'a> {
 }
 
 impl<'a> Text<'a> {
-    ghost use Rattle.std.specs.Prelude.{◌++◌, OnOk, string_bytes};
+    ghost use Rattle.std.specs.Prelude.{◌++◌, IfOk, OnOk, string_bytes};
+    ghost use Rattle.helper_set.specs.Escape.{html_escaped};
     ghost use Rattle.template_machine.specs.Inner.Slots.{text_view};
 
     /// Appends it.
@@ -50,6 +52,15 @@ impl<'a> Text<'a> {
             Text::Rendered(value) => value.print_into(alloc, out),
             Text::Made(text) => out.push_str(text.as_str()),
         }
+    }
+
+    /// The same with the special characters of HTML escaped.
+    pub fn escaped(self, alloc: Global) -> Result<Text<'a>, AllocError>
+        ensures { IfOk result (λ made. text_view made ≡ html_escaped (text_view self.entry)) }
+    {
+        let mut text = String::new(alloc);
+        self.write_into(alloc, &mut text)?;
+        Ok(Text::Made(escaped(alloc, text.as_str())?))
     }
 }
 
