@@ -10,8 +10,17 @@ pub enum Escape {
 }
 
 impl Escape {
-    ghost use Rattle.std.specs.Prelude.{◌≡◌};
+    ghost use Rattle.std.specs.Prelude.{◌≡◌, ◌↔◌, IsTrue};
     ghost use Rattle.template_tree.specs.Grammar.{escape_under};
+
+    pub fn same(self, other: Escape) -> bool
+        ensures { IsTrue result ↔ (self ≡ other) }
+    {
+        match (self, other) {
+            (Escape::Off, Escape::Off) | (Escape::Html, Escape::Html) => true,
+            _ => false,
+        }
+    }
 
     /// How a print that is marked so is escaped in a template whose prints are escaped so.
     pub(crate) fn under(self, escape: Escape) -> Escape
