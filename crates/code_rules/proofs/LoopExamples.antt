@@ -6,7 +6,7 @@ use Rattle.data_tree.specs.Tree.{Tree, text, nothing, list, fields, no_items, it
 use Rattle.data_tree.specs.declared.step.Step.TheVariants as steps
 use Rattle.helper_set.specs.declared.helper.Helper.TheVariants.{Upper, Not, Base64, UrlEncode, DefaultIfEmpty}
 use Rattle.template_code.specs.Code.{StackCode}
-use Rattle.template_code.specs.Escape.{html_escaped}
+use Rattle.helper_set.specs.Escape.{html_escaped}
 use Rattle.template_code.specs.Machine.{Runs}
 use Rattle.template_code.specs.declared.instr.Instr.{Instr}
 use Rattle.template_code.specs.declared.instr.Instr.TheVariants.{Emit, Root, Item, Index, Key, First, Last, Text}

@@ -21,6 +21,7 @@ use mapping_answer::answer::answer_file;
 use mapping_check::check::check_file;
 use std::alloc::Global;
 use std::io::Write;
+use template_tree::escape::Escape;
 
 /// Runs the command that the arguments name, the first of them being the program's name, and gives the exit status:
 /// 0; 1 for an error or output that can't be written; 2 for invalid arguments. The text of `clap` for invalid
@@ -66,13 +67,13 @@ fn run_call<F: FileReader, O: Write, E: Write>(
             template,
             method,
             target,
-        } => render_to(alloc, template, method, target, out, err),
-        Call::Check { file } => check_file(alloc, files, file, out, err),
+        } => render_to(alloc, template, method, target, out, err, Escape::Off),
+        Call::Check { file } => check_file(alloc, files, file, out, err, Escape::Off),
         Call::Answer {
             file,
             method,
             target,
-        } => answer_file(alloc, files, file, method, target, out, err),
+        } => answer_file(alloc, files, file, method, target, out, err, Escape::Off),
     }
 }
 

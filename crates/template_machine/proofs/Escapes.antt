@@ -7,7 +7,7 @@ use Rattle.std.proofs.lemmas.Grind.{flat_map-append}
 use Rattle.std.specs.List.{list_all}
 use lib.Utf8.{encode, next}
 use lib.Dec.{ltb}
-use Rattle.template_code.specs.Escape.{html_escaped_byte, html_escaped}
+use Rattle.helper_set.specs.Escape.{html_escaped_byte, html_escaped}
 
 abbrev from_61 : ℕ → List ℕ
 from_61 b = if b == 61 then codes "&#x3D;" else b ∷ []

@@ -2,7 +2,7 @@
 ghost use Rattle.std.specs.Prelude.{◌≡◌, ◌++◌, ◌==◌, length, MatchOption, IfOk, OnOk, string_bytes};
 ghost use Rattle.std.specs.Bool.{OnTrue};
 ghost use lib.Utf8.{encode};
-ghost use Rattle.template_code.specs.Escape.{html_escaped_byte, html_escaped};
+ghost use Rattle.helper_set.specs.Escape.{html_escaped_byte, html_escaped};
 
 use std::alloc::{AllocError, Global};
 

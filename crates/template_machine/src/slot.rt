@@ -1,7 +1,7 @@
 //! The slots of the machine's stack. They borrow from the request's data and from the code, and own the texts that
 //! were made for them. The text of a value is made where it is printed, escaped, or read by a helper.
 ghost use Rattle.std.specs.Prelude.{◌≡◌, IfOk, string_bytes};
-ghost use Rattle.template_code.specs.Escape.{html_escaped};
+ghost use Rattle.helper_set.specs.Escape.{html_escaped};
 ghost use Rattle.template_machine.specs.Inner.Slots.{text_view};
 
 use crate::escape::{escaped, is_plain};

@@ -1,6 +1,6 @@
 use Rattle.std.proofs.Common.{◌++◌, string_bytes, append-nil, refl, sym, ap, ◌∙◌}
 use Rattle.std.specs.Str.Iter.{chars_rest}
-use Rattle.template_code.specs.Escape.{html_escaped}
+use Rattle.helper_set.specs.Escape.{html_escaped}
 use Rattle.template_machine.proofs.Escapes.{escaped-next, empty}
 use Rattle.template_machine.proofs.escape.escaped.Goals as goal
 use lib.Utf8.{encode}

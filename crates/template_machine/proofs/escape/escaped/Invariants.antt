@@ -1,6 +1,6 @@
 use Rattle.std.proofs.Common.{◌≡◌, ◌++◌, string_bytes}
 use Rattle.std.specs.Str.Iter.{chars_rest}
-use Rattle.template_code.specs.Escape.{html_escaped}
+use Rattle.helper_set.specs.Escape.{html_escaped}
 use Rattle.template_machine.proofs.escape.escaped.Given as goal
 
 -- what is made, and the escape of what is left, are the whole
