@@ -10,6 +10,7 @@ use data_tree::step::{Path, Step};
 use mock_request::snapshot::Snapshot;
 use request_data::tree::request_data;
 use std::alloc::{AllocError, Global};
+use std::io::Write;
 use std::process::ExitCode;
 use std::{env, io};
 use template_code::code::Code;
@@ -19,7 +20,7 @@ use template_machine::run::{Rendered, run};
 
 fn main(rt: HostRuntime) -> io::Result<ExitCode> {
     let alloc = rt.alloc();
-    let arguments = env::args(&rt)?.collect(alloc)?;
+    let arguments: Vec<String> = env::args(&rt)?.collect(alloc)?;
     let rendered = run_often(alloc, rounds_of(arguments.as_slice()))?;
     let (steps, bytes) = (rendered.steps, rendered.text.len());
     writeln!(rt.stdout(), "{steps} steps {bytes} bytes")?;
