@@ -1,7 +1,7 @@
 use Rattle.std.proofs.Common.{◌≡◌, ◌+◌, ◌<◌, ◌^◌, length, drop}
 use Rattle.json.specs.Print.{escape}
 use Rattle.data_tree.specs.Capped.{capped}
-use Rattle.data_tree.proofs.size.quoted_len.Given as goal
+use Rattle.data_tree.proofs.size.escaped_text_len.Given as goal
 
 -- so far, and what is left, give the whole
 abbrev pub invariant-loop-byte : goal.invariant-loop-byte
