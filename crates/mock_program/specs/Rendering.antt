@@ -10,7 +10,7 @@ use Rattle.request_data.specs.RequestTree.{request_tree}
 use Rattle.code_rules.specs.Polynomial.{as_printed}
 use Rattle.code_rules.specs.Regions.{budget}
 use Rattle.template_code.specs.Machine.{Runs}
-use Rattle.template_machine.specs.Safe.{IsSafe}
+use Rattle.safe_code.specs.Safe.{IsSafe}
 use Rattle.template_machine.specs.Program.{ProgramParts, IsProgram, IsProgramText, IsMeant}
 use Rattle.template_machine.specs.Errors.{IsErrorOf, error_code_of, offset_of}
 use Rattle.template_machine.specs.declared.error.ProgramError.{ProgramError}

@@ -1,7 +1,7 @@
 //! `mock render`: a template's text for one request.
 ghost use Rattle.std.specs.Prelude.{◌≡◌, ◌⊎◌, IfOk, IfErr, string_bytes};
 ghost use Rattle.data_tree.specs.RequestData.{root_of};
-ghost use Rattle.template_machine.specs.Safe.{IsSafe};
+ghost use Rattle.safe_code.specs.Safe.{IsSafe};
 ghost use Rattle.command_output.specs.Lines.{out_of_memory};
 ghost use Rattle.mock_program.specs.Rendering.{Report, IsDataOf, IsReportText, IsRefusal, IsRun, report_text};
 ghost use Rattle.mock_program.specs.Rendering.{RefusesUrl, RefusesData, Renders};

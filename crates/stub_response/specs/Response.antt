@@ -20,7 +20,7 @@ use Rattle.path_template.specs.Template.{IsTemplate}
 use Rattle.request_data.specs.RequestTree.{request_tree}
 use Rattle.template_code.specs.Machine.{Runs}
 use Rattle.template_machine.specs.Program.{ProgramParts, IsProgram, IsMeant}
-use Rattle.template_machine.specs.Safe.{IsSafe}
+use Rattle.safe_code.specs.Safe.{IsSafe}
 use Rattle.template_tree.specs.Source.{Source}
 use Rattle.stub_response.specs.ErrorReply.{error_reply}
 use Rattle.stub_response.specs.HeaderText.{header_text}

@@ -18,6 +18,8 @@ pub enum Table {
     HelperCodes,
     /// Code with loops or escapes.
     LoopCodes,
+    /// Its runs.
+    LoopRuns,
     Programs,
     /// Renderings that an independent program computed.
     RenderText,
@@ -41,6 +43,7 @@ impl CaseTable for Table {
             Table::Codes => "codes.tsv",
             Table::HelperCodes => "helper_codes.tsv",
             Table::LoopCodes => "loop_codes.tsv",
+            Table::LoopRuns => "loop_runs.tsv",
             Table::Programs => "programs.tsv",
             Table::RenderText => "render_text.tsv",
             Table::Commands => "commands.tsv",
@@ -60,6 +63,7 @@ impl CaseTable for Table {
             Table::Compiled => templates::compiled(alloc, row.cell(0)),
             Table::Listings => code::parts(alloc, row),
             Table::Codes | Table::HelperCodes | Table::LoopCodes => code::verdict(alloc, row),
+            Table::LoopRuns => code::run_over(alloc, row),
             Table::Programs => programs::program(alloc, row),
             Table::RenderText | Table::Commands => commands::streams(alloc, row),
             Table::FileCommands => commands::streams_with_file(alloc, row),

@@ -10,7 +10,6 @@ use Rattle.template_code.specs.declared.limits.TheConstants.{MAX_INSTRUCTIONS}
 use Rattle.template_compile.specs.Compiled.{stack_code}
 use Rattle.template_compile.specs.Correct.{WritesTextOf}
 use Rattle.template_compile.specs.Length.{code_length}
-use Rattle.template_compile.specs.Plain.{IsPlainCode}
 
 -- a program as contracts see it
 pub record ProgramParts : Type 0 where
@@ -25,12 +24,11 @@ IsProgramText source = (tree : Nodes) × Spells source tree × (code_length tree
 abbrev pub IsTooLong : Source → Type 0
 IsTooLong source = (tree : Nodes) × Spells source tree × (MAX_INSTRUCTIONS < code_length tree)
 
--- the code is that of the tree that the source spells, which is plain, and its runs write the tree's text
+-- the code is that of the tree that the source spells, and its runs write the tree's text
 pub record IsProgram (p : ProgramParts) : Type 0 where
   pub tree : Nodes
   pub spelled : Spells p.source tree
   pub translated : p.code ≡ stack_code tree
-  pub plain : IsPlainCode p.code
   pub runs : WritesTextOf p.code tree
 
 -- the text is the one that the source means over a root

@@ -1,9 +1,23 @@
 //! Texts in which the special characters of HTML are escaped, as Handlebars escapes them.
-ghost use Rattle.std.specs.Prelude.{◌≡◌, ◌++◌, MatchOption, IfOk, OnOk, string_bytes};
+ghost use Rattle.std.specs.Prelude.{◌≡◌, ◌++◌, ◌==◌, length, MatchOption, IfOk, OnOk, string_bytes};
+ghost use Rattle.std.specs.Bool.{OnTrue};
 ghost use lib.Utf8.{encode};
-ghost use Rattle.helper_set.specs.Escape.{html_escaped};
+ghost use Rattle.helper_set.specs.Escape.{html_escaped_byte, html_escaped};
 
 use std::alloc::{AllocError, Global};
+
+/// Whether no character of the text is to be escaped.
+pub fn is_plain(text: &str) -> bool
+    ensures { OnTrue result (html_escaped text.now ≡ text.now) }
+{
+    text.as_bytes().iter().all(|byte| is_plain_byte(*byte))
+}
+
+fn is_plain_byte(byte: u8) -> bool
+    ensures { result ≡ (length (html_escaped_byte byte) == 1) }
+{
+    !matches!(byte, b'&' | b'<' | b'>' | b'"' | b'\'' | b'`' | b'=')
+}
 
 /// The text with a reference in place of each special character.
 pub fn escaped(alloc: Global, text: &str) -> Result<String, AllocError>

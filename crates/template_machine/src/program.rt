@@ -10,7 +10,7 @@ ghost use Rattle.template_tree.specs.Source.{with_escape, unescaped};
 ghost use Rattle.template_machine.specs.Errors.{IsErrorOf};
 ghost use Rattle.template_machine.specs.Inner.Programs.{IsCodeOf, IsOnlyErrorOf};
 ghost use Rattle.template_machine.specs.Program.{IsProgram, IsProgramText, IsMeant};
-ghost use Rattle.template_machine.specs.Safe.{IsSafe};
+ghost use Rattle.safe_code.specs.Safe.{IsSafe};
 ghost use Rattle.template_machine.specs.declared.error.ProgramError.TheVariants.{CodeRefused, OutOfMemory};
 
 use crate::error::ProgramError;

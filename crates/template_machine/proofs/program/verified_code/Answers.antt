@@ -28,5 +28,5 @@ returns-clause-ok c =
     let e = c.in_ok-code.ensures in
     record {
       whole = (tree, found, short_code _ tree e.well_formed e.translated);
-      program = program_of _ _ _ tree c.in_ok-verify.ensures.same found e.translated e.plain e.runs;
+      program = program_of _ _ _ tree c.in_ok-verify.ensures.same found e.translated e.runs;
     }
