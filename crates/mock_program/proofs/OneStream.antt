@@ -6,9 +6,8 @@ use Rattle.mock_program.specs.CommandLine.{Asked, render, check, answer}
 use Rattle.mock_program.specs.Commands.{Does}
 use Rattle.command_output.specs.Output.{WritesOneStream}
 use Rattle.mock_program.specs.Rendering.{Renders}
-use Rattle.template_tree.specs.Source.{Source, unescaped}
+use Rattle.template_tree.specs.Source.{Source, with_escape}
 use Rattle.template_tree.specs.declared.escape.Escape.{Escape}
-use Rattle.template_tree.specs.declared.escape.Escape.TheVariants.{Off}
 
 module _ {O E : Type 0} (out_holds : O → Option (List ℕ)) (err_holds : E → Option (List ℕ)) where
   of_output : (out out' : O) (err err' : E) (status : ℕ) → status ≡ 0 ⊎ status ≡ 1 → err' ≡ err
@@ -79,12 +78,12 @@ module _ {O E : Type 0} (out_holds : O → Option (List ℕ)) (err_holds : E →
   of_mappings escape known path method target out out' err err' status (inr (error, is, one, as_reported, same)) =
       of_error out out' err err' status one same
 
-  pub of_command : (files : List ℕ → Option (List ℕ)) (asked : Asked) (out out' : O) (err err' : E) (status : ℕ)
-      → Does out_holds err_holds files asked out out' err err' status
+  pub of_command : (files : List ℕ → Option (List ℕ)) (escape : Escape) (asked : Asked) (out out' : O) (err err' : E) (status : ℕ)
+      → Does out_holds err_holds files escape asked out out' err err' status
       → WritesOneStream out out' err err' status
-  of_command files (render template method target) out out' err err' status done =
-      of_rendering (unescaped template) method target out out' err err' status done
-  of_command files (check path) out out' err err' status done =
-      of_file Off (files path) path out out' err err' status done
-  of_command files (answer path method target) out out' err err' status done =
-      of_mappings Off (files path) path method target out out' err err' status done
+  of_command files escape (render template method target) out out' err err' status done =
+      of_rendering (with_escape escape template) method target out out' err err' status done
+  of_command files escape (check path) out out' err err' status done =
+      of_file escape (files path) path out out' err err' status done
+  of_command files escape (answer path method target) out out' err err' status done =
+      of_mappings escape (files path) path method target out out' err err' status done

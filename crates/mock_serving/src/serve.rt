@@ -24,6 +24,7 @@ use std::sync::ledger::Blank;
 use std::time::Clock;
 use stub_book::book::Book;
 use stub_response::limits::Limits;
+use template_tree::escape::Escape;
 use tokio::net::TcpListener;
 use tokio::runtime::LocalRuntime;
 
@@ -82,6 +83,7 @@ where
     let site = Site {
         book,
         limits: Limits::usual(),
+        escape: Escape::Off,
         gate: NoGate,
     };
     serve_on(

@@ -31,6 +31,7 @@ fn main(rt: HostRuntime) -> io::Result<ExitCode> {
             Table::LoopCodes,
             Table::LoopRuns,
             Table::Programs,
+            Table::Escaped,
             Table::RenderText,
             Table::Commands,
             Table::FileCommands,

@@ -21,6 +21,8 @@ pub enum Table {
     /// Its runs.
     LoopRuns,
     Programs,
+    /// Templates whose prints are escaped.
+    Escaped,
     /// Renderings that an independent program computed.
     RenderText,
     Commands,
@@ -45,6 +47,7 @@ impl CaseTable for Table {
             Table::LoopCodes => "loop_codes.tsv",
             Table::LoopRuns => "loop_runs.tsv",
             Table::Programs => "programs.tsv",
+            Table::Escaped => "escaped.tsv",
             Table::RenderText => "render_text.tsv",
             Table::Commands => "commands.tsv",
             Table::FileCommands => "file_commands.tsv",
@@ -65,6 +68,7 @@ impl CaseTable for Table {
             Table::Codes | Table::HelperCodes | Table::LoopCodes => code::verdict(alloc, row),
             Table::LoopRuns => code::run_over(alloc, row),
             Table::Programs => programs::program(alloc, row),
+            Table::Escaped => programs::escaped(alloc, row),
             Table::RenderText | Table::Commands => commands::streams(alloc, row),
             Table::FileCommands => commands::streams_with_file(alloc, row),
             Table::Messages => commands::message(alloc, row, 100_000),
