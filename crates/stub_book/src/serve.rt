@@ -120,7 +120,7 @@ fn move_scenario(
     served: &Event,
 ) -> Result<(), AllocError>
     ensures ok { OnOk result ((request : Request) (answer : ServeAnswer) → served.now ≡ event.Serve request answer
-        → StatesFollow scenarios.old scenarios.new served.now) }
+        → StatesFollow scenarios.old scenarios.new (event.Serve request answer)) }
     ensures err { OnErr result (scenarios.new ≡ scenarios.old) }
 {
     let Event::Serve {
