@@ -114,11 +114,7 @@ fn unchosen(recording: &Recording) -> Result<ServeAnswer, AllocError>
 }
 
 // Moves the scenario of the mapping that a request was answered with, if it moves one.
-fn move_scenario(
-    alloc: Global,
-    scenarios: &mut Scenarios,
-    served: &Event,
-) -> Result<(), AllocError>
+fn move_scenario(alloc: Global, scenarios: &mut Scenarios, served: &Event) -> Result<(), AllocError>
     ensures ok { OnOk result ((request : Request) (answer : ServeAnswer) → served.now ≡ event.Serve request answer
         → StatesFollow scenarios.old scenarios.new (event.Serve request answer)) }
     ensures err { OnErr result (scenarios.new ≡ scenarios.old) }
