@@ -24,7 +24,6 @@ use std::sync::ledger::Blank;
 use std::time::Clock;
 use stub_book::book::Book;
 use stub_response::limits::Limits;
-use template_tree::escape::Escape;
 use tokio::net::TcpListener;
 use tokio::runtime::LocalRuntime;
 
@@ -40,7 +39,7 @@ where
     E: Write,
     ensures { result ≤ 1 }
 {
-    match book_of(rt.alloc(), &rt, arguments.mappings, err) {
+    match book_of(rt.alloc(), &rt, arguments.mappings, arguments.escape, err) {
         Some(book) => {
             serve_book::<Brand, R, O, E>(rt, Blank::new(PARTS), PARTS, book, arguments, out, err)
         }
@@ -83,7 +82,7 @@ where
     let site = Site {
         book,
         limits: Limits::usual(),
-        escape: Escape::Off,
+        escape: arguments.escape,
         gate: NoGate,
     };
     serve_on(
