@@ -1,6 +1,6 @@
 -- The values of bounds, and of the polynomials in them.
 use Rattle.std.proofs.Common.{◌≡◌, ℕ, zero, suc, ◌+◌, ◌*◌, ◌≤◌, ◌<◌, ◌^◌, Bool, true, false, List, [], ◌∷◌, length}
-use Rattle.std.proofs.Common.{pos, negsuc, ℤ, Some, refl, ap, ◌∙◌, arith}
+use Rattle.std.proofs.Common.{pos, negsuc, ℤ, Some, ap, ◌∙◌, arith}
 use Rattle.std.specs.Prelude.{slice_get, unwrap_or, FitsSigned, decimal}
 use Rattle.std.specs.Fmt.{signed_decimal}
 use Rattle.std.specs.Int.{w64}
@@ -8,7 +8,7 @@ use Rattle.std.proofs.Math.Nat.{mul-le-mul}
 use Rattle.std.proofs.lemmas.Fmt.{length-decimal-le}
 use Rattle.data_tree.specs.Json.{truth_text}
 use Rattle.template_code.specs.Code.{StackCode}
-use Rattle.code_rules.specs.Polynomial.{Polynomial, constant, plus, times, value}
+use Rattle.code_rules.specs.Polynomial.{Polynomial, times, value}
 use Rattle.code_rules.specs.Bounds.{Bound, at_most, all_data, item_data, plus_bound, times_bound, bound_value}
 use Rattle.code_rules.specs.Costs.{text_bound}
 use Rattle.code_rules.proofs.PolynomialFacts.{value-constant, value-plus}

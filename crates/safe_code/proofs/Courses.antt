@@ -1,7 +1,8 @@
--- Code as a course, where each instruction costs its steps or its bytes at a size n of all data: so the budget of code at
+-- Code as a course, where each instruction costs its steps or its bytes at a size n of all data: so the budget of
+-- code at
 -- n is that of the course.
-use Rattle.std.proofs.Common.{◌≡◌, ℕ, zero, suc, ◌+◌, ◌*◌, ◌≤◌, Bool, true, false, List, [], ◌∷◌, length, drop}
-use Rattle.std.proofs.Common.{Option, Some, None, refl, sym, ap, ◌∙◌, subst, arith}
+use Rattle.std.proofs.Common.{◌≡◌, ℕ, zero, suc, Bool, true, false, List, [], ◌∷◌, length}
+use Rattle.std.proofs.Common.{Option, Some, None, refl, sym, ap, ◌∙◌}
 use Rattle.std.specs.Prelude.{slice_get, if◌then◌else◌}
 use Rattle.loop_law.specs.Course as course
 use Rattle.loop_law.specs.Course.{Course, Bracket}
@@ -9,7 +10,7 @@ use Rattle.template_code.specs.Code.{StackCode}
 use Rattle.template_code.specs.Instructions.{flow}
 use Rattle.template_code.specs.declared.flow.Flow.{Flow}
 use Rattle.template_code.specs.declared.instr.Instr.{Instr}
-use Rattle.code_rules.specs.Polynomial.{plus, times_size, value}
+use Rattle.code_rules.specs.Polynomial.{plus, value}
 use Rattle.code_rules.specs.Bounds.{Bound, plus_bound, of_turns}
 use Rattle.code_rules.specs.Costs.{goes_over_part, Cost, no_cost, plus_cost, cost_of_turns, cost_at}
 use Rattle.code_rules.specs.Table.{nest_after, entry_at}

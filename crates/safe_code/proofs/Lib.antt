@@ -1,6 +1,7 @@
 pub mod Bounds
 pub mod Loops
 pub mod Calls
+pub mod Effects
 pub mod Texts
 pub mod Data
 pub mod Courses

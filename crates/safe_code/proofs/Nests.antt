@@ -1,24 +1,24 @@
--- The nests and the slots of a table, where code is well formed: those of the code's course, and none where a jump goes,
+-- The nests and the slots of a table, where code is well formed: those of the code's course, and none where a jump
+-- goes,
 -- where a loop starts, and where one ends.
 use Rattle.std.proofs.Common.{◌≡◌, ℕ, suc, ◌<◌, ◌≤◌, Bool, true, false, true≢false, List, [], ◌∷◌, ◌++◌, length, drop}
 use Rattle.std.proofs.Common.{map, Some, refl, sym, ap, ◌∙◌, subst, arith}
 use Rattle.std.specs.Prelude.{slice_get, if◌then◌else◌}
-use Rattle.std.proofs.lemmas.Option.{none-some, slice_get_within}
+use Rattle.std.proofs.lemmas.Option.{none-some}
 use Rattle.loop_law.specs.Course as course
 use Rattle.loop_law.specs.Course.{Course}
-use Rattle.loop_law.proofs.Nests.{first-place, opener-before}
+use Rattle.loop_law.proofs.Nests.{first-place}
 use Rattle.data_tree.specs.Tree.{Tree}
 use Rattle.helper_set.specs.Values.{Value, kind_of}
-use Rattle.helper_set.specs.declared.kind.Kind.{Kind}
 use Rattle.template_code.specs.Code.{StackCode}
 use Rattle.template_code.specs.Instructions.{flow, target_of, goes_on, requires_empty_stack, pops, pushes, slots_kept}
 use Rattle.template_code.specs.Machine.{Loop, Effect, effect}
 use Rattle.template_code.specs.declared.flow.Flow.{Flow}
 use Rattle.template_code.specs.declared.instr.Instr.{Instr}
 use Rattle.template_code.specs.declared.instr.Instr.TheVariants.{Jump, Branch, Each, Next, Halt}
-use Rattle.code_rules.specs.Table.{Entry, nest_after, entry_at}
+use Rattle.code_rules.specs.Table.{Entry, entry_at}
 use Rattle.code_rules.specs.Verdict.{IsWellFormed}
-use Rattle.code_rules.proofs.FormFacts.{formed-inside, formed-leads, formed-lands, formed-empty_rest}
+use Rattle.code_rules.proofs.FormFacts.{formed-inside, formed-empty_rest}
 use Rattle.code_rules.proofs.MachineFacts.{effect-kinds}
 use Rattle.code_rules.proofs.NestFacts.{course_of, same-nests}
 use Rattle.code_rules.proofs.TableFacts.{IsTable-entry_at, entry-same}
