@@ -94,7 +94,9 @@ fn line(alloc: Global, text: &str) -> Result<HeaderLine<TemplateText>, AllocErro
 }
 
 fn template(alloc: Global, text: &str) -> Result<TemplateText, AllocError> {
-    TemplateText::from_text_with(alloc, text, Escape::Off).ok().ok_or(AllocError)
+    TemplateText::from_text_with(alloc, text, Escape::Off)
+        .ok()
+        .ok_or(AllocError)
 }
 
 // The response of the version that was chosen.

@@ -72,17 +72,7 @@ pub fn answer_file<F: FileReader, O: Write, E: Write>(
         out.old out.new err.old err.new result }
 {
     match read_file(alloc, files, path) {
-        Ok(bytes) => {
-            answer_to(
-                alloc,
-                bytes.as_slice(),
-                method,
-                target,
-                out,
-                err,
-                escape,
-            )
-        }
+        Ok(bytes) => { answer_to(alloc, bytes.as_slice(), method, target, out, err, escape) }
         Err(error) => {
             error.report(path, err);
             FAILURE

@@ -22,11 +22,7 @@ use stub_response::unmatched_reply::unmatched_reply;
 use template_tree::escape::Escape;
 
 /// A book whose first event has the number 1.
-pub(crate) fn fresh_book(
-    alloc: Global,
-    bytes: &[u8],
-    escape: Escape,
-) -> Result<Book, CommandError>
+pub(crate) fn fresh_book(alloc: Global, bytes: &[u8], escape: Escape) -> Result<Book, CommandError>
     ensures ok { IfOk result (IsFresh escape bytes.now) }
     ensures opens { OnOk result (HasBook escape bytes.now) }
     ensures refusal { IfErr result (λ error. RefusesDocument escape bytes.now error ⊎ RefusesBook escape bytes.now error

@@ -34,11 +34,7 @@ pub struct Checked {
 /// What `mock check` prints for a document: a line for each of its mappings, numbered from 1, as `1 plain`,
 /// `2 steps [5] bytes [6,1]` or `3 error 11`, where the prints of templates are escaped so. The error is that of a
 /// document that has no mappings.
-pub fn check_document(
-    alloc: Global,
-    bytes: &[u8],
-    escape: Escape,
-) -> Result<Checked, MappingError>
+pub fn check_document(alloc: Global, bytes: &[u8], escape: Escape) -> Result<Checked, MappingError>
     ensures report { IfOk result (λ checked. IsReportOf escape bytes.now (string_bytes checked.text) checked.is_refused) }
     ensures error { IfErr result (IsOuterError bytes.now) }
 {

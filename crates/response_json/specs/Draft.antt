@@ -41,7 +41,7 @@ body_with escape (body.Base64 bytes) = body.Base64 bytes
 abbrev pub templates_of : Escape → ResponseDraft → List Source
 templates_of escape draft =
     if draft.is_templated then
-      values_of (lines_with escape draft.headers) ++ body_templates (body_with escape draft.body)
+    values_of (lines_with escape draft.headers) ++ body_templates (body_with escape draft.body)
     else []
 
 -- the response, where the prints of templates are escaped so

@@ -61,7 +61,10 @@ pub fn verdict(alloc: Global, row: &Row) -> Result<String, AllocError> {
 
 /// The same where the request, with headers and a body, stands before the code.
 pub fn run_over(alloc: Global, row: &Row) -> Result<String, AllocError> {
-    match verify(alloc, code_of(alloc, row.cell(4), row.cell(5), row.cell(6))?) {
+    match verify(
+        alloc,
+        code_of(alloc, row.cell(4), row.cell(5), row.cell(6))?,
+    ) {
         Ok(verified) => accepted(alloc, &verified, &request_with_body(alloc, row)?),
         Err(error) => refused(alloc, &error),
     }
@@ -77,11 +80,7 @@ fn refused(alloc: Global, error: &VerifyError) -> Result<String, AllocError> {
     }
 }
 
-fn accepted(
-    alloc: Global,
-    verified: &Verified,
-    data: &RequestData,
-) -> Result<String, AllocError> {
+fn accepted(alloc: Global, verified: &Verified, data: &RequestData) -> Result<String, AllocError> {
     let (steps, bytes) = (verified.budget().steps(), verified.budget().bytes());
     let written = written(alloc, verified, data)?;
     format!(in alloc; "\t{steps:?}\t{bytes:?}{written}")

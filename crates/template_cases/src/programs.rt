@@ -28,11 +28,7 @@ pub fn escaped(alloc: Global, row: &Row) -> Result<String, AllocError> {
     }
 }
 
-fn run_cells(
-    alloc: Global,
-    program: &Program,
-    data: &RequestData,
-) -> Result<String, AllocError> {
+fn run_cells(alloc: Global, program: &Program, data: &RequestData) -> Result<String, AllocError> {
     let rendered = render(alloc, program, data)?;
     let (steps, text) = (rendered.steps, rendered.text.as_str());
     let (step_budget, byte_budget) = (program.budget().steps(), program.budget().bytes());

@@ -57,7 +57,10 @@ pub fn tag_token<'a>(alloc: Global, text: &'a str) -> Result<(Token, &'a str), R
         Some((TagText::Comment, rest)) => Ok((Token::Comment, rest)),
         Some((TagText::Shown(opening, content), rest)) => {
             let expression = expression_of(alloc, opening, content)?;
-            Ok((Token::Node(Node::Print(escape_of(opening), expression)), rest))
+            Ok((
+                Token::Node(Node::Print(escape_of(opening), expression)),
+                rest,
+            ))
         }
     }
 }
