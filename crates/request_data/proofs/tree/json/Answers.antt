@@ -5,6 +5,7 @@ use Rattle.std.proofs.lemmas.List.{nil_from_length}
 use Rattle.data_tree.specs.Tree.{nothing}
 use Rattle.json_bridge.proofs.Vectors.{are_texts}
 use Rattle.request_data.specs.RequestTree.{json_tree}
+use Rattle.request_data.proofs.TreeLemmas.{view-Nothing}
 use Rattle.request_data.proofs.tree.json.Goals as goal
 
 -- an empty text is no JSON
@@ -13,4 +14,4 @@ returns-then-is_empty-clause-tree c =
     let text = c.args.text.now in
     let none : text ≡ [] =
     nil_from_length text (eqb-true (length text) 0 (sym c.is_empty.ensures ∙ c.if-is_empty.true)) in
-    sym (ap json_tree none ∙ ap (λ found. unwrap_or found nothing) are_texts.no_text)
+    view-Nothing ∙ sym (ap json_tree none ∙ ap (λ found. unwrap_or found nothing) are_texts.no_text)
