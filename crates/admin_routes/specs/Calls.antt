@@ -15,32 +15,34 @@ use Rattle.mapping_model.specs.declared.mapping_spec.MappingSpec.{MappingSpec}
 use Rattle.mapping_model.specs.declared.request_spec.RequestSpec.{RequestSpec}
 use Rattle.request_document.specs.Refusal.{Spells, IsRefused}
 use Rattle.request_match.specs.Refusal.{CanBeBuilt}
+use Rattle.template_tree.specs.declared.escape.Escape.{Escape}
 use Rattle.uuid.specs.Text.{parsed}
 
--- the call of the route that this body makes it; calls that take no body ignore it
-abbrev pub IsCallOf : Route → List ℕ → AdminCall → Type 0
-IsCallOf route.ListMappings body found = found ≡ call.ListMappings
-IsCallOf route.AddMapping body found =
-    (mapping : MappingSpec) × SpellsDocument body mapping × (found ≡ call.AddMapping mapping)
-IsCallOf route.DeleteMappings body found = found ≡ call.DeleteMappings
-IsCallOf (route.ReadMapping text) body found = (id : List ℕ) × (parsed text ≡ Some id) × (found ≡ call.ReadMapping id)
-IsCallOf (route.EditMapping text) body found =
-    (id : List ℕ) × (mapping : MappingSpec) × (parsed text ≡ Some id) × SpellsDocument body mapping
+-- the call of the route that this body makes it, where the prints of a mapping's templates are escaped so; calls that take
+-- no body ignore it
+abbrev pub IsCallOf : Escape → Route → List ℕ → AdminCall → Type 0
+IsCallOf escape route.ListMappings body found = found ≡ call.ListMappings
+IsCallOf escape route.AddMapping body found =
+    (mapping : MappingSpec) × SpellsDocument escape body mapping × (found ≡ call.AddMapping mapping)
+IsCallOf escape route.DeleteMappings body found = found ≡ call.DeleteMappings
+IsCallOf escape (route.ReadMapping text) body found = (id : List ℕ) × (parsed text ≡ Some id) × (found ≡ call.ReadMapping id)
+IsCallOf escape (route.EditMapping text) body found =
+    (id : List ℕ) × (mapping : MappingSpec) × (parsed text ≡ Some id) × SpellsDocument escape body mapping
     × (found ≡ call.EditMapping id mapping)
-IsCallOf (route.DeleteMapping text) body found =
+IsCallOf escape (route.DeleteMapping text) body found =
     (id : List ℕ) × (parsed text ≡ Some id) × (found ≡ call.DeleteMapping id)
-IsCallOf route.ResetMappings body found = found ≡ call.ResetMappings
-IsCallOf route.ResetAll body found = found ≡ call.ResetAll
-IsCallOf route.ListRequests body found = found ≡ call.ListRequests
-IsCallOf route.ClearRequests body found = found ≡ call.ClearRequests
-IsCallOf route.ListUnmatched body found = found ≡ call.ListUnmatched
-IsCallOf route.FindRequests body found =
+IsCallOf escape route.ResetMappings body found = found ≡ call.ResetMappings
+IsCallOf escape route.ResetAll body found = found ≡ call.ResetAll
+IsCallOf escape route.ListRequests body found = found ≡ call.ListRequests
+IsCallOf escape route.ClearRequests body found = found ≡ call.ClearRequests
+IsCallOf escape route.ListUnmatched body found = found ≡ call.ListUnmatched
+IsCallOf escape route.FindRequests body found =
     (matcher : RequestSpec) × Spells body (Read matcher) × CanBeBuilt matcher × (found ≡ call.FindRequests matcher)
-IsCallOf route.CountRequests body found =
+IsCallOf escape route.CountRequests body found =
     (matcher : RequestSpec) × Spells body (Read matcher) × CanBeBuilt matcher × (found ≡ call.CountRequests matcher)
-IsCallOf route.ListScenarios body found = found ≡ call.ListScenarios
-IsCallOf route.ResetScenarios body found = found ≡ call.ResetScenarios
-IsCallOf (route.SetScenario name) body found =
+IsCallOf escape route.ListScenarios body found = found ≡ call.ListScenarios
+IsCallOf escape route.ResetScenarios body found = found ≡ call.ResetScenarios
+IsCallOf escape (route.SetScenario name) body found =
     (state : List ℕ) × AsksFor body state × (found ≡ call.SetScenario (decoded name) state)
 
 -- the id of the route is none
@@ -66,19 +68,19 @@ TakesState (route.SetScenario name) = Unit {0}
 TakesState other = ⊥
 
 -- why the call of the route isn't made of this body; memory may also run out where the name of a scenario is decoded
-abbrev pub IsRefusalOf : Route → List ℕ → AdminError → Type 0
-IsRefusalOf found body error.UnknownCall = ⊥
-IsRefusalOf found body error.UnknownMapping = HasNoId found
-IsRefusalOf found body (error.Mapping why) = TakesMapping found × IsDocumentError body why
-IsRefusalOf found body (error.Matcher why) = TakesMatcher found × IsRefused body why
-IsRefusalOf found body (error.State why) = TakesState found × IsStateError body why
-IsRefusalOf found body error.OutOfMemory = TakesState found
+abbrev pub IsRefusalOf : Escape → Route → List ℕ → AdminError → Type 0
+IsRefusalOf escape found body error.UnknownCall = ⊥
+IsRefusalOf escape found body error.UnknownMapping = HasNoId found
+IsRefusalOf escape found body (error.Mapping why) = TakesMapping found × IsDocumentError escape body why
+IsRefusalOf escape found body (error.Matcher why) = TakesMatcher found × IsRefused body why
+IsRefusalOf escape found body (error.State why) = TakesState found × IsStateError body why
+IsRefusalOf escape found body error.OutOfMemory = TakesState found
 
 -- the method, the URL and the body are the call
-abbrev pub IsCall : List ℕ → List ℕ → List ℕ → AdminCall → Type 0
-IsCall method url body found = (r : Route) × Names method url r × IsCallOf r body found
+abbrev pub IsCall : Escape → List ℕ → List ℕ → List ℕ → AdminCall → Type 0
+IsCall escape method url body found = (r : Route) × Names method url r × IsCallOf escape r body found
 
 -- a call that the table doesn't have is refused as such; any other, as its route says
-abbrev pub IsAdminError : List ℕ → List ℕ → List ℕ → AdminError → Type 0
-IsAdminError method url body error.UnknownCall = (r : Route) → ¬ (Names method url r)
-IsAdminError method url body why = (r : Route) × Names method url r × IsRefusalOf r body why
+abbrev pub IsAdminError : Escape → List ℕ → List ℕ → List ℕ → AdminError → Type 0
+IsAdminError escape method url body error.UnknownCall = (r : Route) → ¬ (Names method url r)
+IsAdminError escape method url body why = (r : Route) × Names method url r × IsRefusalOf escape r body why

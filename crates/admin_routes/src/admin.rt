@@ -4,6 +4,8 @@ ghost use Rattle.admin_routes.specs.Calls.{IsCall, IsCallOf, IsAdminError, IsRef
 ghost use Rattle.admin_routes.specs.declared.call.AdminCall.TheVariants as call;
 ghost use Rattle.admin_routes.specs.declared.error.AdminError.TheVariants.{UnknownMapping};
 ghost use Rattle.admin_table.specs.declared.route.Route.TheVariants as route;
+ghost use Rattle.template_tree.specs.declared.escape.Escape.{Escape};
+ghost use Rattle.template_tree.specs.declared.escape.Escape.TheVariants.{Off};
 ghost use Rattle.uuid.specs.Text.{parsed};
 
 use crate::call::AdminCall;
@@ -11,33 +13,55 @@ use crate::error::AdminError;
 use admin_json::state::state_of;
 use admin_table::route::{Route, route_of};
 use admin_table::segment::Segment;
-use mapping_json::read::read_mapping;
+use mapping_json::read::read_mapping_with;
 use mapping_model::mapping_id::MappingId;
 use request_document::read_request::read_request;
 use std::alloc::Global;
+use template_tree::escape::Escape;
 
 /// The call that a request below `/__admin` is, by its method, its URL and its body. A method and a path that the table
 /// doesn't have are reported without memory, then an id that is none, then what is wrong with the body.
+///
+/// No template of a posted mapping escapes.
 pub fn admin(alloc: Global, method: &str, url: &str, body: &[u8]) -> Result<AdminCall, AdminError>
-    ensures ok { IfOk result (IsCall method.now url.now body.now) }
-    ensures error { IfErr result (IsAdminError method.now url.now body.now) }
+    ensures ok { IfOk result (IsCall Off method.now url.now body.now) }
+    ensures error { IfErr result (IsAdminError Off method.now url.now body.now) }
+{
+    admin_with(alloc, method, url, body, Escape::Off)
+}
+
+/// The same, where the prints of the templates of posted mappings are escaped so.
+pub fn admin_with(
+    alloc: Global,
+    method: &str,
+    url: &str,
+    body: &[u8],
+    escape: Escape,
+) -> Result<AdminCall, AdminError>
+    ensures ok { IfOk result (IsCall escape method.now url.now body.now) }
+    ensures error { IfErr result (IsAdminError escape method.now url.now body.now) }
 {
     match route_of(method, url) {
-        Some(route) => call_of(alloc, &route, body),
+        Some(route) => call_of(alloc, &route, body, escape),
         None => Err(AdminError::UnknownCall),
     }
 }
 
-fn call_of(alloc: Global, route: &Route<'_>, body: &[u8]) -> Result<AdminCall, AdminError>
-    ensures ok { IfOk result (IsCallOf route.now body.now) }
-    ensures error { IfErr result (IsRefusalOf route.now body.now) }
+fn call_of(
+    alloc: Global,
+    route: &Route<'_>,
+    body: &[u8],
+    escape: Escape,
+) -> Result<AdminCall, AdminError>
+    ensures ok { IfOk result (IsCallOf escape route.now body.now) }
+    ensures error { IfErr result (IsRefusalOf escape route.now body.now) }
 {
     match route {
         Route::ListMappings => Ok(AdminCall::ListMappings),
-        Route::AddMapping => add_of(alloc, body),
+        Route::AddMapping => add_of(alloc, body, escape),
         Route::DeleteMappings => Ok(AdminCall::DeleteMappings),
         Route::ReadMapping(id) => read_of(id),
-        Route::EditMapping(id) => edit_of(alloc, id, body),
+        Route::EditMapping(id) => edit_of(alloc, id, body, escape),
         Route::DeleteMapping(id) => delete_of(id),
         Route::ResetMappings => Ok(AdminCall::ResetMappings),
         Route::ResetAll => Ok(AdminCall::ResetAll),
@@ -52,11 +76,11 @@ fn call_of(alloc: Global, route: &Route<'_>, body: &[u8]) -> Result<AdminCall, A
     }
 }
 
-fn add_of(alloc: Global, body: &[u8]) -> Result<AdminCall, AdminError>
-    ensures ok { IfOk result (IsCallOf route.AddMapping body.now) }
-    ensures error { IfErr result (IsRefusalOf route.AddMapping body.now) }
+fn add_of(alloc: Global, body: &[u8], escape: Escape) -> Result<AdminCall, AdminError>
+    ensures ok { IfOk result (IsCallOf escape route.AddMapping body.now) }
+    ensures error { IfErr result (IsRefusalOf escape route.AddMapping body.now) }
 {
-    let mapping = read_mapping(alloc, body)?;
+    let mapping = read_mapping_with(alloc, body, escape)?;
     Ok(AdminCall::AddMapping(mapping))
 }
 
@@ -68,12 +92,17 @@ fn read_of(segment: &Segment<'_>) -> Result<AdminCall, AdminError>
     Ok(AdminCall::ReadMapping(id))
 }
 
-fn edit_of(alloc: Global, segment: &Segment<'_>, body: &[u8]) -> Result<AdminCall, AdminError>
-    ensures ok { IfOk result (IsCallOf (route.EditMapping segment.now) body.now) }
-    ensures error { IfErr result (IsRefusalOf (route.EditMapping segment.now) body.now) }
+fn edit_of(
+    alloc: Global,
+    segment: &Segment<'_>,
+    body: &[u8],
+    escape: Escape,
+) -> Result<AdminCall, AdminError>
+    ensures ok { IfOk result (IsCallOf escape (route.EditMapping segment.now) body.now) }
+    ensures error { IfErr result (IsRefusalOf escape (route.EditMapping segment.now) body.now) }
 {
     let id = id_of(segment)?;
-    let mapping = read_mapping(alloc, body)?;
+    let mapping = read_mapping_with(alloc, body, escape)?;
     Ok(AdminCall::EditMapping { id, mapping })
 }
 
@@ -96,24 +125,24 @@ fn id_of(segment: &Segment<'_>) -> Result<MappingId, AdminError>
 }
 
 fn find_of(alloc: Global, body: &[u8]) -> Result<AdminCall, AdminError>
-    ensures ok { IfOk result (IsCallOf route.FindRequests body.now) }
-    ensures error { IfErr result (IsRefusalOf route.FindRequests body.now) }
+    ensures ok { (escape : Escape) → IfOk result (IsCallOf escape route.FindRequests body.now) }
+    ensures error { (escape : Escape) → IfErr result (IsRefusalOf escape route.FindRequests body.now) }
 {
     let matcher = read_request(alloc, body)?;
     Ok(AdminCall::FindRequests(matcher))
 }
 
 fn count_of(alloc: Global, body: &[u8]) -> Result<AdminCall, AdminError>
-    ensures ok { IfOk result (IsCallOf route.CountRequests body.now) }
-    ensures error { IfErr result (IsRefusalOf route.CountRequests body.now) }
+    ensures ok { (escape : Escape) → IfOk result (IsCallOf escape route.CountRequests body.now) }
+    ensures error { (escape : Escape) → IfErr result (IsRefusalOf escape route.CountRequests body.now) }
 {
     let matcher = read_request(alloc, body)?;
     Ok(AdminCall::CountRequests(matcher))
 }
 
 fn set_of(alloc: Global, segment: &Segment<'_>, body: &[u8]) -> Result<AdminCall, AdminError>
-    ensures ok { IfOk result (IsCallOf (route.SetScenario segment.now) body.now) }
-    ensures error { IfErr result (IsRefusalOf (route.SetScenario segment.now) body.now) }
+    ensures ok { (escape : Escape) → IfOk result (IsCallOf escape (route.SetScenario segment.now) body.now) }
+    ensures error { (escape : Escape) → IfErr result (IsRefusalOf escape (route.SetScenario segment.now) body.now) }
 {
     let state = state_of(alloc, body)?;
     let name = segment.decoded(alloc)?;

@@ -12,16 +12,17 @@ use Rattle.mock_request.specs.Request.{Request}
 use Rattle.request_journal.specs.Past.{Past}
 use Rattle.shared_book.specs.Held.{Held}
 use Rattle.stub_response.specs.ErrorReply.{error_reply}
+use Rattle.template_tree.specs.declared.escape.Escape.{Escape}
 
 -- the reply that reports the error, with its status; 500 for the one that no answer reports, which no admin call has
 abbrev pub reporting : ErrorCode → Reply
 reporting reason = error_reply (unwrap_or (status_of reason) 500) reason
 
 -- the request is no admin call, which is reported, and the seat is as before
-abbrev pub IsRefusedCall : Held → Held → Request → Reply → Type 0
-IsRefusedCall old new request reply =
+abbrev pub IsRefusedCall : Escape → Held → Held → Request → Reply → Type 0
+IsRefusedCall escape old new request reply =
     (new ≡ old)
-    × ((why : AdminError) × IsAdminError request.method request.url request.body why
+    × ((why : AdminError) × IsAdminError escape request.method request.url request.body why
     × (reply ≡ reporting (error_code_of why)))
 
 -- it is the call, and its answer is the shared book's, or reports why there is none
@@ -30,8 +31,8 @@ IsAnsweredCall origin old new call reply =
     IsAnswered origin old new call reply
     ⊎ ((reason : ErrorCode) × IsNotAnswered origin old new call reason × (reply ≡ reporting reason))
 
-abbrev pub IsAdminAnswered : Past → Held → Held → Request → Reply → Type 0
-IsAdminAnswered origin old new request reply =
-    IsRefusedCall old new request reply
-    ⊎ ((call : AdminCall) × IsCall request.method request.url request.body call
+abbrev pub IsAdminAnswered : Past → Escape → Held → Held → Request → Reply → Type 0
+IsAdminAnswered origin escape old new request reply =
+    IsRefusedCall escape old new request reply
+    ⊎ ((call : AdminCall) × IsCall escape request.method request.url request.body call
     × IsAnsweredCall origin old new call reply)

@@ -19,6 +19,7 @@ use Rattle.answering.specs.Admin.{IsAdminAnswered}
 use Rattle.answering.specs.Served.{IsServedWith, IsNotServed}
 use Rattle.stub_response.specs.ErrorReply.{error_reply}
 use Rattle.stub_response.specs.declared.limits.Limits.{Limits}
+use Rattle.template_tree.specs.declared.escape.Escape.{Escape}
 
 -- the reply to a request that is no admin call
 abbrev pub IsServeAnswered : Past → Limits → Held → Held → Request → Reply → Type 0
@@ -26,9 +27,9 @@ IsServeAnswered origin limits old new request reply =
     IsServedWith origin limits old new request reply
     ⊎ ((reason : ErrorCode) × IsNotServed origin old new request reason × (reply ≡ error_reply 503 reason))
 
-abbrev pub IsRequestAnswered : Past → Limits → Held → Held → Request → Reply → Type 0
-IsRequestAnswered origin limits old new request reply =
-    (IsAdmin request.url × IsAdminAnswered origin old new request reply)
+abbrev pub IsRequestAnswered : Past → Limits → Escape → Held → Held → Request → Reply → Type 0
+IsRequestAnswered origin limits escape old new request reply =
+    (IsAdmin request.url × IsAdminAnswered origin escape old new request reply)
     ⊎ (¬ (IsAdmin request.url) × IsServeAnswered origin limits old new request reply)
 
 -- a message that is no request of ours makes no event: its target is bad, or else its body is too large; or memory ran out
@@ -40,22 +41,22 @@ IsNotRead old new message reply =
     ⊎ (HasUrl (target_of message) × (BODY_LIMIT < length (body_of message)) × (reply ≡ error_reply 413 TooLarge))
     ⊎ (reply ≡ error_reply 503 OutOfMemory))
 
-abbrev pub IsRead : Past → Limits → Held → Held → Message (List ℕ) → Reply → Type 0
-IsRead origin limits old new message reply =
+abbrev pub IsRead : Past → Limits → Escape → Held → Held → Message (List ℕ) → Reply → Type 0
+IsRead origin limits escape old new message reply =
     (request : Request) × IsReceived message request × (length (body_of message) ≤ BODY_LIMIT)
-    × IsRequestAnswered origin limits old new request reply
+    × IsRequestAnswered origin limits escape old new request reply
 
 -- the reply to a message, and what the seat has gained by it
-abbrev pub IsReply : Past → Limits → Held → Held → Message (List ℕ) → Reply → Type 0
-IsReply origin limits old new message reply =
-    IsNotRead old new message reply ⊎ IsRead origin limits old new message reply
+abbrev pub IsReply : Past → Limits → Escape → Held → Held → Message (List ℕ) → Reply → Type 0
+IsReply origin limits escape old new message reply =
+    IsNotRead old new message reply ⊎ IsRead origin limits escape old new message reply
 
 -- the response is that of the reply; or memory ran out while it was written
-abbrev pub IsAnswered : Past → Limits → Held → Held → Message (List ℕ) → Response (Full (List ℕ)) → Type 0
-IsAnswered origin limits old new message response =
-    (reply : Reply) × IsReply origin limits old new message reply
+abbrev pub IsAnswered : Past → Limits → Escape → Held → Held → Message (List ℕ) → Response (Full (List ℕ)) → Type 0
+IsAnswered origin limits escape old new message response =
+    (reply : Reply) × IsReply origin limits escape old new message reply
     × (IsResponseOf reply response ⊎ IsResponseOf (error_reply 503 OutOfMemory) response)
 
 -- there is no response, and the seat is as one of its replies leaves it
-abbrev pub IsNotAnswered : Past → Limits → Held → Held → Message (List ℕ) → Type 0
-IsNotAnswered origin limits old new message = (reply : Reply) × IsReply origin limits old new message reply
+abbrev pub IsNotAnswered : Past → Limits → Escape → Held → Held → Message (List ℕ) → Type 0
+IsNotAnswered origin limits escape old new message = (reply : Reply) × IsReply origin limits escape old new message reply

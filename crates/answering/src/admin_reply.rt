@@ -3,7 +3,7 @@ ghost use Rattle.std.specs.Prelude.{◌≡◌, IfOk, MatchResult};
 ghost use Rattle.answering.specs.Admin.{IsAdminAnswered, IsAnsweredCall, reporting};
 
 use admin_answers::answer::answer_admin;
-use admin_routes::admin::admin;
+use admin_routes::admin::admin_with;
 use admin_routes::call::AdminCall;
 use error_code::error_code::ErrorCode;
 use mapping_model::reply::Reply;
@@ -14,20 +14,29 @@ use shared_book::shared_book::SharedBook;
 use std::alloc::{AllocError, Global};
 use std::sync::Wait;
 use stub_response::error_reply::error_reply;
+use template_tree::escape::Escape;
 
-/// Makes the admin call that the request is, and gives the reply. The error says that there was no memory to write it.
+/// Makes the admin call that the request is, where the prints of the templates of a posted mapping are escaped so, and
+/// gives the reply. The error says that there was no memory to write it.
 pub(crate) fn admin_reply<L: Origin, R: Wait>(
     rt: &R,
     alloc: Global,
     shared: &SharedBook<L>,
     seat: &mut Seat<L>,
     request: &Snapshot,
+    escape: Escape,
 ) -> Result<Reply, AllocError>
     ensures { MatchResult result
-        (IsAdminAnswered L.origin seat.old seat.new request.now)
-        (λ _. (reply : _) × IsAdminAnswered L.origin seat.old seat.new request.now reply) }
+        (IsAdminAnswered L.origin escape seat.old seat.new request.now)
+        (λ _. (reply : _) × IsAdminAnswered L.origin escape seat.old seat.new request.now reply) }
 {
-    match admin(alloc, request.method(), request.url(), request.body()) {
+    match admin_with(
+        alloc,
+        request.method(),
+        request.url(),
+        request.body(),
+        escape,
+    ) {
         Ok(call) => call_reply(rt, alloc, shared, seat, call),
         Err(error) => reporting(alloc, error.error_code()),
     }

@@ -31,9 +31,9 @@ pub fn answer<L: Origin, R: Wait, G: Gate>(
     seat: &mut Seat<L>,
     message: &Request<Bytes>,
 ) -> Result<Response<Full<Bytes>>, ServiceError>
-    ensures ok { IfOk result (IsAnswered L.origin site.now.limits seat.old seat.new message.now) }
+    ensures ok { IfOk result (IsAnswered L.origin site.now.limits site.now.escape seat.old seat.new message.now) }
     ensures err { IfErr result (λ error. (error ≡ NoMemory)
-        × IsNotAnswered L.origin site.now.limits seat.old seat.new message.now) }
+        × IsNotAnswered L.origin site.now.limits site.now.escape seat.old seat.new message.now) }
 {
     match written(rt, alloc, site, seat, message) {
         Ok(response) => Ok(response),
@@ -49,8 +49,8 @@ fn written<L: Origin, R: Wait, G: Gate>(
     message: &Request<Bytes>,
 ) -> Result<Response<Full<Bytes>>, AllocError>
     ensures ok { IfOk result (λ response. (reply : _)
-        × IsReply L.origin site.now.limits seat.old seat.new message.now reply × IsResponseOf reply response) }
-    ensures err { IfErr result (λ _. IsNotAnswered L.origin site.now.limits seat.old seat.new message.now) }
+        × IsReply L.origin site.now.limits site.now.escape seat.old seat.new message.now reply × IsResponseOf reply response) }
+    ensures err { IfErr result (λ _. IsNotAnswered L.origin site.now.limits site.now.escape seat.old seat.new message.now) }
 {
     let reply = reply_to(rt, alloc, site, seat, message)?;
     response_of(alloc, reply)

@@ -30,8 +30,8 @@ pub(crate) fn reply_to<L: Origin, R: Wait, G: Gate>(
     message: &Request<Bytes>,
 ) -> Result<Reply, AllocError>
     ensures { MatchResult result
-        (IsReply L.origin site.now.limits seat.old seat.new message.now)
-        (λ _. IsNotAnswered L.origin site.now.limits seat.old seat.new message.now) }
+        (IsReply L.origin site.now.limits site.now.escape seat.old seat.new message.now)
+        (λ _. IsNotAnswered L.origin site.now.limits site.now.escape seat.old seat.new message.now) }
 {
     match snapshot_of(alloc, message) {
         Ok(request) => reply_to_request(rt, alloc, site, seat, request),
@@ -49,11 +49,11 @@ fn reply_to_request<L: Origin, R: Wait, G: Gate>(
     request: Snapshot,
 ) -> Result<Reply, AllocError>
     ensures { MatchResult result
-        (IsRequestAnswered L.origin site.now.limits seat.old seat.new request)
-        (λ _. (reply : _) × IsRequestAnswered L.origin site.now.limits seat.old seat.new request reply) }
+        (IsRequestAnswered L.origin site.now.limits site.now.escape seat.old seat.new request)
+        (λ _. (reply : _) × IsRequestAnswered L.origin site.now.limits site.now.escape seat.old seat.new request reply) }
 {
     if is_admin(request.url()) {
-        return admin_reply(rt, alloc, &site.book, seat, &request);
+        return admin_reply(rt, alloc, &site.book, seat, &request, site.escape);
     }
     match serve(rt, alloc, site, seat, request) {
         Ok(reply) => Ok(reply),

@@ -2,11 +2,14 @@
 use shared_book::origin::Origin;
 use shared_book::shared_book::SharedBook;
 use stub_response::limits::Limits;
+use template_tree::escape::Escape;
 
 /// A shared book, and how its requests are answered. It has no lock of its own.
 #[derive(Drop)]
 pub struct Site<L: Origin, G> {
     pub book: SharedBook<L>,
     pub limits: Limits,
+    /// How the prints of the templates of posted mappings are escaped.
+    pub escape: Escape,
     pub gate: G,
 }

@@ -23,6 +23,7 @@ use std::alloc::{AllocError, Global};
 use stub_book::book::Book;
 use stub_response::limits::Limits;
 use stub_response::respond::respond;
+use template_tree::escape::Escape;
 
 /// For each request the response, how many events there are and the state of the scenario.
 pub fn answers(alloc: Global, row: &Row) -> Result<String, AllocError> {
@@ -93,7 +94,9 @@ fn line(alloc: Global, text: &str) -> Result<HeaderLine<TemplateText>, AllocErro
 }
 
 fn template(alloc: Global, text: &str) -> Result<TemplateText, AllocError> {
-    TemplateText::from_text(alloc, text).ok().ok_or(AllocError)
+    TemplateText::from_text_with(alloc, text, Escape::Off)
+        .ok()
+        .ok_or(AllocError)
 }
 
 // The response of the version that was chosen.

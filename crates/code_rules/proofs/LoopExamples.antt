@@ -6,7 +6,7 @@ use Rattle.data_tree.specs.Tree.{Tree, text, nothing, list, fields, no_items, it
 use Rattle.data_tree.specs.declared.step.Step.TheVariants as steps
 use Rattle.helper_set.specs.declared.helper.Helper.TheVariants.{Upper, Not, Base64, UrlEncode, DefaultIfEmpty}
 use Rattle.template_code.specs.Code.{StackCode}
-use Rattle.template_code.specs.Escape.{html_escaped}
+use Rattle.helper_set.specs.Escape.{html_escaped}
 use Rattle.template_code.specs.Machine.{Runs}
 use Rattle.template_code.specs.declared.instr.Instr.{Instr}
 use Rattle.template_code.specs.declared.instr.Instr.TheVariants.{Emit, Root, Item, Index, Key, First, Last, Text}
@@ -15,7 +15,7 @@ use Rattle.template_code.specs.declared.instr.Instr.TheVariants.{Each, Next, Hal
 use Rattle.code_rules.specs.Table.{entry_at}
 use Rattle.code_rules.specs.Regions.{budget}
 use Rattle.code_rules.specs.Verdict.{verdict}
-use Rattle.code_rules.specs.Laws.{plain_budget}
+use Rattle.code_rules.specs.Laws.{coarse_budget}
 use Rattle.code_rules.specs.declared.rule.Rule.TheVariants.{V3, V4, V6, V8, V9, V10, V11, V13}
 use Rattle.code_rules.proofs.Examples.{with_tables, judged, verdicts, judged_to}
 
@@ -40,8 +40,8 @@ each_item_accepted = refl
 budget_of_each_item : budget each_item ≡ record { steps = 3 ∷ 5 ∷ []; bytes = 0 ∷ 2 ∷ [] }
 budget_of_each_item = refl
 
-plain_budget_of_each_item : plain_budget each_item ≡ record { steps = 3 ∷ 5 ∷ []; bytes = 0 ∷ 1 ∷ 1 ∷ [] }
-plain_budget_of_each_item = refl
+coarse_budget_of_each_item : coarse_budget each_item ≡ record { steps = 3 ∷ 5 ∷ []; bytes = 0 ∷ 1 ∷ 1 ∷ [] }
+coarse_budget_of_each_item = refl
 
 run_of_each_item : Runs each_item a_and_b 13 (codes "a,b,")
 run_of_each_item = (
@@ -69,8 +69,8 @@ each_index_accepted = refl
 budget_of_each_index : budget each_index ≡ record { steps = 5 ∷ 12 ∷ []; bytes = 4 ∷ 23 ∷ [] }
 budget_of_each_index = refl
 
-plain_bytes_of_each_index : (plain_budget each_index).bytes ≡ 4 ∷ 22 ∷ 1 ∷ []
-plain_bytes_of_each_index = refl
+coarse_bytes_of_each_index : (coarse_budget each_index).bytes ≡ 4 ∷ 22 ∷ 1 ∷ []
+coarse_bytes_of_each_index = refl
 
 run_of_each_index : Runs each_index a_and_b 27 (codes "0:a;1:b")
 unfolding digits
@@ -108,8 +108,8 @@ each_pair_accepted = refl
 budget_of_each_pair : budget each_pair ≡ record { steps = 3 ∷ 3 ∷ 8 ∷ []; bytes = 0 ∷ 0 ∷ 2 ∷ 1 ∷ [] }
 budget_of_each_pair = refl
 
-plain_bytes_of_each_pair : (plain_budget each_pair).bytes ≡ 0 ∷ 0 ∷ 1 ∷ 2 ∷ []
-plain_bytes_of_each_pair = refl
+coarse_bytes_of_each_pair : (coarse_budget each_pair).bytes ≡ 0 ∷ 0 ∷ 1 ∷ 2 ∷ []
+coarse_bytes_of_each_pair = refl
 
 run_of_each_pair : Runs each_pair two_lists 25 (codes "1x 2x ")
 run_of_each_pair = (
@@ -132,8 +132,8 @@ each_part_accepted = refl
 budget_of_each_part : budget each_part ≡ record { steps = 3 ∷ 7 ∷ []; bytes = 0 ∷ 1 ∷ [] }
 budget_of_each_part = refl
 
-plain_budget_of_each_part : plain_budget each_part ≡ record { steps = 3 ∷ 3 ∷ 4 ∷ []; bytes = 0 ∷ 0 ∷ 0 ∷ 1 ∷ [] }
-plain_budget_of_each_part = refl
+coarse_budget_of_each_part : coarse_budget each_part ≡ record { steps = 3 ∷ 3 ∷ 4 ∷ []; bytes = 0 ∷ 0 ∷ 0 ∷ 1 ∷ [] }
+coarse_budget_of_each_part = refl
 
 run_of_each_part : Runs each_part (fields (member (codes "q") a_and_b no_members)) 14 (codes "ab")
 run_of_each_part = (

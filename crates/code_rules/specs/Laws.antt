@@ -146,28 +146,28 @@ PrintedKeepsValues = (ps : Polynomial) (n : ℕ) → value (as_printed ps) n ≡
 
 -- The budget by the size of all data alone: each item is as large as that, and each loop has as many turns.
 
-abbrev pub plain : Bound → Polynomial
-plain b = plus b.alone (times_size b.per)
+abbrev pub coarse : Bound → Polynomial
+coarse b = plus b.alone (times_size b.per)
 
 abbrev pub times_size_often : ℕ → Polynomial → Polynomial
 times_size_often zero ps = ps
 times_size_often (suc k) ps = times_size (times_size_often k ps)
 
-abbrev pub plain_total : (Cost → Bound) → StackCode → ℕ → Polynomial
-plain_total part code zero = []
-plain_total part code (suc index) =
-    plus (plain_total part code index)
-    (times_size_often (length (entry_at code index).nest) (plain (part (cost_at code index))))
+abbrev pub coarse_total : (Cost → Bound) → StackCode → ℕ → Polynomial
+coarse_total part code zero = []
+coarse_total part code (suc index) =
+    plus (coarse_total part code index)
+    (times_size_often (length (entry_at code index).nest) (coarse (part (cost_at code index))))
 
-abbrev pub plain_budget : StackCode → Budget
-plain_budget code = record {
-  steps = plain_total (λ c. c.steps) code (length code.instrs);
-  bytes = plain_total (λ c. c.bytes) code (length code.instrs);
+abbrev pub coarse_budget : StackCode → Budget
+coarse_budget code = record {
+  steps = coarse_total (λ c. c.steps) code (length code.instrs);
+  bytes = coarse_total (λ c. c.bytes) code (length code.instrs);
 }
 
 -- at each size the budget is at most that
 abbrev pub BudgetIsSharper : Type 0
 BudgetIsSharper =
     (code : StackCode) (n : ℕ) →
-    (value (budget code).steps n ≤ value (plain_budget code).steps n)
-    × (value (budget code).bytes n ≤ value (plain_budget code).bytes n)
+    (value (budget code).steps n ≤ value (coarse_budget code).steps n)
+    × (value (budget code).bytes n ≤ value (coarse_budget code).bytes n)

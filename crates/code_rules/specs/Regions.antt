@@ -11,10 +11,10 @@ use Rattle.code_rules.specs.Rules.{same_nest}
 -- what an instruction costs in the region of a nest, given the nest that it stands in and its cost: its cost, once for
 -- each turn of each loop between the two; nothing, where it isn't in the region
 abbrev pub share : StackCode → List ℕ → List ℕ → Cost → Cost
-share code region [] c = if same_nest region [] then c else no_cost
-share code region (opener ∷ nest) c =
-    if same_nest region (opener ∷ nest) then c
-    else share code region nest (cost_of_turns (goes_over_part code opener) c)
+share code outer [] c = if same_nest outer [] then c else no_cost
+share code outer (opener ∷ nest) c =
+    if same_nest outer (opener ∷ nest) then c
+    else share code outer nest (cost_of_turns (goes_over_part code opener) c)
 
 -- the cost of the region of a nest, of the instructions before an index
 abbrev pub region : StackCode → (ℕ → Entry) → List ℕ → ℕ → Cost

@@ -1,6 +1,7 @@
 -- The rules V1 to V12, at each instruction.
 use Rattle.std.specs.Prelude.{ℕ, zero, suc, nat_lt, nat_eq, Bool, true, false, not, ◌&&◌, ◌||◌, if◌then◌else◌, List, []}
-use Rattle.std.specs.Prelude.{◌∷◌, length, drop, map, Option, Some, None, slice_get}
+use Rattle.std.specs.Prelude.{◌∷◌, length, drop, map, Option, Some, None, slice_get, option_and_then}
+use Rattle.std.specs.Option.{option_map_or}
 use Rattle.std.specs.List.{list_any, list_all}
 use lib.Pointwise.{pointwise}
 use Rattle.helper_set.specs.Values.{same_kind}
@@ -21,17 +22,14 @@ abbrev pub is_valid_target : StackCode → ℕ → ℕ → Bool
 is_valid_target code index target = nat_lt index target && nat_lt target (length code.instrs)
 
 abbrev pub has_invalid_target : StackCode → ℕ → Option ℕ → Bool
-has_invalid_target code index None = false
-has_invalid_target code index (Some target) = not (is_valid_target code index target)
+has_invalid_target code index target = option_map_or (λ t. not (is_valid_target code index t)) target false
 
 abbrev pub is_target : Option ℕ → ℕ → Bool
-is_target None index = false
-is_target (Some target) index = nat_eq target index
+is_target target index = option_map_or (λ t. nat_eq t index) target false
 
 -- the instruction jumps to that index
 abbrev pub jumps : Option Instr → ℕ → Bool
-jumps None target = false
-jumps (Some i) target = is_target (target_of (flow i)) target
+jumps instr target = is_target (option_and_then (λ i. target_of (flow i)) instr) target
 
 -- the indices, below the first number, of the instructions that jump to the second, the last first
 abbrev pub jumps_among : StackCode → ℕ → ℕ → List ℕ
@@ -75,8 +73,7 @@ closes_wrongly f nest = false
 
 -- the loop that it names isn't one of that many open ones
 abbrev pub lacks_loop : Option ℕ → ℕ → Bool
-lacks_loop None count = false
-lacks_loop (Some k) count = not (nat_lt k count)
+lacks_loop named count = option_map_or (λ k. not (nat_lt k count)) named false
 
 -- the first of the rules up to V12 that an instruction with that index and that entry breaks, to which jumps from these
 -- nests go
@@ -102,8 +99,8 @@ broken_beyond [] zero = Some V1
 broken_beyond is index = None
 
 abbrev pub broken_where : StackCode → ℕ → List (List ℕ) → Option Instr → Entry → Option Rule
-broken_where code index sources None e = broken_beyond code.instrs index
-broken_where code index sources (Some i) e = broken_by code index sources i e
+broken_where code index sources instr e =
+    option_map_or (λ i. broken_by code index sources i e) instr (broken_beyond code.instrs index)
 
 -- the first of the rules up to V12 that is broken at an index, by a table
 abbrev pub broken : StackCode → (ℕ → Entry) → ℕ → Option Rule

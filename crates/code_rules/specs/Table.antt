@@ -1,5 +1,6 @@
 -- The table of code: for each instruction the loops that it is in, and the kinds of the slots before it.
-use Rattle.std.specs.Prelude.{◌≡◌, ℕ, zero, suc, List, [], ◌∷◌, drop, Option, Some, None, slice_get}
+use Rattle.std.specs.Prelude.{◌≡◌, ℕ, zero, suc, List, [], ◌∷◌, drop, Option, Some, slice_get}
+use Rattle.std.specs.Option.{option_map_or}
 use Rattle.helper_set.specs.declared.kind.Kind.{Kind}
 use Rattle.template_code.specs.Code.{StackCode}
 use Rattle.template_code.specs.Instructions.{flow, pushes, slots_after}
@@ -35,8 +36,7 @@ pub record IsTable (code : StackCode) (table : ℕ → Entry) : Type 0 where
       table (suc index) ≡ entry_after index i (table index)
 
 abbrev pub entry_next : ℕ → Option Instr → Entry → Entry
-entry_next index None e = e
-entry_next index (Some i) e = entry_after index i e
+entry_next index instr e = option_map_or (λ i. entry_after index i e) instr e
 
 -- the entries of the code's table: a law says that it is one, and that there is no other
 abbrev pub entry_at : StackCode → ℕ → Entry

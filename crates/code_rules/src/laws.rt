@@ -61,6 +61,6 @@ pub fn law_printed_polynomial_keeps_its_value()
 {}
 
 /// The budget is at most the one that takes each item for as large as all of the data.
-pub fn law_budget_is_at_most_the_plain_one()
+pub fn law_budget_is_at_most_the_coarse_one()
     ensures { BudgetIsSharper }
 {}

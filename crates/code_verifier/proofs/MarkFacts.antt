@@ -1,17 +1,19 @@
 -- A nest is known by its innermost loop; so a mark says whether all jumps to an instruction come from its nest.
-use Rattle.std.proofs.Common.{◌≡◌, ℕ, ◌<◌, Bool, true, false, true≢false, nat_eq, List, [], ◌∷◌, length, map, get_or}
+use Rattle.std.proofs.Common.{◌≡◌, ℕ, ◌<◌, Bool, true, false, true≢false, nat_eq, List, [], ◌∷◌, length, map}
 use Rattle.std.proofs.Common.{Option, Some, None, refl, sym, ap, ◌∙◌, arith}
-use Rattle.std.specs.Prelude.{◌&&◌, not, set, if◌then◌else◌}
+use Rattle.std.specs.Prelude.{◌&&◌, not, set, replicate, if◌then◌else◌}
 use Rattle.std.specs.List.{list_all}
 use Rattle.std.proofs.lemmas.Bool.Decides.{nat_tests}
-use Rattle.std.proofs.lemmas.List.{length-set, get_or-set_same, get_or-set_other}
+use Rattle.std.proofs.lemmas.List.{length-set, get_or-set_same, get_or-set_other, get_or-replicate}
+use Rattle.std.proofs.lemmas.Option.{unwrap_or-slice_get}
 use Rattle.loop_law.proofs.Nests.{same-refl}
 use Rattle.template_code.specs.Code.{StackCode}
 use Rattle.code_rules.specs.Costs.{is_empty}
 use Rattle.code_rules.specs.Rules.{is_target, jumps_among, same_nest}
 use Rattle.code_rules.specs.Table.{entry_at}
 use Rattle.code_rules.proofs.NestFacts.{opener-nest}
-use Rattle.code_verifier.specs.Inner.Marks.{innermost, same_loop, with_jump, mark_of, agrees, is_marked, with_target}
+use Rattle.code_verifier.specs.Inner.Marks.{innermost, same_loop, with_jump, mark_of, agrees, is_marked, mark_at}
+use Rattle.code_verifier.specs.Inner.Marks.{with_target}
 use Rattle.code_verifier.specs.declared.targets.Mark.{Mark}
 use Rattle.code_verifier.specs.declared.targets.Mark.TheVariants.{Unmarked, From, Mixed}
 
@@ -108,10 +110,25 @@ pub marked-some : (nests : List (List ℕ)) → is_marked (mark_of nests) ≡ no
 marked-some [] = refl
 marked-some (nest ∷ nests) = marked-next (innermost nest) (mark_of nests)
 
+pub mark_at-replicate : (n index : ℕ) → index < n → mark_at (replicate n Unmarked) index ≡ Unmarked
+mark_at-replicate n index lt =
+    unwrap_or-slice_get (replicate n Unmarked) index Unmarked ∙ get_or-replicate n index Unmarked Unmarked lt
+
+mark_at-set_same : (marks : List Mark) (index : ℕ) (mark : Mark) → index < length marks →
+    mark_at (set marks index mark) index ≡ mark
+mark_at-set_same marks index mark lt =
+    unwrap_or-slice_get (set marks index mark) index Unmarked ∙ get_or-set_same marks index mark Unmarked lt
+
+mark_at-set_other : (marks : List Mark) (t index : ℕ) (mark : Mark) → (index ≡ t → ⊥) →
+    mark_at (set marks t mark) index ≡ mark_at marks index
+mark_at-set_other marks t index mark other =
+    unwrap_or-slice_get (set marks t mark) index Unmarked
+    ∙ (get_or-set_other marks t index mark Unmarked other ∙ sym (unwrap_or-slice_get marks index Unmarked))
+
 -- one more instruction, and where it jumps to
 pub mark-next : (code : StackCode) (index target : ℕ) (marks : List Mark) (jump : Option ℕ) → target < length marks →
-    get_or marks target Unmarked ≡ mark_of (nests_of code (jumps_among code index target)) →
-    get_or (with_target jump (innermost (entry_at code index).nest) marks) target Unmarked
+    mark_at marks target ≡ mark_of (nests_of code (jumps_among code index target)) →
+    mark_at (with_target jump (innermost (entry_at code index).nest) marks) target
     ≡ mark_of (nests_of code
     (if is_target jump target then index ∷ jumps_among code index target else jumps_among code index target))
 mark-next code index target marks None lt h = h
@@ -121,16 +138,16 @@ mark-next code index target marks (Some t) lt h = by (nat_eq t target) refl
     from = innermost (entry_at code index).nest
 
     new : ℕ → Mark
-    new n = with_jump from (get_or marks n Unmarked)
+    new n = with_jump from (mark_at marks n)
 
-    by : (b : Bool) → nat_eq t target ≡ b → get_or (set marks t (new t)) target Unmarked
+    by : (b : Bool) → nat_eq t target ≡ b → mark_at (set marks t (new t)) target
         ≡ mark_of (nests_of code (if b then index ∷ jumps_among code index target else jumps_among code index target))
     by true at = let same : t ≡ target = grind (arith, nat_tests, at) in
-        ap (λ n. get_or (set marks n (new n)) target Unmarked) same
-        ∙ (get_or-set_same marks target (new target) Unmarked lt ∙ ap (with_jump from) h)
-    by false at = get_or-set_other marks t target (new t) Unmarked
+        ap (λ n. mark_at (set marks n (new n)) target) same
+        ∙ (mark_at-set_same marks target (new target) lt ∙ ap (with_jump from) h)
+    by false at = mark_at-set_other marks t target (new t)
         (λ same. true≢false (sym (same_index t) ∙ (ap (nat_eq t) (sym same) ∙ at))) ∙ h
 
 pub length-with_target : (jump l : Option ℕ) (marks : List Mark) → length (with_target jump l marks) ≡ length marks
 length-with_target None l marks = refl
-length-with_target (Some t) l marks = length-set marks t (with_jump l (get_or marks t Unmarked))
+length-with_target (Some t) l marks = length-set marks t (with_jump l (mark_at marks t))

@@ -1,11 +1,11 @@
 -- What the pass knows before an instruction, and what it knows after it.
 use Rattle.std.proofs.Common.{◌≡◌, ℕ, zero, suc, ◌<◌, ◌≤◌, Bool, true, false, true≢false, nat_eq, List, [], ◌∷◌, length, map}
-use Rattle.std.proofs.Common.{get_or, Option, Some, None, refl, sym, ap, ◌∙◌, subst, ⊎_elim, arith}
+use Rattle.std.proofs.Common.{Option, Some, None, refl, sym, ap, ◌∙◌, subst, ⊎_elim, arith}
 use Rattle.std.specs.Prelude.{min, replicate, slice_get, not, ◌&&◌, if◌then◌else◌}
 use Rattle.std.specs.List.{list_all}
 use Rattle.std.proofs.Math.Nat.{eq-or-lt_of_le}
 use Rattle.std.proofs.lemmas.Option.{none-some, same_Some, slice_get_past, slice_get_within}
-use Rattle.std.proofs.lemmas.List.{length-replicate, get_or-replicate}
+use Rattle.std.proofs.lemmas.List.{length-replicate}
 use Rattle.std.proofs.lemmas.Bool.{cases_lt}
 use Rattle.template_code.specs.Code.{StackCode, IsTyped}
 use Rattle.template_code.specs.Instructions.{flow, target_of, is_misplaced, pushes, slots_after}
@@ -27,7 +27,7 @@ use Rattle.code_rules.proofs.MachineFacts.{Keeps, keeps}
 use Rattle.code_rules.proofs.RegionFacts.{bounds_at-next}
 use Rattle.code_rules.proofs.TableFacts.{entry_at-next, IsTable-entry_at, verdict-same}
 use Rattle.code_rules.proofs.ViolationFacts.{violation_or_accepted}
-use Rattle.code_verifier.specs.Inner.Marks.{innermost, mark_of, agrees, is_marked, with_target}
+use Rattle.code_verifier.specs.Inner.Marks.{innermost, mark_of, agrees, is_marked, mark_at, with_target}
 use Rattle.code_verifier.specs.Inner.Pass.{nest_of, broken_parts, broken_seen, takes_part, loops_after, cost_after}
 use Rattle.code_verifier.specs.Inner.Pass.{own_cost, all_fits, judged}
 use Rattle.code_verifier.specs.Inner.Slots.{kinds_of, bounds_of}
@@ -38,7 +38,8 @@ use Rattle.code_verifier.specs.declared.targets.Mark.{Mark}
 use Rattle.code_verifier.specs.declared.targets.Mark.TheVariants.{Unmarked}
 use Rattle.code_verifier.proofs.BoundFacts.{fits-top}
 use Rattle.code_verifier.proofs.LoopFacts.{AreOpen, open-nest, own-is, loops-next, cost-after, fits-after}
-use Rattle.code_verifier.proofs.MarkFacts.{agrees-all, marked-some, mark-next, length-with_target}
+use Rattle.code_verifier.proofs.MarkFacts.{agrees-all, marked-some, mark_at-replicate, mark-next}
+use Rattle.code_verifier.proofs.MarkFacts.{length-with_target}
 
 abbrev mark_among : StackCode → ℕ → ℕ → Mark
 mark_among code index target = mark_of (map (λ source. (entry_at code source).nest) (jumps_among code index target))
@@ -52,7 +53,7 @@ pub record IsKnown (code : StackCode) (index : ℕ) (slots : List Slot) (loops :
   pub clean : (earlier : ℕ) → earlier < index → verdict code (entry_at code) earlier ≡ None
   pub early : index ≤ MAX_INSTRUCTIONS
   pub room : length marks ≡ min (length code.instrs) (suc MAX_INSTRUCTIONS)
-  pub marked : (target : ℕ) → target < length marks → get_or marks target Unmarked ≡ mark_among code index target
+  pub marked : (target : ℕ) → target < length marks → mark_at marks target ≡ mark_among code index target
   pub typed : (earlier : ℕ) (i : Instr) → earlier < index → slice_get code.instrs earlier ≡ Some i → IsTyped i
 
 pub known-start : (code : StackCode) (indices : ℕ) (slots : List Slot) (loops : List OpenLoop) (marks : List Mark)
@@ -68,8 +69,8 @@ known-start code indices slots loops marks spent s l p t c =
       clean = λ earlier lt. absurd (omega (arith, lt));
       early = omega arith;
       room = len ∙ p;
-      marked = λ target lt. ap (λ ts. get_or ts target Unmarked) t
-          ∙ get_or-replicate indices target Unmarked Unmarked (omega (arith, lt, len));
+      marked = λ target lt. ap (λ ts. mark_at ts target) t
+          ∙ mark_at-replicate indices target (omega (arith, lt, len));
       typed = λ earlier i lt h. absurd (omega (arith, lt));
     }
 
@@ -129,7 +130,7 @@ module _ (code : StackCode) (index : ℕ) (i : Instr) (slots : List Slot) (loops
       ∙ ap (λ b. not (list_all bound_fits pushed && b))
       (fits-after code index own (takes_part slots) (flow i) loops k.loops_open own-region))
 
-  pub judged-verdict : (mark : Mark) (rule : Option Rule) → mark ≡ get_or marks index Unmarked →
+  pub judged-verdict : (mark : Mark) (rule : Option Rule) → mark ≡ mark_at marks index →
       index < length code.instrs → rule ≡ judged code index i mark loops slots spent →
       verdict code (entry_at code) index ≡ rule
   judged-verdict mark rule m lt r =
@@ -168,7 +169,7 @@ module _ (code : StackCode) (index : ℕ) (i : Instr) (slots : List Slot) (loops
         room = len ∙ k.room;
         marked = λ target lt.
             let less : target < length marks = omega (arith, lt, len) in
-            ap (λ ts. get_or ts target Unmarked) from
+            ap (λ ts. mark_at ts target) from
             ∙ (mark-next code index target marks (target_of (flow i)) less (k.marked target less)
             ∙ ap (λ o. mark_of (map (λ source. (entry_at code source).nest)
             (if jumps o target then index ∷ jumps_among code index target else jumps_among code index target)))

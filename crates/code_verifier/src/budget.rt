@@ -41,7 +41,8 @@ impl Budget {
     pub fn at(&self, size: u64) -> Option<(u128, u128)>
         ensures steps { IfSome result (λ at. at.0 ≡ value self.now.steps size) }
         ensures bytes { IfSome result (λ at. at.1 ≡ value self.now.bytes size) }
-        ensures none { IsNone result ↔ ((2 ^ 128 ≤ value self.now.steps size) ⊎ (2 ^ 128 ≤ value self.now.bytes size)) }
+        ensures none { IsNone result
+            ↔ ((2 ^ 128 ≤ value self.now.steps size) ⊎ (2 ^ 128 ≤ value self.now.bytes size)) }
     {
         let steps = self.steps.value_at(size)?;
         let bytes = self.bytes.value_at(size)?;
@@ -50,8 +51,8 @@ impl Budget {
 
     // The cost of all of the code, as it is printed. Outside of loops nothing depends on an item.
     pub(crate) fn of_whole(whole: Cost) -> Result<Budget, AllocError>
-        ensures { IfOk result (λ budget.
-            budget ≡ record { steps = as_printed whole.steps.alone; bytes = as_printed whole.bytes.alone }) }
+        ensures { IfOk result (λ budget. budget ≡
+            record { steps = as_printed whole.steps.alone; bytes = as_printed whole.bytes.alone }) }
     {
         Ok(Budget {
             steps: whole.steps.into_alone().into_printed()?,

@@ -49,7 +49,8 @@ impl Cost {
     /// The cost with one more step, which writes that many bytes; none if a coefficient is too large.
     pub fn with_step(&self, alloc: Global, written: &Bound) -> Result<Option<Cost>, AllocError>
         ensures { IfOk result (λ sum.
-            sum ≡ cost_within (plus_cost self.now (record { steps = at_most 1; bytes = written.now }))) }
+            sum ≡ cost_within
+            (plus_cost self.now (record { steps = at_most 1; bytes = written.now }))) }
     {
         let one = Bound::at_most(alloc, 1)?;
         let steps = self.steps.plus(alloc, &one)?;

@@ -30,7 +30,8 @@ pub fn pushed_bound(
     instr: Instr,
     stack: &Stack,
 ) -> Result<Option<Bound>, AllocError>
-    ensures { IfOk result (λ bound. bound ≡ bound_within (top (pushed_bounds code.now instr (bounds_of stack.now)))) }
+    ensures { IfOk result
+        (λ bound. bound ≡ bound_within (top (pushed_bounds code.now instr (bounds_of stack.now)))) }
 {
     match instr {
         Instr::Root(_) | Instr::Key(_) => Ok(Some(Bound::all_data(alloc)?)),
@@ -77,9 +78,11 @@ pub fn own_cost(
 
 /// Changes the stack as an instruction does; the slot that it pushes, if it pushes one, has that bound.
 pub fn apply_effect(instr: Instr, bound: Bound, stack: &mut Stack) -> Result<(), AllocError>
-    ensures kinds { OnOk result (kinds_of stack.new ≡ slots_after instr (pushes instr) (kinds_of stack.old)) }
+    ensures kinds { OnOk result
+        (kinds_of stack.new ≡ slots_after instr (pushes instr) (kinds_of stack.old)) }
     ensures bounds { OnOk result
-        (bounds_of stack.new ≡ slots_after instr (bound_each bound (pushes instr)) (bounds_of stack.old)) }
+        (bounds_of stack.new
+        ≡ slots_after instr (bound_each bound (pushes instr)) (bounds_of stack.old)) }
 {
     stack.pop_many(instr.popped().count());
     if !instr.flow().goes_on() {
@@ -101,7 +104,8 @@ fn item_bound(
     _stack: &Stack,
 ) -> Result<Option<Bound>, AllocError>
     ensures { IfOk result
-        (λ bound. bound ≡ bound_within (top (pushed_bounds _code.now (Item depth _path) (bounds_of _stack.now)))) }
+        (λ bound. bound ≡ bound_within
+        (top (pushed_bounds _code.now (Item depth _path) (bounds_of _stack.now)))) }
 {
     if depth == 0 {
         Ok(Some(Bound::item_data(alloc)?))
@@ -123,7 +127,8 @@ fn text_bound(alloc: Global, code: &Code, text: usize) -> Result<Option<Bound>, 
 
 // The length of the text that a helper's result prints as, at most; none if a coefficient is too large.
 fn helper_bound(alloc: Global, helper: Helper, stack: &Stack) -> Result<Option<Bound>, AllocError>
-    ensures { IfOk result (λ bound. bound ≡ bound_within (helper_bound helper (bounds_of stack.now))) }
+    ensures { IfOk result
+        (λ bound. bound ≡ bound_within (helper_bound helper (bounds_of stack.now))) }
 {
     let signature = signature(helper);
     match signature.gives {
@@ -158,7 +163,8 @@ fn scaled(
     stack: &Stack,
 ) -> Result<Option<Bound>, AllocError>
     ensures { IfOk result (λ bound. bound
-        ≡ bound_within (times_bound count (sum_of (take (if has_two then 2 else 1) (bounds_of stack.now))))) }
+        ≡ bound_within
+        (times_bound count (sum_of (take (if has_two then 2 else 1) (bounds_of stack.now))))) }
 {
     if count == 0 {
         return Ok(Some(Bound::zero(alloc)));
@@ -172,7 +178,8 @@ fn scaled(
 // The sum of the bounds of the one slot or the two at the top.
 fn argument_bounds(alloc: Global, has_two: bool, stack: &Stack) -> Result<Option<Bound>, AllocError>
     ensures { IfOk result
-        (λ sum. sum ≡ bound_within (sum_of (take (if has_two then 2 else 1) (bounds_of stack.now)))) }
+        (λ sum. sum
+        ≡ bound_within (sum_of (take (if has_two then 2 else 1) (bounds_of stack.now)))) }
 {
     let empty = Bound::zero(alloc);
     if !has_two {
@@ -191,7 +198,8 @@ fn plus_bound(
     depth: usize,
     other: &Bound,
 ) -> Result<Option<Bound>, AllocError>
-    ensures { IfOk result (λ sum. sum ≡ bound_within (plus_bound (top (drop depth (bounds_of stack.now))) other.now)) }
+    ensures { IfOk result (λ sum. sum
+        ≡ bound_within (plus_bound (top (drop depth (bounds_of stack.now))) other.now)) }
 {
     match stack.slot(depth) {
         None => Bound::zero(alloc).plus(alloc, other),

@@ -84,7 +84,8 @@ impl Loops {
 
     /// Takes the innermost loop.
     pub fn close(&mut self) -> Option<OpenLoop>
-        ensures { MatchOption result ((self.old ≡ []) × (self.new ≡ [])) (λ inner. self.old ≡ inner ∷ self.new) }
+        ensures { MatchOption result ((self.old ≡ []) × (self.new ≡ []))
+            (λ inner. self.old ≡ inner ∷ self.new) }
     {
         self.loops.pop()
     }

@@ -1,15 +1,14 @@
 //! The pass over the code.
-ghost use Rattle.std.specs.Prelude.{◌≡◌, ◌<◌, true, get_or, length, IfOk, OnOk, IsNone};
+ghost use Rattle.std.specs.Prelude.{◌≡◌, ◌<◌, true, length, IfOk, OnOk, IsNone};
 ghost use Rattle.template_code.specs.Code.{IsTyped};
 ghost use Rattle.template_code.specs.Instructions.{flow, target_of, pushes, slots_after};
 ghost use Rattle.code_rules.specs.Costs.{cost_fits, bounds_after};
 ghost use Rattle.code_verifier.specs.Inner.Finding.{IsFindingOf};
 ghost use Rattle.code_verifier.specs.Inner.Limited.{cost_within};
-ghost use Rattle.code_verifier.specs.Inner.Marks.{innermost, with_target};
+ghost use Rattle.code_verifier.specs.Inner.Marks.{innermost, mark_at, with_target};
 ghost use Rattle.code_verifier.specs.Inner.Pass.{nest_of, takes_part, loops_after, cost_after, own_cost, all_fits};
 ghost use Rattle.code_verifier.specs.Inner.Pass.{judged};
 ghost use Rattle.code_verifier.specs.Inner.Slots.{kinds_of, bounds_of};
-ghost use Rattle.code_verifier.specs.declared.targets.Mark.TheVariants.{Unmarked};
 
 use crate::budget::Budget;
 use crate::cost::Cost;
@@ -82,19 +81,21 @@ fn judge(
 ) -> Result<Option<Rule>, AllocError>
     requires inside { index < length code.now.instrs }
     ensures rule { IfOk result (λ rule. rule
-        ≡ judged code.now index instr (get_or known.old.targets index Unmarked) known.old.loops known.old.stack
-        known.old.cost) }
+        ≡ judged code.now index instr (mark_at known.old.targets index) known.old.loops
+        known.old.stack known.old.cost) }
     ensures kinds { IfOk result (λ rule. IsNone rule →
         kinds_of known.new.stack ≡ slots_after instr (pushes instr) (kinds_of known.old.stack)) }
     ensures bounds { IfOk result (λ rule. IsNone rule →
         bounds_of known.new.stack ≡ bounds_after code.now instr (bounds_of known.old.stack)) }
     ensures targets { IfOk result (λ rule. IsNone rule → known.new.targets
-        ≡ with_target (target_of (flow instr)) (innermost (nest_of known.old.loops)) known.old.targets) }
+        ≡ with_target (target_of (flow instr)) (innermost (nest_of known.old.loops))
+        known.old.targets) }
     ensures loops { IfOk result (λ rule. IsNone rule → known.new.loops
         ≡ loops_after (flow instr) index (takes_part known.old.stack)
         (own_cost code.now instr known.old.stack known.old.cost) known.old.loops) }
     ensures cost { IfOk result (λ rule. IsNone rule → known.new.cost
-        ≡ cost_after (flow instr) known.old.loops (own_cost code.now instr known.old.stack known.old.cost)) }
+        ≡ cost_after (flow instr) known.old.loops
+        (own_cost code.now instr known.old.stack known.old.cost)) }
     ensures typed { IsTyped instr }
 {
     check_type(instr);
@@ -124,12 +125,14 @@ fn go_on(
     ensures bounds { IfOk result (λ fit. fit ≡ true →
         bounds_of known.new.stack ≡ bounds_after code.now instr (bounds_of known.old.stack)) }
     ensures targets { IfOk result (λ fit. fit ≡ true → known.new.targets
-        ≡ with_target (target_of (flow instr)) (innermost (nest_of known.old.loops)) known.old.targets) }
+        ≡ with_target (target_of (flow instr)) (innermost (nest_of known.old.loops))
+        known.old.targets) }
     ensures loops { IfOk result (λ fit. fit ≡ true → known.new.loops
         ≡ loops_after (flow instr) index (takes_part known.old.stack)
         (own_cost code.now instr known.old.stack known.old.cost) known.old.loops) }
     ensures cost { IfOk result (λ fit. fit ≡ true → known.new.cost
-        ≡ cost_after (flow instr) known.old.loops (own_cost code.now instr known.old.stack known.old.cost)) }
+        ≡ cost_after (flow instr) known.old.loops
+        (own_cost code.now instr known.old.stack known.old.cost)) }
 {
     let bound = match pushed_bound(alloc, code, instr, &known.stack)? {
         None => return Ok(false),
@@ -182,7 +185,8 @@ fn change_loops(
 
 // Marks where an instruction jumps to.
 fn mark_target(instr: Instr, loops: &Loops, targets: &mut Targets)
-    ensures { targets.new ≡ with_target (target_of (flow instr)) (innermost (nest_of loops.now)) targets.old }
+    ensures { targets.new
+        ≡ with_target (target_of (flow instr)) (innermost (nest_of loops.now)) targets.old }
 {
     if let Some(target) = instr.flow().target() {
         targets.add_jump(target, loops.innermost());

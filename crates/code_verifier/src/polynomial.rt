@@ -1,5 +1,5 @@
 //! Polynomials with coefficients of 64 bits.
-ghost use Rattle.std.specs.Prelude.{◌≡◌, ◌+◌, ◌*◌, ◌≤◌, ◌^◌, ◌↔◌, cond, nat_le, [], ◌∷◌, Some, None, slice_index};
+ghost use Rattle.std.specs.Prelude.{◌≡◌, ◌+◌, ◌*◌, ◌≤◌, ◌^◌, ◌↔◌, if◌then◌else◌, nat_le, [], ◌∷◌, Some, None, slice_index};
 ghost use Rattle.std.specs.Prelude.{IfOk, IfSome, IsNone};
 ghost use Rattle.std.specs.Option.{option_map};
 ghost use Rattle.code_rules.specs.Polynomial.{constant, plus, times, times_size, fits, value, as_printed};
@@ -134,7 +134,8 @@ pub fn is_within_limit(coefficient: u64) -> bool
 
 // The sum, coefficient by coefficient; none if one is too large.
 fn sum(alloc: Global, left: &[u64], right: &[u64]) -> Result<Option<Vec<u64>>, AllocError>
-    ensures { IfOk result (λ sum. option_map (λ v. v.items) sum ≡ within (plus left.now right.now)) }
+    ensures { IfOk result
+        (λ sum. option_map (λ v. v.items) sum ≡ within (plus left.now right.now)) }
 {
     let mut sum = Vec::new(alloc);
     for index in 0..left.len().max(right.len()) {
@@ -148,7 +149,8 @@ fn sum(alloc: Global, left: &[u64], right: &[u64]) -> Result<Option<Vec<u64>>, A
 
 // The sum of two coefficients, unless it is too large.
 fn limited_sum(left: u64, right: u64) -> Option<u64>
-    ensures { result ≡ cond (nat_le (left + right) MAX_COEFFICIENT) (Some (left + right)) None }
+    ensures { result
+        ≡ (if nat_le (left + right) MAX_COEFFICIENT then Some (left + right) else None) }
 {
     match left.checked_add(right) {
         Some(both) if both <= MAX_COEFFICIENT => Some(both),

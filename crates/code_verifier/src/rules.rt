@@ -91,7 +91,8 @@ fn kinds_fit(instr: Instr, stack: &Stack) -> bool
 
 // Whether the slot at that depth below the top has an accepted kind, if there is one.
 fn accepts(parameter: Parameter, stack: &Stack, depth: usize) -> bool
-    ensures { result ≡ kinds_fit (parameter_kinds parameter ∷ []) (drop depth (kinds_of stack.now)) }
+    ensures { result
+        ≡ kinds_fit (parameter_kinds parameter ∷ []) (drop depth (kinds_of stack.now)) }
 {
     match stack.slot(depth) {
         None => true,
@@ -102,7 +103,8 @@ fn accepts(parameter: Parameter, stack: &Stack, depth: usize) -> bool
 // Whether an instruction that finds the slots that it pops leaves too many.
 fn overfills(instr: Instr, stack: &Stack) -> bool
     requires { lacks_slots (pops instr) (kinds_of stack.now) ≡ false }
-    ensures { result ≡ nat_lt MAX_SLOTS (length (slots_after instr (pushes instr) (kinds_of stack.now))) }
+    ensures { result
+        ≡ nat_lt MAX_SLOTS (length (slots_after instr (pushes instr) (kinds_of stack.now))) }
 {
     let left = stack.depth() - instr.popped().count();
     let limit = match instr.pushed() {
@@ -127,7 +129,8 @@ fn leaves_slots(instr: Instr, stack: &Stack) -> bool
 }
 
 fn opens_too_many(_index: usize, instr: Instr, loops: &Loops) -> bool
-    ensures { result ≡ nat_lt MAX_LOOPS (length (nest_after (flow instr) _index (nest_of loops.now))) }
+    ensures { result
+        ≡ nat_lt MAX_LOOPS (length (nest_after (flow instr) _index (nest_of loops.now))) }
 {
     let depth = loops.depth();
     match instr.flow() {

@@ -60,7 +60,8 @@ impl Stack {
 
     /// The slot at the top.
     pub fn top(&self) -> Option<&Slot>
-        ensures { MatchOption result (self.now ≡ []) (λ slot. (below : List Slot) × (self.now ≡ slot.now ∷ below)) }
+        ensures { MatchOption result (self.now ≡ [])
+            (λ slot. (below : List Slot) × (self.now ≡ slot.now ∷ below)) }
     {
         self.slots.last()
     }

@@ -1,6 +1,6 @@
 //! The targets of jumps.
-ghost use Rattle.std.specs.Prelude.{◌≡◌, get_or, set, replicate, IfOk};
-ghost use Rattle.code_verifier.specs.Inner.Marks.{same_loop, with_jump, agrees, is_marked};
+ghost use Rattle.std.specs.Prelude.{◌≡◌, set, replicate, IfOk};
+ghost use Rattle.code_verifier.specs.Inner.Marks.{same_loop, with_jump, agrees, is_marked, mark_at};
 ghost use Rattle.code_verifier.specs.declared.targets.Mark.TheVariants.{Unmarked};
 
 use std::alloc::{AllocError, Global};
@@ -86,7 +86,7 @@ impl Targets {
 
     /// Marks an index as the target of a jump, if there is a mark for it.
     pub fn add_jump(&mut self, target: usize, from: Option<usize>)
-        ensures { self.new ≡ set self.old target (with_jump from (get_or self.old target Unmarked)) }
+        ensures { self.new ≡ set self.old target (with_jump from (mark_at self.old target)) }
     {
         if target < self.marks.len() {
             self.marks[target] = self.marks[target].with_jump(from);
@@ -94,7 +94,7 @@ impl Targets {
     }
 
     pub fn mark_at(&self, index: usize) -> Mark
-        ensures { result ≡ get_or self.now index Unmarked }
+        ensures { result ≡ mark_at self.now index }
     {
         self.marks.get(index).copied().unwrap_or(Mark::Unmarked)
     }

@@ -16,7 +16,8 @@ pub fn verify(alloc: Global, code: Code) -> Result<Verified, VerifyError>
     ensures same { IfOk result (λ verified. verified ≡ code) }
     ensures accepted { OnOk result (IsWellFormed code × IsWithinLimits code) }
     ensures reported { IfErr result (λ error. IsVerifyErrorOf code error) }
-    ensures only { IsWellFormed code → IsWithinLimits code → IfErr result (λ error. error ≡ OutOfMemory code) }
+    ensures only { IsWellFormed code → IsWithinLimits code →
+        IfErr result (λ error. error ≡ OutOfMemory code) }
 {
     match pass(alloc, &code) {
         Ok(Finding::Accepted { budget }) => Ok(Verified::new(code, budget)),

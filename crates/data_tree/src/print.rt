@@ -152,7 +152,8 @@ fn write_text(text: &str, alloc: Global, out: &mut Draft) -> Result<(), AllocErr
     out.push("\"")
 }
 
-fn is_plain(text: &str) -> bool
+/// Whether the text has no byte that is to be escaped.
+pub(crate) fn is_plain(text: &str) -> bool
     ensures { OnTrue result (escape text.now ≡ text.now) }
 {
     text.as_bytes().iter().all(|byte| is_plain_byte(*byte))

@@ -1,5 +1,5 @@
 // The root of what a template sees, within its limit.
-ghost use Rattle.std.specs.Prelude.{◌≤◌};
+ghost use Rattle.std.specs.Prelude.{◌≡◌, ◌≤◌};
 ghost use Rattle.data_tree.specs.Tree.{view};
 ghost use Rattle.data_tree.specs.Json.{size};
 ghost use Rattle.data_tree.specs.LookUp.{EmptyNameFindsNothing};
@@ -18,6 +18,9 @@ pub const SIZE_LIMIT: u64 = 16_777_216;
 #[derive(Debug, Drop)]
 pub struct RequestData {
     root: Data,
+    /// The size of the root, which is counted once.
+    root_size: u64,
+    ghost sized: { root_size ≡ size (view root) },
     ghost within_limit: { size (view root) ≤ SIZE_LIMIT },
     ghost well_formed: { IsWellFormed (view root) } by { IsWellFormed-prop (view root) },
     ghost no_empty_name: { EmptyNameFindsNothing (view root) },
@@ -48,10 +51,18 @@ impl RequestData {
             (λ made. (root_of made ≡ view root) × (size (view root) ≤ SIZE_LIMIT))
             (λ error. (error ≡ DataError.TooLarge root) × (SIZE_LIMIT < size (view root))) }
     {
-        if root.size() > SIZE_LIMIT {
+        let root_size = root.size();
+        if root_size > SIZE_LIMIT {
             return Err(DataError::TooLarge(root));
         }
-        Ok(RequestData { root })
+        Ok(RequestData { root, root_size })
+    }
+
+    /// The size of the value. It was counted when the value was taken over.
+    pub fn size(&self) -> u64
+        ensures { result ≡ size (root_of self.now) }
+    {
+        self.root_size
     }
 
     /// The value.

@@ -6,6 +6,7 @@ ghost use Rattle.data_tree.specs.Json.{json, size, items_json, members_json};
 ghost use Rattle.data_tree.specs.Capped.{capped};
 
 use crate::data::Data;
+use crate::print::is_plain;
 use itoa::Buffer;
 
 impl Data {
@@ -76,8 +77,17 @@ fn members_len(members: &Vec<(String, Data)>) -> u64
     len
 }
 
-// With the quotes.
+// With the quotes. In most texts nothing is to be escaped.
 fn quoted_len(text: &str) -> u64
+    ensures { result ≡ capped (length (quoted text.now)) }
+{
+    if is_plain(text) {
+        return (text.len() as u64).saturating_add(2);
+    }
+    escaped_text_len(text)
+}
+
+fn escaped_text_len(text: &str) -> u64
     ensures { result ≡ capped (length (quoted text.now)) }
 {
     let mut len = 2u64;

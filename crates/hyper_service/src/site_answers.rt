@@ -2,6 +2,7 @@
 ghost use Rattle.answering.specs.Answering.{IsAnswered};
 ghost use Rattle.shared_book.specs.Held.{Held};
 ghost use Rattle.stub_response.specs.declared.limits.Limits.{Limits};
+ghost use Rattle.template_tree.specs.declared.escape.Escape.{Escape};
 
 use answering::answer::answer;
 use answering::site::Site;
@@ -31,8 +32,8 @@ impl<L: Origin, G> SiteAnswers<L, G> {
 impl<L: Origin, G: Gate + Drop> Answers for SiteAnswers<L, G> {
     type Seat = Seat<L>;
 
-    ghost gives = { λ message response. (limits : Limits) × (old : Held) × (new : Held)
-        × IsAnswered L.origin limits old new message response };
+    ghost gives = { λ message response. (limits : Limits) × (escape : Escape) × (old : Held) × (new : Held)
+        × IsAnswered L.origin limits escape old new message response };
 
     fn answer<R: Wait>(
         &self,

@@ -9,6 +9,7 @@ use Rattle.mapping_model.specs.Priority.{priority_of}
 use Rattle.mapping_model.specs.declared.mapping_spec.MappingSpec.{MappingSpec}
 use Rattle.request_journal.specs.Past.{Placed, has_id, placed_from}
 use Rattle.request_journal.specs.declared.mapping.Mapping.{Mapping}
+use Rattle.request_parts.specs.Key.{key_of}
 use Rattle.live_mappings.specs.declared.entry.Entry.{Entry}
 use Rattle.live_mappings.specs.declared.entry.Source.{Source}
 use Rattle.live_mappings.specs.declared.entry.Source.TheVariants.{Own, Default}
@@ -42,6 +43,7 @@ IsSourceOf defaults spec (Default at) =
 -- what an entry keeps is that of its mapping
 pub record Fits (defaults : List Mapping) (e : Entry) : Type 0 where
   pub priority : e.priority ≡ priority_of e.seen.value.priority
+  pub key : e.key ≡ key_of e.seen.value.request.url
   pub source : IsSourceOf defaults e.seen.value e.source
 
 -- entries in the order of choice, each with an id of its own

@@ -1,12 +1,15 @@
 // A mapping of the book that is ready to be served.
 ghost use Rattle.std.specs.Prelude.{◌≡◌, ◌↔◌, IfOk, IsTrue};
+ghost use Rattle.mock_request.specs.Request.{Request};
 ghost use Rattle.request_match.specs.Matching.{MeetsRequest};
+ghost use Rattle.request_parts.specs.Key.{MayHave, key_of};
 
 use mapping_model::mapping_id::MappingId;
 use request_journal::mapping::Mapping;
 use request_match::parsed_request::ParsedRequest;
 use request_match::ready_mapping::ReadyMapping;
 use request_match::shared_spec::SharedSpec;
+use request_parts::url_key::UrlKey;
 use std::alloc::{AllocError, AllocFailed, Global};
 use std::marker::Model;
 
@@ -55,6 +58,14 @@ impl BookMapping {
         ensures { result.now ≡ self.now.spec }
     {
         self.ready.shared()
+    }
+
+    /// What its literal URL is known by.
+    pub fn key(&self) -> UrlKey
+        ensures value { result ≡ key_of self.now.spec.request.url }
+        ensures only { (request : Request) → MeetsRequest self.now.spec.request request → MayHave result request.url }
+    {
+        self.ready.matcher().key()
     }
 
     /// Shares the specification.

@@ -6,6 +6,7 @@ ghost use Rattle.live_mappings.specs.Kept.{order, placed_of, Fits};
 use crate::book_mapping::BookMapping;
 use mapping_model::mapping_id::MappingId;
 use mapping_model::mapping_spec::MappingSpec;
+use request_parts::url_key::UrlKey;
 use std::cmp::Ordering;
 use std::snapshot::Snapshot;
 
@@ -25,6 +26,9 @@ pub struct Entry {
     pub index: u64,
     pub id: MappingId,
     pub priority: i32,
+    /// What the literal URL of the mapping is known by, so that most requests for another one are told without a look at
+    /// its matcher.
+    pub key: UrlKey,
     pub source: Source,
     /// For contracts alone.
     pub seen: Snapshot<MappingSpec>,
@@ -38,6 +42,7 @@ impl Drop for Entry {
             index: _index,
             id: _id,
             priority: _priority,
+            key: _key,
             source: _source,
             seen: _seen,
         } = self;
@@ -56,6 +61,7 @@ impl Entry {
             index,
             id: mapping.id(),
             priority: spec.priority_number(),
+            key: mapping.key(),
             seen: Snapshot::of(spec),
             source: Source::Own(mapping),
         }
@@ -75,6 +81,7 @@ impl Entry {
             index: at as u64,
             id: default.id(),
             priority: spec.priority_number(),
+            key: default.key(),
             seen: Snapshot::of(spec),
             source: Source::Default(at),
         }

@@ -7,10 +7,11 @@ use Rattle.request_journal.specs.Past.{Past, opened}
 use Rattle.request_journal.specs.declared.event.ServeAnswer.{ServeAnswer}
 use Rattle.request_journal.specs.declared.event.ServeAnswer.TheVariants.{Stub, Proxy, Unmatched}
 use Rattle.stub_book.specs.Refusals.{IsFull}
+use Rattle.template_tree.specs.declared.escape.Escape.{Escape}
 use Rattle.mapping_answer.specs.Inner.Fresh.{IsFresh, IsOwn}
 
-pub has_room : (bytes : List ℕ) (past : Past) → IsFresh bytes past → ¬ (IsFull past)
-has_room bytes past (mappings, spelled, is, few) full =
+pub has_room : (escape : Escape) (bytes : List ℕ) (past : Past) → IsFresh escape bytes past → ¬ (IsFull past)
+has_room escape bytes past (mappings, spelled, is, few) full =
     let none : ¬ (IsFull (opened 0 mappings)) = λ f. absurd (omega (arith, f)) in
     none (subst IsFull is full)
 
@@ -20,7 +21,8 @@ own_answer mappings request (Stub captured) chosen = tt
 own_answer mappings request (Proxy target) chosen = chosen.1
 own_answer mappings request Unmatched chosen = tt
 
-pub is_own : (bytes : List ℕ) (past : Past) (request : Request) (answer : ServeAnswer) → IsFresh bytes past
+pub is_own : (escape : Escape) (bytes : List ℕ) (past : Past) (request : Request) (answer : ServeAnswer)
+    → IsFresh escape bytes past
     → IsChoice past request answer → IsOwn answer
-is_own bytes past request answer (mappings, spelled, is, few) chosen =
+is_own escape bytes past request answer (mappings, spelled, is, few) chosen =
     own_answer mappings request answer (subst (λ p. IsChoice p request answer) is chosen)

@@ -25,6 +25,7 @@ use Rattle.request_journal.specs.declared.limits.TheConstants.{LIVE_LIMIT}
 use Rattle.stub_response.specs.ErrorReply.{unmatched_reply}
 use Rattle.stub_response.specs.Response.{IsRendering, IsResponse}
 use Rattle.stub_response.specs.declared.limits.Limits.{Limits}
+use Rattle.template_tree.specs.declared.escape.Escape.{Escape}
 use Rattle.stub_response.specs.declared.limits.TheConstants.{STEP_LIMIT, BYTE_LIMIT}
 
 -- ---- a reply as it is printed
@@ -59,10 +60,11 @@ IsRequest method target request =
     (url : List ℕ) × IsTarget target url
     × (request ≡ record { method = method; url = url; headers = []; body = [] })
 
--- the reply to that request of a book that was just opened with the document's mappings
-pub record IsReply (bytes method target : List ℕ) (reply : Reply) : Type 0 where
+-- the reply to that request of a book that was just opened with the document's mappings, whose templates' prints are
+-- escaped so
+pub record IsReply (escape : Escape) (bytes method target : List ℕ) (reply : Reply) : Type 0 where
   pub mappings : List MappingSpec
-  pub document : SpellMappings bytes mappings
+  pub document : SpellMappings escape bytes mappings
   -- a book can be opened with them
   pub few : length (live (opened 0 mappings)) ≤ LIVE_LIMIT
   pub request : Request
@@ -72,72 +74,73 @@ pub record IsReply (bytes method target : List ℕ) (reply : Reply) : Type 0 whe
   pub replied : IsReplyBy answer request reply
 
 -- such a reply as it is printed
-abbrev pub IsReplyText : List ℕ → List ℕ → List ℕ → List ℕ → Type 0
-IsReplyText bytes method target text =
-    (reply : Reply) × IsReply bytes method target reply × (text ≡ reply_text reply)
+abbrev pub IsReplyText : Escape → List ℕ → List ℕ → List ℕ → List ℕ → Type 0
+IsReplyText escape bytes method target text =
+    (reply : Reply) × IsReply escape bytes method target reply × (text ≡ reply_text reply)
 
 -- ---- errors
 
 -- the document is no list of mappings, or one of them is none: this is the first error
-abbrev pub RefusesDocument : List ℕ → CommandError → Type 0
-RefusesDocument bytes error =
-    (e : MappingsError) × IsMappingsError bytes e × (error ≡ record { code = error_code_of e.error; at = None })
+abbrev pub RefusesDocument : Escape → List ℕ → CommandError → Type 0
+RefusesDocument escape bytes error =
+    (e : MappingsError) × IsMappingsError escape bytes e × (error ≡ record { code = error_code_of e.error; at = None })
 
 -- its mappings are more than may be live
-abbrev pub RefusesBook : List ℕ → CommandError → Type 0
-RefusesBook bytes error =
-    ((mappings : List MappingSpec) × SpellMappings bytes mappings × (LIVE_LIMIT < length (live (opened 0 mappings))))
+abbrev pub RefusesBook : Escape → List ℕ → CommandError → Type 0
+RefusesBook escape bytes error =
+    ((mappings : List MappingSpec) × SpellMappings escape bytes mappings × (LIVE_LIMIT < length (live (opened 0 mappings))))
     × (error ≡ record { code = ErrorCode.TooManyMappings; at = None })
 
 -- a book can be opened with the document's mappings
-abbrev pub HasBook : List ℕ → Type 0
-HasBook bytes =
-    (mappings : List MappingSpec) × SpellMappings bytes mappings × (length (live (opened 0 mappings)) ≤ LIVE_LIMIT)
+abbrev pub HasBook : Escape → List ℕ → Type 0
+HasBook escape bytes =
+    (mappings : List MappingSpec) × SpellMappings escape bytes mappings × (length (live (opened 0 mappings)) ≤ LIVE_LIMIT)
 
 -- the target asks for no URL
 abbrev pub RefusesUrl : List ℕ → CommandError → Type 0
 RefusesUrl target error = (¬ (HasUrl target)) × (error ≡ record { code = ErrorCode.BadUrl; at = None })
 
 -- the first error, where the document is judged first, then the book, then the target; memory may run out at any moment
-abbrev pub IsRefusal : List ℕ → List ℕ → CommandError → Type 0
-IsRefusal bytes target error =
-    RefusesDocument bytes error
-    ⊎ RefusesBook bytes error
-    ⊎ (HasBook bytes × RefusesUrl target error)
+abbrev pub IsRefusal : Escape → List ℕ → List ℕ → CommandError → Type 0
+IsRefusal escape bytes target error =
+    RefusesDocument escape bytes error
+    ⊎ RefusesBook escape bytes error
+    ⊎ (HasBook escape bytes × RefusesUrl target error)
     ⊎ (error ≡ out_of_memory)
 
 -- ---- the whole
 
 -- the whole reply was written
-abbrev pub ShowsReply : List ℕ → List ℕ → List ℕ → Option (List ℕ) → Option (List ℕ) → Type 0
-ShowsReply bytes method target old new =
-    (text : List ℕ) × IsReplyText bytes method target text × Appends old new text
+abbrev pub ShowsReply : Escape → List ℕ → List ℕ → List ℕ → Option (List ℕ) → Option (List ℕ) → Type 0
+ShowsReply escape bytes method target old new =
+    (text : List ℕ) × IsReplyText escape bytes method target text × Appends old new text
 
 -- the reply was begun, and the writer refused the rest
-abbrev pub BreaksReplyOff : List ℕ → List ℕ → List ℕ → Option (List ℕ) → Option (List ℕ) → Type 0
-BreaksReplyOff bytes method target old new =
-    (text : List ℕ) × IsReplyText bytes method target text × AppendsPart old new text
+abbrev pub BreaksReplyOff : Escape → List ℕ → List ℕ → List ℕ → Option (List ℕ) → Option (List ℕ) → Type 0
+BreaksReplyOff escape bytes method target old new =
+    (text : List ℕ) × IsReplyText escape bytes method target text × AppendsPart old new text
 
 -- an error was reported, as far as the writer took its line
-abbrev pub ReportsRefusal : List ℕ → List ℕ → Option (List ℕ) → Option (List ℕ) → Type 0
-ReportsRefusal bytes target old new =
-    (error : CommandError) × IsRefusal bytes target error × AppendsFront old new (error_line error)
+abbrev pub ReportsRefusal : Escape → List ℕ → List ℕ → Option (List ℕ) → Option (List ℕ) → Type 0
+ReportsRefusal escape bytes target old new =
+    (error : CommandError) × IsRefusal escape bytes target error × AppendsFront old new (error_line error)
 
 -- How an answer ends, by what standard output and standard error hold before and after it, and the exit status: the reply
 -- is on standard output (0), an error is on standard error (1), or standard output took a part of the reply (1). Each time
 -- the other of both is as it was.
-abbrev pub Answers : {O E : Type 0} → (O → Option (List ℕ)) → (E → Option (List ℕ)) → List ℕ → List ℕ → List ℕ
-    → O → O → E → E → ℕ → Type 0
-Answers out_holds err_holds bytes method target out out' err err' status =
-    ((status ≡ 0) × ShowsReply bytes method target (out_holds out) (out_holds out') × (err' ≡ err))
-    ⊎ ((status ≡ 1) × ReportsRefusal bytes target (err_holds err) (err_holds err') × (out' ≡ out))
-    ⊎ ((status ≡ 1) × BreaksReplyOff bytes method target (out_holds out) (out_holds out') × (err' ≡ err))
+abbrev pub Answers : {O E : Type 0} → (O → Option (List ℕ)) → (E → Option (List ℕ)) → Escape → List ℕ → List ℕ
+    → List ℕ → O → O → E → E → ℕ → Type 0
+Answers out_holds err_holds escape bytes method target out out' err err' status =
+    ((status ≡ 0) × ShowsReply escape bytes method target (out_holds out) (out_holds out') × (err' ≡ err))
+    ⊎ ((status ≡ 1) × ReportsRefusal escape bytes target (err_holds err) (err_holds err') × (out' ≡ out))
+    ⊎ ((status ≡ 1) × BreaksReplyOff escape bytes method target (out_holds out) (out_holds out') × (err' ≡ err))
 
 -- How `mock answer` ends: the file is read and the request answered, or an error in reading it is on standard error (1),
 -- as far as the writer took its line, and standard output is as it was. The file is known, or it isn't.
-abbrev pub AnswersFile : {O E : Type 0} → (O → Option (List ℕ)) → (E → Option (List ℕ)) → Option (List ℕ) → List ℕ
-    → List ℕ → List ℕ → O → O → E → E → ℕ → Type 0
-AnswersFile out_holds err_holds known path method target out out' err err' status =
-    ((bytes : List ℕ) × IsFile known bytes × Answers out_holds err_holds bytes method target out out' err err' status)
+abbrev pub AnswersFile : {O E : Type 0} → (O → Option (List ℕ)) → (E → Option (List ℕ)) → Escape → Option (List ℕ)
+    → List ℕ → List ℕ → List ℕ → O → O → E → E → ℕ → Type 0
+AnswersFile out_holds err_holds escape known path method target out out' err err' status =
+    ((bytes : List ℕ) × IsFile known bytes
+    × Answers out_holds err_holds escape bytes method target out out' err err' status)
     ⊎ ((error : FileError) × IsFileError known error × (status ≡ 1)
     × AppendsFront (err_holds err) (err_holds err') (file_error_line path error) × (out' ≡ out))

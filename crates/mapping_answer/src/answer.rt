@@ -10,19 +10,21 @@ use command_output::output::put;
 use command_output::status::{FAILURE, SUCCESS};
 use std::alloc::Global;
 use std::io::Write;
+use template_tree::escape::Escape;
 
 /// What `mock answer` prints for a request of that method and target, without headers and body: the reply of a book that
-/// was just opened with the document's mappings.
+/// was just opened with the document's mappings, whose templates' prints are escaped so.
 pub fn answer_request(
     alloc: Global,
     bytes: &[u8],
     method: &str,
     target: &str,
+    escape: Escape,
 ) -> Result<Vec<u8>, CommandError>
-    ensures reply { IfOk result (λ printed. IsReplyText bytes.now method.now target.now printed.items) }
-    ensures refusal { IfErr result (IsRefusal bytes.now target.now) }
+    ensures reply { IfOk result (λ printed. IsReplyText escape bytes.now method.now target.now printed.items) }
+    ensures refusal { IfErr result (IsRefusal escape bytes.now target.now) }
 {
-    let mut book = fresh_book(alloc, bytes)?;
+    let mut book = fresh_book(alloc, bytes, escape)?;
     let request = plain_request(alloc, method, target)?;
     let answer = answer_of(&mut book, &request)?;
     let reply = reply_by(alloc, &answer, &request)?;
@@ -38,10 +40,11 @@ pub fn answer_to<O: Write, E: Write>(
     target: &str,
     out: &mut O,
     err: &mut E,
+    escape: Escape,
 ) -> u8
-    ensures { Answers O.contents E.contents bytes.now method.now target.now out.old out.new err.old err.new result }
+    ensures { Answers O.contents E.contents escape bytes.now method.now target.now out.old out.new err.old err.new result }
 {
-    match answer_request(alloc, bytes, method, target) {
+    match answer_request(alloc, bytes, method, target, escape) {
         Ok(printed) => match put(out, printed.as_slice()) {
             Ok(()) => SUCCESS,
             Err(_error) => FAILURE,
@@ -63,12 +66,13 @@ pub fn answer_file<F: FileReader, O: Write, E: Write>(
     target: &str,
     out: &mut O,
     err: &mut E,
+    escape: Escape,
 ) -> u8
-    ensures { AnswersFile O.contents E.contents (F.content files.now path.now) path.now method.now target.now
+    ensures { AnswersFile O.contents E.contents escape (F.content files.now path.now) path.now method.now target.now
         out.old out.new err.old err.new result }
 {
     match read_file(alloc, files, path) {
-        Ok(bytes) => answer_to(alloc, bytes.as_slice(), method, target, out, err),
+        Ok(bytes) => { answer_to(alloc, bytes.as_slice(), method, target, out, err, escape) }
         Err(error) => {
             error.report(path, err);
             FAILURE

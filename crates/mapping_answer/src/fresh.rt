@@ -9,7 +9,7 @@ ghost use Rattle.request_journal.specs.Past.{opened};
 ghost use Rattle.stub_book.specs.Refusals.{IsFull};
 
 use command_output::error::CommandError;
-use mapping_json::read::read_mappings;
+use mapping_json::read::read_mappings_with;
 use mapping_model::reply::Reply;
 use mock_request::snapshot::Snapshot;
 use request_journal::event::ServeAnswer;
@@ -19,15 +19,16 @@ use stub_book::book::Book;
 use stub_response::limits::Limits;
 use stub_response::respond::respond;
 use stub_response::unmatched_reply::unmatched_reply;
+use template_tree::escape::Escape;
 
 /// A book whose first event has the number 1.
-pub(crate) fn fresh_book(alloc: Global, bytes: &[u8]) -> Result<Book, CommandError>
-    ensures ok { IfOk result (IsFresh bytes.now) }
-    ensures opens { OnOk result (HasBook bytes.now) }
-    ensures refusal { IfErr result (λ error. RefusesDocument bytes.now error ⊎ RefusesBook bytes.now error
+pub(crate) fn fresh_book(alloc: Global, bytes: &[u8], escape: Escape) -> Result<Book, CommandError>
+    ensures ok { IfOk result (IsFresh escape bytes.now) }
+    ensures opens { OnOk result (HasBook escape bytes.now) }
+    ensures refusal { IfErr result (λ error. RefusesDocument escape bytes.now error ⊎ RefusesBook escape bytes.now error
         ⊎ (error ≡ out_of_memory)) }
 {
-    let mappings = mappings_of(alloc, bytes)?;
+    let mappings = mappings_of(alloc, bytes, escape)?;
     match Book::new(alloc, mappings, 0) {
         Ok(book) => {
             // For its clause: no more mappings are live than may be.
@@ -38,11 +39,15 @@ pub(crate) fn fresh_book(alloc: Global, bytes: &[u8]) -> Result<Book, CommandErr
     }
 }
 
-fn mappings_of(alloc: Global, bytes: &[u8]) -> Result<Vec<ReadyMapping>, CommandError>
-    ensures ok { IfOk result (λ mappings. SpellMappings bytes.now mappings.items) }
-    ensures refusal { IfErr result (RefusesDocument bytes.now) }
+fn mappings_of(
+    alloc: Global,
+    bytes: &[u8],
+    escape: Escape,
+) -> Result<Vec<ReadyMapping>, CommandError>
+    ensures ok { IfOk result (λ mappings. SpellMappings escape bytes.now mappings.items) }
+    ensures refusal { IfErr result (RefusesDocument escape bytes.now) }
 {
-    match read_mappings(alloc, bytes) {
+    match read_mappings_with(alloc, bytes, escape) {
         Ok(mappings) => Ok(mappings),
         Err(error) => Err(CommandError::from(error.error.error_code())),
     }

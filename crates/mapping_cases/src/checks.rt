@@ -2,6 +2,7 @@
 
 use mapping_check::check::check_to;
 use std::alloc::{AllocError, Global};
+use template_tree::escape::Escape;
 
 /// What is written to standard output and to standard error, and the exit status.
 pub fn answer(alloc: Global, document: &str) -> Result<String, AllocError> {
@@ -12,7 +13,7 @@ pub fn answer(alloc: Global, document: &str) -> Result<String, AllocError> {
 }
 
 fn check(alloc: Global, document: &str, out: &mut Vec<u8>, err: &mut Vec<u8>) -> u8 {
-    check_to(alloc, document.as_bytes(), out, err)
+    check_to(alloc, document.as_bytes(), out, err, Escape::Off)
 }
 
 fn text(bytes: &[u8]) -> &str {

@@ -10,6 +10,7 @@ use Rattle.code_rules.specs.Polynomial.{Polynomial, as_printed, plus}
 use Rattle.code_rules.specs.Regions.{budget}
 use Rattle.code_rules.proofs.PolynomialFacts.{plus-assoc, plus-empty}
 use Rattle.template_machine.specs.Program.{ProgramParts, IsProgram}
+use Rattle.template_tree.specs.Source.{Source}
 
 -- ---- sums
 
@@ -34,7 +35,8 @@ printed_more f xs x =
 pub none : AreTotals [] (0 ∷ []) (0 ∷ [])
 none = record { programs = []; each = tt; steps_are = refl; bytes_are = refl }
 
-pub one_more : (templates : List (List ℕ)) (template steps bytes more_steps more_bytes : List ℕ) (p : ProgramParts)
+pub one_more : (templates : List Source) (template : Source) (steps bytes more_steps more_bytes : List ℕ)
+    (p : ProgramParts)
     → AreTotals templates steps bytes → p.source ≡ template → IsProgram p
     → more_steps ≡ plus steps (as_printed (budget p.code).steps)
     → more_bytes ≡ plus bytes (as_printed (budget p.code).bytes)
@@ -48,12 +50,12 @@ one_more templates template steps bytes more_steps more_bytes p totals source pr
       ∙ sym (printed_more (λ (q : ProgramParts). (budget q.code).bytes) totals.programs p);
 }
 
-pub no_more : (templates : List (List ℕ)) (steps bytes : List ℕ) → AreTotals templates steps bytes
+pub no_more : (templates : List Source) (steps bytes : List ℕ) → AreTotals templates steps bytes
     → AreTotals (templates ++ []) steps bytes
 no_more templates steps bytes totals = subst (λ ts. AreTotals ts steps bytes) (sym (append-nil templates)) totals
 
 -- the line with the totals
-pub line_of : (number : ℕ) (templates : List (List ℕ)) (steps bytes s b line : List ℕ) → AreTotals templates steps bytes
+pub line_of : (number : ℕ) (templates : List Source) (steps bytes s b line : List ℕ) → AreTotals templates steps bytes
     → s ≡ numbers_text steps → b ≡ numbers_text bytes
     → line ≡ decimal number ++ (codes " steps " ++ (s ++ (codes " bytes " ++ (b ++ codes "\n"))))
     → IsBudgetLine number templates line

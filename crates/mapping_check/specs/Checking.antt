@@ -20,6 +20,8 @@ use Rattle.response_json.specs.Draft.{values_of, body_templates}
 use Rattle.code_rules.specs.Polynomial.{Polynomial, plus, as_printed}
 use Rattle.code_rules.specs.Regions.{budget}
 use Rattle.template_machine.specs.Program.{ProgramParts, IsProgram}
+use Rattle.template_tree.specs.Source.{Source}
+use Rattle.template_tree.specs.declared.escape.Escape.{Escape}
 
 -- ---- lines
 
@@ -49,11 +51,11 @@ abbrev pub total_bytes : List ProgramParts → List ℕ
 total_bytes programs = as_printed (sum_of (map (λ p. (budget p.code).bytes) programs))
 
 -- the program of a template
-abbrev pub IsProgramOf : List ℕ → ProgramParts → Type 0
+abbrev pub IsProgramOf : Source → ProgramParts → Type 0
 IsProgramOf template p = (p.source ≡ template) × IsProgram p
 
 -- the line of a mapping with these templates
-abbrev pub IsBudgetLine : ℕ → List (List ℕ) → List ℕ → Type 0
+abbrev pub IsBudgetLine : ℕ → List Source → List ℕ → Type 0
 IsBudgetLine number templates line =
     (programs : List ProgramParts) × AllZip IsProgramOf templates programs
     × (line ≡ budget_line number (total_steps programs) (total_bytes programs))
@@ -77,10 +79,11 @@ AreLines number (result ∷ results) text =
 
 -- ---- the whole
 
--- the lines of a document's mappings, numbered from 1, and whether one of them is refused
-abbrev pub IsReportOf : List ℕ → List ℕ → Bool → Type 0
-IsReportOf bytes text refused =
-    (results : List (Result MappingSpec MappingError)) × AreResults bytes results × AreLines 1 results text
+-- the lines of a document's mappings, whose templates' prints are escaped so, numbered from 1, and whether one of them is
+-- refused
+abbrev pub IsReportOf : Escape → List ℕ → List ℕ → Bool → Type 0
+IsReportOf escape bytes text refused =
+    (results : List (Result MappingSpec MappingError)) × AreResults escape bytes results × AreLines 1 results text
     × (refused ≡ list_any is_err results)
 
 -- the document has no mappings, or memory is out
@@ -89,15 +92,15 @@ IsCheckError bytes error =
     (e : MappingError) × IsOuterError bytes e × (error ≡ record { code = error_code_of e; at = None })
 
 -- the whole report was written; the status is 1 where a mapping is refused
-abbrev pub ShowsLines : List ℕ → Option (List ℕ) → Option (List ℕ) → ℕ → Type 0
-ShowsLines bytes old new status =
-    (text : List ℕ) × (refused : Bool) × IsReportOf bytes text refused × Appends old new text
+abbrev pub ShowsLines : Escape → List ℕ → Option (List ℕ) → Option (List ℕ) → ℕ → Type 0
+ShowsLines escape bytes old new status =
+    (text : List ℕ) × (refused : Bool) × IsReportOf escape bytes text refused × Appends old new text
     × (status ≡ (if refused then 1 else 0))
 
 -- the report was begun, and the writer refused the rest
-abbrev pub BreaksLinesOff : List ℕ → Option (List ℕ) → Option (List ℕ) → Type 0
-BreaksLinesOff bytes old new =
-    (text : List ℕ) × (refused : Bool) × IsReportOf bytes text refused × AppendsPart old new text
+abbrev pub BreaksLinesOff : Escape → List ℕ → Option (List ℕ) → Option (List ℕ) → Type 0
+BreaksLinesOff escape bytes old new =
+    (text : List ℕ) × (refused : Bool) × IsReportOf escape bytes text refused × AppendsPart old new text
 
 -- an error was reported, as far as the writer took its line
 abbrev pub ReportsDocument : List ℕ → Option (List ℕ) → Option (List ℕ) → Type 0
@@ -106,18 +109,18 @@ ReportsDocument bytes old new =
 
 -- How a check ends: the report is on standard output (0, or 1 where a mapping is refused), an error is on standard error
 -- (1), or standard output took a part of the report (1). Each time the other of both is as it was.
-abbrev pub Checks : {O E : Type 0} → (O → Option (List ℕ)) → (E → Option (List ℕ)) → List ℕ
+abbrev pub Checks : {O E : Type 0} → (O → Option (List ℕ)) → (E → Option (List ℕ)) → Escape → List ℕ
     → O → O → E → E → ℕ → Type 0
-Checks out_holds err_holds bytes out out' err err' status =
-    (ShowsLines bytes (out_holds out) (out_holds out') status × (err' ≡ err))
+Checks out_holds err_holds escape bytes out out' err err' status =
+    (ShowsLines escape bytes (out_holds out) (out_holds out') status × (err' ≡ err))
     ⊎ ((status ≡ 1) × ReportsDocument bytes (err_holds err) (err_holds err') × (out' ≡ out))
-    ⊎ ((status ≡ 1) × BreaksLinesOff bytes (out_holds out) (out_holds out') × (err' ≡ err))
+    ⊎ ((status ≡ 1) × BreaksLinesOff escape bytes (out_holds out) (out_holds out') × (err' ≡ err))
 
 -- How `mock check` ends: the file is read and checked, or an error in reading it is on standard error (1), as far as the
 -- writer took its line, and standard output is as it was. The file is known, or it isn't.
-abbrev pub ChecksFile : {O E : Type 0} → (O → Option (List ℕ)) → (E → Option (List ℕ)) → Option (List ℕ) → List ℕ
-    → O → O → E → E → ℕ → Type 0
-ChecksFile out_holds err_holds known path out out' err err' status =
-    ((bytes : List ℕ) × IsFile known bytes × Checks out_holds err_holds bytes out out' err err' status)
+abbrev pub ChecksFile : {O E : Type 0} → (O → Option (List ℕ)) → (E → Option (List ℕ)) → Escape → Option (List ℕ)
+    → List ℕ → O → O → E → E → ℕ → Type 0
+ChecksFile out_holds err_holds escape known path out out' err err' status =
+    ((bytes : List ℕ) × IsFile known bytes × Checks out_holds err_holds escape bytes out out' err err' status)
     ⊎ ((error : FileError) × IsFileError known error × (status ≡ 1)
     × AppendsFront (err_holds err) (err_holds err') (file_error_line path error) × (out' ≡ out))

@@ -14,13 +14,14 @@ use command_output::output::put;
 use command_output::status::{FAILURE, SUCCESS};
 use error_code::error_code::ErrorCode;
 use mapping_json::error::MappingError;
-use mapping_json::read::read_each;
+use mapping_json::read::read_each_with;
 use mapping_model::header_lines::HeaderLines;
 use mapping_model::response_spec::{Body, Content};
 use mapping_model::template_text::TemplateText;
 use request_match::ready_mapping::ReadyMapping;
 use std::alloc::{AllocError, Global};
 use std::io::Write;
+use template_tree::escape::Escape;
 
 /// What is printed for a document.
 #[derive(Debug, Drop)]
@@ -31,12 +32,13 @@ pub struct Checked {
 }
 
 /// What `mock check` prints for a document: a line for each of its mappings, numbered from 1, as `1 plain`,
-/// `2 steps [5] bytes [6,1]` or `3 error 11`. The error is that of a document that has no mappings.
-pub fn check_document(alloc: Global, bytes: &[u8]) -> Result<Checked, MappingError>
-    ensures report { IfOk result (λ checked. IsReportOf bytes.now (string_bytes checked.text) checked.is_refused) }
+/// `2 steps [5] bytes [6,1]` or `3 error 11`, where the prints of templates are escaped so. The error is that of a
+/// document that has no mappings.
+pub fn check_document(alloc: Global, bytes: &[u8], escape: Escape) -> Result<Checked, MappingError>
+    ensures report { IfOk result (λ checked. IsReportOf escape bytes.now (string_bytes checked.text) checked.is_refused) }
     ensures error { IfErr result (IsOuterError bytes.now) }
 {
-    let results = read_each(alloc, bytes)?;
+    let results = read_each_with(alloc, bytes, escape)?;
     Ok(report_of(alloc, results.as_slice())?)
 }
 
@@ -55,10 +57,16 @@ fn report_of(
 
 /// Writes what `check_document` gives to `out`, or its error to `err`, and gives the exit status: 0, or 1 where a mapping
 /// is refused, for an error, or for output that can't be written. All memory is taken before the first byte is written.
-pub fn check_to<O: Write, E: Write>(alloc: Global, bytes: &[u8], out: &mut O, err: &mut E) -> u8
-    ensures { Checks O.contents E.contents bytes.now out.old out.new err.old err.new result }
+pub fn check_to<O: Write, E: Write>(
+    alloc: Global,
+    bytes: &[u8],
+    out: &mut O,
+    err: &mut E,
+    escape: Escape,
+) -> u8
+    ensures { Checks O.contents E.contents escape bytes.now out.old out.new err.old err.new result }
 {
-    match check_document(alloc, bytes) {
+    match check_document(alloc, bytes, escape) {
         Ok(checked) => match put(out, checked.text.as_bytes()) {
             Ok(()) => status_of(checked.is_refused),
             Err(_error) => FAILURE,
@@ -84,12 +92,13 @@ pub fn check_file<F: FileReader, O: Write, E: Write>(
     path: &str,
     out: &mut O,
     err: &mut E,
+    escape: Escape,
 ) -> u8
-    ensures { ChecksFile O.contents E.contents (F.content files.now path.now) path.now
+    ensures { ChecksFile O.contents E.contents escape (F.content files.now path.now) path.now
         out.old out.new err.old err.new result }
 {
     match read_file(alloc, files, path) {
-        Ok(bytes) => check_to(alloc, bytes.as_slice(), out, err),
+        Ok(bytes) => check_to(alloc, bytes.as_slice(), out, err, escape),
         Err(error) => {
             error.report(path, err);
             FAILURE

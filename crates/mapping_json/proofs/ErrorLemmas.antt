@@ -13,6 +13,7 @@ use Rattle.request_match.specs.declared.error.RequestMatchError.{RequestMatchErr
 use Rattle.request_match.specs.declared.error.RequestMatchError.TheVariants as matcher
 use Rattle.response_json.specs.Draft.{templates_of, IsFirstError}
 use Rattle.serde_json.specs.Data.{Data}
+use Rattle.template_tree.specs.declared.escape.Escape.{Escape}
 use Rattle.template_machine.specs.declared.error.ProgramError.{ProgramError}
 use Rattle.template_machine.specs.declared.error.ProgramError.TheVariants as template
 
@@ -20,26 +21,27 @@ pub err_is : {T E : Type 0} (r : Result T E) (x : E) (P : E → Type 0) → IsEr
 err_is (Ok v) x P h p = absurd h
 err_is (Err e) x P h p = subst P (sym h) p
 
-pub request_error : (draft : MappingDraft) (error : RequestMatchError) → IsRefusal draft.request error
-    → IsDraftError draft (error_of_request error)
-request_error draft matcher.BadUrl f = f
-request_error draft matcher.BadPattern f = f
-request_error draft matcher.NotJson f = f
-request_error draft matcher.NumberNotWhole f = f
-request_error draft matcher.BadPath f = f
-request_error draft matcher.OutOfMemory f = tt
+pub request_error : (escape : Escape) (draft : MappingDraft) (error : RequestMatchError) → IsRefusal draft.request error
+    → IsDraftError escape draft (error_of_request error)
+request_error escape draft matcher.BadUrl f = f
+request_error escape draft matcher.BadPattern f = f
+request_error escape draft matcher.NotJson f = f
+request_error escape draft matcher.NumberNotWhole f = f
+request_error escape draft matcher.BadPath f = f
+request_error escape draft matcher.OutOfMemory f = tt
 
-pub template_error : (draft : MappingDraft) (error : ProgramError) → CanBeBuilt draft.request
-    → IsFirstError (templates_of draft.response) error → IsDraftError draft (error_of_template error)
-template_error draft (template.Template e) built f = (built, f)
-template_error draft template.CodeTooLong built f = (built, f)
-template_error draft (template.CodeRefused index rule) built f = (built, f)
-template_error draft template.OutOfMemory built f = tt
+pub template_error : (escape : Escape) (draft : MappingDraft) (error : ProgramError) → CanBeBuilt draft.request
+    → IsFirstError (templates_of escape draft.response) error → IsDraftError escape draft (error_of_template error)
+template_error escape draft (template.Template e) built f = (built, f)
+template_error escape draft template.CodeTooLong built f = (built, f)
+template_error escape draft (template.CodeRefused index rule) built f = (built, f)
+template_error escape draft template.OutOfMemory built f = tt
 
 -- what is wrong with the draft that is read is an error of the value
-pub draft_error : (d : Data) (draft : MappingDraft) (error : MappingError) → reading_of_mapping d ≡ Read draft
-    → IsDraftError draft error → IsValueError d error
-draft_error d draft error read f = inl (draft, read, f)
+pub draft_error : (escape : Escape) (d : Data) (draft : MappingDraft) (error : MappingError) → reading_of_mapping d ≡ Read draft
+    → IsDraftError escape draft error → IsValueError escape d error
+draft_error escape d draft error read f = inl (draft, read, f)
 
-pub wrong_value : (d : Data) (kind : Kind) → reading_of_mapping d ≡ Wrong kind → IsValueError d (Document kind)
-wrong_value d kind wrong = inr wrong
+pub wrong_value : (escape : Escape) (d : Data) (kind : Kind) → reading_of_mapping d ≡ Wrong kind
+    → IsValueError escape d (Document kind)
+wrong_value escape d kind wrong = inr wrong

@@ -7,6 +7,7 @@ use Rattle.mapping_json.specs.Spelling.{SpellsMapping}
 use Rattle.mapping_json.specs.declared.error.MappingError.{MappingError}
 use Rattle.mapping_model.specs.declared.mapping_spec.MappingSpec.{MappingSpec}
 use Rattle.serde_json.specs.Data.{Data}
+use Rattle.template_tree.specs.declared.escape.Escape.{Escape}
 use Rattle.serde_json.specs.View.{view, items_view}
 use Rattle.serde_json.specs.declared.value.Value.{Value}
 
@@ -29,29 +30,29 @@ zip_push R (w ∷ xs) [] x y h r = absurd h
 zip_push R (w ∷ xs) (z ∷ ys) x y h r = (h.0, zip_push R xs ys x y h.1 r)
 
 -- each result is a mapping
-pub all_read : (values : List Data) (mappings : List MappingSpec) → AllZip IsResultOf values (map Ok mappings)
-    → AllZip SpellsMapping values mappings
-all_read [] [] h = tt
-all_read [] (m ∷ ms) h = absurd h
-all_read (d ∷ ds) [] h = absurd h
-all_read (d ∷ ds) (m ∷ ms) h = (h.0, all_read ds ms h.1)
+pub all_read : (escape : Escape) (values : List Data) (mappings : List MappingSpec)
+    → AllZip (IsResultOf escape) values (map Ok mappings) → AllZip (SpellsMapping escape) values mappings
+all_read escape [] [] h = tt
+all_read escape [] (m ∷ ms) h = absurd h
+all_read escape (d ∷ ds) [] h = absurd h
+all_read escape (d ∷ ds) (m ∷ ms) h = (h.0, all_read escape ds ms h.1)
 
 -- the values before one that is refused, that one, and those after it
-pub record IsSplit (values : List Data) (mappings : List MappingSpec) (error : MappingError) : Type 0 where
+pub record IsSplit (escape : Escape) (values : List Data) (mappings : List MappingSpec) (error : MappingError) : Type 0 where
   pub before : List Data
   pub value : Data
   pub after : List Data
   pub whole : values ≡ before ++ value ∷ after
-  pub read : AllZip SpellsMapping before mappings
+  pub read : AllZip (SpellsMapping escape) before mappings
   pub count : length mappings ≡ length before
-  pub refused : IsOwnError value error
+  pub refused : IsOwnError escape value error
 
-pub split_at : (values : List Data) (mappings : List MappingSpec) (error : MappingError)
+pub split_at : (escape : Escape) (values : List Data) (mappings : List MappingSpec) (error : MappingError)
     (after : List (Result MappingSpec MappingError))
-    → AllZip IsResultOf values (map Ok mappings ++ Err error ∷ after) → IsSplit values mappings error
-split_at [] [] error after h = absurd h
-split_at [] (m ∷ ms) error after h = absurd h
-split_at (d ∷ ds) [] error after h = record {
+    → AllZip (IsResultOf escape) values (map Ok mappings ++ Err error ∷ after) → IsSplit escape values mappings error
+split_at escape [] [] error after h = absurd h
+split_at escape [] (m ∷ ms) error after h = absurd h
+split_at escape (d ∷ ds) [] error after h = record {
   before = [];
   value = d;
   after = ds;
@@ -60,8 +61,8 @@ split_at (d ∷ ds) [] error after h = record {
   count = refl;
   refused = h.0;
 }
-split_at (d ∷ ds) (m ∷ ms) error after h =
-    let rest = split_at ds ms error after h.1 in
+split_at escape (d ∷ ds) (m ∷ ms) error after h =
+    let rest = split_at escape ds ms error after h.1 in
     record {
       before = d ∷ rest.before;
       value = rest.value;

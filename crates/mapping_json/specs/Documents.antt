@@ -12,6 +12,7 @@ use Rattle.mapping_json.specs.declared.error.MappingsError.{MappingsError}
 use Rattle.mapping_model.specs.declared.mapping_spec.MappingSpec.{MappingSpec}
 use Rattle.serde_json.specs.Data.{Data, Items, no_items, item}
 use Rattle.serde_json.specs.Find.{as_array, as_object, get}
+use Rattle.template_tree.specs.declared.escape.Escape.{Escape}
 
 abbrev pub list_of : Items → List Data
 list_of no_items = []
@@ -26,18 +27,18 @@ unfoldable pub mappings_in : Data → Option (List Data)
 mappings_in d = if is_some (as_object d) then listed d (get (codes "mappings") d) else None
 
 -- the error of one of them; memory doesn't run out for one of them alone
-abbrev pub IsOwnError : Data → MappingError → Type 0
-IsOwnError d error = IsValueError d error × (error ≢ OutOfMemory)
+abbrev pub IsOwnError : Escape → Data → MappingError → Type 0
+IsOwnError escape d error = IsValueError escape d error × (error ≢ OutOfMemory)
 
 -- what is read of one of them: its mapping, or its error
-abbrev pub IsResultOf : Data → Result MappingSpec MappingError → Type 0
-IsResultOf d result = MatchResult result (SpellsMapping d) (IsOwnError d)
+abbrev pub IsResultOf : Escape → Data → Result MappingSpec MappingError → Type 0
+IsResultOf escape d result = MatchResult result (SpellsMapping escape d) (IsOwnError escape d)
 
 -- the results of the values in the document
-abbrev pub AreResults : List ℕ → List (Result MappingSpec MappingError) → Type 0
-AreResults bytes results =
+abbrev pub AreResults : Escape → List ℕ → List (Result MappingSpec MappingError) → Type 0
+AreResults escape bytes results =
     (d : Data) × (values : List Data) × IsDocument bytes d × (mappings_in d ≡ Some values)
-    × AllZip IsResultOf values results
+    × AllZip (IsResultOf escape) values results
 
 -- the document is no list of mappings
 abbrev pub IsOuterError : List ℕ → MappingError → Type 0
@@ -47,13 +48,13 @@ IsOuterError bytes error =
     ⊎ (error ≡ OutOfMemory)
 
 -- each value in the document spells its mapping
-abbrev pub SpellMappings : List ℕ → List MappingSpec → Type 0
-SpellMappings bytes mappings =
+abbrev pub SpellMappings : Escape → List ℕ → List MappingSpec → Type 0
+SpellMappings escape bytes mappings =
     (d : Data) × (values : List Data) × IsDocument bytes d × (mappings_in d ≡ Some values)
-    × AllZip SpellsMapping values mappings
+    × AllZip (SpellsMapping escape) values mappings
 
 -- the values before the one at the index are mappings, and that one has the error
-pub record IsFirstRefused (bytes : List ℕ) (index : ℕ) (error : MappingError) : Type 0 where
+pub record IsFirstRefused (escape : Escape) (bytes : List ℕ) (index : ℕ) (error : MappingError) : Type 0 where
   pub d : Data
   pub before : List Data
   pub value : Data
@@ -61,14 +62,14 @@ pub record IsFirstRefused (bytes : List ℕ) (index : ℕ) (error : MappingError
   pub mappings : List MappingSpec
   pub document : IsDocument bytes d
   pub values : mappings_in d ≡ Some (before ++ value ∷ after)
-  pub read : AllZip SpellsMapping before mappings
+  pub read : AllZip (SpellsMapping escape) before mappings
   pub at : index ≡ length before
-  pub refused : IsOwnError value error
+  pub refused : IsOwnError escape value error
 
-abbrev pub IsErrorAt : List ℕ → Option ℕ → MappingError → Type 0
-IsErrorAt bytes None error = IsOuterError bytes error
-IsErrorAt bytes (Some index) error = IsFirstRefused bytes index error
+abbrev pub IsErrorAt : Escape → List ℕ → Option ℕ → MappingError → Type 0
+IsErrorAt escape bytes None error = IsOuterError bytes error
+IsErrorAt escape bytes (Some index) error = IsFirstRefused escape bytes index error
 
 -- with an index the first value that is no mapping, and without one the document itself
-abbrev pub IsMappingsError : List ℕ → MappingsError → Type 0
-IsMappingsError bytes e = IsErrorAt bytes e.index e.error
+abbrev pub IsMappingsError : Escape → List ℕ → MappingsError → Type 0
+IsMappingsError escape bytes e = IsErrorAt escape bytes e.index e.error

@@ -13,6 +13,7 @@ use request_match::ready_mapping::ReadyMapping;
 use request_match::request_matcher::RequestMatcher;
 use response_json::draft::ResponseDraft;
 use std::alloc::Global;
+use template_tree::escape::Escape;
 
 /// A mapping as it is read: patterns, paths and templates are texts still.
 #[derive(Drop)]
@@ -26,12 +27,12 @@ pub struct MappingDraft {
 }
 
 impl MappingDraft {
-    /// The mapping, with its matcher built and its templates compiled. What is wrong with the matcher is reported before
+    /// The mapping, with its matcher built and its templates, whose prints are escaped so, compiled. What is wrong with the matcher is reported before
     /// what is wrong with a template.
     #[tactic(auto, using(crate::proofs::ErrorLemmas::request_error, crate::proofs::ErrorLemmas::template_error))]
-    pub fn build(self, alloc: Global) -> Result<ReadyMapping, MappingError>
-        ensures ok { IfOk result (IsMappingOf self) }
-        ensures error { IfErr result (IsDraftError self) }
+    pub fn build(self, alloc: Global, escape: Escape) -> Result<ReadyMapping, MappingError>
+        ensures ok { IfOk result (IsMappingOf escape self) }
+        ensures error { IfErr result (IsDraftError escape self) }
     {
         let MappingDraft {
             id,
@@ -41,7 +42,7 @@ impl MappingDraft {
             request,
             response,
         } = self;
-        match response.compile(alloc) {
+        match response.compile(alloc, escape) {
             Ok(response) => {
                 let response = Version::new(alloc, response)?;
                 Ok(ReadyMapping::build(

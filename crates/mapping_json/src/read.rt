@@ -6,6 +6,7 @@ ghost use Rattle.mapping_json.specs.Inner.Lists.{AreResultsOf, IsListError, IsFi
 ghost use Rattle.mapping_json.specs.Spelling.{SpellsDocument, IsDocumentError};
 ghost use Rattle.mapping_json.specs.declared.error.MappingError.TheVariants.{OutOfMemory};
 ghost use Rattle.serde_json.specs.View.{view};
+ghost use Rattle.template_tree.specs.declared.escape.Escape.TheVariants.{Off};
 
 use crate::error::{MappingError, MappingsError};
 use crate::read_value::mapping_of;
@@ -14,58 +15,96 @@ use json_reading::kind::Kind;
 use request_match::ready_mapping::ReadyMapping;
 use serde_json::Value;
 use std::alloc::{AllocError, Global};
+use template_tree::escape::Escape;
 
-/// The mapping that a document is.
+/// The mapping that a document is. No template escapes.
 pub fn read_mapping(alloc: Global, bytes: &[u8]) -> Result<ReadyMapping, MappingError>
-    ensures ok { IfOk result (SpellsDocument bytes.now) }
-    ensures error { IfErr result (IsDocumentError bytes.now) }
+    ensures ok { IfOk result (SpellsDocument Off bytes.now) }
+    ensures error { IfErr result (IsDocumentError Off bytes.now) }
+{
+    read_mapping_with(alloc, bytes, Escape::Off)
+}
+
+/// The mapping that a document is, where the prints of templates are escaped so.
+pub fn read_mapping_with(
+    alloc: Global,
+    bytes: &[u8],
+    escape: Escape,
+) -> Result<ReadyMapping, MappingError>
+    ensures ok { IfOk result (SpellsDocument escape bytes.now) }
+    ensures error { IfErr result (IsDocumentError escape bytes.now) }
 {
     match document_of(alloc, bytes)? {
-        Some(value) => mapping_of(alloc, &value),
+        Some(value) => mapping_of(alloc, &value, escape),
         None => Err(MappingError::Document(Kind::NotJson)),
     }
 }
 
 /// What is read of each mapping of a document, which is an object with a list `mappings`, or one mapping. The outer
-/// error says that the document is neither, or that memory is out.
+/// error says that the document is neither, or that memory is out. No template escapes.
 pub fn read_each(
     alloc: Global,
     bytes: &[u8],
 ) -> Result<Vec<Result<ReadyMapping, MappingError>>, MappingError>
-    ensures ok { IfOk result (λ results. AreResults bytes.now results.items) }
+    ensures ok { IfOk result (λ results. AreResults Off bytes.now results.items) }
+    ensures error { IfErr result (IsOuterError bytes.now) }
+{
+    read_each_with(alloc, bytes, Escape::Off)
+}
+
+/// The same, where the prints of templates are escaped so.
+pub fn read_each_with(
+    alloc: Global,
+    bytes: &[u8],
+    escape: Escape,
+) -> Result<Vec<Result<ReadyMapping, MappingError>>, MappingError>
+    ensures ok { IfOk result (λ results. AreResults escape bytes.now results.items) }
     ensures error { IfErr result (IsOuterError bytes.now) }
 {
     match document_of(alloc, bytes)? {
-        Some(value) => each_in(alloc, &value),
+        Some(value) => each_in(alloc, &value, escape),
         None => Err(MappingError::Document(Kind::NotJson)),
     }
 }
 
 /// All mappings of a document, or the error of the first that is none, with its index. Without an index the document
-/// is no list of mappings, or memory is out.
+/// is no list of mappings, or memory is out. No template escapes.
 pub fn read_mappings(alloc: Global, bytes: &[u8]) -> Result<Vec<ReadyMapping>, MappingsError>
-    ensures ok { IfOk result (λ mappings. SpellMappings bytes.now mappings.items) }
-    ensures error { IfErr result (IsMappingsError bytes.now) }
+    ensures ok { IfOk result (λ mappings. SpellMappings Off bytes.now mappings.items) }
+    ensures error { IfErr result (IsMappingsError Off bytes.now) }
 {
-    all_of(alloc, read_each(alloc, bytes)?)
+    read_mappings_with(alloc, bytes, Escape::Off)
+}
+
+/// The same, where the prints of templates are escaped so.
+pub fn read_mappings_with(
+    alloc: Global,
+    bytes: &[u8],
+    escape: Escape,
+) -> Result<Vec<ReadyMapping>, MappingsError>
+    ensures ok { IfOk result (λ mappings. SpellMappings escape bytes.now mappings.items) }
+    ensures error { IfErr result (IsMappingsError escape bytes.now) }
+{
+    all_of(alloc, read_each_with(alloc, bytes, escape)?)
 }
 
 #[tactic(auto, using(crate::proofs::Listed::no_object, crate::proofs::Listed::one_value, crate::proofs::Listed::many_values, crate::proofs::Listed::no_list))]
 fn each_in(
     alloc: Global,
     value: &Value,
+    escape: Escape,
 ) -> Result<Vec<Result<ReadyMapping, MappingError>>, MappingError>
-    ensures ok { IfOk result (λ results. AreResultsOf (view value.now) results.items) }
+    ensures ok { IfOk result (λ results. AreResultsOf escape (view value.now) results.items) }
     ensures error { IfErr result (IsListError (view value.now)) }
 {
     if !value.is_object() {
         return Err(MappingError::Document(Kind::Misshapen));
     }
     let Some(mappings) = value.get("mappings") else {
-        return Ok(one_result(alloc, value)?);
+        return Ok(one_result(alloc, value, escape)?);
     };
     match mappings.as_array() {
-        Some(values) => Ok(each_result(alloc, values)?),
+        Some(values) => Ok(each_result(alloc, values, escape)?),
         None => Err(MappingError::Document(Kind::Misshapen)),
     }
 }
@@ -73,32 +112,38 @@ fn each_in(
 fn one_result(
     alloc: Global,
     value: &Value,
+    escape: Escape,
 ) -> Result<Vec<Result<ReadyMapping, MappingError>>, AllocError>
-    ensures { IfOk result (λ results. AllZip IsResultOf (view value.now ∷ []) results.items) }
+    ensures { IfOk result (λ results. AllZip (IsResultOf escape) (view value.now ∷ []) results.items) }
 {
     let mut results = Vec::new(alloc);
-    results.push(result_of(alloc, value)?)?;
+    results.push(result_of(alloc, value, escape)?)?;
     Ok(results)
 }
 
 fn each_result(
     alloc: Global,
     values: &Vec<Value>,
+    escape: Escape,
 ) -> Result<Vec<Result<ReadyMapping, MappingError>>, AllocError>
-    ensures { IfOk result (λ results. AllZip IsResultOf (map view values.now.items) results.items) }
+    ensures { IfOk result (λ results. AllZip (IsResultOf escape) (map view values.now.items) results.items) }
 {
     let mut results = Vec::with_capacity(alloc, values.len())?;
     for value in values {
-        results.push(result_of(alloc, value)?)?;
+        results.push(result_of(alloc, value, escape)?)?;
     }
     Ok(results)
 }
 
 /// What is read of a value. Where memory is out, it is for the whole document.
-fn result_of(alloc: Global, value: &Value) -> Result<Result<ReadyMapping, MappingError>, AllocError>
-    ensures { IfOk result (IsResultOf (view value.now)) }
+fn result_of(
+    alloc: Global,
+    value: &Value,
+    escape: Escape,
+) -> Result<Result<ReadyMapping, MappingError>, AllocError>
+    ensures { IfOk result (IsResultOf escape (view value.now)) }
 {
-    match mapping_of(alloc, value) {
+    match mapping_of(alloc, value, escape) {
         Ok(mapping) => Ok(Ok(mapping)),
         Err(MappingError::OutOfMemory) => Err(AllocError),
         Err(error) => Ok(Err(error)),

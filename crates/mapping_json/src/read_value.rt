@@ -25,15 +25,20 @@ use response_json::draft::ResponseDraft;
 use response_json::read::read_response;
 use serde_json::Value;
 use std::alloc::{AllocError, Global};
+use template_tree::escape::Escape;
 
-/// The mapping that a value spells.
+/// The mapping that a value spells, where the prints of its templates are escaped so.
 #[tactic(auto, using(crate::proofs::ErrorLemmas::draft_error, crate::proofs::ErrorLemmas::wrong_value))]
-pub(crate) fn mapping_of(alloc: Global, value: &Value) -> Result<ReadyMapping, MappingError>
-    ensures ok { IfOk result (SpellsMapping (view value.now)) }
-    ensures error { IfErr result (IsValueError (view value.now)) }
+pub(crate) fn mapping_of(
+    alloc: Global,
+    value: &Value,
+    escape: Escape,
+) -> Result<ReadyMapping, MappingError>
+    ensures ok { IfOk result (SpellsMapping escape (view value.now)) }
+    ensures error { IfErr result (IsValueError escape (view value.now)) }
 {
     match read_draft(alloc, value)? {
-        Reading::Read(draft) => draft.build(alloc),
+        Reading::Read(draft) => draft.build(alloc, escape),
         Reading::Wrong(kind) => Err(MappingError::Document(kind)),
     }
 }

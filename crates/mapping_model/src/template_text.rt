@@ -1,6 +1,7 @@
 // A template of a response.
 ghost use Rattle.std.specs.Prelude.{◌≡◌, ◌↔◌, ℕ, IfOk, IfErr, OnOk, IsErrOf, IsTrue};
 ghost use Rattle.code_rules.specs.declared.rule.Rule.{Rule};
+ghost use Rattle.template_tree.specs.Source.{with_escape};
 ghost use Rattle.template_machine.specs.Errors.{IsErrorOf};
 ghost use Rattle.template_machine.specs.Program.{IsProgram, IsProgramText};
 ghost use Rattle.template_machine.specs.declared.error.ProgramError.TheVariants.{CodeRefused, OutOfMemory};
@@ -10,18 +11,20 @@ use std::alloc::Global;
 use std::marker::Model;
 use template_machine::error::ProgramError;
 use template_machine::program::Program;
+use template_tree::escape::Escape;
 
-/// A template with its verified program. Contracts see its text, by which the program is determined.
+/// A template with its verified program. Contracts see its text and how its prints are escaped, by which the program is
+/// determined.
 #[derive(Drop)]
 pub struct TemplateText {
     program: Program,
 }
 
 impl Model for TemplateText {
-    ghost use Rattle.std.specs.Prelude.{List, ℕ};
+    ghost use Rattle.template_tree.specs.Source.{Source};
     ghost use Rattle.template_machine.specs.Program.{IsProgram};
 
-    ghost Value = { List ℕ };
+    ghost Value = { Source };
 
     ghost view = { λ t. t.program.source };
 
@@ -29,23 +32,33 @@ impl Model for TemplateText {
 }
 
 impl TemplateText {
-    /// The template of a text. The errors are those of the text's program.
-    pub fn from_text(alloc: Global, text: &str) -> Result<TemplateText, ProgramError>
-        ensures source { IfOk result (λ template. template ≡ text.now) }
-        ensures ok { OnOk result (IsProgramText text.now) }
-        ensures exactly { IsProgramText text.now → IfErr result (λ error. error ≡ OutOfMemory) }
-        ensures reported { IfErr result (λ error. IsErrorOf text.now error) }
+    /// The template of a text, whose prints are escaped so. The errors are those of the text's program.
+    pub fn from_text_with(
+        alloc: Global,
+        text: &str,
+        escape: Escape,
+    ) -> Result<TemplateText, ProgramError>
+        ensures source { IfOk result (λ template. template ≡ with_escape escape text.now) }
+        ensures ok { OnOk result (IsProgramText (with_escape escape text.now)) }
+        ensures exactly { IsProgramText (with_escape escape text.now) → IfErr result (λ error. error ≡ OutOfMemory) }
+        ensures reported { IfErr result (λ error. IsErrorOf (with_escape escape text.now) error) }
         ensures never_refused { (index : ℕ) (rule : Rule) → IsErrOf result (CodeRefused index rule) → ⊥ }
     {
         Ok(TemplateText {
-            program: Program::from_text(alloc, text)?,
+            program: Program::from_text_with(alloc, text, escape)?,
         })
     }
 
     pub fn source(&self) -> &str
-        ensures { result.now ≡ self.now }
+        ensures { result.now ≡ self.now.text }
     {
         self.program.source()
+    }
+
+    pub fn escape(&self) -> Escape
+        ensures { result ≡ self.now.escape }
+    {
+        self.program.escape()
     }
 
     pub fn program(&self) -> &Program
@@ -58,6 +71,6 @@ impl TemplateText {
 
 impl Same for TemplateText {
     fn same(&self, other: &TemplateText) -> bool {
-        self.source() == other.source()
+        self.source() == other.source() && self.escape().same(other.escape())
     }
 }

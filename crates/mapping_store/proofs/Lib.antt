@@ -4,3 +4,4 @@ pub mod ChoiceLemmas
 pub mod CountLemmas
 pub mod PastLemmas
 pub mod ListingLemmas
+pub mod KeyLemmas

@@ -3,6 +3,7 @@ ghost use Rattle.std.specs.Prelude.{◌≡◌, ◌↔◌, ◌<◌, length, All, 
 ghost use Rattle.std.specs.List.{AllWithin, HoldsAt};
 ghost use Rattle.request_journal.specs.Choice.{IsEligible, IsReady};
 ghost use Rattle.request_match.specs.Matching.{MeetsRequest};
+ghost use Rattle.request_parts.specs.Key.{key_of};
 ghost use Rattle.scenario_core.specs.Scenarios.{state_of};
 ghost use Rattle.live_mappings.specs.Kept.{Fits, placed_of};
 
@@ -63,10 +64,18 @@ fn is_eligible(
     ensures same_defaults { defaults.new ≡ defaults.old }
     ensures same_request { request.new ≡ request.old }
 {
-    if !meets(entry, defaults, request)? {
+    // Of most entries this reads no memory but their own.
+    if is_of_another_url(entry, request) || !meets(entry, defaults, request)? {
         return Ok(false);
     }
     Ok(is_ready(scenarios, &spec_of(entry, defaults).spec().scenario))
+}
+
+fn is_of_another_url(entry: &Entry, request: &ParsedRequest<'_>) -> bool
+    requires { entry.now.key ≡ key_of entry.now.seen.value.request.url }
+    ensures { IsTrue result → ¬ (MeetsRequest entry.now.seen.value.request request.now) }
+{
+    request.has_another_url(entry.key)
 }
 
 fn meets(

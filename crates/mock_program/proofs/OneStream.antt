@@ -6,6 +6,8 @@ use Rattle.mock_program.specs.CommandLine.{Asked, render, check, answer}
 use Rattle.mock_program.specs.Commands.{Does}
 use Rattle.command_output.specs.Output.{WritesOneStream}
 use Rattle.mock_program.specs.Rendering.{Renders}
+use Rattle.template_tree.specs.Source.{Source, with_escape}
+use Rattle.template_tree.specs.declared.escape.Escape.{Escape}
 
 module _ {O E : Type 0} (out_holds : O → Option (List ℕ)) (err_holds : E → Option (List ℕ)) where
   of_output : (out out' : O) (err err' : E) (status : ℕ) → status ≡ 0 ⊎ status ≡ 1 → err' ≡ err
@@ -26,7 +28,7 @@ module _ {O E : Type 0} (out_holds : O → Option (List ℕ)) (err_holds : E →
     one_of_both = inl same;
   }
 
-  of_rendering : (template method target : List ℕ) (out out' : O) (err err' : E) (status : ℕ)
+  of_rendering : (template : Source) (method target : List ℕ) (out out' : O) (err err' : E) (status : ℕ)
       → Renders out_holds err_holds template method target out out' err err' status
       → WritesOneStream out out' err err' status
   of_rendering template method target out out' err err' status (inl (zero, shown, same)) =
@@ -40,48 +42,48 @@ module _ {O E : Type 0} (out_holds : O → Option (List ℕ)) (err_holds : E →
   zero_or_one true status is = inr is
   zero_or_one false status is = inl is
 
-  of_checking : (bytes : List ℕ) (out out' : O) (err err' : E) (status : ℕ)
-      → Checks out_holds err_holds bytes out out' err err' status
+  of_checking : (escape : Escape) (bytes : List ℕ) (out out' : O) (err err' : E) (status : ℕ)
+      → Checks out_holds err_holds escape bytes out out' err err' status
       → WritesOneStream out out' err err' status
-  of_checking bytes out out' err err' status (inl ((text, refused, report, written, is), same)) =
+  of_checking escape bytes out out' err err' status (inl ((text, refused, report, written, is), same)) =
       of_output out out' err err' status (zero_or_one refused status is) same
-  of_checking bytes out out' err err' status (inr (inl (one, as_reported, same))) =
+  of_checking escape bytes out out' err err' status (inr (inl (one, as_reported, same))) =
       of_error out out' err err' status one same
-  of_checking bytes out out' err err' status (inr (inr (one, begun, same))) =
+  of_checking escape bytes out out' err err' status (inr (inr (one, begun, same))) =
       of_output out out' err err' status (inr one) same
 
-  of_file : (known : Option (List ℕ)) (path : List ℕ) (out out' : O) (err err' : E) (status : ℕ)
-      → ChecksFile out_holds err_holds known path out out' err err' status
+  of_file : (escape : Escape) (known : Option (List ℕ)) (path : List ℕ) (out out' : O) (err err' : E) (status : ℕ)
+      → ChecksFile out_holds err_holds escape known path out out' err err' status
       → WritesOneStream out out' err err' status
-  of_file known path out out' err err' status (inl (bytes, file, checked)) =
-      of_checking bytes out out' err err' status checked
-  of_file known path out out' err err' status (inr (error, is, one, as_reported, same)) =
+  of_file escape known path out out' err err' status (inl (bytes, file, checked)) =
+      of_checking escape bytes out out' err err' status checked
+  of_file escape known path out out' err err' status (inr (error, is, one, as_reported, same)) =
       of_error out out' err err' status one same
 
-  of_answering : (bytes method target : List ℕ) (out out' : O) (err err' : E) (status : ℕ)
-      → Answers out_holds err_holds bytes method target out out' err err' status
+  of_answering : (escape : Escape) (bytes method target : List ℕ) (out out' : O) (err err' : E) (status : ℕ)
+      → Answers out_holds err_holds escape bytes method target out out' err err' status
       → WritesOneStream out out' err err' status
-  of_answering bytes method target out out' err err' status (inl (zero, shown, same)) =
+  of_answering escape bytes method target out out' err err' status (inl (zero, shown, same)) =
       of_output out out' err err' status (inl zero) same
-  of_answering bytes method target out out' err err' status (inr (inl (one, as_reported, same))) =
+  of_answering escape bytes method target out out' err err' status (inr (inl (one, as_reported, same))) =
       of_error out out' err err' status one same
-  of_answering bytes method target out out' err err' status (inr (inr (one, begun, same))) =
+  of_answering escape bytes method target out out' err err' status (inr (inr (one, begun, same))) =
       of_output out out' err err' status (inr one) same
 
-  of_mappings : (known : Option (List ℕ)) (path method target : List ℕ) (out out' : O) (err err' : E) (status : ℕ)
-      → AnswersFile out_holds err_holds known path method target out out' err err' status
+  of_mappings : (escape : Escape) (known : Option (List ℕ)) (path method target : List ℕ) (out out' : O) (err err' : E) (status : ℕ)
+      → AnswersFile out_holds err_holds escape known path method target out out' err err' status
       → WritesOneStream out out' err err' status
-  of_mappings known path method target out out' err err' status (inl (bytes, file, answered)) =
-      of_answering bytes method target out out' err err' status answered
-  of_mappings known path method target out out' err err' status (inr (error, is, one, as_reported, same)) =
+  of_mappings escape known path method target out out' err err' status (inl (bytes, file, answered)) =
+      of_answering escape bytes method target out out' err err' status answered
+  of_mappings escape known path method target out out' err err' status (inr (error, is, one, as_reported, same)) =
       of_error out out' err err' status one same
 
-  pub of_command : (files : List ℕ → Option (List ℕ)) (asked : Asked) (out out' : O) (err err' : E) (status : ℕ)
-      → Does out_holds err_holds files asked out out' err err' status
+  pub of_command : (files : List ℕ → Option (List ℕ)) (escape : Escape) (asked : Asked) (out out' : O) (err err' : E) (status : ℕ)
+      → Does out_holds err_holds files escape asked out out' err err' status
       → WritesOneStream out out' err err' status
-  of_command files (render template method target) out out' err err' status done =
-      of_rendering template method target out out' err err' status done
-  of_command files (check path) out out' err err' status done =
-      of_file (files path) path out out' err err' status done
-  of_command files (answer path method target) out out' err err' status done =
-      of_mappings (files path) path method target out out' err err' status done
+  of_command files escape (render template method target) out out' err err' status done =
+      of_rendering (with_escape escape template) method target out out' err err' status done
+  of_command files escape (check path) out out' err err' status done =
+      of_file escape (files path) path out out' err err' status done
+  of_command files escape (answer path method target) out out' err err' status done =
+      of_mappings escape (files path) path method target out out' err err' status done

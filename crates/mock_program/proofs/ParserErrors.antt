@@ -8,8 +8,10 @@ use Rattle.clap.specs.declared.error.kind.ErrorKind.{ErrorKind}
 use Rattle.clap.specs.declared.error.kind.ErrorKind.TheVariants as kind
 use Rattle.mock_program.specs.Inner.Parser.{IsHelp, answers_to, mock_app}
 use Rattle.mock_program.specs.CommandLine.{AreInvalid, BeginsWithDash, CallsForHelp, Gives, IsCommand, IsHelpFlag}
-use Rattle.mock_program.specs.Inner.Arguments.{delimiter, parser_arguments}
-use Rattle.mock_program.proofs.CommandArguments.{differs, is_no_flag}
+use Rattle.mock_program.specs.Inner.Arguments.{delimiter, unflagged, parser_arguments}
+use Rattle.template_tree.specs.declared.escape.Escape.{Escape}
+use Rattle.template_tree.specs.declared.escape.Escape.TheVariants.{Off, Html}
+use Rattle.mock_program.proofs.CommandArguments.{differs, parser_arguments-given}
 use Rattle.mock_program.proofs.ParserAnswers.{IsMiscounted, answers_are, empty_command, help_of_answer, help_of_check}
 use Rattle.mock_program.proofs.ParserAnswers.{help_of_mock, help_of_render, miscounted_answer, miscounted_check}
 use Rattle.mock_program.proofs.ParserAnswers.{miscounted_render, no_command, nothing_to_answer, nothing_to_check}
@@ -34,9 +36,9 @@ FailsByMistake kinds = (kinds ≢ []) × ((k : ErrorKind) → IsAmong k kinds �
 help_of : (flag : Text) (rest : List Text) → IsHelpFlag flag
     → fault (codes "mock" ∷ flag ∷ rest) ≡ kind.DisplayHelp ∷ []
 help_of flag rest (inl short) =
-    ap (λ (f : Text). fault (codes "mock" ∷ f ∷ rest)) short ∙ short_help_of_mock (delimiter rest ++ rest)
+    ap (λ (f : Text). fault (codes "mock" ∷ f ∷ rest)) short ∙ short_help_of_mock (delimiter (unflagged rest) ++ unflagged rest)
 help_of flag rest (inr long) =
-    ap (λ (f : Text). fault (codes "mock" ∷ f ∷ rest)) long ∙ help_of_mock (delimiter rest ++ rest)
+    ap (λ (f : Text). fault (codes "mock" ∷ f ∷ rest)) long ∙ help_of_mock (delimiter (unflagged rest) ++ unflagged rest)
 
 -- help of a command, where its two flags give it
 command_help_of : (name flag : Text) (rest : List Text) → IsHelpFlag flag
@@ -60,6 +62,16 @@ help_at name flag count rest (inr (inr answer)) help =
     ap (λ (n : Text). fault (codes "mock" ∷ n ∷ flag ∷ rest)) answer.0
     ∙ command_help_of (codes "answer") flag rest help (short_help_of_answer rest) (help_of_answer rest)
 
+-- a call for help after the flag for escapes
+unflagged_help : (program name flag : Text) (rest : List Text) → IsHelpFlag flag
+    → fault (program ∷ name ∷ codes "--html-escape" ∷ flag ∷ rest) ≡ fault (codes "mock" ∷ name ∷ flag ∷ rest)
+unflagged_help program name flag rest (inl short) =
+    ap (λ (f : Text). fault (program ∷ name ∷ codes "--html-escape" ∷ f ∷ rest)) short
+    ∙ sym (ap (λ (f : Text). fault (codes "mock" ∷ name ∷ f ∷ rest)) short)
+unflagged_help program name flag rest (inr long) =
+    ap (λ (f : Text). fault (program ∷ name ∷ codes "--html-escape" ∷ f ∷ rest)) long
+    ∙ sym (ap (λ (f : Text). fault (codes "mock" ∷ name ∷ f ∷ rest)) long)
+
 by_help : (arguments : List Text) → CallsForHelp arguments → FailsByHelp (fault arguments)
 by_help arguments (program, flag, rest, inl (inl help, is)) =
     (kind.DisplayHelp, inl refl, ap fault is ∙ help_of flag rest help)
@@ -67,10 +79,15 @@ by_help arguments (program, flag, rest, inl (inr version, is)) = (
   kind.DisplayVersion,
   inr refl,
   ap fault (is ∙ ap (λ (f : Text). program ∷ f ∷ rest) version) ∙ version_of_mock
-      (delimiter rest ++ rest),
+      (delimiter (unflagged rest) ++ unflagged rest),
 )
-by_help arguments (program, flag, rest, inr (help, (name, count, command, is))) =
+by_help arguments (program, flag, rest, inr (help, (name, count, Off, command, is))) =
     (kind.DisplayHelp, inl refl, ap fault is ∙ help_at name flag count rest command help)
+by_help arguments (program, flag, rest, inr (help, (name, count, Html, command, is))) = (
+  kind.DisplayHelp,
+  inl refl,
+  ap fault is ∙ (unflagged_help program name flag rest help ∙ help_at name flag count rest command help),
+)
 
 pub fails_by_help : (arguments : List Text) → CallsForHelp arguments
     → FailsByHelp (answers_to (parser_arguments arguments))
@@ -135,10 +152,10 @@ no_command_named name other none count is = differs other name (λ e. none count
 other_argument : (program name : Text) (rest : List Text) → ((count : ℕ) → ¬ (IsCommand name count))
     → ¬ (BeginsWithDash name) → FailsByMistake (fault (program ∷ name ∷ rest))
 other_argument program [] rest none plain =
-    subst FailsByMistake (sym (empty_command (delimiter rest ++ rest))) stray_argument
+    subst FailsByMistake (sym (empty_command (delimiter (unflagged rest) ++ unflagged rest))) stray_argument
 other_argument program (c ∷ cs) rest none plain =
     subst FailsByMistake
-    (sym (other_command c cs (delimiter rest ++ rest)
+    (sym (other_command c cs (delimiter (unflagged rest) ++ unflagged rest)
     (no_command_named (c ∷ cs) (codes "render") none 3 (λ e. inl (e, refl)))
     (no_command_named (c ∷ cs) (codes "check") none 1 (λ e. inr (inl (e, refl))))
     (no_command_named (c ∷ cs) (codes "answer") none 3 (λ e. inr (inr (e, refl))))
@@ -154,31 +171,34 @@ too_short (a ∷ []) short = subst FailsByMistake (sym no_command) missing_comma
 too_short (a ∷ b ∷ rest) short = absurd (omega arith)
 
 -- a command, where it is refused after a `--`, and without arguments
-command_fails : (arguments : List Text) (name : Text) (given : List Text) → Gives arguments name given
+command_fails : (arguments : List Text) (name : Text) (escape : Escape) (given : List Text)
+    → Gives arguments name escape given
     → IsMiscounted (fault_of mock_app (codes "mock" ∷ name ∷ codes "--" ∷ given))
     → fault_of mock_app (codes "mock" ∷ name ∷ []) ≡ kind.MissingRequiredArgument ∷ []
     → FailsByMistake (fault arguments)
-command_fails arguments name [] (program, inl (plain, is)) miscounted nothing =
+command_fails arguments name Off [] (program, inl (plain, is)) miscounted nothing =
     subst FailsByMistake (sym (ap fault is ∙ nothing)) missing_argument
-command_fails arguments name (argument ∷ given) (program, inl (plain, is)) miscounted nothing =
-    let marks : delimiter (argument ∷ given) ≡ codes "--" ∷ [] = rw (is_no_flag argument plain) refl in
-    subst FailsByMistake
-    (sym (ap fault is ∙ ap
-    (λ (m : List Text). fault_of mock_app (codes "mock" ∷ name ∷ (m ++ argument ∷ given))) marks))
-    (by_count _ miscounted)
-command_fails arguments name given (program, inr is) miscounted nothing =
+command_fails arguments name Html [] (program, inl (plain, is)) miscounted nothing =
+    subst FailsByMistake (sym (ap fault is ∙ nothing)) missing_argument
+command_fails arguments name Off [] (program, inr is) miscounted nothing =
     subst FailsByMistake (sym (ap fault is)) (by_count _ miscounted)
+command_fails arguments name Html [] (program, inr is) miscounted nothing =
+    subst FailsByMistake (sym (ap fault is)) (by_count _ miscounted)
+command_fails arguments name escape (argument ∷ given) gives miscounted nothing =
+    subst FailsByMistake
+    (sym (ap (fault_of mock_app) (parser_arguments-given arguments name escape argument given gives)))
+    (by_count _ miscounted)
 
-miscounted_at : (arguments : List Text) (name : Text) (count : ℕ) (given : List Text) → IsCommand name count
-    → Gives arguments name given → length given ≢ count → FailsByMistake (fault arguments)
-miscounted_at arguments name count given (inl (render, three)) gives wrong =
-    command_fails arguments (codes "render") given (subst (λ n. Gives arguments n given) render gives)
+miscounted_at : (arguments : List Text) (name : Text) (count : ℕ) (escape : Escape) (given : List Text)
+    → IsCommand name count → Gives arguments name escape given → length given ≢ count → FailsByMistake (fault arguments)
+miscounted_at arguments name count escape given (inl (render, three)) gives wrong =
+    command_fails arguments (codes "render") escape given (subst (λ n. Gives arguments n escape given) render gives)
     (miscounted_render given (λ e. wrong (e ∙ sym three))) nothing_to_render
-miscounted_at arguments name count given (inr (inl (check, one))) gives wrong =
-    command_fails arguments (codes "check") given (subst (λ n. Gives arguments n given) check gives)
+miscounted_at arguments name count escape given (inr (inl (check, one))) gives wrong =
+    command_fails arguments (codes "check") escape given (subst (λ n. Gives arguments n escape given) check gives)
     (miscounted_check given (λ e. wrong (e ∙ sym one))) nothing_to_check
-miscounted_at arguments name count given (inr (inr (answer, three))) gives wrong =
-    command_fails arguments (codes "answer") given (subst (λ n. Gives arguments n given) answer gives)
+miscounted_at arguments name count escape given (inr (inr (answer, three))) gives wrong =
+    command_fails arguments (codes "answer") escape given (subst (λ n. Gives arguments n escape given) answer gives)
     (miscounted_answer given (λ e. wrong (e ∙ sym three))) nothing_to_answer
 
 by_mistake : (arguments : List Text) → AreInvalid arguments → FailsByMistake (fault arguments)
@@ -186,7 +206,7 @@ by_mistake arguments (inl short) = too_short arguments short
 by_mistake arguments (inr (inl (program, name, rest, is, none, plain))) =
     subst FailsByMistake (sym (ap fault is)) (other_argument program name rest none plain)
 by_mistake arguments (inr (inr (name, count, given, command, gives, wrong))) =
-    miscounted_at arguments name count given command gives wrong
+    miscounted_at arguments name count escape given command gives wrong
 
 pub fails_by_mistake : (arguments : List Text) → AreInvalid arguments
     → FailsByMistake (answers_to (parser_arguments arguments))

@@ -11,6 +11,7 @@ use Rattle.mock_request.specs.Target.{HasUrl}
 use Rattle.mock_request.specs.declared.error.SnapshotError.{SnapshotError}
 use Rattle.mock_request.specs.declared.error.SnapshotError.TheVariants.{BadUrl, BodyTooLarge, OutOfMemory}
 use Rattle.template_machine.specs.Program.{IsProgramText}
+use Rattle.template_tree.specs.Source.{Source}
 use Rattle.command_output.specs.Lines.{out_of_memory}
 use Rattle.mock_program.specs.Rendering.{IsDataOf, IsRefusal, RefusesUrl, RefusesData}
 use Rattle.command_output.specs.declared.error.CommandError.{CommandError}
@@ -34,7 +35,7 @@ of_data method target root (TooLarge value) asked large = inr (inl ((root, asked
 of_data method target root DataOutOfMemory asked memory = inr (inr refl)
 
 -- the template is judged before the request
-pub of_request : (template method target : List ℕ) (error : CommandError) → IsProgramText template
+pub of_request : (template : Source) (method target : List ℕ) (error : CommandError) → IsProgramText template
     → IsPlainRefusal method target error
     → IsRefusal template method target error
 of_request template method target error program (inl url) = inr (inl (program, inl url))

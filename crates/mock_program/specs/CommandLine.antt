@@ -1,6 +1,8 @@
 -- Which arguments of the command line ask for which command, which call for help and which are invalid. The first of them
 -- is the program's name.
 use Rattle.std.specs.Prelude.{◌≡◌, ◌≢◌, ◌⊎◌, ◌<◌, ⊤, ℕ, List, [], ◌∷◌, ◌++◌, length, codes}
+use Rattle.template_tree.specs.declared.escape.Escape.{Escape}
+use Rattle.template_tree.specs.declared.escape.Escape.TheVariants.{Off, Html}
 
 -- a command with its arguments
 pub data Asked : Type 0 where
@@ -27,34 +29,41 @@ IsCommand name count =
     ((name ≡ codes "render") × (count ≡ 3)) ⊎ ((name ≡ codes "check") × (count ≡ 1))
     ⊎ ((name ≡ codes "answer") × (count ≡ 3))
 
--- an argument that is taken as it is where a command's first one is expected: no call for help, and not the end of the
--- flags
+-- an argument that is taken as it is where a command's first one is expected: no call for help, not the flag for escapes,
+-- and not the end of the flags
 abbrev pub IsPlainArgument : List ℕ → Type 0
-IsPlainArgument argument = (argument ≢ codes "-h") × (argument ≢ codes "--help") × (argument ≢ codes "--")
+IsPlainArgument argument =
+    (argument ≢ codes "-h") × (argument ≢ codes "--help") × (argument ≢ codes "--") × (argument ≢ codes "--html-escape")
 
 -- there is no first argument, or it is plain
 abbrev pub BeginsPlain : List (List ℕ) → Type 0
 BeginsPlain [] = ⊤
 BeginsPlain (first ∷ rest) = IsPlainArgument first
 
--- `PROGRAM NAME GIVEN..`, where each of the given arguments is taken as it is; after a `--` the first may be any
-abbrev pub Gives : List (List ℕ) → List ℕ → List (List ℕ) → Type 0
-Gives arguments name given = (program : List ℕ)
-    × ((BeginsPlain given × (arguments ≡ program ∷ name ∷ given))
-    ⊎ (arguments ≡ program ∷ name ∷ codes "--" ∷ given))
+-- the flag by which the values that templates print are escaped
+abbrev pub flags_of : Escape → List (List ℕ)
+flags_of Off = []
+flags_of Html = codes "--html-escape" ∷ []
 
-abbrev pub AsksFor : List (List ℕ) → Asked → Type 0
-AsksFor arguments asked = Gives arguments (name_of asked) (given_to asked)
+-- `PROGRAM NAME GIVEN..`, or `PROGRAM NAME --html-escape GIVEN..`, where each of the given arguments is taken as it is;
+-- after a `--` the first may be any
+abbrev pub Gives : List (List ℕ) → List ℕ → Escape → List (List ℕ) → Type 0
+Gives arguments name escape given = (program : List ℕ)
+    × ((BeginsPlain given × (arguments ≡ program ∷ name ∷ (flags_of escape ++ given)))
+    ⊎ (arguments ≡ program ∷ name ∷ (flags_of escape ++ codes "--" ∷ given)))
+
+abbrev pub AsksFor : List (List ℕ) → Escape → Asked → Type 0
+AsksFor arguments escape asked = Gives arguments (name_of asked) escape (given_to asked)
 
 abbrev pub IsHelpFlag : List ℕ → Type 0
 IsHelpFlag argument = (argument ≡ codes "-h") ⊎ (argument ≡ codes "--help")
 
--- help of the program or its version, or help of a command, whatever follows
+-- help of the program or its version, or help of a command, also after its flag, whatever follows
 abbrev pub CallsForHelp : List (List ℕ) → Type 0
 CallsForHelp arguments = (program flag : List ℕ) × (rest : List (List ℕ))
     × (((IsHelpFlag flag ⊎ (flag ≡ codes "--version")) × (arguments ≡ program ∷ flag ∷ rest))
-    ⊎ (IsHelpFlag flag × ((name : List ℕ) × (count : ℕ) × IsCommand name count
-    × (arguments ≡ program ∷ name ∷ flag ∷ rest))))
+    ⊎ (IsHelpFlag flag × ((name : List ℕ) × (count : ℕ) × (escape : Escape) × IsCommand name count
+    × (arguments ≡ program ∷ name ∷ (flags_of escape ++ flag ∷ rest)))))
 
 abbrev pub BeginsWithDash : List ℕ → Type 0
 BeginsWithDash argument = (rest : List ℕ) × (argument ≡ codes "-" ++ rest)
@@ -66,8 +75,8 @@ NamesNoCommand arguments = (program name : List ℕ) × (rest : List (List ℕ))
 
 -- a command with too few or too many arguments
 abbrev pub HasWrongCount : List (List ℕ) → Type 0
-HasWrongCount arguments = (name : List ℕ) × (count : ℕ) × (given : List (List ℕ)) × IsCommand name count
-    × Gives arguments name given × (length given ≢ count)
+HasWrongCount arguments = (name : List ℕ) × (count : ℕ) × (escape : Escape) × (given : List (List ℕ))
+    × IsCommand name count × Gives arguments name escape given × (length given ≢ count)
 
 -- no command, an unknown one, or a wrong number of arguments
 abbrev pub AreInvalid : List (List ℕ) → Type 0

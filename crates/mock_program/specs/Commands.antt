@@ -4,11 +4,14 @@ use Rattle.mapping_answer.specs.Answering.{AnswersFile}
 use Rattle.mapping_check.specs.Checking.{ChecksFile}
 use Rattle.mock_program.specs.CommandLine.{Asked, render, check, answer}
 use Rattle.mock_program.specs.Rendering.{Renders}
+use Rattle.template_tree.specs.Source.{with_escape}
+use Rattle.template_tree.specs.declared.escape.Escape.{Escape}
 
--- what the command does, where the files are known by their paths, or aren't
-abbrev pub Does : {O E : Type 0} → (O → Option (List ℕ)) → (E → Option (List ℕ)) → (List ℕ → Option (List ℕ)) → Asked
-    → O → O → E → E → ℕ → Type 0
-Does out_holds err_holds files (render template method target) = Renders out_holds err_holds template method target
-Does out_holds err_holds files (check path) = ChecksFile out_holds err_holds (files path) path
-Does out_holds err_holds files (answer path method target) =
-    AnswersFile out_holds err_holds (files path) path method target
+-- what the command does, where the prints of templates are escaped so and the files are known by their paths, or aren't
+abbrev pub Does : {O E : Type 0} → (O → Option (List ℕ)) → (E → Option (List ℕ)) → (List ℕ → Option (List ℕ)) → Escape
+    → Asked → O → O → E → E → ℕ → Type 0
+Does out_holds err_holds files escape (render template method target) =
+    Renders out_holds err_holds (with_escape escape template) method target
+Does out_holds err_holds files escape (check path) = ChecksFile out_holds err_holds escape (files path) path
+Does out_holds err_holds files escape (answer path method target) =
+    AnswersFile out_holds err_holds escape (files path) path method target

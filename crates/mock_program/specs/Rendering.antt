@@ -10,10 +10,11 @@ use Rattle.request_data.specs.RequestTree.{request_tree}
 use Rattle.code_rules.specs.Polynomial.{as_printed}
 use Rattle.code_rules.specs.Regions.{budget}
 use Rattle.template_code.specs.Machine.{Runs}
-use Rattle.template_machine.specs.Safe.{IsSafe}
+use Rattle.safe_code.specs.Safe.{IsSafe}
 use Rattle.template_machine.specs.Program.{ProgramParts, IsProgram, IsProgramText, IsMeant}
 use Rattle.template_machine.specs.Errors.{IsErrorOf, error_code_of, offset_of}
 use Rattle.template_machine.specs.declared.error.ProgramError.{ProgramError}
+use Rattle.template_tree.specs.Source.{Source}
 use Rattle.command_output.specs.Lines.{measure_line, error_line, out_of_memory}
 use Rattle.command_output.specs.Output.{AppendsPart, AppendsFront}
 use Rattle.command_output.specs.declared.error.CommandError.{CommandError}
@@ -49,7 +50,7 @@ pub record IsRun (program : ProgramParts) (root : Tree) (r : Report) : Type 0 wh
   pub byte_budget : r.byte_budget ≡ as_printed (budget program.code).bytes
 
 -- the report of a run of the template's program, whose code is safe, for that request
-pub record IsReport (template method target : List ℕ) (r : Report) : Type 0 where
+pub record IsReport (template : Source) (method target : List ℕ) (r : Report) : Type 0 where
   pub root : Tree
   pub asked : IsDataOf method target root
   pub program : ProgramParts
@@ -59,12 +60,12 @@ pub record IsReport (template method target : List ℕ) (r : Report) : Type 0 wh
   pub run : IsRun program root r
 
 -- such a report as it is printed
-abbrev pub IsReportText : List ℕ → List ℕ → List ℕ → List ℕ → Type 0
+abbrev pub IsReportText : Source → List ℕ → List ℕ → List ℕ → Type 0
 IsReportText template method target text =
     (report : Report) × IsReport template method target report × (text ≡ report_text report)
 
 -- the template is no program, and this says why
-abbrev pub RefusesTemplate : List ℕ → CommandError → Type 0
+abbrev pub RefusesTemplate : Source → CommandError → Type 0
 RefusesTemplate template error =
     (e : ProgramError) × IsErrorOf template e × (error ≡ record { code = error_code_of e; at = offset_of e })
 
@@ -79,31 +80,31 @@ RefusesData method target error =
     × (error ≡ record { code = ErrorCode.TooLarge; at = None })
 
 -- the first error, where the template is judged before the request; memory may run out at any moment
-abbrev pub IsRefusal : List ℕ → List ℕ → List ℕ → CommandError → Type 0
+abbrev pub IsRefusal : Source → List ℕ → List ℕ → CommandError → Type 0
 IsRefusal template method target error =
     RefusesTemplate template error
     ⊎ (IsProgramText template × (RefusesUrl target error ⊎ RefusesData method target error))
     ⊎ (error ≡ out_of_memory)
 
 -- the whole report was written
-abbrev pub ShowsReport : List ℕ → List ℕ → List ℕ → Option (List ℕ) → Option (List ℕ) → Type 0
+abbrev pub ShowsReport : Source → List ℕ → List ℕ → Option (List ℕ) → Option (List ℕ) → Type 0
 ShowsReport template method target old new =
     (text : List ℕ) × IsReportText template method target text × Appends old new text
 
 -- the report was begun, and the writer refused the rest
-abbrev pub BreaksOff : List ℕ → List ℕ → List ℕ → Option (List ℕ) → Option (List ℕ) → Type 0
+abbrev pub BreaksOff : Source → List ℕ → List ℕ → Option (List ℕ) → Option (List ℕ) → Type 0
 BreaksOff template method target old new =
     (text : List ℕ) × IsReportText template method target text × AppendsPart old new text
 
 -- an error was reported, as far as the writer took its line
-abbrev pub ReportsError : List ℕ → List ℕ → List ℕ → Option (List ℕ) → Option (List ℕ) → Type 0
+abbrev pub ReportsError : Source → List ℕ → List ℕ → Option (List ℕ) → Option (List ℕ) → Type 0
 ReportsError template method target old new =
     (error : CommandError) × IsRefusal template method target error × AppendsFront old new (error_line error)
 
 -- How a rendering ends, by what standard output and standard error hold before and after it, and the exit status: the
 -- report is on standard output (0), an error is on standard error (1), or standard output took a part of the report
 -- (1). Each time the other of both is as it was.
-abbrev pub Renders : {O E : Type 0} → (O → Option (List ℕ)) → (E → Option (List ℕ)) → List ℕ → List ℕ → List ℕ
+abbrev pub Renders : {O E : Type 0} → (O → Option (List ℕ)) → (E → Option (List ℕ)) → Source → List ℕ → List ℕ
     → O → O → E → E → ℕ → Type 0
 Renders out_holds err_holds template method target out out' err err' status =
     ((status ≡ 0) × ShowsReport template method target (out_holds out) (out_holds out') × (err' ≡ err))

@@ -1,9 +1,10 @@
 //! The arguments of the command line: those that the parser is given for them, and what is reported where the system
 //! gives none.
-ghost use Rattle.std.specs.Prelude.{◌≡◌, ◌≢◌, ◌⊎◌, ◌++◌, IfOk, OnOk, map, string_bytes};
+ghost use Rattle.std.specs.Prelude.{◌≡◌, ◌≢◌, ◌⊎◌, [], ◌∷◌, ◌++◌, IfOk, OnOk, map, string_bytes};
 ghost use Rattle.std.specs.IoError.{error_kind};
 ghost use Rattle.std.specs.Io.KnownBytes.{Appends};
-ghost use Rattle.mock_program.specs.Inner.Arguments.{delimiter, is_flag, needs_delimiter, parser_arguments};
+ghost use Rattle.mock_program.specs.Inner.Arguments.{delimiter, escape_asked, escape_before, is_flag, needs_delimiter};
+ghost use Rattle.mock_program.specs.Inner.Arguments.{parser_arguments, unflagged};
 ghost use Rattle.command_output.specs.Lines.{error_line, not_utf8_line, out_of_memory};
 ghost use Rattle.command_output.specs.Output.{AppendsFront, AppendsPart};
 
@@ -14,6 +15,7 @@ use error_code::error_code::ErrorCode;
 use std::alloc::{AllocError, Global};
 use std::io;
 use std::io::{ErrorKind, Write};
+use template_tree::escape::Escape;
 
 /// Reports why the system gives no arguments, and gives the exit status: 2 for arguments that aren't UTF-8, 1 where
 /// memory is out or the report can't be written to the end.
@@ -34,7 +36,8 @@ pub fn report_unreadable<E: Write>(error: &io::Error, err: &mut E) -> u8
     }
 }
 
-/// The arguments with a `--` before the first that isn't a flag of its command: none after it is read as a flag.
+/// The arguments without the flag for escapes, and with a `--` before the first that isn't a flag of its command: none
+/// after it is read as a flag.
 pub(crate) fn parser_arguments<'a>(
     alloc: Global,
     arguments: &'a [String],
@@ -46,9 +49,40 @@ pub(crate) fn parser_arguments<'a>(
     made.push("mock")?;
     if let [_, command, rest @ ..] = arguments {
         made.push(command.as_str())?;
-        push_delimited(&mut made, rest)?;
+        push_delimited(&mut made, unflagged(rest))?;
     }
     Ok(made)
+}
+
+/// Whether the flag for escapes stands before the arguments of the command.
+pub(crate) fn escape_asked(arguments: &[String]) -> Escape
+    ensures { result ≡ escape_asked (map string_bytes arguments.now) }
+{
+    match arguments {
+        [_, _, first, ..] => escape_of(first.as_str()),
+        _ => Escape::Off,
+    }
+}
+
+fn escape_of(argument: &str) -> Escape
+    ensures { result ≡ escape_before (argument.now ∷ []) }
+{
+    if argument == "--html-escape" {
+        Escape::Html
+    } else {
+        Escape::Off
+    }
+}
+
+fn unflagged(arguments: &[String]) -> &[String]
+    ensures { map string_bytes result.now ≡ unflagged (map string_bytes arguments.now) }
+{
+    if let [first, rest @ ..] = arguments {
+        if first.as_str() == "--html-escape" {
+            return rest;
+        }
+    }
+    arguments
 }
 
 fn push_delimited<'a>(made: &mut Vec<&'a str>, arguments: &'a [String]) -> Result<(), AllocError>
@@ -77,5 +111,5 @@ fn needs_delimiter(arguments: &[String]) -> bool
 fn is_flag(argument: &str) -> bool
     ensures { result ≡ is_flag argument.now }
 {
-    argument == "-h" || argument == "--help" || argument == "--"
+    argument == "-h" || argument == "--help" || argument == "--" || argument == "--html-escape"
 }

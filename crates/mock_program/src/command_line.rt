@@ -7,8 +7,9 @@ ghost use Rattle.mock_program.specs.Commands.{Does};
 ghost use Rattle.mock_program.specs.Inner.Parser.{IsHelp, asked_of};
 ghost use Rattle.command_output.specs.Lines.{error_line, out_of_memory};
 ghost use Rattle.command_output.specs.Output.{AppendsFront, WritesOneStream};
+ghost use Rattle.template_tree.specs.declared.escape.Escape.{Escape};
 
-use crate::arguments::parser_arguments;
+use crate::arguments::{escape_asked, parser_arguments};
 use crate::parser::{Call, call_of};
 use crate::render::render_to;
 use clap::Error;
@@ -21,6 +22,7 @@ use mapping_answer::answer::answer_file;
 use mapping_check::check::check_file;
 use std::alloc::Global;
 use std::io::Write;
+use template_tree::escape::Escape;
 
 /// Runs the command that the arguments name, the first of them being the program's name, and gives the exit status:
 /// 0; 1 for an error or output that can't be written; 2 for invalid arguments. The text of `clap` for invalid
@@ -33,20 +35,21 @@ pub fn run<F: FileReader, O: Write, E: Write>(
     err: &mut E,
 ) -> u8
     // Arguments that ask for a command do what that command does, each argument taken as it is.
-    ensures command { (asked : Asked) → AsksFor (map string_bytes arguments.now) asked
-        → Does O.contents E.contents (F.content files.now) asked out.old out.new err.old err.new result }
+    ensures command { (escape : Escape) (asked : Asked) → AsksFor (map string_bytes arguments.now) escape asked
+        → Does O.contents E.contents (F.content files.now) escape asked out.old out.new err.old err.new result }
 
     // Help is no mistake, and invalid arguments are one. Where the text can't be made or written, the status is 1.
     ensures help { CallsForHelp (map string_bytes arguments.now) → (result ≡ 0) ⊎ (result ≡ 1) }
     ensures invalid { AreInvalid (map string_bytes arguments.now) → (result ≡ 2) ⊎ (result ≡ 1) }
     ensures streams { WritesOneStream out.old out.new err.old err.new result }
 {
+    let escape = escape_asked(arguments);
     let Ok(arguments) = parser_arguments(alloc, arguments) else {
         CommandError::from(ErrorCode::OutOfMemory).report(err);
         return FAILURE;
     };
     match call_of(alloc, arguments.as_slice()) {
-        Ok(Some(call)) => run_call(alloc, files, call, out, err),
+        Ok(Some(call)) => run_call(alloc, files, escape, call, out, err),
         Ok(None) => FAILURE,
         Err(error) => write_parser_message(&error, out, err),
     }
@@ -55,24 +58,26 @@ pub fn run<F: FileReader, O: Write, E: Write>(
 fn run_call<F: FileReader, O: Write, E: Write>(
     alloc: Global,
     files: &F,
+    escape: Escape,
     call: Call<'_>,
     out: &mut O,
     err: &mut E,
 ) -> u8
-    ensures { Does O.contents E.contents (F.content files.now) (asked_of call.entry) out.old out.new err.old err.new result }
+    ensures { Does O.contents E.contents (F.content files.now) escape (asked_of call.entry)
+        out.old out.new err.old err.new result }
 {
     match call {
         Call::Render {
             template,
             method,
             target,
-        } => render_to(alloc, template, method, target, out, err),
-        Call::Check { file } => check_file(alloc, files, file, out, err),
+        } => render_to(alloc, template, method, target, out, err, escape),
+        Call::Check { file } => check_file(alloc, files, file, out, err, escape),
         Call::Answer {
             file,
             method,
             target,
-        } => answer_file(alloc, files, file, method, target, out, err),
+        } => answer_file(alloc, files, file, method, target, out, err, escape),
     }
 }
 

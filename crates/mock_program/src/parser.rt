@@ -25,7 +25,10 @@ n is the size of the request's data.
 Example:
   mock render 'Hello {{request.path.[1]}}' GET /hi/Ann
 
-A template that is `-h`, `--help` or `--` follows a `--`; all other arguments are taken as they are.";
+With --html-escape before the template, {{x}} is escaped for HTML; {{{x}}} and text stay as they are.
+
+A template that is `-h`, `--help`, `--html-escape` or `--` follows a `--`; all other arguments are taken as
+they are.";
 
 const CHECK_HELP: &str =
     "It prints a line for each mapping of the file, numbered from 1: `1 plain`; or, with the budgets of
@@ -35,7 +38,9 @@ error. The status is 1 where a mapping has an error.
 Example:
   mock check mappings.json
 
-A file that is `-h`, `--help` or `--` follows a `--`.";
+With --html-escape before the file, {{x}} in templates is escaped for HTML.
+
+A file that is `-h`, `--help`, `--html-escape` or `--` follows a `--`.";
 
 const ANSWER_HELP: &str =
     "It prints the reply to one request, without headers and body, of a server that has just started with
@@ -44,7 +49,10 @@ the mappings of the file: the status, the headers, an empty line and the body.
 Example:
   mock answer mappings.json GET /hi/Ann
 
-A file that is `-h`, `--help` or `--` follows a `--`; all other arguments are taken as they are.";
+With --html-escape before the file, {{x}} in templates is escaped for HTML.
+
+A file that is `-h`, `--help`, `--html-escape` or `--` follows a `--`; all other arguments are taken as they
+are.";
 
 /// A command that is asked for, with its arguments as they are on the command line.
 #[derive(Clone, Copy)]

@@ -1,10 +1,11 @@
 //! `mock render`: a template's text for one request.
 ghost use Rattle.std.specs.Prelude.{◌≡◌, ◌⊎◌, IfOk, IfErr, string_bytes};
 ghost use Rattle.data_tree.specs.RequestData.{root_of};
-ghost use Rattle.template_machine.specs.Safe.{IsSafe};
+ghost use Rattle.safe_code.specs.Safe.{IsSafe};
 ghost use Rattle.command_output.specs.Lines.{out_of_memory};
 ghost use Rattle.mock_program.specs.Rendering.{Report, IsDataOf, IsReportText, IsRefusal, IsRun, report_text};
 ghost use Rattle.mock_program.specs.Rendering.{RefusesUrl, RefusesData, Renders};
+ghost use Rattle.template_tree.specs.Source.{with_escape};
 
 use command_output::error::CommandError;
 use command_output::lines::measure_line;
@@ -16,20 +17,23 @@ use request_data::tree::request_data;
 use std::alloc::{AllocError, Global};
 use std::io::Write;
 use template_machine::program::{Program, render};
+use template_tree::escape::Escape;
 
 /// What `mock render` prints for a request of that method and target, without headers and body: the steps and the
-/// bytes of the run, each with its budget, then the rendered text. The template is judged first, then the target,
-/// then the size of the request's data.
+/// bytes of the run, each with its budget, then the rendered text, in which values are escaped so. The template is judged
+/// first, then the target, then the size of the request's data.
 pub fn render_request(
     alloc: Global,
     template: &str,
     method: &str,
     target: &str,
+    escape: Escape,
 ) -> Result<String, CommandError>
-    ensures report { IfOk result (λ printed. IsReportText template.now method.now target.now (string_bytes printed)) }
-    ensures refusal { IfErr result (IsRefusal template.now method.now target.now) }
+    ensures report { IfOk result (λ printed.
+        IsReportText (with_escape escape template.now) method.now target.now (string_bytes printed)) }
+    ensures refusal { IfErr result (IsRefusal (with_escape escape template.now) method.now target.now) }
 {
-    let program = Program::from_text(alloc, template)?;
+    let program = Program::from_text_with(alloc, template, escape)?;
     let data = plain_request(alloc, method, target)?;
     Ok(report(alloc, &program, &data)?)
 }
@@ -67,10 +71,12 @@ pub fn render_to<O: Write, E: Write>(
     target: &str,
     out: &mut O,
     err: &mut E,
+    escape: Escape,
 ) -> u8
-    ensures { Renders O.contents E.contents template.now method.now target.now out.old out.new err.old err.new result }
+    ensures { Renders O.contents E.contents (with_escape escape template.now) method.now target.now
+        out.old out.new err.old err.new result }
 {
-    match render_request(alloc, template, method, target) {
+    match render_request(alloc, template, method, target, escape) {
         Ok(printed) => match put(out, printed.as_bytes()) {
             Ok(()) => SUCCESS,
             Err(_error) => FAILURE,

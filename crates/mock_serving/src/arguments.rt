@@ -2,8 +2,9 @@
 ghost use Rattle.std.specs.Prelude.{◌≡◌, IfOk, option_map};
 ghost use Rattle.clap.specs.Words.{first_of, found_of, rows_of};
 
-use clap::{Arg, ArgMatches, Command, Error, value_parser};
+use clap::{Arg, ArgAction, ArgMatches, Command, Error, value_parser};
 use std::alloc::{AllocError, Global};
+use template_tree::escape::Escape;
 
 const SERVE_HELP: &str =
     "It serves on 127.0.0.1, tells where on the first line, `listening on 127.0.0.1:PORT`, and goes on until it
@@ -24,6 +25,8 @@ pub struct ServeArguments<'a> {
     pub port: u16,
     /// The path of the file of mappings.
     pub mappings: Option<&'a str>,
+    /// How the prints of templates are escaped, also of mappings that are posted.
+    pub escape: Escape,
     /// After how many connections it ends.
     pub connections: Option<u64>,
 }
@@ -45,8 +48,17 @@ fn arguments_in<'a>(given: &ArgMatches<'a>) -> Option<ServeArguments<'a>> {
     Some(ServeArguments {
         port: given.get_one("port")?,
         mappings: given.get_str("mappings"),
+        escape: escape_in(given),
         connections: given.get_one("connections"),
     })
+}
+
+fn escape_in(given: &ArgMatches<'_>) -> Escape {
+    if given.get_flag("html-escape") {
+        Escape::Html
+    } else {
+        Escape::Off
+    }
 }
 
 fn command<'a>(alloc: Global) -> Result<Command<'a>, AllocError> {
@@ -59,6 +71,12 @@ fn command<'a>(alloc: Global) -> Result<Command<'a>, AllocError> {
                 .long("mappings")
                 .value_name("FILE")
                 .help("A JSON file: a mapping, or an object with a list `mappings`"),
+        )?
+        .arg(
+            Arg::new(alloc, "html-escape")
+                .long("html-escape")
+                .help("Escapes {{x}} in templates for HTML, but not {{{x}}}")
+                .action(ArgAction::SetTrue),
         )?
         .arg(connections(alloc))?;
     Command::new(alloc, "mock")

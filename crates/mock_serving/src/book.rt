@@ -1,22 +1,24 @@
 // The book that is served.
 use command_output::error::CommandError;
 use command_output::files::{FileReader, read_file};
-use mapping_json::read::read_mappings;
+use mapping_json::read::read_mappings_with;
 use request_match::ready_mapping::ReadyMapping;
 use std::alloc::Global;
 use std::io::Write;
 use stub_book::book::Book;
+use template_tree::escape::Escape;
 
-/// A book with the mappings of the file, or with none. What is wrong is told on `err`: first the file, then its mappings,
+/// A book with the mappings of the file, whose templates' prints are escaped so, or with none. What is wrong is told on `err`: first the file, then its mappings,
 /// then that they are too many.
 pub(crate) fn book_of<F: FileReader, E: Write>(
     alloc: Global,
     files: &F,
     path: Option<&str>,
+    escape: Escape,
     err: &mut E,
 ) -> Option<Book> {
     let mappings = match path {
-        Some(path) => mappings_of(alloc, files, path, err)?,
+        Some(path) => mappings_of(alloc, files, path, escape, err)?,
         None => Vec::new(alloc),
     };
     match Book::new(alloc, mappings, 0) {
@@ -32,10 +34,11 @@ fn mappings_of<F: FileReader, E: Write>(
     alloc: Global,
     files: &F,
     path: &str,
+    escape: Escape,
     err: &mut E,
 ) -> Option<Vec<ReadyMapping>> {
     match read_file(alloc, files, path) {
-        Ok(bytes) => read(alloc, bytes.as_slice(), err),
+        Ok(bytes) => read(alloc, bytes.as_slice(), escape, err),
         Err(error) => {
             error.report(path, err);
             None
@@ -43,8 +46,13 @@ fn mappings_of<F: FileReader, E: Write>(
     }
 }
 
-fn read<E: Write>(alloc: Global, bytes: &[u8], err: &mut E) -> Option<Vec<ReadyMapping>> {
-    match read_mappings(alloc, bytes) {
+fn read<E: Write>(
+    alloc: Global,
+    bytes: &[u8],
+    escape: Escape,
+    err: &mut E,
+) -> Option<Vec<ReadyMapping>> {
+    match read_mappings_with(alloc, bytes, escape) {
         Ok(mappings) => Some(mappings),
         Err(error) => {
             CommandError::from(error.error.error_code()).report(err);

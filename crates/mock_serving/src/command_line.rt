@@ -3,6 +3,7 @@ ghost use Rattle.std.specs.Prelude.{◌≡◌, ◌⊎◌, ◌≤◌, map, string
 ghost use Rattle.command_output.specs.Output.{WritesOneStream};
 ghost use Rattle.mock_program.specs.CommandLine.{AreInvalid, Asked, AsksFor, CallsForHelp};
 ghost use Rattle.mock_program.specs.Commands.{Does};
+ghost use Rattle.template_tree.specs.declared.escape.Escape.{Escape};
 ghost use Rattle.mock_serving.specs.CommandLine.{AskToServe};
 ghost use Rattle.mock_serving.specs.Inner.Arguments.{ask_to_serve};
 
@@ -29,8 +30,8 @@ where
     O: Write,
     E: Write,
     // Arguments that ask for a command other than `serve` do what that command does, each argument taken as it is.
-    ensures command { (asked : Asked) → AsksFor (map string_bytes arguments.now) asked
-        → Does O.contents E.contents (R.content rt) asked out.old out.new err.old err.new result }
+    ensures command { (escape : Escape) (asked : Asked) → AsksFor (map string_bytes arguments.now) escape asked
+        → Does O.contents E.contents (R.content rt) escape asked out.old out.new err.old err.new result }
 
     // Help is no mistake, and invalid arguments are one. Where the text can't be made or written, the status is 1.
     ensures help { CallsForHelp (map string_bytes arguments.now) → (result ≡ 0) ⊎ (result ≡ 1) }

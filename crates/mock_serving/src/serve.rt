@@ -39,7 +39,7 @@ where
     E: Write,
     ensures { result ≤ 1 }
 {
-    match book_of(rt.alloc(), &rt, arguments.mappings, err) {
+    match book_of(rt.alloc(), &rt, arguments.mappings, arguments.escape, err) {
         Some(book) => {
             serve_book::<Brand, R, O, E>(rt, Blank::new(PARTS), PARTS, book, arguments, out, err)
         }
@@ -82,6 +82,7 @@ where
     let site = Site {
         book,
         limits: Limits::usual(),
+        escape: arguments.escape,
         gate: NoGate,
     };
     serve_on(

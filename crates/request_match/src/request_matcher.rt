@@ -5,6 +5,7 @@ ghost use Rattle.request_match.specs.Inner.Heads.{MeetsHead};
 ghost use Rattle.request_match.specs.Literal.{method_of};
 ghost use Rattle.request_match.specs.Matching.{MeetsRequest, MeetsMethod};
 ghost use Rattle.request_match.specs.Refusal.{CanBeBuilt, IsRefusal};
+ghost use Rattle.request_parts.specs.Key.{MayHave, key_of};
 ghost use Rattle.request_parts.specs.Literal.{literal_url, text_of};
 
 use crate::literal::Literal;
@@ -14,6 +15,7 @@ use request_parts::body_test::{BodyTest, build_body, meet_body};
 use request_parts::error::RequestMatchError;
 use request_parts::named_test::{NamedTest, build_tests, meet_headers, meet_pairs};
 use request_parts::parsed_request::ParsedRequest;
+use request_parts::url_key::UrlKey;
 use request_parts::url_test::UrlTest;
 use std::alloc::{AllocError, Global};
 use std::marker::Model;
@@ -77,14 +79,11 @@ impl RequestMatcher {
         meet_body(self.body.as_mut_slice(), request)
     }
 
-    /// Whether all but the body meets it, in the order of what the comparison costs: most requests have another URL.
+    /// Whether all but the body meets it, in the order of what the comparison costs.
     fn meets_head(&mut self, request: &ParsedRequest<'_>) -> Result<bool, AllocError>
         ensures answer { IfOk result (λ yes. IsTrue yes ↔ MeetsHead self.old request.now) }
         ensures same { self.new ≡ self.old }
     {
-        if self.url.is_of_another_url(request) {
-            return Ok(false);
-        }
         if !meets_method(&self.method, request.method()) {
             return Ok(false);
         }
@@ -99,6 +98,14 @@ impl RequestMatcher {
             return Ok(false);
         }
         meet_pairs(self.cookies.as_mut_slice(), values.cookies())
+    }
+
+    /// What its literal URL is known by: a request for another one doesn't meet it.
+    pub fn key(&self) -> UrlKey
+        ensures value { result ≡ key_of self.now.url }
+        ensures only { (request : Request) → MeetsRequest self.now request → MayHave result request.url }
+    {
+        self.url.key()
     }
 
     /// The literal URL that it asks for, if it does. Takes no memory.

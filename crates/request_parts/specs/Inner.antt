@@ -1,4 +1,3 @@
-pub mod Hash
 pub mod Read
 pub mod Rest
 pub mod Kept

@@ -1,7 +1,7 @@
 // Texts that are compared by their hashes first. Thousands of matchers are tried in turn, most of them for another URL: a
 // hash is in the matcher itself, and the bytes of its text are elsewhere.
-ghost use Rattle.std.specs.Prelude.{◌≡◌, ◌≢◌, ◌↔◌, IfOk, IsTrue};
-ghost use Rattle.request_parts.specs.Inner.Hash.{hash_of};
+ghost use Rattle.std.specs.Prelude.{◌≡◌, ◌↔◌, IfOk, IsTrue};
+ghost use Rattle.request_parts.specs.Key.{hash_of};
 
 use plain_text::text::Text;
 use std::alloc::AllocError;
@@ -17,7 +17,7 @@ pub(crate) struct HashedText {
 
 impl Model for HashedText {
     ghost use Rattle.std.specs.Prelude.{◌≡◌, ℕ, List};
-    ghost use Rattle.request_parts.specs.Inner.Hash.{hash_of};
+    ghost use Rattle.request_parts.specs.Key.{hash_of};
 
     ghost Value = { List ℕ };
 
@@ -41,6 +41,12 @@ impl HashedText {
     {
         self.text.as_str()
     }
+
+    pub(crate) fn hash(&self) -> u64
+        ensures { result ≡ hash_of self.now }
+    {
+        self.hash
+    }
 }
 
 /// A text with its hash. Contracts see the text.
@@ -52,7 +58,7 @@ pub(crate) struct HashedStr<'a> {
 
 impl<'a> Model for HashedStr<'a> {
     ghost use Rattle.std.specs.Prelude.{◌≡◌, ℕ, List};
-    ghost use Rattle.request_parts.specs.Inner.Hash.{hash_of};
+    ghost use Rattle.request_parts.specs.Key.{hash_of};
 
     ghost Value = { List ℕ };
 
@@ -77,11 +83,10 @@ impl<'a> HashedStr<'a> {
         self.text
     }
 
-    /// Whether the hashes differ: then the texts do.
-    pub(crate) fn has_another_hash(&self, other: &HashedText) -> bool
-        ensures { IsTrue result → self.now ≢ other.now }
+    pub(crate) fn hash(&self) -> u64
+        ensures { result ≡ hash_of self.now }
     {
-        self.hash != other.hash
+        self.hash
     }
 
     pub(crate) fn equals(&self, other: &HashedText) -> bool

@@ -8,11 +8,13 @@ ghost use Rattle.json_bridge.specs.Reading.{tree_of_text};
 ghost use Rattle.json_match.specs.Matching as json;
 ghost use Rattle.mock_request.specs.Url.{path_of};
 ghost use Rattle.request_parts.specs.Inner.Read.{IsReadOf};
+ghost use Rattle.request_parts.specs.Key.{MayHave};
 ghost use Rattle.request_parts.specs.Matching.{found_text};
 ghost use Rattle.value_match.specs.Matching as value;
 
 use crate::body_test::meets_found;
 use crate::hashed_text::HashedStr;
+use crate::url_key::UrlKey;
 use data_tree::data::Data;
 use json_bridge::json_path::JsonPath;
 use json_bridge::read::data_of_json;
@@ -89,6 +91,17 @@ impl<'a> ParsedRequest<'a> {
         ensures { result.now ≡ path_of self.now.url }
     {
         self.path.as_str()
+    }
+
+    /// Whether its URL is another one than that which is known by this.
+    pub fn has_another_url(&self, key: UrlKey) -> bool
+        ensures { IsTrue result ↔ ¬ (MayHave key self.now.url) }
+    {
+        match key {
+            UrlKey::Any => false,
+            UrlKey::Url(hash) => hash != self.url.hash(),
+            UrlKey::UrlPath(hash) => hash != self.path.hash(),
+        }
     }
 
     /// The path and the query with their hash.

@@ -2,6 +2,7 @@
 ghost use Rattle.std.specs.Prelude.{◌≡◌, ◌↔◌, ◌∷◌, [], ℕ, List, IfOk, IfErr, IfSome, IsErrOf, IsSomeAnd, IsTrue, OnOk};
 ghost use Rattle.std.specs.Prelude.{All, Any, option_map};
 ghost use Rattle.path_template.specs.Matching.{bindings_of};
+ghost use Rattle.request_parts.specs.Key.{MayHave, key_of};
 ghost use Rattle.request_parts.specs.Literal.{literal_url, text_of};
 ghost use Rattle.request_parts.specs.Matching.{MeetsUrl, MeetPairs};
 ghost use Rattle.request_parts.specs.Refusal.{HasTemplate, IsUrlRefusal, matchers_of, url_matchers};
@@ -14,6 +15,7 @@ use crate::hashed_text::HashedText;
 use crate::literal_kind::LiteralKind;
 use crate::named_test::{NamedTest, build_tests, meet_pairs};
 use crate::parsed_request::ParsedRequest;
+use crate::url_key::UrlKey;
 use mapping_model::named_matcher::NamedMatcher;
 use mapping_model::url_spec::UrlSpec;
 use path_template::path_template::PathTemplate;
@@ -71,14 +73,15 @@ impl UrlTest {
         meets_kind(&mut self.kind, alloc, request)
     }
 
-    /// Whether the hash of a literal URL says that the request has another. Of the matcher it reads no memory but its own.
-    pub fn is_of_another_url(&self, request: &ParsedRequest<'_>) -> bool
-        ensures { IsTrue result → ¬ (MeetsUrl self.now request.now.url) }
+    /// What its literal URL is known by.
+    pub fn key(&self) -> UrlKey
+        ensures value { result ≡ key_of self.now }
+        ensures only { (target : List ℕ) → MeetsUrl self.now target → MayHave result target }
     {
         match &self.kind {
-            UrlKind::Url(text) => request.hashed_url().has_another_hash(text),
-            UrlKind::UrlPath(text) => request.hashed_path().has_another_hash(text),
-            _ => false,
+            UrlKind::Url(text) => UrlKey::Url(text.hash()),
+            UrlKind::UrlPath(text) => UrlKey::UrlPath(text.hash()),
+            _ => UrlKey::Any,
         }
     }
 

@@ -1,10 +1,11 @@
 -- The JSON of a response, with names in byte order: `status` always; no headers, no body, an empty text and no transformers
 -- are left out.
-use Rattle.std.specs.Prelude.{ℕ, List, [], ◌∷◌, Option, Some, None, unwrap_or, codes, if◌then◌else◌}
+use Rattle.std.specs.Prelude.{ℕ, List, [], ◌∷◌, map, Option, Some, None, unwrap_or, codes, if◌then◌else◌}
 use Rattle.std.specs.Str.{bytes_eq}
 use Rattle.base64.specs.Engines.{standard}
 use Rattle.base64.specs.GeneralPurpose.{encode_of}
 use Rattle.json_reading.specs.Written.{with_field}
+use Rattle.mapping_model.specs.declared.header_lines.HeaderLine.{HeaderLine}
 use Rattle.mapping_model.specs.declared.response_spec.Body.{Body}
 use Rattle.mapping_model.specs.declared.response_spec.Body.TheVariants as body
 use Rattle.mapping_model.specs.declared.response_spec.Content.{Content}
@@ -15,6 +16,7 @@ use Rattle.serde_json.specs.Data.{Data, number, string, array, object, no_items,
 use Rattle.serde_json.specs.Data.{unsigned}
 use Rattle.serde_json.specs.Read.{read}
 use Rattle.serde_json.specs.View.{items_of}
+use Rattle.template_tree.specs.Source.{Source}
 
 -- the texts of the lines with that name, in their order
 abbrev pub texts_of : List ℕ → List Line → List Data
@@ -57,10 +59,20 @@ with_parts headers found ms = with_body found (with_field (codes "headers") (jso
 abbrev pub template_transformers : Data
 template_transformers = array (item (string (codes "response-template")) no_items)
 
+-- the texts of templates; whether their prints are escaped isn't written
+abbrev pub text_line : HeaderLine Source → Line
+text_line line = record { name = line.name; value = line.value.text }
+
+abbrev pub text_body : Body Source → Body (List ℕ)
+text_body body.Empty = body.Empty
+text_body (body.Text source) = body.Text source.text
+text_body (body.Json text) = body.Json text
+text_body (body.Base64 bytes) = body.Base64 bytes
+
 abbrev pub with_content : Content → Members → Members
 with_content (Plain headers found) ms = with_parts headers found ms
 with_content (Templated headers found) ms =
-    put (codes "transformers") template_transformers (with_parts headers found ms)
+    put (codes "transformers") template_transformers (with_parts (map text_line headers) (text_body found) ms)
 
 abbrev pub with_status : ℕ → Members
 with_status code = put (codes "status") (number (unsigned code)) no_members

@@ -2,7 +2,8 @@
 ghost use Rattle.std.specs.Prelude.{◌≡◌, ◌∷◌, ◌++◌, [], All, IfOk, IfErr, OnOk};
 ghost use Rattle.mapping_model.specs.declared.response_spec.Content.{Content};
 ghost use Rattle.response_json.specs.Draft.{response_of, no_response, templates_of, values_of};
-ghost use Rattle.response_json.specs.Draft.{body_templates, IsFirstError};
+ghost use Rattle.response_json.specs.Draft.{body_templates, line_with, lines_with, body_with, IsFirstError};
+ghost use Rattle.template_tree.specs.Source.{with_escape};
 ghost use Rattle.template_machine.specs.Program.{IsProgramText};
 ghost use Rattle.template_machine.specs.Errors.{IsErrorOf};
 
@@ -13,6 +14,7 @@ use mapping_model::template_text::TemplateText;
 use plain_text::text::Text;
 use std::alloc::{AllocError, Global};
 use template_machine::error::ProgramError;
+use template_tree::escape::Escape;
 
 /// A response as it is read: its templates, if it has any, are texts still.
 #[derive(Drop)]
@@ -37,12 +39,12 @@ impl ResponseDraft {
         }
     }
 
-    /// The response, with its templates compiled in the order of the header lines, and then the body. The error is that
-    /// of the first template that is none.
-    pub fn compile(self, alloc: Global) -> Result<ResponseSpec, ProgramError>
-        ensures value { IfOk result (λ response. response ≡ response_of self) }
-        ensures ok { OnOk result (All IsProgramText (templates_of self)) }
-        ensures err { IfErr result (IsFirstError (templates_of self)) }
+    /// The response, with its templates, whose prints are escaped so, compiled in the order of the header lines, and
+    /// then the body. The error is that of the first template that is none.
+    pub fn compile(self, alloc: Global, escape: Escape) -> Result<ResponseSpec, ProgramError>
+        ensures value { IfOk result (λ response. response ≡ response_of escape self) }
+        ensures ok { OnOk result (All IsProgramText (templates_of escape self)) }
+        ensures err { IfErr result (IsFirstError (templates_of escape self)) }
     {
         let ResponseDraft {
             status,
@@ -51,7 +53,7 @@ impl ResponseDraft {
             is_templated,
         } = self;
         let content = if is_templated {
-            compile_content(alloc, &headers, body)?
+            compile_content(alloc, &headers, body, escape)?
         } else {
             Content::Plain { headers, body }
         };
@@ -73,26 +75,31 @@ fn compile_content(
     alloc: Global,
     headers: &HeaderLines<Text>,
     body: Body<Text>,
+    escape: Escape,
 ) -> Result<Content, ProgramError>
-    ensures value { IfOk result (λ content. content ≡ Content.Templated headers.now body) }
-    ensures ok { OnOk result (All IsProgramText (values_of headers.now ++ body_templates body)) }
-    ensures err { IfErr result (IsFirstError (values_of headers.now ++ body_templates body)) }
+    ensures value { IfOk result (λ content.
+        content ≡ Content.Templated (lines_with escape headers.now) (body_with escape body)) }
+    ensures ok { OnOk result (All IsProgramText
+        (values_of (lines_with escape headers.now) ++ body_templates (body_with escape body))) }
+    ensures err { IfErr result (IsFirstError
+        (values_of (lines_with escape headers.now) ++ body_templates (body_with escape body))) }
 {
     Ok(Content::Templated {
-        headers: compile_headers(alloc, headers)?,
-        body: compile_body(alloc, body)?,
+        headers: compile_headers(alloc, headers, escape)?,
+        body: compile_body(alloc, body, escape)?,
     })
 }
 
 fn compile_headers(
     alloc: Global,
     headers: &HeaderLines<Text>,
+    escape: Escape,
 ) -> Result<HeaderLines<TemplateText>, ProgramError>
-    ensures value { IfOk result (λ compiled. compiled ≡ headers.now) }
-    ensures ok { OnOk result (All IsProgramText (values_of headers.now)) }
-    ensures err { IfErr result (IsFirstError (values_of headers.now)) }
+    ensures value { IfOk result (λ compiled. compiled ≡ lines_with escape headers.now) }
+    ensures ok { OnOk result (All IsProgramText (values_of (lines_with escape headers.now))) }
+    ensures err { IfErr result (IsFirstError (values_of (lines_with escape headers.now))) }
 {
-    match HeaderLines::new(compile_lines(alloc, headers.as_slice())?) {
+    match HeaderLines::new(compile_lines(alloc, headers.as_slice(), escape)?) {
         Some(compiled) => Ok(compiled),
         None => unreachable!(),
     }
@@ -101,14 +108,15 @@ fn compile_headers(
 fn compile_lines(
     alloc: Global,
     lines: &[HeaderLine<Text>],
+    escape: Escape,
 ) -> Result<Vec<HeaderLine<TemplateText>>, ProgramError>
-    ensures value { IfOk result (λ compiled. compiled.items ≡ lines.now) }
-    ensures ok { OnOk result (All IsProgramText (values_of lines.now)) }
-    ensures err { IfErr result (IsFirstError (values_of lines.now)) }
+    ensures value { IfOk result (λ compiled. compiled.items ≡ lines_with escape lines.now) }
+    ensures ok { OnOk result (All IsProgramText (values_of (lines_with escape lines.now))) }
+    ensures err { IfErr result (IsFirstError (values_of (lines_with escape lines.now))) }
 {
     let mut compiled = Vec::with_capacity(alloc, lines.len())?;
     for line in lines {
-        push(&mut compiled, compile_line(alloc, line)?)?;
+        push(&mut compiled, compile_line(alloc, line, escape)?)?;
     }
     Ok(compiled)
 }
@@ -125,25 +133,32 @@ fn push(
 fn compile_line(
     alloc: Global,
     line: &HeaderLine<Text>,
+    escape: Escape,
 ) -> Result<HeaderLine<TemplateText>, ProgramError>
-    ensures value { IfOk result (λ compiled. compiled ≡ line.now) }
-    ensures ok { OnOk result (IsProgramText line.now.value) }
-    ensures err { IfErr result (IsErrorOf line.now.value) }
+    ensures value { IfOk result (λ compiled. compiled ≡ line_with escape line.now) }
+    ensures ok { OnOk result (IsProgramText (with_escape escape line.now.value)) }
+    ensures err { IfErr result (IsErrorOf (with_escape escape line.now.value)) }
 {
     Ok(HeaderLine {
-        value: TemplateText::from_text(alloc, line.value.as_str())?,
+        value: TemplateText::from_text_with(alloc, line.value.as_str(), escape)?,
         name: line.name.try_clone()?,
     })
 }
 
-fn compile_body(alloc: Global, body: Body<Text>) -> Result<Body<TemplateText>, ProgramError>
-    ensures value { IfOk result (λ compiled. compiled ≡ body) }
-    ensures ok { OnOk result (All IsProgramText (body_templates body)) }
-    ensures err { IfErr result (IsFirstError (body_templates body)) }
+fn compile_body(
+    alloc: Global,
+    body: Body<Text>,
+    escape: Escape,
+) -> Result<Body<TemplateText>, ProgramError>
+    ensures value { IfOk result (λ compiled. compiled ≡ body_with escape body) }
+    ensures ok { OnOk result (All IsProgramText (body_templates (body_with escape body))) }
+    ensures err { IfErr result (IsFirstError (body_templates (body_with escape body))) }
 {
     Ok(match body {
         Body::Empty => Body::Empty,
-        Body::Text(text) => Body::Text(TemplateText::from_text(alloc, text.as_str())?),
+        Body::Text(text) => {
+            Body::Text(TemplateText::from_text_with(alloc, text.as_str(), escape)?)
+        }
         Body::Json(text) => Body::Json(text),
         Body::Base64(bytes) => Body::Base64(bytes),
     })

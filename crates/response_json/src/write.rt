@@ -5,7 +5,7 @@ ghost use Rattle.base64.specs.GeneralPurpose.{encode_of};
 ghost use Rattle.json_reading.specs.Written.{with_field};
 ghost use Rattle.response_json.specs.Writing.{json_of_response, with_content, with_parts, with_body, with_lines, with_text};
 ghost use Rattle.response_json.specs.Writing.{json_of_headers, json_of_texts, json_of_text, texts_of};
-ghost use Rattle.response_json.specs.Writing.{template_transformers};
+ghost use Rattle.response_json.specs.Writing.{template_transformers, text_line, text_body};
 ghost use Rattle.serde_json.specs.Data.{put, string, object, no_members};
 ghost use Rattle.serde_json.specs.View.{view, members_view};
 
@@ -66,7 +66,7 @@ fn source_lines(
     alloc: Global,
     lines: &[HeaderLine<TemplateText>],
 ) -> Result<Vec<HeaderLine<Text>>, AllocError>
-    ensures { IfOk result (λ sources. sources.items ≡ lines.now) }
+    ensures { IfOk result (λ sources. sources.items ≡ map text_line lines.now) }
 {
     let mut sources = Vec::with_capacity(alloc, lines.len())?;
     for line in lines {
@@ -79,7 +79,7 @@ fn source_line(
     alloc: Global,
     line: &HeaderLine<TemplateText>,
 ) -> Result<HeaderLine<Text>, AllocError>
-    ensures { IfOk result (λ source. source ≡ line.now) }
+    ensures { IfOk result (λ source. source ≡ text_line line.now) }
 {
     Ok(HeaderLine {
         name: line.name.try_clone()?,
@@ -157,7 +157,7 @@ fn put_source(
     body: &Body<TemplateText>,
 ) -> Result<(), AllocError>
     ensures { OnOk result (members_view members.new.entries
-        ≡ with_body body.now (members_view members.old.entries)) }
+        ≡ with_body (text_body body.now) (members_view members.old.entries)) }
 {
     match body {
         Body::Empty => Ok(()),

@@ -1,8 +1,6 @@
 -- What the slots print as, and what an instruction writes, keeps to the bounds.
-use Rattle.std.proofs.Common.{◌≡◌, ℕ, zero, suc, ◌+◌, ◌*◌, ◌<◌, ◌≤◌, ◌^◌, Bool, true, false, List, [], ◌∷◌, ◌++◌}
-use Rattle.std.proofs.Common.{length}
-use Rattle.std.proofs.Common.{drop, Some, sym, ap, ◌∙◌, subst, arith, pos, nat_eq, codes, cond}
-use Rattle.std.proofs.Common.{length-append}
+use Rattle.std.proofs.Common.{◌≡◌, ℕ, zero, suc, ◌<◌, ◌≤◌, ◌^◌, List, [], ◌∷◌, ◌++◌, length, drop, Some}
+use Rattle.std.proofs.Common.{sym, subst, arith, pos, nat_eq}
 use Rattle.std.specs.Prelude.{slice_get, not}
 use Rattle.std.proofs.lemmas.Option.{none-some}
 use Rattle.data_tree.specs.Tree.{Tree}
@@ -12,7 +10,7 @@ use Rattle.data_tree.proofs.Lookups.{length_print_at}
 use Rattle.helper_set.specs.Values.{Value, a_datum, a_text, a_number, a_truth, text_of, truth_of}
 use Rattle.helper_set.specs.Helpers.{argument_kinds}
 use Rattle.template_code.specs.Code.{StackCode, IsTyped}
-use Rattle.template_code.specs.Escape.{html_escaped}
+use Rattle.helper_set.specs.Escape.{html_escaped}
 use Rattle.template_code.specs.Instructions.{pops}
 use Rattle.template_code.specs.Machine.{Loop, item_of, key_of, has_next, Effect, with_stack, writes, of_loop}
 use Rattle.template_code.specs.Machine.{effect}

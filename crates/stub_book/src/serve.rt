@@ -32,7 +32,10 @@ impl Book {
         let shared = SharedRequest::new(self.alloc, request)?;
         let kept = shared.try_clone()?;
         let mut parsed = ParsedRequest::read(self.alloc, shared.request())?;
-        Ok(self.serve_parsed(kept, &mut parsed)?.answer)
+        let answer = self.chosen(&mut parsed)?;
+        let copy = answer.try_clone()?;
+        self.add_served(kept, answer)?;
+        Ok(copy)
     }
 
     /// The same for a request that was taken apart before: under a lock no more than the choice is left to do. It gives
@@ -48,43 +51,37 @@ impl Book {
         ensures why { IfErr result (λ error. IsServeRefusal self.old error.code) }
         ensures same_request { parsed.new ≡ parsed.old }
     {
-        Ok(self.serve_parsed(request, parsed)?.event)
+        self.has_number()?;
+        let answer = self.chosen(parsed)?;
+        self.add_served(request, answer)
     }
 
-    fn serve_parsed(
+    // What the request is answered with. Nothing changes.
+    fn chosen(&mut self, request: &mut ParsedRequest<'_>) -> Result<ServeAnswer, AllocError>
+        ensures answer { IfOk result (IsChoice self.old request.old) }
+        ensures same { self.new ≡ self.old }
+        ensures same_request { request.new ≡ request.old }
+    {
+        choose(&mut self.store, &self.scenarios, &self.recording, request)
+    }
+
+    // Adds the event of a request that this was chosen for.
+    fn add_served(
         &mut self,
         request: SharedRequest,
-        parsed: &mut ParsedRequest<'_>,
-    ) -> Result<Served, BookError>
-        requires { parsed.old ≡ request }
-        ensures ok { IfOk result (λ served. (served.event ≡ event.Serve request served.answer)
-            × Grows self.old self.new (event.Serve request served.answer)) }
+        answer: ServeAnswer,
+    ) -> Result<SharedEvent, BookError>
+        requires { IsChoice self.old request answer }
+        ensures ok { IfOk result (λ served. (served ≡ event.Serve request answer) × Grows self.old self.new served) }
         ensures err { OnErr result (self.new ≡ self.old) }
         ensures why { IfErr result (λ error. IsServeRefusal self.old error.code) }
-        ensures same_request { parsed.new ≡ parsed.old }
     {
-        self.has_number()?;
-        let answer = choose(&mut self.store, &self.scenarios, &self.recording, parsed)?;
-        let copy = answer.try_clone()?;
-        let event = Event::Serve {
-            request,
-            answer: copy,
-        };
+        let event = Event::Serve { request, answer };
         let made = prepare(self.alloc, &mut self.history, event)?;
-        move_scenario(self.alloc, &mut self.scenarios, &answer)?;
+        move_scenario(self.alloc, &mut self.scenarios, made.event.event())?;
         self.history.push_reserved(made.event);
-        Ok(Served {
-            event: made.accepted.event,
-            answer,
-        })
+        Ok(made.accepted.event)
     }
-}
-
-// A request that was served.
-#[derive(Drop)]
-struct Served {
-    event: SharedEvent,
-    answer: ServeAnswer,
 }
 
 // What the request is answered with. The store is not changed.
@@ -116,17 +113,17 @@ fn unchosen(recording: &Recording) -> Result<ServeAnswer, AllocError>
     }
 }
 
-// Moves the scenario of a mapping that is served, if it moves one.
-fn move_scenario(
-    alloc: Global,
-    scenarios: &mut Scenarios,
-    answer: &ServeAnswer,
-) -> Result<(), AllocError>
-    ensures ok { OnOk result ((request : Request) → StatesFollow scenarios.old scenarios.new
-        (event.Serve request answer.now)) }
+// Moves the scenario of the mapping that a request was answered with, if it moves one.
+fn move_scenario(alloc: Global, scenarios: &mut Scenarios, served: &Event) -> Result<(), AllocError>
+    ensures ok { OnOk result ((request : Request) (answer : ServeAnswer) → served.now ≡ event.Serve request answer
+        → StatesFollow scenarios.old scenarios.new (event.Serve request answer)) }
     ensures err { OnErr result (scenarios.new ≡ scenarios.old) }
 {
-    let ServeAnswer::Stub(captured) = answer else {
+    let Event::Serve {
+        answer: ServeAnswer::Stub(captured),
+        ..
+    } = served
+    else {
         return Ok(());
     };
     let Some(scenario) = &captured.mapping.spec.spec().scenario else {

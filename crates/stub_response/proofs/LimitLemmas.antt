@@ -10,6 +10,7 @@ use Rattle.code_rules.specs.Regions.{Budget, budget}
 use Rattle.template_compile.specs.Compiled.{stack_code}
 use Rattle.template_machine.specs.Program.{ProgramParts, IsProgram}
 use Rattle.template_tree.proofs.Unique.{one_tree}
+use Rattle.template_tree.specs.Source.{Source}
 use Rattle.template_tree.specs.Grammar.{Spells}
 use Rattle.stub_response.specs.Limits.{HasBudget, KeepTo}
 use Rattle.stub_response.specs.declared.limits.Limits.{Limits}
@@ -19,14 +20,14 @@ value-as_printed [] n = omega arith
 value-as_printed (p ∷ ps) n = refl
 
 pub budget_of :
-    (p : ProgramParts) (text : List ℕ) → p.source ≡ text → IsProgram p → HasBudget text (budget p.code)
+    (p : ProgramParts) (text : Source) → p.source ≡ text → IsProgram p → HasBudget text (budget p.code)
 budget_of p text same program = record {
   tree = program.tree;
   spelled = subst (λ t. Spells t program.tree) same program.spelled;
   same = ap budget program.translated;
 }
 
-one_budget : (text : List ℕ) (a b : Budget) → HasBudget text a → HasBudget text b → a ≡ b
+one_budget : (text : Source) (a b : Budget) → HasBudget text a → HasBudget text b → a ≡ b
 one_budget text a b p q =
     p.same ∙ ap (λ t. budget (stack_code t)) (one_tree text p.tree q.tree p.spelled q.spelled) ∙ sym q.same
 
@@ -37,7 +38,7 @@ bytes_at : ℕ → Budget → ℕ
 bytes_at n c = value c.bytes n
 
 pub keep_one_more :
-    (limits rest : Limits) (text : List ℕ) (more : List (List ℕ)) (n : ℕ) (cost : Budget) → HasBudget text cost
+    (limits rest : Limits) (text : Source) (more : List Source) (n : ℕ) (cost : Budget) → HasBudget text cost
     → limits.steps ≡ value cost.steps n + rest.steps → limits.bytes ≡ value cost.bytes n + rest.bytes
     → KeepTo rest more n → KeepTo limits (text ∷ more) n
 keep_one_more limits rest text more n cost b s t k = record {
@@ -60,14 +61,14 @@ first_part at c cost costs limit same within =
     let f : at c ≡ at cost = ap at same in omega (arith, e, f, within)
 
 -- what is left of the limits, and that the first template is within them
-pub record Split (limits : Limits) (more : List (List ℕ)) (n : ℕ) (cost : Budget) : Type 0 where
+pub record Split (limits : Limits) (more : List Source) (n : ℕ) (cost : Budget) : Type 0 where
   pub costs : List Budget
   pub budgets : AllZip HasBudget more costs
   pub steps : value cost.steps n + sum_by (λ (c : Budget). value c.steps n) costs ≤ limits.steps
   pub bytes : value cost.bytes n + sum_by (λ (c : Budget). value c.bytes n) costs ≤ limits.bytes
 
 split_costs :
-    (limits : Limits) (text : List ℕ) (more : List (List ℕ)) (n : ℕ) (cost : Budget) → HasBudget text cost
+    (limits : Limits) (text : Source) (more : List Source) (n : ℕ) (cost : Budget) → HasBudget text cost
     → (costs : List Budget) → AllZip HasBudget (text ∷ more) costs
     → sum_by (λ (c : Budget). value c.steps n) costs ≤ limits.steps
     → sum_by (λ (c : Budget). value c.bytes n) costs ≤ limits.bytes → Split limits more n cost
@@ -82,12 +83,12 @@ split_costs limits text more n cost b (c ∷ costs) h p q =
     }
 
 split :
-    (limits : Limits) (text : List ℕ) (more : List (List ℕ)) (n : ℕ) (cost : Budget) → HasBudget text cost
+    (limits : Limits) (text : Source) (more : List Source) (n : ℕ) (cost : Budget) → HasBudget text cost
     → KeepTo limits (text ∷ more) n → Split limits more n cost
 split limits text more n cost b k = split_costs limits text more n cost b k.costs k.budgets k.steps k.bytes
 
 pub keep_rest :
-    (limits rest : Limits) (text : List ℕ) (more : List (List ℕ)) (n : ℕ) (cost : Budget) → HasBudget text cost
+    (limits rest : Limits) (text : Source) (more : List Source) (n : ℕ) (cost : Budget) → HasBudget text cost
     → limits.steps ≡ value cost.steps n + rest.steps → limits.bytes ≡ value cost.bytes n + rest.bytes
     → KeepTo limits (text ∷ more) n → KeepTo rest more n
 keep_rest limits rest text more n cost b s t k =
@@ -100,7 +101,7 @@ keep_rest limits rest text more n cost b s t k =
     }
 
 pub too_much :
-    (limits : Limits) (text : List ℕ) (more : List (List ℕ)) (n : ℕ) (cost : Budget) → HasBudget text cost
+    (limits : Limits) (text : Source) (more : List Source) (n : ℕ) (cost : Budget) → HasBudget text cost
     → (limits.steps < value cost.steps n) ⊎ (limits.bytes < value cost.bytes n)
     → ¬ (KeepTo limits (text ∷ more) n)
 too_much limits text more n cost b over k = out over (split limits text more n cost b k)
@@ -115,10 +116,10 @@ keep_none limits n = record { costs = []; budgets = tt; steps = omega arith; byt
 
 -- the last template decides
 pub last_decides :
-    (left : Option Limits) (limits rest : Limits) (text : List ℕ) (texts : List (List ℕ)) (n : ℕ) (answer : Bool)
+    (left : Option Limits) (limits rest : Limits) (text : Source) (texts : List Source) (n : ℕ) (answer : Bool)
     → answer ≡ is_some left
-    → IfNone left ((more : List (List ℕ)) → ¬ (KeepTo rest (text ∷ more) n))
-    → IfSome left (λ less. (more : List (List ℕ)) → KeepTo less more n ↔ KeepTo rest (text ∷ more) n)
+    → IfNone left ((more : List Source) → ¬ (KeepTo rest (text ∷ more) n))
+    → IfSome left (λ less. (more : List Source) → KeepTo less more n ↔ KeepTo rest (text ∷ more) n)
     → (KeepTo rest (text ∷ []) n ↔ KeepTo limits texts n) → IsTrue answer ↔ KeepTo limits texts n
 last_decides None limits rest text texts n answer e none some kept =
     (λ h. absurd (false≢true (sym e ∙ h)), λ k. absurd (none [] (kept.1 k)))

@@ -15,18 +15,19 @@ use Rattle.mapping_model.specs.declared.url_spec.UrlSpec.{UrlSpec}
 use Rattle.mock_request.specs.Request.{Request}
 use Rattle.request_data.specs.RequestTree.{request_tree}
 use Rattle.stub_response.proofs.ListLemmas.{all_zip_weaker}
+use Rattle.template_tree.specs.Source.{Source}
 use Rattle.stub_response.specs.ErrorReply.{error_reply}
 use Rattle.stub_response.specs.Response.{Giving, IsBody, IsLine, IsMade, IsPathTemplate, IsReplyOf, IsReplyOver, Meant, Rendered}
 use Rattle.stub_response.specs.declared.limits.Limits.{Limits}
 
 meant_line :
-    (root : Tree) (line : HeaderLine (List ℕ)) (header : ReplyHeader)
+    (root : Tree) (line : HeaderLine Source) (header : ReplyHeader)
     → IsLine (Rendered root) line header → IsLine (Meant root) line header
 meant_line root line header h =
     record { text = h.text; given = h.given.meant; name = h.name; value = h.value }
 
 meant_body :
-    (root : Tree) (content : Body (List ℕ)) (bytes : List ℕ)
+    (root : Tree) (content : Body Source) (bytes : List ℕ)
     → IsBody (Rendered root) content bytes → IsBody (Meant root) content bytes
 meant_body root Empty bytes h = h
 meant_body root (Text text) bytes h = h.meant
@@ -34,7 +35,7 @@ meant_body root (Json text) bytes h = h
 meant_body root (Base64 octets) bytes h = h
 
 meant_parts :
-    (root : Tree) (status : ℕ) (lines : List (HeaderLine (List ℕ))) (content : Body (List ℕ)) (reply : Reply)
+    (root : Tree) (status : ℕ) (lines : List (HeaderLine Source)) (content : Body Source) (reply : Reply)
     → IsMade (Rendered root) status lines content reply → IsMade (Meant root) status lines content reply
 meant_parts root status lines content reply h = record {
   same_status = h.same_status;
@@ -55,8 +56,8 @@ meant_reply limits matcher status (Templated lines body) request reply (root, as
 
 -- what was made over the data of the request is the reply to it
 pub reply_over :
-    (limits : Limits) (matcher : UrlSpec) (status : ℕ) (content : Content) (lines given : List (HeaderLine (List ℕ)))
-    (body : Body (List ℕ)) (request : Request) (template : Option (List ℕ)) (root : Tree) (reply : Reply)
+    (limits : Limits) (matcher : UrlSpec) (status : ℕ) (content : Content) (lines given : List (HeaderLine Source))
+    (body : Body Source) (request : Request) (template : Option (List ℕ)) (root : Tree) (reply : Reply)
     → content ≡ Templated lines body → given ≡ lines → IsPathTemplate matcher template
     → root ≡ request_tree request template → IsReplyOver (Rendered root) limits status given body root reply
     → IsReplyOf Rendered limits matcher status content request reply
@@ -69,7 +70,7 @@ reply_over limits matcher status content lines given body request template root 
 
 -- data over its limit is answered by an error
 pub too_large :
-    (Gives : Giving) (limits : Limits) (status : ℕ) (lines : List (HeaderLine (List ℕ))) (body : Body (List ℕ))
+    (Gives : Giving Source) (limits : Limits) (status : ℕ) (lines : List (HeaderLine Source)) (body : Body Source)
     (root : Tree) (reply : Reply) → SIZE_LIMIT < size root → reply ≡ error_reply 500 OverBudget
     → IsReplyOver Gives limits status lines body root reply
 too_large Gives limits status lines body root reply large same = inr (λ within. omega (arith, large, within.0), same)

@@ -20,35 +20,36 @@ use Rattle.path_template.specs.Template.{IsTemplate}
 use Rattle.request_data.specs.RequestTree.{request_tree}
 use Rattle.template_code.specs.Machine.{Runs}
 use Rattle.template_machine.specs.Program.{ProgramParts, IsProgram, IsMeant}
-use Rattle.template_machine.specs.Safe.{IsSafe}
+use Rattle.safe_code.specs.Safe.{IsSafe}
+use Rattle.template_tree.specs.Source.{Source}
 use Rattle.stub_response.specs.ErrorReply.{error_reply}
 use Rattle.stub_response.specs.HeaderText.{header_text}
 use Rattle.stub_response.specs.Limits.{KeepTo}
 use Rattle.stub_response.specs.declared.limits.Limits.{Limits}
 
--- which texts a text gives: itself, or as a template what it means over the request's data
-abbrev pub Giving : Type 1
-Giving = List ℕ → List ℕ → Type 0
+-- which texts a value of a response gives: a text itself, a template what it means over the request's data
+abbrev pub Giving : Type 0 → Type 1
+Giving A = A → List ℕ → Type 0
 
-abbrev pub Itself : Giving
+abbrev pub Itself : Giving (List ℕ)
 Itself text given = given ≡ text
 
 -- a header line of the reply: the name, and the text that the value gives, without control bytes
-pub record IsLine (Gives : Giving) (line : HeaderLine (List ℕ)) (header : ReplyHeader) : Type 0 where
+pub record IsLine {A : Type 0} (Gives : Giving A) (line : HeaderLine A) (header : ReplyHeader) : Type 0 where
   pub text : List ℕ
   pub given : Gives line.value text
   pub name : header.name ≡ line.name
   pub value : header.value ≡ header_text text
 
 -- the bytes of the reply's body; only a `body` may be a template
-abbrev pub IsBody : Giving → Body (List ℕ) → List ℕ → Type 0
+abbrev pub IsBody : {A : Type 0} → Giving A → Body A → List ℕ → Type 0
 IsBody Gives Empty bytes = bytes ≡ []
 IsBody Gives (Text text) bytes = Gives text bytes
 IsBody Gives (Json text) bytes = bytes ≡ text
 IsBody Gives (Base64 octets) bytes = bytes ≡ octets
 
 -- the reply has the status, a header line for each in their order, and the body
-pub record IsMade (Gives : Giving) (status : ℕ) (lines : List (HeaderLine (List ℕ))) (content : Body (List ℕ))
+pub record IsMade {A : Type 0} (Gives : Giving A) (status : ℕ) (lines : List (HeaderLine A)) (content : Body A)
     (reply : Reply) : Type 0 where
   pub same_status : reply.status ≡ status
   pub headers : AllZip (IsLine Gives) lines reply.headers
@@ -70,39 +71,39 @@ IsDataFor matcher request root =
     (template : Option (List ℕ)) × IsPathTemplate matcher template × (root ≡ request_tree request template)
 
 -- the templates of a response
-abbrev pub body_templates : Body (List ℕ) → List (List ℕ)
+abbrev pub body_templates : Body Source → List Source
 body_templates (Text text) = text ∷ []
 body_templates Empty = []
 body_templates (Json text) = []
 body_templates (Base64 octets) = []
 
-abbrev pub templates_of : List (HeaderLine (List ℕ)) → Body (List ℕ) → List (List ℕ)
+abbrev pub templates_of : List (HeaderLine Source) → Body Source → List Source
 templates_of lines content = map (λ line. line.value) lines ++ body_templates content
 
 -- the data and the programs are within their limits
-abbrev pub IsWithin : Limits → List (List ℕ) → Tree → Type 0
+abbrev pub IsWithin : Limits → List Source → Tree → Type 0
 IsWithin limits templates root = (size root ≤ SIZE_LIMIT) × KeepTo limits templates (size root)
 
 -- the reply of templates over a request's data: an error where they could exceed a limit
-abbrev pub IsReplyOver : Giving → Limits → ℕ → List (HeaderLine (List ℕ)) → Body (List ℕ) → Tree → Reply → Type 0
+abbrev pub IsReplyOver : Giving Source → Limits → ℕ → List (HeaderLine Source) → Body Source → Tree → Reply → Type 0
 IsReplyOver Gives limits status lines content root reply =
     (IsWithin limits (templates_of lines content) root × IsMade Gives status lines content reply)
     ⊎ (¬ (IsWithin limits (templates_of lines content) root) × (reply ≡ error_reply 500 OverBudget))
 
 -- the reply to a request: texts as they are, or what templates give over the request's data
-abbrev pub IsReplyOf : (Tree → Giving) → Limits → UrlSpec → ℕ → Content → Request → Reply → Type 0
+abbrev pub IsReplyOf : (Tree → Giving Source) → Limits → UrlSpec → ℕ → Content → Request → Reply → Type 0
 IsReplyOf Gives limits matcher status (Plain lines content) request reply =
     IsMade Itself status lines content reply
 IsReplyOf Gives limits matcher status (Templated lines content) request reply =
     (root : Tree) × IsDataFor matcher request root × IsReplyOver (Gives root) limits status lines content root reply
 
 -- a template gives what it means
-abbrev pub Meant : Tree → Giving
+abbrev pub Meant : Tree → Giving Source
 Meant root template text = IsMeant template root text
 
 -- and the text was written by a run of the template's program, whose code is safe: so it met no trap, and kept to the
 -- program's budget at the data's size
-pub record Rendered (root : Tree) (template text : List ℕ) : Type 0 where
+pub record Rendered (root : Tree) (template : Source) (text : List ℕ) : Type 0 where
   pub meant : IsMeant template root text
   pub program : ProgramParts
   pub source : program.source ≡ template

@@ -1,6 +1,7 @@
 // What the templates of one response may take.
-ghost use Rattle.std.specs.Prelude.{◌≡◌, ◌↔◌, ◌+◌, ◌<◌, ◌∷◌, ℕ, List, IfNone, IfSome, IsNone, IsTrue};
+ghost use Rattle.std.specs.Prelude.{◌≡◌, ◌↔◌, ◌+◌, ◌<◌, ◌∷◌, List, IfNone, IfSome, IsNone, IsTrue};
 ghost use Rattle.stub_response.specs.Limits.{KeepTo};
+ghost use Rattle.template_tree.specs.Source.{Source};
 ghost use Rattle.stub_response.specs.Response.{templates_of};
 
 use mapping_model::header_lines::HeaderLine;
@@ -34,9 +35,9 @@ impl Limits {
 
 // What a template leaves of these steps and bytes over data of that size; none where it may take more.
 fn rest_of(steps: u64, bytes: u64, template: &TemplateText, size: u64) -> Option<Limits>
-    ensures none { IfNone result ((more : List (List ℕ)) →
+    ensures none { IfNone result ((more : List Source) →
         ¬ (KeepTo (record { steps = steps; bytes = bytes }) (template.now ∷ more) size)) }
-    ensures some { IfSome result (λ rest. (more : List (List ℕ)) →
+    ensures some { IfSome result (λ rest. (more : List Source) →
         KeepTo rest more size ↔ KeepTo (record { steps = steps; bytes = bytes }) (template.now ∷ more) size) }
 {
     let (steps_taken, bytes_taken) = template.program().budget().at(size)?;

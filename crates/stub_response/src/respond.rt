@@ -76,7 +76,7 @@ fn reply_over(
     ensures { IfOk result (IsReplyOver (Rendered (root_of request.now)) limits status headers.now body.now
         (root_of request.now)) }
 {
-    if keep_to(limits, headers, body, request.root().size()) {
+    if keep_to(limits, headers, body, request.size()) {
         rendered_reply(alloc, status, headers, body, request)
     } else {
         error_reply(alloc, 500, ErrorCode::OverBudget)

@@ -1,15 +1,17 @@
 //! Stack code: its listing, the verifier's verdict on it and its runs. A row gives instructions, with a `;` between two,
-//! and texts and paths, with a `|` between two.
+//! and texts and paths, with a `|` between two. The steps of a path have a dot between two: a number is an index, a name
+//! may stand between apostrophes, and `this` is a path without steps.
 
 use crate::programs::request;
+use crate::requests::request_with_body;
 use crate::templates::{add_path, add_text};
 use case_table::cells::Cells;
 use case_table::row::Row;
-use code_verifier::budget::Budget;
 use code_verifier::error::VerifyError;
 use code_verifier::verified::Verified;
 use code_verifier::verify::verify;
 use data_tree::plain_text::PlainText;
+use data_tree::request_data::RequestData;
 use data_tree::step::{Path, Step};
 use helper_set::helper::Helper;
 use std::alloc::{AllocError, Global};
@@ -17,7 +19,7 @@ use template_code::code::Code;
 use template_code::code_text::CodeText;
 use template_code::instr::Instr;
 use template_code::listing::listing;
-use template_machine::run::{is_plain, run};
+use template_machine::run::run;
 
 /// The listing of the code, its texts and its paths.
 pub fn parts(alloc: Global, row: &Row) -> Result<String, AllocError> {
@@ -45,10 +47,25 @@ fn add_tables(cells: &mut Cells, code: &Code) {
     }
 }
 
-/// The rule that the code breaks and at which instruction, or its budgets, and for plain code what its run writes.
+/// The rule that the code breaks and at which instruction, or its budgets, the steps of its run and what it writes. The
+/// request follows the code.
 pub fn verdict(alloc: Global, row: &Row) -> Result<String, AllocError> {
     match verify(alloc, read_code(alloc, row)?) {
-        Ok(verified) => accepted(alloc, &verified, row),
+        Ok(verified) => {
+            let data = request(alloc, row.cell(3), row.cell(4))?;
+            accepted(alloc, &verified, &data)
+        }
+        Err(error) => refused(alloc, &error),
+    }
+}
+
+/// The same where the request, with headers and a body, stands before the code.
+pub fn run_over(alloc: Global, row: &Row) -> Result<String, AllocError> {
+    match verify(
+        alloc,
+        code_of(alloc, row.cell(4), row.cell(5), row.cell(6))?,
+    ) {
+        Ok(verified) => accepted(alloc, &verified, &request_with_body(alloc, row)?),
         Err(error) => refused(alloc, &error),
     }
 }
@@ -63,37 +80,27 @@ fn refused(alloc: Global, error: &VerifyError) -> Result<String, AllocError> {
     }
 }
 
-fn accepted(alloc: Global, verified: &Verified, row: &Row) -> Result<String, AllocError> {
-    let mut cells = lists(alloc, verified.budget())?;
-    add_run(alloc, &mut cells, verified, row)?;
-    Ok(cells)
+fn accepted(alloc: Global, verified: &Verified, data: &RequestData) -> Result<String, AllocError> {
+    let (steps, bytes) = (verified.budget().steps(), verified.budget().bytes());
+    let written = written(alloc, verified, data)?;
+    format!(in alloc; "\t{steps:?}\t{bytes:?}{written}")
 }
 
-fn lists(alloc: Global, budget: &Budget) -> Result<String, AllocError> {
-    let (steps, bytes) = (budget.steps(), budget.bytes());
-    format!(in alloc; "\t{steps:?}\t{bytes:?}")
-}
-
-fn add_run(
-    alloc: Global,
-    cells: &mut String,
-    verified: &Verified,
-    row: &Row,
-) -> Result<(), AllocError> {
-    if !is_plain(verified.code()) {
-        return Ok(());
-    }
-    let data = request(alloc, row.cell(3), row.cell(4))?;
-    let rendered = run(alloc, verified, &data)?;
+fn written(alloc: Global, verified: &Verified, data: &RequestData) -> Result<String, AllocError> {
+    let rendered = run(alloc, verified, data)?;
     let (steps, text) = (rendered.steps, rendered.text.as_str());
-    cells.push_str(format!(in alloc; "\t{steps}\t{text}")?.as_str())
+    format!(in alloc; "\t{steps}\t{text}")
 }
 
 fn read_code(alloc: Global, row: &Row) -> Result<Code, AllocError> {
+    code_of(alloc, row.cell(0), row.cell(1), row.cell(2))
+}
+
+fn code_of(alloc: Global, instrs: &str, texts: &str, paths: &str) -> Result<Code, AllocError> {
     Ok(Code::new(
-        read_instrs(alloc, row.cell(0))?,
-        read_texts(alloc, row.cell(1))?,
-        read_paths(alloc, row.cell(2))?,
+        read_instrs(alloc, instrs)?,
+        read_texts(alloc, texts)?,
+        read_paths(alloc, paths)?,
     ))
 }
 
@@ -164,8 +171,10 @@ fn read_paths(alloc: Global, text: &str) -> Result<Vec<Path>, AllocError> {
 
 fn read_path(alloc: Global, text: &str) -> Result<Path, AllocError> {
     let mut steps = Vec::new(alloc);
-    for word in text.split('.') {
-        steps.push(read_step(alloc, word)?)?;
+    if text != "this" {
+        for word in text.split('.') {
+            steps.push(read_step(alloc, word)?)?;
+        }
     }
     Ok(Path::new(steps))
 }
@@ -174,5 +183,6 @@ fn read_step(alloc: Global, word: &str) -> Result<Step, AllocError> {
     if let Ok(index) = word.parse::<u32>() {
         return Ok(Step::Index(index));
     }
-    Ok(Step::Name(PlainText::new(String::from_str(alloc, word)?)))
+    let name = word.trim_matches('\'');
+    Ok(Step::Name(PlainText::new(String::from_str(alloc, name)?)))
 }

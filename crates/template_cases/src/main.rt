@@ -6,6 +6,7 @@ mod commands;
 mod files;
 mod helpers;
 mod programs;
+mod requests;
 mod table;
 mod templates;
 mod writer;
@@ -28,7 +29,9 @@ fn main(rt: HostRuntime) -> io::Result<ExitCode> {
             Table::Codes,
             Table::HelperCodes,
             Table::LoopCodes,
+            Table::LoopRuns,
             Table::Programs,
+            Table::Escaped,
             Table::RenderText,
             Table::Commands,
             Table::FileCommands,

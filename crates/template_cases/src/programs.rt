@@ -1,11 +1,14 @@
 //! Programs.
 
+use crate::requests::request_with_body;
 use case_table::row::Row;
 use data_tree::request_data::RequestData;
 use mock_request::snapshot::Snapshot;
 use request_data::tree::request_data;
 use std::alloc::{AllocError, Global};
+use template_machine::error::ProgramError;
 use template_machine::program::{Program, render};
+use template_tree::escape::Escape;
 
 /// The source of a template's program, its budget at a size of the data, and what it renders for a request. No text of
 /// the table has an error.
@@ -14,6 +17,27 @@ pub fn program(alloc: Global, row: &Row) -> Result<String, AllocError> {
         .ok()
         .ok_or(AllocError)?;
     answer_of(alloc, &program, row)
+}
+
+/// The budgets of a template whose prints are escaped, the steps of its run over a request with headers and a body, and
+/// what it writes; or its error.
+pub fn escaped(alloc: Global, row: &Row) -> Result<String, AllocError> {
+    match Program::from_text_with(alloc, row.cell(4), Escape::Html) {
+        Ok(program) => run_cells(alloc, &program, &request_with_body(alloc, row)?),
+        Err(error) => refused(alloc, error),
+    }
+}
+
+fn run_cells(alloc: Global, program: &Program, data: &RequestData) -> Result<String, AllocError> {
+    let rendered = render(alloc, program, data)?;
+    let (steps, text) = (rendered.steps, rendered.text.as_str());
+    let (step_budget, byte_budget) = (program.budget().steps(), program.budget().bytes());
+    format!(in alloc; "\t{step_budget:?}\t{byte_budget:?}\t{steps}\t{text}")
+}
+
+fn refused(alloc: Global, error: ProgramError) -> Result<String, AllocError> {
+    let (number, at) = (error.error_code().number(), error.at().unwrap_or(0));
+    format!(in alloc; "\terror {number} at {at}")
 }
 
 fn answer_of(alloc: Global, program: &Program, row: &Row) -> Result<String, AllocError> {

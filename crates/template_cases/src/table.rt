@@ -18,7 +18,11 @@ pub enum Table {
     HelperCodes,
     /// Code with loops or escapes.
     LoopCodes,
+    /// Its runs.
+    LoopRuns,
     Programs,
+    /// Templates whose prints are escaped.
+    Escaped,
     /// Renderings that an independent program computed.
     RenderText,
     Commands,
@@ -41,7 +45,9 @@ impl CaseTable for Table {
             Table::Codes => "codes.tsv",
             Table::HelperCodes => "helper_codes.tsv",
             Table::LoopCodes => "loop_codes.tsv",
+            Table::LoopRuns => "loop_runs.tsv",
             Table::Programs => "programs.tsv",
+            Table::Escaped => "escaped.tsv",
             Table::RenderText => "render_text.tsv",
             Table::Commands => "commands.tsv",
             Table::FileCommands => "file_commands.tsv",
@@ -60,7 +66,9 @@ impl CaseTable for Table {
             Table::Compiled => templates::compiled(alloc, row.cell(0)),
             Table::Listings => code::parts(alloc, row),
             Table::Codes | Table::HelperCodes | Table::LoopCodes => code::verdict(alloc, row),
+            Table::LoopRuns => code::run_over(alloc, row),
             Table::Programs => programs::program(alloc, row),
+            Table::Escaped => programs::escaped(alloc, row),
             Table::RenderText | Table::Commands => commands::streams(alloc, row),
             Table::FileCommands => commands::streams_with_file(alloc, row),
             Table::Messages => commands::message(alloc, row, 100_000),

@@ -37,7 +37,7 @@ fn parts(alloc: Global, template: Template) -> Result<String, AllocError> {
 fn add_node(cells: &mut Cells, node: &Node) {
     match node {
         Node::Piece(piece) => add_text(cells, piece.as_str()),
-        Node::Print(Expression::Reference(reference)) => add_reference(cells, reference),
+        Node::Print(_, Expression::Reference(reference)) => add_reference(cells, reference),
     }
 }
 

@@ -2,7 +2,7 @@
 use Rattle.std.proofs.Common.{◌≡◌, ℕ, ◌+◌, ◌*◌, ◌≤◌, Bool, true, false, List, [], ◌∷◌, length, codes, cond}
 use Rattle.std.proofs.Common.{ap, ◌∙◌, arith, length-append}
 use Rattle.std.proofs.lemmas.List.Concat.{flat_map-cons}
-use Rattle.template_code.specs.Escape.{html_escaped_byte, html_escaped}
+use Rattle.helper_set.specs.Escape.{html_escaped_byte, html_escaped}
 use Rattle.template_code.specs.declared.limits.TheConstants.{MAX_ESCAPE_GROWTH}
 
 escaped-by : (a b c d e f g : Bool) (x : ℕ) →

@@ -1,6 +1,6 @@
 //! Laws over the definitions, for all code and all runs: functions that do nothing, whose contracts are the laws.
 ghost use Rattle.template_code.specs.Laws.{RunsEndAlike, EachLoopHasItem};
-ghost use Rattle.template_code.specs.Escape.{html_escaped};
+ghost use Rattle.helper_set.specs.Escape.{html_escaped};
 ghost use Rattle.template_code.specs.declared.limits.TheConstants.{MAX_ESCAPE_GROWTH};
 ghost use Rattle.std.specs.Prelude.{ℕ, ◌*◌, ◌≤◌, List, length, FitsSigned};
 ghost use Rattle.std.specs.Int.{w64};

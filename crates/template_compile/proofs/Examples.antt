@@ -4,7 +4,8 @@ use Rattle.std.proofs.Common.{refl}
 use Rattle.data_tree.specs.Tree.{Tree, text, fields, named, no_items, item, no_members, member}
 use Rattle.data_tree.specs.declared.step.Step.{Step}
 use Rattle.data_tree.specs.declared.step.Step.TheVariants.{Name, Index}
-use Rattle.template_code.specs.declared.instr.Instr.TheVariants.{Emit, Root, Show, Print, Halt}
+use Rattle.template_code.specs.declared.instr.Instr.TheVariants.{Emit, Root, Show, Escape, Print, Halt}
+use Rattle.template_tree.specs.declared.escape.Escape.TheVariants.{Off, Html}
 use Rattle.template_tree.specs.Tree.{reading, piece, print, Nodes, no_nodes, first_node}
 use Rattle.template_words.specs.declared.reference.Reference.{Reference}
 use Rattle.template_compile.specs.Compiled.{stack_code}
@@ -24,7 +25,7 @@ second_segment = Name (codes "request") ∷ Name (codes "path") ∷ Index 1 ∷ 
 
 -- `Hello {{request.path.[1]}}`
 abbrev hello : Nodes
-hello = first_node (piece (codes "Hello ")) (first_node (print (reading (Reference.Root second_segment))) no_nodes)
+hello = first_node (piece (codes "Hello ")) (first_node (print Off (reading (Reference.Root second_segment))) no_nodes)
 
 text_of_hello : template_text hello ann [] ≡ codes "Hello Ann"
 text_of_hello = refl
@@ -38,6 +39,33 @@ code_of_hello : stack_code hello ≡ record {
   paths = second_segment ∷ [];
 }
 code_of_hello = refl
+
+-- the same with its value escaped, and a text of which nothing is
+abbrev escaped_hello : Nodes
+escaped_hello =
+    first_node (piece (codes "<Hello> ")) (first_node (print Html (reading (Reference.Root second_segment))) no_nodes)
+
+abbrev tag_path : Tree
+tag_path = named (codes "/hi/<a>") (item (text (codes "hi")) (item (text (codes "<a>")) no_items)) no_members
+
+abbrev tag : Tree
+tag = fields (member (codes "request") (fields (member (codes "path") tag_path no_members)) no_members)
+
+text_of_escaped_hello : template_text escaped_hello tag [] ≡ codes "<Hello> &lt;a&gt;"
+text_of_escaped_hello = refl
+
+text_of_unescaped_hello : template_text hello tag [] ≡ codes "Hello <a>"
+text_of_unescaped_hello = refl
+
+length_of_escaped_hello : code_length escaped_hello ≡ 6
+length_of_escaped_hello = refl
+
+code_of_escaped_hello : stack_code escaped_hello ≡ record {
+  instrs = Emit 0 ∷ Root 0 ∷ Show ∷ Escape ∷ Print ∷ Halt ∷ [];
+  texts = codes "<Hello> " ∷ [];
+  paths = second_segment ∷ [];
+}
+code_of_escaped_hello = refl
 
 text_of_nothing : template_text no_nodes ann [] ≡ []
 text_of_nothing = refl
@@ -61,10 +89,10 @@ code_of_two_pieces = refl
 
 -- `{{name}}` and `{{../name}}`
 abbrev here : Nodes
-here = first_node (print (reading (Reference.Item 0 (Name (codes "name") ∷ [])))) no_nodes
+here = first_node (print Off (reading (Reference.Item 0 (Name (codes "name") ∷ [])))) no_nodes
 
 abbrev further_out : Nodes
-further_out = first_node (print (reading (Reference.Item 1 (Name (codes "name") ∷ [])))) no_nodes
+further_out = first_node (print Off (reading (Reference.Item 1 (Name (codes "name") ∷ [])))) no_nodes
 
 abbrev named_Al : Tree
 named_Al = fields (member (codes "name") (text (codes "Al")) no_members)

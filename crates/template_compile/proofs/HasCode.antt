@@ -3,10 +3,12 @@ use Rattle.std.proofs.Common.{◌≡◌, ℕ, suc, ◌+◌, List, [], ◌∷◌,
 use Rattle.std.specs.Prelude.{slice_get}
 use Rattle.template_code.specs.Code.{StackCode}
 use Rattle.template_code.specs.declared.instr.Instr.TheVariants.{Halt}
+use Rattle.template_tree.specs.declared.escape.Escape.{Escape}
+use Rattle.template_tree.specs.declared.escape.Escape.TheVariants.{Off, Html}
 use Rattle.template_tree.specs.Tree.{Node, Nodes, no_nodes, first_node, piece, print, reading}
 use Rattle.template_compile.specs.Compiled.{Offsets, start_offsets, offsets_after, appended, without_tables}
-use Rattle.template_compile.specs.Compiled.{node_code, nodes_code, stack_code}
-use Rattle.template_compile.specs.Length.{node_length, nodes_length, code_length}
+use Rattle.template_compile.specs.Compiled.{print_instrs, node_code, nodes_code, stack_code}
+use Rattle.template_compile.specs.Length.{print_length, node_length, nodes_length, code_length}
 
 -- the list has the elements, in order, from an index on
 abbrev pub HasAt : {A : Type 0} → List A → ℕ → List A → Type 0
@@ -67,9 +69,14 @@ has_code-itself code =
       paths = has_itself code.paths;
     }
 
+pub length-print : (escape : Escape) → length (print_instrs escape) ≡ print_length escape
+length-print Off = refl
+length-print Html = refl
+
 pub length-node : (node : Node) (offsets : Offsets) → length (node_code node offsets).instrs ≡ node_length node
 length-node (piece bytes) offsets = refl
-length-node (print (reading r)) offsets = refl
+length-node (print Off (reading r)) offsets = refl
+length-node (print Html (reading r)) offsets = refl
 
 pub length-nodes : (nodes : Nodes) (offsets : Offsets) → length (nodes_code nodes offsets).instrs ≡ nodes_length nodes
 length-nodes no_nodes offsets = refl

@@ -1,15 +1,15 @@
 -- No bound and no budget of a template's code is too large, unless its texts are.
-use Rattle.std.proofs.Common.{◌≡◌, ℕ, zero, suc, ◌+◌, ◌-◌, ◌^◌, ◌<◌, ◌≤◌, List, [], ◌∷◌, ◌++◌, length, Some, refl}
+use Rattle.std.proofs.Common.{◌≡◌, ℕ, zero, suc, ◌+◌, ◌-◌, ◌*◌, ◌^◌, ◌<◌, ◌≤◌, List, [], ◌∷◌, ◌++◌, length, Some, refl}
 use Rattle.std.proofs.Common.{sym, ap, ◌∙◌, subst, ⊎_elim, arith, length-append}
 use Rattle.std.specs.Prelude.{Bool, true, false, not, ◌&&◌, nat_le, slice_get, unwrap_or}
 use Rattle.std.specs.List.{list_all}
 use Rattle.std.proofs.lemmas.Bool.{cases_lt, le-leb, and_from}
 use Rattle.std.proofs.lemmas.Option.{slice_get_past}
-use Rattle.template_code.specs.declared.limits.TheConstants.{MAX_INSTRUCTIONS}
+use Rattle.template_code.specs.declared.limits.TheConstants.{MAX_INSTRUCTIONS, MAX_ESCAPE_GROWTH}
 use Rattle.template_code.specs.Code.{StackCode}
 use Rattle.template_code.specs.Instructions.{flow}
 use Rattle.code_rules.specs.Polynomial.{Polynomial, constant, plus, fits}
-use Rattle.code_rules.specs.Bounds.{Bound, all_data, bound_fits}
+use Rattle.code_rules.specs.Bounds.{Bound, all_data, times_bound, bound_fits}
 use Rattle.code_rules.specs.Costs.{pushed_bounds, written_bound, bounds_after, bounds_at, Cost, plus_cost, cost_fits, cost}
 use Rattle.code_rules.specs.Regions.{region}
 use Rattle.code_rules.specs.Table.{entry_at}
@@ -17,13 +17,15 @@ use Rattle.code_rules.specs.Verdict.{judged_nests, is_over, is_over_at, IsWithin
 use Rattle.code_rules.proofs.RegionFacts.{bounds_at-next}
 use Rattle.template_code.specs.declared.instr.Instr.{Instr}
 use Rattle.template_code.specs.declared.instr.Instr.TheVariants.{Emit, Root, Show, Print, Halt}
+use Rattle.template_tree.specs.declared.escape.Escape.{Escape}
+use Rattle.template_tree.specs.declared.escape.Escape.TheVariants.{Off, Html}
 use Rattle.template_tree.specs.Tree.{Node, reading, piece, print, Nodes, no_nodes, first_node, node_bytes, text_bytes}
 use Rattle.template_compile.specs.Compiled.{Offsets, start_offsets, offsets_after, without_tables, node_code}
-use Rattle.template_compile.specs.Compiled.{nodes_code, stack_code}
-use Rattle.template_compile.specs.Length.{code_length}
-use Rattle.template_compile.proofs.HasCode.{HasCode, has_code-front, has_code-back, has_code-itself, length-stack_code}
-use Rattle.template_compile.specs.Plain.{IsPlainCode}
-use Rattle.template_compile.proofs.Outermost.{stack_code-plain, outermost, spent-next}
+use Rattle.template_compile.specs.Compiled.{print_instrs, nodes_code, stack_code}
+use Rattle.template_compile.specs.Length.{print_length, code_length}
+use Rattle.template_compile.proofs.HasCode.{HasAt, HasCode, has_code-front, has_code-back, has_code-itself}
+use Rattle.template_compile.proofs.HasCode.{length-print, length-stack_code}
+use Rattle.template_compile.proofs.Outermost.{HasNoLoops, stack_code-no_loops, outermost, spent-next}
 use Rattle.template_compile.proofs.Covers.{Covers, covers-none, covers-one, covers-join}
 
 -- at most c and d * n
@@ -69,13 +71,17 @@ below-fits c d (x ∷ y ∷ z ∷ zs) lt mt h = absurd h
 abbrev spent_at : StackCode → ℕ → Cost
 spent_at code index = region code (entry_at code) [] index
 
--- it is one step each, and at most the bytes of the texts so far and n for each instruction;
+-- it is one step each, and at most the bytes of the texts so far and 6 n for each instruction;
 -- nothing depends on an item
 record IsSpent (code : StackCode) (index bytes : ℕ) : Type 0 where
   steps : IsBelow index 0 (spent_at code index).steps.alone
-  bytes_written : IsBelow bytes index (spent_at code index).bytes.alone
+  bytes_written : IsBelow bytes (6 * index) (spent_at code index).bytes.alone
   flat_steps : (spent_at code index).steps.per ≡ []
   flat_bytes : (spent_at code index).bytes.per ≡ []
+
+-- the bound of all data once it is escaped
+abbrev escaped_data : Bound
+escaped_data = times_bound MAX_ESCAPE_GROWTH all_data
 
 abbrev IsWithin : StackCode → ℕ → Type 0
 IsWithin code index = is_over_at code (entry_at code) index ≡ false
@@ -86,7 +92,7 @@ record IsWithinTo (code : StackCode) (from to bytes : ℕ) : Type 0 where
   spent : IsSpent code to bytes
   ends : bounds_at code to ≡ []
 
-module _ (code : StackCode) (plain : IsPlainCode code) where
+module _ (code : StackCode) (unlooped : HasNoLoops code) where
   bounds_on :
       (index : ℕ) (i : Instr) (bounds : List Bound)
       → slice_get code.instrs index ≡ Some i → bounds_at code index ≡ bounds
@@ -96,21 +102,23 @@ module _ (code : StackCode) (plain : IsPlainCode code) where
   spent_on :
       (index c a : ℕ) (i : Instr) (bounds : List Bound)
       → slice_get code.instrs index ≡ Some i → bounds_at code index ≡ bounds
-      → IsBelow a 1 (written_bound code i bounds).alone → (written_bound code i bounds).per ≡ []
+      → IsBelow a 6 (written_bound code i bounds).alone → (written_bound code i bounds).per ≡ []
       → IsSpent code index c → IsSpent code (suc index) (c + a)
   spent_on index c a i bounds h at w flat s =
       let e : spent_at code (suc index) ≡ plus_cost (spent_at code index) (cost code i bounds) =
-      spent-next code plain index i h ∙ ap (λ bs. plus_cost (spent_at code index) (cost code i bs)) at in
+      spent-next code unlooped index i h ∙ ap (λ bs. plus_cost (spent_at code index) (cost code i bs)) at in
       let more : index + 1 ≡ suc index = omega arith in
+      let more_bytes : 6 * index + 6 ≡ 6 * suc index = omega arith in
       record {
         steps =
             subst (λ (x : Cost). IsBelow (suc index) 0 x.steps.alone) (sym e)
             (subst (λ n. IsBelow n 0 (plus (spent_at code index).steps.alone (1 ∷ []))) more
             (below-plus index 0 1 0 (spent_at code index).steps.alone (1 ∷ []) s.steps (omega arith)));
         bytes_written =
-            subst (λ (x : Cost). IsBelow (c + a) (suc index) x.bytes.alone) (sym e)
-            (subst (λ n. IsBelow (c + a) n (plus (spent_at code index).bytes.alone (written_bound code i bounds).alone)) more
-            (below-plus c index a 1 (spent_at code index).bytes.alone (written_bound code i bounds).alone s.bytes_written w));
+            subst (λ (x : Cost). IsBelow (c + a) (6 * suc index) x.bytes.alone) (sym e)
+            (subst (λ n. IsBelow (c + a) n (plus (spent_at code index).bytes.alone (written_bound code i bounds).alone))
+            more_bytes
+            (below-plus c (6 * index) a 6 (spent_at code index).bytes.alone (written_bound code i bounds).alone s.bytes_written w));
         flat_steps = ap (λ (x : Cost). x.steps.per) e ∙ ap (λ ps. plus ps []) s.flat_steps;
         flat_bytes =
             ap (λ (x : Cost). x.bytes.per) e
@@ -129,12 +137,12 @@ module _ (code : StackCode) (plain : IsPlainCode code) where
       list_all (λ nest. cost_fits (region code (entry_at code) nest (suc index))) nests in
       let p' : pushed ≡ true = ap (λ bs. list_all bound_fits (pushed_bounds code i bs)) at ∙ p in
       let a = below-fits (suc index) 0 spent.steps.alone (omega arith) (omega arith) s.steps in
-      let b = below-fits c (suc index) spent.bytes.alone lt (omega arith) s.bytes_written in
+      let b = below-fits c (6 * suc index) spent.bytes.alone lt (omega arith) s.bytes_written in
       let steps = and_from (fits spent.steps.alone) (fits spent.steps.per) a (ap fits s.flat_steps) in
       let bytes = and_from (fits spent.bytes.alone) (fits spent.bytes.per) b (ap fits s.flat_bytes) in
       let whole = and_from (bound_fits spent.steps) (bound_fits spent.bytes) steps bytes in
       ap (is_over code (entry_at code) index) h
-      ∙ (ap (λ ns. not (pushed && all (judged_nests (flow i) ns))) (outermost code plain index)
+      ∙ (ap (λ ns. not (pushed && all (judged_nests (flow i) ns))) (outermost code unlooped index)
       ∙ (ap (λ nests. not (pushed && all nests)) j
       ∙ ap not (and_from pushed (cost_fits spent && true) p' (and_from (cost_fits spent) true whole refl))))
 
@@ -143,7 +151,7 @@ module _ (code : StackCode) (plain : IsPlainCode code) where
       (index c a : ℕ) (i : Instr) (bounds bounds' : List Bound)
       → slice_get code.instrs index ≡ Some i → bounds_at code index ≡ bounds → bounds_after code i bounds ≡ bounds'
       → judged_nests (flow i) [] ≡ [] ∷ [] → list_all bound_fits (pushed_bounds code i bounds) ≡ true
-      → IsBelow a 1 (written_bound code i bounds).alone → (written_bound code i bounds).per ≡ []
+      → IsBelow a 6 (written_bound code i bounds).alone → (written_bound code i bounds).per ≡ []
       → IsSpent code index c → c + a < 2 ^ 63 → index < MAX_INSTRUCTIONS
       → IsWithin code index × IsSpent code (suc index) (c + a) × (bounds_at code (suc index) ≡ bounds')
   one_within index c a i bounds bounds' h at e j p w flat s lt mt =
@@ -156,6 +164,33 @@ module _ (code : StackCode) (plain : IsPlainCode code) where
   within_to from to to' bytes bytes' e f h =
       subst (λ b. IsWithinTo code from to' b) f (subst (λ t. IsWithinTo code from t bytes) e h)
 
+  -- a text is written, escaped first or not
+  text_within :
+      (escape : Escape) (index c : ℕ)
+      → HasAt code.instrs index (print_instrs escape) → bounds_at code index ≡ all_data ∷ []
+      → IsSpent code index c → c < 2 ^ 63 → index + print_length escape ≤ MAX_INSTRUCTIONS
+      → IsWithinTo code index (index + print_length escape) c
+  text_within Off index c h at s lt le =
+      let one =
+      one_within index c 0 Print (all_data ∷ []) [] h.0 at refl refl refl (omega arith, omega arith) refl s
+      (omega arith) (omega arith) in
+      within_to index (suc index) (index + 1) (c + 0) c (omega arith) (omega arith)
+      (record { within = covers-one (IsWithin code) index one.0; spent = one.1; ends = one.2 })
+  text_within Html index c h at s lt le =
+      let one =
+      one_within index c 0 Instr.Escape (all_data ∷ []) (escaped_data ∷ []) h.0 at refl refl refl tt refl s
+      (omega arith) (omega arith) in
+      let two =
+      one_within (suc index) (c + 0) 0 Print (escaped_data ∷ []) [] h.1.0 one.2 refl refl refl
+      (omega arith, omega arith) refl one.1 (omega arith) (omega arith) in
+      within_to index (suc (suc index)) (index + 2) (c + 0 + 0) c (omega arith) (omega arith) (record {
+        within =
+            covers-join (IsWithin code) index (suc index) (suc (suc index)) (covers-one (IsWithin code) index one.0)
+            (covers-one (IsWithin code) (suc index) two.0);
+        spent = two.1;
+        ends = two.2;
+      })
+
   node_within :
       (node : Node) (offsets : Offsets) (c : ℕ)
       → HasCode code offsets (node_code node offsets) → bounds_at code offsets.index ≡ []
@@ -164,31 +199,33 @@ module _ (code : StackCode) (plain : IsPlainCode code) where
       → IsWithinTo code offsets.index (offsets_after offsets (node_code node offsets)).index (c + node_bytes node)
   node_within (piece bytes) offsets c h at s lt le =
       let p = offsets.index in
-      let w : IsBelow (length bytes) 1 (written_bound code (Emit offsets.texts) []).alone =
-      subst (λ o. IsBelow (length bytes) 1 (constant (length (unwrap_or o [])))) (sym h.texts.0)
-      (below-constant (length bytes) 1) in
+      let w : IsBelow (length bytes) 6 (written_bound code (Emit offsets.texts) []).alone =
+      subst (λ o. IsBelow (length bytes) 6 (constant (length (unwrap_or o [])))) (sym h.texts.0)
+      (below-constant (length bytes) 6) in
       let one = one_within p c (length bytes) (Emit offsets.texts) [] [] h.instrs.0 at refl refl refl w refl s lt
       (omega arith) in
       within_to p (suc p) (p + 1) (c + length bytes) (c + length bytes) (omega arith) refl
       (record { within = covers-one (IsWithin code) p one.0; spent = one.1; ends = one.2 })
-  node_within (print (reading r)) offsets c h at s lt le =
+  node_within (print escape (reading r)) offsets c h at s lt le =
       let p = offsets.index in
+      let long = length-print escape in
+      let end = suc (suc p) + print_length escape in
       let one =
       one_within p c 0 (Root offsets.paths) [] (all_data ∷ []) h.instrs.0 at refl refl refl tt refl s (omega arith)
-      (omega arith) in
+      (omega (arith, long, le)) in
       let two =
       one_within (suc p) (c + 0) 0 Show (all_data ∷ []) (all_data ∷ []) h.instrs.1.0 one.2 refl refl refl tt refl
-      one.1 (omega arith) (omega arith) in
-      let three =
-      one_within (suc (suc p)) (c + 0 + 0) 0 Print (all_data ∷ []) [] h.instrs.1.1.0 two.2 refl refl refl
-      (omega arith, omega arith) refl two.1 (omega arith) (omega arith) in
-      within_to p (suc (suc (suc p))) (p + 3) (c + 0 + 0 + 0) (c + 0) (omega arith) (omega arith) (record {
+      one.1 (omega arith) (omega (arith, long, le)) in
+      let text =
+      text_within escape (suc (suc p)) (c + 0 + 0) h.instrs.1.1 two.2 two.1 (omega arith) (omega (arith, long, le)) in
+      within_to p end (p + length (Root offsets.paths ∷ Show ∷ print_instrs escape)) (c + 0 + 0) (c + 0)
+      (omega (arith, long)) (omega arith) (record {
         within =
-            covers-join (IsWithin code) p (suc p) (suc (suc (suc p))) (covers-one (IsWithin code) p one.0)
-            (covers-join (IsWithin code) (suc p) (suc (suc p)) (suc (suc (suc p)))
-            (covers-one (IsWithin code) (suc p) two.0) (covers-one (IsWithin code) (suc (suc p)) three.0));
-        spent = three.1;
-        ends = three.2;
+            covers-join (IsWithin code) p (suc p) end (covers-one (IsWithin code) p one.0)
+            (covers-join (IsWithin code) (suc p) (suc (suc p)) end (covers-one (IsWithin code) (suc p) two.0)
+            text.within);
+        spent = text.spent;
+        ends = text.ends;
       })
 
   nodes_within :
@@ -242,17 +279,17 @@ stack_code-within_limits nodes le lt index =
     let halt = (has_code-back code start_offsets body (without_tables (Halt ∷ [])) whole).instrs.0 in
     let end : suc halt_index ≡ length code.instrs =
     omega (arith, length-append body.instrs (without_tables (Halt ∷ [])).instrs) in
-    let plain = stack_code-plain nodes in
+    let unlooped = stack_code-no_loops nodes in
     let nothing : IsSpent code 0 0 =
     record { steps = tt; bytes_written = tt; flat_steps = refl; flat_bytes = refl } in
     let front =
-    nodes_within code plain nodes start_offsets 0 before refl nothing (omega (arith, lt))
+    nodes_within code unlooped nodes start_offsets 0 before refl nothing (omega (arith, lt))
     (omega (arith, end, long, le)) in
     let last =
-    one_within code plain halt_index (0 + text_bytes nodes) 0 Halt [] [] halt front.ends refl refl refl tt refl
+    one_within code unlooped halt_index (0 + text_bytes nodes) 0 Halt [] [] halt front.ends refl refl refl tt refl
     front.spent
     (omega (arith, lt)) (omega (arith, end, long, le)) in
     let all =
     covers-join (IsWithin code) 0 halt_index (suc halt_index) front.within
     (covers-one (IsWithin code) halt_index last.0) in
-    all_within code plain index (subst (Covers (IsWithin code) 0) end all)
+    all_within code unlooped index (subst (Covers (IsWithin code) 0) end all)

@@ -1,7 +1,7 @@
--- No instruction of a template's code jumps, and each is plain. Outside of loops all of the code is one region.
+-- No instruction of a template's code jumps, nor opens or closes a loop. Outside of loops all of the code is one region.
 use Rattle.std.proofs.Common.{◌≡◌, ℕ, zero, suc, List, [], ◌∷◌, ◌++◌, map, Option, Some, None, true, false, true≢false}
 use Rattle.std.proofs.Common.{refl, sym, ap, ◌∙◌, subst}
-use Rattle.std.specs.Prelude.{slice_get, if◌then◌else◌}
+use Rattle.std.specs.Prelude.{Bool, slice_get, if◌then◌else◌}
 use Rattle.std.specs.Option.{option_map_or}
 use Rattle.std.proofs.lemmas.Option.{none-some, same_Some}
 use Rattle.template_code.specs.Code.{StackCode}
@@ -14,14 +14,23 @@ use Rattle.code_rules.specs.Rules.{is_target, jumps, jumps_among, nests_to}
 use Rattle.code_rules.specs.Table.{nest_after, entry_next, entry_at}
 use Rattle.code_rules.proofs.RegionFacts.{own-grows}
 use Rattle.code_rules.proofs.TableFacts.{entry_at-next}
+use Rattle.template_tree.specs.declared.escape.Escape.TheVariants.{Off, Html}
 use Rattle.template_tree.specs.Tree.{Node, reading, piece, print, Nodes, no_nodes, first_node}
 use Rattle.template_compile.specs.Compiled.{Offsets, start_offsets, offsets_after, without_tables, node_code}
 use Rattle.template_compile.specs.Compiled.{nodes_code, stack_code}
-use Rattle.template_compile.specs.Plain.{is_plain, IsPlainCode}
+
+-- it neither opens nor closes a loop
+abbrev pub stays : Instr → Bool
+stays (Each a) = false
+stays (Next a) = false
+stays i = true
+
+abbrev pub HasNoLoops : StackCode → Type 0
+HasNoLoops code = (index : ℕ) (i : Instr) → slice_get code.instrs index ≡ Some i → stays i ≡ true
 
 abbrev GoStraight : List Instr → Type 0
 GoStraight [] = Unit {0}
-GoStraight (i ∷ is) = (target_of (flow i) ≡ None) × (is_plain i ≡ true) × GoStraight is
+GoStraight (i ∷ is) = (target_of (flow i) ≡ None) × (stays i ≡ true) × GoStraight is
 
 straight-join : (is js : List Instr) → GoStraight is → GoStraight js → GoStraight (is ++ js)
 straight-join [] js h k = k
@@ -29,7 +38,8 @@ straight-join (i ∷ is) js h k = (h.0, h.1, straight-join is js h.2 k)
 
 straight-node : (node : Node) (offsets : Offsets) → GoStraight (node_code node offsets).instrs
 straight-node (piece bytes) offsets = (refl, refl, tt)
-straight-node (print (reading r)) offsets = (refl, refl, (refl, refl, (refl, refl, tt)))
+straight-node (print Off (reading r)) offsets = (refl, refl, (refl, refl, (refl, refl, tt)))
+straight-node (print Html (reading r)) offsets = (refl, refl, (refl, refl, (refl, refl, (refl, refl, tt))))
 
 straight-nodes : (nodes : Nodes) (offsets : Offsets) → GoStraight (nodes_code nodes offsets).instrs
 straight-nodes no_nodes offsets = tt
@@ -61,42 +71,42 @@ stack_code-no_jumps nodes index =
     let code = stack_code nodes in
     ap (map (λ source. (entry_at code source).nest)) (none_among code (straight-code nodes) index index)
 
-plain-at : (is : List Instr) → GoStraight is → (index : ℕ) (i : Instr) → slice_get is index ≡ Some i →
-    is_plain i ≡ true
-plain-at [] h index i at = absurd (none-some i at)
-plain-at (j ∷ is) h zero i at = sym (ap is_plain (same_Some j i at)) ∙ h.1
-plain-at (j ∷ is) h (suc index) i at = plain-at is h.2 index i at
+stays-at : (is : List Instr) → GoStraight is → (index : ℕ) (i : Instr) → slice_get is index ≡ Some i →
+    stays i ≡ true
+stays-at [] h index i at = absurd (none-some i at)
+stays-at (j ∷ is) h zero i at = sym (ap stays (same_Some j i at)) ∙ h.1
+stays-at (j ∷ is) h (suc index) i at = stays-at is h.2 index i at
 
-pub stack_code-plain : (nodes : Nodes) → IsPlainCode (stack_code nodes)
-stack_code-plain nodes index i at = plain-at (stack_code nodes).instrs (straight-code nodes) index i at
+pub stack_code-no_loops : (nodes : Nodes) → HasNoLoops (stack_code nodes)
+stack_code-no_loops nodes index i at = stays-at (stack_code nodes).instrs (straight-code nodes) index i at
 
--- ---- plain code
+-- ---- code without loops
 
-stays-out : (i : Instr) (index : ℕ) (nest : List ℕ) → is_plain i ≡ true → nest_after (flow i) index nest ≡ nest
+stays-out : (i : Instr) (index : ℕ) (nest : List ℕ) → stays i ≡ true → nest_after (flow i) index nest ≡ nest
 stays-out (Each a) index nest h = absurd (true≢false (sym h))
 stays-out (Next a) index nest h = absurd (true≢false (sym h))
 stays-out i index nest h = refl
 
 -- no instruction is in a loop
-pub outermost : (code : StackCode) → IsPlainCode code → (index : ℕ) → (entry_at code index).nest ≡ []
-outermost code plain zero = refl
-outermost code plain (suc index) = by (slice_get code.instrs index) refl (outermost code plain index)
+pub outermost : (code : StackCode) → HasNoLoops code → (index : ℕ) → (entry_at code index).nest ≡ []
+outermost code unlooped zero = refl
+outermost code unlooped (suc index) = by (slice_get code.instrs index) refl (outermost code unlooped index)
   where
     by : (o : Option Instr) → slice_get code.instrs index ≡ o → (entry_at code index).nest ≡ [] →
         (entry_at code (suc index)).nest ≡ []
     by None at out = ap (λ o. (entry_next index o (entry_at code index)).nest) at ∙ out
     by (Some i) at out =
         ap (λ e. e.nest) (entry_at-next code index i at)
-        ∙ (stays-out i index (entry_at code index).nest (plain index i at) ∙ out)
+        ∙ (stays-out i index (entry_at code index).nest (unlooped index i at) ∙ out)
 
 -- each instruction adds its cost to that of all of the code
-pub spent-next : (code : StackCode) → IsPlainCode code → (index : ℕ) (i : Instr) →
+pub spent-next : (code : StackCode) → HasNoLoops code → (index : ℕ) (i : Instr) →
     slice_get code.instrs index ≡ Some i →
     region code (entry_at code) [] (suc index)
     ≡ plus_cost (region code (entry_at code) [] index) (cost code i (bounds_at code index))
-spent-next code plain index i at =
+spent-next code unlooped index i at =
     subst (λ ns. region code (entry_at code) ns (suc index)
-    ≡ plus_cost (region code (entry_at code) ns index) (cost_at code index)) (outermost code plain index)
+    ≡ plus_cost (region code (entry_at code) ns index) (cost_at code index)) (outermost code unlooped index)
     (own-grows code index)
     ∙ ap (λ o. plus_cost (region code (entry_at code) [] index)
     (option_map_or (λ j. cost code j (bounds_at code index)) o no_cost)) at

@@ -14,14 +14,17 @@ use Rattle.template_code.specs.declared.flow.Flow.{Flow}
 use Rattle.template_code.proofs.RunFacts.{comes-add}
 use Rattle.template_code.specs.declared.instr.Instr.{Instr}
 use Rattle.template_code.specs.declared.instr.Instr.TheVariants.{Emit, Root, Show, Print, Halt}
+use Rattle.helper_set.specs.Escape.{html_escaped}
+use Rattle.template_tree.specs.declared.escape.Escape.{Escape}
+use Rattle.template_tree.specs.declared.escape.Escape.TheVariants.{Off, Html}
 use Rattle.template_tree.specs.Tree.{reading, Node, piece, print, Nodes, no_nodes, first_node}
 use Rattle.template_words.specs.declared.reference.Reference.{Reference}
 use Rattle.template_compile.specs.Compiled.{Offsets, start_offsets, offsets_after, without_tables, root_path}
-use Rattle.template_compile.specs.Compiled.{node_code, nodes_code, stack_code}
+use Rattle.template_compile.specs.Compiled.{print_instrs, node_code, nodes_code, stack_code}
 use Rattle.template_compile.specs.Correct.{WritesTextOf}
-use Rattle.template_compile.specs.Length.{node_length, nodes_length}
-use Rattle.template_tree.specs.Meaning.{value_at, node_text, template_text}
-use Rattle.template_compile.proofs.HasCode.{HasCode, has_code-front, has_code-back, has_code-itself}
+use Rattle.template_compile.specs.Length.{print_length, node_length, nodes_length}
+use Rattle.template_tree.specs.Meaning.{value_at, escaped, node_text, template_text}
+use Rattle.template_compile.proofs.HasCode.{HasAt, HasCode, length-print, has_code-front, has_code-back, has_code-itself}
 
 -- outside of loops, the path that is read finds the value
 path-finds : (root : Tree) (r : Reference) → EmptyNameFindsNothing root → at (root_path r) root ≡ value_at r root []
@@ -68,20 +71,6 @@ module _ (code : StackCode) (root : Tree) where
       (λ o. option_and_then (next_state Flow.Straight (state index stack loops output))
       (option_map (λ q. with_stack (a_datum (at q root) ∷ stack)) o)) k)
 
-  -- a value is made a text and written
-  print_runs :
-      (t : Tree) (index : ℕ) (stack : List Value) (loops : List Loop) (output : List ℕ)
-      → slice_get code.instrs index ≡ Some Show → slice_get code.instrs (suc index) ≡ Some Print
-      → Reaches code root 2 (state index (a_datum t ∷ stack) loops output)
-      (state (suc (suc index)) stack loops (output ++ printed t))
-  print_runs t index stack loops output h k =
-      comes-add code root 1 1 (state index (a_datum t ∷ stack) loops output)
-      (state (suc index) (a_text (printed t) ∷ stack) loops output)
-      (state (suc (suc index)) stack loops (output ++ printed t))
-      (quiet_step Show index (a_datum t ∷ stack) (a_text (printed t) ∷ stack) loops output h refl)
-      (one_step Print (state (suc index) (a_text (printed t) ∷ stack) loops output)
-      (state (suc (suc index)) stack loops (output ++ printed t)) k refl)
-
   -- the same state, by other names of its index and its output
   comes_to :
       (n : ℕ) (s : State) (index index' : ℕ) (stack : List Value) (loops : List Loop) (output output' : List ℕ)
@@ -89,6 +78,39 @@ module _ (code : StackCode) (root : Tree) where
       → Reaches code root n s (state index' stack loops output')
   comes_to n s index index' stack loops output output' e f h =
       h ∙ (ap (λ p. Some (state p stack loops output)) e ∙ ap (λ o. Some (state index' stack loops o)) f)
+
+  -- a text is written, escaped first or not
+  print_runs :
+      (escape : Escape) (t : List ℕ) (index : ℕ) (stack : List Value) (loops : List Loop) (output : List ℕ)
+      → HasAt code.instrs index (print_instrs escape)
+      → Reaches code root (print_length escape) (state index (a_text t ∷ stack) loops output)
+      (state (index + print_length escape) stack loops (output ++ escaped escape t))
+  print_runs Off t index stack loops output h =
+      comes_to 1 (state index (a_text t ∷ stack) loops output) (suc index) (index + 1) stack loops (output ++ t)
+      (output ++ t) (omega arith) refl
+      (one_step Print (state index (a_text t ∷ stack) loops output) (state (suc index) stack loops (output ++ t)) h.0 refl)
+  print_runs Html t index stack loops output h =
+      comes_to 2 (state index (a_text t ∷ stack) loops output) (suc (suc index)) (index + 2) stack loops
+      (output ++ html_escaped t) (output ++ html_escaped t) (omega arith) refl
+      (comes-add code root 1 1 (state index (a_text t ∷ stack) loops output)
+      (state (suc index) (a_text (html_escaped t) ∷ stack) loops output)
+      (state (suc (suc index)) stack loops (output ++ html_escaped t))
+      (quiet_step Instr.Escape index (a_text t ∷ stack) (a_text (html_escaped t) ∷ stack) loops output h.0 refl)
+      (one_step Print (state (suc index) (a_text (html_escaped t) ∷ stack) loops output)
+      (state (suc (suc index)) stack loops (output ++ html_escaped t)) h.1.0 refl))
+
+  -- a value is made a text and written
+  value_runs :
+      (escape : Escape) (t : Tree) (index : ℕ) (stack : List Value) (loops : List Loop) (output : List ℕ)
+      → HasAt code.instrs index (Show ∷ print_instrs escape)
+      → Reaches code root (1 + print_length escape) (state index (a_datum t ∷ stack) loops output)
+      (state (suc index + print_length escape) stack loops (output ++ escaped escape (printed t)))
+  value_runs escape t index stack loops output h =
+      comes-add code root 1 (print_length escape) (state index (a_datum t ∷ stack) loops output)
+      (state (suc index) (a_text (printed t) ∷ stack) loops output)
+      (state (suc index + print_length escape) stack loops (output ++ escaped escape (printed t)))
+      (quiet_step Show index (a_datum t ∷ stack) (a_text (printed t) ∷ stack) loops output h.0 refl)
+      (print_runs escape (printed t) (suc index) stack loops output h.1)
 
   node_runs :
       (node : Node) (offsets : Offsets) (stack : List Value) (loops : List Loop) (output : List ℕ)
@@ -99,16 +121,19 @@ module _ (code : StackCode) (root : Tree) where
       comes_to 1 (state offsets.index stack loops output) (suc offsets.index) (offsets.index + 1) stack loops
       (output ++ bytes) (output ++ bytes) (omega arith) refl
       (emit_runs offsets.texts bytes offsets.index stack loops output h.instrs.0 h.texts.0)
-  node_runs (print (reading r)) offsets stack loops output empty h =
+  node_runs (print escape (reading r)) offsets stack loops output empty h =
       let t = at (root_path r) root in
-      comes_to 3 (state offsets.index stack loops output) (suc (suc (suc offsets.index))) (offsets.index + 3) stack
-      loops (output ++ printed t) (output ++ printed (value_at r root [])) (omega arith)
-      (ap (λ v. output ++ printed v) (path-finds root r empty))
-      (comes-add code root 1 2 (state offsets.index stack loops output)
+      let long = length-print escape in
+      comes_to (1 + (1 + print_length escape)) (state offsets.index stack loops output)
+      (suc (suc offsets.index) + print_length escape)
+      (offsets.index + length (Root offsets.paths ∷ Show ∷ print_instrs escape)) stack loops
+      (output ++ escaped escape (printed t)) (output ++ escaped escape (printed (value_at r root [])))
+      (omega (arith, long)) (ap (λ v. output ++ escaped escape (printed v)) (path-finds root r empty))
+      (comes-add code root 1 (1 + print_length escape) (state offsets.index stack loops output)
       (state (suc offsets.index) (a_datum t ∷ stack) loops output)
-      (state (suc (suc (suc offsets.index))) stack loops (output ++ printed t))
+      (state (suc (suc offsets.index) + print_length escape) stack loops (output ++ escaped escape (printed t)))
       (root_runs offsets.paths (root_path r) offsets.index stack loops output h.instrs.0 h.paths.0)
-      (print_runs t (suc offsets.index) stack loops output h.instrs.1.0 h.instrs.1.1.0))
+      (value_runs escape t (suc offsets.index) stack loops output h.instrs.1))
 
   nodes_run :
       (nodes : Nodes) (offsets : Offsets) (stack : List Value) (loops : List Loop) (output : List ℕ)

@@ -12,13 +12,16 @@ use Rattle.code_rules.specs.Table.{Entry, blank, entry_after, entry_at}
 use Rattle.code_rules.specs.Verdict.{IsWellFormed}
 use Rattle.code_rules.proofs.TableFacts.{entry_at-next, IsTable-entry_at}
 use Rattle.template_code.specs.declared.instr.Instr.{Instr}
-use Rattle.template_code.specs.declared.instr.Instr.TheVariants.{Emit, Root, Show, Print, Halt}
+use Rattle.template_code.specs.declared.instr.Instr.TheVariants.{Emit, Root, Show, Escape, Print, Halt}
 use Rattle.helper_set.specs.declared.kind.Kind.{Kind}
+use Rattle.template_tree.specs.declared.escape.Escape as escapes
+use Rattle.template_tree.specs.declared.escape.Escape.TheVariants.{Off, Html}
 use Rattle.template_tree.specs.Tree.{Node, reading, piece, print, Nodes, no_nodes, first_node}
 use Rattle.template_compile.specs.Compiled.{Offsets, start_offsets, offsets_after, without_tables, node_code}
-use Rattle.template_compile.specs.Compiled.{nodes_code, stack_code}
-use Rattle.template_compile.specs.Length.{code_length}
-use Rattle.template_compile.proofs.HasCode.{HasCode, has_code-front, has_code-back, has_code-itself, length-stack_code}
+use Rattle.template_compile.specs.Compiled.{print_instrs, nodes_code, stack_code}
+use Rattle.template_compile.specs.Length.{print_length, code_length}
+use Rattle.template_compile.proofs.HasCode.{HasAt, HasCode, has_code-front, has_code-back, has_code-itself}
+use Rattle.template_compile.proofs.HasCode.{length-print, length-stack_code}
 use Rattle.template_compile.proofs.Outermost.{stack_code-no_jumps}
 use Rattle.template_compile.proofs.Covers.{Covers, covers-none, covers-one, covers-join}
 
@@ -87,6 +90,15 @@ module _
       let b = not_last index lt in
       sound_by index Show (with_kinds (Kind.Data ∷ [])) h at (rw (a, b) refl)
 
+  escape_sound :
+      (index : ℕ)
+      → slice_get code.instrs index ≡ Some Escape → entry_at code index ≡ with_kinds (Kind.Text ∷ [])
+      → suc index < length code.instrs → IsSound code index
+  escape_sound index h at lt =
+      let a = not_at_limit index (omega arith) in
+      let b = not_last index lt in
+      sound_by index Escape (with_kinds (Kind.Text ∷ [])) h at (rw (a, b) refl)
+
   print_sound :
       (index : ℕ)
       → slice_get code.instrs index ≡ Some Print → entry_at code index ≡ with_kinds (Kind.Text ∷ [])
@@ -109,6 +121,27 @@ module _
   sound_to : (from to to' : ℕ) → to ≡ to' → IsSoundTo code from to → IsSoundTo code from to'
   sound_to from to to' e h = subst (IsSoundTo code from) e h
 
+  -- a text is written, escaped first or not
+  text_sound :
+      (escape : escapes.Escape) (index : ℕ)
+      → HasAt code.instrs index (print_instrs escape) → entry_at code index ≡ with_kinds (Kind.Text ∷ [])
+      → index + print_length escape < length code.instrs → IsSoundTo code index (index + print_length escape)
+  text_sound Off index h at lt =
+      sound_to index (suc index) (index + 1) (omega arith) (record {
+        sound = covers-one (IsSound code) index (print_sound index h.0 at (omega (arith, lt)));
+        ends = entry_on index Print (with_kinds (Kind.Text ∷ [])) h.0 at;
+      })
+  text_sound Html index h at lt =
+      let escaped : entry_at code (suc index) ≡ with_kinds (Kind.Text ∷ []) =
+      entry_on index Escape (with_kinds (Kind.Text ∷ [])) h.0 at in
+      sound_to index (suc (suc index)) (index + 2) (omega arith) (record {
+        sound =
+            covers-join (IsSound code) index (suc index) (suc (suc index))
+            (covers-one (IsSound code) index (escape_sound index h.0 at (omega (arith, lt))))
+            (covers-one (IsSound code) (suc index) (print_sound (suc index) h.1.0 escaped (omega (arith, lt))));
+        ends = entry_on (suc index) Print (with_kinds (Kind.Text ∷ [])) h.1.0 escaped;
+      })
+
   node_sound :
       (node : Node) (offsets : Offsets)
       → HasCode code offsets (node_code node offsets) → entry_at code offsets.index ≡ blank
@@ -120,21 +153,22 @@ module _
         sound = covers-one (IsSound code) p (emit_sound p offsets.texts bytes h.instrs.0 h.texts.0 at (omega arith));
         ends = entry_on p (Emit offsets.texts) blank h.instrs.0 at;
       })
-  node_sound (print (reading r)) offsets h at lt =
+  node_sound (print escape (reading r)) offsets h at lt =
       let p = offsets.index in
       let found : entry_at code (suc p) ≡ with_kinds (Kind.Data ∷ []) =
       entry_on p (Root offsets.paths) blank h.instrs.0 at in
       let shown : entry_at code (suc (suc p)) ≡ with_kinds (Kind.Text ∷ []) =
       entry_on (suc p) Show (with_kinds (Kind.Data ∷ [])) h.instrs.1.0 found in
-      let one = covers-one (IsSound code) p (root_sound p offsets.paths _ h.instrs.0 h.paths.0 at (omega arith)) in
-      let two = covers-one (IsSound code) (suc p) (show_sound (suc p) h.instrs.1.0 found (omega arith)) in
-      let three =
-      covers-one (IsSound code) (suc (suc p)) (print_sound (suc (suc p)) h.instrs.1.1.0 shown (omega arith)) in
-      sound_to p (suc (suc (suc p))) (p + 3) (omega arith) (record {
+      let long = length-print escape in
+      let end = suc (suc p) + print_length escape in
+      let text = text_sound escape (suc (suc p)) h.instrs.1.1 shown (omega (arith, long, lt)) in
+      let one = covers-one (IsSound code) p (root_sound p offsets.paths _ h.instrs.0 h.paths.0 at (omega (arith, lt))) in
+      let two = covers-one (IsSound code) (suc p) (show_sound (suc p) h.instrs.1.0 found (omega (arith, long, lt))) in
+      sound_to p end (p + length (Root offsets.paths ∷ Show ∷ print_instrs escape)) (omega (arith, long)) (record {
         sound =
-            covers-join (IsSound code) p (suc p) (suc (suc (suc p))) one
-            (covers-join (IsSound code) (suc p) (suc (suc p)) (suc (suc (suc p))) two three);
-        ends = entry_on (suc (suc p)) Print (with_kinds (Kind.Text ∷ [])) h.instrs.1.1.0 shown;
+            covers-join (IsSound code) p (suc p) end one
+            (covers-join (IsSound code) (suc p) (suc (suc p)) end two text.sound);
+        ends = text.ends;
       })
 
   nodes_sound :

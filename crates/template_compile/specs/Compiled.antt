@@ -3,6 +3,8 @@
 use Rattle.std.specs.Prelude.{ℕ, ◌+◌, List, [], ◌∷◌, ◌++◌, length}
 use Rattle.data_tree.specs.declared.step.Step.{Step}
 use Rattle.data_tree.specs.declared.step.Step.TheVariants.{Name}
+use Rattle.template_tree.specs.declared.escape.Escape.{Escape}
+use Rattle.template_tree.specs.declared.escape.Escape.TheVariants.{Off, Html}
 use Rattle.template_tree.specs.Tree.{Expression, reading, Node, piece, print, Nodes, no_nodes, first_node}
 use Rattle.template_words.specs.declared.reference.Reference.{Reference}
 use Rattle.template_code.specs.Code.{StackCode}
@@ -55,9 +57,15 @@ root_path (Reference.Item depth steps) = Name [] ∷ []
 abbrev pub expression_code : Expression → Offsets → StackCode
 expression_code (reading r) offsets = root_code (root_path r) offsets
 
+-- the text on the stack is written, escaped first or not
+abbrev pub print_instrs : Escape → List Instr
+print_instrs Off = Print ∷ []
+print_instrs Html = Instr.Escape ∷ Print ∷ []
+
 abbrev pub node_code : Node → Offsets → StackCode
 node_code (piece bytes) offsets = emit_code bytes offsets
-node_code (print e) offsets = appended (expression_code e offsets) (without_tables (Show ∷ Print ∷ []))
+node_code (print escape e) offsets =
+    appended (expression_code e offsets) (without_tables (Show ∷ print_instrs escape))
 
 abbrev pub nodes_code : Nodes → Offsets → StackCode
 nodes_code no_nodes offsets = no_code

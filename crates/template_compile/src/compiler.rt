@@ -1,14 +1,15 @@
 //! From a tree to code.
-ghost use Rattle.std.specs.Prelude.{◌≡◌, ℕ, ◌<◌, ◌↔◌, List, [], ◌∷◌, IfOk, OnOk, IsErrOf};
+ghost use Rattle.std.specs.Prelude.{◌≡◌, ◌<◌, ◌↔◌, [], ◌∷◌, IfOk, OnOk, IsErrOf};
 ghost use Rattle.data_tree.specs.declared.step.Step.TheVariants.{Name};
 ghost use Rattle.code_rules.specs.Verdict.{IsWellFormed, IsWithinLimits};
 ghost use Rattle.template_code.specs.declared.limits.TheConstants.{MAX_INSTRUCTIONS};
-ghost use Rattle.template_compile.specs.Compiled.{root_path, expression_code, node_code, nodes_code, stack_code};
+ghost use Rattle.template_compile.specs.Compiled.{appended, without_tables, print_instrs, root_path};
+ghost use Rattle.template_compile.specs.Compiled.{expression_code, node_code, nodes_code, stack_code};
 ghost use Rattle.template_compile.specs.Correct.{WritesTextOf};
 ghost use Rattle.template_compile.specs.Inner.Drafts.{extended_by};
 ghost use Rattle.template_compile.specs.Length.{code_length};
-ghost use Rattle.template_compile.specs.Plain.{IsPlainCode};
 ghost use Rattle.template_tree.specs.Grammar.{Spells};
+ghost use Rattle.template_tree.specs.Source.{Source};
 ghost use Rattle.template_tree.specs.Tree.{tree_of, expression_view, node_view, nodes_view};
 
 use crate::draft::Draft;
@@ -19,6 +20,7 @@ use data_tree::step::{Path, Step};
 use std::alloc::{AllocError, Global};
 use template_code::code::Code;
 use template_code::instr::Instr;
+use template_tree::escape::Escape;
 use template_tree::template::{Expression, Node, Template};
 use template_words::reference::Reference;
 
@@ -27,10 +29,9 @@ use template_words::reference::Reference;
 pub fn compile(alloc: Global, template: Template) -> Result<Code, CompileError>
     ensures translated { IfOk result (λ code. code ≡ stack_code (tree_of template)) }
     ensures runs { IfOk result (λ code. WritesTextOf code (tree_of template)) }
-    ensures plain { IfOk result IsPlainCode }
     ensures well_formed { IfOk result IsWellFormed }
     // A template that a text spells is too short for a coefficient of its code's budget to reach the limit.
-    ensures within_limits { (text : List ℕ) → Spells text (tree_of template) → IfOk result IsWithinLimits }
+    ensures within_limits { (source : Source) → Spells source (tree_of template) → IfOk result IsWithinLimits }
     // Also where there is no memory.
     ensures too_long { IsErrOf result CompileError.TooLong ↔ MAX_INSTRUCTIONS < code_length (tree_of template) }
 {
@@ -57,9 +58,22 @@ fn add_node(draft: &mut Draft, alloc: Global, node: Node) -> Result<(), AllocErr
 {
     match node {
         Node::Piece(text) => draft.emit(text),
-        Node::Print(expression) => {
+        Node::Print(escape, expression) => {
             add_expression(draft, alloc, expression)?;
             draft.push(Instr::Show)?;
+            add_print(draft, escape)
+        }
+    }
+}
+
+// The text on the stack is written, escaped first or not.
+fn add_print(draft: &mut Draft, escape: Escape) -> Result<(), AllocError>
+    ensures { OnOk result (draft.new ≡ appended draft.old (without_tables (print_instrs escape))) }
+{
+    match escape {
+        Escape::Off => draft.push(Instr::Print),
+        Escape::Html => {
+            draft.push(Instr::Escape)?;
             draft.push(Instr::Print)
         }
     }

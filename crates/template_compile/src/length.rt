@@ -1,10 +1,11 @@
 //! How many instructions code has.
 ghost use Rattle.std.specs.Prelude.{◌≡◌, ◌<◌, ◌↔◌, IsTrue};
 ghost use Rattle.template_code.specs.declared.limits.TheConstants.{MAX_INSTRUCTIONS};
-ghost use Rattle.template_compile.specs.Length.{expression_length, node_length, code_length};
+ghost use Rattle.template_compile.specs.Length.{expression_length, print_length, node_length, code_length};
 ghost use Rattle.template_tree.specs.Tree.{expression_view, node_view, nodes_view};
 
 use template_code::limits::MAX_INSTRUCTIONS;
+use template_tree::escape::Escape;
 use template_tree::template::{Expression, Node};
 
 /// Whether the code of these nodes, with its `Halt`, has more than `MAX_INSTRUCTIONS` instructions.
@@ -26,7 +27,18 @@ fn node_length(node: &Node) -> usize
 {
     match node {
         Node::Piece(_) => 1,
-        Node::Print(expression) => expression_length(expression) + 2,
+        Node::Print(escape, expression) => {
+            expression_length(expression) + (1 + print_length(*escape))
+        }
+    }
+}
+
+fn print_length(escape: Escape) -> usize
+    ensures { result ≡ print_length escape }
+{
+    match escape {
+        Escape::Off => 1,
+        Escape::Html => 2,
     }
 }
 

@@ -1,13 +1,8 @@
 pub mod Printed
-pub mod Bounds
-pub mod PlainFacts
-pub mod CallProgress
+pub mod Escapes
+pub mod Loops
 pub mod Calls
-pub mod Progress
-pub mod Steps
-pub mod Spent
-pub mod Reached
-pub mod Safety
+pub mod Formed
 pub mod Running
 pub mod Programs
 pub mod Refusals

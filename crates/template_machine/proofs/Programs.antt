@@ -1,24 +1,22 @@
 -- What is parsed, compiled and verified is a program.
-use Rattle.std.proofs.Common.{◌≡◌, ℕ, List, sym, ◌∙◌, subst}
+use Rattle.std.proofs.Common.{◌≡◌, sym, ◌∙◌, subst}
+use Rattle.template_tree.specs.Source.{Source}
 use Rattle.template_tree.specs.Tree.{Nodes}
 use Rattle.template_tree.specs.Grammar.{Spells}
 use Rattle.template_code.specs.Code.{StackCode}
 use Rattle.template_compile.specs.Compiled.{stack_code}
 use Rattle.template_compile.specs.Correct.{WritesTextOf}
-use Rattle.template_compile.specs.Plain.{IsPlainCode}
 use Rattle.template_machine.specs.Program.{IsProgram}
 
--- the source is a copy of the text, and the program keeps the code that was verified
+-- the program keeps the code that was verified
 pub program_of :
-    (source text : List ℕ) (kept code : StackCode) (tree : Nodes)
-    → source ≡ text → kept ≡ code → Spells text tree → code ≡ stack_code tree → IsPlainCode code
-    → WritesTextOf code tree
+    (source : Source) (kept code : StackCode) (tree : Nodes)
+    → kept ≡ code → Spells source tree → code ≡ stack_code tree → WritesTextOf code tree
     → IsProgram (record { source = source; code = kept })
-program_of source text kept code tree same_text same_code spelled translated plain runs =
+program_of source kept code tree same spelled translated runs =
     record {
       tree = tree;
-      spelled = subst (λ t. Spells t tree) (sym same_text) spelled;
-      translated = same_code ∙ translated;
-      plain = subst IsPlainCode (sym same_code) plain;
-      runs = subst (λ c. WritesTextOf c tree) (sym same_code) runs;
+      spelled = spelled;
+      translated = same ∙ translated;
+      runs = subst (λ c. WritesTextOf c tree) (sym same) runs;
     }

@@ -8,6 +8,7 @@ use Rattle.template_code.specs.Code.{StackCode}
 use Rattle.code_rules.specs.Verdict.{IsWellFormed}
 use Rattle.template_code.specs.declared.limits.TheConstants.{MAX_INSTRUCTIONS}
 use Rattle.code_rules.proofs.FormFacts.{formed-few}
+use Rattle.template_tree.specs.Source.{Source}
 use Rattle.template_tree.specs.Tree.{Nodes}
 use Rattle.template_tree.specs.Grammar.{Spells, IsParseError}
 use Rattle.template_tree.specs.declared.error.ParseError.{ParseError}
@@ -36,24 +37,24 @@ run_means p root steps text program clean run =
 
 -- the parser's error
 pub parse_error :
-    (text : List ℕ) (e : ParseError)
-    → IsParseError text e → ((tree : Nodes) → Spells text tree → e ≡ parse.OutOfMemory)
-    → IsOnlyErrorOf text (of_parse e)
-parse_error text (parse.Template t) is only = record { reported = is; exactly = λ p. ap of_parse (only p.0 p.1) }
-parse_error text parse.OutOfMemory is only = record { reported = tt; exactly = λ p. refl }
+    (source : Source) (e : ParseError)
+    → IsParseError source.text e → ((tree : Nodes) → Spells source tree → e ≡ parse.OutOfMemory)
+    → IsOnlyErrorOf source (of_parse e)
+parse_error source (parse.Template t) is only = record { reported = is; exactly = λ p. ap of_parse (only p.0 p.1) }
+parse_error source parse.OutOfMemory is only = record { reported = tt; exactly = λ p. refl }
 
 -- the compiler's error
 pub compile_error :
-    (text : List ℕ) (tree : Nodes) (e : CompileError)
-    → Spells text tree → ((other : Nodes) → Spells text other → tree ≡ other)
+    (source : Source) (tree : Nodes) (e : CompileError)
+    → Spells source tree → ((other : Nodes) → Spells source other → tree ≡ other)
     → (e ≡ compile.TooLong → MAX_INSTRUCTIONS < code_length tree)
-    → IsOnlyErrorOf text (of_compile e)
-compile_error text tree compile.TooLong spelled one long =
+    → IsOnlyErrorOf source (of_compile e)
+compile_error source tree compile.TooLong spelled one long =
     record {
       reported = (tree, spelled, long refl);
       exactly = λ p. let same = ap code_length (one p.0 p.1) in absurd (omega (arith, p.2, same, long refl));
     }
-compile_error text tree compile.OutOfMemory spelled one long = record { reported = tt; exactly = λ p. refl }
+compile_error source tree compile.OutOfMemory spelled one long = record { reported = tt; exactly = λ p. refl }
 
 -- the code of a text is no longer than code may be
 pub short_code :

@@ -1,7 +1,8 @@
 -- The code and the byte offset of an error, and when it is true of a text.
-use Rattle.std.specs.Prelude.{ℕ, List, Option, Some, None}
+use Rattle.std.specs.Prelude.{ℕ, Option, Some, None}
 use Rattle.error_code.specs.declared.error_code.ErrorCode.{ErrorCode}
 use Rattle.template_tree.specs.Errors as template
+use Rattle.template_tree.specs.Source.{Source}
 use Rattle.template_tree.specs.Grammar.{IsTemplateError}
 use Rattle.template_machine.specs.Program.{IsTooLong}
 use Rattle.template_machine.specs.declared.error.ProgramError.{ProgramError}
@@ -21,9 +22,9 @@ offset_of CodeTooLong = Some 0
 offset_of (CodeRefused index rule) = None
 offset_of OutOfMemory = None
 
--- the text has the error; no text has code that the verifier refuses, and memory may run out for every text
-abbrev pub IsErrorOf : List ℕ → ProgramError → Type 0
-IsErrorOf text (Template e) = IsTemplateError text e
-IsErrorOf text CodeTooLong = IsTooLong text
-IsErrorOf text (CodeRefused index rule) = ⊥
-IsErrorOf text OutOfMemory = Unit {0}
+-- the source has the error; none has code that the verifier refuses, and memory may run out for every source
+abbrev pub IsErrorOf : Source → ProgramError → Type 0
+IsErrorOf source (Template e) = IsTemplateError source.text e
+IsErrorOf source CodeTooLong = IsTooLong source
+IsErrorOf source (CodeRefused index rule) = ⊥
+IsErrorOf source OutOfMemory = Unit {0}

@@ -1,4 +1,3 @@
 pub mod Program
 pub mod Errors
-pub mod Safe
 pub mod Inner

@@ -2,6 +2,7 @@
 use Rattle.std.specs.Prelude.{◌≡◌, ℕ, ◌<◌, ◌≤◌, List, []}
 use Rattle.data_tree.specs.Tree.{Tree}
 use Rattle.template_tree.specs.Tree.{Nodes}
+use Rattle.template_tree.specs.Source.{Source}
 use Rattle.template_tree.specs.Grammar.{Spells}
 use Rattle.template_tree.specs.Meaning.{template_text}
 use Rattle.template_code.specs.Code.{StackCode}
@@ -9,31 +10,29 @@ use Rattle.template_code.specs.declared.limits.TheConstants.{MAX_INSTRUCTIONS}
 use Rattle.template_compile.specs.Compiled.{stack_code}
 use Rattle.template_compile.specs.Correct.{WritesTextOf}
 use Rattle.template_compile.specs.Length.{code_length}
-use Rattle.template_compile.specs.Plain.{IsPlainCode}
 
 -- a program as contracts see it
 pub record ProgramParts : Type 0 where
-  pub source : List ℕ
+  pub source : Source
   pub code : StackCode
 
 -- it spells a tree whose code isn't too long
-abbrev pub IsProgramText : List ℕ → Type 0
-IsProgramText text = (tree : Nodes) × Spells text tree × (code_length tree ≤ MAX_INSTRUCTIONS)
+abbrev pub IsProgramText : Source → Type 0
+IsProgramText source = (tree : Nodes) × Spells source tree × (code_length tree ≤ MAX_INSTRUCTIONS)
 
 -- it spells a tree whose code is too long
-abbrev pub IsTooLong : List ℕ → Type 0
-IsTooLong text = (tree : Nodes) × Spells text tree × (MAX_INSTRUCTIONS < code_length tree)
+abbrev pub IsTooLong : Source → Type 0
+IsTooLong source = (tree : Nodes) × Spells source tree × (MAX_INSTRUCTIONS < code_length tree)
 
--- the code is that of the tree that the source spells, which is plain, and its runs write the tree's text
+-- the code is that of the tree that the source spells, and its runs write the tree's text
 pub record IsProgram (p : ProgramParts) : Type 0 where
   pub tree : Nodes
   pub spelled : Spells p.source tree
   pub translated : p.code ≡ stack_code tree
-  pub plain : IsPlainCode p.code
   pub runs : WritesTextOf p.code tree
 
 -- the text is the one that the source means over a root
-pub record IsMeant (source : List ℕ) (root : Tree) (text : List ℕ) : Type 0 where
+pub record IsMeant (source : Source) (root : Tree) (text : List ℕ) : Type 0 where
   pub tree : Nodes
   pub spelled : Spells source tree
   pub same : text ≡ template_text tree root []

@@ -139,7 +139,7 @@ fn found_at<'a>(
     ensures { IfOk result (λ found. found_view found ≡ found_by (view root.now) _text.now) }
 {
     let json = json_of(alloc, root)?;
-    Ok(found_in(json, path))
+    Ok(found_in(json, path.steps()))
 }
 
 // The body's data.
@@ -153,13 +153,14 @@ fn json_of<'a>(alloc: Global, root: &'a Data) -> Result<Option<&'a Data>, AllocE
     Ok(root.at(&steps))
 }
 
+/// What steps find in a value; None is Nothing.
 #[tactic(auto, using(data_tree::proofs::Lookups::at_nothing))]
-fn found_in<'a>(value: Option<&'a Data>, path: &JsonPath) -> Option<&'a Data>
+pub fn found_in<'a>(value: Option<&'a Data>, steps: &[Step]) -> Option<&'a Data>
     requires { IfSome value (λ d. IsWellFormed (view d.now)) }
-    ensures { found_view result ≡ at path.now (found_view value.entry) }
+    ensures { found_view result ≡ at steps.now (found_view value.entry) }
 {
     match value {
-        Some(value) => value.at(path.steps()),
+        Some(value) => value.at(steps),
         None => None,
     }
 }

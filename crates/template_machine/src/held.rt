@@ -27,13 +27,14 @@ pub fn hold<'a>(alloc: Global, slot: &'a Slot<'a>) -> Result<Held<'a>, AllocErro
     match slot {
         Slot::Value(value) => Ok(Held::Value(*value)),
         Slot::Text(Text::Literal(text)) => Ok(Held::Text(CowStr::Borrowed(text.as_str()))),
+        Slot::Text(Text::Borrowed(text)) => Ok(Held::Text(CowStr::Borrowed(text))),
         Slot::Text(Text::Made(text)) => Ok(Held::Text(CowStr::Borrowed(text.as_str()))),
         Slot::Text(Text::Rendered(value)) => Ok(Held::Text(printed(alloc, *value)?)),
     }
 }
 
-// The text that a value prints as.
-fn printed<'a>(alloc: Global, value: Value<'a>) -> Result<CowStr<'a, Global>, AllocError>
+/// The text that a value prints as. Takes no memory for a text of the data.
+pub fn printed<'a>(alloc: Global, value: Value<'a>) -> Result<CowStr<'a, Global>, AllocError>
     ensures { IfOk result (λ text. cow_str_bytes text ≡ text_of (value_view value.entry)) }
 {
     if let Value::Datum(Some(Data::Text(text) | Data::Named { text, .. })) = value {

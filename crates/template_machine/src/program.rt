@@ -6,10 +6,11 @@ ghost use Rattle.code_rules.specs.Polynomial.{value, as_printed};
 ghost use Rattle.code_rules.specs.Regions.{budget};
 ghost use Rattle.code_rules.specs.declared.rule.Rule.{Rule};
 ghost use Rattle.template_code.specs.Machine.{Runs};
+ghost use Rattle.template_tree.specs.Source.{with_escape, unescaped};
 ghost use Rattle.template_machine.specs.Errors.{IsErrorOf};
 ghost use Rattle.template_machine.specs.Inner.Programs.{IsCodeOf, IsOnlyErrorOf};
 ghost use Rattle.template_machine.specs.Program.{IsProgram, IsProgramText, IsMeant};
-ghost use Rattle.template_machine.specs.Safe.{IsSafe};
+ghost use Rattle.safe_code.specs.Safe.{IsSafe};
 ghost use Rattle.template_machine.specs.declared.error.ProgramError.TheVariants.{CodeRefused, OutOfMemory};
 
 use crate::error::ProgramError;
@@ -21,55 +22,87 @@ use data_tree::request_data::RequestData;
 use std::alloc::{AllocError, Global};
 use std::marker::Model;
 use template_compile::compiler::compile;
-use template_tree::parser::parse;
+use template_tree::escape::Escape;
+use template_tree::parser::parse_with;
 
-/// A template's text and its verified code. Contracts see both, and only `from_text` makes one.
+/// A template's text, how its prints are escaped, and its verified code. Contracts see all three, and only `from_text`
+/// and `from_text_with` make one.
 #[derive(Debug, Drop)]
 pub struct Program {
     source: String,
+    escape: Escape,
     verified: Verified,
 }
 
 impl Model for Program {
     ghost use Rattle.std.specs.Prelude.{string_bytes};
+    ghost use Rattle.template_tree.specs.Source.{with_escape};
     ghost use Rattle.template_machine.specs.Program.{ProgramParts, IsProgram};
 
     ghost Value = { ProgramParts };
 
-    ghost view = { λ p. record { source = string_bytes p.source; code = p.verified } };
+    ghost view = { λ p. record { source = with_escape p.escape (string_bytes p.source); code = p.verified } };
 
-    ghost invariant = { λ p. IsProgram (record { source = string_bytes p.source; code = p.verified }) };
+    ghost invariant = { λ p. IsProgram
+        (record { source = with_escape p.escape (string_bytes p.source); code = p.verified }) };
 }
 
 impl Program {
-    /// The program of a template's text. Work and memory grow with the text's length.
-    ///
-    /// A text that is no template is refused by its first error, and a template whose code would be too long by that.
+    /// The program of a template's text. Nothing is escaped.
     pub fn from_text(alloc: Global, text: &str) -> Result<Program, ProgramError>
-        ensures source { IfOk result (λ program. program.source ≡ text.now) }
+        ensures source { IfOk result (λ program. program.source ≡ unescaped text.now) }
         ensures program { IfOk result IsProgram }
-        ensures ok { OnOk result (IsProgramText text.now) }
-        ensures exactly { IsProgramText text.now → IfErr result (λ error. error ≡ OutOfMemory) }
-        ensures reported { IfErr result (λ error. IsErrorOf text.now error) }
+        ensures ok { OnOk result (IsProgramText (unescaped text.now)) }
+        ensures exactly { IsProgramText (unescaped text.now) → IfErr result (λ error. error ≡ OutOfMemory) }
+        ensures reported { IfErr result (λ error. IsErrorOf (unescaped text.now) error) }
         ensures never_refused { (index : ℕ) (rule : Rule) → IsErrOf result (CodeRefused index rule) → ⊥ }
     {
-        let verified = verified_code(alloc, text)?;
-        let source = String::from_str(alloc, text)?;
-        Ok(Program::new(source, verified))
+        Program::from_text_with(alloc, text, Escape::Off)
     }
 
-    fn new(source: String, verified: Verified) -> Program
-        requires { IsProgram (record { source = string_bytes source; code = verified }) }
-        ensures source { result.source ≡ string_bytes source }
+    /// The program of a template's text, whose prints are escaped so. Work and memory grow with the text's length.
+    ///
+    /// A text that is no template is refused by its first error, and a template whose code would be too long by that.
+    pub fn from_text_with(
+        alloc: Global,
+        text: &str,
+        escape: Escape,
+    ) -> Result<Program, ProgramError>
+        ensures source { IfOk result (λ program. program.source ≡ with_escape escape text.now) }
+        ensures program { IfOk result IsProgram }
+        ensures ok { OnOk result (IsProgramText (with_escape escape text.now)) }
+        ensures exactly { IsProgramText (with_escape escape text.now) → IfErr result (λ error. error ≡ OutOfMemory) }
+        ensures reported { IfErr result (λ error. IsErrorOf (with_escape escape text.now) error) }
+        ensures never_refused { (index : ℕ) (rule : Rule) → IsErrOf result (CodeRefused index rule) → ⊥ }
+    {
+        let verified = verified_code(alloc, text, escape)?;
+        let source = String::from_str(alloc, text)?;
+        Ok(Program::new(source, escape, verified))
+    }
+
+    fn new(source: String, escape: Escape, verified: Verified) -> Program
+        requires { IsProgram (record { source = with_escape escape (string_bytes source); code = verified }) }
+        ensures source { result.source ≡ with_escape escape (string_bytes source) }
         ensures program { IsProgram result }
     {
-        Program { source, verified }
+        Program {
+            source,
+            escape,
+            verified,
+        }
     }
 
     pub fn source(&self) -> &str
-        ensures { result.now ≡ self.now.source }
+        ensures { result.now ≡ self.now.source.text }
     {
         self.source.as_str()
+    }
+
+    /// How the values that it prints are escaped.
+    pub fn escape(&self) -> Escape
+        ensures { result ≡ self.now.source.escape }
+    {
+        self.escape
     }
 
     /// How many steps a rendering takes and how many bytes it writes, at most.
@@ -81,11 +114,11 @@ impl Program {
     }
 }
 
-fn verified_code(alloc: Global, text: &str) -> Result<Verified, ProgramError>
-    ensures ok { IfOk result (λ code. IsCodeOf text.now code) }
-    ensures err { IfErr result (λ error. IsOnlyErrorOf text.now error) }
+fn verified_code(alloc: Global, text: &str, escape: Escape) -> Result<Verified, ProgramError>
+    ensures ok { IfOk result (λ code. IsCodeOf (with_escape escape text.now) code) }
+    ensures err { IfErr result (λ error. IsOnlyErrorOf (with_escape escape text.now) error) }
 {
-    let template = parse(alloc, text)?;
+    let template = parse_with(alloc, text, escape)?;
     let code = compile(alloc, template)?;
     Ok(verify(alloc, code)?)
 }

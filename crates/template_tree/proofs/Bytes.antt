@@ -1,19 +1,22 @@
 -- The pieces of a template that a text spells have no more bytes than the text.
 use Rattle.std.proofs.Common.{◌≡◌, ℕ, zero, suc, ◌+◌, ◌<◌, ◌≤◌, List, [], ◌∷◌, length, take, drop, Option, Some}
-use Rattle.std.proofs.Common.{None, ap, subst, arith, length-drop}
+use Rattle.std.proofs.Common.{None, refl, ap, subst, arith, length-drop}
 use Rattle.std.specs.Prelude.{Result, Ok, Err, codes, ◌==◌}
 use Rattle.std.specs.List.{ends_with}
 use Rattle.std.proofs.lemmas.Bool.{cond_both}
 use Rattle.std.proofs.lemmas.List.{length-take}
 use Rattle.template_words.specs.declared.error.TagError.{TagError}
-use Rattle.template_tree.specs.Grammar.{Level, Leads, without_comments, spell, Spells}
+use Rattle.template_tree.specs.Grammar.{Level, Leads, node_under, nodes_under, spell, Spells}
+use Rattle.template_tree.specs.Source.{Source}
+use Rattle.template_tree.specs.declared.escape.Escape.{Escape}
+use Rattle.template_tree.specs.declared.tags.Opening.{Opening}
 use Rattle.template_words.specs.Marks.{offset_of}
 use Rattle.template_tree.specs.Tags.{Tag, comment, shown, tag_of}
 use Rattle.template_tree.specs.Tokens.{Token, comment_token, node_token, Next, token, tag_error, ended}
 use Rattle.template_tree.specs.Tokens.{expression_of, print_next, closed_next, tag_next, error_after_backslash}
 use Rattle.template_tree.specs.Tokens.{text_next}
 use Rattle.template_tree.specs.Tokens.{last_text_next, next_at, next_of}
-use Rattle.template_tree.specs.Tree.{Expression, piece, Nodes, no_nodes, first_node, node_bytes, text_bytes}
+use Rattle.template_tree.specs.Tree.{Expression, Node, piece, print, Nodes, no_nodes, first_node, node_bytes, text_bytes}
 use Rattle.template_tree.proofs.Lengths.{TagWithin, tag_short}
 
 abbrev token_bytes : Token → ℕ
@@ -34,15 +37,16 @@ last_within : (text : List ℕ) → IsNextWithin (length text) (last_text_next t
 last_within [] = tt
 last_within (b ∷ bs) = omega arith
 
-print_within : (n : ℕ) (text : List ℕ) (expression : Result Expression TagError) (rest : List ℕ) → length rest < n
-    → IsNextWithin n (print_next text expression rest)
-print_within n text (Ok expression) rest h = omega arith
-print_within n text (Err f) rest h = tt
+print_within : (n : ℕ) (text : List ℕ) (opening : Opening) (expression : Result Expression TagError)
+    (rest : List ℕ) → length rest < n → IsNextWithin n (print_next text opening expression rest)
+print_within n text opening (Ok expression) rest h = omega arith
+print_within n text opening (Err f) rest h = tt
 
 closed_within : (n : ℕ) (text : List ℕ) (tag : Tag) (rest : List ℕ) → length rest < n
     → IsNextWithin n (closed_next text tag rest)
 closed_within n text comment rest h = omega arith
-closed_within n text (shown opening content) rest h = print_within n text (expression_of opening content) rest h
+closed_within n text (shown opening content) rest h =
+    print_within n text opening (expression_of opening content) rest h
 
 tag_within : (n : ℕ) (text : List ℕ) (tag : Option (Tag × List ℕ)) → TagWithin n tag
     → IsNextWithin n (tag_next text tag)
@@ -72,17 +76,22 @@ leads_bytes (t ∷ ts) levels new_levels text rest h =
     let here : token_bytes t + length h.0 ≤ length text = subst (IsNextWithin (length text)) h.1 (next_within text) in
     omega (arith, here, leads_bytes ts levels new_levels h.0 rest h.2)
 
-bytes-without_comments : (tokens : List Token) → tokens_bytes (without_comments tokens) ≡ tokens_bytes tokens
-bytes-without_comments [] = omega arith
-bytes-without_comments (comment_token ∷ ts) = omega (arith, bytes-without_comments ts)
-bytes-without_comments (node_token n ∷ ts) = omega (arith, bytes-without_comments ts)
+bytes-node_under : (escape : Escape) (n : Node) → node_bytes (node_under escape n) ≡ node_bytes n
+bytes-node_under escape (piece bytes) = refl
+bytes-node_under escape (print mark e) = refl
+
+bytes-nodes_under : (escape : Escape) (tokens : List Token)
+    → tokens_bytes (nodes_under escape tokens) ≡ tokens_bytes tokens
+bytes-nodes_under escape [] = omega arith
+bytes-nodes_under escape (comment_token ∷ ts) = omega (arith, bytes-nodes_under escape ts)
+bytes-nodes_under escape (node_token n ∷ ts) = omega (arith, bytes-node_under escape n, bytes-nodes_under escape ts)
 
 bytes-spell : (tree : Nodes) (tokens : List Token)
     → tokens_bytes (spell tree tokens) ≡ text_bytes tree + tokens_bytes tokens
 bytes-spell no_nodes tokens = omega arith
 bytes-spell (first_node n nodes) tokens = omega (arith, bytes-spell nodes tokens)
 
-pub spelled_bytes : (text : List ℕ) (tree : Nodes) → Spells text tree → text_bytes tree ≤ length text
-spelled_bytes text tree s =
-    let led = leads_bytes s.tokens [] [] text [] s.leads in
-    omega (arith, led, bytes-without_comments s.tokens, ap tokens_bytes s.same, bytes-spell tree [])
+pub spelled_bytes : (source : Source) (tree : Nodes) → Spells source tree → text_bytes tree ≤ length source.text
+spelled_bytes source tree s =
+    let led = leads_bytes s.tokens [] [] source.text [] s.leads in
+    omega (arith, led, bytes-nodes_under source.escape s.tokens, ap tokens_bytes s.same, bytes-spell tree [])

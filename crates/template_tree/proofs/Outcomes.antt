@@ -4,7 +4,9 @@ use Rattle.template_tree.specs.declared.error.TemplateError.{TemplateError}
 use Rattle.template_words.specs.declared.error.TagError.{TagError}
 use Rattle.template_tree.specs.declared.error.TemplateErrorKind.TheVariants.{Tag}
 use Rattle.template_tree.specs.declared.parser.TheConstants.{TEXT_LIMIT}
-use Rattle.template_tree.specs.Grammar.{Leads, without_comments, spell, Spells, IsTemplateError}
+use Rattle.template_tree.specs.Grammar.{Leads, node_under, nodes_under, spell, Spells, IsTemplateError}
+use Rattle.template_tree.specs.Source.{Source}
+use Rattle.template_tree.specs.declared.escape.Escape.{Escape}
 use Rattle.template_tree.specs.Tokens.{Token, comment_token, node_token, token, tag_error, ended, next_of}
 use Rattle.template_tree.specs.Tree.{Nodes, no_nodes, first_node}
 use Rattle.template_tree.proofs.Rows.{token_shorter, mark_fits, ended_empty, leads_shorter}
@@ -28,22 +30,27 @@ outcome (suc n) s le =
       | ended ↦ λ e. reached [] (refl, ended_empty s e)
     ] refl
 
-tree_from : List Token → Nodes
-tree_from [] = no_nodes
-tree_from (comment_token ∷ ts) = tree_from ts
-tree_from (node_token p ∷ ts) = first_node p (tree_from ts)
+tree_from : Escape → List Token → Nodes
+tree_from escape [] = no_nodes
+tree_from escape (comment_token ∷ ts) = tree_from escape ts
+tree_from escape (node_token p ∷ ts) = first_node (node_under escape p) (tree_from escape ts)
 
-tree_from_is : (ts : List Token) → without_comments ts ≡ spell (tree_from ts) []
+tree_from_is : (escape : Escape) (ts : List Token) → nodes_under escape ts ≡ spell (tree_from escape ts) []
 unfolding tree_from
-tree_from_is [] = refl
-tree_from_is (comment_token ∷ ts) = tree_from_is ts
-tree_from_is (node_token p ∷ ts) = ap (λ us. node_token p ∷ us) (tree_from_is ts)
+tree_from_is escape [] = refl
+tree_from_is escape (comment_token ∷ ts) = tree_from_is escape ts
+tree_from_is escape (node_token p ∷ ts) =
+    ap (λ us. node_token (node_under escape p) ∷ us) (tree_from_is escape ts)
 
-decided : (text : List ℕ) → length text ≤ TEXT_LIMIT → Outcome text
-    → ((tree : Nodes) × Spells text tree) ⊎ ((e : TemplateError) × IsTemplateError text e)
-decided text short (reached ts h) =
-    inl (tree_from ts, record { short = short; tokens = ts; leads = h; same = tree_from_is ts })
-decided text short (stopped ts rest mark f h w) =
+decided : (source : Source) → length source.text ≤ TEXT_LIMIT → Outcome source.text
+    → ((tree : Nodes) × Spells source tree) ⊎ ((e : TemplateError) × IsTemplateError source.text e)
+decided source short (reached ts h) =
+    inl (
+      tree_from source.escape ts,
+      record { short = short; tokens = ts; leads = h; same = tree_from_is source.escape ts },
+    )
+decided source short (stopped ts rest mark f h w) =
+    let text = source.text in
     let at = length text - length mark in
     inr (
       record { kind = Tag f; at = at },
@@ -59,10 +66,11 @@ decided text short (stopped ts rest mark f h w) =
       },
     )
 
-pub tree_or_error : (text : List ℕ) → length text ≤ TEXT_LIMIT
-    → ((tree : Nodes) × Spells text tree) ⊎ ((e : TemplateError) × IsTemplateError text e)
-tree_or_error text short = decided text short (outcome (length text) text (omega arith))
+pub tree_or_error : (source : Source) → length source.text ≤ TEXT_LIMIT
+    → ((tree : Nodes) × Spells source tree) ⊎ ((e : TemplateError) × IsTemplateError source.text e)
+tree_or_error source short = decided source short (outcome (length source.text) source.text (omega arith))
 
-pub tree_if_no_error : (text : List ℕ) → length text ≤ TEXT_LIMIT
-    → ((e : TemplateError) → IsTemplateError text e → ⊥) → (tree : Nodes) × Spells text tree
-tree_if_no_error text short none = elim (tree_or_error text short) [ inl t ↦ t | inr f ↦ absurd (none f.0 f.1) ]
+pub tree_if_no_error : (source : Source) → length source.text ≤ TEXT_LIMIT
+    → ((e : TemplateError) → IsTemplateError source.text e → ⊥) → (tree : Nodes) × Spells source tree
+tree_if_no_error source short none =
+    elim (tree_or_error source short) [ inl t ↦ t | inr f ↦ absurd (none f.0 f.1) ]

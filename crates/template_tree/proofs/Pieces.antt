@@ -6,6 +6,7 @@ use Rattle.std.specs.List.{ends_with}
 use Rattle.std.proofs.lemmas.Bool.{cond_both, both_ways}
 use Rattle.std.proofs.lemmas.List.{append-nil, take-append-drop, drop-append-le, length-take-le}
 use Rattle.template_words.specs.declared.error.TagError.{TagError}
+use Rattle.template_tree.specs.declared.tags.Opening.{Opening}
 use Rattle.template_tree.specs.Laws.{IsPiece}
 use Rattle.template_words.specs.Marks.{begins, offset_of}
 use Rattle.template_tree.specs.Tags.{Tag, comment, shown, tag_of}
@@ -27,14 +28,15 @@ renamed text a b x y e h =
     let Q : List ℕ → Type 0 = λ r. IsPiece text b r in
     subst Q p.1 (subst P p.0 h)
 
-no_print : (text p rest more : List ℕ) (term : Result Expression TagError)
-    → print_next text term rest ≡ token (node_token (piece p)) more → ⊥
-no_print text p rest more (Ok term) e = cc
-no_print text p rest more (Err f) e = cc
+no_print : (text p rest more : List ℕ) (opening : Opening) (term : Result Expression TagError)
+    → print_next text opening term rest ≡ token (node_token (piece p)) more → ⊥
+no_print text p rest more opening (Ok term) e = cc
+no_print text p rest more opening (Err f) e = cc
 
 no_closed : (text p rest more : List ℕ) (tag : Tag) → closed_next text tag rest ≡ token (node_token (piece p)) more → ⊥
 no_closed text p rest more comment e = cc
-no_closed text p rest more (shown opening content) e = no_print text p rest more (expression_of opening content) e
+no_closed text p rest more (shown opening content) e =
+    no_print text p rest more opening (expression_of opening content) e
 
 no_tag : (text p more : List ℕ) (o : Option (Tag × List ℕ)) → tag_next text o ≡ token (node_token (piece p)) more → ⊥
 no_tag text p more None e = cc

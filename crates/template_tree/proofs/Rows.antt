@@ -11,7 +11,11 @@ use Rattle.template_tree.specs.declared.error.TemplateErrorKind.TheVariants as k
 use Rattle.template_tree.specs.declared.parser.TheConstants.{TEXT_LIMIT}
 use Rattle.template_words.specs.declared.error.TagError.{TagError}
 use Rattle.template_tree.specs.declared.template.Node as part
-use Rattle.template_tree.specs.Grammar.{Level, Leads, without_comments, spell, Spells, IsErrorAt, IsParseError}
+use Rattle.template_tree.specs.Grammar.{Level, Leads, node_under, nodes_under, spell, Spells, IsErrorAt}
+use Rattle.template_tree.specs.Grammar.{IsParseError}
+use Rattle.template_tree.specs.Source.{Source}
+use Rattle.template_tree.specs.declared.escape.Escape.{Escape}
+use Rattle.template_tree.specs.declared.tags.Opening.{Opening}
 use Rattle.template_words.specs.Marks.{begins, offset_of}
 use Rattle.template_tree.specs.Tags.{Tag, comment, shown, tag_of}
 use Rattle.template_tree.specs.Tokens.{Token, comment_token, node_token, Next, token, tag_error, ended, print_next}
@@ -29,14 +33,14 @@ Fits s (token t more) = length more < length s
 Fits s (tag_error f mark) = length mark ≤ length s
 Fits s ended = s ≡ []
 
-print_fits : (s rest : List ℕ) (term : Result Expression TagError) → length rest < length s
-    → Fits s (print_next s term rest)
-print_fits s rest (Ok t) h = h
-print_fits s rest (Err f) h = omega arith
+print_fits : (s rest : List ℕ) (opening : Opening) (term : Result Expression TagError) → length rest < length s
+    → Fits s (print_next s opening term rest)
+print_fits s rest opening (Ok t) h = h
+print_fits s rest opening (Err f) h = omega arith
 
 closed_fits : (s rest : List ℕ) (tag : Tag) → length rest < length s → Fits s (closed_next s tag rest)
 closed_fits s rest comment h = h
-closed_fits s rest (shown opening content) h = print_fits s rest (expression_of opening content) h
+closed_fits s rest (shown opening content) h = print_fits s rest opening (expression_of opening content) h
 
 tag_fits : (s : List ℕ) (o : Option (Tag × List ℕ)) → TagWithin (length s) o → Fits s (tag_next s o)
 tag_fits s None h = omega arith
@@ -105,57 +109,60 @@ same_levels [] levels new_levels text rest h = h.0
 same_levels (t ∷ ts) levels new_levels text rest h = same_levels ts levels new_levels h.0 rest h.2
 
 -- what was read of a text, as nodes, and what is left
-pub record Read (text : List ℕ) (nodes : List part.Node) (rest : List ℕ) : Type 0 where
+pub record Read (source : Source) (nodes : List part.Node) (rest : List ℕ) : Type 0 where
   pub tokens : List Token
-  pub leads : Leads tokens [] text [] rest
-  pub same : without_comments tokens ≡ spell (nodes_view nodes) []
+  pub leads : Leads tokens [] source.text [] rest
+  pub same : nodes_under source.escape tokens ≡ spell (nodes_view nodes) []
 
-pub read_none : (text : List ℕ) → Read text [] text
-read_none text = record { tokens = []; leads = (refl, refl); same = refl }
+pub read_none : (source : Source) → Read source [] source.text
+read_none source = record { tokens = []; leads = (refl, refl); same = refl }
 
-plain_comment : (ts : List Token) → without_comments (ts ++ comment_token ∷ []) ≡ without_comments ts
-plain_comment [] = refl
-plain_comment (comment_token ∷ ts) = plain_comment ts
-plain_comment (node_token p ∷ ts) = ap (λ us. node_token p ∷ us) (plain_comment ts)
+plain_comment : (escape : Escape) (ts : List Token)
+    → nodes_under escape (ts ++ comment_token ∷ []) ≡ nodes_under escape ts
+plain_comment escape [] = refl
+plain_comment escape (comment_token ∷ ts) = plain_comment escape ts
+plain_comment escape (node_token p ∷ ts) = ap (λ us. node_token (node_under escape p) ∷ us) (plain_comment escape ts)
 
-plain_part : (ts : List Token) (p : Node)
-    → without_comments (ts ++ node_token p ∷ []) ≡ without_comments ts ++ node_token p ∷ []
-plain_part [] p = refl
-plain_part (comment_token ∷ ts) p = plain_part ts p
-plain_part (node_token q ∷ ts) p = ap (λ us. node_token q ∷ us) (plain_part ts p)
+plain_part : (escape : Escape) (ts : List Token) (p : Node)
+    → nodes_under escape (ts ++ node_token p ∷ []) ≡ nodes_under escape ts ++ node_token (node_under escape p) ∷ []
+plain_part escape [] p = refl
+plain_part escape (comment_token ∷ ts) p = plain_part escape ts p
+plain_part escape (node_token q ∷ ts) p = ap (λ us. node_token (node_under escape q) ∷ us) (plain_part escape ts p)
 
 spell_push : (ns : List part.Node) (n : part.Node)
     → spell (nodes_view (ns ++ n ∷ [])) [] ≡ spell (nodes_view ns) [] ++ node_token (node_view n) ∷ []
 spell_push [] n = refl
 spell_push (m ∷ ns) n = ap (λ us. node_token (node_view m) ∷ us) (spell_push ns n)
 
-pub read_comment : (text : List ℕ) (nodes : List part.Node) (rest more : List ℕ) → Read text nodes rest
-    → next_of rest ≡ token comment_token more → Read text nodes more
-read_comment text nodes rest more r e = record {
+pub read_comment : (source : Source) (nodes : List part.Node) (rest more : List ℕ) → Read source nodes rest
+    → next_of rest ≡ token comment_token more → Read source nodes more
+read_comment source nodes rest more r e = record {
   tokens = r.tokens ++ comment_token ∷ [];
-  leads = leads_push r.tokens [] [] text rest more comment_token r.leads e;
-  same = plain_comment r.tokens ∙ r.same;
+  leads = leads_push r.tokens [] [] source.text rest more comment_token r.leads e;
+  same = plain_comment source.escape r.tokens ∙ r.same;
 }
 
-pub read_node : (text : List ℕ) (nodes : List part.Node) (n : part.Node) (rest more : List ℕ) → Read text nodes rest
-    → next_of rest ≡ token (node_token (node_view n)) more → Read text (nodes ++ n ∷ []) more
-read_node text nodes n rest more r e = record {
-  tokens = r.tokens ++ node_token (node_view n) ∷ [];
-  leads = leads_push r.tokens [] [] text rest more (node_token (node_view n)) r.leads e;
+pub read_node : (source : Source) (nodes : List part.Node) (p : Node) (n : part.Node) (rest more : List ℕ)
+    → Read source nodes rest → next_of rest ≡ token (node_token p) more
+    → node_view n ≡ node_under source.escape p → Read source (nodes ++ n ∷ []) more
+read_node source nodes p n rest more r e under = record {
+  tokens = r.tokens ++ node_token p ∷ [];
+  leads = leads_push r.tokens [] [] source.text rest more (node_token p) r.leads e;
   same =
-      plain_part r.tokens (node_view n) ∙
-      (ap (λ us. us ++ node_token (node_view n) ∷ []) r.same ∙ sym (spell_push nodes n));
+      plain_part source.escape r.tokens p
+      ∙ (ap (λ us. us ++ node_token (node_under source.escape p) ∷ []) r.same
+      ∙ (ap (λ q. spell (nodes_view nodes) [] ++ node_token q ∷ []) (sym under) ∙ sym (spell_push nodes n)));
 }
 
-pub read_all : (text : List ℕ) (nodes : List part.Node) (rest : List ℕ) → length text ≤ TEXT_LIMIT → length rest ≡ 0
-    → Read text nodes rest → Spells text (nodes_view nodes)
-read_all text nodes [] short e r = record { short = short; tokens = r.tokens; leads = r.leads; same = r.same }
-read_all text nodes (b ∷ bs) short e r = absurd (omega (arith, e))
+pub read_all : (source : Source) (nodes : List part.Node) (rest : List ℕ) → length source.text ≤ TEXT_LIMIT
+    → length rest ≡ 0 → Read source nodes rest → Spells source (nodes_view nodes)
+read_all source nodes [] short e r = record { short = short; tokens = r.tokens; leads = r.leads; same = r.same }
+read_all source nodes (b ∷ bs) short e r = absurd (omega (arith, e))
 
-error_at : (text : List ℕ) (nodes : List part.Node) (rest : List ℕ) (kind : TemplateErrorKind) (at : ℕ)
-    → length text ≤ TEXT_LIMIT → Read text nodes rest → IsNextErrorAt (length text) (next_of rest) kind at
-    → IsErrorAt text kind at
-error_at text nodes rest (kinds.Tag e) at short r h =
+error_at : (source : Source) (nodes : List part.Node) (rest : List ℕ) (kind : TemplateErrorKind) (at : ℕ)
+    → length source.text ≤ TEXT_LIMIT → Read source nodes rest
+    → IsNextErrorAt (length source.text) (next_of rest) kind at → IsErrorAt source.text kind at
+error_at source nodes rest (kinds.Tag e) at short r h =
     record {
       short = short;
       tokens = r.tokens;
@@ -166,10 +173,10 @@ error_at text nodes rest (kinds.Tag e) at short r h =
       wrong = h.1;
       offset = h.2;
     }
-error_at text nodes rest kinds.TooLong at short r h = absurd h
+error_at source nodes rest kinds.TooLong at short r h = absurd h
 
-pub read_error : (text : List ℕ) (nodes : List part.Node) (rest : List ℕ) (e : ParseError)
-    → length text ≤ TEXT_LIMIT → Read text nodes rest → IsNextError (length text) (next_of rest) e
-    → IsParseError text e
-read_error text nodes rest (Template e) short r h = error_at text nodes rest e.kind e.at short r h
-read_error text nodes rest OutOfMemory short r h = tt
+pub read_error : (source : Source) (nodes : List part.Node) (rest : List ℕ) (e : ParseError)
+    → length source.text ≤ TEXT_LIMIT → Read source nodes rest
+    → IsNextError (length source.text) (next_of rest) e → IsParseError source.text e
+read_error source nodes rest (Template e) short r h = error_at source nodes rest e.kind e.at short r h
+read_error source nodes rest OutOfMemory short r h = tt

@@ -9,8 +9,9 @@ use Rattle.template_tree.specs.declared.error.TemplateErrorKind.{TemplateErrorKi
 use Rattle.template_tree.specs.declared.error.TemplateErrorKind.TheVariants.{Tag, TooLong}
 use Rattle.template_tree.specs.declared.parser.TheConstants.{TEXT_LIMIT}
 use Rattle.template_words.specs.declared.error.TagError.{TagError}
-use Rattle.template_tree.specs.Grammar.{Level, Leads, without_comments, spell, Spells, IsTagErrorAt, IsErrorAt}
+use Rattle.template_tree.specs.Grammar.{Level, Leads, nodes_under, spell, Spells, IsTagErrorAt, IsErrorAt}
 use Rattle.template_tree.specs.Grammar.{IsTemplateError, IsParseError}
+use Rattle.template_tree.specs.Source.{Source}
 use Rattle.template_tree.specs.Tokens.{Token, node_token, Next, token, tag_error, ended, next_of}
 use Rattle.template_tree.specs.Tree.{Node, Nodes, no_nodes, first_node, tree_of}
 use Rattle.template_tree.proofs.Rows.{empty_ended}
@@ -65,25 +66,27 @@ same_tree (first_node p a) (first_node q b) e =
     let h = same_head p q (spell a []) (spell b []) e in
     ap (λ x. first_node x a) h.0 ∙ ap (first_node q) (same_tree a b h.1)
 
-pub one_tree : (text : List ℕ) (a b : Nodes) → Spells text a → Spells text b → a ≡ b
-one_tree text a b p q =
-    let r = same_row p.tokens q.tokens [] [] [] text [] [] p.leads q.leads stops_empty stops_empty in
-    same_tree a b (sym p.same ∙ (ap without_comments r.0 ∙ q.same))
+pub one_tree : (source : Source) (a b : Nodes) → Spells source a → Spells source b → a ≡ b
+one_tree source a b p q =
+    let r = same_row p.tokens q.tokens [] [] [] source.text [] [] p.leads q.leads stops_empty stops_empty in
+    same_tree a b (sym p.same ∙ (ap (nodes_under source.escape) r.0 ∙ q.same))
 
-no_error_at : (text : List ℕ) (a : Nodes) (f : TagError) (at : ℕ) → Spells text a → IsTagErrorAt text f at → ⊥
-no_error_at text a f at p q =
+no_error_at : (source : Source) (a : Nodes) (f : TagError) (at : ℕ) → Spells source a
+    → IsTagErrorAt source.text f at → ⊥
+no_error_at source a f at p q =
     let r =
-    same_row p.tokens q.tokens [] [] q.levels text [] q.rest p.leads q.leads stops_empty
+    same_row p.tokens q.tokens [] [] q.levels source.text [] q.rest p.leads q.leads stops_empty
     (stops_error q.rest q.mark f q.wrong) in
     error_not_ended (next_of q.rest) f q.mark q.wrong (ap next_of (sym r.1) ∙ empty_ended)
 
-never_both_at : (text : List ℕ) (a : Nodes) (kind : TemplateErrorKind) (at : ℕ) → Spells text a
-    → IsErrorAt text kind at → ⊥
-never_both_at text a (Tag e) at p q = no_error_at text a e at p q
-never_both_at text a TooLong at p q = omega (arith, p.short, q.0)
+never_both_at : (source : Source) (a : Nodes) (kind : TemplateErrorKind) (at : ℕ) → Spells source a
+    → IsErrorAt source.text kind at → ⊥
+never_both_at source a (Tag e) at p q = no_error_at source a e at p q
+never_both_at source a TooLong at p q = omega (arith, p.short, q.0)
 
-pub never_both : (text : List ℕ) (a : Nodes) (e : TemplateError) → Spells text a → IsTemplateError text e → ⊥
-never_both text a e p q = never_both_at text a e.kind e.at p q
+pub never_both : (source : Source) (a : Nodes) (e : TemplateError) → Spells source a
+    → IsTemplateError source.text e → ⊥
+never_both source a e p q = never_both_at source a e.kind e.at p q
 
 same_tag_error : (text : List ℕ) (f g : TagError) (at by : ℕ) → IsTagErrorAt text f at → IsTagErrorAt text g by
     → (f ≡ g) × (at ≡ by)
@@ -112,18 +115,18 @@ one_error text d e p q =
     ap Q same.0 ∙ ap P same.1
 
 -- an answer that is right spells the one tree, or has the one error
-pub every_tree : (text : List ℕ) (r : Result Template ParseError)
-    → IfOk r (λ template. Spells text (tree_of template)) → IfErr r (IsParseError text) → (tree : Nodes)
-    → Spells text tree → MatchResult r (λ template. tree_of template ≡ tree) (λ e. e ≡ kinds.OutOfMemory)
-every_tree text (Ok template) found wrong tree h = one_tree text (tree_of template) tree found h
-every_tree text (Err (kinds.Template error)) found wrong tree h = absurd (never_both text tree error h wrong)
-every_tree text (Err kinds.OutOfMemory) found wrong tree h = refl
+pub every_tree : (source : Source) (r : Result Template ParseError)
+    → IfOk r (λ template. Spells source (tree_of template)) → IfErr r (IsParseError source.text) → (tree : Nodes)
+    → Spells source tree → MatchResult r (λ template. tree_of template ≡ tree) (λ e. e ≡ kinds.OutOfMemory)
+every_tree source (Ok template) found wrong tree h = one_tree source (tree_of template) tree found h
+every_tree source (Err (kinds.Template error)) found wrong tree h = absurd (never_both source tree error h wrong)
+every_tree source (Err kinds.OutOfMemory) found wrong tree h = refl
 
-pub every_error : (text : List ℕ) (r : Result Template ParseError)
-    → IfOk r (λ template. Spells text (tree_of template)) → IfErr r (IsParseError text) → (error : TemplateError)
-    → IsTemplateError text error
+pub every_error : (source : Source) (r : Result Template ParseError)
+    → IfOk r (λ template. Spells source (tree_of template)) → IfErr r (IsParseError source.text)
+    → (error : TemplateError) → IsTemplateError source.text error
     → MatchResult r (λ template. ⊥) (λ e. (e ≡ kinds.Template error) ⊎ (e ≡ kinds.OutOfMemory))
-every_error text (Ok template) found wrong error h = never_both text (tree_of template) error found h
-every_error text (Err (kinds.Template other)) found wrong error h =
-    inl (ap kinds.Template (one_error text other error wrong h))
-every_error text (Err kinds.OutOfMemory) found wrong error h = inr refl
+every_error source (Ok template) found wrong error h = never_both source (tree_of template) error found h
+every_error source (Err (kinds.Template other)) found wrong error h =
+    inl (ap kinds.Template (one_error source.text other error wrong h))
+every_error source (Err kinds.OutOfMemory) found wrong error h = inr refl

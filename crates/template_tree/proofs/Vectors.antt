@@ -2,14 +2,17 @@
 use Rattle.std.proofs.Common.{◌≡◌, ℕ, ◌≤◌, List, [], ◌∷◌, length, None, codes, refl, ap, arith}
 use Rattle.data_tree.specs.declared.step.Step.TheVariants.{Name, Index}
 use Rattle.template_tree.specs.declared.parser.TheConstants.{TEXT_LIMIT}
+use Rattle.template_tree.specs.declared.escape.Escape.{Escape}
+use Rattle.template_tree.specs.declared.escape.Escape.TheVariants.{Off, Html}
 use Rattle.template_words.specs.declared.error.TagError.{TagError}
 use Rattle.template_words.specs.declared.reference.Reference.TheVariants.{Root, Item}
-use Rattle.template_tree.specs.Examples.{AreExamples, text_before}
-use Rattle.template_tree.specs.Grammar.{Spells, IsTagErrorAt}
+use Rattle.template_tree.specs.Examples.{AreExamples, Gives, text_before, field_before}
+use Rattle.template_tree.specs.Grammar.{nodes_under, Spells, IsTagErrorAt}
+use Rattle.template_tree.specs.Source.{with_escape}
 use Rattle.template_words.specs.Marks.{offset_of}
 use Rattle.template_words.specs.Paths.{reference_from, step_of}
 use Rattle.template_tree.specs.Tags.{tag_of}
-use Rattle.template_tree.specs.Tokens.{comment_token, node_token, tag_error, next_at, next_of, expression_of}
+use Rattle.template_tree.specs.Tokens.{Token, comment_token, node_token, tag_error, next_at, next_of, expression_of}
 use Rattle.template_tree.specs.Tree.{no_nodes, piece, print, reading}
 
 -- an error at the start of a text
@@ -29,7 +32,7 @@ at_start text f short e =
     }
 
 longest : (b : ℕ) (bs : List ℕ) → length (b ∷ bs) ≡ TEXT_LIMIT → offset_of (codes "{{") (b ∷ bs) ≡ None
-    → Spells (b ∷ bs) (text_before (b ∷ bs) no_nodes)
+    → Gives (b ∷ bs) (text_before (b ∷ bs) no_nodes)
 unfolding next_of
 longest b bs long none =
     record {
@@ -39,6 +42,26 @@ longest b bs long none =
           ([], ap (next_at (b ∷ bs)) none, (refl, refl));
       same = refl;
     }
+
+-- the same tokens, whatever is escaped
+two_fields : (escape : Escape) → Spells (with_escape escape (codes "{{x}}<{{{x}}}"))
+    (field_before escape (codes "x") (text_before (codes "<") (field_before Off (codes "x") no_nodes)))
+unfolding next_of tag_of expression_of reference_from step_of
+two_fields escape = record {
+  short = omega arith;
+  tokens = node_token (print Html (reading (Item 0 (Name (codes "x") ∷ [])))) ∷ node_token (piece (codes "<")) ∷
+      node_token (print Off (reading (Item 0 (Name (codes "x") ∷ [])))) ∷ [];
+  leads = (codes "<{{{x}}}", refl, (codes "{{{x}}}", refl, ([], refl, (refl, refl))));
+  same = marks escape;
+}
+  where
+    row : Escape → List Token
+    row mark = node_token (print mark (reading (Item 0 (Name (codes "x") ∷ [])))) ∷ node_token (piece (codes "<")) ∷
+        node_token (print Off (reading (Item 0 (Name (codes "x") ∷ [])))) ∷ []
+
+    marks : (e : Escape) → nodes_under e (row Html) ≡ row e
+    marks Off = refl
+    marks Html = refl
 
 pub are_examples : AreExamples
 unfolding next_of tag_of expression_of reference_from step_of
@@ -56,7 +79,7 @@ are_examples = record {
     short = omega arith;
     tokens =
         node_token (piece (codes "Hello ")) ∷ node_token
-        (print (reading (Root (Name (codes "request") ∷ Name (codes "path") ∷ Index 1 ∷ [])))) ∷ node_token
+        (print Html (reading (Root (Name (codes "request") ∷ Name (codes "path") ∷ Index 1 ∷ [])))) ∷ node_token
         (piece (codes "!")) ∷ [];
     leads = (codes "{{request.path.[1]}}!", refl, (codes "!", refl, ([], refl, (refl, refl))));
     same = refl;
@@ -65,7 +88,7 @@ are_examples = record {
       record {
         short = omega arith;
         tokens = node_token
-            (print (reading (Item 0 (Name (codes "x") ∷ Name (codes "a b") ∷ [])))) ∷ [];
+            (print Off (reading (Item 0 (Name (codes "x") ∷ Name (codes "a b") ∷ [])))) ∷ [];
         leads =
             ([], refl, (refl, refl));
         same = refl;
@@ -73,16 +96,18 @@ are_examples = record {
   outer_item = record {
     short = omega arith;
     tokens =
-        node_token (print (reading (Item 1 (Name (codes "x") ∷ [])))) ∷ node_token
-        (print (reading (Item 1 []))) ∷ [];
+        node_token (print Html (reading (Item 1 (Name (codes "x") ∷ [])))) ∷ node_token
+        (print Html (reading (Item 1 []))) ∷ [];
     leads = (codes "{{..}}", refl, ([], refl, (refl, refl)));
     same = refl;
   };
+  escaped = two_fields Html;
+  not_escaped = two_fields Off;
   header =
       record {
         short = omega arith;
         tokens = node_token
-            (print (reading
+            (print Html (reading
             (Root (Name (codes "request") ∷ Name (codes "headers") ∷ Name (codes "x-id") ∷ [])))) ∷ [];
         leads = (
           [],
@@ -123,7 +148,7 @@ are_examples = record {
       record {
         short = omega arith;
         tokens = node_token
-            (print (reading (Item 0 (Name (codes "x") ∷ Name (codes "01") ∷ [])))) ∷ [];
+            (print Html (reading (Item 0 (Name (codes "x") ∷ Name (codes "01") ∷ [])))) ∷ [];
         leads =
             ([], refl, (refl, refl));
         same = refl;

@@ -1,5 +1,7 @@
 -- Which text spells which tree, and which error a text has that spells none.
 use Rattle.std.specs.Prelude.{◌≡◌, ℕ, ◌+◌, ◌<◌, ◌≤◌, List, [], ◌∷◌, length}
+use Rattle.template_tree.specs.declared.escape.Escape.{Escape}
+use Rattle.template_tree.specs.declared.escape.Escape.TheVariants.{Off, Html}
 use Rattle.template_tree.specs.declared.error.ParseError.{ParseError}
 use Rattle.template_tree.specs.declared.error.ParseError.TheVariants.{Template, OutOfMemory}
 use Rattle.template_tree.specs.declared.error.TemplateError.{TemplateError}
@@ -8,7 +10,8 @@ use Rattle.template_tree.specs.declared.error.TemplateErrorKind.TheVariants.{Tag
 use Rattle.template_tree.specs.declared.parser.TheConstants.{TEXT_LIMIT}
 use Rattle.template_words.specs.declared.error.TagError.{TagError}
 use Rattle.template_tree.specs.Tokens.{Token, comment_token, node_token, token, tag_error, next_of}
-use Rattle.template_tree.specs.Tree.{Nodes, no_nodes, first_node}
+use Rattle.template_tree.specs.Source.{Source}
+use Rattle.template_tree.specs.Tree.{Node, piece, print, Nodes, no_nodes, first_node}
 
 -- a block that is open: the number of bytes that were left at its tag. No tag opens one yet
 pub record Level : Type 0 where
@@ -20,10 +23,21 @@ Leads [] levels text new_levels rest = (levels ≡ new_levels) × (text ≡ rest
 Leads (t ∷ ts) levels text new_levels rest =
     (more : List ℕ) × (next_of text ≡ token t more) × Leads ts levels more new_levels rest
 
-abbrev pub without_comments : List Token → List Token
-without_comments [] = []
-without_comments (comment_token ∷ ts) = without_comments ts
-without_comments (node_token n ∷ ts) = node_token n ∷ without_comments ts
+-- how a print is escaped: as it is marked, or not at all
+abbrev pub escape_under : Escape → Escape → Escape
+escape_under Off mark = Off
+escape_under Html mark = mark
+
+-- the node of a token in a template whose prints are escaped so
+abbrev pub node_under : Escape → Node → Node
+node_under escape (piece bytes) = piece bytes
+node_under escape (print mark e) = print (escape_under escape mark) e
+
+-- the tokens of the nodes
+abbrev pub nodes_under : Escape → List Token → List Token
+nodes_under escape [] = []
+nodes_under escape (comment_token ∷ ts) = nodes_under escape ts
+nodes_under escape (node_token n ∷ ts) = node_token (node_under escape n) ∷ nodes_under escape ts
 
 -- the tokens of a tree, before others
 abbrev pub spell : Nodes → List Token → List Token
@@ -31,13 +45,13 @@ spell no_nodes ts = ts
 spell (first_node n ns) ts = node_token n ∷ spell ns ts
 
 -- the text is short enough, and but for comments its tokens are those of the tree
-pub record Spells (text : List ℕ) (tree : Nodes) : Type 0 where
-  pub short : length text ≤ TEXT_LIMIT
+pub record Spells (source : Source) (tree : Nodes) : Type 0 where
+  pub short : length source.text ≤ TEXT_LIMIT
   pub tokens : List Token
-  pub leads : Leads tokens [] text [] []
-  pub same : without_comments tokens ≡ spell tree []
+  pub leads : Leads tokens [] source.text [] []
+  pub same : nodes_under source.escape tokens ≡ spell tree []
 
--- the first tag that can't be read has this error, and its mark is at that byte
+-- the first tag that can't be read has this error, and its mark is at that byte; how prints are escaped doesn't matter
 pub record IsTagErrorAt (text : List ℕ) (error : TagError) (at : ℕ) : Type 0 where
   pub short : length text ≤ TEXT_LIMIT
   pub tokens : List Token

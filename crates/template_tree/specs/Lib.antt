@@ -1,3 +1,4 @@
+pub mod Source
 pub mod Tree
 pub mod Tags
 pub mod Tokens

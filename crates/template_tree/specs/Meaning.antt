@@ -3,6 +3,9 @@ use Rattle.std.specs.Prelude.{ℕ, zero, suc, List, [], ◌∷◌, ◌++◌}
 use Rattle.data_tree.specs.Tree.{Tree, nothing}
 use Rattle.data_tree.specs.LookUp.{at}
 use Rattle.data_tree.specs.Print.{print as printed}
+use Rattle.helper_set.specs.Escape.{html_escaped}
+use Rattle.template_tree.specs.declared.escape.Escape.{Escape}
+use Rattle.template_tree.specs.declared.escape.Escape.TheVariants.{Off, Html}
 use Rattle.template_tree.specs.Tree.{Expression, reading, Node, piece, print, Nodes, no_nodes, first_node}
 use Rattle.template_words.specs.declared.reference.Reference.{Reference}
 use Rattle.template_words.specs.declared.reference.Reference.TheVariants.{Root, Item}
@@ -21,9 +24,14 @@ value_at (Item depth steps) root items = at steps (item_at depth items)
 abbrev pub expression_text : Expression → Tree → List Tree → List ℕ
 expression_text (reading reference) root items = printed (value_at reference root items)
 
+-- the text of a value, as it is printed
+abbrev pub escaped : Escape → List ℕ → List ℕ
+escaped Off text = text
+escaped Html text = html_escaped text
+
 abbrev pub node_text : Node → Tree → List Tree → List ℕ
 node_text (piece bytes) root items = bytes
-node_text (print expression) root items = expression_text expression root items
+node_text (print escape expression) root items = escaped escape (expression_text expression root items)
 
 -- what a template writes: the texts of its nodes, joined
 abbrev pub template_text : Nodes → Tree → List Tree → List ℕ

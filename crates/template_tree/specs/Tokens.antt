@@ -4,7 +4,10 @@ use Rattle.std.specs.Prelude.{if◌then◌else◌, codes}
 use Rattle.std.specs.List.{ends_with}
 use Rattle.template_words.specs.declared.error.TagError.{TagError}
 use Rattle.template_words.specs.declared.error.TagError.TheVariants.{UnclosedTag, UnsupportedTag}
+use Rattle.template_tree.specs.declared.escape.Escape.{Escape}
+use Rattle.template_tree.specs.declared.escape.Escape.TheVariants.{Off, Html}
 use Rattle.template_tree.specs.declared.tags.Opening.{Opening}
+use Rattle.template_tree.specs.declared.tags.Opening.TheVariants.{Double, Triple}
 use Rattle.template_words.specs.Marks.{offset_of}
 use Rattle.template_words.specs.Paths.{reference_of}
 use Rattle.template_words.specs.Reading.{◌>>=◌}
@@ -12,7 +15,7 @@ use Rattle.template_tree.specs.Tags.{Tag, comment, shown, tag_of, is_unsupported
 use Rattle.template_tree.specs.Tree.{Expression, reading, Node, piece, print}
 use Rattle.template_words.specs.Words.{trim_white_space}
 
--- a comment leaves no node
+-- a comment leaves no node; a print is marked as it is escaped in a template whose prints are
 pub data Token : Type 0 where
   comment_token : Token
   node_token : Node → Token
@@ -30,13 +33,18 @@ expression_of opening content =
     if is_unsupported opening (trim_white_space content) then Err UnsupportedTag
     else (reference_of (trim_white_space content) >>= λ reference. Ok (reading reference))
 
-abbrev pub print_next : List ℕ → Result Expression TagError → List ℕ → Next
-print_next text (Ok expression) rest = token (node_token (print expression)) rest
-print_next text (Err e) rest = tag_error e text
+-- `{{E}}` escapes, and `{{{E}}}` doesn't
+abbrev pub escape_of : Opening → Escape
+escape_of Double = Html
+escape_of Triple = Off
+
+abbrev pub print_next : List ℕ → Opening → Result Expression TagError → List ℕ → Next
+print_next text opening (Ok expression) rest = token (node_token (print (escape_of opening) expression)) rest
+print_next text opening (Err e) rest = tag_error e text
 
 abbrev pub closed_next : List ℕ → Tag → List ℕ → Next
 closed_next text comment rest = token comment_token rest
-closed_next text (shown opening content) rest = print_next text (expression_of opening content) rest
+closed_next text (shown opening content) rest = print_next text opening (expression_of opening content) rest
 
 -- at a text that begins with a tag's mark
 abbrev pub tag_next : List ℕ → Option (Tag × List ℕ) → Next

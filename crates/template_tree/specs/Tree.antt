@@ -1,6 +1,7 @@
 -- The tree that a `Template` is: its nodes in order, pieces of text and prints.
 use Rattle.std.specs.Prelude.{ℕ, ◌+◌, List, [], ◌∷◌, length}
 use Rattle.template_words.specs.declared.reference.Reference.{Reference}
+use Rattle.template_tree.specs.declared.escape.Escape.{Escape}
 use Rattle.template_tree.specs.declared.template.Expression as expression
 use Rattle.template_tree.specs.declared.template.Expression.TheVariants as expressions
 use Rattle.template_tree.specs.declared.template.Node as node
@@ -11,10 +12,10 @@ use Rattle.template_tree.specs.declared.template.Template.{Template}
 pub data Expression : Type 0 where
   reading : Reference → Expression
 
--- a piece of text by its bytes, or a print
+-- a piece of text by its bytes, or a print, marked by how the text of its value is escaped
 pub data Node : Type 0 where
   piece : List ℕ → Node
-  print : Expression → Node
+  print : Escape → Expression → Node
 
 pub data Nodes : Type 0 where
   no_nodes : Nodes
@@ -25,7 +26,7 @@ expression_view (expressions.Reference r) = reading r
 
 abbrev pub node_view : node.Node → Node
 node_view (kinds.Piece text) = piece text
-node_view (kinds.Print e) = print (expression_view e)
+node_view (kinds.Print escape e) = print escape (expression_view e)
 
 abbrev pub nodes_view : List node.Node → Nodes
 nodes_view [] = no_nodes
@@ -36,7 +37,7 @@ tree_of t = nodes_view t.nodes.items
 
 abbrev pub node_bytes : Node → ℕ
 node_bytes (piece bytes) = length bytes
-node_bytes (print expression) = 0
+node_bytes (print escape expression) = 0
 
 -- how many bytes the pieces of text have together
 abbrev pub text_bytes : Nodes → ℕ

@@ -2,6 +2,7 @@
 ghost use Rattle.std.specs.Prelude.{◌≡◌, ◌≤◌, ◌↔◌, ℕ, List, length};
 ghost use Rattle.template_tree.specs.Grammar.{Spells, IsTemplateError};
 ghost use Rattle.template_tree.specs.Laws.{IsPiece};
+ghost use Rattle.template_tree.specs.Source.{Source};
 ghost use Rattle.template_tree.specs.Examples.{AreExamples};
 ghost use Rattle.template_tree.specs.Tokens.{token, node_token, next_of};
 ghost use Rattle.template_tree.specs.Tree.{Nodes, piece, text_bytes};
@@ -10,17 +11,17 @@ ghost use Rattle.template_tree.specs.declared.parser.TheConstants.{TEXT_LIMIT};
 
 /// A text spells one tree at most.
 pub fn law_text_spells_one_tree()
-    ensures { (text : List ℕ) (a b : Nodes) → Spells text a → Spells text b → a ≡ b }
+    ensures { (source : Source) (a b : Nodes) → Spells source a → Spells source b → a ≡ b }
 {}
 
 /// A text has one error at most, never an error beside a tree, and, where it isn't too long, it spells a tree
 /// exactly where it has no error.
 pub fn law_text_spells_tree_or_has_error()
     ensures one { (text : List ℕ) (d e : TemplateError) → IsTemplateError text d → IsTemplateError text e → d ≡ e }
-    ensures apart { (text : List ℕ) (tree : Nodes) (e : TemplateError) →
-        Spells text tree → IsTemplateError text e → ⊥ }
-    ensures exactly { (text : List ℕ) → length text ≤ TEXT_LIMIT →
-        ((tree : Nodes) × Spells text tree) ↔ ((e : TemplateError) → IsTemplateError text e → ⊥) }
+    ensures apart { (source : Source) (tree : Nodes) (e : TemplateError) →
+        Spells source tree → IsTemplateError source.text e → ⊥ }
+    ensures exactly { (source : Source) → length source.text ≤ TEXT_LIMIT →
+        ((tree : Nodes) × Spells source tree) ↔ ((e : TemplateError) → IsTemplateError source.text e → ⊥) }
 {}
 
 /// A piece of text is never split: it goes up to the next mark, or to the end.
@@ -30,7 +31,7 @@ pub fn law_piece_ends_at_next_mark()
 
 /// The pieces of the tree that a text spells have no more bytes than the text.
 pub fn law_pieces_are_within_text()
-    ensures { (text : List ℕ) (tree : Nodes) → Spells text tree → text_bytes tree ≤ length text }
+    ensures { (source : Source) (tree : Nodes) → Spells source tree → text_bytes tree ≤ length source.text }
 {}
 
 /// Some twenty texts, each with its tree or its error.

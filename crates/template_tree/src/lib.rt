@@ -3,6 +3,7 @@
 #![tactic(auto)]
 
 pub mod error;
+pub mod escape;
 pub mod laws;
 pub mod parser;
 mod tags;

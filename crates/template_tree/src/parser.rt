@@ -2,11 +2,13 @@
 ghost use Rattle.std.specs.Prelude.{◌≡◌, ◌≤◌, ◌<◌, ◌⊎◌, length, MatchResult, IfOk, IfErr, IsErrOf};
 ghost use Rattle.template_tree.specs.Grammar.{Spells, IsTemplateError, IsParseError};
 ghost use Rattle.template_tree.specs.Inner.Views.{token_view, IsNextError};
+ghost use Rattle.template_tree.specs.Source.{with_escape, unescaped};
 ghost use Rattle.template_tree.specs.Tokens.{token, next_of};
 ghost use Rattle.template_tree.specs.Tree.{Nodes, tree_of, nodes_view};
 ghost use Rattle.template_tree.specs.declared.parser.TheConstants.{TEXT_LIMIT};
 
 use crate::error::{ParseError, TemplateError, TemplateErrorKind};
+use crate::escape::Escape;
 use crate::template::{Node, Template};
 use crate::tokens::{Token, error_after_backslash, piece_token, tag_token};
 use std::alloc::Global;
@@ -58,9 +60,10 @@ fn read_token<'a>(
 }
 
 /// The nodes that a text spells.
-fn read_nodes(alloc: Global, text: &str) -> Result<Vec<Node>, ParseError>
+fn read_nodes(alloc: Global, text: &str, escape: Escape) -> Result<Vec<Node>, ParseError>
     requires { length text.now ≤ TEXT_LIMIT }
-    ensures { MatchResult result (λ nodes. Spells text.now (nodes_view nodes.items)) (IsParseError text.now) }
+    ensures { MatchResult result (λ nodes. Spells (with_escape escape text.now) (nodes_view nodes.items))
+        (IsParseError text.now) }
 {
     let mut nodes = Vec::new(alloc);
     let mut rest = text;
@@ -68,24 +71,38 @@ fn read_nodes(alloc: Global, text: &str) -> Result<Vec<Node>, ParseError>
         let (token, after) = read_token(alloc, text.len(), rest)?;
         match token {
             Token::Comment => {}
-            Token::Node(node) => nodes.push(node)?,
+            Token::Node(node) => nodes.push(node.under(escape))?,
         }
         rest = after;
     }
     Ok(nodes)
 }
 
-/// The template that a text spells, or its first error. A text of more than `TEXT_LIMIT` bytes is refused before
-/// any memory is taken.
+/// The template that a text spells, or its first error. Nothing is escaped.
 pub fn parse(alloc: Global, text: &str) -> Result<Template, ParseError>
-    ensures found { IfOk result (λ template. Spells text.now (tree_of template)) }
+    ensures found { IfOk result (λ template. Spells (unescaped text.now) (tree_of template)) }
+    ensures wrong { IfErr result (IsParseError text.now) }
+    ensures too_long { TEXT_LIMIT < length text.now →
+        IsErrOf result (ParseError.Template (record { kind = TemplateErrorKind.TooLong; at = TEXT_LIMIT })) }
+    ensures every_tree { (tree : Nodes) → Spells (unescaped text.now) tree →
+        MatchResult result (λ template. tree_of template ≡ tree) (λ e. e ≡ ParseError.OutOfMemory) }
+    ensures every_error { (error : TemplateError) → IsTemplateError text.now error →
+        MatchResult result (λ template. ⊥) (λ e. (e ≡ ParseError.Template error) ⊎ (e ≡ ParseError.OutOfMemory)) }
+{
+    parse_with(alloc, text, Escape::Off)
+}
+
+/// The template that a text spells, whose prints are escaped so, or its first error. A text of more than `TEXT_LIMIT`
+/// bytes is refused before any memory is taken.
+pub fn parse_with(alloc: Global, text: &str, escape: Escape) -> Result<Template, ParseError>
+    ensures found { IfOk result (λ template. Spells (with_escape escape text.now) (tree_of template)) }
     ensures wrong { IfErr result (IsParseError text.now) }
 
     // However little memory there is.
     ensures too_long { TEXT_LIMIT < length text.now →
         IsErrOf result (ParseError.Template (record { kind = TemplateErrorKind.TooLong; at = TEXT_LIMIT })) }
 
-    ensures every_tree { (tree : Nodes) → Spells text.now tree →
+    ensures every_tree { (tree : Nodes) → Spells (with_escape escape text.now) tree →
         MatchResult result (λ template. tree_of template ≡ tree) (λ e. e ≡ ParseError.OutOfMemory) }
     ensures every_error { (error : TemplateError) → IsTemplateError text.now error →
         MatchResult result (λ template. ⊥) (λ e. (e ≡ ParseError.Template error) ⊎ (e ≡ ParseError.OutOfMemory)) }
@@ -96,5 +113,5 @@ pub fn parse(alloc: Global, text: &str) -> Result<Template, ParseError>
             at: TEXT_LIMIT,
         }));
     }
-    read_nodes(alloc, text).map(Template::new)
+    read_nodes(alloc, text, escape).map(Template::new)
 }

@@ -1,5 +1,6 @@
 // A template as a tree.
 
+use crate::escape::Escape;
 use data_tree::plain_text::PlainText;
 use template_words::reference::Reference;
 
@@ -15,8 +16,24 @@ pub enum Expression {
 pub enum Node {
     /// Text, which is written as it is.
     Piece(PlainText),
-    /// The printed text of a value.
-    Print(Expression),
+    /// The printed text of a value, escaped so.
+    Print(Escape, Expression),
+}
+
+impl Node {
+    ghost use Rattle.std.specs.Prelude.{◌≡◌};
+    ghost use Rattle.template_tree.specs.Grammar.{node_under};
+    ghost use Rattle.template_tree.specs.Tree.{node_view};
+
+    /// The node in a template whose prints are escaped so.
+    pub(crate) fn under(self, escape: Escape) -> Node
+        ensures { node_view result ≡ node_under escape (node_view self) }
+    {
+        match self {
+            Node::Piece(text) => Node::Piece(text),
+            Node::Print(mark, expression) => Node::Print(mark.under(escape), expression),
+        }
+    }
 }
 
 /// A template: what `parse` reads from a text. Contracts see `tree_of` it.

@@ -3,10 +3,11 @@ ghost use Rattle.std.specs.Prelude.{◌≡◌, ◌<◌, ◌^◌, true, length, c
 ghost use Rattle.template_words.specs.Marks.{begins};
 ghost use Rattle.template_words.specs.Reading.{Gives};
 ghost use Rattle.template_tree.specs.Tags.{tag_of};
-ghost use Rattle.template_tree.specs.Tokens.{token, node_token, expression_of, tag_next, error_after_backslash};
+ghost use Rattle.template_tree.specs.Tokens.{token, node_token, expression_of, escape_of, tag_next, error_after_backslash};
 ghost use Rattle.template_tree.specs.Tree.{expression_view, piece};
 ghost use Rattle.template_tree.specs.Inner.Views.{token_view, IsReadErrorOf};
 
+use crate::escape::Escape;
 use crate::tags::{Opening, TagText, is_unsupported, tag_at};
 use crate::template::{Expression, Node};
 use data_tree::plain_text::PlainText;
@@ -15,7 +16,7 @@ use template_words::error::{ReadError, TagError};
 use template_words::paths::reference_of;
 use template_words::words::trim_white_space;
 
-/// A token. A comment leaves no node.
+/// A token. A comment leaves no node; a print is marked as it is escaped in a template whose prints are.
 #[derive(Debug, Drop)]
 pub enum Token {
     Comment,
@@ -34,6 +35,15 @@ fn expression_of(alloc: Global, opening: Opening, content: &str) -> Result<Expre
     Ok(Expression::Reference(reference_of(alloc, word)?))
 }
 
+fn escape_of(opening: Opening) -> Escape
+    ensures { result ≡ escape_of opening }
+{
+    match opening {
+        Opening::Double => Escape::Html,
+        Opening::Triple => Escape::Off,
+    }
+}
+
 /// The token of a text that begins with a tag, and what follows it.
 pub fn tag_token<'a>(alloc: Global, text: &'a str) -> Result<(Token, &'a str), ReadError>
     requires mark { begins (codes "{{") text.now ≡ true }
@@ -47,7 +57,10 @@ pub fn tag_token<'a>(alloc: Global, text: &'a str) -> Result<(Token, &'a str), R
         Some((TagText::Comment, rest)) => Ok((Token::Comment, rest)),
         Some((TagText::Shown(opening, content), rest)) => {
             let expression = expression_of(alloc, opening, content)?;
-            Ok((Token::Node(Node::Print(expression)), rest))
+            Ok((
+                Token::Node(Node::Print(escape_of(opening), expression)),
+                rest,
+            ))
         }
     }
 }

@@ -3,6 +3,7 @@
 use case_table::row::Row;
 use mapping_answer::answer::answer_to;
 use std::alloc::{AllocError, Global};
+use template_tree::escape::Escape;
 
 /// What is written to standard output and to standard error, and the exit status.
 pub fn written(alloc: Global, row: &Row) -> Result<String, AllocError> {
@@ -14,7 +15,15 @@ pub fn written(alloc: Global, row: &Row) -> Result<String, AllocError> {
 
 fn answer(alloc: Global, row: &Row, out: &mut Vec<u8>, err: &mut Vec<u8>) -> u8 {
     let document = row.cell(0).as_bytes();
-    answer_to(alloc, document, row.cell(1), row.cell(2), out, err)
+    answer_to(
+        alloc,
+        document,
+        row.cell(1),
+        row.cell(2),
+        out,
+        err,
+        Escape::Off,
+    )
 }
 
 fn text(bytes: &[u8]) -> &str {

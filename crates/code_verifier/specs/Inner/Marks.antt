@@ -1,6 +1,6 @@
 -- What the pass keeps of the jumps that go to an instruction: a nest is known by its innermost loop.
-use Rattle.std.specs.Prelude.{ℕ, nat_eq, Bool, true, false, if◌then◌else◌, List, [], ◌∷◌, set, get_or, Option, Some}
-use Rattle.std.specs.Prelude.{None}
+use Rattle.std.specs.Prelude.{ℕ, nat_eq, Bool, true, false, if◌then◌else◌, List, [], ◌∷◌, set, Option, Some, None}
+use Rattle.std.specs.Prelude.{slice_get, unwrap_or}
 use Rattle.code_verifier.specs.declared.targets.Mark.{Mark}
 use Rattle.code_verifier.specs.declared.targets.Mark.TheVariants.{Unmarked, From, Mixed}
 
@@ -36,7 +36,11 @@ abbrev pub is_marked : Mark → Bool
 is_marked Unmarked = false
 is_marked mark = true
 
+-- the mark of an index; there is no mark after the last one
+abbrev pub mark_at : List Mark → ℕ → Mark
+mark_at marks index = unwrap_or (slice_get marks index) Unmarked
+
 -- the marks with the target of one more jump, from that loop
 abbrev pub with_target : Option ℕ → Option ℕ → List Mark → List Mark
 with_target None l marks = marks
-with_target (Some target) l marks = set marks target (with_jump l (get_or marks target Unmarked))
+with_target (Some target) l marks = set marks target (with_jump l (mark_at marks target))

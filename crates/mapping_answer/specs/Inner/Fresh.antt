@@ -7,11 +7,12 @@ use Rattle.request_journal.specs.Past.{Past, opened}
 use Rattle.request_journal.specs.declared.event.ServeAnswer.{ServeAnswer}
 use Rattle.request_journal.specs.declared.event.ServeAnswer.TheVariants.{Stub, Proxy, Unmatched}
 use Rattle.request_journal.specs.declared.limits.TheConstants.{LIVE_LIMIT}
+use Rattle.template_tree.specs.declared.escape.Escape.{Escape}
 
 -- the past of a book that was just opened with the document's mappings
-abbrev pub IsFresh : List ℕ → Past → Type 0
-IsFresh bytes past =
-    (mappings : List MappingSpec) × SpellMappings bytes mappings × (past ≡ opened 0 mappings)
+abbrev pub IsFresh : Escape → List ℕ → Past → Type 0
+IsFresh escape bytes past =
+    (mappings : List MappingSpec) × SpellMappings escape bytes mappings × (past ≡ opened 0 mappings)
     × (length (live past) ≤ LIVE_LIMIT)
 
 -- the answer doesn't send the request on

@@ -3,9 +3,10 @@ use Rattle.std.specs.Prelude.{◌≡◌, ℕ, ◌+◌, ◌*◌, ◌^◌, ◌≤�
 use Rattle.std.specs.List.{AllZip}
 use Rattle.mapping_check.specs.Checking.{IsProgramOf, total_steps, total_bytes}
 use Rattle.template_machine.specs.Program.{ProgramParts}
+use Rattle.template_tree.specs.Source.{Source}
 
 -- the totals of the programs of these templates
-pub record AreTotals (templates : List (List ℕ)) (steps bytes : List ℕ) : Type 0 where
+pub record AreTotals (templates : List Source) (steps bytes : List ℕ) : Type 0 where
   pub programs : List ProgramParts
   pub each : AllZip IsProgramOf templates programs
   pub steps_are : steps ≡ total_steps programs

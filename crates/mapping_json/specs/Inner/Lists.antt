@@ -8,10 +8,12 @@ use Rattle.mapping_json.specs.declared.error.MappingError.TheVariants.{Document,
 use Rattle.mapping_json.specs.declared.error.MappingsError.{MappingsError}
 use Rattle.mapping_model.specs.declared.mapping_spec.MappingSpec.{MappingSpec}
 use Rattle.serde_json.specs.Data.{Data}
+use Rattle.template_tree.specs.declared.escape.Escape.{Escape}
 
 -- the results of the values in an object
-abbrev pub AreResultsOf : Data → List (Result MappingSpec MappingError) → Type 0
-AreResultsOf d results = (values : List Data) × (mappings_in d ≡ Some values) × AllZip IsResultOf values results
+abbrev pub AreResultsOf : Escape → Data → List (Result MappingSpec MappingError) → Type 0
+AreResultsOf escape d results =
+    (values : List Data) × (mappings_in d ≡ Some values) × AllZip (IsResultOf escape) values results
 
 -- the value is no list of mappings, or memory is out
 abbrev pub IsListError : Data → MappingError → Type 0

@@ -5,7 +5,7 @@ use Rattle.answering.proofs.answer.written.Goals as goal
 
 pub returns-clause-ok : goal.returns-clause-ok
 returns-clause-ok g c =
-    of_reply (IsReply g.L.Origin.origin c.args.site.now.limits c.args.seat.now c.reply_to.new.seat c.args.message.now)
+    of_reply (IsReply g.L.Origin.origin c.args.site.now.limits c.args.site.now.escape c.args.seat.now c.reply_to.new.seat c.args.message.now)
     IsResponseOf c.in_ok-reply.reply c.response_of.result c.in_ok-reply.ensures c.response_of.ensures
 
 pub returns-clause-err : goal.returns-clause-err

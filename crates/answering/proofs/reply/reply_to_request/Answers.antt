@@ -10,14 +10,14 @@ use Rattle.answering.proofs.reply.reply_to_request.Goals as goal
 pub returns-then-is_admin : goal.returns-then-is_admin
 returns-then-is_admin g c =
     let admin : IsAdmin c.args.request.url = subst IsAdmin c.url.ensures.value (c.is_admin.ensures.0 c.if-is_admin.true) in
-    weaker (IsAdminAnswered g.L.Origin.origin c.args.seat.now c.admin_reply.new.seat c.args.request)
-    (IsRequestAnswered g.L.Origin.origin c.args.site.now.limits c.args.seat.now c.admin_reply.new.seat c.args.request)
+    weaker (IsAdminAnswered g.L.Origin.origin c.args.site.now.escape c.args.seat.now c.admin_reply.new.seat c.args.request)
+    (IsRequestAnswered g.L.Origin.origin c.args.site.now.limits c.args.site.now.escape c.args.seat.now c.admin_reply.new.seat c.args.request)
     (λ reply is. inl (admin, is)) c.admin_reply.result c.admin_reply.ensures
 
 pub returns-in-Err : goal.returns-in-Err
 returns-in-Err g c =
     let other : ¬ (IsAdmin c.args.request.url) =
     λ is. false≢true (sym c.if-is_admin.false ∙ c.is_admin.ensures.1 (subst IsAdmin (sym c.url.ensures.value) is)) in
-    given (IsRequestAnswered g.L.Origin.origin c.args.site.now.limits c.args.seat.now c.serve.new.seat c.args.request)
+    given (IsRequestAnswered g.L.Origin.origin c.args.site.now.limits c.args.site.now.escape c.args.seat.now c.serve.new.seat c.args.request)
     (error_reply 503 c.in-Err.error.code) c.error_reply.result
     (inr (other, inr (c.in-Err.error.code, c.in-Err.ensures.refused, refl))) c.error_reply.ensures

@@ -1,5 +1,7 @@
-use Rattle.std.proofs.Common.{◌≡◌, ◌+◌, ◌∷◌, ◌++◌, [], take, sym, ap, ◌∙◌, subst, arith}
+use Rattle.std.proofs.Common.{◌≡◌, ◌+◌, List, ◌∷◌, ◌++◌, [], take, sym, ap, ◌∙◌, subst, arith}
 use Rattle.std.proofs.lemmas.List.{map-append, take_more}
+use Rattle.mapping_model.specs.declared.header_lines.HeaderLine.{HeaderLine}
+use Rattle.template_tree.specs.Source.{Source}
 use Rattle.mapping_check.specs.Inner.Totals.{AreTotals}
 use Rattle.mapping_check.proofs.Totals.{one_more}
 use Rattle.response_json.specs.Draft.{values_of}
@@ -15,7 +17,8 @@ loop-line-preserved c =
     let more : take (i + 1) lines ≡ take i lines ++ line ∷ [] =
     take_more lines i line (omega arith) ∙ ap (λ l. take i lines ++ l ∷ []) (sym c.line-item.is) in
     let templates : values_of (take (i + 1) lines) ≡ values_of (take i lines) ++ line.value ∷ [] =
-    ap values_of more ∙ map-append (λ l. l.value) (take i lines) (line ∷ []) in
+    ap (λ (ls : List (HeaderLine Source)). values_of ls) more
+    ∙ map-append (λ (l : HeaderLine Source). l.value) (take i lines) (line ∷ []) in
     record {
       totals = subst (λ ts. AreTotals ts new.steps.items new.bytes.items) (sym templates)
           (one_more (values_of (take i lines)) line.value old.steps.items old.bytes.items new.steps.items new.bytes.items

@@ -14,9 +14,9 @@ loop-value-preserved c =
     let value = c.value-item.result in
     let more : take (i + 1) items ≡ take i items ++ value ∷ [] =
     take_more items i value (omega arith) ∙ ap (λ v. take i items ++ v ∷ []) (sym c.value-item.is) in
-    subst (λ vs. AllZip (λ (v : Value). IsResultOf (view v)) vs c.push.new.self.items) (sym more)
-    (subst (AllZip (λ (v : Value). IsResultOf (view v)) (take i items ++ value ∷ [])) (sym c.in_ok-push.ensures.items)
-    (zip_push (λ (v : Value). IsResultOf (view v)) (take i items) c.loop-value.results.items value
+    subst (λ vs. AllZip (λ (v : Value). IsResultOf c.args.escape (view v)) vs c.push.new.self.items) (sym more)
+    (subst (AllZip (λ (v : Value). IsResultOf c.args.escape (view v)) (take i items ++ value ∷ [])) (sym c.in_ok-push.ensures.items)
+    (zip_push (λ (v : Value). IsResultOf c.args.escape (view v)) (take i items) c.loop-value.results.items value
     c.in_ok-result_of.field-0 c.loop-value.invariant c.in_ok-result_of.ensures))
 
 pub returns : goal.returns
@@ -24,5 +24,5 @@ returns c =
     let items = c.deref-value-items.result.now in
     let all : take c.loop-value.value-index items ≡ c.args.values.now.items =
     take_all c.loop-value.value-index items (omega arith) ∙ c.deref-value-items.ensures.value in
-    zip_map IsResultOf view c.args.values.now.items c.loop-value.results.items
-    (subst (λ vs. AllZip (λ (v : Value). IsResultOf (view v)) vs c.loop-value.results.items) all c.loop-value.invariant)
+    zip_map (IsResultOf c.args.escape) view c.args.values.now.items c.loop-value.results.items
+    (subst (λ vs. AllZip (λ (v : Value). IsResultOf c.args.escape (view v)) vs c.loop-value.results.items) all c.loop-value.invariant)

@@ -3,7 +3,6 @@ use Rattle.std.specs.Prelude.{Bool, true, false}
 use Rattle.template_tree.specs.Tree.{tree_of}
 use Rattle.template_compile.proofs.Runs.{stack_code-runs}
 use Rattle.template_compile.proofs.Unbroken.{stack_code-well_formed}
-use Rattle.template_compile.proofs.Outermost.{stack_code-plain}
 use Rattle.template_compile.proofs.Limits.{stack_code-within_limits}
 use Rattle.template_tree.proofs.Bytes.{spelled_bytes}
 use Rattle.template_compile.proofs.compiler.compile.Goals as goal
@@ -15,10 +14,6 @@ pub returns-clause-runs : goal.returns-clause-runs
 returns-clause-runs c =
     rw (c.in_ok-translate.ensures, c.into_nodes-nodes.ensures) (stack_code-runs (tree_of c.args.template))
 
-pub returns-clause-plain : goal.returns-clause-plain
-returns-clause-plain c =
-    rw (c.in_ok-translate.ensures, c.into_nodes-nodes.ensures) (stack_code-plain (tree_of c.args.template))
-
 pub returns-clause-well_formed : goal.returns-clause-well_formed
 returns-clause-well_formed c =
     let short =
@@ -27,10 +22,10 @@ returns-clause-well_formed c =
     rw (c.in_ok-translate.ensures, c.into_nodes-nodes.ensures) (stack_code-well_formed (tree_of c.args.template) short)
 
 pub returns-clause-within_limits : goal.returns-clause-within_limits
-returns-clause-within_limits c = λ text spells.
+returns-clause-within_limits c = λ source spells.
     let short =
     at_most _ _ _ (rw (c.as_slice.ensures.value, c.into_nodes-nodes.ensures) at c.is_too_long.ensures)
     c.if-is_too_long.false in
-    let few = spelled_bytes text (tree_of c.args.template) spells in
+    let few = spelled_bytes source (tree_of c.args.template) spells in
     rw (c.in_ok-translate.ensures, c.into_nodes-nodes.ensures)
     (stack_code-within_limits (tree_of c.args.template) short (omega (arith, few, spells.short)))

@@ -1,5 +1,6 @@
-use Rattle.std.proofs.Common.{Err, refl, ap}
+use Rattle.std.proofs.Common.{Err, ap}
 use Rattle.std.proofs.lemmas.Result.{err_from_is_err_and}
+use Rattle.template_tree.specs.Source.{with_escape}
 use Rattle.template_tree.specs.Tree.{tree_of}
 use Rattle.template_machine.proofs.Programs.{program_of}
 use Rattle.template_machine.proofs.Refusals.{parse_error, compile_error, short_code}
@@ -9,14 +10,15 @@ pub returns-in_err-template-clause-err : goal.returns-in_err-template-clause-err
 returns-in_err-template-clause-err c =
     let p = err_from_is_err_and c.from_residual.result c.from_residual.ensures.1 in
     let e = c.in_err-template.ensures in
-    rw (p.1, p.2) (parse_error c.args.text.now c.in_err-template.field-0.0 e.wrong e.every_tree)
+    rw (p.1, p.2) (parse_error (with_escape c.args.escape c.args.text.now) c.in_err-template.field-0.0 e.wrong e.every_tree)
 
 pub returns-in_err-code-clause-err : goal.returns-in_err-code-clause-err
 returns-in_err-code-clause-err c =
     let p = err_from_is_err_and c.from_residual-in_err-code.result c.from_residual-in_err-code.ensures.1 in
     let t = c.in_ok-template.ensures in
     rw (p.1, p.2)
-    (compile_error c.args.text.now (tree_of c.in_ok-template.template) c.in_err-code.field-0.0 t.found t.every_tree
+    (compile_error (with_escape c.args.escape c.args.text.now) (tree_of c.in_ok-template.template)
+    c.in_err-code.field-0.0 t.found t.every_tree
     (λ long. c.in_err-code.ensures.too_long.0 (ap Err long)))
 
 pub returns-clause-ok : goal.returns-clause-ok
@@ -26,5 +28,5 @@ returns-clause-ok c =
     let e = c.in_ok-code.ensures in
     record {
       whole = (tree, found, short_code _ tree e.well_formed e.translated);
-      program = program_of _ _ _ _ tree refl c.in_ok-verify.ensures.same found e.translated e.plain e.runs;
+      program = program_of _ _ _ tree c.in_ok-verify.ensures.same found e.translated e.runs;
     }

@@ -5,6 +5,6 @@ use Rattle.template_tree.proofs.laws.law_text_spells_tree_or_has_error.Goals as 
 pub returns : goal.returns
 returns c = record {
   one = λ text d e p q. one_error text d e p q;
-  apart = λ text tree e p q. never_both text tree e p q;
-  exactly = λ text short. (λ t e f. never_both text t.0 e t.1 f, λ none. tree_if_no_error text short none);
+  apart = λ source tree e p q. never_both source tree e p q;
+  exactly = λ source short. (λ t e f. never_both source t.0 e t.1 f, λ none. tree_if_no_error source short none);
 }

@@ -1,5 +1,0 @@
-use Rattle.code_rules.proofs.SharperFacts.{sharper}
-use Rattle.code_rules.proofs.laws.law_budget_is_at_most_the_plain_one.Goals as goal
-
-pub returns : goal.returns
-returns c = sharper

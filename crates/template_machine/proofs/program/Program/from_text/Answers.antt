@@ -1,8 +1,0 @@
-use Rattle.std.proofs.Common.{sym, subst}
-use Rattle.template_machine.specs.Program.{IsProgram}
-use Rattle.template_machine.proofs.program.Program.from_text.Goals as goal
-
-pub new-requires : goal.new-requires
-new-requires c =
-    subst (λ source. IsProgram (record { source = source; code = c.in_ok-verified.verified }))
-    (sym c.in_ok-source.ensures.ok) c.in_ok-verified.ensures.ok.program

@@ -1,0 +1,118 @@
+//! The loops that are open in a run. They borrow what they go over from the request's data.
+ghost use Rattle.std.specs.Prelude.{◌≡◌, pos, nat_eq, nat_lt, length, IfSome};
+ghost use Rattle.data_tree.specs.Tree.{view};
+ghost use Rattle.data_tree.specs.Parts.{items};
+ghost use Rattle.data_tree.specs.WellFormed.{IsWellFormed};
+ghost use Rattle.template_code.specs.Machine.{item_of, key_of, has_next};
+ghost use Rattle.template_machine.specs.Inner.Slots.{found_view, loop_view};
+ghost use Rattle.template_machine.specs.Inner.Loops.{IsSoundLoop, next_turn};
+
+use data_tree::data::Data;
+
+/// An open loop: the value whose items it goes over, and the number of turns that are done.
+#[derive(Clone, Copy)]
+pub struct OpenLoop<'a> {
+    over: Option<&'a Data>,
+    turn: usize,
+}
+
+// Fills the entries of a list of loops that aren't in use.
+impl<'a> Default for OpenLoop<'a> {
+    ghost use Rattle.std.specs.Prelude.{None};
+
+    ghost is_default = { λ empty. empty ≡ record { over = None; turn = 0 } };
+
+    fn default() -> Self {
+        OpenLoop {
+            over: None,
+            turn: 0,
+        }
+    }
+}
+
+/// Whether there is an item to go over.
+pub fn has_items(over: Option<&Data>) -> bool
+    ensures { result ≡ nat_lt 0 (length (items (found_view over.entry))) }
+{
+    match over {
+        Some(over) => over.items_len() > 0,
+        None => false,
+    }
+}
+
+impl<'a> OpenLoop<'a> {
+    /// At the first item.
+    pub fn new(over: Option<&'a Data>) -> OpenLoop<'a>
+        ensures { loop_view result ≡ record { over = found_view over.entry; turn = 0 } }
+    {
+        OpenLoop { over, turn: 0 }
+    }
+
+    /// The item that it is at.
+    #[tactic(auto, using(crate::proofs::Loops::item_found))]
+    pub fn item(self) -> Option<&'a Data>
+        ensures found { found_view result ≡ item_of (loop_view self.entry) }
+        ensures well_formed { IsWellFormed (found_view self.entry.over)
+            → IfSome result (λ found. IsWellFormed (view found.now)) }
+    {
+        match self.over {
+            Some(over) => over.item(self.turn),
+            None => None,
+        }
+    }
+
+    /// The name of the item, or the empty text if it has none.
+    pub fn key(self) -> &'a str
+        ensures { result.now ≡ key_of (loop_view self.entry) }
+    {
+        match self.over {
+            Some(over) => key_at(over, self.turn),
+            None => "",
+        }
+    }
+
+    /// The index of the item, from 0.
+    pub fn index(self) -> i64
+        requires { IsSoundLoop (loop_view self) }
+        ensures { result ≡ pos self.entry.turn }
+    {
+        self.turn as i64
+    }
+
+    pub fn is_first(self) -> bool
+        ensures { result ≡ nat_eq self.entry.turn 0 }
+    {
+        self.turn == 0
+    }
+
+    /// Whether another item comes after it.
+    pub fn has_next(self) -> bool
+        requires { IsSoundLoop (loop_view self) }
+        ensures { result ≡ has_next (loop_view self.entry) }
+    {
+        match self.over {
+            Some(over) => self.turn + 1 < over.items_len(),
+            None => unreachable!(),
+        }
+    }
+
+    /// At the next item.
+    pub fn advanced(self) -> OpenLoop<'a>
+        requires { IsSoundLoop (loop_view self) }
+        ensures { loop_view result ≡ next_turn (loop_view self.entry) }
+    {
+        OpenLoop {
+            over: self.over,
+            turn: self.turn + 1,
+        }
+    }
+}
+
+fn key_at<'a>(over: &'a Data, turn: usize) -> &'a str
+    ensures { result.now ≡ key_of (record { over = view over.now; turn = turn }) }
+{
+    match over.key(turn) {
+        Some(key) => key,
+        None => "",
+    }
+}
