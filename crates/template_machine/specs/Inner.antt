@@ -1,6 +1,7 @@
 -- Words for the contracts of private functions and for views of private types; no public contract cites them.
 pub mod Calls
 pub mod Conversions
+pub mod Found
 pub mod Loops
 pub mod Programs
 pub mod Slots

@@ -96,15 +96,12 @@ impl<'a> OpenLoop<'a> {
         }
     }
 
-    /// At the next item.
-    pub fn advanced(self) -> OpenLoop<'a>
-        requires { IsSoundLoop (loop_view self) }
-        ensures { loop_view result ≡ next_turn (loop_view self.entry) }
+    /// Goes on to the next item.
+    pub fn advance(&mut self)
+        requires { IsSoundLoop (loop_view self.old) }
+        ensures { loop_view self.new ≡ next_turn (loop_view self.old) }
     {
-        OpenLoop {
-            over: self.over,
-            turn: self.turn + 1,
-        }
+        self.turn += 1;
     }
 }
 
