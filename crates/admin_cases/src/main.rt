@@ -1,14 +1,18 @@
-//! Compares what a shared book answers to admin calls and to other requests, and what `admin_json` reads and writes of
-//! recordings, with the tables in `data/`.
+//! Compares what a shared book answers to admin calls and to other requests, also of two threads, what schedules over a book
+//! give, and what `admin_json` reads and writes of recordings, with the tables in `data/`.
 #![tactic(auto)]
 
 mod books;
+mod exchanges;
+mod locked;
 mod octets;
 mod paths;
 mod recordings;
 mod requests;
 mod server;
+mod steps;
 mod table;
+mod worlds;
 
 use case_table::compare::compare_all;
 use std::io;
@@ -41,6 +45,16 @@ fn main(rt: HostRuntime) -> io::Result<ExitCode> {
             rt,
             file: "recordings.tsv",
             rows: Rows::Recordings,
+        },
+        Table {
+            rt,
+            file: "worlds.tsv",
+            rows: Rows::Worlds,
+        },
+        Table {
+            rt,
+            file: "threads.tsv",
+            rows: Rows::Threads,
         },
     ];
     compare_all(&rt, tables.as_slice())

@@ -1,10 +1,11 @@
 //! The tables, and what their rows are.
 
-use crate::{books, recordings};
+use crate::{books, locked, recordings, worlds};
 use case_table::compare::CaseTable;
 use case_table::row::Row;
 use std::alloc::{AllocError, Global};
 use std::sync::Wait;
+use std::thread::Threads;
 
 /// What the rows of a table are.
 #[derive(Clone, Copy)]
@@ -15,6 +16,10 @@ pub enum Rows {
     Paths,
     /// What is read and written of recordings.
     Recordings,
+    /// Schedules over a book.
+    Worlds,
+    /// Calls of one and two threads on a shared book.
+    Threads,
 }
 
 #[derive(Clone, Copy)]
@@ -24,7 +29,7 @@ pub struct Table<R: Wait> {
     pub rows: Rows,
 }
 
-impl<R: Wait + Copy> CaseTable for Table<R> {
+impl<R: Threads + Wait + Sync + Copy> CaseTable for Table<R> {
     fn file(self) -> &'static str {
         self.file
     }
@@ -34,6 +39,8 @@ impl<R: Wait + Copy> CaseTable for Table<R> {
             Rows::Calls => books::answer(&self.rt, alloc, row, false),
             Rows::Paths => books::answer(&self.rt, alloc, row, true),
             Rows::Recordings => recordings::answer(alloc, row),
+            Rows::Worlds => worlds::replies(alloc, row),
+            Rows::Threads => locked::answer(&self.rt, alloc, row),
         }
     }
 }

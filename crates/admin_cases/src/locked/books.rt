@@ -1,0 +1,81 @@
+//! Books to share, and calls to make on them.
+
+use crate::books::mappings_of;
+use mapping_model::mapping_id::MappingId;
+use mapping_model::response_spec::{Body, Content};
+use mock_request::snapshot::Snapshot;
+use request_journal::event::{Event, ServeAnswer};
+use request_journal::input::BookInput;
+use request_match::ready_mapping::ReadyMapping;
+use shared_book::receipt::Receipt;
+use std::alloc::{AllocError, Global};
+use stub_book::book::Book;
+
+const FIRST: &str = "{\"request\":{\"method\":\"GET\",\"url\":\"/a\"},\"response\":{\"body\":\"v1\"}}";
+
+const SECOND: &str = "{\"request\":{\"method\":\"GET\",\"url\":\"/a\"},\"response\":{\"body\":\"v2\"}}";
+
+const THIRD: &str = "{\"scenarioName\":\"s\",\"newScenarioState\":\"two\",
+\"request\":{\"method\":\"GET\",\"url\":\"/a\"},\"response\":{\"body\":\"v3\"}}";
+
+/// A change of a book.
+#[derive(Clone, Copy)]
+pub enum Change {
+    /// The default mapping becomes version `v2`.
+    Edit,
+    /// A mapping of version `v3`, which moves the scenario `s` to `two`.
+    Add,
+    Clear,
+}
+
+/// A book opened at 0 with one default mapping, of version `v1`, which answers `GET /a`.
+pub fn book(alloc: Global) -> Result<Book, AllocError> {
+    let book = Book::new(alloc, mappings_of(alloc, FIRST)?, 0);
+    book.ok().ok_or(AllocError)
+}
+
+pub fn input(alloc: Global, change: Change) -> Result<BookInput, AllocError> {
+    Ok(match change {
+        Change::Edit => BookInput::Edit {
+            id: MappingId::of_default(alloc, 0)?,
+            mapping: mapping(alloc, SECOND)?,
+        },
+        Change::Add => BookInput::Add(mapping(alloc, THIRD)?),
+        Change::Clear => BookInput::ClearJournal,
+    })
+}
+
+fn mapping(alloc: Global, document: &str) -> Result<ReadyMapping, AllocError> {
+    mappings_of(alloc, document)?.pop().ok_or(AllocError)
+}
+
+/// `GET /a`.
+pub fn request(alloc: Global) -> Result<Snapshot, AllocError> {
+    let headers = Vec::new(alloc);
+    let request = Snapshot::new(alloc, "GET", "/a", headers.as_slice(), "".as_bytes());
+    request.ok().ok_or(AllocError)
+}
+
+/// What a receipt's event is, in a word: of a request, the version that it is answered with.
+pub fn word_of(receipt: &Receipt) -> &str {
+    match receipt.event.event() {
+        Event::Serve { answer, .. } => version(answer),
+        Event::Add(_) => "add",
+        Event::Edit { .. } => "edit",
+        Event::ClearJournal => "clear",
+        _ => "other",
+    }
+}
+
+fn version(answer: &ServeAnswer) -> &str {
+    let ServeAnswer::Stub(captured) = answer else {
+        return "none";
+    };
+    match &captured.mapping.spec.spec().response.response().content {
+        Content::Plain {
+            body: Body::Text(text),
+            ..
+        } => text.as_str(),
+        _ => "other",
+    }
+}

@@ -1,0 +1,30 @@
+//! Settling a book that one seat has all parts of.
+
+use crate::locked::calls;
+use crate::locked::words::{add_counts, add_receipts, add_refusal};
+use case_table::cells::Cells;
+use shared_book::origin::Origin;
+use shared_book::seat::Seat;
+use shared_book::shared_book::SharedBook;
+use std::alloc::{AllocError, Global};
+use std::sync::Wait;
+
+/// Adds how many events there are, and a word for each.
+pub fn settle_seat<L: Origin, R: Wait>(
+    rt: &R,
+    alloc: Global,
+    cells: &mut Cells,
+    shared: SharedBook<L>,
+    seat: Seat<L>,
+) -> Result<(), AllocError> {
+    let seats = calls::list(alloc, seat)?;
+    match calls::settled(rt, alloc, shared, seats) {
+        Ok(settled) => {
+            add_counts(cells, &settled);
+            cells.add(":");
+            add_receipts(cells, &settled);
+        }
+        Err(error) => add_refusal(cells, &error.reason, error.seats.len()),
+    }
+    Ok(())
+}
