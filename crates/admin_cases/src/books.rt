@@ -1,10 +1,12 @@
 //! Calls on a shared book. A row gives the number that the book is opened with, its default mappings (a document, or
 //! nothing), and the calls.
-ghost use Rattle.std.specs.Prelude.{◌≡◌, ◌<◌};
+ghost use Rattle.std.specs.Prelude.{◌≡◌, ◌≤◌};
 
 use crate::paths::add_paths;
 use crate::requests::request_of;
 use crate::server::{add_reply, reply_to};
+use crate::table::Rows;
+use crate::threads::add_threads;
 use case_table::cells::Cells;
 use case_table::row::Row;
 use mapping_json::read::read_mappings;
@@ -16,20 +18,21 @@ use std::alloc::{AllocError, Global};
 use std::marker::Brand;
 use std::sync::Wait;
 use std::sync::ledger::Blank;
+use std::thread::Threads;
 use stub_book::book::Book;
 
-/// Into how many parts the ledger is cut: one, for the one seat.
-const PARTS: u64 = 1;
+/// Into how many parts the ledger is cut: one for each seat that there may be.
+const PARTS: u64 = 3;
 
 /// The replies. Where memory runs out the whole row is played once more, on a book of its own.
-pub fn answer<R: Wait>(
+pub fn answer<R: Threads + Wait + Sync>(
     rt: &R,
     alloc: Global,
     row: &Row,
-    has_paths: bool,
+    rows: Rows,
 ) -> Result<String, AllocError> {
     let book = book_of(alloc, row)?;
-    play::<Brand, R>(rt, alloc, Blank::new(PARTS), PARTS, book, row, has_paths)
+    play::<Brand, R>(rt, alloc, Blank::new(PARTS), PARTS, book, row, rows)
 }
 
 // No book is refused.
@@ -48,34 +51,34 @@ pub fn mappings_of(alloc: Global, document: &str) -> Result<Vec<ReadyMapping>, A
     mappings.ok().ok_or(AllocError)
 }
 
-fn play<L: Origin, R: Wait>(
+fn play<L: Origin + Send + Sync, R: Threads + Wait + Sync>(
     rt: &R,
     alloc: Global,
     blank: Blank,
     parts: u64,
     book: Book,
     row: &Row,
-    has_paths: bool,
+    rows: Rows,
 ) -> Result<String, AllocError>
     requires name { blank.name ≡ L.name }
     requires ledger { blank.parts ≡ L.parts }
     requires parts { parts ≡ L.parts }
-    requires some { 0 < parts }
+    requires some { 3 ≤ parts }
     requires origin { book ≡ L.origin }
 {
     let (shared, seat) = SharedBook::<L>::new(alloc, blank, parts, book)?;
     let mut seat = seat;
     let mut cells = Cells::new(alloc);
-    if has_paths {
-        add_paths(rt, alloc, &shared, &mut seat, &mut cells, row)?;
-    } else {
-        add_calls(rt, alloc, &shared, &mut seat, &mut cells, row)?;
+    match rows {
+        Rows::Paths => add_paths(rt, alloc, &shared, &mut seat, &mut cells, row)?,
+        Rows::TwoThreads => add_threads(rt, alloc, shared, seat, &mut cells, row)?,
+        _ => add_calls(rt, alloc, &shared, &mut seat, &mut cells, row)?,
     }
     cells.finish()
 }
 
-// A call has four cells: its method, its target, its header lines with a line feed between two, and its body.
-fn add_calls<L: Origin, R: Wait>(
+/// A call has four cells: its method, its target, its header lines with a line feed between two, and its body.
+pub fn add_calls<L: Origin, R: Wait>(
     rt: &R,
     alloc: Global,
     shared: &SharedBook<L>,

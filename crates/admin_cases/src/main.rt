@@ -12,6 +12,7 @@ mod requests;
 mod server;
 mod steps;
 mod table;
+mod threads;
 mod worlds;
 
 use case_table::compare::compare_all;
@@ -43,6 +44,11 @@ fn main(rt: HostRuntime) -> io::Result<ExitCode> {
         },
         Table {
             rt,
+            file: "threads.tsv",
+            rows: Rows::TwoThreads,
+        },
+        Table {
+            rt,
             file: "recordings.tsv",
             rows: Rows::Recordings,
         },
@@ -53,8 +59,8 @@ fn main(rt: HostRuntime) -> io::Result<ExitCode> {
         },
         Table {
             rt,
-            file: "threads.tsv",
-            rows: Rows::Threads,
+            file: "shared.tsv",
+            rows: Rows::Shared,
         },
     ];
     compare_all(&rt, tables.as_slice())

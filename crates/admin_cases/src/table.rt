@@ -14,12 +14,14 @@ pub enum Rows {
     Calls,
     /// All paths of some segments, with some methods.
     Paths,
+    /// Calls by two threads.
+    TwoThreads,
     /// What is read and written of recordings.
     Recordings,
     /// Schedules over a book.
     Worlds,
-    /// Calls of one and two threads on a shared book.
-    Threads,
+    /// Calls of one and two threads on a shared book, below the admin calls.
+    Shared,
 }
 
 #[derive(Clone, Copy)]
@@ -36,11 +38,7 @@ impl<R: Threads + Wait + Sync + Copy> CaseTable for Table<R> {
 
     fn answer(self, alloc: Global, row: &Row) -> Result<String, AllocError> {
         match self.rows {
-            Rows::Calls => books::answer(&self.rt, alloc, row, false),
-            Rows::Paths => books::answer(&self.rt, alloc, row, true),
             Rows::Recordings => recordings::answer(alloc, row),
             Rows::Worlds => worlds::replies(alloc, row),
-            Rows::Threads => locked::answer(&self.rt, alloc, row),
-        }
-    }
-}
+            Rows::Shared => locked::answer(&self.rt, alloc, row),
+            rows => books::answer(&self.rt, alloc, row, rows),

@@ -29,13 +29,13 @@ pub fn answer<L: Origin, R: Wait, G: Gate>(
     alloc: Global,
     site: &Site<L, G>,
     seat: &mut Seat<L>,
-    message: Request<Bytes>,
+    message: &Request<Bytes>,
 ) -> Result<Response<Full<Bytes>>, ServiceError>
-    ensures ok { IfOk result (IsAnswered L.origin site.now.limits seat.old seat.new message) }
+    ensures ok { IfOk result (IsAnswered L.origin site.now.limits seat.old seat.new message.now) }
     ensures err { IfErr result (λ error. (error ≡ NoMemory)
-        × IsNotAnswered L.origin site.now.limits seat.old seat.new message) }
+        × IsNotAnswered L.origin site.now.limits seat.old seat.new message.now) }
 {
-    match written(rt, alloc, site, seat, &message) {
+    match written(rt, alloc, site, seat, message) {
         Ok(response) => Ok(response),
         Err(_error) => Ok(out_of_memory(alloc)?),
     }

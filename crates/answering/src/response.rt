@@ -10,6 +10,9 @@ use http_header::{HeaderNameError, HeaderValueError};
 use mapping_model::reply::{Reply, ReplyHeader};
 use std::alloc::{AllocError, Global};
 
+// Room for more names than these is made as they come.
+const RESERVED: usize = 128;
+
 /// The response that a reply is. Values and body are moved, and not copied.
 pub fn response_of(alloc: Global, reply: Reply) -> Result<Response<Full<Bytes>>, AllocError>
     ensures { IfOk result (IsResponseOf reply) }
@@ -39,7 +42,9 @@ fn response_status(status: u16) -> StatusCode
 fn header_map(alloc: Global, headers: Vec<ReplyHeader>) -> Result<HeaderMap, AllocError>
     ensures { IfOk result (λ made. made ≡ headers_of headers.items) }
 {
-    let mut made = HeaderMap::new(alloc);
+    let Ok(mut made) = HeaderMap::with_capacity(alloc, headers.len().min(RESERVED)) else {
+        return Err(AllocError);
+    };
     for header in headers {
         push_header(alloc, &mut made, header)?;
     }

@@ -6,8 +6,10 @@ pub mod TrimFacts
 pub mod SharperFacts
 pub mod CallFacts
 pub mod MachineFacts
+pub mod StepFacts
 pub mod TableFacts
 pub mod ViolationFacts
 pub mod FormFacts
 pub mod OutermostFacts
 mod Examples
+mod LoopExamples

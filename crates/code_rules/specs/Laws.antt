@@ -6,7 +6,7 @@ use Rattle.data_tree.specs.Tree.{Tree}
 use Rattle.helper_set.specs.Values.{Value, kind_of}
 use Rattle.template_code.specs.Code.{StackCode}
 use Rattle.template_code.specs.Instructions.{flow, target_of, names_entries, loop_named, pops, pushes}
-use Rattle.template_code.specs.Machine.{Loop, Effect, effect}
+use Rattle.template_code.specs.Machine.{Loop, State, Effect, effect, act}
 use Rattle.template_code.specs.declared.flow.Flow.{Flow}
 use Rattle.template_code.specs.declared.instr.Instr.{Instr}
 use Rattle.template_code.specs.declared.limits.TheConstants.{MAX_INSTRUCTIONS}
@@ -81,6 +81,12 @@ EffectsAreKinded =
     (code : StackCode) (root : Tree) (i : Instr) (loops : List Loop) (stack : List Value) (e : Effect) →
     effect code root i loops stack ≡ Some e →
     map kind_of e.stack ≡ pushes i ++ drop (length (pops i)) (map kind_of stack)
+
+-- each instruction but `Halt` has a step exactly where it has an effect
+abbrev pub EffectsAreSteps : Type 0
+EffectsAreSteps =
+    (code : StackCode) (root : Tree) (i : Instr) (s : State) → (flow i ≡ Flow.End → ⊥) →
+    is_some (act code root i s) ≡ is_some (effect code root i s.loops s.stack)
 
 -- a jump of well-formed code goes to a later instruction, in the same loops, where there is no slot
 abbrev pub JumpsLand : Type 0

@@ -3,7 +3,7 @@ use Rattle.std.specs.Prelude.{ℕ, zero, suc, ◌+◌, ◌*◌, nat_eq, nat_le, 
 use Rattle.std.specs.List.{list_all}
 use Rattle.template_code.specs.declared.limits.TheConstants.{MAX_COEFFICIENT}
 
--- no list of a bound or of a budget ends in a zero, as a law says
+-- the constant first; no list of a budget ends in a zero, as a law says
 abbrev pub Polynomial : Type 0
 Polynomial = List ℕ
 

@@ -8,8 +8,8 @@ use Rattle.code_rules.specs.Costs.{goes_over_part, Cost, no_cost, plus_cost, cos
 use Rattle.code_rules.specs.Table.{Entry, entry_at}
 use Rattle.code_rules.specs.Rules.{same_nest}
 
--- the cost of an instruction of the second nest, in the region of the first: that of the turns of each loop between
--- them; nothing, where it isn't in the region
+-- what an instruction costs in the region of a nest, given the nest that it stands in and its cost: its cost, once for
+-- each turn of each loop between the two; nothing, where it isn't in the region
 abbrev pub share : StackCode → List ℕ → List ℕ → Cost → Cost
 share code region [] c = if same_nest region [] then c else no_cost
 share code region (opener ∷ nest) c =

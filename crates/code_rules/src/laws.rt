@@ -1,9 +1,9 @@
 //! Laws over the definitions, for all code: functions that do nothing, whose contracts are the laws.
 ghost use Rattle.code_rules.specs.Laws.{EachHasTable, TableIsOne, EachIsJudged, NoneIsBoth, ViolationIsOne};
 ghost use Rattle.code_rules.specs.Laws.{EachIsFormed, NoneIsBothFormed, FormedIsLimited, FormedViolatesV13};
-ghost use Rattle.code_rules.specs.Laws.{EffectsAreRuled, EffectsAreKinded, JumpsLand, LoopsRepeat, BoundsFollow};
-ghost use Rattle.code_rules.specs.Laws.{OwnRegionGrows, RegionOpens, RegionCloses, WholeHasNoItem, NoneEndsInZero};
-ghost use Rattle.code_rules.specs.Laws.{PrintedKeepsValues, BudgetIsSharper};
+ghost use Rattle.code_rules.specs.Laws.{EffectsAreRuled, EffectsAreKinded, EffectsAreSteps, JumpsLand, LoopsRepeat};
+ghost use Rattle.code_rules.specs.Laws.{BoundsFollow, OwnRegionGrows, RegionOpens, RegionCloses, WholeHasNoItem};
+ghost use Rattle.code_rules.specs.Laws.{NoneEndsInZero, PrintedKeepsValues, BudgetIsSharper};
 
 /// Code has one table.
 pub fn law_code_has_one_table()
@@ -11,7 +11,7 @@ pub fn law_code_has_one_table()
     ensures one { TableIsOne }
 {}
 
-/// Code has one violation, or it is accepted; so also for the rules without V13.
+/// Code has one violation, or it is accepted. V13 aside, it breaks a rule or is well formed, and not both.
 pub fn law_code_has_one_verdict()
     ensures judged { EachIsJudged }
     ensures never_both { NoneIsBoth }
@@ -28,6 +28,7 @@ pub fn law_code_has_one_verdict()
 pub fn law_rules_are_what_the_machine_needs()
     ensures ruled { EffectsAreRuled }
     ensures kinded { EffectsAreKinded }
+    ensures steps { EffectsAreSteps }
 {}
 
 /// A run of well-formed code leaves a loop by its end alone, and comes into one by its start alone.

@@ -9,7 +9,7 @@ pub enum Rule {
     V2,
     /// A jump goes to a later instruction of the code.
     V3,
-    /// A jump goes to an instruction in the same loops.
+    /// A jump goes to an instruction in the same loops: the one that it goes to breaks this.
     V4,
     /// As many slots as are popped are on the stack.
     V5,

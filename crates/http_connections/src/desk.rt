@@ -1,4 +1,7 @@
 // Where a connection's seat lies, beside the site that it answers for.
+ghost use Rattle.std.specs.Prelude.{IfOk};
+ghost use Rattle.http_messages.specs.Wire.{IsSent};
+
 use crate::answers::Answers;
 use bytes::Bytes;
 use http::{Request, Response};
@@ -39,8 +42,10 @@ impl<A: Answers> Desk<A> {
         &self,
         rt: &R,
         alloc: Global,
-        request: Request<Bytes>,
-    ) -> Result<Response<Full<Bytes>>, ServiceError> {
+        request: &Request<Bytes>,
+    ) -> Result<Response<Full<Bytes>>, ServiceError>
+        ensures { IfOk result (λ made. (answer : _) × A.gives request.now answer × IsSent answer made) }
+    {
         let answer = self.answer_at_seat(rt, alloc, request)?;
         Ok(sent(alloc, answer)?)
     }
@@ -49,8 +54,10 @@ impl<A: Answers> Desk<A> {
         &self,
         rt: &R,
         alloc: Global,
-        request: Request<Bytes>,
-    ) -> Result<Response<Full<Bytes>>, ServiceError> {
+        request: &Request<Bytes>,
+    ) -> Result<Response<Full<Bytes>>, ServiceError>
+        ensures { IfOk result (A.gives request.now) }
+    {
         let mut held = self.seat.lock(rt);
         match &mut *held {
             Some(seat) => self.site.answer(rt, alloc, seat, request),

@@ -69,6 +69,10 @@ where
         // Answers are written whole, so there is nothing to wait for.
         let _ = socket.set_nodelay(true);
         let connection = self.builder.serve_connection(socket, service);
+        let Ok(connection) = Box::new(self.rt.alloc(), connection) else {
+            hall.leave(&self.rt, desk);
+            return None;
+        };
         Some(Visit::new(self.rt, hall, desk, connection))
     }
 

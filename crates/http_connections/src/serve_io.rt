@@ -63,6 +63,8 @@ where
 pub(crate) fn builder<R: AllocGlobal + RandomSource>(rt: &R) -> io::Result<Builder> {
     let mut builder = Builder::new(rt.alloc(), RandomState::new(rt)?);
     builder.max_headers(HEADER_LINES);
+    // Without a clock there is no date to send.
+    builder.auto_date_header(false);
     Ok(builder)
 }
 

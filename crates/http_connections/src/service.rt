@@ -1,21 +1,23 @@
 // The requests of one connection.
+ghost use Rattle.std.specs.Prelude.{◌≡◌, length, IfOk, IfSome};
+
 use crate::answers::Answers;
 use crate::desk::Desk;
 use bytes::{Bytes, BytesMut};
 use futures::task::{Context, Poll};
 use futures::{Future, ready};
-use http::request::Parts;
 use http::{Request, Response};
 use http_body_util::combinators::Collect;
 use http_body_util::{BodyExt, Collected, Full, Limited, LimitedError};
 use http_messages::error::ServiceError;
-use hyper::body::Incoming;
+use hyper::body::{Body, Incoming};
 use hyper::service::Service;
+use mock_request::snapshot::BODY_LIMIT;
 use std::alloc::{AllocError, AllocGlobal, Global};
 use std::sync::{Arc, Wait};
 
-/// More bytes of a body than these aren't gathered.
-pub const GATHERED: usize = 1_048_577;
+/// More bytes of a body than these aren't gathered: these are too many already.
+pub const GATHERED: usize = BODY_LIMIT + 1;
 
 /// Answers the requests of one connection, by the seat of its desk.
 #[derive(Drop)]
@@ -24,13 +26,15 @@ pub struct MessageService<R, A: Answers> {
     desk: Arc<Desk<A>>,
 }
 
-/// The answer to one request, once its body has come.
+/// The answer to one request, once its content has come.
 #[derive(Drop)]
 pub struct Answering<R, A: Answers, G> {
     rt: R,
     desk: Option<Arc<Desk<A>>>,
-    head: Option<Parts>,
-    body: G,
+    /// What has come of the content is its body.
+    request: Request<Bytes>,
+    /// What is still to come, if the request has content.
+    content: Option<G>,
 }
 
 impl<R, A: Answers> MessageService<R, A> {
@@ -53,11 +57,16 @@ where
 
     fn call(&self, request: Request<Incoming<I>>) -> Self::Future {
         let (head, body) = request.into_parts();
+        let content = if body.is_end_stream() {
+            None
+        } else {
+            Some(Limited::new(body, GATHERED).collect(self.rt.alloc()))
+        };
         Answering {
             rt: self.rt,
             desk: Arc::try_clone(&self.desk).ok(),
-            head: Some(head),
-            body: Limited::new(body, GATHERED).collect(self.rt.alloc()),
+            request: Request::from_parts(head, Bytes::new()),
+            content,
         }
     }
 }
@@ -71,11 +80,16 @@ where
 {
     type Output = Result<Response<Full<Bytes>>, ServiceError>;
 
-    ghost can_poll = { λ f. G.can_poll f.body };
+    ghost can_poll = { λ f. IfSome f.content G.can_poll };
 
     fn poll(&mut self, cx: &mut Context<'_>) -> Poll<Result<Response<Full<Bytes>>, ServiceError>> {
-        let gathered = ready!(self.body.poll(cx));
-        Poll::Ready(self.answered(gathered))
+        if let Some(content) = &mut self.content {
+            match bytes_of(self.rt.alloc(), ready!(content.poll(cx))) {
+                Ok(bytes) => *self.request.body_mut() = bytes,
+                Err(error) => return Poll::Ready(Err(error)),
+            }
+        }
+        Poll::Ready(self.answer())
     }
 }
 
@@ -84,24 +98,30 @@ where
     R: Wait + AllocGlobal + Copy + Drop,
     A: Answers,
 {
-    // The answer to the request with this body.
-    fn answered<E: Drop>(
-        &mut self,
-        gathered: Result<Collected, LimitedError<E>>,
-    ) -> Result<Response<Full<Bytes>>, ServiceError> {
-        let (Some(desk), Some(head)) = (self.desk.take(), self.head.take()) else {
-            return Err(ServiceError::OutOfMemory);
-        };
-        let bytes = match gathered {
-            Ok(collected) => collected.to_bytes()?,
-            Err(LimitedError::LengthLimit) => overlong(self.rt.alloc())?,
-            Err(LimitedError::Body(_error)) => return Err(ServiceError::Broken),
-        };
-        desk.answer(&self.rt, self.rt.alloc(), Request::from_parts(head, bytes))
+    // The answer to the request, whose content has come.
+    fn answer(&mut self) -> Result<Response<Full<Bytes>>, ServiceError> {
+        match self.desk.take() {
+            Some(desk) => desk.answer(&self.rt, self.rt.alloc(), &self.request),
+            None => Err(ServiceError::OutOfMemory),
+        }
+    }
+}
+
+// The bytes of the content.
+fn bytes_of<E: Drop>(
+    alloc: Global,
+    gathered: Result<Collected, LimitedError<E>>,
+) -> Result<Bytes, ServiceError> {
+    match gathered {
+        Ok(collected) => Ok(collected.to_bytes()?),
+        Err(LimitedError::LengthLimit) => Ok(overlong(alloc)?),
+        Err(LimitedError::Body(_error)) => Err(ServiceError::Broken),
     }
 }
 
 // A body that is too long, in the place of one that wasn't gathered whole.
-fn overlong(alloc: Global) -> Result<Bytes, AllocError> {
+fn overlong(alloc: Global) -> Result<Bytes, AllocError>
+    ensures { IfOk result (λ bytes. length bytes ≡ GATHERED) }
+{
     Ok(BytesMut::from(vec![in alloc; 0; GATHERED]?).freeze()?)
 }

@@ -8,18 +8,19 @@ use futures::task::{Context, Poll};
 use futures::{Future, ready};
 use std::sync::{Arc, Wait};
 
-/// Serves a connection until it ends, and then hands its seat to the hall.
+/// Serves a connection until it ends, and then hands its seat to the hall. The connection is in a box, since an executor
+/// moves its tasks.
 #[derive(Drop)]
 pub struct Visit<R, A: Answers, C> {
     rt: R,
     hall: Arc<Hall<A>>,
     desk: Option<Arc<Desk<A>>>,
-    connection: C,
+    connection: Box<C>,
 }
 
 impl<R, A: Answers, C> Visit<R, A, C> {
-    pub fn new(rt: R, hall: Arc<Hall<A>>, desk: Arc<Desk<A>>, connection: C) -> Visit<R, A, C>
-        ensures { result.connection ≡ connection }
+    pub fn new(rt: R, hall: Arc<Hall<A>>, desk: Arc<Desk<A>>, connection: Box<C>) -> Visit<R, A, C>
+        ensures { result.connection.value ≡ connection.value }
     {
         Visit {
             rt,
@@ -39,7 +40,7 @@ where
 {
     type Output = ();
 
-    ghost can_poll = { λ f. C.can_poll f.connection };
+    ghost can_poll = { λ f. C.can_poll f.connection.value };
 
     fn poll(&mut self, cx: &mut Context<'_>) -> Poll<()> {
         // How it ended concerns its peer alone.

@@ -1,1 +1,2 @@
+mod AsSentLemmas
 mod BlankLemmas

@@ -1,2 +1,3 @@
+pub mod Inner
 pub mod Received
 pub mod Wire

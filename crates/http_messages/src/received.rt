@@ -1,13 +1,14 @@
 // The request that a message of `http` is.
-ghost use Rattle.std.specs.Prelude.{◌≡◌, ◌≤◌, ◌<◌, length, IfOk, OnOk, IsErrOf};
+ghost use Rattle.std.specs.Prelude.{◌≡◌, ◌≤◌, ◌<◌, length, IfOk, IfSome, OnOk, IsErrOf};
 ghost use Rattle.http.specs.Request.{body_of};
 ghost use Rattle.http_header.specs.HeaderMap.{pairs};
+ghost use Rattle.http_uri.specs.Uri.{uri_text};
 ghost use Rattle.http_messages.specs.Received.{IsReceived, target_of};
 ghost use Rattle.mock_request.specs.Target.{HasUrl};
 ghost use Rattle.mock_request.specs.declared.snapshot.TheConstants.{BODY_LIMIT};
 
 use bytes::Bytes;
-use http::{HeaderMap, HeaderName, HeaderValue, Request};
+use http::{HeaderMap, HeaderName, HeaderValue, Request, Uri};
 use mock_request::error::SnapshotError;
 use mock_request::snapshot::Snapshot;
 use std::alloc::{AllocError, Global};
@@ -23,12 +24,41 @@ pub fn snapshot_of(alloc: Global, message: &Request<Bytes>) -> Result<Snapshot, 
     ensures too_large { IsErrOf result SnapshotError.BodyTooLarge
         → (HasUrl (target_of message.now) × (BODY_LIMIT < length (body_of message.now))) }
 {
+    if let Some(path) = lone_path(message.uri()) {
+        return snapshot_at(alloc, message, path);
+    }
     let target = message.uri().to_string(alloc)?;
+    snapshot_at(alloc, message, target.as_str())
+}
+
+// The text of a target that is a path alone, as most are.
+fn lone_path(uri: &Uri) -> Option<&str>
+    ensures { IfSome result (λ path. path.now ≡ uri_text uri.now) }
+{
+    match (uri.scheme_str(), uri.authority(), uri.query()) {
+        (None, None, None) => Some(uri.path()),
+        _ => None,
+    }
+}
+
+// The request of the message, whose target has this text.
+fn snapshot_at(
+    alloc: Global,
+    message: &Request<Bytes>,
+    target: &str,
+) -> Result<Snapshot, SnapshotError>
+    requires { target.now ≡ target_of message.now }
+    ensures received { IfOk result (IsReceived message.now) }
+    ensures within { OnOk result (length (body_of message.now) ≤ BODY_LIMIT) }
+    ensures bad_url { IsErrOf result SnapshotError.BadUrl → ¬ (HasUrl (target_of message.now)) }
+    ensures too_large { IsErrOf result SnapshotError.BodyTooLarge
+        → (HasUrl (target_of message.now) × (BODY_LIMIT < length (body_of message.now))) }
+{
     let headers = header_list(alloc, message.headers())?;
     Snapshot::new(
         alloc,
         message.method().as_str(),
-        target.as_str(),
+        target,
         headers.as_slice(),
         message.body().as_slice(),
     )

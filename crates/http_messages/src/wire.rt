@@ -1,6 +1,8 @@
 // What is sent of a response.
-ghost use Rattle.std.specs.Prelude.{◌≡◌, IfOk, OnOk};
+ghost use Rattle.std.specs.Prelude.{◌≡◌, All, IfOk, IsTrue, OnOk};
 ghost use Rattle.http_header.specs.FieldValue.{IsFieldValue};
+ghost use Rattle.http_header.specs.HeaderMap.{pairs};
+ghost use Rattle.http_messages.specs.Inner.AsSent.{IsAsSent};
 ghost use Rattle.http_messages.specs.Wire.{IsSent, has_no_content, is_blank, is_framing, sent_headers, with_sent};
 ghost use Rattle.http_messages.specs.Wire.{without_blanks, without_end_blanks, without_front_blanks};
 
@@ -18,6 +20,10 @@ pub fn sent(
 ) -> Result<Response<Full<Bytes>>, AllocError>
     ensures { IfOk result (IsSent response) }
 {
+    // Most responses are sent as they are, and nothing of them is made anew.
+    if is_as_sent(&response) {
+        return Ok(response);
+    }
     let (head, body) = response.into_parts();
     let headers = sent_headers(alloc, &head.headers)?;
     let body = if has_no_content(head.status) {
@@ -31,6 +37,36 @@ pub fn sent(
         headers,
     };
     Ok(Response::from_parts(head, body))
+}
+
+fn is_as_sent(response: &Response<Full<Bytes>>) -> bool
+    ensures { IsTrue result → IsSent response.now response.now }
+{
+    !has_no_content(response.status()) && are_as_sent(response.headers())
+}
+
+fn are_as_sent(headers: &HeaderMap) -> bool
+    ensures { IsTrue result → sent_headers headers.now ≡ headers.now }
+{
+    headers.keys_len() == 0 || is_each_as_sent(headers)
+}
+
+fn is_each_as_sent(headers: &HeaderMap) -> bool
+    ensures { IsTrue result → All IsAsSent (pairs headers.now) }
+{
+    for (name, value) in headers.iter() {
+        if is_framing(name.as_str()) || !is_trimmed(value) {
+            return false;
+        }
+    }
+    true
+}
+
+// Whether a value has no blanks at its ends.
+fn is_trimmed(value: &HeaderValue) -> bool
+    ensures { IsTrue result → without_blanks value.now.bytes ≡ value.now.bytes }
+{
+    without_end_blanks(without_front_blanks(value.as_bytes())).len() == value.len()
 }
 
 fn has_no_content(status: StatusCode) -> bool

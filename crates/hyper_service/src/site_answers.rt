@@ -1,4 +1,8 @@
 // A site answers the requests of connections.
+ghost use Rattle.answering.specs.Answering.{IsAnswered};
+ghost use Rattle.shared_book.specs.Held.{Held};
+ghost use Rattle.stub_response.specs.declared.limits.Limits.{Limits};
+
 use answering::answer::answer;
 use answering::site::Site;
 use bytes::Bytes;
@@ -27,12 +31,15 @@ impl<L: Origin, G> SiteAnswers<L, G> {
 impl<L: Origin, G: Gate + Drop> Answers for SiteAnswers<L, G> {
     type Seat = Seat<L>;
 
+    ghost gives = { λ message response. (limits : Limits) × (old : Held) × (new : Held)
+        × IsAnswered L.origin limits old new message response };
+
     fn answer<R: Wait>(
         &self,
         rt: &R,
         alloc: Global,
         seat: &mut Seat<L>,
-        request: Request<Bytes>,
+        request: &Request<Bytes>,
     ) -> Result<Response<Full<Bytes>>, ServiceError> {
         answer(rt, alloc, &self.site, seat, request)
     }

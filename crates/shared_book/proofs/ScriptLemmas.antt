@@ -9,7 +9,7 @@ use Rattle.shared_book.specs.Held.{Held, all_lists, lists, new_seat, with_receip
 use Rattle.shared_book.specs.Lent.{LendsApplied}
 use Rattle.shared_book.specs.Reached.{IsReached}
 use Rattle.shared_book.specs.Receipts.{IsReceipt}
-use Rattle.shared_book.specs.Script.{IsOf, IsPlayed, IsStopped, IsTold, IsUnplayed, Plays}
+use Rattle.shared_book.specs.Script.{IsOf, IsPlayed, IsStopped, AreReceiptsOf, IsUnplayed, Plays}
 use Rattle.shared_book.specs.Settled.{IsSettled, IsUnsettled}
 use Rattle.shared_book.specs.declared.receipt.Receipt.{Receipt}
 use Rattle.shared_book.specs.declared.script.Call.{Call}
@@ -18,10 +18,10 @@ use Rattle.shared_book.specs.declared.settled.Settled.{Settled}
 use Rattle.shared_book.specs.declared.settled.SettleRefusal.{SettleRefusal}
 use Rattle.stub_book.specs.declared.error.BookError.{BookError}
 
-told_on : (origin : Past) (calls : List Call) (call : Call) (rs qs : List Receipt) → IsTold origin calls rs
-    → IsTold origin (call ∷ []) qs → IsTold origin (calls ++ call ∷ []) (rs ++ qs)
+told_on : (origin : Past) (calls : List Call) (call : Call) (rs qs : List Receipt) → AreReceiptsOf origin calls rs
+    → AreReceiptsOf origin (call ∷ []) qs → AreReceiptsOf origin (calls ++ call ∷ []) (rs ++ qs)
 told_on origin [] call rs qs told more =
-    subst (λ (l : List Receipt). IsTold origin (call ∷ []) (l ++ qs)) (sym told) more
+    subst (λ (l : List Receipt). AreReceiptsOf origin (call ∷ []) (l ++ qs)) (sym told) more
 told_on origin (c ∷ cs) call rs qs (inl told) more =
     inl (told.0, told.1 ++ qs, ap (λ l. l ++ qs) told.2, told.3, told.4, told_on origin cs call told.1 qs told.5 more)
 told_on origin (c ∷ cs) call rs qs (inr told) more = inr (told_on origin cs call rs qs told more)
@@ -60,8 +60,8 @@ played : (origin past : Past) (seat left a b : Held) (cs ds : List Call) (settle
 played origin past seat left a b cs ds settled same one two all = record {
   one = one.0;
   two = two.0;
-  told_one = one.1;
-  told_two = two.1;
+  of_first = one.1;
+  of_second = two.1;
   past = past;
   settled_all = subst (λ (ls : List (List Receipt)). IsSettled origin past ls settled)
       (λ i. same i ++ (lists (one.2 i) ++ (lists (two.2 i) ++ []))) all;

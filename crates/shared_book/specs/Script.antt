@@ -1,4 +1,4 @@
--- Scripts of calls: what is told of each call, and what two scripts that were played leave.
+-- Scripts of calls: the receipts of the calls that were accepted, and what two scripts that were played leave.
 use Rattle.std.specs.Prelude.{◌≡◌, ◌⊎◌, ◌-◌, ℕ, List, [], ◌∷◌, ◌++◌, Option, Some, None}
 use Rattle.request_journal.specs.Input.{IsAsked}
 use Rattle.request_journal.specs.Past.{Past}
@@ -21,25 +21,25 @@ IsOf (Serve request) event = IsServed request event
 IsOf (Apply input) event = IsAsked input event
 
 -- these receipts are those of the accepted ones among the calls, in their order
-abbrev pub IsTold : Past → List Call → List Receipt → Type 0
-IsTold origin [] receipts = receipts ≡ []
-IsTold origin (call ∷ calls) receipts =
+abbrev pub AreReceiptsOf : Past → List Call → List Receipt → Type 0
+AreReceiptsOf origin [] receipts = receipts ≡ []
+AreReceiptsOf origin (call ∷ calls) receipts =
     ((receipt : Receipt) × (rest : List Receipt) × (receipts ≡ receipt ∷ rest)
-    × IsOf call receipt.event × IsReceipt origin receipt × IsTold origin calls rest)
-    ⊎ IsTold origin calls receipts
+    × IsOf call receipt.event × IsReceipt origin receipt × AreReceiptsOf origin calls rest)
+    ⊎ AreReceiptsOf origin calls receipts
 
 -- a seat has made the calls: the receipts of those that were accepted are at the end of its own list
 abbrev pub Plays : Past → Held → Held → List Call → Type 0
 Plays origin old new calls =
-    (receipts : List Receipt) × IsTold origin calls receipts × (new ≡ record old { own = old.own ++ receipts })
+    (receipts : List Receipt) × AreReceiptsOf origin calls receipts × (new ≡ record old { own = old.own ++ receipts })
 
 -- two scripts were played beside a seat's earlier calls: each script's accepted calls have their receipts in a list of
 -- their own, in its order, and all lists together are settled, so that the numbers rise in each
 pub record IsPlayed (origin : Past) (seat : Held) (first second : List Call) (settled : Settled) : Type 0 where
   pub one : List Receipt
   pub two : List Receipt
-  pub told_one : IsTold origin first one
-  pub told_two : IsTold origin second two
+  pub of_first : AreReceiptsOf origin first one
+  pub of_second : AreReceiptsOf origin second two
   pub past : Past
   pub settled_all : IsSettled origin past (lists seat ++ (one ∷ two ∷ [])) settled
 

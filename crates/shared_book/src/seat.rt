@@ -17,7 +17,9 @@ use crate::origin::Origin;
 use crate::receipt::Receipt;
 use crate::shared_book::SharedBook;
 use mock_request::snapshot::Snapshot;
+use request_journal::event::Event;
 use request_journal::input::BookInput;
+use request_journal::shared_event::SharedEvent;
 use request_journal::shared_request::SharedRequest;
 use request_match::parsed_request::ParsedRequest;
 use std::alloc::{AllocError, Global};
@@ -223,6 +225,7 @@ impl<L: Origin> Seat<L> {
         self.own.reserve(1)?;
         let request = SharedRequest::new(*self.own.allocator(), request)?;
         let mut parsed = ParsedRequest::read(*self.own.allocator(), request.request())?;
+        touch_memory(*self.own.allocator())?;
         let receipt = shared.serve(rt, &mut self.share, request.try_clone()?, &mut parsed)?;
         self.count += 1;
         let Ok(()) = self.own.push(receipt) else {
@@ -250,6 +253,13 @@ impl<L: Origin> Seat<L> {
         };
         Ok(())
     }
+}
+
+// Takes the memory of an event, and gives it back. An allocator keeps what its thread gave back for the next who takes as
+// much: so the event that is made under the lock waits for no page from the system, and nobody else waits for it there.
+fn touch_memory(alloc: Global) -> Result<(), AllocError> {
+    let _event = SharedEvent::new(alloc, Event::DeleteAll)?;
+    Ok(())
 }
 
 // Adds a list to these, unless it is empty. Takes no memory.

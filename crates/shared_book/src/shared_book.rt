@@ -21,10 +21,14 @@ use request_journal::input::BookInput;
 use request_journal::shared_request::SharedRequest;
 use request_match::parsed_request::ParsedRequest;
 use std::alloc::{AllocError, Global};
+use std::hint::spin_loop;
 use std::sync::ledger::{Blank, Share};
-use std::sync::{Arc, Mutex, Wait};
+use std::sync::{Arc, Mutex, MutexGuard, Wait};
 use stub_book::book::Book;
 use stub_book::error::BookError;
+
+// How often a lock that is taken is tried again before its thread may fall asleep.
+const TRIES: u32 = 200;
 
 /// A book that several threads share, each with an owner of its own.
 pub struct SharedBook<L: Origin> {
@@ -65,6 +69,17 @@ impl<L: Origin> SharedBook<L> {
         })
     }
 
+    // Takes the lock. It is tried for a while, since a call holds it for less time than it takes to wake a thread.
+    fn lock<R: Wait>(&self, rt: &R) -> MutexGuard<'_, Locked<L>> {
+        for _ in 0..TRIES {
+            if let Some(guard) = self.locked.try_lock() {
+                return guard;
+            }
+            spin_loop();
+        }
+        self.locked.lock(rt)
+    }
+
     // Serves the request under the lock, and enters that for the share.
     pub(crate) fn serve<R: Wait>(
         &self,
@@ -81,7 +96,7 @@ impl<L: Origin> SharedBook<L> {
         ensures entered { OnOk result ((share.new.amount ≡ share.old.amount + 1) × (share.new.amount ≤ NUMBER_LIMIT)) }
         ensures not_entered { OnErr result (share.new.amount ≡ share.old.amount) }
     {
-        self.locked.lock(rt).serve(share, request, parsed)
+        self.lock(rt).serve(share, request, parsed)
     }
 
     // Makes the change under the lock, and enters that for the share.
@@ -98,7 +113,7 @@ impl<L: Origin> SharedBook<L> {
         ensures entered { OnOk result ((share.new.amount ≡ share.old.amount + 1) × (share.new.amount ≤ NUMBER_LIMIT)) }
         ensures not_entered { OnErr result (share.new.amount ≡ share.old.amount) }
     {
-        self.locked.lock(rt).apply(share, input)
+        self.lock(rt).apply(share, input)
     }
 
     // Looks up what is asked for, under the lock.
@@ -111,7 +126,7 @@ impl<L: Origin> SharedBook<L> {
         ensures { IfOk result (λ reading. (past : Past) × IsReached L.origin past
             × (reading.number ≡ last_number past) × IsLooked past asked.now reading.answer) }
     {
-        self.locked.lock(rt).read(alloc, asked)
+        self.lock(rt).read(alloc, asked)
     }
 
     // Compares the receipts of the seats with the book's history, under the lock.
@@ -126,6 +141,6 @@ impl<L: Origin> SharedBook<L> {
         ensures why { IfErr result (λ reason. (past : Past) × IsReached L.origin past
             × IsUnsettled L.origin L.parts past seats.old reason) }
     {
-        self.locked.lock(rt).settle(alloc, seats)
+        self.lock(rt).settle(alloc, seats)
     }
 }

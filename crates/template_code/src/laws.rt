@@ -1,6 +1,8 @@
 //! Laws over the definitions, for all code and all runs: functions that do nothing, whose contracts are the laws.
 ghost use Rattle.template_code.specs.Laws.{RunsEndAlike, EachLoopHasItem};
-ghost use Rattle.std.specs.Prelude.{FitsSigned};
+ghost use Rattle.template_code.specs.Escape.{html_escaped};
+ghost use Rattle.template_code.specs.declared.limits.TheConstants.{MAX_ESCAPE_GROWTH};
+ghost use Rattle.std.specs.Prelude.{ℕ, ◌*◌, ◌≤◌, List, length, FitsSigned};
 ghost use Rattle.std.specs.Int.{w64};
 
 /// A run is determined by the state in which it begins.
@@ -11,6 +13,11 @@ pub fn law_runs_are_determined()
 /// A loop is open only while it is at an item.
 pub fn law_open_loops_have_an_item()
     ensures { EachLoopHasItem }
+{}
+
+/// An escaped text is at most six times as long.
+pub fn law_escaped_text_is_within_growth()
+    ensures { (s : List ℕ) → length (html_escaped s) ≤ MAX_ESCAPE_GROWTH * length s }
 {}
 
 /// A number of 64 bits is from -2^63 to 2^63 - 1: so is each that code pushes.

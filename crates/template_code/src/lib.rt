@@ -1,6 +1,6 @@
-//! The stack code that a template is compiled to: its instructions, and the machine that runs them. It uses
-//! `data_tree`, whose values the machine prints, and `helper_set`, whose values its stack holds. Which code is safe
-//! to run, and what a run costs at most, is said in `code_rules`.
+//! The stack code that a template is compiled to: its instructions, and, as a definition, the machine that runs them.
+//! It uses `data_tree`, whose values the machine prints, and `helper_set`, whose values its stack holds. Which code may
+//! run, and what a run costs at most, is said in `code_rules`.
 #![tactic(auto)]
 
 pub mod code;

@@ -1,0 +1,14 @@
+pub mod Bounds
+pub mod Loops
+pub mod Calls
+pub mod Effects
+pub mod Texts
+pub mod Data
+pub mod Courses
+pub mod Kept
+pub mod Nests
+pub mod Moves
+pub mod Steps
+pub mod Spent
+pub mod Safety
+pub mod Few
