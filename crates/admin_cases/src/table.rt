@@ -42,3 +42,6 @@ impl<R: Threads + Wait + Sync + Copy> CaseTable for Table<R> {
             Rows::Worlds => worlds::replies(alloc, row),
             Rows::Shared => locked::answer(&self.rt, alloc, row),
             rows => books::answer(&self.rt, alloc, row, rows),
+        }
+    }
+}

@@ -11,9 +11,11 @@ use shared_book::receipt::Receipt;
 use std::alloc::{AllocError, Global};
 use stub_book::book::Book;
 
-const FIRST: &str = "{\"request\":{\"method\":\"GET\",\"url\":\"/a\"},\"response\":{\"body\":\"v1\"}}";
+const FIRST: &str =
+    "{\"request\":{\"method\":\"GET\",\"url\":\"/a\"},\"response\":{\"body\":\"v1\"}}";
 
-const SECOND: &str = "{\"request\":{\"method\":\"GET\",\"url\":\"/a\"},\"response\":{\"body\":\"v2\"}}";
+const SECOND: &str =
+    "{\"request\":{\"method\":\"GET\",\"url\":\"/a\"},\"response\":{\"body\":\"v2\"}}";
 
 const THIRD: &str = "{\"scenarioName\":\"s\",\"newScenarioState\":\"two\",
 \"request\":{\"method\":\"GET\",\"url\":\"/a\"},\"response\":{\"body\":\"v3\"}}";
