@@ -12,7 +12,6 @@ mod exchanges;
 mod groups;
 mod mappings;
 mod recordings;
-mod responses;
 mod scenarios;
 mod table;
 
@@ -33,7 +32,6 @@ fn main(rt: HostRuntime) -> io::Result<ExitCode> {
             Table::Keys,
             Table::Recordings,
             Table::Books,
-            Table::Responses,
         ]
         .as_slice(),
     )

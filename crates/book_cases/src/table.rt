@@ -1,6 +1,6 @@
 //! The tables, and which call each of them is about.
 
-use crate::{books, groups, mappings, recordings, responses, scenarios};
+use crate::{books, groups, mappings, recordings, scenarios};
 use case_table::compare::CaseTable;
 use case_table::row::Row;
 use std::alloc::{AllocError, Global};
@@ -17,7 +17,6 @@ pub enum Table {
     Keys,
     Recordings,
     Books,
-    Responses,
 }
 
 impl CaseTable for Table {
@@ -31,7 +30,6 @@ impl CaseTable for Table {
             Table::Keys => "keys.tsv",
             Table::Recordings => "recordings.tsv",
             Table::Books => "books.tsv",
-            Table::Responses => "responses.tsv",
         }
     }
 
@@ -45,7 +43,6 @@ impl CaseTable for Table {
             Table::Keys => mappings::key(alloc, row),
             Table::Recordings => mappings::recorded(alloc, row),
             Table::Books => books::answers(alloc, row),
-            Table::Responses => responses::answers(alloc, row),
         }
     }
 }

@@ -1,14 +1,18 @@
-//! Compares what the calls of `mapping_json` and `request_document`, the matchers and mappings that they give, and `mock
-//! check` answer with the tables in `data/`.
+//! Compares what matchers, the calls of `mapping_json` and `request_document`, and the mappings that they give answer with
+//! the tables in `data/`.
 #![tactic(auto)]
 
-mod checks;
+mod answers;
+mod json;
 mod lists;
 mod literals;
 mod mappings;
+mod matchers;
+mod path_templates;
 mod ready;
 mod requests;
 mod table;
+mod values;
 
 use case_table::compare::compare_all;
 use std::io;
@@ -19,6 +23,12 @@ fn main(rt: HostRuntime) -> io::Result<ExitCode> {
     compare_all(
         &rt,
         [
+            Table::Values,
+            Table::Json,
+            Table::Paths,
+            Table::Bindings,
+            Table::TemplatePaths,
+            Table::SameTemplates,
             Table::Documents,
             Table::Bytes,
             Table::Rules,
@@ -27,8 +37,6 @@ fn main(rt: HostRuntime) -> io::Result<ExitCode> {
             Table::Matches,
             Table::Literals,
             Table::Ready,
-            Table::Checks,
-            Table::Examples,
         ]
         .as_slice(),
     )

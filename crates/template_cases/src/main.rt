@@ -1,15 +1,18 @@
-//! Compares what helpers, templates, stack code and the commands of `mock_program` give with the tables in `data/`.
+//! Compares what values, requests, helpers, templates, stack code and programs give with the tables in `data/`.
 #![tactic(auto)]
 
 mod code;
-mod commands;
-mod files;
+mod error_codes;
 mod helpers;
+mod json;
 mod programs;
 mod requests;
 mod table;
 mod templates;
+mod values;
+mod well_formed;
 mod writer;
+mod writes;
 
 use case_table::compare::compare_all;
 use std::io;
@@ -20,6 +23,19 @@ fn main(rt: HostRuntime) -> io::Result<ExitCode> {
     compare_all(
         &rt,
         [
+            Table::ErrorCodes,
+            Table::Values,
+            Table::Lookups,
+            Table::Items,
+            Table::Roots,
+            Table::Texts,
+            Table::Paths,
+            Table::Requests,
+            Table::NamedValues,
+            Table::Parts,
+            Table::Printed,
+            Table::Bindings,
+            Table::Sizes,
             Table::Helpers,
             Table::Signatures,
             Table::Parameters,
@@ -32,12 +48,7 @@ fn main(rt: HostRuntime) -> io::Result<ExitCode> {
             Table::LoopRuns,
             Table::Programs,
             Table::Escaped,
-            Table::RenderText,
-            Table::Commands,
-            Table::FileCommands,
-            Table::Messages,
-            Table::BrokenOff,
-            Table::Unreadable,
+            Table::Writes,
         ]
         .as_slice(),
     )

@@ -1,30 +1,245 @@
-//! Requests with headers and a body. A row gives a method, a target, headers with a line feed between two, and a body
-//! whose characters are its bytes (ISO-8859-1).
+//! Requests, and the data that templates see of them. A row gives a method, a target, headers with a line feed between
+//! two, and a body whose characters are its bytes (ISO-8859-1).
 
-use case_table::row::Row;
+use crate::values::{cell_of, measured, path, printed};
+use case_table::row::{Row, add_cell};
+use data_tree::data::Data;
 use data_tree::request_data::RequestData;
 use http_header::{HeaderName, HeaderValue};
+use mock_request::error::SnapshotError;
+use mock_request::request_values::RequestValues;
 use mock_request::snapshot::Snapshot;
+use path_template::path_template::PathTemplate;
 use request_data::tree::request_data;
 use std::alloc::{AllocError, Global};
 
-/// The data of a row's request. None in the tables is refused.
-pub fn request_with_body(alloc: Global, row: &Row) -> Result<RequestData, AllocError> {
-    let headers = headers(alloc, row.cell(2))?;
-    let body = latin1(alloc, row.cell(3))?;
-    let request = Snapshot::new(alloc, row.cell(0), row.cell(1), &headers, &body)
-        .ok()
-        .ok_or(AllocError)?;
-    request_data(alloc, &request, None).ok().ok_or(AllocError)
+/// What the copy of a request gives back: its method, its URL, path and query, its headers and its body.
+pub fn kept(alloc: Global, row: &Row) -> Result<String, AllocError> {
+    match snapshot(alloc, row) {
+        Ok(request) => parts_of_copy(alloc, &request),
+        Err(error) => refused(alloc, error),
+    }
 }
 
-fn headers(alloc: Global, lines: &str) -> Result<Vec<(HeaderName, HeaderValue)>, AllocError> {
+fn parts_of_copy(alloc: Global, request: &Snapshot) -> Result<String, AllocError> {
+    let copy = request.try_clone()?;
+    parts(alloc, &copy)
+}
+
+fn parts(alloc: Global, request: &Snapshot) -> Result<String, AllocError> {
+    let mut cells = String::new(alloc);
+    let query = request.query().unwrap_or("none");
+    for cell in [request.method(), request.url(), request.path(), query] {
+        add_cell(&mut cells, cell)?;
+    }
+    add_headers(alloc, &mut cells, request)?;
+    add_bytes(alloc, &mut cells, request.body())?;
+    Ok(cells)
+}
+
+fn add_headers(alloc: Global, cells: &mut String, request: &Snapshot) -> Result<(), AllocError> {
+    add_cell(cells, "")?;
+    for index in 0..request.header_count() {
+        if let Some((name, value)) = request.header(index) {
+            add_header(alloc, cells, name, value)?;
+        }
+    }
+    Ok(())
+}
+
+/// What matchers see of a request: the names and values of its query, of its cookies and of its headers, a line each,
+/// and the text of its body. The characters of the row's headers, too, are bytes.
+pub fn named_values(alloc: Global, row: &Row) -> Result<String, AllocError> {
+    match snapshot_of(alloc, row, Encoding::Latin1) {
+        Ok(request) => values_of(alloc, &RequestValues::read(alloc, &request)?),
+        Err(error) => refused(alloc, error),
+    }
+}
+
+fn values_of(alloc: Global, values: &RequestValues<'_>) -> Result<String, AllocError> {
+    let mut cells = String::new(alloc);
+    add_cell(&mut cells, values.snapshot().method())?;
+    add_pairs(alloc, &mut cells, values.query())?;
+    add_pairs(alloc, &mut cells, values.cookies())?;
+    add_texts(alloc, &mut cells, values)?;
+    add_cell(&mut cells, values.body_text())?;
+    Ok(cells)
+}
+
+fn add_pairs(
+    alloc: Global,
+    cells: &mut String,
+    pairs: &[(String, String)],
+) -> Result<(), AllocError> {
+    add_cell(cells, "")?;
+    for (name, value) in pairs {
+        add_pair(alloc, cells, name.as_str(), value.as_str())?;
+    }
+    Ok(())
+}
+
+fn add_texts(
+    alloc: Global,
+    cells: &mut String,
+    values: &RequestValues<'_>,
+) -> Result<(), AllocError> {
+    add_cell(cells, "")?;
+    for index in 0..values.header_count() {
+        if let Some((name, text)) = values.header(index) {
+            add_pair(alloc, cells, name, text)?;
+        }
+    }
+    Ok(())
+}
+
+fn add_pair(alloc: Global, cells: &mut String, name: &str, value: &str) -> Result<(), AllocError> {
+    cells.push_str(format!(in alloc; "{name}={value}\n")?.as_str())
+}
+
+fn add_header(
+    alloc: Global,
+    cells: &mut String,
+    name: &str,
+    value: &[u8],
+) -> Result<(), AllocError> {
+    let value = String::from_utf8_lossy(alloc, value)?;
+    cells.push_str(format!(in alloc; "{name}: {value}\n")?.as_str())
+}
+
+fn add_bytes(alloc: Global, cells: &mut String, bytes: &[u8]) -> Result<(), AllocError> {
+    add_cell(cells, String::from_utf8_lossy(alloc, bytes)?.as_str())
+}
+
+fn refused(alloc: Global, error: SnapshotError) -> Result<String, AllocError> {
+    if error == SnapshotError::OutOfMemory {
+        return Err(AllocError);
+    }
+    let number = error.error_code().number();
+    format!(in alloc; "\terror {number}")
+}
+
+/// The JSON text of what the steps find in the data of a request.
+pub fn part(alloc: Global, row: &Row) -> Result<String, AllocError> {
+    match snapshot(alloc, row) {
+        Ok(request) => part_of(alloc, &request, row.cell(4)),
+        Err(error) => refused(alloc, error),
+    }
+}
+
+fn part_of(alloc: Global, request: &Snapshot, steps: &str) -> Result<String, AllocError> {
+    let path = path(alloc, steps)?;
+    let data = data(alloc, request)?;
+    cell_of(alloc, data.root().at(path.steps()))
+}
+
+/// What prints where the steps find something in the data of a request.
+pub fn printed_part(alloc: Global, row: &Row) -> Result<String, AllocError> {
+    match snapshot(alloc, row) {
+        Ok(request) => printed_of(alloc, &request, row.cell(4)),
+        Err(error) => refused(alloc, error),
+    }
+}
+
+fn printed_of(alloc: Global, request: &Snapshot, steps: &str) -> Result<String, AllocError> {
+    let path = path(alloc, steps)?;
+    let data = data(alloc, request)?;
+    let mut cells = String::new(alloc);
+    let found = data.root().at(path.steps()).unwrap_or(&Data::Nothing);
+    add_cell(&mut cells, printed(alloc, found)?.as_str())?;
+    Ok(cells)
+}
+
+/// The JSON texts of the path and of its segments in the data of a request, with what a path template binds in it.
+pub fn bindings(alloc: Global, row: &Row) -> Result<String, AllocError> {
+    match plain_request(alloc, row.cell(0)) {
+        Ok(request) => paths_of(alloc, &request, row.cell(1)),
+        Err(error) => refused(alloc, error),
+    }
+}
+
+fn plain_request(alloc: Global, target: &str) -> Result<Snapshot, SnapshotError> {
+    Snapshot::new(alloc, "GET", target, &[], &[])
+}
+
+// All templates of the table are well formed.
+fn paths_of(alloc: Global, request: &Snapshot, template: &str) -> Result<String, AllocError> {
+    let template = PathTemplate::parse(alloc, template).ok().ok_or(AllocError)?;
+    let data = request_data(alloc, request, Some(&template))
+        .ok()
+        .ok_or(AllocError)?;
+    let mut cells = String::new(alloc);
+    for steps in [r#"["request","path"]"#, r#"["request","pathSegments"]"#] {
+        let path = path(alloc, steps)?;
+        cells.push_str(cell_of(alloc, data.root().at(path.steps()))?.as_str())?;
+    }
+    Ok(cells)
+}
+
+// None of the requests' data is over the limit.
+fn data(alloc: Global, request: &Snapshot) -> Result<RequestData, AllocError> {
+    request_data(alloc, request, None).ok().ok_or(AllocError)
+}
+
+/// The data of a row's request. None in the tables is refused.
+pub fn request_with_body(alloc: Global, row: &Row) -> Result<RequestData, AllocError> {
+    let request = snapshot(alloc, row).ok().ok_or(AllocError)?;
+    data(alloc, &request)
+}
+
+/// The size of the data of a request, or of what is handed back, after the error's number.
+pub fn size(alloc: Global, row: &Row) -> Result<String, AllocError> {
+    match snapshot(alloc, row) {
+        Ok(request) => size_of(alloc, &request),
+        Err(error) => refused(alloc, error),
+    }
+}
+
+fn size_of(alloc: Global, request: &Snapshot) -> Result<String, AllocError> {
+    let (error, size) = measured(request_data(alloc, request, None));
+    format!(in alloc; "\t{error}\t{size}")
+}
+
+fn snapshot(alloc: Global, row: &Row) -> Result<Snapshot, SnapshotError> {
+    snapshot_of(alloc, row, Encoding::Utf8)
+}
+
+// How the values of a row's headers give bytes. (Those of its body are always ISO-8859-1.)
+#[derive(Clone, Copy)]
+enum Encoding {
+    Utf8,
+    Latin1,
+}
+
+fn snapshot_of(alloc: Global, row: &Row, values: Encoding) -> Result<Snapshot, SnapshotError> {
+    let headers = headers(alloc, row.cell(2), values)?;
+    let body = latin1(alloc, row.cell(3))?;
+    Snapshot::new(alloc, row.cell(0), row.cell(1), &headers, &body)
+}
+
+fn headers(
+    alloc: Global,
+    lines: &str,
+    values: Encoding,
+) -> Result<Vec<(HeaderName, HeaderValue)>, AllocError> {
     let mut headers = Vec::new(alloc);
     for line in lines.lines() {
         let (name, value) = line.split_once(": ").unwrap_or((line, ""));
-        headers.push((header_name(alloc, name)?, header_value(alloc, value)?))?;
+        headers.push(header(alloc, name, value, values)?)?;
     }
     Ok(headers)
+}
+
+fn header(
+    alloc: Global,
+    name: &str,
+    value: &str,
+    values: Encoding,
+) -> Result<(HeaderName, HeaderValue), AllocError> {
+    let name = header_name(alloc, name)?;
+    match values {
+        Encoding::Utf8 => Ok((name, header_value(alloc, value.as_bytes())?)),
+        Encoding::Latin1 => Ok((name, header_value(alloc, &latin1(alloc, value)?)?)),
+    }
 }
 
 fn header_name(alloc: Global, name: &str) -> Result<HeaderName, AllocError> {
@@ -34,8 +249,8 @@ fn header_name(alloc: Global, name: &str) -> Result<HeaderName, AllocError> {
     }
 }
 
-fn header_value(alloc: Global, value: &str) -> Result<HeaderValue, AllocError> {
-    match HeaderValue::from_bytes(alloc, value.as_bytes()) {
+fn header_value(alloc: Global, value: &[u8]) -> Result<HeaderValue, AllocError> {
+    match HeaderValue::from_bytes(alloc, value) {
         Ok(value) => Ok(value),
         Err(_error) => Err(AllocError),
     }

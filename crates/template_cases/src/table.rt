@@ -1,6 +1,6 @@
 //! The tables, and which call each of them is about.
 
-use crate::{code, commands, helpers, programs, templates};
+use crate::{code, error_codes, helpers, json, programs, requests, templates, values, writes};
 use case_table::compare::CaseTable;
 use case_table::row::Row;
 use std::alloc::{AllocError, Global};
@@ -8,6 +8,19 @@ use std::alloc::{AllocError, Global};
 /// A table, named for what it has in each row.
 #[derive(Clone, Copy)]
 pub enum Table {
+    ErrorCodes,
+    Values,
+    Lookups,
+    Items,
+    Roots,
+    Texts,
+    Paths,
+    Requests,
+    NamedValues,
+    Parts,
+    Printed,
+    Bindings,
+    Sizes,
     Helpers,
     Signatures,
     Parameters,
@@ -23,19 +36,25 @@ pub enum Table {
     Programs,
     /// Templates whose prints are escaped.
     Escaped,
-    /// Renderings that an independent program computed.
-    RenderText,
-    Commands,
-    /// Commands that read a file.
-    FileCommands,
-    Messages,
-    BrokenOff,
-    Unreadable,
+    Writes,
 }
 
 impl CaseTable for Table {
     fn file(self) -> &'static str {
         match self {
+            Table::ErrorCodes => "error_codes.tsv",
+            Table::Values => "values.tsv",
+            Table::Lookups => "lookups.tsv",
+            Table::Items => "items.tsv",
+            Table::Roots => "roots.tsv",
+            Table::Texts => "texts.tsv",
+            Table::Paths => "paths.tsv",
+            Table::Requests => "requests.tsv",
+            Table::NamedValues => "named_values.tsv",
+            Table::Parts => "parts.tsv",
+            Table::Printed => "printed.tsv",
+            Table::Bindings => "bindings.tsv",
+            Table::Sizes => "sizes.tsv",
             Table::Helpers => "helper_results.tsv",
             Table::Signatures => "signatures.tsv",
             Table::Parameters => "parameters.tsv",
@@ -48,17 +67,25 @@ impl CaseTable for Table {
             Table::LoopRuns => "loop_runs.tsv",
             Table::Programs => "programs.tsv",
             Table::Escaped => "escaped.tsv",
-            Table::RenderText => "render_text.tsv",
-            Table::Commands => "commands.tsv",
-            Table::FileCommands => "file_commands.tsv",
-            Table::Messages => "messages.tsv",
-            Table::BrokenOff => "broken_off.tsv",
-            Table::Unreadable => "unreadable.tsv",
+            Table::Writes => "writes.tsv",
         }
     }
 
     fn answer(self, alloc: Global, row: &Row) -> Result<String, AllocError> {
         match self {
+            Table::ErrorCodes => error_codes::code(alloc, row.cell(0)),
+            Table::Values => values::described(alloc, row.cell(0)),
+            Table::Lookups => values::found(alloc, row.cell(0), row.cell(1)),
+            Table::Items => values::item(alloc, row.cell(0), row.cell(1)),
+            Table::Roots => values::root_size(alloc, row.cell(0)),
+            Table::Texts => json::value_of_text(alloc, row.cell(0)),
+            Table::Paths => json::steps_of_path(alloc, row.cell(0)),
+            Table::Requests => requests::kept(alloc, row),
+            Table::NamedValues => requests::named_values(alloc, row),
+            Table::Parts => requests::part(alloc, row),
+            Table::Printed => requests::printed_part(alloc, row),
+            Table::Bindings => requests::bindings(alloc, row),
+            Table::Sizes => requests::size(alloc, row),
             Table::Helpers => helpers::result(alloc, row.cell(0), row.cell(1), row.cell(2)),
             Table::Signatures => helpers::signature_of(alloc, row.cell(0)),
             Table::Parameters => helpers::accepted(alloc, row.cell(0)),
@@ -69,11 +96,7 @@ impl CaseTable for Table {
             Table::LoopRuns => code::run_over(alloc, row),
             Table::Programs => programs::program(alloc, row),
             Table::Escaped => programs::escaped(alloc, row),
-            Table::RenderText | Table::Commands => commands::streams(alloc, row),
-            Table::FileCommands => commands::streams_with_file(alloc, row),
-            Table::Messages => commands::message(alloc, row, 100_000),
-            Table::BrokenOff => commands::message(alloc, row, 3),
-            Table::Unreadable => commands::unreadable(alloc, row.cell(0)),
+            Table::Writes => writes::written(alloc, row),
         }
     }
 }

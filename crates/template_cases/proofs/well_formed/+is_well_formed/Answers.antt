@@ -3,7 +3,7 @@ use Rattle.std.proofs.lemmas.Bool.{OnTrue_at, OnTrue_from}
 use Rattle.data_tree.specs.Tree.{view}
 use Rattle.data_tree.specs.WellFormed.{IsWellFormed}
 use Rattle.data_tree.proofs.Views.{view-Named}
-use Rattle.value_cases.proofs.well_formed.+is_well_formed.Goals as goal
+use Rattle.template_cases.proofs.well_formed.+is_well_formed.Goals as goal
 
 pub is_well_formed-returns-then-are_well_formed : goal.is_well_formed-returns-then-are_well_formed
 is_well_formed-returns-then-are_well_formed t c =

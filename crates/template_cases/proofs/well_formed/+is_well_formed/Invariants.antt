@@ -1,7 +1,7 @@
 use Rattle.std.proofs.Common.{drop}
 use Rattle.data_tree.specs.Tree.{items_view, members_view}
 use Rattle.data_tree.specs.WellFormed.{AreWellFormed, HaveWellFormedValues}
-use Rattle.value_cases.proofs.well_formed.+is_well_formed.Given as goal
+use Rattle.template_cases.proofs.well_formed.+is_well_formed.Given as goal
 
 -- where what is left is well formed, the whole is
 abbrev pub invariant-are_well_formed-loop-item : goal.invariant-are_well_formed-loop-item

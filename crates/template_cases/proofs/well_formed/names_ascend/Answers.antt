@@ -1,6 +1,6 @@
 use Rattle.std.proofs.Common.{arith}
-use Rattle.value_cases.proofs.Names.{last}
-use Rattle.value_cases.proofs.well_formed.names_ascend.Goals as goal
+use Rattle.template_cases.proofs.Names.{last}
+use Rattle.template_cases.proofs.well_formed.names_ascend.Goals as goal
 
 pub returns : goal.returns
 returns c =
