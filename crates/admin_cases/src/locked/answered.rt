@@ -1,11 +1,11 @@
-//! A receipt keeps the version that was chosen, whatever is edited meanwhile.
+//! A message is answered with the version that was chosen for it, whatever is edited and answered meanwhile.
 ghost use Rattle.std.specs.Prelude.{◌≤◌};
 
-use crate::books::word_of;
-use crate::calls;
-use crate::first_waits::FirstWaits;
-use crate::one_seat::settle_seat;
-use crate::threads::{Job, both};
+use crate::locked::message_threads::{Task, both_answer};
+use crate::locked::calls;
+use crate::locked::first_waits::FirstWaits;
+use crate::locked::one_seat::settle_seat;
+use crate::locked::words::add_number;
 use case_table::cells::Cells;
 use shared_book::origin::Origin;
 use shared_book::seat::Seat;
@@ -14,8 +14,9 @@ use std::alloc::{AllocError, Global};
 use std::sync::Wait;
 use std::thread::Threads;
 
-/// The first thread serves, and a gate holds it until the second has edited the mapping and served.
-pub fn versions<L: Origin + Send + Sync, R: Threads + Wait + Sync>(
+/// The first thread answers a message, and the gate holds it until the second has edited the mapping and answered the
+/// same message.
+pub fn answered<L: Origin + Send + Sync, R: Threads + Wait + Sync>(
     rt: &R,
     alloc: Global,
     cells: &mut Cells,
@@ -27,31 +28,23 @@ pub fn versions<L: Origin + Send + Sync, R: Threads + Wait + Sync>(
     let mut one = seat;
     let two = one.split();
     let gate = FirstWaits::new();
-    let (one, two) = both(
+    let ((one, first), (two, second)) = both_answer(
         rt,
         alloc,
-        &shared,
         &shared,
         one,
         two,
         &gate,
-        Job::Serve,
-        Job::EditAndServe,
+        Task::Get,
+        Task::EditAndGet,
     );
     cells.add("the first, held until the second, has ");
-    cells.add(last_word(&one));
-    cells.add(", the second ");
-    cells.add(last_word(&two));
+    add_number(cells, first.ok_or(AllocError)?);
+    cells.add(" bytes, the second ");
+    add_number(cells, second.ok_or(AllocError)?);
     cells.add("; ");
     let mut seat = one;
     calls::join(&mut seat, two);
     settle_seat(rt, alloc, cells, shared, seat)?;
     gate.held()
-}
-
-fn last_word<L: Origin>(seat: &Seat<L>) -> &str {
-    match seat.receipts().last() {
-        Some(receipt) => word_of(receipt),
-        None => "nothing",
-    }
 }
