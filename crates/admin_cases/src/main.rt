@@ -22,7 +22,7 @@ use std::io;
 use std::process::ExitCode;
 use std::sync::Wait;
 use std::thread::Threads;
-use table::{Rows, Table};
+use table::tables;
 
 fn main(rt: HostRuntime) -> io::Result<ExitCode> {
     for case in [
@@ -38,7 +38,7 @@ fn main(rt: HostRuntime) -> io::Result<ExitCode> {
         let line = play_again(&rt, rt.alloc(), *case)?;
         println!(rt; "{line}")?;
     }
-    compare_tables(rt)
+    compare_all(&rt, tables(rt).as_slice())
 }
 
 // Once more where memory ran out.
@@ -51,40 +51,4 @@ fn play_again<R: Threads + Wait + Sync>(
         Ok(text) => Ok(text),
         Err(_error) => play(rt, alloc, case),
     }
-}
-
-fn compare_tables(rt: HostRuntime) -> io::Result<ExitCode> {
-    let tables = [
-        Table {
-            rt,
-            file: "calls.tsv",
-            rows: Rows::Calls,
-        },
-        Table {
-            rt,
-            file: "books.tsv",
-            rows: Rows::Calls,
-        },
-        Table {
-            rt,
-            file: "scripts.tsv",
-            rows: Rows::Calls,
-        },
-        Table {
-            rt,
-            file: "paths.tsv",
-            rows: Rows::Paths,
-        },
-        Table {
-            rt,
-            file: "recordings.tsv",
-            rows: Rows::Recordings,
-        },
-        Table {
-            rt,
-            file: "worlds.tsv",
-            rows: Rows::Worlds,
-        },
-    ];
-    compare_all(&rt, tables.as_slice())
 }

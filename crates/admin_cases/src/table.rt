@@ -40,3 +40,39 @@ impl<R: Wait + Copy> CaseTable for Table<R> {
         }
     }
 }
+
+/// All tables.
+pub fn tables<R: Wait + Copy>(rt: R) -> [Table<R>; 6] {
+    [
+        Table {
+            rt,
+            file: "calls.tsv",
+            rows: Rows::Calls,
+        },
+        Table {
+            rt,
+            file: "books.tsv",
+            rows: Rows::Calls,
+        },
+        Table {
+            rt,
+            file: "scripts.tsv",
+            rows: Rows::Calls,
+        },
+        Table {
+            rt,
+            file: "paths.tsv",
+            rows: Rows::Paths,
+        },
+        Table {
+            rt,
+            file: "recordings.tsv",
+            rows: Rows::Recordings,
+        },
+        Table {
+            rt,
+            file: "worlds.tsv",
+            rows: Rows::Worlds,
+        },
+    ]
+}

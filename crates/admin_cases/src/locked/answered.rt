@@ -1,9 +1,9 @@
 //! A message is answered with the version that was chosen for it, whatever is edited and answered meanwhile.
 ghost use Rattle.std.specs.Prelude.{◌≤◌};
 
-use crate::locked::message_threads::{Task, both_answer};
 use crate::locked::calls;
 use crate::locked::first_waits::FirstWaits;
+use crate::locked::message_threads::{Task, both_answer};
 use crate::locked::one_seat::settle_seat;
 use crate::locked::words::add_number;
 use case_table::cells::Cells;

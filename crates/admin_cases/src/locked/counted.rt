@@ -1,9 +1,9 @@
 //! Many messages that two threads answer, and an admin call that counts them.
 ghost use Rattle.std.specs.Prelude.{◌≤◌};
 
-use crate::locked::message_threads::{Task, both_answer};
 use crate::locked::calls;
 use crate::locked::first_waits::FirstWaits;
+use crate::locked::message_threads::{Task, both_answer};
 use crate::locked::words::{add_number, add_outcome};
 use crate::octets::add_octets;
 use crate::server::reply_to;
