@@ -2,8 +2,7 @@
 ghost use Rattle.std.specs.Prelude.{◌≤◌};
 
 use crate::locked::calls;
-use crate::locked::first_waits::FirstWaits;
-use crate::locked::message_threads::{Task, both_answer};
+use crate::locked::message_threads::{Task, book_of, both_answer, site_of};
 use crate::locked::one_seat::settle_seat;
 use crate::locked::words::add_number;
 use case_table::cells::Cells;
@@ -27,14 +26,13 @@ pub fn answered<L: Origin + Send + Sync, R: Threads + Wait + Sync>(
 {
     let mut one = seat;
     let two = one.split();
-    let gate = FirstWaits::new();
+    let site = site_of(shared);
     let ((one, first), (two, second)) = both_answer(
         rt,
         alloc,
-        &shared,
+        &site,
         one,
         two,
-        &gate,
         Task::Get,
         Task::EditAndGet,
     );
@@ -45,6 +43,5 @@ pub fn answered<L: Origin + Send + Sync, R: Threads + Wait + Sync>(
     cells.add("; ");
     let mut seat = one;
     calls::join(&mut seat, two);
-    settle_seat(rt, alloc, cells, shared, seat)?;
-    gate.held()
+    settle_seat(rt, alloc, cells, book_of(site)?, seat)
 }

@@ -2,8 +2,7 @@
 ghost use Rattle.std.specs.Prelude.{◌≤◌};
 
 use crate::locked::calls;
-use crate::locked::first_waits::FirstWaits;
-use crate::locked::message_threads::{Task, both_answer};
+use crate::locked::message_threads::{Task, book_of, both_answer, site_of};
 use crate::locked::words::{add_number, add_outcome};
 use crate::octets::add_octets;
 use crate::server::reply_to;
@@ -28,27 +27,26 @@ pub fn counted<L: Origin + Send + Sync, R: Threads + Wait + Sync>(
 {
     let mut one = seat;
     let two = one.split();
-    let gate = FirstWaits::new();
+    let site = site_of(shared);
     let ((one, first), (two, second)) = both_answer(
         rt,
         alloc,
-        &shared,
+        &site,
         one,
         two,
-        &gate,
         Task::Many,
         Task::Many,
     );
     first.and(second).ok_or(AllocError)?;
     cells.add("gate called ");
-    add_number(cells, gate.count());
+    add_number(cells, site.gate.count());
     cells.add(" times, the first held until the second; ");
     let mut seat = one;
-    add_count(rt, alloc, cells, &shared, &mut seat)?;
+    add_count(rt, alloc, cells, &site.book, &mut seat)?;
     calls::join(&mut seat, two);
     let seats = calls::list(alloc, seat)?;
-    add_outcome(cells, &calls::settled(rt, alloc, shared, seats));
-    gate.held()
+    add_outcome(cells, &calls::settled(rt, alloc, book_of(site)?, seats));
+    Ok(())
 }
 
 // What the admin call answers.

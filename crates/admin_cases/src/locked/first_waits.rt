@@ -53,15 +53,3 @@ impl Gate for FirstWaits {
         }
     }
 }
-
-/// The gate, lent.
-#[derive(Clone, Copy, Drop)]
-pub struct Lent<'g> {
-    pub gate: &'g FirstWaits,
-}
-
-impl Gate for Lent<'_> {
-    fn between_choice_and_render(&self, number: u64) {
-        self.gate.between_choice_and_render(number);
-    }
-}

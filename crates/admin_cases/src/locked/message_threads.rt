@@ -1,6 +1,6 @@
-//! Two threads that answer messages, each by an owner of one book and a seat of its own.
+//! Two threads that answer messages of one site, each by a seat of its own.
 
-use crate::locked::first_waits::{FirstWaits, Lent};
+use crate::locked::first_waits::FirstWaits;
 use crate::locked::messages::{Asked, message};
 use answering::answer::answer;
 use answering::site::Site;
@@ -12,7 +12,7 @@ use shared_book::gate::Gate;
 use shared_book::origin::Origin;
 use shared_book::seat::Seat;
 use shared_book::shared_book::SharedBook;
-use std::alloc::Global;
+use std::alloc::{AllocError, Global};
 use std::sync::Wait;
 use std::thread;
 use std::thread::Threads;
@@ -30,73 +30,80 @@ pub enum Task {
     Many,
 }
 
+/// A site of the book, with a gate that holds its first call until its second.
+pub fn site_of<L: Origin>(book: SharedBook<L>) -> Site<L, FirstWaits> {
+    Site {
+        book,
+        limits: Limits::usual(),
+        escape: Escape::Off,
+        gate: FirstWaits::new(),
+    }
+}
+
+/// The book of a site. The error says that its gate gave up.
+pub fn book_of<L: Origin>(site: Site<L, FirstWaits>) -> Result<SharedBook<L>, AllocError> {
+    let Site {
+        book,
+        limits: _limits,
+        escape: _escape,
+        gate,
+    } = site;
+    gate.held()?;
+    Ok(book)
+}
+
 /// The seats, and how long the last answer of each thread is, if all have the status 200.
 pub fn both_answer<L: Origin + Send + Sync, R: Threads + Wait + Sync>(
     rt: &R,
     alloc: Global,
-    book: &SharedBook<L>,
+    site: &Site<L, FirstWaits>,
     one: Seat<L>,
     two: Seat<L>,
-    gate: &FirstWaits,
     first: Task,
     second: Task,
 ) -> ((Seat<L>, Option<u64>), (Seat<L>, Option<u64>)) {
     thread::join(
         rt,
-        move || answer_all(rt, alloc, book, one, gate, first),
-        move || answer_all(rt, alloc, book, two, gate, second),
+        move || answer_all(rt, alloc, site, one, first),
+        move || answer_all(rt, alloc, site, two, second),
     )
 }
 
 fn answer_all<L: Origin, R: Wait>(
     rt: &R,
     alloc: Global,
-    shared: &SharedBook<L>,
+    site: &Site<L, FirstWaits>,
     seat: Seat<L>,
-    gate: &FirstWaits,
     task: Task,
 ) -> (Seat<L>, Option<u64>) {
     let mut seat = seat;
-    let length = match shared.try_clone() {
-        Ok(book) => last_length(rt, alloc, book, &mut seat, gate, task),
-        Err(_error) => None,
+    let length = match task {
+        Task::Get => length_of(rt, alloc, site, &mut seat, Asked::Get),
+        Task::EditAndGet => edit_and_get(rt, alloc, site, &mut seat),
+        Task::Many => many(rt, alloc, site, &mut seat),
     };
     if length.is_none() {
         // The other thread need not wait for it.
-        gate.between_choice_and_render(0);
+        site.gate.between_choice_and_render(0);
     }
     (seat, length)
 }
 
-fn last_length<L: Origin, R: Wait>(
+fn edit_and_get<L: Origin, R: Wait>(
     rt: &R,
     alloc: Global,
-    book: SharedBook<L>,
+    site: &Site<L, FirstWaits>,
     seat: &mut Seat<L>,
-    gate: &FirstWaits,
-    task: Task,
 ) -> Option<u64> {
-    let site = Site {
-        book,
-        limits: Limits::usual(),
-        escape: Escape::Off,
-        gate: Lent { gate },
-    };
-    match task {
-        Task::Get => length_of(rt, alloc, &site, seat, Asked::Get),
-        Task::EditAndGet => {
-            gate.wait_for(1);
-            length_of(rt, alloc, &site, seat, Asked::Edit)?;
-            length_of(rt, alloc, &site, seat, Asked::Get)
-        }
-        Task::Many => many(rt, alloc, &site, seat),
-    }
+    site.gate.wait_for(1);
+    length_of(rt, alloc, site, seat, Asked::Edit)?;
+    length_of(rt, alloc, site, seat, Asked::Get)
 }
 
 fn many<L: Origin, R: Wait>(
     rt: &R,
     alloc: Global,
-    site: &Site<L, Lent<'_>>,
+    site: &Site<L, FirstWaits>,
     seat: &mut Seat<L>,
 ) -> Option<u64> {
     let mut last = None;
@@ -113,7 +120,7 @@ fn many<L: Origin, R: Wait>(
 fn length_of<L: Origin, R: Wait>(
     rt: &R,
     alloc: Global,
-    site: &Site<L, Lent<'_>>,
+    site: &Site<L, FirstWaits>,
     seat: &mut Seat<L>,
     asked: Asked,
 ) -> Option<u64> {
