@@ -11,4 +11,10 @@ use Rattle.template_tree.proofs.escape.Escape.TheSendSync as escape
 
 pub site_sync : (L G : RattleType) (o : origin.Ghosts L.Denot) (l : ledger.Ghosts L.Denot) → IsSync G → IsSync (site.the_row L G o l)
 site_sync L G o l gate =
-    declared_sync (site.the_type L G o l) (shared_book_sync L o l, (limits.the_sync, (escape.the_sync, (gate, tt))))
+    declared_sync (site.the_type L G o l) (
+      shared_book_sync L o l,
+      (
+        search (limits.the_sync, sendable) depth 60,
+        (search (escape.the_sync, sendable) depth 60, (search (gate, sendable) depth 60, tt)),
+      ),
+    )
