@@ -3,6 +3,7 @@ use Rattle.request_journal.specs.Choice.{IsChoice}
 use Rattle.request_journal.specs.Past.{Past, last_number}
 use Rattle.request_journal.specs.declared.event.Event.{Event}
 use Rattle.request_journal.specs.declared.event.Event.TheVariants as event
+use Rattle.stub_book.specs.Growth.{Grows}
 use Rattle.stub_book.proofs.Fits.{fits_added, follows_same, grew}
 use Rattle.stub_book.proofs.LeftLemmas.{left_all}
 use Rattle.stub_book.proofs.NextLemmas.{next_plain}
@@ -23,7 +24,7 @@ invariant_of-self-2 c =
     c.prepare.ensures.same same c.push_reserved.ensures c.self.invariant
     (next_plain past e choice refl c.self.invariant.few_live ok.2)
     (follows_same store (last_number past + 1) e (left_all e (λ id. refl) (λ placed. refl) store.live) refl)
-    (c.in_ok-move_scenario.ensures.ok c.args.request c.args.answer same) refl
+    (c.in_ok-move_scenario.ensures.ok c.args.request c.args.answer (c.event.ensures ∙ same)) refl
 
 pub returns-clause-ok : goal.returns-clause-ok
 returns-clause-ok c =
@@ -34,7 +35,8 @@ returns-clause-ok c =
     subst (λ (p : Past). IsChoice p c.args.request c.args.answer) (sym c.self.view_is) c.requires in
     let same : c.in_ok-made.made.event ≡ e = ok.0.is in (
       ok.0.shared,
-      grew c.args.self.now past c.prepare.new.history.past c.push_reserved.new.self.past e c.in_ok-made.made.event
+      subst (λ (served : Event). Grows c.args.self.now c.push_reserved.new.self.past served) (sym ok.0.shared)
+      (grew c.args.self.now past c.prepare.new.history.past c.push_reserved.new.self.past e c.in_ok-made.made.event
           c.self.view_is c.prepare.ensures.same same c.push_reserved.ensures refl
-          (next_plain past e choice refl c.self.invariant.few_live ok.2),
+          (next_plain past e choice refl c.self.invariant.few_live ok.2)),
     )
