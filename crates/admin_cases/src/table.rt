@@ -1,6 +1,6 @@
 //! The tables, and what their rows are.
 
-use crate::{books, recordings};
+use crate::{books, recordings, worlds};
 use case_table::compare::CaseTable;
 use case_table::row::Row;
 use std::alloc::{AllocError, Global};
@@ -15,6 +15,8 @@ pub enum Rows {
     Paths,
     /// What is read and written of recordings.
     Recordings,
+    /// Schedules over a book.
+    Worlds,
 }
 
 #[derive(Clone, Copy)]
@@ -34,6 +36,43 @@ impl<R: Wait + Copy> CaseTable for Table<R> {
             Rows::Calls => books::answer(&self.rt, alloc, row, false),
             Rows::Paths => books::answer(&self.rt, alloc, row, true),
             Rows::Recordings => recordings::answer(alloc, row),
+            Rows::Worlds => worlds::replies(alloc, row),
         }
     }
+}
+
+/// All tables.
+pub fn tables<R: Wait + Copy>(rt: R) -> [Table<R>; 6] {
+    [
+        Table {
+            rt,
+            file: "calls.tsv",
+            rows: Rows::Calls,
+        },
+        Table {
+            rt,
+            file: "books.tsv",
+            rows: Rows::Calls,
+        },
+        Table {
+            rt,
+            file: "scripts.tsv",
+            rows: Rows::Calls,
+        },
+        Table {
+            rt,
+            file: "paths.tsv",
+            rows: Rows::Paths,
+        },
+        Table {
+            rt,
+            file: "recordings.tsv",
+            rows: Rows::Recordings,
+        },
+        Table {
+            rt,
+            file: "worlds.tsv",
+            rows: Rows::Worlds,
+        },
+    ]
 }

@@ -1,8 +1,8 @@
 //! What is shown, in words.
 
-use crate::books::word_of;
-use crate::calls;
-use crate::calls::Asked;
+use crate::locked::books::word_of;
+use crate::locked::calls;
+use crate::locked::calls::Asked;
 use case_table::cells::Cells;
 use shared_book::book_read::ReadAnswer;
 use shared_book::origin::Origin;

@@ -1,12 +1,14 @@
-//! Plays calls of one and two threads on shared books, and prints what each case shows.
-#![tactic(auto)]
-
+//! Calls of one and two threads on shared books: what each case shows, in words.
 ghost use Rattle.std.specs.Prelude.{◌≡◌, ◌≤◌};
 
+mod answered;
 mod books;
 mod calls;
 mod cleared;
+mod counted;
 mod first_waits;
+mod message_threads;
+mod messages;
 mod one_seat;
 mod scripts;
 mod threads;
@@ -14,14 +16,15 @@ mod two_threads;
 mod versions;
 mod words;
 
+use answered::answered;
 use case_table::cells::Cells;
 use cleared::cleared;
+use counted::counted;
 use scripts::scripts;
 use shared_book::origin::Origin;
 use shared_book::seat::Seat;
 use shared_book::shared_book::SharedBook;
 use std::alloc::{AllocError, Global};
-use std::io;
 use std::marker::Brand;
 use std::sync::Wait;
 use std::sync::ledger::Blank;
@@ -34,10 +37,12 @@ use versions::versions;
 const PARTS: u64 = 4_294_967_296;
 
 #[derive(Clone, Copy)]
-enum Case {
+pub enum Case {
     TwoThreads,
     Scripts,
     Versions,
+    Answered,
+    Counted,
     Cleared,
 }
 
@@ -47,39 +52,19 @@ impl Case {
             Case::TwoThreads => "two threads: ",
             Case::Scripts => "scripts: ",
             Case::Versions => "versions: ",
+            Case::Answered => "answered: ",
+            Case::Counted => "counted: ",
             Case::Cleared => "cleared: ",
         }
     }
 }
 
-fn main(rt: HostRuntime) -> io::Result<()> {
-    for case in [
-        Case::TwoThreads,
-        Case::Scripts,
-        Case::Versions,
-        Case::Cleared,
-    ]
-    .as_slice()
-    {
-        let line = play_again(&rt, rt.alloc(), *case)?;
-        println!(rt; "{line}")?;
-    }
-    Ok(())
-}
-
-// Once more where memory ran out.
-fn play_again<R: Threads + Wait + Sync>(
+/// What a case shows, on a book of its own.
+pub fn play<R: Threads + Wait + Sync>(
     rt: &R,
     alloc: Global,
     case: Case,
 ) -> Result<String, AllocError> {
-    match play(rt, alloc, case) {
-        Ok(text) => Ok(text),
-        Err(_error) => play(rt, alloc, case),
-    }
-}
-
-fn play<R: Threads + Wait + Sync>(rt: &R, alloc: Global, case: Case) -> Result<String, AllocError> {
     let book = books::book(alloc)?;
     play_on::<Brand, R>(rt, alloc, case, Blank::new(PARTS), PARTS, book)
 }
@@ -119,6 +104,8 @@ fn play_case<L: Origin + Send + Sync, R: Threads + Wait + Sync>(
         Case::TwoThreads => two_threads(rt, alloc, cells, shared, seat),
         Case::Scripts => scripts(rt, alloc, cells, shared, seat),
         Case::Versions => versions(rt, alloc, cells, shared, seat),
+        Case::Answered => answered(rt, alloc, cells, shared, seat),
+        Case::Counted => counted(rt, alloc, cells, shared, seat),
         Case::Cleared => cleared(rt, alloc, cells, shared, seat),
     }
 }

@@ -1,22 +1,24 @@
 //! Books to share, and calls to make on them.
 
-use mapping_model::header_lines::HeaderLines;
+use crate::books::mappings_of;
 use mapping_model::mapping_id::MappingId;
-use mapping_model::mapping_spec::MappingSpec;
-use mapping_model::request_spec::RequestSpec;
-use mapping_model::response_spec::{Body, Content, ResponseSpec};
-use mapping_model::scenario_spec::ScenarioSpec;
-use mapping_model::status::Status;
-use mapping_model::url_spec::UrlSpec;
-use mapping_model::version::Version;
+use mapping_model::response_spec::{Body, Content};
 use mock_request::snapshot::Snapshot;
-use plain_text::text::Text;
 use request_journal::event::{Event, ServeAnswer};
 use request_journal::input::BookInput;
 use request_match::ready_mapping::ReadyMapping;
 use shared_book::receipt::Receipt;
 use std::alloc::{AllocError, Global};
 use stub_book::book::Book;
+
+const FIRST: &str =
+    "{\"request\":{\"method\":\"GET\",\"url\":\"/a\"},\"response\":{\"body\":\"v1\"}}";
+
+const SECOND: &str =
+    "{\"request\":{\"method\":\"GET\",\"url\":\"/a\"},\"response\":{\"body\":\"v2\"}}";
+
+const THIRD: &str = "{\"scenarioName\":\"s\",\"newScenarioState\":\"two\",
+\"request\":{\"method\":\"GET\",\"url\":\"/a\"},\"response\":{\"body\":\"v3\"}}";
 
 /// A change of a book.
 #[derive(Clone, Copy)]
@@ -30,55 +32,23 @@ pub enum Change {
 
 /// A book opened at 0 with one default mapping, of version `v1`, which answers `GET /a`.
 pub fn book(alloc: Global) -> Result<Book, AllocError> {
-    let mut defaults = Vec::new(alloc);
-    defaults.push(mapping(alloc, "v1", None)?)?;
-    Book::new(alloc, defaults, 0).ok().ok_or(AllocError)
+    let book = Book::new(alloc, mappings_of(alloc, FIRST)?, 0);
+    book.ok().ok_or(AllocError)
 }
 
 pub fn input(alloc: Global, change: Change) -> Result<BookInput, AllocError> {
     Ok(match change {
         Change::Edit => BookInput::Edit {
             id: MappingId::of_default(alloc, 0)?,
-            mapping: mapping(alloc, "v2", None)?,
+            mapping: mapping(alloc, SECOND)?,
         },
-        Change::Add => BookInput::Add(mapping(alloc, "v3", Some(moves(alloc)?))?),
+        Change::Add => BookInput::Add(mapping(alloc, THIRD)?),
         Change::Clear => BookInput::ClearJournal,
     })
 }
 
-fn moves(alloc: Global) -> Result<ScenarioSpec, AllocError> {
-    Ok(ScenarioSpec {
-        name: text(alloc, "s")?,
-        required: None,
-        next: Some(text(alloc, "two")?),
-    })
-}
-
-// The mapping on `GET /a` with this body.
-fn mapping(
-    alloc: Global,
-    body: &str,
-    scenario: Option<ScenarioSpec>,
-) -> Result<ReadyMapping, AllocError> {
-    let mut request = RequestSpec::any(alloc);
-    request.method = Some(text(alloc, "GET")?);
-    request.url = UrlSpec::Url(text(alloc, "/a")?);
-    let response = ResponseSpec {
-        status: Status::ok(),
-        content: Content::Plain {
-            headers: HeaderLines::new(Vec::new(alloc)).ok_or(AllocError)?,
-            body: Body::of_text(text(alloc, body)?),
-        },
-    };
-    let spec = MappingSpec {
-        id: None,
-        name: None,
-        priority: None,
-        scenario,
-        request,
-        response: Version::new(alloc, response)?,
-    };
-    ReadyMapping::build(alloc, spec).ok().ok_or(AllocError)
+fn mapping(alloc: Global, document: &str) -> Result<ReadyMapping, AllocError> {
+    mappings_of(alloc, document)?.pop().ok_or(AllocError)
 }
 
 /// `GET /a`.
@@ -86,10 +56,6 @@ pub fn request(alloc: Global) -> Result<Snapshot, AllocError> {
     let headers = Vec::new(alloc);
     let request = Snapshot::new(alloc, "GET", "/a", headers.as_slice(), "".as_bytes());
     request.ok().ok_or(AllocError)
-}
-
-fn text(alloc: Global, text: &str) -> Result<Text, AllocError> {
-    Ok(Text::from(String::from_str(alloc, text)?))
 }
 
 /// What a receipt's event is, in a word: of a request, the version that it is answered with.

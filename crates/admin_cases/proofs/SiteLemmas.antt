@@ -1,0 +1,20 @@
+-- A site may be lent to another thread, where its gate may: of its book the toolchain's own search gives up.
+use denote.RattleType.{RattleType}
+use denote.Param.Send.{IsSync, sendable}
+use denote.Param.SendFields.{declared_sync}
+use Rattle.answering.specs.contracts.site.Site as site
+use Rattle.shared_book.proofs.SendLemmas.{shared_book_sync}
+use Rattle.shared_book.specs.declared.origin.Origin as origin
+use Rattle.std.specs.declared.sync.ledger.Ledger as ledger
+use Rattle.stub_response.proofs.limits.Limits.TheSendSync as limits
+use Rattle.template_tree.proofs.escape.Escape.TheSendSync as escape
+
+pub site_sync : (L G : RattleType) (o : origin.Ghosts L.Denot) (l : ledger.Ghosts L.Denot) → IsSync G → IsSync (site.the_row L G o l)
+site_sync L G o l gate =
+    declared_sync (site.the_type L G o l) (
+      shared_book_sync L o l,
+      (
+        search (limits.the_sync, sendable) depth 60,
+        (search (escape.the_sync, sendable) depth 60, (search (gate, sendable) depth 60, tt)),
+      ),
+    )
