@@ -3,7 +3,7 @@
 #![tactic(auto)]
 
 mod answers;
-mod json;
+mod json_matchers;
 mod lists;
 mod literals;
 mod mappings;

@@ -1,6 +1,6 @@
 //! The tables, and which call each of them is about.
 
-use crate::{json, lists, literals, mappings, path_templates, ready, requests, values};
+use crate::{json_matchers, lists, literals, mappings, path_templates, ready, requests, values};
 use case_table::compare::CaseTable;
 use case_table::row::Row;
 use std::alloc::{AllocError, Global};
@@ -52,8 +52,8 @@ impl CaseTable for Table {
     fn answer(self, alloc: Global, row: &Row) -> Result<String, AllocError> {
         match self {
             Table::Values => values::answer(alloc, row),
-            Table::Json => json::equal(alloc, row),
-            Table::Paths => json::path(alloc, row),
+            Table::Json => json_matchers::equal(alloc, row),
+            Table::Paths => json_matchers::path(alloc, row),
             Table::Bindings => path_templates::bound(alloc, row),
             Table::TemplatePaths => path_templates::matched(alloc, row),
             Table::SameTemplates => path_templates::same(alloc, row),
