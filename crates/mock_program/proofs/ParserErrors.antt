@@ -205,7 +205,7 @@ by_mistake : (arguments : List Text) → AreInvalid arguments → FailsByMistake
 by_mistake arguments (inl short) = too_short arguments short
 by_mistake arguments (inr (inl (program, name, rest, is, none, plain))) =
     subst FailsByMistake (sym (ap fault is)) (other_argument program name rest none plain)
-by_mistake arguments (inr (inr (name, count, given, command, gives, wrong))) =
+by_mistake arguments (inr (inr (name, count, escape, given, command, gives, wrong))) =
     miscounted_at arguments name count escape given command gives wrong
 
 pub fails_by_mistake : (arguments : List Text) → AreInvalid arguments
