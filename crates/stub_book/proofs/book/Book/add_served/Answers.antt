@@ -36,7 +36,7 @@ returns-clause-ok c =
     let same : c.in_ok-made.made.event ≡ e = ok.0.is in (
       ok.0.shared,
       subst (λ (served : Event). Grows c.args.self.now c.push_reserved.new.self.past served) (sym ok.0.shared)
-      (grew c.args.self.now past c.prepare.new.history.past c.push_reserved.new.self.past e c.in_ok-made.made.event
+          (grew c.args.self.now past c.prepare.new.history.past c.push_reserved.new.self.past e c.in_ok-made.made.event
           c.self.view_is c.prepare.ensures.same same c.push_reserved.ensures refl
           (next_plain past e choice refl c.self.invariant.few_live ok.2)),
     )
