@@ -7,6 +7,7 @@ mod calls;
 mod cleared;
 mod counted;
 mod first_waits;
+mod full;
 mod message_threads;
 mod messages;
 mod one_seat;
@@ -20,6 +21,7 @@ use answered::answered;
 use case_table::cells::Cells;
 use cleared::cleared;
 use counted::counted;
+use full::full;
 use scripts::scripts;
 use shared_book::origin::Origin;
 use shared_book::seat::Seat;
@@ -44,6 +46,7 @@ pub enum Case {
     Answered,
     Counted,
     Cleared,
+    Full,
 }
 
 impl Case {
@@ -55,6 +58,15 @@ impl Case {
             Case::Answered => "answered: ",
             Case::Counted => "counted: ",
             Case::Cleared => "cleared: ",
+            Case::Full => "full: ",
+        }
+    }
+
+    // The number at which its book is opened.
+    fn opening(self) -> u64 {
+        match self {
+            Case::Full => books::LAST,
+            _ => 0,
         }
     }
 }
@@ -65,7 +77,7 @@ pub fn play<R: Threads + Wait + Sync>(
     alloc: Global,
     case: Case,
 ) -> Result<String, AllocError> {
-    let book = books::book(alloc)?;
+    let book = books::book(alloc, case.opening())?;
     play_on::<Brand, R>(rt, alloc, case, Blank::new(PARTS), PARTS, book)
 }
 
@@ -107,5 +119,6 @@ fn play_case<L: Origin + Send + Sync, R: Threads + Wait + Sync>(
         Case::Answered => answered(rt, alloc, cells, shared, seat),
         Case::Counted => counted(rt, alloc, cells, shared, seat),
         Case::Cleared => cleared(rt, alloc, cells, shared, seat),
+        Case::Full => full(rt, alloc, cells, shared, seat),
     }
 }

@@ -32,6 +32,7 @@ fn main(rt: HostRuntime) -> io::Result<ExitCode> {
         Case::Answered,
         Case::Counted,
         Case::Cleared,
+        Case::Full,
     ]
     .as_slice()
     {

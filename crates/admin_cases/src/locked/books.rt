@@ -30,9 +30,12 @@ pub enum Change {
     Clear,
 }
 
-/// A book opened at 0 with one default mapping, of version `v1`, which answers `GET /a`.
-pub fn book(alloc: Global) -> Result<Book, AllocError> {
-    let book = Book::new(alloc, mappings_of(alloc, FIRST)?, 0);
+/// The last opening number of a book, which then has room for one event.
+pub const LAST: u64 = 9_223_372_036_854_775_807;
+
+/// A book with one default mapping, of version `v1`, which answers `GET /a`.
+pub fn book(alloc: Global, opening: u64) -> Result<Book, AllocError> {
+    let book = Book::new(alloc, mappings_of(alloc, FIRST)?, opening);
     book.ok().ok_or(AllocError)
 }
 
