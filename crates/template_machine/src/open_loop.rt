@@ -1,51 +1,63 @@
 //! The loops that are open in a run. They borrow what they go over from the request's data.
-ghost use Rattle.std.specs.Prelude.{◌≡◌, pos, nat_eq, nat_lt, length, IfSome};
-ghost use Rattle.data_tree.specs.Tree.{view};
+ghost use Rattle.std.specs.Prelude.{◌≡◌, length};
+ghost use Rattle.std.specs.Option.{option_map_or};
+ghost use Rattle.data_tree.specs.Tree.{view, nothing};
 ghost use Rattle.data_tree.specs.Parts.{items};
-ghost use Rattle.data_tree.specs.WellFormed.{IsWellFormed};
-ghost use Rattle.template_code.specs.Machine.{item_of, key_of, has_next};
-ghost use Rattle.template_machine.specs.Inner.Slots.{found_view, loop_view};
-ghost use Rattle.template_machine.specs.Inner.Loops.{IsSoundLoop, next_turn};
+ghost use Rattle.template_code.specs.Machine.{key_of};
 
 use data_tree::data::Data;
 
-/// An open loop: the value whose items it goes over, and the number of turns that are done.
+/// An open loop: the value whose items it goes over, how many they are, and the number of turns that are done.
 #[derive(Clone, Copy)]
 pub struct OpenLoop<'a> {
     over: Option<&'a Data>,
+    count: usize,
     turn: usize,
+    ghost counted: { count ≡ length (items (option_map_or (λ over. view over.now) over nothing)) },
 }
 
 // Fills the entries of a list of loops that aren't in use.
 impl<'a> Default for OpenLoop<'a> {
-    ghost use Rattle.std.specs.Prelude.{None};
+    ghost use Rattle.template_machine.specs.Inner.Slots.{loop_view};
 
-    ghost is_default = { λ empty. empty ≡ record { over = None; turn = 0 } };
+    ghost is_default = { λ empty. loop_view empty ≡ record { over = nothing; turn = 0 } };
 
     fn default() -> Self {
         OpenLoop {
             over: None,
+            count: 0,
             turn: 0,
         }
     }
 }
 
-/// Whether there is an item to go over.
-pub fn has_items(over: Option<&Data>) -> bool
-    ensures { result ≡ nat_lt 0 (length (items (found_view over.entry))) }
-{
-    match over {
-        Some(over) => over.items_len() > 0,
-        None => false,
-    }
-}
-
 impl<'a> OpenLoop<'a> {
+    ghost use Rattle.std.specs.Prelude.{pos, nat_eq, nat_lt, IfSome};
+    ghost use Rattle.data_tree.specs.WellFormed.{IsWellFormed};
+    ghost use Rattle.template_code.specs.Machine.{item_of, has_next};
+    ghost use Rattle.template_machine.specs.Inner.Slots.{found_view, loop_view};
+    ghost use Rattle.template_machine.specs.Inner.Loops.{IsSoundLoop, next_turn};
+
     /// At the first item.
     pub fn new(over: Option<&'a Data>) -> OpenLoop<'a>
         ensures { loop_view result ≡ record { over = found_view over.entry; turn = 0 } }
     {
-        OpenLoop { over, turn: 0 }
+        let count = match over {
+            Some(over) => over.items_len(),
+            None => 0,
+        };
+        OpenLoop {
+            over,
+            count,
+            turn: 0,
+        }
+    }
+
+    /// Whether there is an item to go over.
+    pub fn has_items(self) -> bool
+        ensures { result ≡ nat_lt 0 (length (items (found_view self.entry.over))) }
+    {
+        self.count > 0
     }
 
     /// The item that it is at.
@@ -90,10 +102,7 @@ impl<'a> OpenLoop<'a> {
         requires { IsSoundLoop (loop_view self) }
         ensures { result ≡ has_next (loop_view self.entry) }
     {
-        match self.over {
-            Some(over) => self.turn + 1 < over.items_len(),
-            None => unreachable!(),
-        }
+        self.turn + 1 < self.count
     }
 
     /// Goes on to the next item.
