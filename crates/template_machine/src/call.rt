@@ -153,12 +153,15 @@ fn json_of<'a>(alloc: Global, root: &'a Data) -> Result<Option<&'a Data>, AllocE
     Ok(root.at(&steps))
 }
 
-/// What steps find in a value; None is Nothing.
+/// What steps find in a value, which no steps find itself; None is Nothing.
 #[tactic(auto, using(data_tree::proofs::Lookups::at_nothing))]
 pub fn found_in<'a>(value: Option<&'a Data>, steps: &[Step]) -> Option<&'a Data>
     requires { IfSome value (λ d. IsWellFormed (view d.now)) }
     ensures { found_view result ≡ at steps.now (found_view value.entry) }
 {
+    if steps.is_empty() {
+        return value;
+    }
     match value {
         Some(value) => value.at(steps),
         None => None,
