@@ -1,7 +1,8 @@
 // A request as it was received.
-ghost use Rattle.std.specs.Prelude.{◌≡◌, ◌++◌, ◌≤◌, ◌<◌, ◌↔◌, length, slice_get, All, IfSome, IfOk, IsTrue, OnOk, IsErrOf};
+ghost use Rattle.std.specs.Prelude.{ℕ, List, ◌≡◌, ◌++◌, ◌≤◌, ◌<◌, ◌↔◌, length, slice_get, All, IfSome, IfOk, IsTrue, OnOk, IsErrOf};
 ghost use Rattle.std.specs.Option.{option_copied, option_map};
 ghost use Rattle.http_header.specs.FieldName.{IsHeaderName};
+ghost use Rattle.http_header.specs.HeaderMap.{pairs};
 ghost use Rattle.mock_request.specs.Target.{IsTarget, HasUrl, IsRooted, IsRootedForm};
 ghost use Rattle.mock_request.specs.Request.{headers_of};
 ghost use Rattle.mock_request.specs.Url.{path_of, query_of};
@@ -10,7 +11,7 @@ ghost use Rattle.mock_request.specs.Inner.Parts.{fields_of};
 use crate::block::Block;
 use crate::error::SnapshotError;
 use crate::target::{path_and_query, rooted};
-use http_header::{HeaderName, HeaderValue};
+use http_header::{HeaderMap, HeaderName, HeaderValue};
 use std::alloc::{AllocError, Global};
 use std::marker::Model;
 
@@ -67,11 +68,85 @@ impl Snapshot {
         ensures too_large { IsErrOf result SnapshotError.BodyTooLarge
             ↔ (HasUrl target.now × (BODY_LIMIT < length body.now)) }
     {
-        let text = path_and_query(target).ok_or(SnapshotError::BadUrl)?;
-        if body.len() > BODY_LIMIT {
-            return Err(SnapshotError::BodyTooLarge);
-        }
+        let text = taken(target, body)?;
         Ok(Snapshot::of_text(alloc, method, text, headers, body)?)
+    }
+
+    /// The same of headers in a map: all values of a name are where its first one was.
+    pub fn received(
+        alloc: Global,
+        method: &str,
+        target: &str,
+        headers: &HeaderMap,
+        body: &[u8],
+    ) -> Result<Snapshot, SnapshotError>
+        ensures url { IfOk result (λ request. IsTarget target.now request.url) }
+        ensures kept { IfOk result (λ request. request ≡ record {
+          method = method.now;
+          url = request.url;
+          headers = headers_of (pairs headers.now);
+          body = body.now;
+        }) }
+        ensures within { OnOk result (length body.now ≤ BODY_LIMIT) }
+        ensures bad_url { IsErrOf result SnapshotError.BadUrl ↔ ¬ (HasUrl target.now) }
+        ensures too_large { IsErrOf result SnapshotError.BodyTooLarge
+            ↔ (HasUrl target.now × (BODY_LIMIT < length body.now)) }
+    {
+        let text = taken(target, body)?;
+        Ok(Snapshot::received_text(alloc, method, text, headers, body)?)
+    }
+
+    fn received_text(
+        alloc: Global,
+        method: &str,
+        text: &str,
+        headers: &HeaderMap,
+        body: &[u8],
+    ) -> Result<Snapshot, AllocError>
+        requires { length body.now ≤ BODY_LIMIT }
+        ensures url { IfOk result (λ request. IsRootedForm text.now request.url) }
+        ensures kept { IfOk result (λ request. request ≡ record {
+          method = method.now;
+          url = request.url;
+          headers = headers_of (pairs headers.now);
+          body = body.now;
+        }) }
+    {
+        if text.starts_with('/') {
+            return Snapshot::received_at(alloc, method, text, headers, body);
+        }
+        let url = rooted(alloc, text)?;
+        Snapshot::received_at(alloc, method, url.as_str(), headers, body)
+    }
+
+    fn received_at(
+        alloc: Global,
+        method: &str,
+        url: &str,
+        headers: &HeaderMap,
+        body: &[u8],
+    ) -> Result<Snapshot, AllocError>
+        requires rooted { IsRooted url.now }
+        requires within { length body.now ≤ BODY_LIMIT }
+        ensures { IfOk result (λ request. request ≡ record {
+          method = method.now;
+          url = url.now;
+          headers = headers_of (pairs headers.now);
+          body = body.now;
+        }) }
+    {
+        let fixed = method
+            .len()
+            .saturating_add(url.len())
+            .saturating_add(body.len());
+        let total = map_len(headers).saturating_add(fixed);
+        let count = headers.len().saturating_mul(2).saturating_add(HEADERS);
+        let mut parts = Block::with_room(alloc, count, total)?;
+        parts.push(method.as_bytes())?;
+        parts.push(url.as_bytes())?;
+        parts.push(body)?;
+        push_map(&mut parts, headers)?;
+        Ok(Snapshot { parts })
     }
 
     // A copy of the request for the URL of that path and query.
@@ -208,6 +283,44 @@ impl Snapshot {
             parts: self.parts.try_clone()?,
         })
     }
+}
+
+// The path and the query of a target, where a request of this body may be taken.
+fn taken<'a>(target: &'a str, body: &[u8]) -> Result<&'a str, SnapshotError>
+    ensures text { IfOk result (λ text. (url : List ℕ) → IsRootedForm text.now url → IsTarget target.now url) }
+    ensures within { OnOk result (length body.now ≤ BODY_LIMIT) }
+    ensures bad_url { IsErrOf result SnapshotError.BadUrl ↔ ¬ (HasUrl target.now) }
+    ensures too_large { IsErrOf result SnapshotError.BodyTooLarge
+        ↔ (HasUrl target.now × (BODY_LIMIT < length body.now)) }
+{
+    let text = path_and_query(target).ok_or(SnapshotError::BadUrl)?;
+    if body.len() > BODY_LIMIT {
+        return Err(SnapshotError::BodyTooLarge);
+    }
+    Ok(text)
+}
+
+// Appends the name and the value of each header of the map.
+fn push_map(parts: &mut Block, headers: &HeaderMap) -> Result<(), AllocError>
+    ensures parts { OnOk result (parts.new ≡ parts.old ++ fields_of (headers_of (pairs headers.now))) }
+    ensures names { OnOk result (All (λ header. IsHeaderName header.name) (headers_of (pairs headers.now))) }
+{
+    for (name, value) in headers.iter() {
+        parts.push(name.as_bytes())?;
+        parts.push(value.as_bytes())?;
+    }
+    Ok(())
+}
+
+// As `headers_len`.
+fn map_len(headers: &HeaderMap) -> usize {
+    let mut total: usize = 0;
+    for (name, value) in headers.iter() {
+        total = total
+            .saturating_add(name.as_bytes().len())
+            .saturating_add(value.len());
+    }
+    total
 }
 
 // Appends the name and the value of each header.
