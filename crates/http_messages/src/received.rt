@@ -1,17 +1,16 @@
 // The request that a message of `http` is.
 ghost use Rattle.std.specs.Prelude.{◌≡◌, ◌≤◌, ◌<◌, length, IfOk, IfSome, OnOk, IsErrOf};
 ghost use Rattle.http.specs.Request.{body_of};
-ghost use Rattle.http_header.specs.HeaderMap.{pairs};
 ghost use Rattle.http_uri.specs.Uri.{uri_text};
 ghost use Rattle.http_messages.specs.Received.{IsReceived, target_of};
 ghost use Rattle.mock_request.specs.Target.{HasUrl};
 ghost use Rattle.mock_request.specs.declared.snapshot.TheConstants.{BODY_LIMIT};
 
 use bytes::Bytes;
-use http::{HeaderMap, HeaderName, HeaderValue, Request, Uri};
+use http::{Request, Uri};
 use mock_request::error::SnapshotError;
 use mock_request::snapshot::Snapshot;
-use std::alloc::{AllocError, Global};
+use std::alloc::Global;
 
 /// The request that a message is. It is a copy, which keeps nothing of the buffers of the connection that the message
 /// came over.
@@ -54,25 +53,11 @@ fn snapshot_at(
     ensures too_large { IsErrOf result SnapshotError.BodyTooLarge
         → (HasUrl (target_of message.now) × (BODY_LIMIT < length (body_of message.now))) }
 {
-    let headers = header_list(alloc, message.headers())?;
-    Snapshot::new(
+    Snapshot::received(
         alloc,
         message.method().as_str(),
         target,
-        headers.as_slice(),
+        message.headers(),
         message.body().as_slice(),
     )
-}
-
-fn header_list(
-    alloc: Global,
-    headers: &HeaderMap,
-) -> Result<Vec<(HeaderName, HeaderValue)>, AllocError>
-    ensures { IfOk result (λ list. list.items ≡ pairs headers.now) }
-{
-    let mut list = Vec::with_capacity(alloc, headers.len())?;
-    for (name, value) in headers.iter() {
-        list.push((name.clone()?, value.clone()?))?;
-    }
-    Ok(list)
 }

@@ -44,6 +44,13 @@ pub more_fields : (old parts named whole : List (List ℕ)) (before : List Heade
 more_fields old parts named whole before header name value p n w is_name is_value =
     rw (w, n, p, is_name, is_value, fields_of-append before (header ∷ [])) (simp append_assoc)
 
+-- one header fewer is left to append
+pub moved_fields : (total parts named whole : List (List ℕ)) (left rest : List Header) (header : Header) (name value : List ℕ)
+    → parts ++ fields_of left ≡ total → left ≡ header ∷ rest → named ≡ parts ++ name ∷ [] → whole ≡ named ++ value ∷ []
+    → name ≡ header.name → value ≡ header.value → whole ++ fields_of rest ≡ total
+moved_fields total parts named whole left rest header name value p l n w is_name is_value =
+    rw (w, n, is_name, is_value, sym p, l) (simp append_assoc)
+
 -- the parts of a request that keeps what each `Snapshot` keeps
 pub are_parts : (request : Request) → IsUtf8 request.method → IsUtf8 request.url → IsRooted request.url
     → length request.body ≤ BODY_LIMIT → All (λ header. IsHeaderName header.name) request.headers
