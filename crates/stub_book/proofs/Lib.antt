@@ -8,3 +8,4 @@ pub mod StateLemmas
 pub mod RefusalLemmas
 pub mod ApplyLemmas
 pub mod StopLemmas
+pub mod RecordedLemmas

@@ -1,5 +1,5 @@
 // The call that stops a recording.
-ghost use Rattle.std.specs.Prelude.{◌≡◌, ◌⊎◌, ◌<◌, ◌≤◌, IfErr, IfOk, OnErr, OnOk, length};
+ghost use Rattle.std.specs.Prelude.{◌≡◌, ◌⊎◌, ◌<◌, ◌≤◌, All, IfErr, IfOk, OnErr, OnOk, length};
 ghost use Rattle.error_code.specs.declared.error_code.ErrorCode.TheVariants as code;
 ghost use Rattle.recorder.specs.Stubs.{recorded_mappings, recorded_skipped};
 ghost use Rattle.request_journal.specs.Legal.{IsAnswer, identified};
@@ -9,6 +9,7 @@ ghost use Rattle.request_journal.specs.declared.event.Event.TheVariants as event
 ghost use Rattle.request_journal.specs.declared.input.BookInput.TheVariants as input;
 ghost use Rattle.request_journal.specs.declared.limits.TheConstants.{LIVE_LIMIT};
 ghost use Rattle.stub_book.specs.Growth.{IsAccepted};
+ghost use Rattle.stub_book.specs.Inner.Recorded.{LacksOnlyMemory};
 ghost use Rattle.stub_book.specs.Refusals.{IsOwnReason, IsRefusal};
 
 use crate::accepted::Accepted;
@@ -26,6 +27,7 @@ use recorder::recording::{Recording, Session};
 use request_journal::event::Event;
 use request_journal::limits;
 use request_journal::mapping::Mapping;
+use request_match::error::RequestMatchError;
 use request_match::ready_mapping::ReadyMapping;
 use std::alloc::{AllocError, Global};
 
@@ -118,6 +120,7 @@ fn additions_of(alloc: Global, session: &Session, number: u64) -> Result<Additio
 
 // The mappings under their ids, ready to be served.
 fn all_ready(alloc: Global, specs: Vec<MappingSpec>) -> Result<Vec<BookMapping>, AllocError>
+    requires { All LacksOnlyMemory specs.items }
     ensures { IfOk result (λ ready. ready.items ≡ identified specs.items) }
 {
     let mut ready = Vec::with_capacity(alloc, specs.len())?;
@@ -129,12 +132,13 @@ fn all_ready(alloc: Global, specs: Vec<MappingSpec>) -> Result<Vec<BookMapping>,
     Ok(ready)
 }
 
-// A recorded mapping has no pattern, so only memory can be lacking.
 fn one_ready(alloc: Global, id: MappingId, spec: MappingSpec) -> Result<BookMapping, AllocError>
+    requires { LacksOnlyMemory spec }
     ensures { IfOk result (λ ready. ready ≡ record { id = id; spec = spec }) }
 {
     match ReadyMapping::build(alloc, spec) {
         Ok(ready) => Ok(BookMapping::new(alloc, id, ready)?),
-        Err(_error) => Err(AllocError),
+        Err(RequestMatchError::OutOfMemory) => Err(AllocError),
+        Err(_) => unreachable!(),
     }
 }
