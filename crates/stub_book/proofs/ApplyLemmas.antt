@@ -3,7 +3,6 @@ use Rattle.std.proofs.Common.{◌≡◌, ◌∙◌, sym, ap, subst}
 use Rattle.request_journal.specs.Input.{IsAsked, answer_of}
 use Rattle.request_journal.specs.Past.{Past}
 use Rattle.request_journal.specs.declared.event.Event.{Event}
-use Rattle.request_journal.specs.declared.input.BookAnswer.{BookAnswer}
 use Rattle.request_journal.specs.declared.input.BookInput.{BookInput}
 use Rattle.stub_book.specs.declared.accepted.Accepted.{Accepted}
 use Rattle.stub_book.specs.declared.prepared.Prepared.{Prepared}

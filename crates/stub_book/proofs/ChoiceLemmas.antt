@@ -1,5 +1,5 @@
 -- What a book answers to a request is what its past demands.
-use Rattle.std.proofs.Common.{◌≡◌, Option, Some, None, subst, sym}
+use Rattle.std.proofs.Common.{◌≡◌, subst}
 use Rattle.mapping_store.proofs.PastLemmas.{missed_in_past, chosen_in_past}
 use Rattle.mapping_store.specs.Stored.{Stored}
 use Rattle.mock_request.specs.Request.{Request}

@@ -1,5 +1,5 @@
 -- What a book is opened with agrees with the past that was just opened.
-use Rattle.std.proofs.Common.{◌≡◌, ◌≤◌, ◌+◌, ℕ, inl, List, [], ◌∷◌, ◌++◌, length, refl, sym, ap, ◌∙◌, subst, arith, append-nil}
+use Rattle.std.proofs.Common.{◌≡◌, ◌≤◌, ℕ, inl, List, [], ◌∷◌, ◌++◌, length, refl, sym, ap, ◌∙◌, subst, arith, append-nil}
 use Rattle.std.specs.FinMap as map
 use Rattle.std.specs.List.Sorted.{IsPermutation}
 use Rattle.std.proofs.lemmas.List.Sorted.{length_permutation}
@@ -7,9 +7,9 @@ use Rattle.mapping_store.proofs.CountLemmas.{length-placed}
 use Rattle.mapping_model.specs.declared.mapping_spec.MappingSpec.{MappingSpec}
 use Rattle.mapping_store.specs.Stored.{Stored}
 use Rattle.recorder.specs.declared.recording.Recording.TheVariants.{NeverStarted}
-use Rattle.request_journal.specs.Legal.{IsLegal, IsNext}
+use Rattle.request_journal.specs.Legal.{IsLegal}
 use Rattle.request_journal.specs.Live.{live}
-use Rattle.request_journal.specs.Past.{Past, opened, opening_base, defaults_from, with_events, placed_from}
+use Rattle.request_journal.specs.Past.{Past, opened, opening_base, defaults_from, placed_from}
 use Rattle.request_journal.specs.declared.event.Event.{Event}
 use Rattle.request_journal.specs.declared.limits.TheConstants.{LIVE_LIMIT, NUMBER_LIMIT}
 use Rattle.request_journal.specs.declared.mapping.Mapping.{Mapping}

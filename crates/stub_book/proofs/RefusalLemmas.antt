@@ -1,5 +1,5 @@
 -- Why calls are refused.
-use Rattle.std.proofs.Common.{◌≡◌, ◌⊎◌, inl, inr, ◌≤◌, ◌<◌, ap, sym, ◌∙◌, subst}
+use Rattle.std.proofs.Common.{◌≡◌, inl, inr}
 use Rattle.error_code.specs.declared.error_code.ErrorCode.{ErrorCode}
 use Rattle.error_code.specs.declared.error_code.ErrorCode.TheVariants as code
 use Rattle.request_journal.specs.Past.{Past}

@@ -1,16 +1,14 @@
 -- What a move leaves of the states of scenarios, and what a call leaves of a recording.
-use Rattle.std.proofs.Common.{◌≡◌, inl, inr, ◌<◌, ◌≤◌, ◌+◌, ℕ, Bool, true, false, cond, List, [], ◌∷◌, Option, Some, None, refl, sym, ap, ◌∙◌, subst, arith, append-nil}
+use Rattle.std.proofs.Common.{◌≡◌, inl, inr, ◌<◌, ℕ, true, false, cond, List, Some, None, refl, sym, ap, ◌∙◌, arith, append-nil}
 use Rattle.std.specs.Option.{unwrap_or}
 use Rattle.std.specs.Str.{bytes_eq}
 use Rattle.std.proofs.lemmas.Bool.{both_ways, cases_order}
 use Rattle.std.proofs.lemmas.Slice.Eq.{bytes_eq-Decides}
-use Rattle.mapping_model.specs.declared.scenario_spec.ScenarioSpec.{ScenarioSpec}
-use Rattle.recorder.specs.Recording.{IsOn, IsOnAnd, TakesFrom, IsFull, HasTaken, HasStopped}
+use Rattle.recorder.specs.Recording.{IsOn, IsOnAnd, TakesFrom, HasTaken, HasStopped}
 use Rattle.recorder.specs.declared.exchange.Exchange.{Exchange}
 use Rattle.recorder.specs.declared.recording.Recording.{Recording}
 use Rattle.recorder.specs.declared.recording.Recording.TheVariants.{NeverStarted, On, Stopped}
 use Rattle.recorder.specs.declared.recording.Session.{Session}
-use Rattle.request_journal.specs.State.{next_state}
 use Rattle.request_journal.specs.declared.mapping.Mapping.{Mapping}
 use Rattle.request_journal.specs.declared.event.Event.TheVariants as event
 use Rattle.request_journal.proofs.RecordingLemmas.{recording_by}

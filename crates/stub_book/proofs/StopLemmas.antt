@@ -1,11 +1,11 @@
 -- How many mappings are live once those of a recording are added.
-use Rattle.std.proofs.Common.{◌≡◌, ◌+◌, ℕ, List, [], ◌∷◌, ◌++◌, length, refl, sym}
+use Rattle.std.proofs.Common.{◌≡◌, ◌+◌, ℕ, List, [], ◌∷◌, ◌++◌, length, refl}
 use Rattle.std.specs.List.Sorted.{IsPermutation}
 use Rattle.std.proofs.lemmas.List.Sorted.{IsPermutation-refl, length_permutation}
 use Rattle.mapping_store.proofs.PastLemmas.{live_follows}
 use Rattle.mapping_store.specs.Stored.{Stored, Follows}
 use Rattle.request_journal.specs.Live.{live, left_by}
-use Rattle.request_journal.specs.Past.{Past, Placed, with_event, last_number, placed_from}
+use Rattle.request_journal.specs.Past.{Past, with_event, last_number, placed_from}
 use Rattle.request_journal.specs.declared.event.Event.{Event}
 use Rattle.request_journal.specs.declared.event.Event.TheVariants as event
 use Rattle.request_journal.specs.declared.mapping.Mapping.{Mapping}

@@ -1,14 +1,13 @@
-use Rattle.std.proofs.Common.{◌≡◌, ◌≤◌, ◌+◌, ◌∙◌, ℕ, inr, refl, sym, ap, subst, unwrap_or, length}
+use Rattle.std.proofs.Common.{◌≤◌, ◌+◌, ◌∙◌, ℕ, inr, refl, sym, ap, subst, unwrap_or, length}
 use Rattle.mapping_model.specs.MappingId.{event_id}
 use Rattle.mapping_store.specs.Stored.{Follows}
 use Rattle.request_journal.specs.Live.{live}
 use Rattle.request_journal.specs.Legal.{IsNext}
-use Rattle.request_journal.specs.Past.{Past, last_number, with_event}
+use Rattle.request_journal.specs.Past.{Past, with_event}
 use Rattle.request_journal.specs.declared.event.Event.TheVariants as event
 use Rattle.request_journal.specs.declared.input.BookInput.TheVariants as input
 use Rattle.request_journal.specs.declared.limits.TheConstants.{LIVE_LIMIT}
 use Rattle.request_journal.specs.declared.mapping.Mapping.{Mapping}
-use Rattle.stub_book.specs.Growth.{Grows}
 use Rattle.stub_book.specs.Refusals.{IsTooMany}
 use Rattle.std.proofs.lemmas.Result.{err_from_is_err_and}
 use Rattle.stub_book.proofs.Fits.{fits_added, fits_roomier, fits_same, grew, number_of_next}

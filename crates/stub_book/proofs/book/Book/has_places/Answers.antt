@@ -1,4 +1,4 @@
-use Rattle.std.proofs.Common.{◌≡◌, ◌≤◌, ◌<◌, ◌+◌, ◌∙◌, ℕ, List, length, ap, subst, arith}
+use Rattle.std.proofs.Common.{◌≡◌, ◌≤◌, ◌<◌, ◌+◌, ◌∙◌, List, length, ap, subst, arith}
 use Rattle.request_journal.specs.Live.{live}
 use Rattle.request_journal.specs.Past.{Past, last_number, with_event}
 use Rattle.request_journal.specs.declared.event.Event.TheVariants as event

@@ -1,4 +1,4 @@
-use Rattle.std.proofs.Common.{◌≡◌, inl, inr, ◌<◌, length, refl, arith, rules}
+use Rattle.std.proofs.Common.{◌≡◌, inl, inr, length, arith, rules}
 use Rattle.request_journal.specs.Live.{live}
 use Rattle.request_journal.specs.Past.{opened}
 use Rattle.stub_book.proofs.OpenLemmas.{fits_new, many_opened}

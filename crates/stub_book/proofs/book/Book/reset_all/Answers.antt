@@ -1,4 +1,4 @@
-use Rattle.std.proofs.Common.{◌≡◌, ◌+◌, refl, subst}
+use Rattle.std.proofs.Common.{◌+◌, refl, subst}
 use Rattle.mapping_store.specs.Stored.{Follows}
 use Rattle.request_journal.specs.Past.{last_number}
 use Rattle.request_journal.specs.declared.event.Event.TheVariants as event

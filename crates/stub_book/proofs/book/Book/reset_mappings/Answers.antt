@@ -1,6 +1,5 @@
-use Rattle.std.proofs.Common.{◌≡◌, ◌+◌, refl, subst}
+use Rattle.std.proofs.Common.{refl, subst}
 use Rattle.mapping_store.specs.Stored.{Follows}
-use Rattle.request_journal.specs.Past.{last_number}
 use Rattle.request_journal.specs.declared.event.Event.TheVariants as event
 use Rattle.request_journal.specs.declared.input.BookInput.TheVariants as input
 use Rattle.stub_book.proofs.Fits.{fits_added, grew, number_of_next}

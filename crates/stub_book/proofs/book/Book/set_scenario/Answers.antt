@@ -1,4 +1,4 @@
-use Rattle.std.proofs.Common.{inl, inr, ◌≡◌, ◌+◌, ◌∙◌, ℕ, List, refl, sym, ap, subst}
+use Rattle.std.proofs.Common.{inl, inr, ◌≡◌, ◌+◌, ◌∙◌, ℕ, List, refl, sym, subst}
 use Rattle.request_journal.specs.Past.{Past, last_number}
 use Rattle.request_journal.specs.State.{HasState}
 use Rattle.request_journal.specs.declared.event.Event.{Event}

@@ -1,9 +1,8 @@
-use Rattle.std.proofs.Common.{◌≡◌, ◌⊎◌, inl, inr, ◌+◌, ◌∙◌, ℕ, List, refl, sym, ap, subst}
+use Rattle.std.proofs.Common.{◌≡◌, ◌⊎◌, inl, inr, ◌+◌, ◌∙◌, ℕ, List, refl, sym, subst}
 use Rattle.std.proofs.lemmas.Result.{err_from_is_err_and}
 use Rattle.error_code.specs.declared.error_code.ErrorCode.TheVariants as code
 use Rattle.recorder.specs.Recording.{IsOn}
 use Rattle.recorder.specs.Target.{IsTarget}
-use Rattle.recorder.specs.declared.recording.Recording.{Recording}
 use Rattle.recorder.specs.declared.recording.Recording.TheVariants.{On}
 use Rattle.request_journal.specs.Legal.{IsAnswer}
 use Rattle.request_journal.specs.Past.{Past, last_number}

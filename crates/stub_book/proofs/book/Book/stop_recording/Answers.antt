@@ -1,4 +1,4 @@
-use Rattle.std.proofs.Common.{◌≡◌, ◌≤◌, ◌<◌, ◌+◌, ◌∙◌, ◌⊎◌, inl, inr, ℕ, List, length, refl, sym, ap, subst}
+use Rattle.std.proofs.Common.{◌≤◌, ◌+◌, ℕ, List, length, refl, sym, subst}
 use Rattle.mapping_store.specs.Stored.{Follows}
 use Rattle.request_journal.specs.Legal.{IsAnswer, IsNext}
 use Rattle.request_journal.specs.Live.{live}

@@ -1,4 +1,4 @@
-use Rattle.std.proofs.Common.{◌≡◌, ◌+◌, ◌∙◌, ◌≤◌, ℕ, refl, sym, ap, subst, arith}
+use Rattle.std.proofs.Common.{◌≡◌, ◌+◌, ◌∙◌, refl, ap, subst, arith}
 use Rattle.recorder.specs.Recording.{TakesFrom}
 use Rattle.recorder.specs.Recording as recorder
 use Rattle.recorder.specs.declared.exchange.Exchange.{Exchange}
