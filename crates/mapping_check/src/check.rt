@@ -1,10 +1,11 @@
 //! `mock check`: which mappings of a document are taken, and the budgets of their templates.
-ghost use Rattle.std.specs.Prelude.{◌≡◌, ◌+◌, ◌++◌, IfOk, IfErr, if◌then◌else◌, is_err, string_bytes};
-ghost use Rattle.std.specs.List.{list_any};
-ghost use Rattle.mapping_check.specs.Checking.{AreLines, IsContentLine, IsLineOf, IsBudgetLine, IsReportOf};
-ghost use Rattle.mapping_check.specs.Checking.{Checks, ChecksFile, refused_line};
+ghost use Rattle.std.specs.Prelude.{◌≡◌, ◌+◌, ◌++◌, List, ℕ, map, decimal, IfOk, IfErr, OnOk, if◌then◌else◌, string_bytes};
+ghost use Rattle.mapping_check.specs.Checking.{IsContentLine, IsBudgetLine, IsReportOf};
+ghost use Rattle.mapping_check.specs.Checking.{Checks, ChecksFile, plain_line, refused_line};
+ghost use Rattle.mapping_check.specs.Inner.Reports.{AreReported, Reports};
 ghost use Rattle.mapping_json.specs.Documents.{IsOuterError};
 ghost use Rattle.response_json.specs.Draft.{values_of, body_templates};
+ghost use Rattle.serde_json.specs.View.{view};
 
 use crate::budgets::total_of;
 use command_output::error::CommandError;
@@ -13,12 +14,15 @@ use command_output::lines::total_text;
 use command_output::output::put;
 use command_output::status::{FAILURE, SUCCESS};
 use error_code::error_code::ErrorCode;
+use itoa::Buffer;
+use json_reading::document::document_of;
+use json_reading::kind::Kind;
 use mapping_json::error::MappingError;
-use mapping_json::read::read_each_with;
+use mapping_json::read::{mapping_values, response_of};
 use mapping_model::header_lines::HeaderLines;
 use mapping_model::response_spec::{Body, Content};
 use mapping_model::template_text::TemplateText;
-use request_match::ready_mapping::ReadyMapping;
+use serde_json::Value;
 use std::alloc::{AllocError, Global};
 use std::io::Write;
 use template_tree::escape::Escape;
@@ -34,25 +38,56 @@ pub struct Checked {
 /// What `mock check` prints for a document: a line for each of its mappings, numbered from 1, as `1 plain`,
 /// `2 steps [5] bytes [6,1]` or `3 error 11`, where the prints of templates are escaped so. The error is that of a
 /// document that has no mappings.
+#[tactic(auto, using(crate::proofs::LinesOf::whole))]
 pub fn check_document(alloc: Global, bytes: &[u8], escape: Escape) -> Result<Checked, MappingError>
     ensures report { IfOk result (λ checked. IsReportOf escape bytes.now (string_bytes checked.text) checked.is_refused) }
     ensures error { IfErr result (IsOuterError bytes.now) }
 {
-    let results = read_each_with(alloc, bytes, escape)?;
-    Ok(report_of(alloc, results.as_slice())?)
+    let Some(document) = document_of(alloc, bytes)? else {
+        return Err(MappingError::Document(Kind::NotJson));
+    };
+    match mapping_values(&document) {
+        Some(values) => Ok(report_of(alloc, values, escape)?),
+        None => Err(MappingError::Document(Kind::Misshapen)),
+    }
 }
 
-fn report_of(
-    alloc: Global,
-    results: &[Result<ReadyMapping, MappingError>],
-) -> Result<Checked, AllocError>
-    ensures lines { IfOk result (λ checked. AreLines 1 results.now (string_bytes checked.text)) }
-    ensures refused { IfOk result (λ checked. checked.is_refused ≡ list_any is_err results.now) }
+/// Each mapping is judged and its line written before the next, so that none is kept.
+fn report_of(alloc: Global, values: &[Value], escape: Escape) -> Result<Checked, AllocError>
+    ensures { IfOk result (λ checked.
+        AreReported escape (map view values.now) (string_bytes checked.text) checked.is_refused) }
 {
-    Ok(Checked {
-        text: lines(alloc, results)?,
-        is_refused: results.iter().any(|read| read.is_err()),
-    })
+    let mut text = String::new(alloc);
+    let mut is_refused = false;
+    for (index, value) in values.iter().enumerate() {
+        is_refused |= push_line(alloc, &mut text, index, value, escape)?;
+    }
+    Ok(Checked { text, is_refused })
+}
+
+/// Writes the line of a value, and gives whether it is refused.
+fn push_line(
+    alloc: Global,
+    text: &mut String,
+    index: usize,
+    value: &Value,
+    escape: Escape,
+) -> Result<bool, AllocError>
+    ensures { IfOk result (λ refused.
+        Reports escape (index + 1) (view value.now) (string_bytes text.old) (string_bytes text.new) refused) }
+{
+    let number = index as u128 + 1;
+    match response_of(alloc, value, escape) {
+        Ok(response) => {
+            push_content_line(alloc, text, number, &response.content)?;
+            Ok(false)
+        }
+        Err(MappingError::OutOfMemory) => Err(AllocError),
+        Err(error) => {
+            push_refused_line(text, number, error.error_code())?;
+            Ok(true)
+        }
+    }
 }
 
 /// Writes what `check_document` gives to `out`, or its error to `err`, and gives the exit status: 0, or 1 where a mapping
@@ -106,47 +141,58 @@ pub fn check_file<F: FileReader, O: Write, E: Write>(
     }
 }
 
-fn lines(
+fn push_refused_line(text: &mut String, number: u128, code: ErrorCode) -> Result<(), AllocError>
+    ensures { OnOk result (string_bytes text.new ≡ string_bytes text.old ++ refused_line number code) }
+{
+    push_number(text, number)?;
+    text.push_str(" error ")?;
+    push_number(text, u128::from(code.number()))?;
+    text.push_str("\n")
+}
+
+fn push_plain_line(text: &mut String, number: u128) -> Result<(), AllocError>
+    ensures { OnOk result (string_bytes text.new ≡ string_bytes text.old ++ plain_line number) }
+{
+    push_number(text, number)?;
+    text.push_str(" plain\n")
+}
+
+fn push_number(text: &mut String, number: u128) -> Result<(), AllocError>
+    ensures { OnOk result (string_bytes text.new ≡ string_bytes text.old ++ decimal number) }
+{
+    let mut digits = Buffer::new();
+    text.push_str(digits.format(number))
+}
+
+fn push_content_line(
     alloc: Global,
-    results: &[Result<ReadyMapping, MappingError>],
-) -> Result<String, AllocError>
-    ensures { IfOk result (λ text. AreLines 1 results.now (string_bytes text)) }
-{
-    let mut text = String::new(alloc);
-    for (index, result) in results.iter().enumerate() {
-        text.push_str(line_of(alloc, index, result)?.as_str())?;
-    }
-    Ok(text)
-}
-
-fn line_of(
-    alloc: Global,
-    index: usize,
-    read: &Result<ReadyMapping, MappingError>,
-) -> Result<String, AllocError>
-    ensures { IfOk result (λ line. IsLineOf (index + 1) read.now (string_bytes line)) }
-{
-    let number = index as u128 + 1;
-    match read {
-        Ok(mapping) => content_line(alloc, number, &mapping.spec().response.response().content),
-        Err(error) => refused_line(alloc, number, error.error_code()),
-    }
-}
-
-fn refused_line(alloc: Global, number: u128, code: ErrorCode) -> Result<String, AllocError>
-    ensures { IfOk result (λ line. string_bytes line ≡ refused_line number code) }
-{
-    let code = code.number();
-    format!(in alloc; "{number} error {code}\n")
-}
-
-fn content_line(alloc: Global, number: u128, content: &Content) -> Result<String, AllocError>
-    ensures { IfOk result (λ line. IsContentLine number content.now (string_bytes line)) }
+    text: &mut String,
+    number: u128,
+    content: &Content,
+) -> Result<(), AllocError>
+    ensures { OnOk result ((line : List ℕ) × IsContentLine number content.now line
+        × (string_bytes text.new ≡ string_bytes text.old ++ line)) }
 {
     match content {
-        Content::Plain { .. } => format!(in alloc; "{number} plain\n"),
-        Content::Templated { headers, body } => budget_line(alloc, number, headers, body),
+        Content::Plain { .. } => push_plain_line(text, number),
+        Content::Templated { headers, body } => {
+            push_budget_line(alloc, text, number, headers, body)
+        }
     }
+}
+
+fn push_budget_line(
+    alloc: Global,
+    text: &mut String,
+    number: u128,
+    headers: &HeaderLines<TemplateText>,
+    body: &Body<TemplateText>,
+) -> Result<(), AllocError>
+    ensures { OnOk result ((line : List ℕ)
+        × IsBudgetLine number (values_of headers.now ++ body_templates body.now) line
+        × (string_bytes text.new ≡ string_bytes text.old ++ line)) }
+{
+    text.push_str(budget_line(alloc, number, headers, body)?.as_str())
 }
 
 fn budget_line(

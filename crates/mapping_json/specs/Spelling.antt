@@ -8,6 +8,7 @@ use Rattle.mapping_json.specs.declared.draft.MappingDraft.{MappingDraft}
 use Rattle.mapping_json.specs.declared.error.MappingError.{MappingError}
 use Rattle.mapping_json.specs.declared.error.MappingError.TheVariants.{Document, Request, Template, OutOfMemory}
 use Rattle.mapping_model.specs.declared.mapping_spec.MappingSpec.{MappingSpec}
+use Rattle.mapping_model.specs.declared.response_spec.ResponseSpec.{ResponseSpec}
 use Rattle.request_match.specs.Refusal.{CanBeBuilt, IsRefusal}
 use Rattle.request_match.specs.declared.error.RequestMatchError.TheVariants as matcher
 use Rattle.response_json.specs.Draft.{response_of, templates_of, IsFirstError}
@@ -33,6 +34,11 @@ pub record IsMappingOf (escape : Escape) (draft : MappingDraft) (mapping : Mappi
   pub templates : All IsProgramText (templates_of escape draft.response)
   pub same : mapping ≡ mapping_of escape draft
 
+-- this is the response of the mapping
+abbrev pub IsResponseOf : Escape → MappingDraft → ResponseSpec → Type 0
+IsResponseOf escape draft response =
+    (mapping : MappingSpec) × IsMappingOf escape draft mapping × (mapping.response ≡ response)
+
 -- why it is no mapping: its matcher can't be built, or else a template is none. Out of memory is an error of its own, and
 -- never one of a part
 abbrev pub IsDraftError : Escape → MappingDraft → MappingError → Type 0
@@ -47,6 +53,11 @@ IsDraftError escape draft OutOfMemory = Unit {0}
 abbrev pub SpellsMapping : Escape → Data → MappingSpec → Type 0
 SpellsMapping escape d mapping =
     (draft : MappingDraft) × (reading_of_mapping d ≡ Read draft) × IsMappingOf escape draft mapping
+
+-- the value spells a mapping with this response
+abbrev pub SpellsResponse : Escape → Data → ResponseSpec → Type 0
+SpellsResponse escape d response =
+    (mapping : MappingSpec) × SpellsMapping escape d mapping × (mapping.response ≡ response)
 
 -- the way in which it is wrong
 abbrev pub IsWrong : Data → MappingError → Type 0

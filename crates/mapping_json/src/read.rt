@@ -1,7 +1,7 @@
 // From a document to mappings.
-ghost use Rattle.std.specs.Prelude.{◌≡◌, ◌∷◌, ◌++◌, [], Ok, map, IfOk, IfErr, OnOk};
+ghost use Rattle.std.specs.Prelude.{◌≡◌, ◌∷◌, ◌++◌, [], Ok, map, option_map, IfOk, IfErr, OnOk};
 ghost use Rattle.std.specs.List.{AllZip};
-ghost use Rattle.mapping_json.specs.Documents.{AreResults, IsOuterError, SpellMappings, IsMappingsError, IsResultOf};
+ghost use Rattle.mapping_json.specs.Documents.{AreResults, IsOuterError, SpellMappings, IsMappingsError, IsResultOf, mappings_in};
 ghost use Rattle.mapping_json.specs.Inner.Lists.{AreResultsOf, IsListError, IsFirstErr};
 ghost use Rattle.mapping_json.specs.Spelling.{SpellsDocument, IsDocumentError};
 ghost use Rattle.mapping_json.specs.declared.error.MappingError.TheVariants.{OutOfMemory};
@@ -10,11 +10,13 @@ ghost use Rattle.template_tree.specs.declared.escape.Escape.TheVariants.{Off};
 
 use crate::error::{MappingError, MappingsError};
 use crate::read_value::mapping_of;
+pub use crate::read_value::response_of;
 use json_reading::document::document_of;
 use json_reading::kind::Kind;
 use request_match::ready_mapping::ReadyMapping;
 use serde_json::Value;
 use std::alloc::{AllocError, Global};
+use std::slice;
 use template_tree::escape::Escape;
 
 /// The mapping that a document is. No template escapes.
@@ -67,6 +69,24 @@ pub fn read_each_with(
     }
 }
 
+/// The values of a document that are to be mappings: those in its list `mappings`, or itself. None where it isn't an
+/// object, or its `mappings` no list.
+#[tactic(auto, using(crate::proofs::Listed::no_object, crate::proofs::Listed::one_value, crate::proofs::Listed::many_listed, crate::proofs::Listed::no_list))]
+pub fn mapping_values(document: &Value) -> Option<&[Value]>
+    ensures { option_map (λ values. map view values.now) result ≡ mappings_in (view document.now) }
+{
+    if !document.is_object() {
+        return None;
+    }
+    match document.get("mappings") {
+        Some(mappings) => match mappings.as_array() {
+            Some(values) => Some(values.as_slice()),
+            None => None,
+        },
+        None => Some(slice::from_ref(document)),
+    }
+}
+
 /// All mappings of a document, or the error of the first that is none, with its index. Without an index the document
 /// is no list of mappings, or memory is out. No template escapes.
 pub fn read_mappings(alloc: Global, bytes: &[u8]) -> Result<Vec<ReadyMapping>, MappingsError>
@@ -88,45 +108,26 @@ pub fn read_mappings_with(
     all_of(alloc, read_each_with(alloc, bytes, escape)?)
 }
 
-#[tactic(auto, using(crate::proofs::Listed::no_object, crate::proofs::Listed::one_value, crate::proofs::Listed::many_values, crate::proofs::Listed::no_list))]
 fn each_in(
     alloc: Global,
-    value: &Value,
+    document: &Value,
     escape: Escape,
 ) -> Result<Vec<Result<ReadyMapping, MappingError>>, MappingError>
-    ensures ok { IfOk result (λ results. AreResultsOf escape (view value.now) results.items) }
-    ensures error { IfErr result (IsListError (view value.now)) }
+    ensures ok { IfOk result (λ results. AreResultsOf escape (view document.now) results.items) }
+    ensures error { IfErr result (IsListError (view document.now)) }
 {
-    if !value.is_object() {
-        return Err(MappingError::Document(Kind::Misshapen));
-    }
-    let Some(mappings) = value.get("mappings") else {
-        return Ok(one_result(alloc, value, escape)?);
-    };
-    match mappings.as_array() {
+    match mapping_values(document) {
         Some(values) => Ok(each_result(alloc, values, escape)?),
         None => Err(MappingError::Document(Kind::Misshapen)),
     }
 }
 
-fn one_result(
-    alloc: Global,
-    value: &Value,
-    escape: Escape,
-) -> Result<Vec<Result<ReadyMapping, MappingError>>, AllocError>
-    ensures { IfOk result (λ results. AllZip (IsResultOf escape) (view value.now ∷ []) results.items) }
-{
-    let mut results = Vec::new(alloc);
-    results.push(result_of(alloc, value, escape)?)?;
-    Ok(results)
-}
-
 fn each_result(
     alloc: Global,
-    values: &Vec<Value>,
+    values: &[Value],
     escape: Escape,
 ) -> Result<Vec<Result<ReadyMapping, MappingError>>, AllocError>
-    ensures { IfOk result (λ results. AllZip (IsResultOf escape) (map view values.now.items) results.items) }
+    ensures { IfOk result (λ results. AllZip (IsResultOf escape) (map view values.now) results.items) }
 {
     let mut results = Vec::with_capacity(alloc, values.len())?;
     for value in values {

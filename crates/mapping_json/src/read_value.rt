@@ -5,7 +5,7 @@ ghost use Rattle.mapping_json.specs.Reading.{priority_in, priority_of, priority_
 ghost use Rattle.mapping_json.specs.Reading.{request_in, response_in, names_in, place_in, parts_in, fields_of};
 ghost use Rattle.mapping_json.specs.Reading.{has_no_items, is_empty_list, unsupported_kind, unless_empty, beside};
 ghost use Rattle.mapping_json.specs.Reading.{mapping_in, reading_of_mapping};
-ghost use Rattle.mapping_json.specs.Spelling.{SpellsMapping, IsValueError};
+ghost use Rattle.mapping_json.specs.Spelling.{SpellsMapping, SpellsResponse, IsValueError};
 ghost use Rattle.serde_json.specs.Find.{get};
 ghost use Rattle.serde_json.specs.View.{view, items_view};
 
@@ -17,6 +17,7 @@ use json_reading::numbers::{is_taken, taken};
 use json_reading::reading::{Reading, both, some, wrong_also};
 use mapping_model::mapping_id::MappingId;
 use mapping_model::request_spec::RequestSpec;
+use mapping_model::response_spec::ResponseSpec;
 use mapping_model::scenario_spec::ScenarioSpec;
 use plain_text::text::Text;
 use request_json::request_reading::request_of;
@@ -39,6 +40,22 @@ pub(crate) fn mapping_of(
 {
     match read_draft(alloc, value)? {
         Reading::Read(draft) => draft.build(alloc, escape),
+        Reading::Wrong(kind) => Err(MappingError::Document(kind)),
+    }
+}
+
+/// The response of the mapping that a value spells, where no more is wanted of it. The whole mapping is judged.
+#[tactic(auto, using(crate::proofs::ErrorLemmas::draft_error, crate::proofs::ErrorLemmas::wrong_value))]
+pub fn response_of(
+    alloc: Global,
+    value: &Value,
+    escape: Escape,
+) -> Result<ResponseSpec, MappingError>
+    ensures ok { IfOk result (SpellsResponse escape (view value.now)) }
+    ensures error { IfErr result (IsValueError escape (view value.now)) }
+{
+    match read_draft(alloc, value)? {
+        Reading::Read(draft) => draft.response(alloc, escape),
         Reading::Wrong(kind) => Err(MappingError::Document(kind)),
     }
 }

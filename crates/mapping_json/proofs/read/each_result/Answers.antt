@@ -9,7 +9,7 @@ use Rattle.mapping_json.proofs.read.each_result.Goals as goal
 
 pub loop-value-preserved : goal.loop-value-preserved
 loop-value-preserved c =
-    let items = c.deref-value-items.result.now in
+    let items = c.args.values.now in
     let i = c.loop-value.value-index in
     let value = c.value-item.result in
     let more : take (i + 1) items ≡ take i items ++ value ∷ [] =
@@ -21,8 +21,7 @@ loop-value-preserved c =
 
 pub returns : goal.returns
 returns c =
-    let items = c.deref-value-items.result.now in
-    let all : take c.loop-value.value-index items ≡ c.args.values.now.items =
-    take_all c.loop-value.value-index items (omega arith) ∙ c.deref-value-items.ensures.value in
-    zip_map (IsResultOf c.args.escape) view c.args.values.now.items c.loop-value.results.items
+    let all : take c.loop-value.value-index c.args.values.now ≡ c.args.values.now =
+    take_all c.loop-value.value-index c.args.values.now (omega arith) in
+    zip_map (IsResultOf c.args.escape) view c.args.values.now c.loop-value.results.items
     (subst (λ vs. AllZip (λ (v : Value). IsResultOf c.args.escape (view v)) vs c.loop-value.results.items) all c.loop-value.invariant)

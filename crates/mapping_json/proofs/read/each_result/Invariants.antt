@@ -6,4 +6,4 @@ use Rattle.mapping_json.proofs.read.each_result.Given as goal
 
 abbrev pub invariant-loop-value : goal.invariant-loop-value
 invariant-loop-value l =
-    AllZip (λ value. IsResultOf l.fn.escape (view value)) (take l.value-index l.value-items) l.results.items
+    AllZip (λ value. IsResultOf l.fn.escape (view value)) (take l.value-index l.values) l.results.items
