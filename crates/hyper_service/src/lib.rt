@@ -3,6 +3,7 @@
 // answer to a request is, `answering`'s.
 #![tactic(auto)]
 
+mod report;
 pub mod serve_io;
 pub mod serve_on;
 pub mod site_answers;

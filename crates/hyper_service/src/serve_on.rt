@@ -1,10 +1,11 @@
 // The connections of a listener, until as many as are wanted were served.
 ghost use Rattle.std.specs.Prelude.{◌≤◌};
 
+use crate::report::report;
 use crate::site_answers::SiteAnswers;
 use answering::site::Site;
 use command_output::error::CommandError;
-use command_output::status::{FAILURE, SUCCESS};
+use command_output::status::FAILURE;
 use error_code::error_code::ErrorCode;
 use http_connections::serve_on::{Day, End, serve_all_here};
 use shared_book::gate::Gate;
@@ -94,51 +95,4 @@ fn events<L: Origin, R: Wait>(
         Ok(settled) => Ok(settled.events),
         Err(error) => Err(error.reason),
     }
-}
-
-// Writes how the day ended, and gives the exit status.
-fn report<O: Write, E: Write>(
-    settled: Result<u64, SettleRefusal>,
-    end: End,
-    out: &mut O,
-    err: &mut E,
-) -> u8
-    ensures { result ≤ 1 }
-{
-    match settled {
-        Ok(events) => match write!(out, "settled {events} events\n") {
-            Ok(()) => report_end(end, err),
-            Err(_error) => FAILURE,
-        },
-        Err(refusal) => {
-            report_refusal(&refusal, err);
-            FAILURE
-        }
-    }
-}
-
-fn report_end<E: Write>(end: End, err: &mut E) -> u8
-    ensures { result ≤ 1 }
-{
-    match end {
-        End::AllServed => return SUCCESS,
-        End::AcceptFailed => report_line("error: accept failed\n", err),
-        End::OutOfMemory => CommandError::from(ErrorCode::OutOfMemory).report(err),
-    }
-    FAILURE
-}
-
-fn report_refusal<E: Write>(refusal: &SettleRefusal, err: &mut E) {
-    match refusal {
-        SettleRefusal::SeatsMissing => report_line("error: seats missing\n", err),
-        SettleRefusal::Mismatch { number: _, kept: _ } => {
-            report_line("error: history mismatch\n", err);
-        }
-        SettleRefusal::OutOfMemory => CommandError::from(ErrorCode::OutOfMemory).report(err),
-    }
-}
-
-// The exit status is 1 in any case.
-fn report_line<E: Write>(line: &str, err: &mut E) {
-    let _ = err.write_all(line.as_bytes());
 }
