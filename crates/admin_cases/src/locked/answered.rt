@@ -40,6 +40,8 @@ pub fn answered<L: Origin + Send + Sync, R: Threads + Wait + Sync>(
     add_number(cells, first.ok_or(AllocError)?);
     cells.add(" bytes, the second ");
     add_number(cells, second.ok_or(AllocError)?);
+    cells.add("; the numbers that the gate was told add up to ");
+    add_number(cells, site.gate.told());
     cells.add("; ");
     let mut seat = one;
     calls::join(&mut seat, two);

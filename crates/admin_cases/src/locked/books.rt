@@ -61,6 +61,14 @@ pub fn request(alloc: Global) -> Result<Snapshot, AllocError> {
     request.ok().ok_or(AllocError)
 }
 
+/// Whether the receipt is of a request that a mapping answers.
+pub fn is_stubbed(receipt: &Receipt) -> bool {
+    match receipt.event.event() {
+        Event::Serve { answer, .. } => matches!(answer, ServeAnswer::Stub(_)),
+        _ => false,
+    }
+}
+
 /// What a receipt's event is, in a word: of a request, the version that it is answered with.
 pub fn word_of(receipt: &Receipt) -> &str {
     match receipt.event.event() {

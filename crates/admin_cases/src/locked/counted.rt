@@ -2,8 +2,9 @@
 ghost use Rattle.std.specs.Prelude.{◌≤◌};
 
 use crate::locked::calls;
-use crate::locked::message_threads::{Task, book_of, both_answer, site_of};
-use crate::locked::words::{add_number, add_outcome};
+use crate::locked::message_threads::{Task, book_of, both_answer, length_of, site_of};
+use crate::locked::messages::Asked;
+use crate::locked::words::{add_counts, add_number, add_refusal, add_told};
 use crate::octets::add_octets;
 use crate::server::reply_to;
 use case_table::cells::Cells;
@@ -15,7 +16,8 @@ use std::alloc::{AllocError, Global};
 use std::sync::Wait;
 use std::thread::Threads;
 
-/// Each thread answers 500 requests and 10 edits. Then an admin call counts the requests, and 1,020 events are settled.
+/// Each thread answers 500 requests, one that no mapping answers, and 10 edits. Then a third seat edits once more and
+/// counts the requests by an admin call, each seat takes over the next, and 1,023 events are settled.
 pub fn counted<L: Origin + Send + Sync, R: Threads + Wait + Sync>(
     rt: &R,
     alloc: Global,
@@ -23,10 +25,11 @@ pub fn counted<L: Origin + Send + Sync, R: Threads + Wait + Sync>(
     shared: SharedBook<L>,
     seat: Seat<L>,
 ) -> Result<(), AllocError>
-    requires { 2 ≤ seat.parts }
+    requires { 3 ≤ seat.parts }
 {
     let mut one = seat;
     let two = one.split();
+    let three = one.split();
     let site = site_of(shared);
     let ((one, first), (two, second)) = both_answer(
         rt,
@@ -41,11 +44,35 @@ pub fn counted<L: Origin + Send + Sync, R: Threads + Wait + Sync>(
     cells.add("gate called ");
     add_number(cells, site.gate.count());
     cells.add(" times, the first held until the second; ");
-    let mut seat = one;
+    let mut seat = three;
+    length_of(rt, alloc, &site, &mut seat, Asked::Edit).ok_or(AllocError)?;
     add_count(rt, alloc, cells, &site.book, &mut seat)?;
-    calls::join(&mut seat, two);
-    let seats = calls::list(alloc, seat)?;
-    add_outcome(cells, &calls::settled(rt, alloc, book_of(site)?, seats));
+    let told = site.gate.told();
+    settle_all(rt, alloc, cells, book_of(site)?, told, [one, two, seat])
+}
+
+// Each seat takes over the next, and the first is settled.
+fn settle_all<L: Origin, R: Wait>(
+    rt: &R,
+    alloc: Global,
+    cells: &mut Cells,
+    shared: SharedBook<L>,
+    told: u64,
+    seats: [Seat<L>; 3],
+) -> Result<(), AllocError> {
+    let [one, two, three] = seats;
+    let mut two = two;
+    calls::join(&mut two, three);
+    let mut one = one;
+    calls::join(&mut one, two);
+    let seats = calls::list(alloc, one)?;
+    match calls::settled(rt, alloc, shared, seats) {
+        Ok(settled) => {
+            add_counts(cells, &settled);
+            add_told(cells, told, &settled);
+        }
+        Err(error) => add_refusal(cells, &error.reason, error.seats.len()),
+    }
     Ok(())
 }
 

@@ -9,6 +9,8 @@ use std::thread;
 #[derive(Drop)]
 pub struct FirstWaits {
     calls: AtomicU64,
+    /// The sum of the numbers that it was told.
+    told: AtomicU64,
     /// Whether a call that was waited for didn't come.
     gave_up: AtomicU64,
 }
@@ -17,6 +19,7 @@ impl FirstWaits {
     pub fn new() -> FirstWaits {
         FirstWaits {
             calls: AtomicU64::new(0),
+            told: AtomicU64::new(0),
             gave_up: AtomicU64::new(0),
         }
     }
@@ -24,6 +27,11 @@ impl FirstWaits {
     /// How often it was called.
     pub fn count(&self) -> u64 {
         self.calls.load(Ordering::SeqCst)
+    }
+
+    /// What the numbers add up to that it was told.
+    pub fn told(&self) -> u64 {
+        self.told.load(Ordering::SeqCst)
     }
 
     /// Waits until it was called this often.
@@ -47,7 +55,8 @@ impl FirstWaits {
 }
 
 impl Gate for FirstWaits {
-    fn between_choice_and_render(&self, _number: u64) {
+    fn between_choice_and_render(&self, number: u64) {
+        self.told.fetch_add(number, Ordering::SeqCst);
         if self.calls.fetch_add(1, Ordering::SeqCst) == 0 {
             self.wait_for(2);
         }

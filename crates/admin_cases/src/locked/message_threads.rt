@@ -1,7 +1,7 @@
 //! Two threads that answer messages of one site, each by a seat of its own.
 
 use crate::locked::first_waits::FirstWaits;
-use crate::locked::messages::{Asked, message};
+use crate::locked::messages::{Asked, message, status_of};
 use answering::answer::answer;
 use answering::site::Site;
 use bytes::Bytes;
@@ -26,7 +26,7 @@ pub enum Task {
     Get,
     /// Once the gate was called, an edit and `GET /a`.
     EditAndGet,
-    /// `GET /a` 500 times, and 10 edits.
+    /// `GET /none`, `GET /a` 500 times, and 10 edits.
     Many,
 }
 
@@ -52,7 +52,7 @@ pub fn book_of<L: Origin>(site: Site<L, FirstWaits>) -> Result<SharedBook<L>, Al
     Ok(book)
 }
 
-/// The seats, and how long the last answer of each thread is, if all have the status 200.
+/// The seats, and how long the last answer of each thread is, if all have the status that they are to have.
 pub fn both_answer<L: Origin + Send + Sync, R: Threads + Wait + Sync>(
     rt: &R,
     alloc: Global,
@@ -106,7 +106,7 @@ fn many<L: Origin, R: Wait>(
     site: &Site<L, FirstWaits>,
     seat: &mut Seat<L>,
 ) -> Option<u64> {
-    let mut last = None;
+    let mut last = Some(length_of(rt, alloc, site, seat, Asked::Missing)?);
     for index in 0..500u32 {
         if index % 50 == 0 {
             length_of(rt, alloc, site, seat, Asked::Edit)?;
@@ -116,8 +116,8 @@ fn many<L: Origin, R: Wait>(
     last
 }
 
-// How long the answer is, if its status is 200.
-fn length_of<L: Origin, R: Wait>(
+/// How long the answer is, if its status is the one that is wanted.
+pub fn length_of<L: Origin, R: Wait>(
     rt: &R,
     alloc: Global,
     site: &Site<L, FirstWaits>,
@@ -126,11 +126,11 @@ fn length_of<L: Origin, R: Wait>(
 ) -> Option<u64> {
     let message = message(alloc, asked).ok()?;
     let response = answer(rt, alloc, site, seat, &message).ok()?;
-    length_of_ok(&response)
+    length_with(&response, status_of(asked))
 }
 
-fn length_of_ok(response: &Response<Full<Bytes>>) -> Option<u64> {
-    if response.status().as_u16() != 200 {
+fn length_with(response: &Response<Full<Bytes>>, status: u16) -> Option<u64> {
+    if response.status().as_u16() != status {
         return None;
     }
     response.body().size_hint().exact()

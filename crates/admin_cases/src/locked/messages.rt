@@ -14,20 +14,23 @@ const SECOND: &str =
 pub enum Asked {
     /// `GET /a`.
     Get,
+    /// `GET /none`, which no mapping answers.
+    Missing,
     /// An admin call that makes the default mapping one of version `version 2`.
     Edit,
 }
 
 pub fn message(alloc: Global, asked: Asked) -> Result<Request<Bytes>, AllocError> {
     match asked {
-        Asked::Get => get(alloc),
+        Asked::Get => get(alloc, "/a"),
+        Asked::Missing => get(alloc, "/none"),
         Asked::Edit => edit(alloc),
     }
 }
 
-fn get(alloc: Global) -> Result<Request<Bytes>, AllocError> {
+fn get(alloc: Global, path: &str) -> Result<Request<Bytes>, AllocError> {
     let mut message = Request::new(alloc, Bytes::new());
-    *message.uri_mut() = uri_of(String::from_str(alloc, "/a")?)?;
+    *message.uri_mut() = uri_of(String::from_str(alloc, path)?)?;
     Ok(message)
 }
 
@@ -36,6 +39,14 @@ fn edit(alloc: Global) -> Result<Request<Bytes>, AllocError> {
     *message.uri_mut() = uri_of(default_path(alloc)?)?;
     *message.method_mut() = Method::PUT;
     Ok(message)
+}
+
+/// The status of its answer.
+pub fn status_of(asked: Asked) -> u16 {
+    match asked {
+        Asked::Missing => 404,
+        Asked::Get | Asked::Edit => 200,
+    }
 }
 
 // The path of the default mapping.

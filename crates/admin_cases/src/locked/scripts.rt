@@ -4,7 +4,7 @@ ghost use Rattle.std.specs.Prelude.{◌≤◌};
 use crate::locked::books;
 use crate::locked::books::Change;
 use crate::locked::first_waits::FirstWaits;
-use crate::locked::words::{add_counts, add_number};
+use crate::locked::words::{add_counts, add_number, add_told};
 use case_table::cells::Cells;
 use shared_book::origin::Origin;
 use shared_book::script::{Call, Script, run_scripts};
@@ -43,6 +43,7 @@ fn add_played(cells: &mut Cells, gate: &FirstWaits, settled: &Settled) -> Result
     add_number(cells, gate.count());
     cells.add(" times, the first held until the second; ");
     add_counts(cells, settled);
+    add_told(cells, gate.told(), settled);
     gate.held()
 }
 

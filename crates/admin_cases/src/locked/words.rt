@@ -1,6 +1,6 @@
 //! What is shown, in words.
 
-use crate::locked::books::word_of;
+use crate::locked::books::{is_stubbed, word_of};
 use crate::locked::calls;
 use crate::locked::calls::Asked;
 use case_table::cells::Cells;
@@ -64,6 +64,26 @@ pub fn add_counts(cells: &mut Cells, settled: &Settled) {
     cells.add(" events, ");
     add_number(cells, settled.receipts.len() as u64);
     cells.add(" receipts");
+}
+
+/// Whether the numbers that a gate was told add up to those of the requests that a mapping answers.
+pub fn add_told(cells: &mut Cells, told: u64, settled: &Settled) {
+    cells.add(if told == stubbed(settled) {
+        "; the gate was told their numbers"
+    } else {
+        "; the gate was told other numbers"
+    });
+}
+
+// What the numbers of the requests add up to that a mapping answers.
+fn stubbed(settled: &Settled) -> u64 {
+    let mut sum: u64 = 0;
+    for receipt in settled.receipts.as_slice() {
+        if is_stubbed(receipt) {
+            sum = sum.wrapping_add(receipt.number);
+        }
+    }
+    sum
 }
 
 /// Why seats aren't settled, and how many of them came back.
