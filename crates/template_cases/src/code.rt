@@ -2,6 +2,7 @@
 //! and texts and paths, with a `|` between two. The steps of a path have a dot between two: a number is an index, a name
 //! may stand between apostrophes, and `this` is a path without steps.
 
+use crate::numbers::{index, number};
 use crate::programs::request;
 use crate::requests::request_with_body;
 use crate::templates::{add_path, add_text};
@@ -127,13 +128,13 @@ fn read_instr(name: &[u8], operand: &str) -> Option<Instr> {
         [b'T', b'r', ..] => Some(Instr::Truth(operand == "true")),
         [b'T', _, b's', ..] => Some(Instr::Test),
         [b'I', b't', ..] => item(operand),
-        _ => with_index(name, operand.parse::<usize>().ok()?),
+        _ => with_index(name, index(operand)?),
     }
 }
 
 fn item(operands: &str) -> Option<Instr> {
     let (depth, path) = operands.split_once(' ')?;
-    Some(Instr::Item(depth.parse::<usize>().ok()?, path.parse::<usize>().ok()?))
+    Some(Instr::Item(index(depth)?, index(path)?))
 }
 
 fn with_index(name: &[u8], index: usize) -> Option<Instr> {
@@ -180,8 +181,8 @@ fn read_path(alloc: Global, text: &str) -> Result<Path, AllocError> {
 }
 
 fn read_step(alloc: Global, word: &str) -> Result<Step, AllocError> {
-    if let Ok(index) = word.parse::<u32>() {
-        return Ok(Step::Index(index));
+    if let Some(index) = number(word) {
+        return Ok(Step::Index(u32::try_from(index).unwrap_or(u32::MAX)));
     }
     let name = word.trim_matches('\'');
     Ok(Step::Name(PlainText::new(String::from_str(alloc, name)?)))

@@ -1,5 +1,6 @@
 //! The codes of errors.
 
+use crate::numbers;
 use error_code::error_code::ErrorCode;
 use std::alloc::{AllocError, Global};
 
@@ -37,9 +38,9 @@ const CODES: [ErrorCode; 29] = [
 
 /// The title and the HTTP status of the code with this number; 0 where no answer reports it.
 pub fn code(alloc: Global, number: &str) -> Result<String, AllocError> {
-    let number = number.parse::<u16>().unwrap_or(0);
+    let number = numbers::number(number).unwrap_or(0);
     for code in CODES {
-        if code.number() == number {
+        if u64::from(code.number()) == number {
             let title = code.title();
             return match code.status() {
                 Some(status) => format!(in alloc; "\t{title}\t{status}"),

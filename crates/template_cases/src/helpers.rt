@@ -1,24 +1,22 @@
 //! Helpers: what they take, and what they give.
 
-use case_table::row::add_cell;
+use crate::values::{cell_of, value};
 use data_tree::data::Data;
 use helper_set::apply::apply;
 use helper_set::helper::Helper;
 use helper_set::kind::Kind;
 use helper_set::signature::{Growth, HelperSignature, Parameter, signature};
 use helper_set::value::{MadeValue, Value};
-use json_bridge::read::data_of_json;
-use json_bridge::write::json_of;
 use std::alloc::{AllocError, Global};
 use std::borrow::CowStr;
 
 /// The JSON text of what the helper makes of the arguments, JSON texts: a text is given as a text, `true` and `false`
-/// to `not` as truths, and all else as data.
+/// to `not` as truths, and all else as data, an object of `fields`, `items` and `text` as a named text.
 pub fn result(alloc: Global, name: &str, first: &str, second: &str) -> Result<String, AllocError> {
     let Some(helper) = Helper::from_name(name) else {
         return Ok(String::new(alloc));
     };
-    match (argument(alloc, first)?, argument(alloc, second)?) {
+    match (value(alloc, first)?, value(alloc, second)?) {
         (Data::Text(first), Data::Text(second)) => {
             of_texts(alloc, helper, first.as_str(), second.as_str())
         }
@@ -27,14 +25,10 @@ pub fn result(alloc: Global, name: &str, first: &str, second: &str) -> Result<St
     }
 }
 
-fn argument(alloc: Global, text: &str) -> Result<Data, AllocError> {
-    Ok(data_of_json(alloc, text)?.unwrap_or(Data::Nothing))
-}
-
 fn of_data(alloc: Global, helper: Helper, data: Data) -> Result<String, AllocError> {
     match (helper, data) {
         (Helper::Not, Data::Truth(truth)) => negated(alloc, truth),
-        (Helper::Size, data) => size(alloc, &with_names(alloc, data)),
+        (Helper::Size, data) => size(alloc, &data),
         _ => Ok(String::new(alloc)),
     }
 }
@@ -84,67 +78,18 @@ fn size(alloc: Global, data: &Data) -> Result<String, AllocError> {
     )
 }
 
-// An object of `fields`, `items` and `text` is a named text.
-fn with_names(alloc: Global, data: Data) -> Data {
-    match data {
-        Data::Fields(members) => object(alloc, members),
-        other => other,
-    }
-}
-
-// The object of these members, or the named text: in byte order the text is the last of its three members.
-fn object(alloc: Global, mut members: Vec<(String, Data)>) -> Data {
-    if members.len() != 3 || members[2].0.as_str() != "text" {
-        return Data::Fields(members);
-    }
-    let text = text_of(alloc, members.pop());
-    let items = items_of(alloc, members.pop());
-    let fields = fields_of(alloc, members.pop());
-    Data::Named {
-        text,
-        items,
-        fields,
-    }
-}
-
-fn text_of(alloc: Global, member: Option<(String, Data)>) -> String {
-    match value_of(member) {
-        Data::Text(text) => text,
-        _ => String::new(alloc),
-    }
-}
-
-fn items_of(alloc: Global, member: Option<(String, Data)>) -> Vec<Data> {
-    match value_of(member) {
-        Data::List(items) => items,
-        _ => Vec::new(alloc),
-    }
-}
-
-fn fields_of(alloc: Global, member: Option<(String, Data)>) -> Vec<(String, Data)> {
-    match value_of(member) {
-        Data::Fields(fields) => fields,
-        _ => Vec::new(alloc),
-    }
-}
-
-fn value_of(member: Option<(String, Data)>) -> Data {
-    match member {
-        Some((_name, value)) => value,
-        None => Data::Nothing,
-    }
-}
-
 fn cell(alloc: Global, made: MadeValue<'_>) -> Result<String, AllocError> {
-    let data = match made {
-        MadeValue::Text(CowStr::Owned(text)) => Data::Text(text),
-        MadeValue::Text(CowStr::Borrowed(text)) => Data::Text(String::from_str(alloc, text)?),
-        MadeValue::Number(number) => Data::Number(i128::from(number)),
-        MadeValue::Truth(truth) => Data::Truth(truth),
-    };
-    let mut cells = String::new(alloc);
-    add_cell(&mut cells, json_of(alloc, &data)?.as_str())?;
-    Ok(cells)
+    let data = data_of(alloc, made)?;
+    cell_of(alloc, Some(&data))
+}
+
+fn data_of(alloc: Global, made: MadeValue<'_>) -> Result<Data, AllocError> {
+    match made {
+        MadeValue::Text(CowStr::Owned(text)) => Ok(Data::Text(text)),
+        MadeValue::Text(CowStr::Borrowed(text)) => Ok(Data::Text(String::from_str(alloc, text)?)),
+        MadeValue::Number(number) => Ok(Data::Number(i128::from(number))),
+        MadeValue::Truth(truth) => Ok(Data::Truth(truth)),
+    }
 }
 
 /// What the helper accepts as its first and its second argument, the kind that it gives, and how its result grows.

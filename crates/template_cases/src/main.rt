@@ -5,12 +5,12 @@ mod code;
 mod error_codes;
 mod helpers;
 mod json;
+mod numbers;
 mod programs;
 mod requests;
 mod table;
 mod templates;
 mod values;
-mod well_formed;
 mod writer;
 mod writes;
 

@@ -1,7 +1,10 @@
 //! Programs.
 
+use crate::numbers::number;
 use crate::requests::request_with_body;
+use case_table::cells::Cells;
 use case_table::row::Row;
+use code_verifier::budget::Budget;
 use data_tree::request_data::RequestData;
 use mock_request::snapshot::Snapshot;
 use request_data::tree::request_data;
@@ -29,10 +32,27 @@ pub fn escaped(alloc: Global, row: &Row) -> Result<String, AllocError> {
 }
 
 fn run_cells(alloc: Global, program: &Program, data: &RequestData) -> Result<String, AllocError> {
+    let mut cells = Cells::new(alloc);
+    cells.add(budgets(alloc, program.budget())?.as_str());
+    let (steps, text) = rendered(alloc, program, data)?;
+    cells.add_cell(format!(in alloc; "{steps}")?.as_str());
+    cells.add_cell(text.as_str());
+    cells.finish()
+}
+
+fn budgets(alloc: Global, budget: &Budget) -> Result<String, AllocError> {
+    let (steps, bytes) = (budget.steps(), budget.bytes());
+    format!(in alloc; "\t{steps:?}\t{bytes:?}")
+}
+
+// The steps and the text of a rendering.
+fn rendered(
+    alloc: Global,
+    program: &Program,
+    data: &RequestData,
+) -> Result<(u128, String), AllocError> {
     let rendered = render(alloc, program, data)?;
-    let (steps, text) = (rendered.steps, rendered.text.as_str());
-    let (step_budget, byte_budget) = (program.budget().steps(), program.budget().bytes());
-    format!(in alloc; "\t{step_budget:?}\t{byte_budget:?}\t{steps}\t{text}")
+    Ok((rendered.steps, rendered.text))
 }
 
 fn refused(alloc: Global, error: ProgramError) -> Result<String, AllocError> {
@@ -51,15 +71,17 @@ fn cells(
     size: &str,
     data: &RequestData,
 ) -> Result<String, AllocError> {
-    let rendered = render(alloc, program, data)?;
-    let (source, text) = (program.source(), rendered.text.as_str());
-    let (steps, bytes) = budget_at(program, size);
-    format!(in alloc; "\t{source}\t{steps}\t{bytes}\t{text}")
+    let (_steps, text) = rendered(alloc, program, data)?;
+    let mut cells = Cells::new(alloc);
+    cells.add_cell(program.source());
+    cells.add(budget_at(alloc, program.budget(), size)?.as_str());
+    cells.add_cell(text.as_str());
+    cells.finish()
 }
 
-fn budget_at(program: &Program, size: &str) -> (u128, u128) {
-    let size = size.parse::<u64>().unwrap_or(0);
-    program.budget().at(size).unwrap_or((0, 0))
+fn budget_at(alloc: Global, budget: &Budget, size: &str) -> Result<String, AllocError> {
+    let (steps, bytes) = budget.at(number(size).unwrap_or(0)).unwrap_or((0, 0));
+    format!(in alloc; "\t{steps}\t{bytes}")
 }
 
 /// The data of a request without headers and body. None in the tables is refused.

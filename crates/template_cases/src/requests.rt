@@ -2,7 +2,8 @@
 //! two, and a body whose characters are its bytes (ISO-8859-1).
 
 use crate::values::{cell_of, measured, path, printed};
-use case_table::row::{Row, add_cell};
+use case_table::cells::Cells;
+use case_table::row::Row;
 use data_tree::data::Data;
 use data_tree::request_data::RequestData;
 use http_header::{HeaderName, HeaderValue};
@@ -27,24 +28,35 @@ fn parts_of_copy(alloc: Global, request: &Snapshot) -> Result<String, AllocError
 }
 
 fn parts(alloc: Global, request: &Snapshot) -> Result<String, AllocError> {
-    let mut cells = String::new(alloc);
-    let query = request.query().unwrap_or("none");
-    for cell in [request.method(), request.url(), request.path(), query] {
-        add_cell(&mut cells, cell)?;
-    }
+    let mut cells = Cells::new(alloc);
+    cells.add_cell(request.method());
+    cells.add_cell(request.url());
+    cells.add_cell(request.path());
+    cells.add_cell(request.query().unwrap_or("none"));
     add_headers(alloc, &mut cells, request)?;
-    add_bytes(alloc, &mut cells, request.body())?;
-    Ok(cells)
+    cells.add_cell(lossy(alloc, request.body())?.as_str());
+    cells.finish()
 }
 
-fn add_headers(alloc: Global, cells: &mut String, request: &Snapshot) -> Result<(), AllocError> {
-    add_cell(cells, "")?;
+fn add_headers(alloc: Global, cells: &mut Cells, request: &Snapshot) -> Result<(), AllocError> {
+    cells.add("\t");
     for index in 0..request.header_count() {
         if let Some((name, value)) = request.header(index) {
-            add_header(alloc, cells, name, value)?;
+            add_pair(cells, name, ": ", lossy(alloc, value)?.as_str());
         }
     }
     Ok(())
+}
+
+fn add_pair(cells: &mut Cells, name: &str, between: &str, value: &str) {
+    cells.add(name);
+    cells.add(between);
+    cells.add(value);
+    cells.add("\n");
+}
+
+fn lossy(alloc: Global, bytes: &[u8]) -> Result<String, AllocError> {
+    String::from_utf8_lossy(alloc, bytes)
 }
 
 /// What matchers see of a request: the names and values of its query, of its cookies and of its headers, a line each,
@@ -57,57 +69,29 @@ pub fn named_values(alloc: Global, row: &Row) -> Result<String, AllocError> {
 }
 
 fn values_of(alloc: Global, values: &RequestValues<'_>) -> Result<String, AllocError> {
-    let mut cells = String::new(alloc);
-    add_cell(&mut cells, values.snapshot().method())?;
-    add_pairs(alloc, &mut cells, values.query())?;
-    add_pairs(alloc, &mut cells, values.cookies())?;
-    add_texts(alloc, &mut cells, values)?;
-    add_cell(&mut cells, values.body_text())?;
-    Ok(cells)
+    let mut cells = Cells::new(alloc);
+    cells.add_cell(values.snapshot().method());
+    add_pairs(&mut cells, values.query());
+    add_pairs(&mut cells, values.cookies());
+    add_texts(&mut cells, values);
+    cells.add_cell(values.body_text());
+    cells.finish()
 }
 
-fn add_pairs(
-    alloc: Global,
-    cells: &mut String,
-    pairs: &[(String, String)],
-) -> Result<(), AllocError> {
-    add_cell(cells, "")?;
+fn add_pairs(cells: &mut Cells, pairs: &[(String, String)]) {
+    cells.add("\t");
     for (name, value) in pairs {
-        add_pair(alloc, cells, name.as_str(), value.as_str())?;
+        add_pair(cells, name.as_str(), "=", value.as_str());
     }
-    Ok(())
 }
 
-fn add_texts(
-    alloc: Global,
-    cells: &mut String,
-    values: &RequestValues<'_>,
-) -> Result<(), AllocError> {
-    add_cell(cells, "")?;
+fn add_texts(cells: &mut Cells, values: &RequestValues<'_>) {
+    cells.add("\t");
     for index in 0..values.header_count() {
         if let Some((name, text)) = values.header(index) {
-            add_pair(alloc, cells, name, text)?;
+            add_pair(cells, name, "=", text);
         }
     }
-    Ok(())
-}
-
-fn add_pair(alloc: Global, cells: &mut String, name: &str, value: &str) -> Result<(), AllocError> {
-    cells.push_str(format!(in alloc; "{name}={value}\n")?.as_str())
-}
-
-fn add_header(
-    alloc: Global,
-    cells: &mut String,
-    name: &str,
-    value: &[u8],
-) -> Result<(), AllocError> {
-    let value = String::from_utf8_lossy(alloc, value)?;
-    cells.push_str(format!(in alloc; "{name}: {value}\n")?.as_str())
-}
-
-fn add_bytes(alloc: Global, cells: &mut String, bytes: &[u8]) -> Result<(), AllocError> {
-    add_cell(cells, String::from_utf8_lossy(alloc, bytes)?.as_str())
 }
 
 fn refused(alloc: Global, error: SnapshotError) -> Result<String, AllocError> {
@@ -127,8 +111,11 @@ pub fn part(alloc: Global, row: &Row) -> Result<String, AllocError> {
 }
 
 fn part_of(alloc: Global, request: &Snapshot, steps: &str) -> Result<String, AllocError> {
+    found(alloc, &data(alloc, request)?, steps)
+}
+
+fn found(alloc: Global, data: &RequestData, steps: &str) -> Result<String, AllocError> {
     let path = path(alloc, steps)?;
-    let data = data(alloc, request)?;
     cell_of(alloc, data.root().at(path.steps()))
 }
 
@@ -141,12 +128,16 @@ pub fn printed_part(alloc: Global, row: &Row) -> Result<String, AllocError> {
 }
 
 fn printed_of(alloc: Global, request: &Snapshot, steps: &str) -> Result<String, AllocError> {
+    printed_cell(alloc, &data(alloc, request)?, steps)
+}
+
+fn printed_cell(alloc: Global, data: &RequestData, steps: &str) -> Result<String, AllocError> {
     let path = path(alloc, steps)?;
-    let data = data(alloc, request)?;
-    let mut cells = String::new(alloc);
-    let found = data.root().at(path.steps()).unwrap_or(&Data::Nothing);
-    add_cell(&mut cells, printed(alloc, found)?.as_str())?;
-    Ok(cells)
+    let text = printed(
+        alloc,
+        data.root().at(path.steps()).unwrap_or(&Data::Nothing),
+    )?;
+    format!(in alloc; "\t{text}")
 }
 
 /// The JSON texts of the path and of its segments in the data of a request, with what a path template binds in it.
@@ -164,15 +155,24 @@ fn plain_request(alloc: Global, target: &str) -> Result<Snapshot, SnapshotError>
 // All templates of the table are well formed.
 fn paths_of(alloc: Global, request: &Snapshot, template: &str) -> Result<String, AllocError> {
     let template = PathTemplate::parse(alloc, template).ok().ok_or(AllocError)?;
-    let data = request_data(alloc, request, Some(&template))
+    path_cells(alloc, &bound_data(alloc, request, &template)?)
+}
+
+fn bound_data(
+    alloc: Global,
+    request: &Snapshot,
+    template: &PathTemplate,
+) -> Result<RequestData, AllocError> {
+    request_data(alloc, request, Some(template))
         .ok()
-        .ok_or(AllocError)?;
-    let mut cells = String::new(alloc);
-    for steps in [r#"["request","path"]"#, r#"["request","pathSegments"]"#] {
-        let path = path(alloc, steps)?;
-        cells.push_str(cell_of(alloc, data.root().at(path.steps()))?.as_str())?;
-    }
-    Ok(cells)
+        .ok_or(AllocError)
+}
+
+fn path_cells(alloc: Global, data: &RequestData) -> Result<String, AllocError> {
+    let mut cells = Cells::new(alloc);
+    cells.add(found(alloc, data, r#"["request","path"]"#)?.as_str());
+    cells.add(found(alloc, data, r#"["request","pathSegments"]"#)?.as_str());
+    cells.finish()
 }
 
 // None of the requests' data is over the limit.

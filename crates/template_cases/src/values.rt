@@ -1,8 +1,12 @@
 //! What a value prints, its size, its items, and what steps find in it. A value is written as its JSON text, where an
 //! object of `fields`, `items` and `text` is a named text; steps are a list of names and indices.
 
-use crate::well_formed::is_well_formed;
-use case_table::row::add_cell;
+ghost use Rattle.std.specs.Prelude.{IfOk};
+ghost use Rattle.data_tree.specs.Tree.{view};
+ghost use Rattle.data_tree.specs.WellFormed.{IsWellFormed};
+
+use crate::numbers;
+use case_table::cells::Cells;
 use data_tree::data::Data;
 use data_tree::plain_text::PlainText;
 use data_tree::request_data::{DataError, RequestData};
@@ -13,53 +17,104 @@ use std::alloc::{AllocError, Global};
 
 /// What the value prints, alone and in a list, its size, whether it counts as true, and how many items it has.
 pub fn described(alloc: Global, text: &str) -> Result<String, AllocError> {
-    let mut cells = String::new(alloc);
-    add_printed(alloc, &mut cells, value(alloc, text)?)?;
-    add_printed(alloc, &mut cells, list(alloc, text)?)?;
-    add_measures(alloc, &mut cells, value(alloc, text)?)?;
-    Ok(cells)
-}
-
-fn add_printed(alloc: Global, cells: &mut String, value: Data) -> Result<(), AllocError> {
-    add_cell(cells, printed(alloc, &value)?.as_str())
+    let mut cells = Cells::new(alloc);
+    cells.add_cell(printed(alloc, &value(alloc, text)?)?.as_str());
+    cells.add_cell(printed(alloc, &list(alloc, text)?)?.as_str());
+    cells.add(measures(alloc, &value(alloc, text)?)?.as_str());
+    cells.finish()
 }
 
 fn list(alloc: Global, text: &str) -> Result<Data, AllocError> {
     Ok(Data::List(vec![in alloc; value(alloc, text)?]?))
 }
 
-fn add_measures(alloc: Global, cells: &mut String, value: Data) -> Result<(), AllocError> {
+fn measures(alloc: Global, value: &Data) -> Result<String, AllocError> {
     let (size, truth, items) = (value.size(), value.is_true(), value.items_len());
-    cells.push_str(format!(in alloc; "\t{size}\t{truth}\t{items}")?.as_str())
+    format!(in alloc; "\t{size}\t{truth}\t{items}")
 }
 
 /// The JSON text of what the steps find.
 pub fn found(alloc: Global, text: &str, steps: &str) -> Result<String, AllocError> {
-    let value = value(alloc, text)?;
+    let value = formed(alloc, text)?;
     let path = path(alloc, steps)?;
-    if !is_well_formed(&value) {
-        return format!(in alloc; "\tnot well formed");
-    }
     cell_of(alloc, value.at(path.steps()))
+}
+
+// The value, which keeps the rules of `Data`, as a look-up requires. Only the whole of it may be a named text.
+fn formed(alloc: Global, text: &str) -> Result<Data, AllocError>
+    ensures { IfOk result (λ value. IsWellFormed (view value)) }
+{
+    let plain = read(alloc, text)?;
+    match parts_of_named(&plain) {
+        Some((text, items, fields)) => Ok(named(
+            text.clone()?,
+            copied(alloc, items)?,
+            copied(alloc, fields)?,
+        )),
+        None => Ok(plain),
+    }
+}
+
+fn read(alloc: Global, text: &str) -> Result<Data, AllocError>
+    ensures { IfOk result (λ value. IsWellFormed (view value)) }
+{
+    match data_of_json(alloc, text)? {
+        Some(value) => Ok(value),
+        None => Ok(Data::Nothing),
+    }
+}
+
+// The text, the items and the fields of an object of these three members, in byte order.
+fn parts_of_named(value: &Data) -> Option<(&String, &Data, &Data)> {
+    let Data::Fields(members) = value else {
+        return None;
+    };
+    match members.as_slice() {
+        [(_, fields), (_, items), (name, Data::Text(text))] if name.as_str() == "text" => Some((
+            text, items, fields,
+        )),
+        _ => None,
+    }
+}
+
+fn copied(alloc: Global, value: &Data) -> Result<Data, AllocError>
+    ensures { IfOk result (λ copy. IsWellFormed (view copy)) }
+{
+    read(alloc, json_of(alloc, value)?.as_str())
+}
+
+fn named(text: String, items: Data, fields: Data) -> Data
+    requires items { IsWellFormed (view items) }
+    requires fields { IsWellFormed (view fields) }
+    ensures { IsWellFormed (view result) }
+{
+    match (items, fields) {
+        (Data::List(items), Data::Fields(fields)) => Data::Named {
+            text,
+            items,
+            fields,
+        },
+        _ => Data::Nothing,
+    }
 }
 
 /// The key and the JSON text of the item at the index.
 pub fn item(alloc: Global, text: &str, index: &str) -> Result<String, AllocError> {
     let value = value(alloc, text)?;
-    item_of(alloc, &value, index.parse::<usize>().unwrap_or(0))
+    item_of(alloc, &value, numbers::index(index).unwrap_or(0))
 }
 
 fn item_of(alloc: Global, value: &Data, index: usize) -> Result<String, AllocError> {
-    let mut cells = String::new(alloc);
-    add_cell(&mut cells, value.key(index).unwrap_or("none"))?;
-    add_item(alloc, &mut cells, value.item(index))?;
-    Ok(cells)
+    let mut cells = Cells::new(alloc);
+    cells.add_cell(value.key(index).unwrap_or("none"));
+    cells.add_cell(json_or_none(alloc, value.item(index))?.as_str());
+    cells.finish()
 }
 
-fn add_item(alloc: Global, cells: &mut String, item: Option<&Data>) -> Result<(), AllocError> {
+fn json_or_none(alloc: Global, item: Option<&Data>) -> Result<String, AllocError> {
     match item {
-        Some(item) => add_cell(cells, json_of(alloc, item)?.as_str()),
-        None => add_cell(cells, "none"),
+        Some(item) => json_of(alloc, item),
+        None => String::from_str(alloc, "none"),
     }
 }
 
@@ -92,15 +147,14 @@ pub fn printed(alloc: Global, value: &Data) -> Result<String, AllocError> {
 
 /// A cell with the JSON text of what was found.
 pub fn cell_of(alloc: Global, found: Option<&Data>) -> Result<String, AllocError> {
-    let mut cells = String::new(alloc);
-    add_item(alloc, &mut cells, Some(found.unwrap_or(&Data::Nothing)))?;
-    Ok(cells)
+    let json = json_of(alloc, found.unwrap_or(&Data::Nothing))?;
+    format!(in alloc; "\t{json}")
 }
 
 /// The steps of a list of names and indices.
 pub fn path(alloc: Global, steps: &str) -> Result<Path, AllocError> {
     let mut path = Vec::new(alloc);
-    if let Some(Data::List(items)) = data_of_json(alloc, steps)? {
+    if let Data::List(items) = read(alloc, steps)? {
         for item in items {
             path.push(step(item))?;
         }
@@ -112,13 +166,14 @@ pub fn path(alloc: Global, steps: &str) -> Result<Path, AllocError> {
 fn step(item: Data) -> Step {
     match item {
         Data::Text(name) => Step::Name(PlainText::new(name)),
-        Data::Number(index) if 0 <= index && index <= 4_294_967_295 => Step::Index(index as u32),
+        Data::Number(index) => Step::Index(u32::try_from(index).unwrap_or(u32::MAX)),
         _ => Step::Index(u32::MAX),
     }
 }
 
+/// The value of a JSON text. An object of `fields`, `items` and `text` is a named text, on each level.
 pub fn value(alloc: Global, text: &str) -> Result<Data, AllocError> {
-    with_names(alloc, &data_of_json(alloc, text)?.unwrap_or(Data::Nothing))
+    with_names(alloc, &read(alloc, text)?)
 }
 
 // A copy in which each object of `fields`, `items` and `text` is a named text.

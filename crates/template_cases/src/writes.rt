@@ -1,5 +1,6 @@
 //! What reaches a writer that takes little at a time.
 
+use crate::numbers::index;
 use crate::writer::SlowWriter;
 use case_table::row::Row;
 use command_output::output::put;
@@ -7,7 +8,7 @@ use std::alloc::{AllocError, Global};
 
 /// What a writer with room for so many bytes has of the text, and whether that is reported as all of it.
 pub fn written(alloc: Global, row: &Row) -> Result<String, AllocError> {
-    let room = row.cell(1).parse::<usize>().unwrap_or(0);
+    let room = index(row.cell(1)).unwrap_or(0);
     let mut writer = SlowWriter::new(alloc, room)?;
     let word = if is_put(&mut writer, row.cell(0)) {
         "all"
