@@ -7,10 +7,10 @@ ghost use Rattle.value_match.specs.Patterns.{whole_of, FindsIn};
 ghost use Rattle.value_match.specs.Inner.Engine.{IsReadFrom};
 ghost use Rattle.value_match.specs.Inner.Searches.{SearchesFor};
 
+use crate::automaton::parsed;
 use crate::error::ValueError;
 use crate::pattern::Pattern;
 use crate::value_spec::ValueSpec;
-use regex::Regex;
 use std::alloc::{AllocError, Global};
 use std::marker::Model;
 
@@ -86,12 +86,12 @@ impl Drop for ValueMatcher {
 
 /// The pattern of whole values. That it is one by itself is tested too: `a)(b` is none.
 fn pattern_of_whole(alloc: Global, source: &str) -> Result<Box<Pattern>, ValueError>
-    ensures read { IfOk result (λ p. IsReadFrom (whole_of source.now) p.value.compiled) }
+    ensures read { IfOk result (λ p. IsReadFrom (whole_of source.now) p.value.automaton) }
     ensures pattern { OnOk result (IsPatternOfWhole source.now) }
     ensures bad_pattern { IsErrOf result ValueError.BadPattern
         → IsRefused source.now ⊎ IsRefused (whole_of source.now) }
 {
-    let _alone = Regex::new(alloc, source)?;
+    let _alone = parsed(alloc, source)?;
     let mut whole = String::from_str(alloc, r"\A(?:")?;
     whole.push_str(source)?;
     whole.push_str(r")\z")?;
