@@ -1,5 +1,5 @@
 -- What a compiled pattern finds is what its text means.
-use Rattle.std.proofs.Common.{◌≡◌, ℕ, ◌<◌, ◌≤◌, ◌↔◌, Bool, cond, length, true, List, get_or, Option, None, Some, is_some, IsTrue, IsSomeAnd, sym, ap, ◌∙◌}
+use Rattle.std.proofs.Common.{◌≡◌, ℕ, ◌<◌, ◌≤◌, ◌↔◌, cond, length, true, List, get_or, Option, None, Some, is_some, IsTrue, IsSomeAnd, sym, ap, ◌∙◌}
 use Rattle.regex_hir.specs.Find.{find_str}
 use Rattle.regex_hir.specs.Meaning.{meaning}
 use Rattle.regex_hir.specs.Text.{is_boundary}

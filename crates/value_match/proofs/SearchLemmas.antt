@@ -3,14 +3,13 @@ use Rattle.std.proofs.Common.{◌≡◌, ℕ, ◌<◌, ◌≤◌, Bool, true, fa
 use Rattle.std.proofs.Math.Logic.{∥∥₁_elim}
 use Rattle.std.proofs.lemmas.Bool.{cases_lt}
 use Rattle.std.proofs.lemmas.Option.{none-some, same_Some}
-use Rattle.regex_hir.specs.Re.{Re, Trace, Rest, accept, attempt}
+use Rattle.regex_hir.specs.Re.{Re, Trace, Rest, accept}
 use Rattle.regex_hir.specs.Find.{first_between}
 use Rattle.regex_hir.specs.Matches.{Matches}
 use Rattle.regex_hir.specs.Text.{is_boundary}
 use Rattle.regex_hir.proofs.AttemptLemmas.{attempt_sound}
 use Rattle.regex_hir.proofs.OptionLemmas.{option_cases}
 use Rattle.regex_hir.proofs.FindLemmas.{first_between_here, first_between_none, none_of_first_between}
-use Rattle.regex_nfa.specs.Run.{run}
 use Rattle.regex_nfa.specs.declared.nfa.Nfa.{Nfa}
 use Rattle.regex_compile.specs.Implements.{Implements}
 use Rattle.regex_extract.specs.Bounds.{IsAnchored}

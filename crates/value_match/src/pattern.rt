@@ -97,13 +97,7 @@ fn matches_at(
     match forward.find_end(&automaton.dfa, hay, at, hay.len(), true, true) {
         End::At(_) => true,
         End::NoMatch => false,
-        End::Idle(_) | End::GaveUp => pikevm.is_match(
-            &automaton.dfa.nfa,
-            hay,
-            at,
-            at,
-            hay.len(),
-        ),
+        End::Idle(_) | End::GaveUp => pikevm.is_match(&automaton.dfa.nfa, hay, at, at, hay.len()),
     }
 }
 
