@@ -30,9 +30,9 @@ Example, in the folder of this repository:
 ";
 
 const RENDER_HELP: &str =
-    "The request has no headers and no body. Printed are the steps of the run, the bytes of the text,
-each with its budget, and the text. A budget is a list of coefficients, the constant first:
-[6,1] is 6 + n, where n is the size of the request's data.
+    "It prints the steps of the run and the bytes of the text, each with its budget, and then the text.
+A budget is a list of coefficients, the constant first: [6,1] is 6 + n, where n is the size of the
+request's data. The request has no headers and no body.
 
 With --html-escape before TEMPLATE, what {{x}} prints is escaped for HTML; what {{{x}}} prints isn't.
 Where TEMPLATE is `-h`, `--help`, `--html-escape` or `--`, a `--` has to precede it.
@@ -45,7 +45,7 @@ prints
   bytes 9 of [6,1]
   Hello Ann";
 
-const CHECK_HELP: &str = "Printed is a line for each mapping, numbered from 1:
+const CHECK_HELP: &str = "It prints a line for each mapping, numbered from 1:
   1 plain                   it is accepted, and has no templates
   2 steps [5] bytes [11,1]  it is accepted; the budgets of its templates, added up
   3 error 11                it is refused, with the code of its first error
@@ -63,8 +63,8 @@ prints
   2 steps [5] bytes [11,1]";
 
 const ANSWER_HELP: &str =
-    "The request has no headers and no body, and the server has just started. Printed are the status,
-the headers, an empty line and the body.
+    "It prints the reply of a server that has just started: the status, the headers, an empty line and
+the body. The request has no headers and no body.
 
 With --html-escape before MAPPINGS, what {{x}} prints in templates is escaped for HTML.
 Where MAPPINGS is `-h`, `--help`, `--html-escape` or `--`, a `--` has to precede it.
