@@ -19,8 +19,13 @@ use Rattle.value_match.proofs.value_matcher.ValueMatcher.TheSendSync as value_ma
 use Rattle.plain_text.proofs.text.Text.TheSendSync as text
 use Rattle.plain_text.proofs.octets.Octets.TheSendSync as octets
 use Rattle.plain_text.proofs.items.Items.TheSendSync as items
-use Rattle.request_parts.proofs.url_test.UrlTest.TheSendSync as url_test
-use Rattle.request_parts.proofs.named_test.NamedTest.TheSendSync as named_test
+use Rattle.path_template.proofs.path_template.PathTemplate.TheSendSync as path_template
+use Rattle.request_parts.proofs.hashed_text.HashedText.TheSendSync as hashed_text
+use Rattle.request_parts.specs.contracts.url_test.UrlKind as url_kind
+use Rattle.request_parts.specs.contracts.url_test.UrlTest as url_test
+use Rattle.request_parts.specs.contracts.url_test.UrlTest.TheInside as url_test_inside
+use Rattle.request_parts.specs.contracts.named_test.NamedTest as named_test
+use Rattle.request_parts.specs.contracts.named_test.NamedTest.TheInside as named_test_inside
 use Rattle.request_parts.specs.contracts.body_test.BodyKind as body_kind
 use Rattle.request_parts.specs.contracts.body_test.BodyTest as body_test
 use Rattle.request_parts.specs.contracts.body_test.BodyTest.TheInside as body_test_inside
@@ -66,6 +71,23 @@ json_matcher_inside_send = declared_send json_matcher_inside.the_type (json_spec
 json_matcher_send : IsSend json_matcher.the_row
 json_matcher_send = search (json_matcher_inside_send, sendable) depth 60
 
+named_test_inside_send : IsSend named_test_inside.the_row
+named_test_inside_send = declared_send named_test_inside.the_type (text.the_send, (value_matcher.the_send, tt))
+
+named_test_send : IsSend named_test.the_row
+named_test_send = search (named_test_inside_send, sendable) depth 60
+
+url_kind_send : IsSend url_kind.the_row
+url_kind_send =
+    variants_send url_kind.enum
+    (search (crosses, text.the_send, hashed_text.the_send, path_template.the_send, value_matcher.the_send, named_test_send, sendable) depth 60)
+
+url_test_inside_send : IsSend url_test_inside.the_row
+url_test_inside_send = declared_send url_test_inside.the_type (url_kind_send, tt)
+
+url_test_send : IsSend url_test.the_row
+url_test_send = search (url_test_inside_send, sendable) depth 60
+
 body_kind_send : IsSend body_kind.the_row
 body_kind_send =
     variants_send body_kind.enum
@@ -80,7 +102,7 @@ body_test_send = search (body_test_inside_send, sendable) depth 60
 request_matcher_inside_send : IsSend request_matcher_inside.the_row
 request_matcher_inside_send =
     declared_send request_matcher_inside.the_type
-    (search (crosses, text.the_send, url_test.the_send, named_test.the_send, body_test_send, sendable) depth 60)
+    (search (crosses, text.the_send, url_test_send, named_test_send, body_test_send, sendable) depth 60)
 
 pub request_matcher_send : IsSend request_matcher.the_row
 request_matcher_send = search (request_matcher_inside_send, sendable) depth 60
