@@ -103,7 +103,7 @@ fn fields_of(alloc: Global, value: &Value) -> Result<Reading<MappingDraft>, Allo
 }
 
 #[tactic(auto, unfolding(crate::specs::Reading::names_in))]
-pub(crate) fn names_in(
+fn names_in(
     alloc: Global,
     value: &Value,
 ) -> Result<Reading<(Option<MappingId>, Option<Text>)>, AllocError>
@@ -113,7 +113,7 @@ pub(crate) fn names_in(
 }
 
 #[tactic(auto, unfolding(crate::specs::Reading::place_in))]
-pub(crate) fn place_in(
+fn place_in(
     alloc: Global,
     value: &Value,
 ) -> Result<Reading<(Option<i32>, Option<ScenarioSpec>)>, AllocError>
@@ -141,7 +141,7 @@ fn id_in(value: &Value) -> Reading<Option<MappingId>>
     }
 }
 
-fn id_field(value: &Value) -> Option<&Value>
+pub(crate) fn id_field(value: &Value) -> Option<&Value>
     ensures { option_map (λ v. view v.now) result ≡ id_field (view value.now) }
 {
     match value.get("id") {
@@ -150,7 +150,7 @@ fn id_field(value: &Value) -> Option<&Value>
     }
 }
 
-fn id_of(value: &Value) -> Reading<MappingId>
+pub(crate) fn id_of(value: &Value) -> Reading<MappingId>
     ensures { result ≡ id_of (view value.now) }
 {
     taken(value, uuid_of(value))
@@ -198,7 +198,7 @@ fn priority_in(value: &Value) -> Reading<Option<i32>>
     }
 }
 
-fn priority_of(value: &Value) -> Reading<i32>
+pub(crate) fn priority_of(value: &Value) -> Reading<i32>
     ensures { result ≡ priority_of (view value.now) }
 {
     taken(value, priority_number(value.as_i64()))
@@ -255,7 +255,7 @@ fn request_in(alloc: Global, value: &Value) -> Result<Reading<RequestSpec>, Allo
     }
 }
 
-fn response_in(alloc: Global, value: &Value) -> Result<Reading<ResponseDraft>, AllocError>
+pub(crate) fn response_in(alloc: Global, value: &Value) -> Result<Reading<ResponseDraft>, AllocError>
     ensures { IfOk result (λ response. response ≡ response_in (view value.now)) }
 {
     match value.get("response") {
