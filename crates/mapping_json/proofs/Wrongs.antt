@@ -1,6 +1,7 @@
 -- In which way a value is wrong, and what it spells where it isn't.
 use Rattle.std.proofs.Common.{◌≡◌, ℕ, List, Bool, true, false, Option, Some, None, codes, refl, sym, ap, ap₂, subst, ◌∙◌}
 use Rattle.std.proofs.Common.{if◌then◌else◌, is_some, All}
+use Rattle.std.proofs.lemmas.List.Elements.{All-nil}
 use Rattle.std.proofs.lemmas.Option.{none-some}
 use Rattle.json_reading.proofs.Lists.{first_assoc}
 use Rattle.json_reading.specs.Fields.{optional}
@@ -278,7 +279,13 @@ not_built escape d request response error e with_parts f =
 
 -- a matcher of each request can be built
 pub any_built : CanBeBuilt any_request
-any_built = record { template = tt; head = tt; patterns = tt; trees = tt; paths = tt }
+any_built = record {
+  template = tt;
+  head = All-nil _;
+  patterns = All-nil _;
+  trees = All-nil _;
+  paths = All-nil _;
+}
 
 pub no_request : (d : Data) (response : Reading ResponseDraft) → get (codes "request") d ≡ None → response ≡ response_in d
     → both (Read any_request) response ≡ parts_in d
