@@ -8,8 +8,9 @@ ghost use Rattle.serde_json.specs.Find.{as_object, get};
 ghost use Rattle.serde_json.specs.View.{view};
 
 use crate::error::MappingError;
-use crate::read_value::{id_field, id_of, is_empty_list, parts_in, priority_of, response_in};
-use crate::read_value::unsupported_kind;
+use crate::read_value::{
+    id_field, id_of, is_empty_list, parts_in, priority_of, response_in, unsupported_kind,
+};
 use json_reading::kind::Kind;
 use json_reading::numbers::is_taken;
 use json_reading::reading::Reading;

@@ -255,7 +255,10 @@ fn request_in(alloc: Global, value: &Value) -> Result<Reading<RequestSpec>, Allo
     }
 }
 
-pub(crate) fn response_in(alloc: Global, value: &Value) -> Result<Reading<ResponseDraft>, AllocError>
+pub(crate) fn response_in(
+    alloc: Global,
+    value: &Value,
+) -> Result<Reading<ResponseDraft>, AllocError>
     ensures { IfOk result (λ response. response ≡ response_in (view value.now)) }
 {
     match value.get("response") {
