@@ -1,5 +1,5 @@
 -- What a book consists of may go to another thread. The toolchain shows that of a type by itself, unless the type has a
--- recursive one in it (a pattern's tree, a JSON value): these, and what has them, are shown here, each from its parts.
+-- recursive one in it (a JSON value): these, and what has them, are shown here, each from its parts.
 use denote.RattleType.{RattleType}
 use denote.Param.Send.{IsSend, IsSync, sendable}
 use denote.Param.SendFields.{declared_send, declared_sync, variants_send}
@@ -9,32 +9,13 @@ use Rattle.std.proofs.vec.Vec.TheSendSync as vec
 use Rattle.std.proofs.sync.ledger.Book.TheSendSync as entries
 use Rattle.std.specs.declared.sync.ledger.Ledger as ledger
 use Rattle.std.proofs.string.String.TheSendSync as string
-use Rattle.regex_hir.specs.contracts.hir.Hir as hir
-use Rattle.regex_hir.proofs.hir.Hir.TheLaws.TheKnot.{send-Hir}
-use Rattle.regex_dfa.proofs.dfa.Dfa.TheSendSync as dfa
-use Rattle.regex_dfa.proofs.forward.Forward.TheSendSync as forward
-use Rattle.regex_vm.proofs.pikevm.PikeVm.TheSendSync as pikevm
-use Rattle.regex_literal.proofs.byte_set.ByteSet.TheSendSync as byte_set
-use Rattle.regex_literal.proofs.caseless.Caseless.TheSendSync as caseless
-use Rattle.regex_literal.proofs.prefilter.Prefilter.TheSendSync as prefilter
-use Rattle.regex_literal.proofs.ladder.Ladder.TheSendSync as ladder
-use Rattle.regex_extract.proofs.frames.Frame.TheSendSync as frame
-use Rattle.regex_meta.proofs.plan.Role.TheSendSync as role
-use Rattle.regex_meta.specs.contracts.program.Program as program
-use Rattle.regex_meta.specs.contracts.plan.Plans as plans
-use Rattle.regex_meta.specs.contracts.plan.Plan as plan
-use Rattle.regex_meta.specs.contracts.signs.Signs as signs
 use Rattle.data_tree.proofs.data.Data.TheLaws.TheKnot.{send-Data}
 use Rattle.json_match.proofs.json_spec.JsonSpec.TheSendSync as json_spec
 use Rattle.json_bridge.proofs.json_path.JsonPath.TheSendSync as json_path
 use Rattle.json_match.specs.contracts.json_matcher.Test as test
 use Rattle.json_match.specs.contracts.json_matcher.JsonMatcher as json_matcher
 use Rattle.json_match.specs.contracts.json_matcher.JsonMatcher.TheInside as json_matcher_inside
-use Rattle.value_match.proofs.value_spec.ValueSpec.TheSendSync as value_spec
-use Rattle.value_match.specs.contracts.compiled.Compiled as compiled
-use Rattle.value_match.specs.contracts.pattern.Pattern as pattern
-use Rattle.value_match.specs.contracts.value_matcher.ValueMatcher as value_matcher
-use Rattle.value_match.specs.contracts.value_matcher.ValueMatcher.TheInside as value_matcher_inside
+use Rattle.value_match.proofs.value_matcher.ValueMatcher.TheSendSync as value_matcher
 use Rattle.plain_text.proofs.text.Text.TheSendSync as text
 use Rattle.plain_text.proofs.octets.Octets.TheSendSync as octets
 use Rattle.plain_text.proofs.items.Items.TheSendSync as items
@@ -79,66 +60,7 @@ use Rattle.shared_book.specs.contracts.shared_book.SharedBook as shared_book
 use Rattle.shared_book.specs.contracts.script.Call as call
 use Rattle.shared_book.specs.contracts.script.Script as script
 
--- ---- patterns
-hir_send : IsSend hir.the_row
-hir_send = search (crosses, send-Hir, sendable) depth 60 fits 20000
-
-plan_send : IsSend plan.the_row
-plan_send =
-    variants_send plan.enum (
-      (
-        role.the_send,
-        (prefilter.the_send, (search (crosses, frame.the_send, sendable) depth 60, (search (hir_send, crosses, sendable) depth 60, tt))),
-      ),
-      ((ladder.the_send, tt), (tt, (tt, (tt, tt)))),
-    )
-
-plans_send : IsSend plans.the_row
-plans_send = declared_send plans.the_type (search (crosses, plan_send, sendable) depth 60)
-
-signs_send : IsSend signs.the_row
-signs_send =
-    declared_send signs.the_type (
-      caseless.the_send,
-      (
-        search (crosses, sendable) depth 60,
-        (search (hir_send, crosses, sendable) depth 60, (search (hir_send, crosses, sendable) depth 60, (search (crosses, sendable) depth 60, tt))),
-      ),
-    )
-
-program_send : IsSend program.the_row
-program_send =
-    declared_send program.the_type (
-      hir_send,
-      (
-        dfa.the_send,
-        (
-          plans_send,
-          (
-            search (signs_send, crosses, sendable) depth 60,
-            (
-              search (byte_set.the_send, crosses, sendable) depth 60,
-              (search sendable depth 60, (search sendable depth 60, (search (crosses, sendable) depth 60, tt))),
-            ),
-          ),
-        ),
-      ),
-    )
-
-compiled_send : IsSend compiled.the_row
-compiled_send = declared_send compiled.the_type (search (program_send, crosses, sendable) depth 60)
-
-pattern_send : IsSend pattern.the_row
-pattern_send = declared_send pattern.the_type (compiled_send, (forward.the_send, (pikevm.the_send, tt)))
-
 -- ---- matchers
-value_matcher_inside_send : IsSend value_matcher_inside.the_row
-value_matcher_inside_send =
-    declared_send value_matcher_inside.the_type (value_spec.the_send, (search (crosses, pattern_send, sendable) depth 60, tt))
-
-value_matcher_send : IsSend value_matcher.the_row
-value_matcher_send = search (value_matcher_inside_send, sendable) depth 60
-
 test_send : IsSend test.the_row
 test_send =
     search (tt, frees, global.the_send, vec.the_send, string.the_send, send-Data, json_path.the_send, sendable) depth 60
@@ -150,7 +72,7 @@ json_matcher_send : IsSend json_matcher.the_row
 json_matcher_send = search (json_matcher_inside_send, sendable) depth 60
 
 named_test_inside_send : IsSend named_test_inside.the_row
-named_test_inside_send = declared_send named_test_inside.the_type (text.the_send, (value_matcher_send, tt))
+named_test_inside_send = declared_send named_test_inside.the_type (text.the_send, (value_matcher.the_send, tt))
 
 named_test_send : IsSend named_test.the_row
 named_test_send = search (named_test_inside_send, sendable) depth 60
@@ -158,7 +80,7 @@ named_test_send = search (named_test_inside_send, sendable) depth 60
 url_kind_send : IsSend url_kind.the_row
 url_kind_send =
     variants_send url_kind.enum
-    (search (crosses, text.the_send, hashed_text.the_send, path_template.the_send, value_matcher_send, named_test_send, sendable) depth 60)
+    (search (crosses, text.the_send, hashed_text.the_send, path_template.the_send, value_matcher.the_send, named_test_send, sendable) depth 60)
 
 url_test_inside_send : IsSend url_test_inside.the_row
 url_test_inside_send = declared_send url_test_inside.the_type (url_kind_send, tt)
@@ -169,7 +91,7 @@ url_test_send = search (url_test_inside_send, sendable) depth 60
 body_kind_send : IsSend body_kind.the_row
 body_kind_send =
     variants_send body_kind.enum
-    (search (crosses, text.the_send, octets.the_send, json_path.the_send, value_matcher_send, json_matcher_send, sendable) depth 60)
+    (search (crosses, text.the_send, octets.the_send, json_path.the_send, value_matcher.the_send, json_matcher_send, sendable) depth 60)
 
 body_test_inside_send : IsSend body_test_inside.the_row
 body_test_inside_send = declared_send body_test_inside.the_type (body_kind_send, tt)

@@ -1,6 +1,7 @@
 pub mod Printed
 pub mod Escapes
 pub mod Loops
+pub mod ItemTurns
 pub mod Calls
 pub mod Formed
 pub mod Running

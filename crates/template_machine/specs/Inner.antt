@@ -5,3 +5,4 @@ pub mod Found
 pub mod Loops
 pub mod Programs
 pub mod Slots
+pub mod Turns

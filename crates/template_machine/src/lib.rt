@@ -12,4 +12,5 @@ mod open_loop;
 pub mod program;
 pub mod run;
 mod slot;
+mod turns;
 mod value;

@@ -36,7 +36,7 @@ impl<'a> OpenLoop<'a> {
     ghost use Rattle.data_tree.specs.WellFormed.{IsWellFormed};
     ghost use Rattle.template_code.specs.Machine.{item_of, has_next};
     ghost use Rattle.template_machine.specs.Inner.Slots.{found_view, loop_view};
-    ghost use Rattle.template_machine.specs.Inner.Loops.{IsSoundLoop, next_turn};
+    ghost use Rattle.template_machine.specs.Inner.Loops.{IsAtItem, IsSoundLoop, next_turn, turns_left};
 
     /// At the first item.
     pub fn new(over: Option<&'a Data>) -> OpenLoop<'a>
@@ -99,15 +99,23 @@ impl<'a> OpenLoop<'a> {
 
     /// Whether another item comes after it.
     pub fn has_next(self) -> bool
-        requires { IsSoundLoop (loop_view self) }
+        requires { IsAtItem (loop_view self) }
         ensures { result ≡ has_next (loop_view self.entry) }
     {
         self.turn + 1 < self.count
     }
 
+    /// The number of turns that aren't done.
+    pub fn turns_left(self) -> usize
+        requires { IsAtItem (loop_view self) }
+        ensures { result ≡ turns_left (loop_view self.entry) }
+    {
+        self.count - self.turn
+    }
+
     /// Goes on to the next item.
     pub fn advance(&mut self)
-        requires { IsSoundLoop (loop_view self.old) }
+        requires { IsAtItem (loop_view self.old) }
         ensures { loop_view self.new ≡ next_turn (loop_view self.old) }
     {
         self.turn += 1;

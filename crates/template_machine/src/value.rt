@@ -1,8 +1,9 @@
 //! The values of the machine's stack that aren't texts. They borrow from the request's data.
-ghost use Rattle.std.specs.Prelude.{◌≡◌};
+ghost use Rattle.std.specs.Prelude.{◌≡◌, ◌++◌, OnOk, string_bytes};
 ghost use Rattle.std.specs.Fmt.{signed_decimal};
 ghost use Rattle.data_tree.specs.Print.{print, is_not_empty};
 ghost use Rattle.data_tree.specs.Tree.{view};
+ghost use Rattle.template_machine.specs.Inner.Slots.{found_view};
 
 use data_tree::data::Data;
 use std::alloc::{AllocError, Global};
@@ -17,7 +18,6 @@ pub enum Value<'a> {
 }
 
 impl<'a> Value<'a> {
-    ghost use Rattle.std.specs.Prelude.{◌++◌, OnOk, string_bytes};
     ghost use Rattle.helper_set.specs.Values.{text_of, truth_of};
     ghost use Rattle.template_machine.specs.Inner.Slots.{value_view};
 
@@ -50,8 +50,7 @@ impl<'a> Value<'a> {
         ensures { OnOk result (string_bytes out.new ≡ string_bytes out.old ++ text_of (value_view self.entry)) }
     {
         match self {
-            Value::Datum(Some(found)) => found.print_into(alloc, out),
-            Value::Datum(None) => Ok(()),
+            Value::Datum(found) => print_datum(alloc, found, out),
             Value::Number(number) => {
                 let mut buffer = itoa::Buffer::new();
                 out.push_str(buffer.format(number))
@@ -59,6 +58,18 @@ impl<'a> Value<'a> {
             Value::Truth(true) => out.push_str("true"),
             Value::Truth(false) => out.push_str("false"),
         }
+    }
+}
+
+/// Appends what a value of the data prints as. A text, as most are, is appended here, without a call.
+#[inline(always)]
+pub fn print_datum(alloc: Global, found: Option<&Data>, out: &mut String) -> Result<(), AllocError>
+    ensures { OnOk result (string_bytes out.new ≡ string_bytes out.old ++ print (found_view found.entry)) }
+{
+    match found {
+        Some(Data::Text(text)) => out.push_str(text.as_str()),
+        Some(found) => found.print_into(alloc, out),
+        None => Ok(()),
     }
 }
 

@@ -3,7 +3,7 @@
 // and `specs/Refusal.antt` (which matchers can be built).
 #![tactic(auto)]
 
-mod compiled;
+mod automaton;
 pub mod error;
 mod pattern;
 pub mod value_matcher;

@@ -1,38 +1,37 @@
 // A pattern with what its searches write to. A `Matcher` of `regex` borrows its `Regex`, so no type can own both: the
 // searches here run on the crates below `regex`, and keep the states of the DFA that they make.
 ghost use Rattle.std.specs.Prelude.{◌≡◌, ◌≤◌, vec_len, length, is_some, IfOk, IfErr};
-ghost use Rattle.regex.specs.Patterns.{find_str};
 ghost use Rattle.regex.specs.Strings.{IsDefaultFailure};
 ghost use Rattle.regex_dfa.specs.Search.{IsForwardFor};
 ghost use Rattle.regex_hir.specs.Text.{is_boundary};
-ghost use Rattle.value_match.specs.Inner.Search.{attempt_in_text};
-ghost use Rattle.value_match.specs.Inner.Engine.{tree_of, IsReadFrom};
+ghost use Rattle.value_match.specs.Inner.Search.{run_in_text, found_in};
+ghost use Rattle.value_match.specs.Inner.Engine.{IsReadFrom};
 
-use crate::compiled::Compiled;
+use crate::automaton::Automaton;
 use regex::Error;
 use regex_dfa::{End, Forward};
 use regex_vm::PikeVm;
 use std::alloc::Global;
 
 pub(crate) struct Pattern {
-    pub(crate) compiled: Compiled,
+    pub(crate) automaton: Automaton,
     forward: Forward,
     /// Searches where the DFA gives up.
     pikevm: PikeVm,
-    ghost runs: { IsForwardFor forward compiled.program.dfa },
-    ghost states: { pikevm.states ≡ vec_len compiled.program.dfa.nfa.states },
+    ghost runs: { IsForwardFor forward automaton.dfa },
+    ghost states: { pikevm.states ≡ vec_len automaton.dfa.nfa.states },
 }
 
 impl Pattern {
     pub(crate) fn new(alloc: Global, source: &str) -> Result<Pattern, Error>
-        ensures read { IfOk result (λ p. IsReadFrom source.now p.compiled) }
+        ensures read { IfOk result (λ p. IsReadFrom source.now p.automaton) }
         ensures refused { IfErr result (IsDefaultFailure source.now) }
     {
-        let compiled = Compiled::new(alloc, source)?;
-        let forward = Forward::new(alloc, &compiled.program.dfa, false)?;
-        let pikevm = PikeVm::new(alloc, &compiled.program.dfa.nfa)?;
+        let automaton = Automaton::new(alloc, source)?;
+        let forward = Forward::new(alloc, &automaton.dfa, false)?;
+        let pikevm = PikeVm::new(alloc, &automaton.dfa.nfa)?;
         Ok(Pattern {
-            compiled,
+            automaton,
             forward,
             pikevm,
         })
@@ -40,10 +39,10 @@ impl Pattern {
 
     /// Whether it has a match in the text. Where there is no memory for the DFA, the NFA is searched.
     pub(crate) fn is_match(&mut self, text: &str) -> bool
-        ensures found { result ≡ is_some (find_str (tree_of self.old.compiled) text.now 0) }
-        ensures same { self.new.compiled ≡ self.old.compiled }
+        ensures found { result ≡ is_some (found_in self.old.automaton.dfa.nfa text.now) }
+        ensures same { self.new.automaton ≡ self.old.automaton }
     {
-        search(&self.compiled, &mut self.forward, &mut self.pikevm, text)
+        search(&self.automaton, &mut self.forward, &mut self.pikevm, text)
     }
 }
 
@@ -51,26 +50,26 @@ impl Pattern {
 impl Drop for Pattern {
     fn drop(self) {
         let Pattern {
-            compiled: _compiled,
+            automaton: _automaton,
             forward: _forward,
             pikevm: _pikevm,
         } = self;
     }
 }
 
-fn search(compiled: &Compiled, forward: &mut Forward, pikevm: &mut PikeVm, text: &str) -> bool
-    requires runs { IsForwardFor forward.old compiled.now.program.dfa }
-    requires states { pikevm.old.states ≡ vec_len compiled.now.program.dfa.nfa.states }
-    ensures found { result ≡ is_some (find_str (tree_of compiled.now) text.now 0) }
-    ensures runs { IsForwardFor forward.new compiled.now.program.dfa }
+fn search(automaton: &Automaton, forward: &mut Forward, pikevm: &mut PikeVm, text: &str) -> bool
+    requires runs { IsForwardFor forward.old automaton.now.dfa }
+    requires states { pikevm.old.states ≡ vec_len automaton.now.dfa.nfa.states }
+    ensures found { result ≡ is_some (found_in automaton.now.dfa.nfa text.now) }
+    ensures runs { IsForwardFor forward.new automaton.now.dfa }
     ensures states { pikevm.new ≡ pikevm.old }
 {
     let hay = text.as_bytes();
     for at in 0..=hay.len() {
-        if matches_at(compiled, forward, pikevm, hay, at) {
+        if matches_at(automaton, forward, pikevm, hay, at) {
             return true;
         }
-        if compiled.anchored {
+        if automaton.anchored {
             return false;
         }
     }
@@ -79,32 +78,26 @@ fn search(compiled: &Compiled, forward: &mut Forward, pikevm: &mut PikeVm, text:
 
 /// Whether a match starts at this byte. None starts inside a character.
 fn matches_at(
-    compiled: &Compiled,
+    automaton: &Automaton,
     forward: &mut Forward,
     pikevm: &mut PikeVm,
     hay: &[u8],
     at: usize,
 ) -> bool
-    requires runs { IsForwardFor forward.old compiled.now.program.dfa }
-    requires states { pikevm.old.states ≡ vec_len compiled.now.program.dfa.nfa.states }
+    requires runs { IsForwardFor forward.old automaton.now.dfa }
+    requires states { pikevm.old.states ≡ vec_len automaton.now.dfa.nfa.states }
     requires within { at ≤ length hay.now }
-    ensures found { result ≡ is_some (attempt_in_text (tree_of compiled.now) hay.now at) }
-    ensures runs { IsForwardFor forward.new compiled.now.program.dfa }
+    ensures found { result ≡ is_some (run_in_text automaton.now.dfa.nfa hay.now at) }
+    ensures runs { IsForwardFor forward.new automaton.now.dfa }
     ensures states { pikevm.new ≡ pikevm.old }
 {
     if !is_cut(hay, at) {
         return false;
     }
-    match forward.find_end(&compiled.program.dfa, hay, at, hay.len(), true, true) {
+    match forward.find_end(&automaton.dfa, hay, at, hay.len(), true, true) {
         End::At(_) => true,
         End::NoMatch => false,
-        End::Idle(_) | End::GaveUp => pikevm.is_match(
-            &compiled.program.dfa.nfa,
-            hay,
-            at,
-            at,
-            hay.len(),
-        ),
+        End::Idle(_) | End::GaveUp => pikevm.is_match(&automaton.dfa.nfa, hay, at, at, hay.len()),
     }
 }
 

@@ -1,16 +1,18 @@
 // Whether values meet a matcher.
-ghost use Rattle.std.specs.Prelude.{◌≡◌, ◌↔◌, ◌⊎◌, ℕ, List, Some, IfOk, OnOk, IsOk, IsTrue, IsErrOf, option_copied};
+ghost use Rattle.std.specs.Prelude.{◌≡◌, ◌↔◌, ◌⊎◌, ℕ, List, Some, IfOk, OnOk, IsOk, IsTrue, IfErr, IsErrOf, option_copied};
+ghost use Rattle.regex.specs.Strings.{IsDefaultFailure};
 ghost use Rattle.std.specs.Str.Iter.{HasSubslice};
 ghost use Rattle.value_match.specs.Matching.{Matches};
 ghost use Rattle.value_match.specs.Refusal.{HasPattern, MayBeRefused, IsPatternOfWhole, IsRefused};
-ghost use Rattle.value_match.specs.Patterns.{whole_of, FindsIn};
+ghost use Rattle.value_match.specs.Patterns.{IsPattern, whole_of, FindsIn};
 ghost use Rattle.value_match.specs.Inner.Engine.{IsReadFrom};
 ghost use Rattle.value_match.specs.Inner.Searches.{SearchesFor};
 
+use crate::automaton::parsed;
 use crate::error::ValueError;
 use crate::pattern::Pattern;
 use crate::value_spec::ValueSpec;
-use regex::Regex;
+use regex::Error;
 use std::alloc::{AllocError, Global};
 use std::marker::Model;
 
@@ -84,19 +86,35 @@ impl Drop for ValueMatcher {
     }
 }
 
-/// The pattern of whole values. That it is one by itself is tested too: `a)(b` is none.
+/// The pattern of whole values, where the text is one by itself too.
 fn pattern_of_whole(alloc: Global, source: &str) -> Result<Box<Pattern>, ValueError>
-    ensures read { IfOk result (λ p. IsReadFrom (whole_of source.now) p.value.compiled) }
+    ensures read { IfOk result (λ p. IsReadFrom (whole_of source.now) p.value.automaton) }
     ensures pattern { OnOk result (IsPatternOfWhole source.now) }
     ensures bad_pattern { IsErrOf result ValueError.BadPattern
         → IsRefused source.now ⊎ IsRefused (whole_of source.now) }
 {
-    let _alone = Regex::new(alloc, source)?;
+    check_alone(alloc, source)?;
+    let pattern = whole_pattern(alloc, source)?;
+    Ok(boxed(alloc, pattern)?)
+}
+
+/// Refuses what is no pattern by itself, as `a)(b`.
+fn check_alone(alloc: Global, source: &str) -> Result<(), Error>
+    ensures pattern { OnOk result (IsPattern source.now) }
+    ensures refused { IfErr result (IsDefaultFailure source.now) }
+{
+    let _read = parsed(alloc, source)?;
+    Ok(())
+}
+
+fn whole_pattern(alloc: Global, source: &str) -> Result<Pattern, Error>
+    ensures read { IfOk result (λ p. IsReadFrom (whole_of source.now) p.automaton) }
+    ensures refused { IfErr result (IsDefaultFailure (whole_of source.now)) }
+{
     let mut whole = String::from_str(alloc, r"\A(?:")?;
     whole.push_str(source)?;
     whole.push_str(r")\z")?;
-    let pattern = Pattern::new(alloc, whole.as_str())?;
-    Ok(boxed(alloc, pattern)?)
+    Pattern::new(alloc, whole.as_str())
 }
 
 fn boxed(alloc: Global, pattern: Pattern) -> Result<Box<Pattern>, AllocError>

@@ -9,7 +9,7 @@ use Rattle.value_match.specs.Refusal.{pattern_of}
 
 -- it keeps a pattern that is read from this text
 abbrev pub SearchesFor : List ℕ → Option (Box Pattern) → Type 0
-SearchesFor source kept = IsSomeAnd kept (λ p. IsReadFrom source p.value.compiled)
+SearchesFor source kept = IsSomeAnd kept (λ p. IsReadFrom source p.value.automaton)
 
 -- it keeps its pattern of whole values, if it has one
 abbrev pub Searches : ValueSpec → Option (Box Pattern) → Type 0

@@ -3,13 +3,4 @@ use Rattle.value_match.proofs.value_matcher.pattern_of_whole.Goals as goal
 
 pub returns-clause-pattern : goal.returns-clause-pattern
 returns-clause-pattern c =
-    let alone = c.in_ok-_alone.ensures in
-    let given = rw (alone.source, alone.config) at alone.read in
-    let whole = rw (
-      c.as_str.ensures.value,
-      c.in_ok-push_str-2.ensures.bytes,
-      c.in_ok-push_str.ensures.bytes,
-      c.in_ok-whole.ensures.ok,
-    )
-    at c.in_ok-pattern.ensures.read in
-    (pattern_of_read _ _ _ given, pattern_of_read _ _ _ whole.1)
+    (c.in_ok-check_alone.ensures.pattern, pattern_of_read _ _ _ c.in_ok-pattern.ensures.read.2)
