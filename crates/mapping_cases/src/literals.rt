@@ -1,9 +1,9 @@
 //! The literal URLs of request matchers, which documents give.
 
-use crate::mappings::code_cell;
-use crate::requests::read;
+use crate::answers::refused;
 use case_table::row::add_cell;
 use request_document::error::RequestDocumentError;
+use request_document::read_request::read_request;
 use request_match::literal::{Literal, LiteralKind};
 use request_match::request_matcher::RequestMatcher;
 use std::alloc::{AllocError, Global};
@@ -13,12 +13,12 @@ use std::alloc::{AllocError, Global};
 pub fn answer(alloc: Global, document: &str) -> Result<String, AllocError> {
     match answer_of(alloc, document) {
         Ok(cells) => Ok(cells),
-        Err(error) => code_cell(alloc, error.error_code()),
+        Err(error) => refused(alloc, error.error_code()),
     }
 }
 
 fn answer_of(alloc: Global, document: &str) -> Result<String, RequestDocumentError> {
-    let matcher = read(alloc, document)?;
+    let matcher = read_request(alloc, document.as_bytes())?;
     Ok(cells_of(alloc, &matcher)?)
 }
 

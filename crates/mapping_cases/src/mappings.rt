@@ -1,9 +1,7 @@
 //! Single mappings: what is written for the mapping that a document spells, or the code of its error.
 
-use base64::DecodeAllocError;
-use base64::engine::general_purpose::STANDARD;
+use crate::answers;
 use case_table::row::Row;
-use error_code::error_code::ErrorCode;
 use mapping_json::error::MappingError;
 use mapping_json::read::read_mapping;
 use mapping_json::write::write_mapping;
@@ -14,23 +12,6 @@ use std::alloc::{AllocError, Global};
 /// The document.
 pub fn of_text(alloc: Global, row: &Row) -> Result<String, AllocError> {
     answer(alloc, row.cell(0).as_bytes())
-}
-
-/// The document's base64.
-pub fn of_bytes(alloc: Global, row: &Row) -> Result<String, AllocError> {
-    match STANDARD.decode(alloc, row.cell(0).as_bytes()) {
-        Ok(bytes) => answer(alloc, bytes.as_slice()),
-        Err(DecodeAllocError::OutOfMemory) => Err(AllocError),
-        Err(DecodeAllocError::DecodeError(_)) => String::from_str(alloc, "\tno base64"),
-    }
-}
-
-/// The document, of which only the code is compared.
-pub fn code(alloc: Global, row: &Row) -> Result<String, AllocError> {
-    match read(alloc, row.cell(0).as_bytes()) {
-        Ok(_mapping) => String::from_str(alloc, "\ttaken"),
-        Err(error) => refused(alloc, error),
-    }
 }
 
 // In each of the functions below one mapping is dropped at most, at one place.
@@ -47,15 +28,7 @@ pub fn read(alloc: Global, bytes: &[u8]) -> Result<ReadyMapping, MappingError> {
 
 /// The cell of an error.
 pub fn refused(alloc: Global, error: MappingError) -> Result<String, AllocError> {
-    code_cell(alloc, error.error_code())
-}
-
-pub fn code_cell(alloc: Global, code: ErrorCode) -> Result<String, AllocError> {
-    if code == ErrorCode::OutOfMemory {
-        return Err(AllocError);
-    }
-    let number = code.number();
-    format!(in alloc; "\t{number}")
+    answers::refused(alloc, error.error_code())
 }
 
 /// The cell of a mapping: its JSON. It reads back as the same mapping; otherwise a cell more says what differs.
@@ -94,7 +67,7 @@ fn are_same(mapping: &ReadyMapping, again: &ReadyMapping) -> bool {
 }
 
 /// The compact text of its JSON.
-pub fn written(alloc: Global, mapping: &ReadyMapping) -> Result<String, AllocError> {
+fn written(alloc: Global, mapping: &ReadyMapping) -> Result<String, AllocError> {
     write(alloc, mapping)?.to_string(alloc)
 }
 

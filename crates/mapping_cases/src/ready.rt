@@ -1,8 +1,9 @@
-//! Mappings that are ready to be served. A row gives a mapping's document, and then a request as in `requests`.
+//! Mappings that are ready to be served. A row gives a mapping's document, and then a request.
 
+use crate::answers::yes_or_no;
 use crate::literals::cells_of;
 use crate::mappings::{read, refused};
-use crate::requests::{parsed, snapshot, yes_or_no};
+use crate::requests::snapshot;
 use case_table::row::{Row, add_cell};
 use mapping_model::mapping_spec::MappingSpec;
 use mock_request::snapshot::Snapshot;
@@ -42,7 +43,7 @@ fn meets_request(
     mapping: &mut ReadyMapping,
     request: &Snapshot,
 ) -> Result<bool, AllocError> {
-    let mut request = parsed(alloc, request)?;
+    let mut request = ParsedRequest::read(alloc, request)?;
     matches(mapping, &mut request)
 }
 

@@ -181,6 +181,8 @@ fn push_content_line(
     }
 }
 
+// Not inlined: a function clears all its locals when it is entered, and a plain response needs none of these.
+#[inline(never)]
 fn push_budget_line(
     alloc: Global,
     text: &mut String,

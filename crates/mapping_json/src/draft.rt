@@ -1,12 +1,11 @@
 // A mapping whose patterns and templates aren't judged yet.
 ghost use Rattle.std.specs.Prelude.{IfOk, IfErr};
-ghost use Rattle.mapping_json.specs.Spelling.{IsMappingOf, IsResponseOf, IsDraftError};
+ghost use Rattle.mapping_json.specs.Spelling.{IsMappingOf, IsDraftError};
 
 use crate::error::MappingError;
 use mapping_model::mapping_id::MappingId;
 use mapping_model::mapping_spec::MappingSpec;
 use mapping_model::request_spec::RequestSpec;
-use mapping_model::response_spec::ResponseSpec;
 use mapping_model::scenario_spec::ScenarioSpec;
 use mapping_model::version::Version;
 use plain_text::text::Text;
@@ -63,23 +62,5 @@ impl MappingDraft {
                 Err(MappingError::from(error))
             }
         }
-    }
-
-    /// The response of the mapping, where no more is wanted of it.
-    #[tactic(auto, using(crate::proofs::ErrorLemmas::request_error, crate::proofs::ErrorLemmas::template_error))]
-    pub fn response(self, alloc: Global, escape: Escape) -> Result<ResponseSpec, MappingError>
-        ensures ok { IfOk result (IsResponseOf escape self) }
-        ensures error { IfErr result (IsDraftError escape self) }
-    {
-        let MappingDraft {
-            id: _id,
-            name: _name,
-            priority: _priority,
-            scenario: _scenario,
-            request,
-            response,
-        } = self;
-        let _matcher = RequestMatcher::build(alloc, &request)?;
-        Ok(response.compile(alloc, escape)?)
     }
 }

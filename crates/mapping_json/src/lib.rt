@@ -7,6 +7,7 @@
 
 pub mod draft;
 pub mod error;
+mod judge;
 pub mod read;
 mod read_value;
 pub mod write;

@@ -5,7 +5,7 @@ ghost use Rattle.mapping_json.specs.Reading.{priority_in, priority_of, priority_
 ghost use Rattle.mapping_json.specs.Reading.{request_in, response_in, names_in, place_in, parts_in, fields_of};
 ghost use Rattle.mapping_json.specs.Reading.{has_no_items, is_empty_list, unsupported_kind, unless_empty, beside};
 ghost use Rattle.mapping_json.specs.Reading.{mapping_in, reading_of_mapping};
-ghost use Rattle.mapping_json.specs.Spelling.{SpellsMapping, SpellsResponse, IsValueError};
+ghost use Rattle.mapping_json.specs.Spelling.{SpellsMapping, IsValueError};
 ghost use Rattle.serde_json.specs.Find.{get};
 ghost use Rattle.serde_json.specs.View.{view, items_view};
 
@@ -17,7 +17,6 @@ use json_reading::numbers::{is_taken, taken};
 use json_reading::reading::{Reading, both, some, wrong_also};
 use mapping_model::mapping_id::MappingId;
 use mapping_model::request_spec::RequestSpec;
-use mapping_model::response_spec::ResponseSpec;
 use mapping_model::scenario_spec::ScenarioSpec;
 use plain_text::text::Text;
 use request_json::request_reading::request_of;
@@ -40,22 +39,6 @@ pub(crate) fn mapping_of(
 {
     match read_draft(alloc, value)? {
         Reading::Read(draft) => draft.build(alloc, escape),
-        Reading::Wrong(kind) => Err(MappingError::Document(kind)),
-    }
-}
-
-/// The response of the mapping that a value spells, where no more is wanted of it. The whole mapping is judged.
-#[tactic(auto, using(crate::proofs::ErrorLemmas::draft_error, crate::proofs::ErrorLemmas::wrong_value))]
-pub fn response_of(
-    alloc: Global,
-    value: &Value,
-    escape: Escape,
-) -> Result<ResponseSpec, MappingError>
-    ensures ok { IfOk result (SpellsResponse escape (view value.now)) }
-    ensures error { IfErr result (IsValueError escape (view value.now)) }
-{
-    match read_draft(alloc, value)? {
-        Reading::Read(draft) => draft.response(alloc, escape),
         Reading::Wrong(kind) => Err(MappingError::Document(kind)),
     }
 }
@@ -140,7 +123,7 @@ fn place_in(
 }
 
 #[tactic(auto, unfolding(crate::specs::Reading::parts_in))]
-fn parts_in(
+pub(crate) fn parts_in(
     alloc: Global,
     value: &Value,
 ) -> Result<Reading<(RequestSpec, ResponseDraft)>, AllocError>
@@ -158,7 +141,7 @@ fn id_in(value: &Value) -> Reading<Option<MappingId>>
     }
 }
 
-fn id_field(value: &Value) -> Option<&Value>
+pub(crate) fn id_field(value: &Value) -> Option<&Value>
     ensures { option_map (λ v. view v.now) result ≡ id_field (view value.now) }
 {
     match value.get("id") {
@@ -167,7 +150,7 @@ fn id_field(value: &Value) -> Option<&Value>
     }
 }
 
-fn id_of(value: &Value) -> Reading<MappingId>
+pub(crate) fn id_of(value: &Value) -> Reading<MappingId>
     ensures { result ≡ id_of (view value.now) }
 {
     taken(value, uuid_of(value))
@@ -215,7 +198,7 @@ fn priority_in(value: &Value) -> Reading<Option<i32>>
     }
 }
 
-fn priority_of(value: &Value) -> Reading<i32>
+pub(crate) fn priority_of(value: &Value) -> Reading<i32>
     ensures { result ≡ priority_of (view value.now) }
 {
     taken(value, priority_number(value.as_i64()))
@@ -272,7 +255,10 @@ fn request_in(alloc: Global, value: &Value) -> Result<Reading<RequestSpec>, Allo
     }
 }
 
-fn response_in(alloc: Global, value: &Value) -> Result<Reading<ResponseDraft>, AllocError>
+pub(crate) fn response_in(
+    alloc: Global,
+    value: &Value,
+) -> Result<Reading<ResponseDraft>, AllocError>
     ensures { IfOk result (λ response. response ≡ response_in (view value.now)) }
 {
     match value.get("response") {
@@ -281,7 +267,7 @@ fn response_in(alloc: Global, value: &Value) -> Result<Reading<ResponseDraft>, A
     }
 }
 
-fn is_empty_list(value: &Value) -> bool
+pub(crate) fn is_empty_list(value: &Value) -> bool
     ensures { result ≡ is_empty_list (view value.now) }
 {
     match value.as_array() {
@@ -299,7 +285,7 @@ fn has_no_items(items: &Vec<Value>) -> bool
     }
 }
 
-fn unsupported_kind(value: &Value) -> Kind
+pub(crate) fn unsupported_kind(value: &Value) -> Kind
     ensures { result ≡ unsupported_kind (view value.now) }
 {
     if is_taken(value) {

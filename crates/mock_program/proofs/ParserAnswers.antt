@@ -56,7 +56,8 @@ pub version_of_mock : (rest : List Text)
 unfolding clap_on_literals
 version_of_mock rest = refl
 
-pub no_command : fault_of mock_app (codes "mock" ∷ []) ≡ kind.MissingSubcommand ∷ []
+pub no_command : fault_of mock_app (codes "mock" ∷ [])
+    ≡ kind.DisplayHelpOnMissingArgumentOrSubcommand ∷ []
 unfolding clap_on_literals
 no_command = refl
 

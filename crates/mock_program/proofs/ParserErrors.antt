@@ -99,11 +99,12 @@ fails_by_help arguments calls =
 no_help : (e k : ErrorKind) → e ≡ k → ¬ (IsHelp k) → ¬ (IsHelp e)
 no_help e k same other = λ h. other (subst IsHelp same h)
 
-missing_command : FailsByMistake (kind.MissingSubcommand ∷ [])
+-- without arguments the parser gives the help, and that is a mistake: it wasn't called for
+missing_command : FailsByMistake (kind.DisplayHelpOnMissingArgumentOrSubcommand ∷ [])
 missing_command = (
   λ e. cc,
   λ k among. elim among [
-    | inl same ↦ no_help k kind.MissingSubcommand same (λ h. elim h [ inl e ↦ cc | inr e ↦ cc ])
+    | inl same ↦ no_help k kind.DisplayHelpOnMissingArgumentOrSubcommand same (λ h. elim h [ inl e ↦ cc | inr e ↦ cc ])
     | inr none ↦ absurd none
   ],
 )

@@ -8,51 +8,75 @@ ghost use Rattle.mock_program.specs.Inner.Parser.{is_taken, mock_app, render_in,
 use clap::{Arg, ArgMatches, Command, Error};
 use std::alloc::{AllocError, Global};
 
-const MOCK_HELP: &str = "Server:
-  serve   Serves the mappings of a file over HTTP; `mock serve --help` tells how
+// The help of the program: with the command `serve`, whose arguments `mock_serving` reads.
+const MOCK_HELP: &str = "A stub server for HTTP, like WireMock, whose answers are proved
 
-Examples:
-  mock render 'Hello {{request.path.[1]}}' GET /hi/Ann
-  mock check mappings.json
-  mock answer mappings.json GET /hi/Ann
-  mock serve --port 8080 --mappings mappings.json";
+Usage: mock <COMMAND>
+
+Commands:
+  serve   Serves the mappings of a file, and takes admin calls
+  check   Says which mappings of a file are accepted, and what their templates may cost
+  answer  Prints what a server with the mappings of a file replies to one request
+  render  Renders a response template for one request
+
+Options:
+  -h, --help     Print help
+  -V, --version  Print version
+
+`mock COMMAND --help` explains a command.
+
+Example, in the folder of this repository:
+  mock serve --port 8080 --mappings examples/scenario.json
+";
 
 const RENDER_HELP: &str =
-    "It prints the steps that the run took and the bytes that it wrote, each beside its budget, and
-then the text. A budget is a list of coefficients, the constant first: `[6,1]` is 6 + n, where
-n is the size of the request's data.
+    "It prints the steps of the run and the bytes of the text, each with its budget, and then the text.
+A budget is a list of coefficients, the constant first: [6,1] is 6 + n, where n is the size of the
+request's data. The request has no headers and no body.
+
+With --html-escape before TEMPLATE, what {{x}} prints is escaped for HTML; what {{{x}}} prints isn't.
+Where TEMPLATE is `-h`, `--help`, `--html-escape` or `--`, a `--` has to precede it.
 
 Example:
   mock render 'Hello {{request.path.[1]}}' GET /hi/Ann
 
-With --html-escape before the template, {{x}} is escaped for HTML; {{{x}}} and text stay as they are.
+prints
+  steps 5 of [5]
+  bytes 9 of [6,1]
+  Hello Ann";
 
-A template that is `-h`, `--help`, `--html-escape` or `--` follows a `--`; all other arguments are taken as
-they are.";
+const CHECK_HELP: &str = "It prints a line for each mapping, numbered from 1:
+  1 plain                   it is accepted, and has no templates
+  2 steps [5] bytes [11,1]  it is accepted; the budgets of its templates, added up
+  3 error 11                it is refused, with the code of its first error
+The status is 1 where a mapping is refused. A budget is a list of coefficients, the constant first:
+[11,1] is 11 + n, where n is the size of a request's data.
 
-const CHECK_HELP: &str =
-    "It prints a line for each mapping of the file, numbered from 1: `1 plain`; or, with the budgets of
-its templates added up, `2 steps [5] bytes [6,1]`; or `3 error 11`, with the code of its first
-error. The status is 1 where a mapping has an error.
+With --html-escape before FILE, what {{x}} prints in templates is escaped for HTML.
+Where FILE is `-h`, `--help`, `--html-escape` or `--`, a `--` has to precede it.
 
-Example:
-  mock check mappings.json
+Example, in the folder of this repository:
+  mock check examples/several.json
 
-With --html-escape before the file, {{x}} in templates is escaped for HTML.
-
-A file that is `-h`, `--help`, `--html-escape` or `--` follows a `--`.";
+prints
+  1 plain
+  2 steps [5] bytes [11,1]";
 
 const ANSWER_HELP: &str =
-    "It prints the reply to one request, without headers and body, of a server that has just started with
-the mappings of the file: the status, the headers, an empty line and the body.
+    "It prints the reply of a server that has just started: the status, the headers, an empty line and
+the body. The request has no headers and no body.
 
-Example:
-  mock answer mappings.json GET /hi/Ann
+With --html-escape before MAPPINGS, what {{x}} prints in templates is escaped for HTML.
+Where MAPPINGS is `-h`, `--help`, `--html-escape` or `--`, a `--` has to precede it.
 
-With --html-escape before the file, {{x}} in templates is escaped for HTML.
+Example, in the folder of this repository:
+  mock answer examples/plain.json GET /hello
 
-A file that is `-h`, `--help`, `--html-escape` or `--` follows a `--`; all other arguments are taken as they
-are.";
+prints
+  status 200
+  Content-Type: text/plain
+
+  Hello";
 
 /// A command that is asked for, with its arguments as they are on the command line.
 #[derive(Clone, Copy)]
@@ -140,50 +164,55 @@ fn command<'a>(alloc: Global) -> Result<Command<'a>, AllocError>
     ensures { IfOk result (λ made. app_of made ≡ mock_app) }
 {
     let render = Command::new(alloc, "render")
-        .about("Renders a response template for a request without headers and body")
+        .about("Renders a response template for one request")
         .after_help(RENDER_HELP)
+        .arg(required(alloc, "template", "TEMPLATE", "The text of the template"))?
         .arg(required(
             alloc,
-            "template",
-            "TEMPLATE",
-            "The template's text, as 'Hello {{request.path.[1]}}'",
+            "method",
+            "METHOD",
+            "The method of the request, as GET",
         ))?
-        .arg(required(alloc, "method", "METHOD", "The request's method, as GET"))?
         .arg(required(
             alloc,
             "url",
             "URL",
-            "The request's target, as /hi/Ann?q=1 or http://host/hi/Ann",
+            "The target of the request, as /hi/Ann?q=1 or http://host/hi/Ann",
         ))?;
     let check = Command::new(alloc, "check")
-        .about("Says which mappings of a file are taken, and what their templates may cost")
+        .about("Says which mappings of a file are accepted, and what their templates may cost")
         .after_help(CHECK_HELP)
         .arg(required(
             alloc,
             "file",
             "FILE",
-            "A JSON file: a mapping, or an object with a list `mappings`",
+            "A JSON file: one mapping, or an object with a list `mappings`",
         ))?;
     let answer = Command::new(alloc, "answer")
-        .about("Prints the reply to one request of a server with the mappings of a file")
+        .about("Prints what a server with the mappings of a file replies to one request")
         .after_help(ANSWER_HELP)
         .arg(required(
             alloc,
             "mappings",
             "MAPPINGS",
-            "A JSON file: a mapping, or an object with a list `mappings`",
+            "A JSON file: one mapping, or an object with a list `mappings`",
         ))?
-        .arg(required(alloc, "method", "METHOD", "The request's method, as GET"))?
+        .arg(required(
+            alloc,
+            "method",
+            "METHOD",
+            "The method of the request, as GET",
+        ))?
         .arg(required(
             alloc,
             "url",
             "URL",
-            "The request's target, as /hi/Ann?q=1 or http://host/hi/Ann",
+            "The target of the request, as /hi/Ann?q=1 or http://host/hi/Ann",
         ))?;
     Command::new(alloc, "mock")
         .version("1")
-        .about("A stub server for HTTP whose answers are proved")
-        .after_help(MOCK_HELP)
+        .override_help(MOCK_HELP)
+        .arg_required_else_help(true)
         .subcommand_required(true)
         .disable_help_subcommand(true)
         .subcommand(render)?

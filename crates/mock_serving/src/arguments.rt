@@ -7,16 +7,19 @@ use std::alloc::{AllocError, Global};
 use template_tree::escape::Escape;
 
 const SERVE_HELP: &str =
-    "It serves on 127.0.0.1, tells where on the first line, `listening on 127.0.0.1:PORT`, and goes on until it
-is stopped. Port 0 takes a free port. The mappings of FILE are those that a reset brings back.
-With --connections it ends after that many connections, compares what each has seen, and tells the
-number of events: `settled 3 events`.
+    "It serves on 127.0.0.1. Its first line is `listening on 127.0.0.1:PORT`, and it goes on until it is
+stopped. Admin calls, on paths below /__admin, list, add, edit and remove mappings, and show which
+requests were received; a reset brings the mappings of FILE back.
+With --connections it ends after N connections, and prints how many events its history has, as
+`settled 3 events`, if they are those that the connections have seen.
 
-Example:
-  mock serve --port 8080 --mappings mappings.json
+Example, in the folder of this repository:
+  mock serve --port 8080 --mappings examples/scenario.json
 
-Then, elsewhere:
-  curl http://127.0.0.1:8080/hi
+and then from another shell:
+  curl http://127.0.0.1:8080/todo
+  curl -X POST http://127.0.0.1:8080/todo -d milk
+  curl http://127.0.0.1:8080/todo
   curl http://127.0.0.1:8080/__admin/requests";
 
 /// What is to be served, and where.
@@ -63,19 +66,19 @@ fn escape_in(given: &ArgMatches<'_>) -> Escape {
 
 fn command<'a>(alloc: Global) -> Result<Command<'a>, AllocError> {
     let serve = Command::new(alloc, "serve")
-        .about("Serves the mappings of a file, and those that come over /__admin")
+        .about("Serves the mappings of a file, and takes admin calls")
         .after_help(SERVE_HELP)
         .arg(port(alloc))?
         .arg(
             Arg::new(alloc, "mappings")
                 .long("mappings")
                 .value_name("FILE")
-                .help("A JSON file: a mapping, or an object with a list `mappings`"),
+                .help("A JSON file: one mapping, or an object with a list `mappings`"),
         )?
         .arg(
             Arg::new(alloc, "html-escape")
                 .long("html-escape")
-                .help("Escapes {{x}} in templates for HTML, but not {{{x}}}")
+                .help("Escapes what {{x}} prints in templates for HTML, but not {{{x}}}")
                 .action(ArgAction::SetTrue),
         )?
         .arg(connections(alloc))?;
@@ -98,6 +101,6 @@ fn connections<'a>(alloc: Global) -> Arg<'a> {
     Arg::new(alloc, "connections")
         .long("connections")
         .value_name("N")
-        .help("Ends after so many connections")
+        .help("Ends after N connections")
         .value_parser(value_parser!(u64))
 }

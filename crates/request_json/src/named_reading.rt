@@ -22,11 +22,9 @@ pub(crate) fn named_field(
 ) -> Result<Reading<Items<NamedMatcher>>, AllocError>
     ensures { IfOk result (λ matchers. matchers ≡ named_field name.now (view value.now)) }
 {
-    match named_optional(alloc, name, value)? {
-        Reading::Read(matchers) => {
-            Ok(Reading::Read(matchers.unwrap_or(Items::from(Vec::new(alloc)))))
-        }
-        Reading::Wrong(kind) => Ok(Reading::Wrong(kind)),
+    match value.get(name) {
+        Some(found) => named_of(alloc, found),
+        None => Ok(Reading::Read(Items::from(Vec::new(alloc)))),
     }
 }
 

@@ -32,7 +32,20 @@ type Parts = (
 
 /// The request matcher that an object spells. Each text is copied once. Patterns, templates, JSON paths and expected
 /// JSON texts aren't judged here but where the matcher is built.
+#[tactic(auto, using(crate::proofs::Parts::no_request))]
 pub fn request_of(alloc: Global, value: &Value) -> Result<Reading<RequestSpec>, AllocError>
+    ensures { IfOk result (λ request. request ≡ reading_of_request (view value.now)) }
+{
+    if value.is_object() {
+        fields_of(alloc, value)
+    } else {
+        Ok(Reading::Wrong(Kind::Misshapen))
+    }
+}
+
+// Not inlined: a function clears all its locals when it is entered, and a value that is no object needs none of these.
+#[inline(never)]
+fn fields_of(alloc: Global, value: &Value) -> Result<Reading<RequestSpec>, AllocError>
     ensures { IfOk result (λ request. request ≡ reading_of_request (view value.now)) }
 {
     let fields = [

@@ -21,6 +21,7 @@ use serde_json::{Map, Value};
 use std::alloc::{AllocError, Global};
 
 /// The response that a value spells, or the way in which it is wrong that is reported first.
+#[inline(never)]
 pub fn read_response(alloc: Global, value: &Value) -> Result<Reading<ResponseDraft>, AllocError>
     ensures { IfOk result (λ response. response ≡ reading_of_response (view value.now)) }
 {
@@ -52,7 +53,20 @@ fn fields_taken(members: &Map<String, Value>) -> bool
     true
 }
 
+#[tactic(auto, using(crate::proofs::Judged::not_spelled))]
 fn spelled_response(alloc: Global, value: &Value) -> Result<Reading<ResponseDraft>, AllocError>
+    ensures { IfOk result (λ response. response ≡ spelled_response (view value.now)) }
+{
+    if value.is_object() {
+        object_response(alloc, value)
+    } else {
+        Ok(Reading::Wrong(Kind::Misshapen))
+    }
+}
+
+// Not inlined: a function clears all its locals when it is entered, and a value that is no object needs none of these.
+#[inline(never)]
+fn object_response(alloc: Global, value: &Value) -> Result<Reading<ResponseDraft>, AllocError>
     ensures { IfOk result (λ response. response ≡ spelled_response (view value.now)) }
 {
     let names = [

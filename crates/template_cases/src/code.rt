@@ -3,8 +3,7 @@
 //! may stand between apostrophes, and `this` is a path without steps.
 
 use crate::numbers::{index, number};
-use crate::programs::request;
-use crate::requests::request_with_body;
+use crate::requests::{request, request_with_body};
 use crate::templates::{add_path, add_text};
 use case_table::cells::Cells;
 use case_table::row::Row;

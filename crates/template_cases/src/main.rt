@@ -1,4 +1,4 @@
-//! Compares what values, requests, helpers, templates, stack code and programs give with the tables in `data/`.
+//! Compares what values, requests, helpers, templates and stack code give with the tables in `data/`.
 #![tactic(auto)]
 
 mod code;
@@ -6,7 +6,6 @@ mod error_codes;
 mod helpers;
 mod json;
 mod numbers;
-mod programs;
 mod requests;
 mod table;
 mod templates;
@@ -46,8 +45,6 @@ fn main(rt: HostRuntime) -> io::Result<ExitCode> {
             Table::HelperCodes,
             Table::LoopCodes,
             Table::LoopRuns,
-            Table::Programs,
-            Table::Escaped,
             Table::Writes,
         ]
         .as_slice(),

@@ -142,14 +142,14 @@ fn printed_cell(alloc: Global, data: &RequestData, steps: &str) -> Result<String
 
 /// The JSON texts of the path and of its segments in the data of a request, with what a path template binds in it.
 pub fn bindings(alloc: Global, row: &Row) -> Result<String, AllocError> {
-    match plain_request(alloc, row.cell(0)) {
+    match plain_request(alloc, "GET", row.cell(0)) {
         Ok(request) => paths_of(alloc, &request, row.cell(1)),
         Err(error) => refused(alloc, error),
     }
 }
 
-fn plain_request(alloc: Global, target: &str) -> Result<Snapshot, SnapshotError> {
-    Snapshot::new(alloc, "GET", target, &[], &[])
+fn plain_request(alloc: Global, method: &str, target: &str) -> Result<Snapshot, SnapshotError> {
+    Snapshot::new(alloc, method, target, &[], &[])
 }
 
 // All templates of the table are well formed.
@@ -178,6 +178,12 @@ fn path_cells(alloc: Global, data: &RequestData) -> Result<String, AllocError> {
 // None of the requests' data is over the limit.
 fn data(alloc: Global, request: &Snapshot) -> Result<RequestData, AllocError> {
     request_data(alloc, request, None).ok().ok_or(AllocError)
+}
+
+/// The data of a request without headers and body. None in the tables is refused.
+pub fn request(alloc: Global, method: &str, target: &str) -> Result<RequestData, AllocError> {
+    let request = plain_request(alloc, method, target).ok().ok_or(AllocError)?;
+    data(alloc, &request)
 }
 
 /// The data of a row's request. None in the tables is refused.

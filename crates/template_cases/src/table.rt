@@ -1,6 +1,6 @@
 //! The tables, and which call each of them is about.
 
-use crate::{code, error_codes, helpers, json, programs, requests, templates, values, writes};
+use crate::{code, error_codes, helpers, json, requests, templates, values, writes};
 use case_table::compare::CaseTable;
 use case_table::row::Row;
 use std::alloc::{AllocError, Global};
@@ -33,9 +33,6 @@ pub enum Table {
     LoopCodes,
     /// Its runs.
     LoopRuns,
-    Programs,
-    /// Templates whose prints are escaped.
-    Escaped,
     Writes,
 }
 
@@ -65,8 +62,6 @@ impl CaseTable for Table {
             Table::HelperCodes => "helper_codes.tsv",
             Table::LoopCodes => "loop_codes.tsv",
             Table::LoopRuns => "loop_runs.tsv",
-            Table::Programs => "programs.tsv",
-            Table::Escaped => "escaped.tsv",
             Table::Writes => "writes.tsv",
         }
     }
@@ -94,8 +89,6 @@ impl CaseTable for Table {
             Table::Listings => code::parts(alloc, row),
             Table::Codes | Table::HelperCodes | Table::LoopCodes => code::verdict(alloc, row),
             Table::LoopRuns => code::run_over(alloc, row),
-            Table::Programs => programs::program(alloc, row),
-            Table::Escaped => programs::escaped(alloc, row),
             Table::Writes => writes::written(alloc, row),
         }
     }

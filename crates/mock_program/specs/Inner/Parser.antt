@@ -29,6 +29,7 @@ abbrev pub program_app : App
 program_app = record (new_app (codes "mock")) {
   top = record (new_app (codes "mock")).top {
     has_version = true;
+    arg_required_else_help = true;
     subcommand_required = true;
     disable_help_subcommand = true;
   };

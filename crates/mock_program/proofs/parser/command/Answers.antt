@@ -30,8 +30,8 @@ returns c =
     ∙ ap₂ with_rule
     (c.in_ok-arg-3.ensures.shape c.required-5.ensures.local ∙ ap₂ with_rule no_answer mappings_is) method_too) url_too in
     let program_is : app_of c.disable_help_subcommand.result ≡ program_app =
-    rw (c.disable_help_subcommand.ensures, c.subcommand_required.ensures, c.after_help-4.ensures)
-    (rw (c.about-4.ensures, c.version.ensures) (search rules)) in
+    rw (c.disable_help_subcommand.ensures, c.subcommand_required.ensures, c.arg_required_else_help.ensures)
+    (rw (c.override_help.ensures, c.version.ensures) (search rules)) in
     let with_render = c.in_ok-subcommand.ensures.shape
     (rw (c.in_ok-render.ensures.globals, c.in_ok-arg-2.ensures.globals, c.in_ok-arg.ensures.globals)
     (rw (c.after_help.ensures, c.about.ensures, c.new.ensures.local)

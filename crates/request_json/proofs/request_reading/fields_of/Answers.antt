@@ -4,7 +4,7 @@ use Rattle.json_reading.specs.Reading.{read_map}
 use Rattle.request_json.proofs.Parts.{both_are}
 use Rattle.request_json.specs.RequestReading.{request_fields, request_with}
 use Rattle.serde_json.specs.View.{view}
-use Rattle.request_json.proofs.request_reading.request_of.Goals as goal
+use Rattle.request_json.proofs.request_reading.fields_of.Goals as goal
 
 pub returns : goal.returns
 returns c =

@@ -2,7 +2,7 @@ use Rattle.std.proofs.Common.{◌≡◌, ℕ, List, Bor, map, ap, ◌∙◌}
 use Rattle.json_reading.specs.Fields.{only}
 use Rattle.response_json.specs.Reading.{response_names}
 use Rattle.serde_json.specs.View.{view}
-use Rattle.response_json.proofs.read.spelled_response.Goals as goal
+use Rattle.response_json.proofs.read.object_response.Goals as goal
 
 pub returns : goal.returns
 returns c =
