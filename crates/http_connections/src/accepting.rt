@@ -6,7 +6,7 @@ use futures::{Future, Stream, ready};
 use tokio::net::{TcpListener, TcpStream};
 
 /// What becomes of the connections that are accepted.
-pub trait Greets: Drop {
+pub trait Accepts: Drop {
     ghost use Rattle.std.specs.Prelude.{IfSome};
 
     type Task: Future<Output = ()>;
@@ -15,7 +15,7 @@ pub trait Greets: Drop {
     fn wants_more(&self) -> bool;
 
     /// The task that serves the connection; `None` where it is closed at once.
-    fn greet(&mut self, socket: TcpStream) -> Option<Self::Task>
+    fn accept(&mut self, socket: TcpStream) -> Option<Self::Task>
         ensures { IfSome result Self.Task.can_poll };
 
     /// No connection could be accepted.
@@ -26,31 +26,31 @@ pub trait Greets: Drop {
 #[derive(Drop)]
 pub struct Accepting<H> {
     listener: TcpListener,
-    host: H,
+    acceptor: H,
 }
 
 impl<H> Accepting<H> {
-    pub fn new(listener: TcpListener, host: H) -> Accepting<H> {
-        Accepting { listener, host }
+    pub fn new(listener: TcpListener, acceptor: H) -> Accepting<H> {
+        Accepting { listener, acceptor }
     }
 }
 
-impl<H: Greets> Stream for Accepting<H> {
+impl<H: Accepts> Stream for Accepting<H> {
     type Item = H::Task;
 
     ghost yields = { λ _ _ last. IfSome last H.Task.can_poll };
 
     fn poll_next(&mut self, cx: &mut Context<'_>) -> Poll<Option<H::Task>> {
-        if !self.host.wants_more() {
+        if !self.acceptor.wants_more() {
             return Poll::Ready(None);
         }
         match ready!(self.listener.poll_accept(cx)) {
-            Ok((socket, _address)) => match self.host.greet(socket) {
+            Ok((socket, _address)) => match self.acceptor.accept(socket) {
                 Some(task) => Poll::Ready(Some(task)),
                 None => cx.yield_now(),
             },
             Err(_error) => {
-                self.host.give_up();
+                self.acceptor.give_up();
                 Poll::Ready(None)
             }
         }

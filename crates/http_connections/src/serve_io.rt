@@ -1,6 +1,6 @@
 // One connection.
 use crate::answers::Answers;
-use crate::desk::Desk;
+use crate::seat_slot::SeatSlot;
 use crate::service::MessageService;
 use futures::executor::block_on;
 use http_messages::error::ServiceError;
@@ -28,27 +28,27 @@ where
     A: Answers,
     I: AsyncRead + AsyncWrite,
 {
-    let desk = match desk_of(rt.alloc(), site) {
-        Ok(desk) => desk,
+    let slot = match slot_of(rt.alloc(), site) {
+        Ok(slot) => slot,
         Err(error) => return (Some(seat), Err(error.into())),
     };
-    desk.put(&rt, seat);
-    let served = serve_at(rt, &desk, io);
-    (desk.take(&rt), served)
+    slot.put(&rt, seat);
+    let served = serve_at(rt, &slot, io);
+    (slot.take(&rt), served)
 }
 
-fn desk_of<A: Answers>(alloc: Global, site: &Arc<A>) -> Result<Arc<Desk<A>>, AllocError> {
-    Ok(Arc::new(alloc, Desk::new(Arc::try_clone(site)?))?)
+fn slot_of<A: Answers>(alloc: Global, site: &Arc<A>) -> Result<Arc<SeatSlot<A>>, AllocError> {
+    Ok(Arc::new(alloc, SeatSlot::new(Arc::try_clone(site)?))?)
 }
 
-// Serves one connection by the seat of the desk.
-fn serve_at<R, A, I>(rt: R, desk: &Arc<Desk<A>>, io: I) -> Result<(), ServiceError>
+// Serves one connection by the seat of the slot.
+fn serve_at<R, A, I>(rt: R, slot: &Arc<SeatSlot<A>>, io: I) -> Result<(), ServiceError>
 where
     R: Wait + RandomSource + AllocGlobal + Copy + Drop,
     A: Answers,
     I: AsyncRead + AsyncWrite,
 {
-    let service = MessageService::new(rt, Arc::try_clone(desk)?);
+    let service = MessageService::new(rt, Arc::try_clone(slot)?);
     let Ok(builder) = builder(&rt) else {
         return Err(ServiceError::Broken);
     };

@@ -1,8 +1,8 @@
 // The connections of a listener, each a task.
 use crate::accepting::Accepting;
+use crate::acceptor::Acceptor;
 use crate::answers::Answers;
-use crate::hall::Hall;
-use crate::host::Host;
+use crate::seat_pool::SeatPool;
 use crate::serve_io::builder;
 use std::alloc::{AllocError, AllocGlobal, Global};
 use std::io;
@@ -14,9 +14,9 @@ use std::time::Clock;
 use tokio::net::TcpListener;
 use tokio::runtime::{LocalRuntime, Runtime};
 
-/// How a server's day ended, and the seats of all connections.
+/// The seats of all connections once they have been served, and why there were no more.
 #[derive(Drop)]
-pub struct Day<S> {
+pub struct Served<S> {
     pub seats: Vec<S>,
     pub end: End,
 }
@@ -39,16 +39,16 @@ pub fn serve_all<R, A>(
     site: &Arc<A>,
     seat: A::Seat,
     connections: Option<u64>,
-) -> Result<Day<A::Seat>, AllocError>
+) -> Result<Served<A::Seat>, AllocError>
 where
     R: Wait + Threads + Clock + RandomSource + AllocGlobal + Sync + Send + Copy + Drop,
     A: Answers + Send + Sync,
     A::Seat: Send,
 {
-    let hall = hall_of(rt.alloc(), site)?;
-    hall.open(&rt, seat);
-    let ran = run(rt, runtime, listener, &hall, connections);
-    day_of(&rt, rt.alloc(), &hall, &ran)
+    let pool = pool_of(rt.alloc(), site)?;
+    pool.open(&rt, seat);
+    let ran = run(rt, runtime, listener, &pool, connections);
+    served_by(&rt, rt.alloc(), &pool, &ran)
 }
 
 /// As `serve_all`, on the calling thread.
@@ -59,31 +59,31 @@ pub fn serve_all_here<R, A>(
     site: &Arc<A>,
     seat: A::Seat,
     connections: Option<u64>,
-) -> Result<Day<A::Seat>, AllocError>
+) -> Result<Served<A::Seat>, AllocError>
 where
     R: Wait + Clock + RandomSource + AllocGlobal + Copy + Drop,
     A: Answers,
 {
-    let hall = hall_of(rt.alloc(), site)?;
-    hall.open(&rt, seat);
-    let ran = run_here(rt, runtime, listener, &hall, connections);
-    day_of(&rt, rt.alloc(), &hall, &ran)
+    let pool = pool_of(rt.alloc(), site)?;
+    pool.open(&rt, seat);
+    let ran = run_here(rt, runtime, listener, &pool, connections);
+    served_by(&rt, rt.alloc(), &pool, &ran)
 }
 
-// The day of a hall that nobody is in any more.
-fn day_of<R: Wait, A: Answers>(
+// What a pool whose connections have ended leaves.
+fn served_by<R: Wait, A: Answers>(
     rt: &R,
     alloc: Global,
-    hall: &Hall<A>,
+    pool: &SeatPool<A>,
     ran: &io::Result<()>,
-) -> Result<Day<A::Seat>, AllocError> {
-    let end = end_of(ran, hall.is_open(rt));
-    let seats = hall.take_all(rt, alloc)?;
-    Ok(Day { seats, end })
+) -> Result<Served<A::Seat>, AllocError> {
+    let end = end_of(ran, pool.is_open(rt));
+    let seats = pool.take_all(rt, alloc)?;
+    Ok(Served { seats, end })
 }
 
-fn hall_of<A: Answers>(alloc: Global, site: &Arc<A>) -> Result<Arc<Hall<A>>, AllocError> {
-    Ok(Arc::new(alloc, Hall::new(alloc, Arc::try_clone(site)?))?)
+fn pool_of<A: Answers>(alloc: Global, site: &Arc<A>) -> Result<Arc<SeatPool<A>>, AllocError> {
+    Ok(Arc::new(alloc, SeatPool::new(alloc, Arc::try_clone(site)?))?)
 }
 
 fn end_of(ran: &io::Result<()>, is_open: bool) -> End {
@@ -98,7 +98,7 @@ fn run<R, A>(
     rt: R,
     runtime: &mut Runtime,
     listener: TcpListener,
-    hall: &Arc<Hall<A>>,
+    pool: &Arc<SeatPool<A>>,
     connections: Option<u64>,
 ) -> io::Result<()>
 where
@@ -106,21 +106,21 @@ where
     A: Answers + Send + Sync,
     A::Seat: Send,
 {
-    let host = Host::new(rt, builder(&rt)?, Arc::try_clone(hall)?, connections);
-    runtime.run_all(&rt, Accepting::new(listener, host))
+    let acceptor = Acceptor::new(rt, builder(&rt)?, Arc::try_clone(pool)?, connections);
+    runtime.run_all(&rt, Accepting::new(listener, acceptor))
 }
 
 fn run_here<R, A>(
     rt: R,
     runtime: &mut LocalRuntime,
     listener: TcpListener,
-    hall: &Arc<Hall<A>>,
+    pool: &Arc<SeatPool<A>>,
     connections: Option<u64>,
 ) -> io::Result<()>
 where
     R: Wait + Clock + RandomSource + AllocGlobal + Copy + Drop,
     A: Answers,
 {
-    let host = Host::new(rt, builder(&rt)?, Arc::try_clone(hall)?, connections);
-    runtime.run_all(&rt, Accepting::new(listener, host))
+    let acceptor = Acceptor::new(rt, builder(&rt)?, Arc::try_clone(pool)?, connections);
+    runtime.run_all(&rt, Accepting::new(listener, acceptor))
 }

@@ -2,7 +2,7 @@
 ghost use Rattle.std.specs.Prelude.{◌≡◌, length, IfOk, IfSome};
 
 use crate::answers::Answers;
-use crate::desk::Desk;
+use crate::seat_slot::SeatSlot;
 use bytes::{Bytes, BytesMut};
 use futures::task::{Context, Poll};
 use futures::{Future, ready};
@@ -19,18 +19,18 @@ use std::sync::{Arc, Wait};
 /// More bytes of a body than these aren't gathered: these are too many already.
 pub const GATHERED: usize = BODY_LIMIT + 1;
 
-/// Answers the requests of one connection, by the seat of its desk.
+/// Answers the requests of one connection, by the seat of its slot.
 #[derive(Drop)]
 pub struct MessageService<R, A: Answers> {
     rt: R,
-    desk: Arc<Desk<A>>,
+    slot: Arc<SeatSlot<A>>,
 }
 
 /// The answer to one request, once its content has come.
 #[derive(Drop)]
 pub struct Answering<R, A: Answers, G> {
     rt: R,
-    desk: Option<Arc<Desk<A>>>,
+    slot: Option<Arc<SeatSlot<A>>>,
     /// What has come of the content is its body.
     request: Request<Bytes>,
     /// What is still to come, if the request has content.
@@ -38,8 +38,8 @@ pub struct Answering<R, A: Answers, G> {
 }
 
 impl<R, A: Answers> MessageService<R, A> {
-    pub fn new(rt: R, desk: Arc<Desk<A>>) -> MessageService<R, A> {
-        MessageService { rt, desk }
+    pub fn new(rt: R, slot: Arc<SeatSlot<A>>) -> MessageService<R, A> {
+        MessageService { rt, slot }
     }
 }
 
@@ -64,7 +64,7 @@ where
         };
         Answering {
             rt: self.rt,
-            desk: Arc::try_clone(&self.desk).ok(),
+            slot: Arc::try_clone(&self.slot).ok(),
             request: Request::from_parts(head, Bytes::new()),
             content,
         }
@@ -100,8 +100,8 @@ where
 {
     // The answer to the request, whose content has come.
     fn answer(&mut self) -> Result<Response<Full<Bytes>>, ServiceError> {
-        match self.desk.take() {
-            Some(desk) => desk.answer(&self.rt, self.rt.alloc(), &self.request),
+        match self.slot.take() {
+            Some(slot) => slot.answer(&self.rt, self.rt.alloc(), &self.request),
             None => Err(ServiceError::OutOfMemory),
         }
     }

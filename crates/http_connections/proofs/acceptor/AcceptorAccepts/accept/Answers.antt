@@ -1,4 +1,4 @@
-use Rattle.http_connections.proofs.host.HostGreets.greet.Goals as goal
+use Rattle.http_connections.proofs.acceptor.AcceptorAccepts.accept.Goals as goal
 
 -- the task is polled where its connection is, and that may be polled
 pub returns : goal.returns

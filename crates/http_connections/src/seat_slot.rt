@@ -13,15 +13,15 @@ use std::sync::{Arc, Mutex, Wait};
 
 /// A site, and the place of one connection's seat. The seat stays in it while a request is answered.
 #[derive(Drop)]
-pub struct Desk<A: Answers> {
+pub struct SeatSlot<A: Answers> {
     site: Arc<A>,
     seat: Mutex<Option<A::Seat>>,
 }
 
-impl<A: Answers> Desk<A> {
-    /// A desk without a seat.
-    pub fn new(site: Arc<A>) -> Desk<A> {
-        Desk {
+impl<A: Answers> SeatSlot<A> {
+    /// A slot without a seat.
+    pub fn new(site: Arc<A>) -> SeatSlot<A> {
+        SeatSlot {
             site,
             seat: Mutex::new(None),
         }

@@ -2,36 +2,41 @@
 ghost use Rattle.std.specs.Prelude.{◌≡◌};
 
 use crate::answers::Answers;
-use crate::desk::Desk;
-use crate::hall::Hall;
+use crate::seat_pool::SeatPool;
+use crate::seat_slot::SeatSlot;
 use futures::task::{Context, Poll};
 use futures::{Future, ready};
 use std::sync::{Arc, Wait};
 
-/// Serves a connection until it ends, and then hands its seat to the hall. The connection is in a box, since an executor
+/// Serves a connection until it ends, and then releases its slot. The connection is in a box, since an executor
 /// moves its tasks.
 #[derive(Drop)]
-pub struct Visit<R, A: Answers, C> {
+pub struct ConnectionTask<R, A: Answers, C> {
     rt: R,
-    hall: Arc<Hall<A>>,
-    desk: Option<Arc<Desk<A>>>,
+    pool: Arc<SeatPool<A>>,
+    slot: Option<Arc<SeatSlot<A>>>,
     connection: Box<C>,
 }
 
-impl<R, A: Answers, C> Visit<R, A, C> {
-    pub fn new(rt: R, hall: Arc<Hall<A>>, desk: Arc<Desk<A>>, connection: Box<C>) -> Visit<R, A, C>
+impl<R, A: Answers, C> ConnectionTask<R, A, C> {
+    pub fn new(
+        rt: R,
+        pool: Arc<SeatPool<A>>,
+        slot: Arc<SeatSlot<A>>,
+        connection: Box<C>,
+    ) -> ConnectionTask<R, A, C>
         ensures { result.connection.value ≡ connection.value }
     {
-        Visit {
+        ConnectionTask {
             rt,
-            hall,
-            desk: Some(desk),
+            pool,
+            slot: Some(slot),
             connection,
         }
     }
 }
 
-impl<R, A, C, T> Future for Visit<R, A, C>
+impl<R, A, C, T> Future for ConnectionTask<R, A, C>
 where
     R: Wait + Drop,
     A: Answers,
@@ -45,8 +50,8 @@ where
     fn poll(&mut self, cx: &mut Context<'_>) -> Poll<()> {
         // How it ended concerns its peer alone.
         let _ended = ready!(self.connection.poll(cx));
-        if let Some(desk) = self.desk.take() {
-            self.hall.leave(&self.rt, desk);
+        if let Some(slot) = self.slot.take() {
+            self.pool.release(&self.rt, slot);
         }
         Poll::Ready(())
     }
