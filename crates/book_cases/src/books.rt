@@ -191,7 +191,7 @@ fn serve(alloc: Global, book: &mut Book, way: Way, text: &str) -> Result<ServeAn
     }
     let shared = SharedRequest::new(alloc, request)?;
     let kept = shared.try_clone()?;
-    let mut parsed = ParsedRequest::read(alloc, shared.request())?;
+    let mut parsed = ParsedRequest::new(alloc, shared.request());
     let event = book.serve_read(kept, &mut parsed)?;
     answer_in(event.event())
 }

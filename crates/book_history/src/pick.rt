@@ -37,6 +37,6 @@ fn meets(
     ensures answer { IfOk result (λ yes. IsTrue yes ↔ MeetsRequest matcher.old request.now) }
     ensures same { matcher.new ≡ matcher.old }
 {
-    let mut parsed = ParsedRequest::read(alloc, request.request())?;
+    let mut parsed = ParsedRequest::new(alloc, request.request());
     matcher.matches(&mut parsed)
 }

@@ -43,7 +43,7 @@ fn meets_request(
     mapping: &mut ReadyMapping,
     request: &Snapshot,
 ) -> Result<bool, AllocError> {
-    let mut request = ParsedRequest::read(alloc, request)?;
+    let mut request = ParsedRequest::new(alloc, request);
     matches(mapping, &mut request)
 }
 

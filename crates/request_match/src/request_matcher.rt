@@ -13,7 +13,7 @@ use mapping_model::request_spec::RequestSpec;
 use plain_text::text::Text;
 use request_parts::body_test::{BodyTest, build_body, meet_body};
 use request_parts::error::RequestMatchError;
-use request_parts::named_test::{NamedTest, build_tests, meet_headers, meet_pairs};
+use request_parts::named_test::{NamedTest, build_tests};
 use request_parts::parsed_request::ParsedRequest;
 use request_parts::url_key::UrlKey;
 use request_parts::url_test::UrlTest;
@@ -80,9 +80,10 @@ impl RequestMatcher {
     }
 
     /// Whether all but the body meets it, in the order of what the comparison costs.
-    fn meets_head(&mut self, request: &ParsedRequest<'_>) -> Result<bool, AllocError>
-        ensures answer { IfOk result (λ yes. IsTrue yes ↔ MeetsHead self.old request.now) }
+    fn meets_head(&mut self, request: &mut ParsedRequest<'_>) -> Result<bool, AllocError>
+        ensures answer { IfOk result (λ yes. IsTrue yes ↔ MeetsHead self.old request.old) }
         ensures same { self.new ≡ self.old }
+        ensures same_request { request.new ≡ request.old }
     {
         if !meets_method(&self.method, request.method()) {
             return Ok(false);
@@ -90,14 +91,13 @@ impl RequestMatcher {
         if !self.url.meets(self.alloc, request)? {
             return Ok(false);
         }
-        let values = request.values();
-        if !meet_headers(self.headers.as_mut_slice(), values)? {
+        if !request.meets_headers(self.headers.as_mut_slice())? {
             return Ok(false);
         }
-        if !meet_pairs(self.query.as_mut_slice(), values.query())? {
+        if !request.meets_query(self.query.as_mut_slice())? {
             return Ok(false);
         }
-        meet_pairs(self.cookies.as_mut_slice(), values.cookies())
+        request.meets_cookies(self.cookies.as_mut_slice())
     }
 
     /// What its literal URL is known by: a request for another one doesn't meet it.

@@ -1,4 +1,4 @@
--- The JSON of a body as it is kept, and what a path finds in it.
+-- The values of a request and the JSON of its body as they are kept, and what a path finds in it.
 use Rattle.std.proofs.Common.{◌≡◌, ◌↔◌, ℕ, Bool, List, Option, None, Some, Result, IfOk, IsTrue, subst}
 use Rattle.std.specs.Option.{IsSomeAnd, option_map}
 use Rattle.std.specs.Str.Lossy.{utf8_lossy}
@@ -7,6 +7,7 @@ use Rattle.data_tree.specs.LookUp.{at}
 use Rattle.data_tree.specs.Tree.{Tree, view}
 use Rattle.data_tree.specs.declared.data.Data.{Data}
 use Rattle.data_tree.specs.declared.step.Step.{Step}
+use Rattle.mock_request.specs.Request.{Request}
 use Rattle.json_bridge.proofs.Unique.{one_path}
 use Rattle.json_bridge.specs.Path.{SpellsPath}
 use Rattle.json_bridge.specs.Reading.{tree_of_text}
@@ -14,6 +15,11 @@ use Rattle.request_parts.specs.Inner.Read.{IsReadOf}
 use Rattle.request_parts.specs.Matching.{MeetsAtPath, found_text}
 use Rattle.value_match.specs.Matching.{Matches}
 use Rattle.value_match.specs.declared.value_spec.ValueSpec.{ValueSpec}
+
+-- the values that were read are those of the request
+pub are_of : (kept : Option Request) (values snapshot request : Request) → kept ≡ Some snapshot → kept ≡ Some values →
+    snapshot ≡ request → values ≡ request
+are_of kept values snapshot request read is same = cc
 
 -- the value that was read is the tree of the body's text
 pub was_read : (P : Tree → Type 0) (body : List ℕ) (kept : Option (Option Data)) (found : Option Data)

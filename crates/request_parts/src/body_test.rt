@@ -82,10 +82,8 @@ fn meets_kind(kind: &mut BodyKind, request: &mut ParsedRequest<'_>) -> Result<bo
     ensures same_request { request.new ≡ request.old }
 {
     match kind {
-        BodyKind::Value(matcher) => meets_text(matcher, request.values()),
-        BodyKind::BinaryEqualTo(bytes) => {
-            Ok(request.values().snapshot().body() == bytes.as_slice())
-        }
+        BodyKind::Value(matcher) => request.meets_text(matcher),
+        BodyKind::BinaryEqualTo(bytes) => Ok(request.snapshot().body() == bytes.as_slice()),
         BodyKind::Json(matcher) => request.meets_json(matcher),
         BodyKind::JsonPath(_, path, matcher) => request.meets_at(path, matcher),
     }
@@ -171,7 +169,10 @@ pub fn meet_body(
 }
 
 /// A body is always one value; an empty one also counts as absent.
-fn meets_text(matcher: &mut ValueMatcher, request: &RequestValues<'_>) -> Result<bool, AllocError>
+pub(crate) fn meets_text(
+    matcher: &mut ValueMatcher,
+    request: &RequestValues<'_>,
+) -> Result<bool, AllocError>
     ensures answer { IfOk result (λ yes. IsTrue yes ↔ MeetsText matcher.old request.now.body) }
     ensures same { matcher.new ≡ matcher.old }
 {

@@ -1,19 +1,22 @@
 // A request as matchers read it.
-ghost use Rattle.std.specs.Prelude.{◌≡◌, ◌↔◌, IfOk, IfSome, IsSomeAnd, IsTrue, OnOk, option_map};
+ghost use Rattle.std.specs.Prelude.{◌≡◌, ◌↔◌, IfOk, IfSome, IsSome, IsSomeAnd, IsTrue, OnOk, Some, option_map};
 ghost use Rattle.std.specs.Str.Lossy.{utf8_lossy};
 ghost use Rattle.data_tree.specs.LookUp.{at};
 ghost use Rattle.data_tree.specs.Tree.{view};
 ghost use Rattle.data_tree.specs.WellFormed.{IsWellFormed};
 ghost use Rattle.json_bridge.specs.Reading.{tree_of_text};
 ghost use Rattle.json_match.specs.Matching as json;
+ghost use Rattle.mock_request.specs.Cookies.{cookie_pairs};
+ghost use Rattle.mock_request.specs.Query.{query_pairs};
 ghost use Rattle.mock_request.specs.Url.{path_of};
 ghost use Rattle.request_parts.specs.Inner.Read.{IsReadOf};
 ghost use Rattle.request_parts.specs.Key.{MayHave};
-ghost use Rattle.request_parts.specs.Matching.{found_text};
+ghost use Rattle.request_parts.specs.Matching.{MeetHeaders, MeetPairs, MeetsText, found_text};
 ghost use Rattle.value_match.specs.Matching as value;
 
-use crate::body_test::meets_found;
+use crate::body_test::{meets_found, meets_text};
 use crate::hashed_text::HashedStr;
+use crate::named_test::{NamedTest, meet_headers, meet_pairs};
 use crate::url_key::UrlKey;
 use data_tree::data::Data;
 use json_bridge::json_path::JsonPath;
@@ -25,14 +28,16 @@ use std::alloc::{AllocError, Global};
 use std::marker::Model;
 use value_match::value_matcher::ValueMatcher;
 
-/// The method, URL, path and values of a request and the JSON of its body, made once for all mappings that it is compared
-/// with. Contracts see the request alone.
+/// A request with the hashes of its URL and of its path, and what matchers ask for beside: its values by name and the text
+/// of its body, and the JSON of that. Each is read once for all mappings that the request is compared with, when the first
+/// matcher asks for it. Contracts see the request alone.
 pub struct ParsedRequest<'a> {
-    values: RequestValues<'a>,
+    snapshot: &'a Snapshot,
     method: &'a str,
     url: HashedStr<'a>,
     path: HashedStr<'a>,
-    /// Read when the first matcher asks for it; `Some(None)`: the body isn't JSON.
+    values: Option<RequestValues<'a>>,
+    /// `Some(None)`: the body isn't JSON.
     json: Option<Option<Data>>,
     alloc: Global,
 }
@@ -45,32 +50,34 @@ impl<'a> Model for ParsedRequest<'a> {
 
     ghost Value = { Request };
 
-    ghost view = { λ p. p.values };
+    ghost view = { λ p. p.snapshot.now };
 
-    ghost invariant = { λ p. (p.method.now ≡ p.values.method) × (p.url ≡ p.values.url)
-        × (p.path ≡ path_of p.values.url) × IfSome p.json (IsReadOf p.values.body) };
+    ghost invariant = { λ p. (p.method.now ≡ p.snapshot.now.method) × (p.url ≡ p.snapshot.now.url)
+        × (p.path ≡ path_of p.snapshot.now.url) × IfSome p.values (λ values. values ≡ p.snapshot.now)
+        × IfSome p.json (IsReadOf p.snapshot.now.body) };
 }
 
 impl<'a> ParsedRequest<'a> {
-    /// Takes the request's values apart, and not yet its JSON.
-    pub fn read(alloc: Global, snapshot: &'a Snapshot) -> Result<ParsedRequest<'a>, AllocError>
-        ensures { IfOk result (λ request. request ≡ snapshot.now) }
+    /// Takes no memory: what takes some is read later.
+    pub fn new(alloc: Global, snapshot: &'a Snapshot) -> ParsedRequest<'a>
+        ensures { result ≡ snapshot.now }
     {
-        Ok(ParsedRequest {
-            values: RequestValues::read(alloc, snapshot)?,
+        ParsedRequest {
+            snapshot,
             method: snapshot.method(),
             url: HashedStr::new(snapshot.url()),
             path: HashedStr::new(snapshot.path()),
+            values: None,
             json: None,
             alloc,
-        })
+        }
     }
 
-    /// The request's values.
-    pub fn values(&self) -> &RequestValues<'a>
+    /// The request itself.
+    pub fn snapshot(&self) -> &'a Snapshot
         ensures { result.now ≡ self.now }
     {
-        &self.values
+        self.snapshot
     }
 
     pub fn method(&self) -> &'a str
@@ -118,13 +125,66 @@ impl<'a> ParsedRequest<'a> {
         &self.path
     }
 
+    /// Whether its headers meet each test.
+    pub fn meets_headers(&mut self, tests: &mut [NamedTest]) -> Result<bool, AllocError>
+        ensures answer { IfOk result (λ yes. IsTrue yes ↔ MeetHeaders tests.old self.old) }
+        ensures same { self.new ≡ self.old }
+        ensures same_tests { tests.new ≡ tests.old }
+    {
+        if tests.is_empty() {
+            return Ok(true);
+        }
+        read_values(self.alloc, self.snapshot, &mut self.values)?;
+        let values = values_read(&self.values);
+        meet_headers(tests, values)
+    }
+
+    /// Whether its query meets each test.
+    pub fn meets_query(&mut self, tests: &mut [NamedTest]) -> Result<bool, AllocError>
+        ensures answer { IfOk result (λ yes. IsTrue yes ↔ MeetPairs tests.old (query_pairs self.old.url)) }
+        ensures same { self.new ≡ self.old }
+        ensures same_tests { tests.new ≡ tests.old }
+    {
+        if tests.is_empty() {
+            return Ok(true);
+        }
+        read_values(self.alloc, self.snapshot, &mut self.values)?;
+        let values = values_read(&self.values);
+        meet_pairs(tests, values.query())
+    }
+
+    /// Whether its cookies meet each test.
+    pub fn meets_cookies(&mut self, tests: &mut [NamedTest]) -> Result<bool, AllocError>
+        ensures answer { IfOk result (λ yes. IsTrue yes ↔ MeetPairs tests.old (cookie_pairs self.old.headers)) }
+        ensures same { self.new ≡ self.old }
+        ensures same_tests { tests.new ≡ tests.old }
+    {
+        if tests.is_empty() {
+            return Ok(true);
+        }
+        read_values(self.alloc, self.snapshot, &mut self.values)?;
+        let values = values_read(&self.values);
+        meet_pairs(tests, values.cookies())
+    }
+
+    /// Whether the text of its body meets the matcher.
+    pub(crate) fn meets_text(&mut self, matcher: &mut ValueMatcher) -> Result<bool, AllocError>
+        ensures answer { IfOk result (λ yes. IsTrue yes ↔ MeetsText matcher.old self.old.body) }
+        ensures same { self.new ≡ self.old }
+        ensures same_matcher { matcher.new ≡ matcher.old }
+    {
+        read_values(self.alloc, self.snapshot, &mut self.values)?;
+        let values = values_read(&self.values);
+        meets_text(matcher, values)
+    }
+
     /// Whether the body is JSON that meets the matcher.
     pub(crate) fn meets_json(&mut self, matcher: &JsonMatcher) -> Result<bool, AllocError>
         ensures answer { IfOk result (λ yes. IsTrue yes
             ↔ IsSomeAnd (tree_of_text (utf8_lossy self.old.body)) (json.Matches matcher.now)) }
         ensures same { self.new ≡ self.old }
     {
-        read_once(self.alloc, &self.values, &mut self.json)?;
+        read_json(self.alloc, self.snapshot, &mut self.values, &mut self.json)?;
         match &self.json {
             Some(found) => meets_read(found, matcher),
             None => Ok(false),
@@ -143,7 +203,7 @@ impl<'a> ParsedRequest<'a> {
         ensures same { self.new ≡ self.old }
         ensures same_matcher { matcher.new ≡ matcher.old }
     {
-        read_once(self.alloc, &self.values, &mut self.json)?;
+        read_json(self.alloc, self.snapshot, &mut self.values, &mut self.json)?;
         match &self.json {
             Some(Some(data)) => meets_found(self.alloc, matcher, data.at(path.steps())),
             _ => Ok(false),
@@ -155,28 +215,60 @@ impl<'a> ParsedRequest<'a> {
 impl<'a> Drop for ParsedRequest<'a> {
     fn drop(self) {
         let ParsedRequest {
-            values: _values,
+            snapshot: _snapshot,
             method: _method,
             url: _url,
             path: _path,
+            values: _values,
             json: _json,
             alloc: _alloc,
         } = self;
     }
 }
 
-/// Reads the JSON of the body, unless it was read before.
-fn read_once(
+/// Reads the values, unless they were read before.
+fn read_values<'a>(
     alloc: Global,
-    values: &RequestValues<'_>,
+    snapshot: &'a Snapshot,
+    values: &mut Option<RequestValues<'a>>,
+) -> Result<(), AllocError>
+    requires { IfSome values.old (λ read. read ≡ snapshot.now) }
+    ensures read { OnOk result (values.new ≡ Some snapshot.now) }
+    ensures kept { IfSome values.new (λ read. read ≡ snapshot.now) }
+{
+    if values.is_none() {
+        *values = Some(RequestValues::read(alloc, snapshot)?);
+    }
+    Ok(())
+}
+
+/// The values, which were read.
+fn values_read<'v, 'a>(values: &'v Option<RequestValues<'a>>) -> &'v RequestValues<'a>
+    requires { IsSome values.now }
+    ensures { values.now ≡ Some result.now }
+{
+    match values {
+        Some(values) => values,
+        None => unreachable!(),
+    }
+}
+
+/// Reads the JSON of the body, unless it was read before.
+fn read_json<'a>(
+    alloc: Global,
+    snapshot: &'a Snapshot,
+    values: &mut Option<RequestValues<'a>>,
     json: &mut Option<Option<Data>>,
 ) -> Result<(), AllocError>
-    requires { IfSome json.old (IsReadOf values.now.body) }
-    ensures read { OnOk result (IsSomeAnd json.new (IsReadOf values.now.body)) }
-    ensures kept { IfSome json.new (IsReadOf values.now.body) }
+    requires values { IfSome values.old (λ read. read ≡ snapshot.now) }
+    requires json { IfSome json.old (IsReadOf snapshot.now.body) }
+    ensures read { OnOk result (IsSomeAnd json.new (IsReadOf snapshot.now.body)) }
+    ensures kept_values { IfSome values.new (λ read. read ≡ snapshot.now) }
+    ensures kept { IfSome json.new (IsReadOf snapshot.now.body) }
 {
     if json.is_none() {
-        *json = Some(data_of_json(alloc, values.body_text())?);
+        read_values(alloc, snapshot, values)?;
+        *json = Some(data_of_json(alloc, values_read(values).body_text())?);
     }
     Ok(())
 }

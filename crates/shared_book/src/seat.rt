@@ -224,7 +224,7 @@ impl<L: Origin> Seat<L> {
     {
         self.own.reserve(1)?;
         let request = SharedRequest::new(*self.own.allocator(), request)?;
-        let mut parsed = ParsedRequest::read(*self.own.allocator(), request.request())?;
+        let mut parsed = ParsedRequest::new(*self.own.allocator(), request.request());
         touch_memory(*self.own.allocator())?;
         let receipt = shared.serve(rt, &mut self.share, request.try_clone()?, &mut parsed)?;
         self.count += 1;

@@ -31,7 +31,7 @@ impl Book {
         self.has_number()?;
         let shared = SharedRequest::new(self.alloc, request)?;
         let kept = shared.try_clone()?;
-        let mut parsed = ParsedRequest::read(self.alloc, shared.request())?;
+        let mut parsed = ParsedRequest::new(self.alloc, shared.request());
         let answer = self.chosen(&mut parsed)?;
         let copy = answer.try_clone()?;
         self.add_served(kept, answer)?;

@@ -113,7 +113,7 @@ impl World {
     {
         let shared = SharedRequest::new(self.alloc, request)?;
         let kept = shared.try_clone()?;
-        let mut parsed = ParsedRequest::read(self.alloc, shared.request())?;
+        let mut parsed = ParsedRequest::new(self.alloc, shared.request());
         self.held.reserve(1)?;
         match self.book.serve_read(kept, &mut parsed) {
             Ok(event) => {

@@ -1,6 +1,6 @@
 use Rattle.std.proofs.Common.{◌↔◌, IfOk, IsTrue, sym, subst}
 use Rattle.request_parts.specs.Inner.Kept.{body_pattern_of, KeepsPath}
-use Rattle.request_parts.specs.Matching.{MeetsBody, MeetsText}
+use Rattle.request_parts.specs.Matching.{MeetsBody}
 use Rattle.request_parts.proofs.ReadLemmas.{at_path_of}
 use Rattle.request_parts.proofs.RestLemmas.{answered}
 use Rattle.request_parts.proofs.body_test.meets_kind.Goals as goal
@@ -8,9 +8,7 @@ use Rattle.request_parts.proofs.body_test.meets_kind.Goals as goal
 pub returns-in-Value-clause-answer : goal.returns-in-Value-clause-answer
 returns-in-Value-clause-answer c =
     subst (λ k. IfOk c.meets_text.result (λ b. IsTrue b ↔ MeetsBody (body_pattern_of k) c.args.request.now.body))
-    (sym c.in-Value.is)
-    (subst (λ r. IfOk c.meets_text.result (λ b. IsTrue b ↔ MeetsText c.in-Value.matcher r.body)) c.values.ensures
-    c.meets_text.ensures.answer)
+    (sym c.in-Value.is) c.meets_text.ensures.answer
 
 pub returns-in-Json-clause-answer : goal.returns-in-Json-clause-answer
 returns-in-Json-clause-answer c =

@@ -1,4 +1,4 @@
-use Rattle.std.proofs.Common.{ap, sym, subst, ◌∙◌}
+use Rattle.std.proofs.Common.{◌≡◌, ◌↔◌, ap, IfOk, IsTrue, sym, subst, ◌∙◌}
 use Rattle.mock_request.specs.Query.{query_pairs}
 use Rattle.request_match.specs.Matching.{MeetsMethod}
 use Rattle.request_parts.specs.Matching.{MeetsUrl, MeetHeaders, MeetPairs}
@@ -10,10 +10,9 @@ pub returns-then-not-branch-2-clause-answer : goal.returns-then-not-branch-2-cla
 returns-then-not-branch-2-clause-answer c = (
   λ f. absurd cc (f),
   λ h.
-      let passed = c.in_ok-meet_headers.ensures.answer.1
-      (subst (MeetHeaders c.as_mut_slice.result.now) (sym c.values-values.ensures)
+      let passed = c.in_ok-meets_headers.ensures.answer.1
       (subst (λ ts. MeetHeaders ts c.args.request.now) (sym c.as_mut_slice.ensures.value)
-      (subst (λ m. MeetHeaders m.headers c.args.request.now) (sym c.self.view_is) h.headers))) in
+      (subst (λ m. MeetHeaders m.headers c.args.request.now) (sym c.self.view_is) h.headers)) in
       cc,
 )
 
@@ -21,9 +20,8 @@ pub returns-then-not-branch-3-clause-answer : goal.returns-then-not-branch-3-cla
 returns-then-not-branch-3-clause-answer c = (
   λ f. absurd cc (f),
   λ h.
-      let passed = c.in_ok-meet_pairs.ensures.answer.1
-      (subst (MeetPairs c.as_mut_slice-2.result.now)
-      (sym (c.query.ensures ∙ ap (λ r. query_pairs r.url) c.values-values.ensures))
+      let passed = c.in_ok-meets_query.ensures.answer.1
+      (subst (MeetPairs c.as_mut_slice-2.result.now) (sym (ap (λ r. query_pairs r.url) c.meets_headers.ensures.same))
       (subst (λ ts. MeetPairs ts (query_pairs c.args.request.now.url)) (sym c.as_mut_slice-2.ensures.value)
       (subst (λ m. MeetPairs m.query (query_pairs c.args.request.now.url)) (sym c.self.view_is) h.query))) in
       cc,
@@ -32,24 +30,24 @@ returns-then-not-branch-3-clause-answer c = (
 pub returns-clause-answer : goal.returns-clause-answer
 returns-clause-answer c =
     let request = c.args.request.now in
-    let is = c.values-values.ensures in
-    answered c.meet_pairs-2.result c.meet_pairs-2.ensures.answer (
+    let cookies = ap (λ r. cookie_pairs r.headers) (c.meets_query.ensures.same ∙ c.meets_headers.ensures.same) in
+    answered c.meets_cookies.result
+    (subst (λ pairs. IfOk c.meets_cookies.result (λ b. IsTrue b ↔ MeetPairs c.as_mut_slice-3.result.now pairs)) cookies
+    c.meets_cookies.ensures.answer) (
       λ a. record {
         method = subst (λ m. MeetsMethod m.method request.method) c.self.view_is
             (subst (MeetsMethod c.self.inside.method) c.method.ensures (c.meets_method.ensures.0 cc));
         url = subst (λ m. MeetsUrl m.url request.url) c.self.view_is (c.in_ok-meets.ensures.answer.0 cc);
         headers = subst (λ m. MeetHeaders m.headers request) c.self.view_is
             (subst (λ ts. MeetHeaders ts request) c.as_mut_slice.ensures.value
-            (subst (MeetHeaders c.as_mut_slice.result.now) is (c.in_ok-meet_headers.ensures.answer.0 cc)));
+            (c.in_ok-meets_headers.ensures.answer.0 cc));
         query = subst (λ m. MeetPairs m.query (query_pairs request.url)) c.self.view_is
             (subst (λ ts. MeetPairs ts (query_pairs request.url)) c.as_mut_slice-2.ensures.value
-            (subst (MeetPairs c.as_mut_slice-2.result.now) (c.query.ensures ∙ ap (λ r. query_pairs r.url) is)
-            (c.in_ok-meet_pairs.ensures.answer.0 cc)));
+            (subst (MeetPairs c.as_mut_slice-2.result.now) (ap (λ r. query_pairs r.url) c.meets_headers.ensures.same)
+            (c.in_ok-meets_query.ensures.answer.0 cc)));
         cookies = subst (λ m. MeetPairs m.cookies (cookie_pairs request.headers)) c.self.view_is
-            (subst (λ ts. MeetPairs ts (cookie_pairs request.headers)) c.as_mut_slice-3.ensures.value
-            (subst (MeetPairs c.as_mut_slice-3.result.now) (c.cookies.ensures ∙ ap (λ r. cookie_pairs r.headers) is) a));
+            (subst (λ ts. MeetPairs ts (cookie_pairs request.headers)) c.as_mut_slice-3.ensures.value a);
       },
-      λ h. subst (MeetPairs c.as_mut_slice-3.result.now) (sym (c.cookies.ensures ∙ ap (λ r. cookie_pairs r.headers) is))
-          (subst (λ ts. MeetPairs ts (cookie_pairs request.headers)) (sym c.as_mut_slice-3.ensures.value)
-          (subst (λ m. MeetPairs m.cookies (cookie_pairs request.headers)) (sym c.self.view_is) h.cookies)),
+      λ h. subst (λ ts. MeetPairs ts (cookie_pairs request.headers)) (sym c.as_mut_slice-3.ensures.value)
+          (subst (λ m. MeetPairs m.cookies (cookie_pairs request.headers)) (sym c.self.view_is) h.cookies),
     )
