@@ -38,8 +38,8 @@ impl Book {
         Ok(copy)
     }
 
-    /// The same for a request that was taken apart before: under a lock no more than the choice is left to do. It gives
-    /// the event, which is shared with the history.
+    /// The same for a request that is shared already: under a lock it is only compared and noted. It gives the event,
+    /// which is shared with the history.
     pub fn serve_read(
         &mut self,
         request: SharedRequest,
