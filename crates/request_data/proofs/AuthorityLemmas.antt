@@ -155,7 +155,7 @@ port_read {E} bs (Err e) parsed few plain =
 
 -- ---- the port as a number of the data
 
-port_at_most : (text : List ℕ) → port_of text ≤ greatest_port
+pub port_at_most : (text : List ℕ) → port_of text ≤ greatest_port
 port_at_most text = by (has_port text) refl
   where
     by : (b : Bool) → has_port text ≡ b

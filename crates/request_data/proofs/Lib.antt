@@ -4,4 +4,9 @@ pub mod HostLemmas
 pub mod AuthorityLemmas
 pub mod PathLemmas
 pub mod TreeLemmas
+pub mod TextBounds
+pub mod GroupBounds
+pub mod QueryBounds
+pub mod PathBounds
+pub mod TreeBounds
 pub mod Examples

@@ -3,6 +3,7 @@
 //! values) and `Authority` (host and port) as its parts.
 #![tactic(auto)]
 
+pub mod size_bound;
 pub mod tree;
 
 // The parts of the data.

@@ -1,3 +1,4 @@
 pub mod RunFacts
 pub mod ItemFacts
+pub mod FindFacts
 pub mod EscapeFacts

@@ -1,5 +1,6 @@
 pub mod Code
 pub mod Instructions
 pub mod Machine
+pub mod Finds
 pub mod Laws
 pub mod Listing

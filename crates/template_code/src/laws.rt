@@ -1,5 +1,5 @@
 //! Laws over the definitions, for all code and all runs: functions that do nothing, whose contracts are the laws.
-ghost use Rattle.template_code.specs.Laws.{RunsEndAlike, EachLoopHasItem};
+ghost use Rattle.template_code.specs.Laws.{RunsEndAlike, EachLoopHasItem, RunsReadWhatIsFound};
 ghost use Rattle.helper_set.specs.Escape.{html_escaped};
 ghost use Rattle.template_code.specs.declared.limits.TheConstants.{MAX_ESCAPE_GROWTH};
 ghost use Rattle.std.specs.Prelude.{ℕ, ◌*◌, ◌≤◌, List, length, FitsSigned};
@@ -13,6 +13,11 @@ pub fn law_runs_are_determined()
 /// A loop is open only while it is at an item.
 pub fn law_open_loops_have_an_item()
     ensures { EachLoopHasItem }
+{}
+
+/// A run reads no more of the root than what its code's paths find and the body's data.
+pub fn law_runs_read_what_is_found()
+    ensures { RunsReadWhatIsFound }
 {}
 
 /// An escaped text is at most six times as long.

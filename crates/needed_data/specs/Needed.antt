@@ -1,0 +1,42 @@
+-- Which of a request's data is looked at, and when two roots of data are alike in it.
+use Rattle.std.specs.Prelude.{◌≡◌, ℕ, Bool, IsTrue, ◌||◌, List, [], ◌∷◌, codes}
+use Rattle.std.specs.List.{list_any}
+use Rattle.std.specs.Str.{bytes_eq}
+use Rattle.data_tree.specs.Tree.{Tree}
+use Rattle.data_tree.specs.LookUp.{at}
+use Rattle.data_tree.specs.declared.step.Step.{Step}
+use Rattle.data_tree.specs.declared.step.Step.TheVariants.{Name}
+
+-- all of it; the body's data; and the fields of the request that have these names
+pub record NeededData : Type 0 where
+  pub everything : Bool
+  pub json : Bool
+  pub names : List (List ℕ)
+
+-- the paths to the body's data and to a field of the request
+abbrev pub json_path : List Step
+json_path = Name (codes "json") ∷ []
+
+abbrev pub field_path : List ℕ → List Step
+field_path name = Name (codes "request") ∷ Name name ∷ []
+
+abbrev pub is_json_needed : NeededData → Bool
+is_json_needed needed = needed.everything || needed.json
+
+abbrev pub is_needed : NeededData → List ℕ → Bool
+is_needed needed name = needed.everything || list_any (λ other. bytes_eq other name) needed.names
+
+-- the two roots have the same of what is needed
+pub record AreAlike (needed : NeededData) (r r' : Tree) : Type 0 where
+  pub everything : IsTrue needed.everything → r ≡ r'
+  pub json : IsTrue (is_json_needed needed) → at json_path r ≡ at json_path r'
+  pub fields :
+      (name : List ℕ) → IsTrue (is_needed needed name) → at (field_path name) r ≡ at (field_path name) r'
+
+-- what is needed by the second is needed by the first
+abbrev pub Includes : NeededData → NeededData → Type 0
+Includes more less = (r r' : Tree) → AreAlike more r r' → AreAlike less r r'
+
+-- the steps find the same in roots that are alike
+abbrev pub Covers : NeededData → List Step → Type 0
+Covers needed steps = (r r' : Tree) → AreAlike needed r r' → at steps r ≡ at steps r'

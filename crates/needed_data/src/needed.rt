@@ -1,0 +1,124 @@
+//! The data that is looked at.
+ghost use Rattle.std.specs.Prelude.{◌≡◌, false, true, [], ◌∷◌, IfSome, codes};
+ghost use Rattle.data_tree.specs.declared.step.Step.TheVariants.{Name};
+ghost use Rattle.needed_data.specs.Needed.{is_json_needed, is_needed, json_path, field_path, Includes, Covers};
+
+use arrayvec::ArrayVec;
+use data_tree::step::Step;
+use std::marker::Model;
+
+/// How many names are told apart: data with more of them is needed as a whole.
+const MAX_NAMES: usize = 8;
+
+/// Which of a request's data is looked at: all of it, the body's data, or fields of the request by their names. Takes
+/// no memory.
+#[derive(Drop)]
+pub struct Needed<'a> {
+    everything: bool,
+    json: bool,
+    names: ArrayVec<&'a str, MAX_NAMES>,
+}
+
+impl<'a> Model for Needed<'a> {
+    ghost use Rattle.std.specs.Prelude.{map};
+    ghost use Rattle.needed_data.specs.Needed.{NeededData};
+
+    ghost Value = { NeededData };
+
+    ghost view = { λ n. record {
+      everything = n.everything;
+      json = n.json;
+      names = map (λ name. name.now) n.names.items;
+    } };
+}
+
+impl<'a> Needed<'a> {
+    /// Nothing is needed.
+    pub fn new() -> Needed<'a>
+        ensures everything { result.everything ≡ false }
+        ensures json { result.json ≡ false }
+        ensures names { result.names ≡ [] }
+    {
+        Needed {
+            everything: false,
+            json: false,
+            names: ArrayVec::new(),
+        }
+    }
+
+    /// What the steps find is needed too: the body's data, a field of the request, or else everything.
+    pub fn add_steps(&mut self, steps: &'a [Step])
+        ensures more { Includes self.new self.old }
+        ensures steps { Covers self.new steps.now }
+    {
+        match named(steps) {
+            Some((first, _)) if first == "json" => self.add_json(),
+            Some((first, later)) if first == "request" => self.add_request_steps(later),
+            _ => self.add_everything(),
+        }
+    }
+
+    /// The body's data is needed too.
+    pub fn add_json(&mut self)
+        ensures more { Includes self.new self.old }
+        ensures json { Covers self.new json_path }
+    {
+        self.json = true;
+    }
+
+    fn add_everything(&mut self)
+        ensures more { Includes self.new self.old }
+        ensures everything { self.new.everything ≡ true }
+    {
+        self.everything = true;
+    }
+
+    // Steps that are taken from the request.
+    fn add_request_steps(&mut self, steps: &'a [Step])
+        ensures more { Includes self.new self.old }
+        ensures steps { Covers self.new (Name (codes "request") ∷ steps.now) }
+    {
+        match named(steps) {
+            Some((name, _)) => self.add_field(name),
+            None => self.add_everything(),
+        }
+    }
+
+    fn add_field(&mut self, name: &'a str)
+        ensures more { Includes self.new self.old }
+        ensures field { Covers self.new (field_path name.now) }
+    {
+        if self.has(name) {
+            return;
+        }
+        if self.names.is_full() {
+            self.add_everything();
+        } else {
+            self.names.push(name);
+        }
+    }
+
+    /// Whether the body's data is needed.
+    pub fn has_json(&self) -> bool
+        ensures { result ≡ is_json_needed self.now }
+    {
+        self.everything || self.json
+    }
+
+    /// Whether the request's field of that name is needed.
+    pub fn has(&self, name: &str) -> bool
+        ensures { result ≡ is_needed self.now name.now }
+    {
+        self.everything || self.names.as_slice().contains(&name)
+    }
+}
+
+// The name of the first step, where it is one, and the steps after it.
+fn named(steps: &[Step]) -> Option<(&str, &[Step])>
+    ensures { IfSome result (λ found. steps.now ≡ Name found.0.now ∷ found.1.now) }
+{
+    match steps.split_first() {
+        Some((Step::Name(name), later)) => Some((name.as_str(), later)),
+        _ => None,
+    }
+}
