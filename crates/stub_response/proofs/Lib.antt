@@ -1,3 +1,5 @@
 pub mod LimitLemmas
 pub mod ListLemmas
 pub mod ResponseLemmas
+pub mod AlikeLemmas
+pub mod GrowthLemmas

@@ -10,5 +10,6 @@ pub mod limits;
 mod plain;
 mod rendered;
 pub mod respond;
+mod templated;
 mod typed_reply;
 pub mod unmatched_reply;

@@ -1,0 +1,58 @@
+-- What templates give over the part of a request's data that they look at is what they give over the whole.
+use Rattle.std.proofs.Common.{◌≡◌, ℕ, List, [], ◌∷◌, ◌++◌, All, map, length, take, drop, get_or}
+use Rattle.std.specs.List.{AllZip}
+use Rattle.std.proofs.lemmas.List.Elements.{All-head, All-tail}
+use Rattle.data_tree.specs.LookUp.{EmptyNameFindsNothing}
+use Rattle.data_tree.specs.Tree.{Tree}
+use Rattle.mapping_model.specs.declared.header_lines.HeaderLine.{HeaderLine}
+use Rattle.mapping_model.specs.declared.reply.Reply.{Reply}
+use Rattle.mapping_model.specs.declared.reply.ReplyHeader.{ReplyHeader}
+use Rattle.mapping_model.specs.declared.response_spec.Body.{Body}
+use Rattle.mapping_model.specs.declared.response_spec.Body.TheVariants.{Empty, Text, Json, Base64}
+use Rattle.template_machine.specs.Program.{FindsSame}
+use Rattle.template_tree.specs.Source.{Source}
+use Rattle.stub_response.specs.Response.{IsBody, IsLine, IsMade, Rendered, body_templates, templates_of}
+
+module _ (r r' : Tree) (no_empty_name : EmptyNameFindsNothing r') where
+  alike_rendered : (template : Source) (text : List ℕ) → FindsSame template r r' → Rendered r template text →
+      Rendered r' template text
+  alike_rendered template text finds h = ?
+
+  alike_line : (line : HeaderLine Source) (header : ReplyHeader) → FindsSame line.value r r' →
+      IsLine (Rendered r) line header → IsLine (Rendered r') line header
+  alike_line line header finds h = record {
+    text = h.text;
+    given = alike_rendered line.value h.text finds h.given;
+    name = h.name;
+    value = h.value;
+  }
+
+  alike_body : (content : Body Source) (bytes : List ℕ) → All (λ t. FindsSame t r r') (body_templates content) →
+      IsBody (Rendered r) content bytes → IsBody (Rendered r') content bytes
+  alike_body Empty bytes finds h = h
+  alike_body (Text text) bytes finds h = alike_rendered text bytes (All-head (λ t. FindsSame t r r') text [] finds) h
+  alike_body (Json text) bytes finds h = h
+  alike_body (Base64 octets) bytes finds h = h
+
+  -- the lines, and what is left to say of the templates of the body
+  alike_lines : (lines : List (HeaderLine Source)) (headers : List ReplyHeader) (more : List Source) →
+      All (λ t. FindsSame t r r') (map (λ line. line.value) lines ++ more) → AllZip (IsLine (Rendered r)) lines headers →
+      AllZip (IsLine (Rendered r')) lines headers × All (λ t. FindsSame t r r') more
+  alike_lines [] [] more finds h = (tt, finds)
+  alike_lines [] (header ∷ headers) more finds h = absurd h
+  alike_lines (line ∷ lines) [] more finds h = absurd h
+  alike_lines (line ∷ lines) (header ∷ headers) more finds h =
+      let rest = map (λ (l : HeaderLine Source). l.value) lines ++ more in
+      let later = alike_lines lines headers more (All-tail (λ t. FindsSame t r r') line.value rest finds) h.1 in
+      ((alike_line line header (All-head (λ t. FindsSame t r r') line.value rest finds) h.0, later.0), later.1)
+
+  pub alike_made : (status : ℕ) (lines : List (HeaderLine Source)) (content : Body Source) (reply : Reply) →
+      All (λ t. FindsSame t r r') (templates_of lines content) → IsMade (Rendered r) status lines content reply →
+      IsMade (Rendered r') status lines content reply
+  alike_made status lines content reply finds h =
+      let parts = alike_lines lines reply.headers (body_templates content) finds h.headers in
+      record {
+        same_status = h.same_status;
+        headers = parts.0;
+        body = alike_body content reply.body parts.1 h.body;
+      }
