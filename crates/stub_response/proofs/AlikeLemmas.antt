@@ -1,7 +1,7 @@
 -- What templates give over the part of a request's data that they look at is what they give over the whole.
-use Rattle.std.proofs.Common.{◌≡◌, ℕ, List, [], ◌∷◌, ◌++◌, All, map, length, take, drop, get_or}
+use Rattle.std.proofs.Common.{◌≡◌, ℕ, List, [], ◌∷◌, ◌++◌, All, map, sym, subst}
 use Rattle.std.specs.List.{AllZip}
-use Rattle.std.proofs.lemmas.List.Elements.{All-head, All-tail}
+use Rattle.std.proofs.lemmas.List.Elements.{All-head, All-tail, All-push}
 use Rattle.data_tree.specs.LookUp.{EmptyNameFindsNothing}
 use Rattle.data_tree.specs.Tree.{Tree}
 use Rattle.mapping_model.specs.declared.header_lines.HeaderLine.{HeaderLine}
@@ -9,14 +9,28 @@ use Rattle.mapping_model.specs.declared.reply.Reply.{Reply}
 use Rattle.mapping_model.specs.declared.reply.ReplyHeader.{ReplyHeader}
 use Rattle.mapping_model.specs.declared.response_spec.Body.{Body}
 use Rattle.mapping_model.specs.declared.response_spec.Body.TheVariants.{Empty, Text, Json, Base64}
-use Rattle.template_machine.specs.Program.{FindsSame}
+use Rattle.needed_data.specs.Needed.{NeededData, AreAlike, Includes}
+use Rattle.template_machine.proofs.Programs.{renders_alike}
+use Rattle.template_machine.specs.Program.{FindsSame, IsMeant}
 use Rattle.template_tree.specs.Source.{Source}
+use Rattle.stub_response.specs.Inner.Alike.{IsNeededBy}
 use Rattle.stub_response.specs.Response.{IsBody, IsLine, IsMade, Rendered, body_templates, templates_of}
 
 module _ (r r' : Tree) (no_empty_name : EmptyNameFindsNothing r') where
   alike_rendered : (template : Source) (text : List ℕ) → FindsSame template r r' → Rendered r template text →
       Rendered r' template text
-  alike_rendered template text finds h = ?
+  alike_rendered template text finds h =
+      let same = subst (λ source. FindsSame source r r') (sym h.source) finds in
+      let both = renders_alike h.program r r' h.steps text h.whole no_empty_name same h.ran in
+      record {
+        meant = subst (λ source. IsMeant source r' text) h.source both.1;
+        program = h.program;
+        source = h.source;
+        whole = h.whole;
+        safe = h.safe;
+        steps = h.steps;
+        ran = both.0;
+      }
 
   alike_line : (line : HeaderLine Source) (header : ReplyHeader) → FindsSame line.value r r' →
       IsLine (Rendered r) line header → IsLine (Rendered r') line header
@@ -56,3 +70,10 @@ module _ (r r' : Tree) (no_empty_name : EmptyNameFindsNothing r') where
         headers = parts.0;
         body = alike_body content reply.body parts.1 h.body;
       }
+
+-- what one template more looks at is needed too
+pub needed_more : (more less : NeededData) (templates : List Source) (template : Source) → Includes more less →
+    IsNeededBy less templates → ((r r' : Tree) → AreAlike more r r' → FindsSame template r r') →
+    IsNeededBy more (templates ++ template ∷ [])
+needed_more more less templates template includes before finds r r' alike =
+    All-push (λ t. FindsSame t r r') templates template (before r r' (includes r r' alike)) (finds r r' alike)
