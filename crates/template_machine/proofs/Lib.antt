@@ -5,5 +5,6 @@ pub mod ItemTurns
 pub mod Calls
 pub mod Formed
 pub mod Running
+pub mod NeedFacts
 pub mod Programs
 pub mod Refusals

@@ -3,6 +3,7 @@ pub mod Calls
 pub mod Conversions
 pub mod Found
 pub mod Loops
+pub mod Needs
 pub mod Programs
 pub mod Slots
 pub mod Turns

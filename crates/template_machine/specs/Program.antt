@@ -6,6 +6,7 @@ use Rattle.template_tree.specs.Source.{Source}
 use Rattle.template_tree.specs.Grammar.{Spells}
 use Rattle.template_tree.specs.Meaning.{template_text}
 use Rattle.template_code.specs.Code.{StackCode}
+use Rattle.template_code.specs.Finds.{FindSame}
 use Rattle.template_code.specs.declared.limits.TheConstants.{MAX_INSTRUCTIONS}
 use Rattle.template_compile.specs.Compiled.{stack_code}
 use Rattle.template_compile.specs.Correct.{WritesTextOf}
@@ -30,6 +31,10 @@ pub record IsProgram (p : ProgramParts) : Type 0 where
   pub spelled : Spells p.source tree
   pub translated : p.code ≡ stack_code tree
   pub runs : WritesTextOf p.code tree
+
+-- the code of the source's program, if it is one, finds the same in both roots
+abbrev pub FindsSame : Source → Tree → Tree → Type 0
+FindsSame source r r' = (p : ProgramParts) → IsProgram p → p.source ≡ source → FindSame p.code r r'
 
 -- the text is the one that the source means over a root
 pub record IsMeant (source : Source) (root : Tree) (text : List ℕ) : Type 0 where

@@ -8,6 +8,7 @@ pub mod error;
 mod escape;
 mod held;
 mod machine;
+mod needs;
 mod open_loop;
 pub mod program;
 pub mod run;

@@ -1,6 +1,8 @@
 //! Programs: templates that are compiled and verified, ready to be rendered.
 ghost use Rattle.std.specs.Prelude.{◌≡◌, ◌≤◌, ℕ, length, string_bytes, IfOk, IfErr, OnOk, IsErrOf};
 ghost use Rattle.data_tree.specs.Json.{size};
+ghost use Rattle.data_tree.specs.Tree.{Tree};
+ghost use Rattle.needed_data.specs.Needed.{Includes, AreAlike};
 ghost use Rattle.data_tree.specs.RequestData.{root_of};
 ghost use Rattle.code_rules.specs.Polynomial.{value, as_printed};
 ghost use Rattle.code_rules.specs.Regions.{budget};
@@ -9,16 +11,18 @@ ghost use Rattle.template_code.specs.Machine.{Runs};
 ghost use Rattle.template_tree.specs.Source.{with_escape, unescaped};
 ghost use Rattle.template_machine.specs.Errors.{IsErrorOf};
 ghost use Rattle.template_machine.specs.Inner.Programs.{IsCodeOf, IsOnlyErrorOf};
-ghost use Rattle.template_machine.specs.Program.{IsProgram, IsProgramText, IsMeant};
+ghost use Rattle.template_machine.specs.Program.{IsProgram, IsProgramText, IsMeant, FindsSame};
 ghost use Rattle.safe_code.specs.Safe.{IsSafe};
 ghost use Rattle.template_machine.specs.declared.error.ProgramError.TheVariants.{CodeRefused, OutOfMemory};
 
 use crate::error::ProgramError;
+use crate::needs::add_code;
 use crate::run::{Rendered, run};
 use code_verifier::budget::Budget;
 use code_verifier::verified::Verified;
 use code_verifier::verify::verify;
 use data_tree::request_data::RequestData;
+use needed_data::needed::Needed;
 use std::alloc::{AllocError, Global};
 use std::marker::Model;
 use template_compile::compiler::compile;
@@ -103,6 +107,14 @@ impl Program {
         ensures { result ≡ self.now.source.escape }
     {
         self.escape
+    }
+
+    /// What a rendering looks at is needed too.
+    pub fn add_needed<'a>(&'a self, needed: &mut Needed<'a>)
+        ensures more { Includes needed.new needed.old }
+        ensures finds { (r r' : Tree) → AreAlike needed.new r r' → FindsSame self.now.source r r' }
+    {
+        add_code(self.verified.code(), needed);
     }
 
     /// How many steps a rendering takes and how many bytes it writes, at most.
