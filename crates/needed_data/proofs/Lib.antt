@@ -1,1 +1,2 @@
 pub mod NeededFacts
+pub mod Examples
