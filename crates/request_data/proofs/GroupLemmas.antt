@@ -39,7 +39,7 @@ tied x y e = (bytes_eq-Decides x y).0 (sym (is_eq-slice_cmp x y) ∙ ap is_eq e)
 other_way : (x y : List ℕ) → byte_order x y ≡ Greater → byte_order y x ≡ Less
 other_way x y e = nat_list_cmp_total.antisymm y x ∙ ap ordering_reverse e
 
-below_all
+pub below_all
     : (x y : List ℕ) (names : List (List ℕ)) → byte_order x y ≡ Less
     → AllByRecursion (λ n. byte_order y n ≡ Less) names → AllByRecursion (λ n. byte_order x n ≡ Less) names
 below_all x y [] less all = tt
@@ -273,7 +273,7 @@ pub texts_well_formed : (ts : List (List ℕ)) → AreWellFormed (texts ts)
 texts_well_formed [] = tt
 texts_well_formed (t ∷ ts) = (tt, texts_well_formed ts)
 
-ascending : (names : List (List ℕ)) → IsStrictlySortedBy byte_order names → IsAscending names
+pub ascending : (names : List (List ℕ)) → IsStrictlySortedBy byte_order names → IsAscending names
 unfolding IsStrictlySortedBy
 ascending [] sorted = tt
 ascending (name ∷ []) sorted = tt

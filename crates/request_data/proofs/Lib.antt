@@ -9,4 +9,5 @@ pub mod GroupBounds
 pub mod QueryBounds
 pub mod PathBounds
 pub mod TreeBounds
+pub mod PartLemmas
 pub mod Examples

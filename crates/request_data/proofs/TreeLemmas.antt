@@ -1,14 +1,13 @@
 -- What a request's tree keeps.
 use Rattle.std.proofs.Common.{◌≡◌, ℕ, List, [], ◌∷◌, ◌++◌, String, string_bytes, Option, None, Some, refl, ap, ◌∙◌, rules}
 use Rattle.std.specs.Option.{option_map_or}
-use Rattle.std.specs.Str.Lossy.{utf8_lossy}
 use Rattle.std.specs.declared.alloc.Global.{Global}
 use Rattle.data_tree.specs.declared.data.Data.{Data, Nothing, Text, the_lemmas}
 use Rattle.mock_request.specs.Request.{Request}
-use Rattle.request_data.specs.RequestTree.{bound_in, json_tree, path_tree, request_tree}
+use Rattle.request_data.specs.RequestTree.{bound_in, path_tree, request_fields}
 use Rattle.request_data.specs.Grouped.{firsts}
 use Rattle.path_template.specs.Matching.{bindings_of}
-use Rattle.data_tree.specs.Tree.{Tree, nothing, text, Members, no_members, member, view, members_view}
+use Rattle.data_tree.specs.Tree.{Tree, nothing, text, fields, Members, no_members, member, view, members_view}
 use Rattle.mock_request.specs.Url.{path_of, segments_of}
 use Rattle.mock_request.specs.Query.{query_pairs}
 use Rattle.mock_request.specs.HeaderFields.{header_pairs}
@@ -33,10 +32,9 @@ bound_well_formed path (Some template) = by (bindings_of template path)
     by None = (tt, tt)
     by (Some pairs) = firsts_well_formed pairs
 
-pub request_tree_well_formed
-    : (request : Request) (template : Option (List ℕ)) → IsWellFormed (json_tree (utf8_lossy request.body))
-    → IsWellFormed (request_tree request template)
-request_tree_well_formed request template json =
+pub request_fields_well_formed
+    : (request : Request) (template : Option (List ℕ)) → IsWellFormed (fields (request_fields request template))
+request_fields_well_formed request template =
     let bound = bound_well_formed (path_of request.url) template in
     let parts = texts_well_formed (segments_of (path_of request.url)) in
     let path : IsWellFormed (path_tree (path_of request.url) (bound_in (path_of request.url) template)) =
@@ -46,17 +44,8 @@ request_tree_well_formed request template json =
     let cookies = grouped_well_formed (cookie_pairs request.headers) in
     let headers = grouped_well_formed (header_pairs request.headers) in
     let query = grouped_well_formed (query_pairs request.url) in (
-      (refl, tt),
-      (
-        json,
-        (
-          (
-            (refl, (refl, (refl, (refl, (refl, (refl, (refl, (refl, (refl, (refl, (refl, tt))))))))))),
-            (tt, (tt, (cookies, (headers, (tt, (tt, (path, (segments, (port, (query, (tt, (tt, tt)))))))))))),
-          ),
-          tt,
-        ),
-      ),
+      (refl, (refl, (refl, (refl, (refl, (refl, (refl, (refl, (refl, (refl, (refl, tt))))))))))),
+      (tt, (tt, (cookies, (headers, (tt, (tt, (path, (segments, (port, (query, (tt, (tt, tt)))))))))))),
     )
 
 pub view-Nothing : view Nothing ≡ nothing

@@ -1,4 +1,5 @@
 pub mod Grouped
 pub mod Authority
 pub mod RequestTree
+pub mod Part
 pub mod Inner

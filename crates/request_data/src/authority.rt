@@ -1,8 +1,10 @@
 // The host and the port in a request's `host` header.
-ghost use Rattle.std.specs.Prelude.{◌≡◌, if◌then◌else◌, Some, None, codes};
+ghost use Rattle.std.specs.Prelude.{◌≡◌, if◌then◌else◌, IfOk, Some, None, string_bytes};
 ghost use Rattle.std.specs.Str.Parse.{digits_value};
-ghost use Rattle.mock_request.specs.Values.{first_of, pairs_of, values_of};
-ghost use Rattle.request_data.specs.Authority.{is_port, host_of, port_of};
+ghost use Rattle.request_data.specs.Authority.{authority_of, is_port, host_of, port_of};
+
+use mock_request::snapshot::Snapshot;
+use std::alloc::{AllocError, Global};
 
 // The port of a request that names none: HTTP's.
 const DEFAULT_PORT: u16 = 80;
@@ -11,15 +13,17 @@ const DEFAULT_PORT: u16 = 80;
 const PORT_DIGITS: usize = 5;
 
 /// The text of the first `host` header, empty where there is none.
-pub(crate) fn authority(headers: &[(String, String)]) -> &str
-    ensures { result.now ≡ first_of (values_of (codes "host") (pairs_of headers.now)) }
+pub(crate) fn authority(alloc: Global, snapshot: &Snapshot) -> Result<String, AllocError>
+    ensures { IfOk result (λ text. string_bytes text ≡ authority_of snapshot.now.headers) }
 {
-    for (name, value) in headers {
-        if name.as_str() == "host" {
-            return value.as_str();
+    for index in 0..snapshot.header_count() {
+        if let Some((name, value)) = snapshot.header(index) {
+            if name == "host" {
+                return String::from_utf8_lossy(alloc, value);
+            }
         }
     }
-    ""
+    Ok(String::new(alloc))
 }
 
 /// The host, and the port after the last colon or else the default one.

@@ -3,10 +3,13 @@
 //! values) and `Authority` (host and port) as its parts.
 #![tactic(auto)]
 
+pub mod part;
 pub mod size_bound;
 pub mod tree;
 
 // The parts of the data.
 mod authority;
+mod fields;
 mod grouped;
 mod object;
+mod path_data;

@@ -2,7 +2,7 @@ use Rattle.std.proofs.Common.{lit<}
 use Rattle.std.proofs.lemmas.Str.Pattern.{strip_prefix_char}
 use Rattle.mock_request.specs.Target.{slash}
 use Rattle.request_data.proofs.PathLemmas.{after_slash}
-use Rattle.request_data.proofs.tree.after_slash.Goals as goal
+use Rattle.request_data.proofs.path_data.after_slash.Goals as goal
 
 pub returns : goal.returns
 returns c =

@@ -6,7 +6,7 @@ use Rattle.data_tree.specs.Tree.{nothing}
 use Rattle.json_bridge.proofs.Vectors.{are_texts}
 use Rattle.request_data.specs.RequestTree.{json_tree}
 use Rattle.request_data.proofs.TreeLemmas.{view-Nothing}
-use Rattle.request_data.proofs.tree.json.Goals as goal
+use Rattle.request_data.proofs.part.json.Goals as goal
 
 -- an empty text is no JSON
 pub returns-then-is_empty-clause-tree : goal.returns-then-is_empty-clause-tree

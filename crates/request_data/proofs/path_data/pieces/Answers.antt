@@ -6,7 +6,7 @@ use Rattle.data_tree.specs.Tree.{items_of}
 use Rattle.request_data.specs.Grouped.{texts}
 use Rattle.mock_request.specs.Target.{slash}
 use Rattle.request_data.proofs.PathLemmas.{texts_from_pieces}
-use Rattle.request_data.proofs.tree.pieces.Goals as goal
+use Rattle.request_data.proofs.path_data.pieces.Goals as goal
 
 pub returns : goal.returns
 returns c =

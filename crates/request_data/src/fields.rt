@@ -1,0 +1,203 @@
+// The fields of a request's data. Each is made only where its name is needed.
+ghost use Rattle.std.specs.Prelude.{◌≡◌, [], ◌∷◌, ◌++◌, IfOk, OnOk, IfSome, pos, codes, string_bytes, option_copied};
+ghost use Rattle.std.specs.Str.Lossy.{utf8_lossy};
+ghost use Rattle.data_tree.specs.Tree.{number, text, no_members};
+ghost use Rattle.mock_request.specs.Cookies.{cookie_pairs};
+ghost use Rattle.mock_request.specs.HeaderFields.{header_pairs};
+ghost use Rattle.mock_request.specs.Query.{query_pairs};
+ghost use Rattle.mock_request.specs.Url.{path_of};
+ghost use Rattle.request_data.specs.Authority.{authority_of, host_of, port_of};
+ghost use Rattle.request_data.specs.Grouped.{grouped};
+ghost use Rattle.request_data.specs.Inner.Views.{entries_of, kept_of};
+ghost use Rattle.request_data.specs.RequestTree.{bound_in, path_tree};
+
+use crate::authority::{authority, host_and_port};
+use crate::grouped::grouped;
+use crate::object::Object;
+use crate::path_data::{bindings, path_data};
+use data_tree::data::Data;
+use mock_request::body::body_text;
+use mock_request::cookies::cookie_pairs;
+use mock_request::header_fields::header_pairs;
+use mock_request::query::query_pairs;
+use mock_request::snapshot::Snapshot;
+use needed_data::needed::Needed;
+use path_template::path_template::PathTemplate;
+use std::alloc::{AllocError, Global};
+
+/// `http://` and the text of the first `host` header.
+pub(crate) fn push_base_url(
+    alloc: Global,
+    made: &mut Object,
+    needed: &Needed<'_>,
+    snapshot: &Snapshot,
+) -> Result<(), AllocError>
+    ensures { OnOk result (entries_of made.new.fields.items ≡ entries_of made.old.fields.items
+        ++ kept_of needed.now ((codes "baseUrl", text (codes "http://" ++ authority_of snapshot.now.headers)) ∷ [])) }
+{
+    if !needed.has("baseUrl") {
+        return Ok(());
+    }
+    let mut url = String::from_str(alloc, "http://")?;
+    url.push_str(authority(alloc, snapshot)?.as_str())?;
+    made.push("baseUrl", Data::Text(url))
+}
+
+/// The body's text, which may be at hand.
+pub(crate) fn push_body(
+    alloc: Global,
+    made: &mut Object,
+    needed: &Needed<'_>,
+    snapshot: &Snapshot,
+    body: Option<String>,
+) -> Result<(), AllocError>
+    requires { IfSome body (λ text. string_bytes text ≡ utf8_lossy snapshot.now.body) }
+    ensures { OnOk result (entries_of made.new.fields.items ≡ entries_of made.old.fields.items
+        ++ kept_of needed.now ((codes "body", text (utf8_lossy snapshot.now.body)) ∷ [])) }
+{
+    if !needed.has("body") {
+        return Ok(());
+    }
+    let text = match body {
+        Some(text) => text,
+        None => body_text(alloc, snapshot)?,
+    };
+    made.push("body", Data::Text(text))
+}
+
+pub(crate) fn push_cookies(
+    alloc: Global,
+    made: &mut Object,
+    needed: &Needed<'_>,
+    snapshot: &Snapshot,
+) -> Result<(), AllocError>
+    ensures { OnOk result (entries_of made.new.fields.items ≡ entries_of made.old.fields.items
+        ++ kept_of needed.now ((codes "cookies", grouped (cookie_pairs snapshot.now.headers)) ∷ [])) }
+{
+    if !needed.has("cookies") {
+        return Ok(());
+    }
+    made.push("cookies", grouped(alloc, cookie_pairs(alloc, snapshot)?)?)
+}
+
+pub(crate) fn push_headers(
+    alloc: Global,
+    made: &mut Object,
+    needed: &Needed<'_>,
+    snapshot: &Snapshot,
+) -> Result<(), AllocError>
+    ensures { OnOk result (entries_of made.new.fields.items ≡ entries_of made.old.fields.items
+        ++ kept_of needed.now ((codes "headers", grouped (header_pairs snapshot.now.headers)) ∷ [])) }
+{
+    if !needed.has("headers") {
+        return Ok(());
+    }
+    made.push("headers", grouped(alloc, header_pairs(alloc, snapshot)?)?)
+}
+
+/// The host in the first `host` header.
+pub(crate) fn push_host(
+    alloc: Global,
+    made: &mut Object,
+    needed: &Needed<'_>,
+    snapshot: &Snapshot,
+) -> Result<(), AllocError>
+    ensures { OnOk result (entries_of made.new.fields.items ≡ entries_of made.old.fields.items
+        ++ kept_of needed.now ((codes "host", text (host_of (authority_of snapshot.now.headers))) ∷ [])) }
+{
+    if !needed.has("host") {
+        return Ok(());
+    }
+    let authority = authority(alloc, snapshot)?;
+    let (host, _port) = host_and_port(authority.as_str());
+    made.push_text("host", host)
+}
+
+/// The path, with what the template binds in it.
+pub(crate) fn push_path(
+    alloc: Global,
+    made: &mut Object,
+    needed: &Needed<'_>,
+    snapshot: &Snapshot,
+    template: Option<&PathTemplate>,
+) -> Result<(), AllocError>
+    ensures { OnOk result (entries_of made.new.fields.items ≡ entries_of made.old.fields.items
+        ++ kept_of needed.now ((
+          codes "path",
+          path_tree (path_of snapshot.now.url)
+              (bound_in (path_of snapshot.now.url) (option_copied template.entry)),
+        ) ∷ [])) }
+{
+    if !needed.has("path") {
+        return Ok(());
+    }
+    let path = snapshot.path();
+    let bindings = bindings(alloc, template, path)?;
+    made.push("path", path_data(alloc, path, bindings)?)
+}
+
+/// The path with nothing bound in it.
+pub(crate) fn push_path_segments(
+    alloc: Global,
+    made: &mut Object,
+    needed: &Needed<'_>,
+    snapshot: &Snapshot,
+) -> Result<(), AllocError>
+    ensures { OnOk result (entries_of made.new.fields.items ≡ entries_of made.old.fields.items
+        ++ kept_of needed.now ((codes "pathSegments", path_tree (path_of snapshot.now.url) no_members) ∷ [])) }
+{
+    if !needed.has("pathSegments") {
+        return Ok(());
+    }
+    let segments = path_data(alloc, snapshot.path(), Vec::new(alloc))?;
+    made.push("pathSegments", segments)
+}
+
+/// The port in the first `host` header.
+pub(crate) fn push_port(
+    alloc: Global,
+    made: &mut Object,
+    needed: &Needed<'_>,
+    snapshot: &Snapshot,
+) -> Result<(), AllocError>
+    ensures { OnOk result (entries_of made.new.fields.items ≡ entries_of made.old.fields.items
+        ++ kept_of needed.now ((codes "port", number (pos (port_of (authority_of snapshot.now.headers)))) ∷ [])) }
+{
+    if !needed.has("port") {
+        return Ok(());
+    }
+    let authority = authority(alloc, snapshot)?;
+    let (_host, port) = host_and_port(authority.as_str());
+    made.push("port", Data::Number(i128::from(port)))
+}
+
+pub(crate) fn push_query(
+    alloc: Global,
+    made: &mut Object,
+    needed: &Needed<'_>,
+    snapshot: &Snapshot,
+) -> Result<(), AllocError>
+    ensures { OnOk result (entries_of made.new.fields.items ≡ entries_of made.old.fields.items
+        ++ kept_of needed.now ((codes "query", grouped (query_pairs snapshot.now.url)) ∷ [])) }
+{
+    if !needed.has("query") {
+        return Ok(());
+    }
+    made.push("query", grouped(alloc, query_pairs(alloc, snapshot)?)?)
+}
+
+/// A field whose text is at hand.
+pub(crate) fn push_text(
+    made: &mut Object,
+    needed: &Needed<'_>,
+    name: &str,
+    content: &str,
+) -> Result<(), AllocError>
+    ensures { OnOk result (entries_of made.new.fields.items ≡ entries_of made.old.fields.items
+        ++ kept_of needed.now ((name.now, text content.now) ∷ [])) }
+{
+    if !needed.has(name) {
+        return Ok(());
+    }
+    made.push_text(name, content)
+}

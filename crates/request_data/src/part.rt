@@ -1,0 +1,115 @@
+// The part of a request's data that is needed.
+ghost use Rattle.std.specs.Prelude.{◌≡◌, ◌≤◌, IfOk, OnOk, IfErr, IfSome, string_bytes, option_copied};
+ghost use Rattle.std.specs.Str.Lossy.{utf8_lossy};
+ghost use Rattle.data_tree.specs.Tree.{fields, view};
+ghost use Rattle.data_tree.specs.Json.{size};
+ghost use Rattle.data_tree.specs.RequestData.{root_of};
+ghost use Rattle.data_tree.specs.WellFormed.{IsWellFormed};
+ghost use Rattle.needed_data.specs.Needed.{AreAlike};
+ghost use Rattle.request_data.specs.Part.{kept, part_tree};
+ghost use Rattle.request_data.specs.RequestTree.{json_tree, request_fields, request_tree, IsRefusal};
+
+use crate::fields::{
+    push_base_url, push_body, push_cookies, push_headers, push_host, push_path, push_path_segments,
+    push_port, push_query, push_text,
+};
+use crate::object::Object;
+use data_tree::data::Data;
+use data_tree::request_data::{DataError, RequestData, SIZE_LIMIT};
+use json_bridge::read::data_of_json;
+use mock_request::body::body_text;
+use mock_request::snapshot::Snapshot;
+use needed_data::needed::Needed;
+use path_template::path_template::PathTemplate;
+use std::alloc::{AllocError, Global};
+
+/// The part of a request's data that is needed, where it is within `RequestData`'s limit. What isn't needed isn't
+/// computed. A path template that the path matches names segments of it, in the fields of `request.path`.
+pub fn part_of_data(
+    alloc: Global,
+    snapshot: &Snapshot,
+    template: Option<&PathTemplate>,
+    needed: &Needed<'_>,
+) -> Result<RequestData, DataError>
+    ensures tree { IfOk result (λ made.
+        root_of made ≡ part_tree needed.now snapshot.now (option_copied template.entry)) }
+    ensures alike { IfOk result (λ made.
+        AreAlike needed.now (root_of made) (request_tree snapshot.now (option_copied template.entry))) }
+    ensures within { OnOk result
+        (size (part_tree needed.now snapshot.now (option_copied template.entry)) ≤ SIZE_LIMIT) }
+    ensures well_formed { IfOk result (λ made. IsWellFormed (root_of made)) }
+    ensures refusal { IfErr result (IsRefusal (part_tree needed.now snapshot.now (option_copied template.entry))) }
+
+    // So where the data as a whole is within the limit, the part is.
+    ensures smaller { size (part_tree needed.now snapshot.now (option_copied template.entry))
+        ≤ size (request_tree snapshot.now (option_copied template.entry)) }
+{
+    let Ok(root) = root(alloc, snapshot, template, needed) else {
+        return Err(DataError::OutOfMemory);
+    };
+    RequestData::new(root)
+}
+
+fn root(
+    alloc: Global,
+    snapshot: &Snapshot,
+    template: Option<&PathTemplate>,
+    needed: &Needed<'_>,
+) -> Result<Data, AllocError>
+    ensures tree { IfOk result (λ root.
+        view root ≡ part_tree needed.now snapshot.now (option_copied template.entry)) }
+    ensures well_formed { IfOk result (λ root. IsWellFormed (view root)) }
+{
+    let mut root = Object::new(alloc);
+    if !needed.has_json() {
+        root.push("request", request(alloc, snapshot, template, needed, None)?)?;
+        return Ok(root.into_data());
+    }
+    let body = body_text(alloc, snapshot)?;
+    root.push("json", json(alloc, body.as_str())?)?;
+    root.push(
+        "request",
+        request(alloc, snapshot, template, needed, Some(body))?,
+    )?;
+    Ok(root.into_data())
+}
+
+// The data of a JSON text, and `Nothing` of another. Most requests have no body, and a reader of JSON begins with much
+// room on the stack.
+fn json(alloc: Global, text: &str) -> Result<Data, AllocError>
+    ensures tree { IfOk result (λ made. view made ≡ json_tree text.now) }
+    ensures well_formed { IfOk result (λ made. IsWellFormed (view made)) }
+{
+    if text.is_empty() {
+        return Ok(Data::Nothing);
+    }
+    Ok(data_of_json(alloc, text)?.unwrap_or(Data::Nothing))
+}
+
+// The fields of the request that are needed. The body's text may be at hand.
+fn request(
+    alloc: Global,
+    snapshot: &Snapshot,
+    template: Option<&PathTemplate>,
+    needed: &Needed<'_>,
+    body: Option<String>,
+) -> Result<Data, AllocError>
+    requires { IfSome body (λ text. string_bytes text ≡ utf8_lossy snapshot.now.body) }
+    ensures { IfOk result (λ made.
+        view made ≡ fields (kept needed.now (request_fields snapshot.now (option_copied template.entry)))) }
+{
+    let mut made = Object::new(alloc);
+    push_base_url(alloc, &mut made, needed, snapshot)?;
+    push_body(alloc, &mut made, needed, snapshot, body)?;
+    push_cookies(alloc, &mut made, needed, snapshot)?;
+    push_headers(alloc, &mut made, needed, snapshot)?;
+    push_host(alloc, &mut made, needed, snapshot)?;
+    push_text(&mut made, needed, "method", snapshot.method())?;
+    push_path(alloc, &mut made, needed, snapshot, template)?;
+    push_path_segments(alloc, &mut made, needed, snapshot)?;
+    push_port(alloc, &mut made, needed, snapshot)?;
+    push_query(alloc, &mut made, needed, snapshot)?;
+    push_text(&mut made, needed, "scheme", "http")?;
+    push_text(&mut made, needed, "url", snapshot.url())?;
+    Ok(made.into_data())
+}
