@@ -1,6 +1,7 @@
 -- What templates give over the part of a request's data that they look at is what they give over the whole.
-use Rattle.std.proofs.Common.{◌≡◌, ℕ, List, [], ◌∷◌, ◌++◌, All, map, sym, subst}
+use Rattle.std.proofs.Common.{◌≡◌, ℕ, List, [], ◌∷◌, ◌++◌, ◌≤◌, All, length, map, refl, sym, subst, take, Option}
 use Rattle.std.specs.List.{AllZip}
+use Rattle.std.proofs.lemmas.List.{append-nil, take_all}
 use Rattle.std.proofs.lemmas.List.Elements.{All-head, All-tail, All-push}
 use Rattle.data_tree.specs.LookUp.{EmptyNameFindsNothing}
 use Rattle.data_tree.specs.Tree.{Tree}
@@ -9,19 +10,25 @@ use Rattle.mapping_model.specs.declared.reply.Reply.{Reply}
 use Rattle.mapping_model.specs.declared.reply.ReplyHeader.{ReplyHeader}
 use Rattle.mapping_model.specs.declared.response_spec.Body.{Body}
 use Rattle.mapping_model.specs.declared.response_spec.Body.TheVariants.{Empty, Text, Json, Base64}
+use Rattle.mock_request.specs.Request.{Request}
 use Rattle.needed_data.specs.Needed.{NeededData, AreAlike, Includes}
+use Rattle.request_data.specs.RequestTree.{request_tree}
 use Rattle.template_machine.proofs.Programs.{renders_alike}
 use Rattle.template_machine.specs.Program.{FindsSame, IsMeant}
 use Rattle.template_tree.specs.Source.{Source}
 use Rattle.stub_response.specs.Inner.Alike.{IsNeededBy}
 use Rattle.stub_response.specs.Response.{IsBody, IsLine, IsMade, Rendered, body_templates, templates_of}
 
-module _ (r r' : Tree) (no_empty_name : EmptyNameFindsNothing r') where
+pub no_empty_name : (request : Request) (template : Option (List ℕ)) →
+    EmptyNameFindsNothing (request_tree request template)
+no_empty_name request template = refl
+
+module _ (r r' : Tree) (clean : EmptyNameFindsNothing r') where
   alike_rendered : (template : Source) (text : List ℕ) → FindsSame template r r' → Rendered r template text →
       Rendered r' template text
   alike_rendered template text finds h =
       let same = subst (λ source. FindsSame source r r') (sym h.source) finds in
-      let both = renders_alike h.program r r' h.steps text h.whole no_empty_name same h.ran in
+      let both = renders_alike h.program r r' h.steps text h.whole clean same h.ran in
       record {
         meant = subst (λ source. IsMeant source r' text) h.source both.1;
         program = h.program;
@@ -77,3 +84,14 @@ pub needed_more : (more less : NeededData) (templates : List Source) (template :
     IsNeededBy more (templates ++ template ∷ [])
 needed_more more less templates template includes before finds r r' alike =
     All-push (λ t. FindsSame t r r') templates template (before r r' (includes r r' alike)) (finds r r' alike)
+
+-- a body that is no template looks at nothing
+pub lines_alone : (needed : NeededData) (lines : List (HeaderLine Source)) (content : Body Source) (i : ℕ) →
+    body_templates content ≡ [] → length lines ≤ i →
+    IsNeededBy needed (map (λ (line : HeaderLine Source). line.value) (take i lines)) →
+    IsNeededBy needed (templates_of lines content)
+lines_alone needed lines content i none ended h =
+    let value = λ (line : HeaderLine Source). line.value in
+    subst (λ ts. IsNeededBy needed (map value lines ++ ts)) (sym none)
+    (subst (IsNeededBy needed) (sym (append-nil (map value lines)))
+    (subst (λ (ls : List (HeaderLine Source)). IsNeededBy needed (map value ls)) (take_all i lines ended) h))

@@ -41,9 +41,7 @@ pub(crate) fn templated_reply(
         limits status headers.now body.now (request_tree request.now (option_copied template.entry))) }
 {
     if is_within(limits, headers, body, request, template) {
-        if let Some(reply) = reply_over_part(alloc, status, headers, body, request, template)? {
-            return Ok(reply);
-        }
+        return reply_over_part(alloc, status, headers, body, request, template);
     }
     match data_within_limit(alloc, request, template)? {
         Some(data) => reply_over(alloc, status, headers, body, &data, limits),
@@ -68,8 +66,7 @@ fn is_within(
     }
 }
 
-// The reply over as much of the request's data as the templates look at. (That this is within its limit, as the whole
-// is, isn't shown: `None` says that it is not.)
+// The reply over as much of the request's data as the templates look at.
 fn reply_over_part(
     alloc: Global,
     status: Status,
@@ -77,14 +74,15 @@ fn reply_over_part(
     body: &Body<TemplateText>,
     request: &Snapshot,
     template: Option<&PathTemplate>,
-) -> Result<Option<Reply>, AllocError>
-    ensures { IfOk result (λ made. IfSome made
-        (IsMade (Rendered (request_tree request.now (option_copied template.entry))) status headers.now body.now)) }
+) -> Result<Reply, AllocError>
+    requires { size (request_tree request.now (option_copied template)) ≤ SIZE_LIMIT }
+    ensures { IfOk result (IsMade (Rendered (request_tree request.now (option_copied template.entry)))
+        status headers.now body.now) }
 {
     let needed = needed_by(headers, body);
     match part_of_data(alloc, request, template, &needed) {
-        Ok(part) => Ok(Some(rendered_reply(alloc, status, headers, body, &part)?)),
-        Err(DataError::TooLarge(_part)) => Ok(None),
+        Ok(part) => rendered_reply(alloc, status, headers, body, &part),
+        Err(DataError::TooLarge(_part)) => unreachable!(),
         Err(DataError::OutOfMemory) => Err(AllocError),
     }
 }
@@ -97,8 +95,9 @@ fn needed_by<'a>(headers: &'a [HeaderLine<TemplateText>], body: &'a Body<Templat
     for header in headers {
         header.value.program().add_needed(&mut needed);
     }
-    if let Body::Text(template) = body {
-        template.program().add_needed(&mut needed);
+    match body {
+        Body::Text(template) => template.program().add_needed(&mut needed),
+        Body::Empty | Body::Json(_) | Body::Base64(_) => {}
     }
     needed
 }
