@@ -31,19 +31,6 @@ pub enum Slot<'a> {
     Text(Text<'a>),
 }
 
-// Fills the entries of a stack that aren't in use.
-impl<'a> Default for Slot<'a> {
-    ghost use Rattle.std.specs.Prelude.{None};
-    ghost use Rattle.template_machine.specs.declared.slot.Slot.TheVariants as slots;
-    ghost use Rattle.template_machine.specs.declared.value.Value.TheVariants.{Datum};
-
-    ghost is_default = { λ slot. slot ≡ slots.Value (Datum None) };
-
-    fn default() -> Self {
-        Slot::Value(Value::Datum(None))
-    }
-}
-
 impl<'a> Text<'a> {
     ghost use Rattle.std.specs.Prelude.{◌++◌, OnOk};
 
