@@ -1,5 +1,5 @@
 -- What keeps to the limits over larger data keeps to them over smaller data.
-use Rattle.std.proofs.Common.{ℕ, ◌≤◌, ◌+◌, List, [], ◌∷◌, arith}
+use Rattle.std.proofs.Common.{ℕ, ◌≤◌, List, [], ◌∷◌, arith}
 use Rattle.std.specs.List.{sum_by}
 use Rattle.std.proofs.lemmas.List.Sums.{sum_by-cons}
 use Rattle.code_rules.specs.Polynomial.{value}
@@ -22,8 +22,8 @@ keep-smaller limits templates m n le k = record {
   budgets = k.budgets;
   steps =
       let less = sum-grows (λ (c : Budget). value c.steps m) (λ (c : Budget). value c.steps n)
-          (λ c. value-grows c.steps m n le) k.costs in omega (arith, less, k.steps);
+      (λ c. value-grows c.steps m n le) k.costs in omega (arith, less, k.steps);
   bytes =
       let less = sum-grows (λ (c : Budget). value c.bytes m) (λ (c : Budget). value c.bytes n)
-          (λ c. value-grows c.bytes m n le) k.costs in omega (arith, less, k.bytes);
+      (λ c. value-grows c.bytes m n le) k.costs in omega (arith, less, k.bytes);
 }

@@ -88,7 +88,10 @@ fn reply_over_part(
 }
 
 // What the templates look at.
-fn needed_by<'a>(headers: &'a [HeaderLine<TemplateText>], body: &'a Body<TemplateText>) -> Needed<'a>
+fn needed_by<'a>(
+    headers: &'a [HeaderLine<TemplateText>],
+    body: &'a Body<TemplateText>,
+) -> Needed<'a>
     ensures { IsNeededBy result (templates_of headers.now body.now) }
 {
     let mut needed = Needed::new();

@@ -1,5 +1,5 @@
-use Rattle.std.proofs.Common.{◌≡◌, ◌+◌, ℕ, List, [], ◌∷◌, ◌++◌, map, take, sym, ap, ◌∙◌, subst, arith}
-use Rattle.std.proofs.lemmas.List.{map_more, take_all, append-nil}
+use Rattle.std.proofs.Common.{◌≡◌, ◌+◌, List, [], ◌∷◌, ◌++◌, map, take, sym, ap, ◌∙◌, subst, arith}
+use Rattle.std.proofs.lemmas.List.{map_more, take_all}
 use Rattle.mapping_model.specs.declared.header_lines.HeaderLine.{HeaderLine}
 use Rattle.stub_response.proofs.AlikeLemmas.{lines_alone, needed_more}
 use Rattle.template_machine.specs.Program.{FindsSame}
@@ -30,9 +30,9 @@ returns-in-Text c =
     let needed = c.add_needed-in-Text.new.needed in
     let whole : take i lines ≡ lines = take_all i lines (omega arith) in
     let more = needed_more needed c.loop-header.needed (map value (take i lines)) c.in-Text.template
-        c.add_needed-in-Text.ensures.more c.loop-header.invariant
-        (λ r r' alike. subst (λ s. FindsSame s r r') c.program-in-Text.ensures.source
-        (c.add_needed-in-Text.ensures.finds r r' alike)) in
+    c.add_needed-in-Text.ensures.more c.loop-header.invariant
+    (λ r r' alike. subst (λ s. FindsSame s r r') c.program-in-Text.ensures.source
+    (c.add_needed-in-Text.ensures.finds r r' alike)) in
     subst (λ body. IsNeededBy needed (templates_of lines body)) (sym c.in-Text.is)
     (subst (λ (ls : List (HeaderLine Source)). IsNeededBy needed (map value ls ++ c.in-Text.template ∷ [])) whole more)
 

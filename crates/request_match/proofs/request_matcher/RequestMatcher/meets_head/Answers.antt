@@ -1,4 +1,4 @@
-use Rattle.std.proofs.Common.{◌≡◌, ◌↔◌, ap, IfOk, IsTrue, sym, subst, ◌∙◌}
+use Rattle.std.proofs.Common.{◌↔◌, ap, IfOk, IsTrue, sym, subst, ◌∙◌}
 use Rattle.mock_request.specs.Query.{query_pairs}
 use Rattle.request_match.specs.Matching.{MeetsMethod}
 use Rattle.request_parts.specs.Matching.{MeetsUrl, MeetHeaders, MeetPairs}
