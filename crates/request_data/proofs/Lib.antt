@@ -8,6 +8,7 @@ pub mod TextBounds
 pub mod GroupBounds
 pub mod QueryBounds
 pub mod PathBounds
+pub mod CookieBounds
 pub mod TreeBounds
 pub mod PartLemmas
 pub mod Examples

@@ -49,7 +49,7 @@ onto_first_length b [] = omega (arith, sum_by-cons length (b ∷ []) [])
 onto_first_length b (piece ∷ pieces) =
     omega (arith, sum_by-cons length (b ∷ piece) pieces, sum_by-cons length piece pieces)
 
-split_length : (p : ℕ → Bool) (bs : List ℕ) → sum_by length (slice_split p bs) ≤ length bs
+pub split_length : (p : ℕ → Bool) (bs : List ℕ) → sum_by length (slice_split p bs) ≤ length bs
 split_length p [] = omega arith
 split_length p (b ∷ bs) =
     cond_both (p b) ([] ∷ slice_split p bs) (onto_first b (slice_split p bs))

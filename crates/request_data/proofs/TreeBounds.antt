@@ -1,4 +1,4 @@
--- How large the data of a request with no body and no cookies is at most.
+-- How large the data of a request with no body is at most.
 use Rattle.std.proofs.Common.{◌≡◌, ℕ, ◌+◌, ◌-◌, ◌*◌, ◌≤◌, Bool, true, false, List, [], ◌∷◌, ◌++◌, length, refl, ap, ◌∙◌, arith}
 use Rattle.std.proofs.Common.{Option, None, Some, pos, drop, not, codes}
 use Rattle.std.specs.Prelude.{unwrap_or}
@@ -22,16 +22,56 @@ use Rattle.mock_request.specs.Query.{query_pairs}
 use Rattle.mock_request.specs.Url.{path_of, query_of, is_question_mark}
 use Rattle.request_data.specs.Authority.{authority_of, host_of, port_of, has_port, is_colon}
 use Rattle.request_data.specs.Grouped.{grouped}
-use Rattle.request_data.specs.Inner.Lengths.{header_len, template_len}
+use Rattle.request_data.specs.Inner.Lengths.{header_weight, template_len}
 use Rattle.request_data.specs.RequestTree.{bound_in, json_tree, path_tree, request_fields, request_tree}
 use Rattle.request_data.proofs.AuthorityLemmas.{port_at_most}
 use Rattle.request_data.proofs.TreeLemmas.{members_from}
 use Rattle.request_data.proofs.TextBounds.{quoted_most, first_member, member_most, lossy_most}
 use Rattle.request_data.proofs.GroupBounds.{pair_cost, grouped_most}
+use Rattle.request_data.proofs.CookieBounds.{cookie_len, cookies_most}
+use Rattle.std.proofs.lemmas.Cmp.{nat_list_eq_equiv}
 use Rattle.request_data.proofs.QueryBounds.{query_len, form_most, two_parts}
 use Rattle.request_data.proofs.PathBounds.{path_most, path_segments_most}
 
 -- ---- headers
+
+abbrev header_len : Header → ℕ
+header_len header = length header.name + length header.value
+
+-- what the headers count
+weights_sum
+    : (headers : List Header)
+    → sum_by header_weight headers ≡ sum_by header_len headers + 2 * sum_by cookie_len headers
+weights_sum [] = refl
+weights_sum (header ∷ headers) = by (bytes_eq header.name (codes "cookie")) refl (weights_sum headers)
+  where
+    by
+        : (b : Bool) → bytes_eq header.name (codes "cookie") ≡ b
+        → sum_by header_weight headers ≡ sum_by header_len headers + 2 * sum_by cookie_len headers
+        → sum_by header_weight (header ∷ headers)
+        ≡ sum_by header_len (header ∷ headers) + 2 * sum_by cookie_len (header ∷ headers)
+    by true e later =
+        let weight : header_weight header ≡ length header.name + 3 * length header.value = rw e refl in
+        let len : cookie_len header ≡ length header.value = rw (nat_list_eq_equiv.symm (codes "cookie") header.name, e) refl in
+        omega (
+          arith,
+          weight,
+          len,
+          sum_by-cons header_weight header headers,
+          sum_by-cons header_len header headers,
+          sum_by-cons cookie_len header headers,
+        )
+    by false e later =
+        let weight : header_weight header ≡ length header.name + length header.value = rw e refl in
+        let len : cookie_len header ≡ 0 = rw (nat_list_eq_equiv.symm (codes "cookie") header.name, e) refl in
+        omega (
+          arith,
+          weight,
+          len,
+          sum_by-cons header_weight header headers,
+          sum_by-cons header_len header headers,
+          sum_by-cons cookie_len header headers,
+        )
 
 headers_cost
     : (headers : List Header)
@@ -142,11 +182,11 @@ root_most json_value request =
 -- ---- the whole
 
 pub tree_most
-    : (request : Request) (template : Option (List ℕ)) → length request.body ≡ 0 → cookie_pairs request.headers ≡ []
+    : (request : Request) (template : Option (List ℕ)) → length request.body ≡ 0
     → size (request_tree request template)
-    ≤ 84 * (sum_by header_len request.headers + length request.headers + length request.method + length request.url
+    ≤ 84 * (sum_by header_weight request.headers + length request.headers + length request.method + length request.url
     + template_len template) + 1000
-tree_most request template no_body no_cookies =
+tree_most request template no_body =
     let headers = request.headers in
     let authority = authority_of headers in
     let path = path_of request.url in
@@ -154,13 +194,10 @@ tree_most request template no_body no_cookies =
     let json_len : length (json (json_tree (utf8_lossy request.body))) ≡ 4 =
     ap (λ bs. length (json (json_tree bs))) none ∙ ap (λ found. length (json (unwrap_or found nothing))) are_texts.no_text in
     let body_len : length (json (text (utf8_lossy request.body))) ≡ 2 = ap (λ bs. length (json (text bs))) none in
-    let cookies_len : length (json (grouped (cookie_pairs headers))) ≡ 2 =
-    ap (λ pairs. length (json (grouped pairs))) no_cookies in
     omega (
       arith,
       json_len,
       body_len,
-      cookies_len,
       root_most (json_tree (utf8_lossy request.body)) (fields (request_fields request template)),
       fields_most
           (text (codes "http://" ++ authority))
@@ -179,6 +216,9 @@ tree_most request template no_body no_cookies =
       authority_most headers,
       grouped_most (header_pairs headers),
       headers_cost headers,
+      weights_sum headers,
+      grouped_most (cookie_pairs headers),
+      cookies_most headers,
       quoted_most (host_of authority),
       host_most authority,
       quoted_most request.method,

@@ -2,12 +2,12 @@
 use Rattle.std.proofs.Common.{◌≡◌, ℕ, List, [], ◌∷◌, ◌++◌, String, string_bytes, Option, None, Some, refl, ap, ◌∙◌, rules}
 use Rattle.std.specs.Option.{option_map_or}
 use Rattle.std.specs.declared.alloc.Global.{Global}
-use Rattle.data_tree.specs.declared.data.Data.{Data, Nothing, Text, the_lemmas}
+use Rattle.data_tree.specs.declared.data.Data.{Data, Nothing, the_lemmas}
 use Rattle.mock_request.specs.Request.{Request}
 use Rattle.request_data.specs.RequestTree.{bound_in, path_tree, request_fields}
 use Rattle.request_data.specs.Grouped.{firsts}
 use Rattle.path_template.specs.Matching.{bindings_of}
-use Rattle.data_tree.specs.Tree.{Tree, nothing, text, fields, Members, no_members, member, view, members_view}
+use Rattle.data_tree.specs.Tree.{Tree, nothing, fields, Members, no_members, member, view, members_view}
 use Rattle.mock_request.specs.Url.{path_of, segments_of}
 use Rattle.mock_request.specs.Query.{query_pairs}
 use Rattle.mock_request.specs.HeaderFields.{header_pairs}
@@ -50,9 +50,6 @@ request_fields_well_formed request template =
 
 pub view-Nothing : view Nothing ≡ nothing
 view-Nothing = search (rules, the_lemmas)
-
-pub view-Text : (t : String Global) → view (Text t) ≡ text (string_bytes t)
-view-Text t = search (rules, the_lemmas)
 
 -- the members that entries make
 abbrev pub members_from : List (List ℕ × Tree) → Members

@@ -1,5 +1,5 @@
 // An object of the data, made field by field.
-ghost use Rattle.std.specs.Prelude.{◌≡◌, [], ◌∷◌, ◌++◌, OnOk};
+ghost use Rattle.std.specs.Prelude.{◌≡◌, [], ◌∷◌, ◌++◌, IfOk, OnOk};
 ghost use Rattle.data_tree.specs.Tree.{fields, text, view, members_view};
 ghost use Rattle.request_data.specs.Inner.Views.{entries_of};
 
@@ -14,13 +14,14 @@ pub(crate) struct Object {
 }
 
 impl Object {
-    pub(crate) fn new(alloc: Global) -> Object
-        ensures { entries_of result.fields.items ≡ [] }
+    /// An object with room for that many fields.
+    pub(crate) fn with_room(alloc: Global, room: usize) -> Result<Object, AllocError>
+        ensures { IfOk result (λ made. entries_of made.fields.items ≡ []) }
     {
-        Object {
+        Ok(Object {
             alloc,
-            fields: Vec::new(alloc),
-        }
+            fields: Vec::with_capacity(alloc, room)?,
+        })
     }
 
     pub(crate) fn push(&mut self, name: &str, value: Data) -> Result<(), AllocError>

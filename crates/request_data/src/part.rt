@@ -23,6 +23,22 @@ use needed_data::needed::Needed;
 use path_template::path_template::PathTemplate;
 use std::alloc::{AllocError, Global};
 
+// The names of a request's fields.
+const FIELDS: [&str; 12] = [
+    "baseUrl",
+    "body",
+    "cookies",
+    "headers",
+    "host",
+    "method",
+    "path",
+    "pathSegments",
+    "port",
+    "query",
+    "scheme",
+    "url",
+];
+
 /// The part of a request's data that is needed, where it is within `RequestData`'s limit. What isn't needed isn't
 /// computed. A path template that the path matches names segments of it, in the fields of `request.path`.
 pub fn part_of_data(
@@ -60,11 +76,12 @@ fn root(
         view root ≡ part_tree needed.now snapshot.now (option_copied template.entry)) }
     ensures well_formed { IfOk result (λ root. IsWellFormed (view root)) }
 {
-    let mut root = Object::new(alloc);
     if !needed.has_json() {
+        let mut root = Object::with_room(alloc, 1)?;
         root.push("request", request(alloc, snapshot, template, needed, None)?)?;
         return Ok(root.into_data());
     }
+    let mut root = Object::with_room(alloc, 2)?;
     let body = body_text(alloc, snapshot)?;
     root.push("json", json(alloc, body.as_str())?)?;
     root.push(
@@ -98,7 +115,7 @@ fn request(
     ensures { IfOk result (λ made.
         view made ≡ fields (kept needed.now (request_fields snapshot.now (option_copied template.entry)))) }
 {
-    let mut made = Object::new(alloc);
+    let mut made = Object::with_room(alloc, field_count(needed))?;
     push_base_url(alloc, &mut made, needed, snapshot)?;
     push_body(alloc, &mut made, needed, snapshot, body)?;
     push_cookies(alloc, &mut made, needed, snapshot)?;
@@ -112,4 +129,15 @@ fn request(
     push_text(&mut made, needed, "scheme", "http")?;
     push_text(&mut made, needed, "url", snapshot.url())?;
     Ok(made.into_data())
+}
+
+// How many fields of the request are needed: the room that is taken for them.
+fn field_count(needed: &Needed<'_>) -> usize {
+    let mut count: usize = 0;
+    for name in FIELDS {
+        if needed.has(name) {
+            count = count.saturating_add(1);
+        }
+    }
+    count
 }

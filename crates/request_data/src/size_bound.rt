@@ -1,9 +1,8 @@
 // A bound on the size of a request's data, found without making the data.
-ghost use Rattle.std.specs.Prelude.{◌≡◌, ◌≤◌, IfSome, OnSome, [], option_copied};
+ghost use Rattle.std.specs.Prelude.{◌≡◌, ◌≤◌, IfSome, option_copied};
 ghost use Rattle.std.specs.List.{sum_by};
 ghost use Rattle.data_tree.specs.Json.{size};
-ghost use Rattle.mock_request.specs.Cookies.{cookie_pairs};
-ghost use Rattle.request_data.specs.Inner.Lengths.{header_len, template_len};
+ghost use Rattle.request_data.specs.Inner.Lengths.{header_weight, template_len};
 ghost use Rattle.request_data.specs.RequestTree.{request_tree};
 
 use mock_request::snapshot::Snapshot;
@@ -18,7 +17,7 @@ const JSON_OF_ONE: usize = 84;
 const JSON_OF_NONE: usize = 1_000;
 
 /// At least the size of the data that `request_data` makes. It takes no memory. `None`: no bound is known, as for a
-/// request that has a body or a `cookie` header.
+/// request that has a body.
 pub fn size_bound(snapshot: &Snapshot, template: Option<&PathTemplate>) -> Option<u64>
     ensures { IfSome result (λ bound. size (request_tree snapshot.now (option_copied template.entry)) ≤ bound) }
 {
@@ -34,20 +33,23 @@ pub fn size_bound(snapshot: &Snapshot, template: Option<&PathTemplate>) -> Optio
     Some(bound as u64)
 }
 
-// The bytes of all names and values, where no header is a `cookie`.
+// What the headers count.
 fn header_bytes(snapshot: &Snapshot) -> Option<usize>
-    ensures bytes { IfSome result (λ total. total ≡ sum_by header_len snapshot.now.headers) }
-    ensures no_cookies { OnSome result (cookie_pairs snapshot.now.headers ≡ []) }
+    ensures { IfSome result (λ total. total ≡ sum_by header_weight snapshot.now.headers) }
 {
     let mut total: usize = 0;
     for index in 0..snapshot.header_count() {
         let (name, value) = snapshot.header(index)?;
-        if name == "cookie" {
-            return None;
-        }
-        total = total.checked_add(name.len())?.checked_add(value.len())?;
+        total = total.checked_add(header_weight(name, value)?)?;
     }
     Some(total)
+}
+
+fn header_weight(name: &str, value: &[u8]) -> Option<usize>
+    ensures { IfSome result (λ weight. weight ≡ header_weight (record { name = name.now; value = value.now })) }
+{
+    let times: usize = if name == "cookie" { 3 } else { 1 };
+    value.len().checked_mul(times)?.checked_add(name.len())
 }
 
 fn template_bytes(template: Option<&PathTemplate>) -> usize

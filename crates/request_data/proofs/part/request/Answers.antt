@@ -8,7 +8,7 @@ use Rattle.request_data.proofs.part.request.Goals as goal
 pub returns : goal.returns
 returns c =
     let needed = c.args.needed.now in
-    let none : IsPart needed (entries_of c.new-made.result.fields.items) [] = record { same = c.new-made.ensures } in
+    let none : IsPart needed (entries_of c.in_ok-made.made.fields.items) [] = record { same = c.in_ok-made.ensures } in
     let base = kept_more needed (codes "baseUrl") _ _ none c.in_ok-push_base_url.ensures refl in
     let body = kept_more needed (codes "body") _ _ base c.in_ok-push_body.ensures refl in
     let cookies = kept_more needed (codes "cookies") _ _ body c.in_ok-push_cookies.ensures refl in

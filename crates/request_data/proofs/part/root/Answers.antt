@@ -10,7 +10,7 @@ use Rattle.request_data.proofs.part.root.Goals as goal
 
 pub returns-then-not-has_json-clause-tree : goal.returns-then-not-has_json-clause-tree
 returns-then-not-has_json-clause-tree c =
-    let all = entry_more (codes "request") c.in_ok-push.ensures c.new-root.ensures c.in_ok-request.ensures in
+    let all = entry_more (codes "request") c.in_ok-push.ensures c.in_ok-root.ensures c.in_ok-request.ensures in
     c.into_data.ensures
     ∙ ap fields (members_of_entries c.push.new.self.fields.items ∙ ap members_from all)
     ∙ without_json c.args.needed.now c.args.snapshot.now (option_copied c.args.template)
@@ -26,7 +26,7 @@ returns-then-not-has_json-clause-well_formed c =
 pub returns-clause-tree : goal.returns-clause-tree
 returns-clause-tree c =
     let json =
-    entry_more (codes "json") c.in_ok-push-2.ensures c.new-root.ensures
+    entry_more (codes "json") c.in_ok-push-2.ensures c.in_ok-root-2.ensures
     (c.in_ok-json.ensures.tree ∙ ap json_tree (c.as_str.ensures.value ∙ c.in_ok-body.ensures)) in
     let all = entry_more (codes "request") c.in_ok-push-3.ensures json c.in_ok-request-2.ensures in
     c.into_data-2.ensures

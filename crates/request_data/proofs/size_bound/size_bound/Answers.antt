@@ -2,7 +2,7 @@ use Rattle.std.proofs.Common.{◌≡◌, ◌+◌, ◌*◌, ◌≤◌, length, op
 use Rattle.std.specs.List.{sum_by}
 use Rattle.std.proofs.lemmas.Bool.{eqb-true}
 use Rattle.data_tree.specs.Json.{size}
-use Rattle.request_data.specs.Inner.Lengths.{header_len, template_len}
+use Rattle.request_data.specs.Inner.Lengths.{header_weight, template_len}
 use Rattle.request_data.specs.RequestTree.{request_tree}
 use Rattle.request_data.proofs.TreeBounds.{tree_most}
 use Rattle.request_data.proofs.size_bound.size_bound.Goals as goal
@@ -15,9 +15,9 @@ returns c =
     ap length (sym c.body.ensures.value) ∙ eqb-true _ 0 (sym c.is_empty.ensures ∙ c.if-not-is_empty.false) in
     let most
     : size (request_tree request template)
-    ≤ 84 * (sum_by header_len request.headers + length request.headers + length request.method
+    ≤ 84 * (sum_by header_weight request.headers + length request.headers + length request.method
     + length request.url + template_len template) + 1000 =
-    tree_most request template empty c.in_ok-header_bytes.ensures.no_cookies in
+    tree_most request template empty in
     let method : length c.method.result.now ≡ length request.method = ap length c.method.ensures in
     let url : length c.url.result.now ≡ length request.url = ap length c.url.ensures.value in
     omega (
@@ -25,7 +25,7 @@ returns c =
       most,
       method,
       url,
-      c.in_ok-header_bytes.ensures.bytes,
+      c.in_ok-header_bytes.ensures,
       c.header_count.ensures,
       c.template_bytes.ensures,
       c.in_ok-checked_add.ensures.1,
