@@ -1,7 +1,7 @@
 //! Requests, and exchanges that are recorded.
 
-use crate::steps::parts;
 use bytes::Bytes;
+use case_table::words::{parts, value};
 use http_header::{HeaderName, HeaderValue};
 use mapping_model::reply::Reply;
 use mock_request::snapshot::Snapshot;
@@ -47,16 +47,4 @@ fn header(alloc: Global, name: &str, value: &str) -> Result<(HeaderName, HeaderV
         (Some(name), Some(value)) => Ok((name, value)),
         _ => Err(AllocError),
     }
-}
-
-// What follows the `=` of the word with this name.
-fn value<'t>(words: &'t str, name: &str) -> Option<&'t str> {
-    for word in words.split(' ') {
-        if let Some((found, value)) = word.split_once('=') {
-            if found == name {
-                return Some(value);
-            }
-        }
-    }
-    None
 }

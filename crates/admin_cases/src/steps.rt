@@ -1,6 +1,7 @@
 //! The step of a cell: the actor's number, a word, and what it is about.
 
 use crate::exchanges::{exchange, request};
+use case_table::words::{number, parts};
 use mapping_json::read::read_mapping;
 use mapping_model::mapping_id::MappingId;
 use plain_text::items::Items;
@@ -26,15 +27,6 @@ pub fn step(alloc: Global, cell: &str) -> Result<Step, AllocError> {
             call: Call::Apply(input(alloc, word, text)?),
         },
     })
-}
-
-/// The first word, and what follows it.
-pub fn parts(text: &str) -> (&str, &str) {
-    text.split_once(' ').unwrap_or((text, ""))
-}
-
-fn number(text: &str) -> u64 {
-    text.parse::<u64>().unwrap_or(0)
 }
 
 fn text_of(alloc: Global, text: &str) -> Result<Text, AllocError> {

@@ -1,13 +1,12 @@
 //! What a row asks of a book: a word and what it is about.
 
 use crate::book_mappings::{id, ready};
-use crate::book_words::{number, parts, text_of, value};
-use bytes::Bytes;
-use http_header::{HeaderName, HeaderValue};
-use mapping_model::reply::Reply;
+use crate::book_words::text_of;
+use crate::made::{made_exchange, made_header, made_request};
+use case_table::words::{number, parts, value};
 use mock_request::snapshot::Snapshot;
 use plain_text::items::Items;
-use recorder::exchange::{Exchange, SharedExchange};
+use recorder::exchange::SharedExchange;
 use request_journal::input::BookInput;
 use std::alloc::{AllocError, Global};
 
@@ -52,19 +51,7 @@ fn start(alloc: Global, target: &str, word: &str) -> Result<BookInput, AllocErro
 // A request, and the body of its reply as `reply=1`.
 fn exchange(alloc: Global, words: &str) -> Result<SharedExchange, AllocError> {
     let reply = value(words, "reply").unwrap_or("");
-    SharedExchange::new(
-        alloc,
-        Exchange {
-            request: request(alloc, words)?,
-            reply: Reply {
-                status: 200,
-                headers: Items::from(Vec::new(alloc)),
-                body: Bytes::copy_from_slice(alloc, reply.as_bytes())?,
-            },
-            started_ms: 0,
-            wait_ms: 0,
-        },
-    )
+    made_exchange(alloc, request(alloc, words)?, 200, Vec::new(alloc), reply.as_bytes())
 }
 
 /// A method and a target, and perhaps a header as `X:1` and a body as `body=z`.
@@ -73,18 +60,8 @@ pub fn request(alloc: Global, words: &str) -> Result<Snapshot, AllocError> {
     let (target, rest) = parts(rest);
     let mut headers = Vec::new(alloc);
     if let Some((name, value)) = rest.split_once(':') {
-        headers.push(header(alloc, name, value)?)?;
+        headers.push(made_header(alloc, name, value.as_bytes())?)?;
     }
     let body = value(rest, "body").unwrap_or("");
-    let made = Snapshot::new(alloc, method, target, headers.as_slice(), body.as_bytes());
-    made.ok().ok_or(AllocError)
-}
-
-fn header(alloc: Global, name: &str, value: &str) -> Result<(HeaderName, HeaderValue), AllocError> {
-    let name = HeaderName::from_bytes(alloc, name.as_bytes()).ok();
-    let value = HeaderValue::from_bytes(alloc, value.as_bytes()).ok();
-    match (name, value) {
-        (Some(name), Some(value)) => Ok((name, value)),
-        _ => Err(AllocError),
-    }
+    made_request(alloc, method, target, headers.as_slice(), body.as_bytes())
 }

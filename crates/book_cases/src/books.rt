@@ -8,9 +8,10 @@ use crate::book_answers::{
 use crate::book_copies::are_copied;
 use crate::book_inputs::{input, request};
 use crate::book_mappings::{id, ready};
-use crate::book_words::{add_number, number, parts};
+use crate::book_words::add_number;
 use case_table::cells::Cells;
 use case_table::row::Row;
+use case_table::words::{number, parts};
 use error_code::error_code::ErrorCode;
 use request_journal::event::{Event, ServeAnswer};
 use request_journal::input::{BookAnswer, BookInput};

@@ -1,16 +1,15 @@
 //! The exchanges that a row gives, cell by cell: a word, a blank and a text.
 
 use crate::bytes_cell::bytes_of;
-use bytes::Bytes;
+use crate::made::{made_exchange, made_header, made_request};
 use case_table::row::Row;
+use case_table::words::parts;
 use http_header::{HeaderName, HeaderValue};
 use mapping_model::field_name::FieldName;
-use mapping_model::reply::{Reply, ReplyHeader};
-use mock_request::snapshot::Snapshot;
-use plain_text::items::Items;
+use mapping_model::reply::ReplyHeader;
 use plain_text::octets::Octets;
 use plain_text::text::Text;
-use recorder::exchange::{Exchange, SharedExchange};
+use recorder::exchange::SharedExchange;
 use std::alloc::{AllocError, Global};
 
 /// What a row gives. A cell that can't be read counts as one for which memory didn't suffice.
@@ -43,7 +42,7 @@ pub fn read(alloc: Global, row: &Row) -> Result<Given, AllocError> {
     };
     let mut draft = None;
     for cell in row.given.as_slice() {
-        let (word, text) = cell.as_str().split_once(' ').unwrap_or((cell.as_str(), ""));
+        let (word, text) = parts(cell.as_str());
         match word {
             "captured" => given
                 .captured
@@ -78,9 +77,12 @@ fn begun(alloc: Global, text: &str) -> Result<Draft, AllocError> {
 }
 
 fn add(alloc: Global, draft: &mut Draft, word: &str, text: &str) -> Result<(), AllocError> {
-    let (name, value) = text.split_once(' ').unwrap_or((text, ""));
+    let (name, value) = parts(text);
     match word {
-        "header" => draft.headers.push(header(alloc, name, value)?)?,
+        "header" => {
+            let bytes = bytes_of(alloc, value)?;
+            draft.headers.push(made_header(alloc, name, bytes.as_slice())?)?;
+        },
         "body" => draft.body = bytes_of(alloc, text)?,
         "reply" => draft.status = text.parse::<u16>().unwrap_or(0),
         "reply-header" => draft.lines.push(line(alloc, name, value)?)?,
@@ -88,16 +90,6 @@ fn add(alloc: Global, draft: &mut Draft, word: &str, text: &str) -> Result<(), A
         _ => return Err(AllocError),
     }
     Ok(())
-}
-
-fn header(alloc: Global, name: &str, value: &str) -> Result<(HeaderName, HeaderValue), AllocError> {
-    let bytes = bytes_of(alloc, value)?;
-    let name = HeaderName::from_bytes(alloc, name.as_bytes()).ok();
-    let value = HeaderValue::from_bytes(alloc, bytes.as_slice()).ok();
-    match (name, value) {
-        (Some(name), Some(value)) => Ok((name, value)),
-        _ => Err(AllocError),
-    }
 }
 
 fn line(alloc: Global, name: &str, value: &str) -> Result<ReplyHeader, AllocError> {
@@ -116,32 +108,12 @@ fn finish(alloc: Global, given: &mut Given, draft: Option<Draft>) -> Result<(), 
 }
 
 fn exchange(alloc: Global, draft: Draft) -> Result<SharedExchange, AllocError> {
-    let request = Snapshot::new(
+    let request = made_request(
         alloc,
         draft.method.as_str(),
         draft.url.as_str(),
         draft.headers.as_slice(),
         draft.body.as_slice(),
-    )
-    .ok()
-    .ok_or(AllocError)?;
-    let Draft {
-        status,
-        lines,
-        reply_body,
-        ..
-    } = draft;
-    SharedExchange::new(
-        alloc,
-        Exchange {
-            request,
-            reply: Reply {
-                status,
-                headers: Items::from(lines),
-                body: Bytes::copy_from_slice(alloc, reply_body.as_slice())?,
-            },
-            started_ms: 0,
-            wait_ms: 0,
-        },
-    )
+    )?;
+    made_exchange(alloc, request, draft.status, draft.lines, draft.reply_body.as_slice())
 }

@@ -1,13 +1,12 @@
 //! Targets, and the calls of a recording.
 
-use bytes::Bytes;
+use crate::made::{made_exchange, made_request};
 use case_table::cells::Cells;
 use case_table::row::Row;
-use mapping_model::reply::Reply;
-use mock_request::snapshot::Snapshot;
+use case_table::words::{number, parts};
 use plain_text::items::Items;
 use recorder::error::RecordingError;
-use recorder::exchange::{Exchange, SharedExchange};
+use recorder::exchange::SharedExchange;
 use recorder::recording::{Recording, RecordingStatus};
 use recorder::target::Target;
 use std::alloc::{AllocError, Global};
@@ -54,33 +53,24 @@ pub fn calls(alloc: Global, row: &Row) -> Result<String, AllocError> {
 }
 
 fn answer(alloc: Global, recording: &mut Recording, call: &str) -> Result<(), RecordingError> {
-    let (word, text) = call.split_once(' ').unwrap_or((call, ""));
-    let (number, target) = text.split_once(' ').unwrap_or((text, ""));
-    let number = number.parse::<u64>().unwrap_or(0);
+    let (word, text) = parts(call);
+    let (first, target) = parts(text);
     match word {
-        "start" => recording.start(alloc, number, target, Items::from(Vec::new(alloc)), true),
-        "take" => recording.take(number, exchange(alloc)?),
+        "start" => recording.start(
+            alloc,
+            number(first),
+            target,
+            Items::from(Vec::new(alloc)),
+            true,
+        ),
+        "take" => recording.take(number(first), exchange(alloc)?),
         _ => recording.stop(),
     }
 }
 
 fn exchange(alloc: Global) -> Result<SharedExchange, AllocError> {
-    let request = Snapshot::new(alloc, "GET", "/", &[], &[])
-        .ok()
-        .ok_or(AllocError)?;
-    SharedExchange::new(
-        alloc,
-        Exchange {
-            request,
-            reply: Reply {
-                status: 200,
-                headers: Items::from(Vec::new(alloc)),
-                body: Bytes::copy_from_slice(alloc, &[])?,
-            },
-            started_ms: 0,
-            wait_ms: 0,
-        },
-    )
+    let request = made_request(alloc, "GET", "/", &[], &[])?;
+    made_exchange(alloc, request, 200, Vec::new(alloc), &[])
 }
 
 fn refused(cells: &mut Cells, error: RecordingError) -> Result<(), AllocError> {

@@ -2,6 +2,7 @@
 
 use case_table::cells::Cells;
 use case_table::row::Row;
+use case_table::words::parts;
 use scenario_core::error::ScenarioError;
 use scenario_core::known::KnownState;
 use scenario_core::scenarios::Scenarios;
@@ -13,7 +14,7 @@ pub fn calls(alloc: Global, row: &Row) -> Result<String, AllocError> {
     let known = known(alloc, row)?;
     let mut scenarios = Scenarios::new(alloc);
     for cell in row.given.as_slice() {
-        let (word, text) = split(cell.as_str());
+        let (word, text) = parts(cell.as_str());
         if word == "state" {
             // A copy answers, so that copies are compared too.
             cells.add_cell(scenarios.try_clone()?.state(text));
@@ -27,15 +28,11 @@ pub fn calls(alloc: Global, row: &Row) -> Result<String, AllocError> {
     cells.finish()
 }
 
-fn split(text: &str) -> (&str, &str) {
-    text.split_once(' ').unwrap_or((text, ""))
-}
-
 fn known<'r>(alloc: Global, row: &'r Row) -> Result<Vec<KnownState<'r>>, AllocError> {
     let mut known = Vec::new(alloc);
     for cell in row.given.as_slice() {
         if let Some(text) = cell.as_str().strip_prefix("known ") {
-            let (scenario, state) = split(text);
+            let (scenario, state) = parts(text);
             known.push(KnownState {
                 scenario,
                 state: if state.is_empty() { None } else { Some(state) },
@@ -52,7 +49,7 @@ fn answer(
     word: &str,
     text: &str,
 ) -> Result<(), ScenarioError> {
-    let (name, state) = split(text);
+    let (name, state) = parts(text);
     match word {
         "move" => Ok(scenarios.move_to(alloc, name, state)?),
         "set" => scenarios.set(alloc, name, state, known),

@@ -6,3 +6,4 @@
 pub mod cells;
 pub mod compare;
 pub mod row;
+pub mod words;
