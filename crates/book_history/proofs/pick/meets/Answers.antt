@@ -6,4 +6,4 @@ use Rattle.book_history.proofs.pick.meets.Goals as goal
 pub returns-clause-answer : goal.returns-clause-answer
 returns-clause-answer c =
     subst (λ (r : Request). IfOk c.matches.result (λ yes. IsTrue yes ↔ MeetsRequest c.args.matcher.now r))
-    (c.in_ok-parsed.ensures ∙ c.request.ensures) c.matches.ensures.answer
+    (c.new-parsed.ensures ∙ c.request.ensures) c.matches.ensures.answer
