@@ -72,8 +72,5 @@ fn longer(alloc: Global, paths: &[String], words: &str) -> Result<Vec<String>, A
 }
 
 fn joined(alloc: Global, path: &str, word: &str) -> Result<String, AllocError> {
-    let mut joined = String::from_str(alloc, path)?;
-    joined.push_str("/")?;
-    joined.push_str(word)?;
-    Ok(joined)
+    format!(in alloc; "{path}/{word}")
 }

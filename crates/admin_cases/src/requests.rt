@@ -26,15 +26,15 @@ fn headers_of(alloc: Global, lines: &str) -> Result<Vec<(HeaderName, HeaderValue
 
 fn header_of(alloc: Global, line: &str) -> Result<(HeaderName, HeaderValue), AllocError> {
     let (name, value) = line.split_once(": ").unwrap_or((line, ""));
-    Ok((name_of(alloc, name)?, value_of(alloc, value)?))
+    let octets = octets_of(alloc, value)?;
+    header(alloc, name, octets.as_slice())
 }
 
-fn name_of(alloc: Global, name: &str) -> Result<HeaderName, AllocError> {
-    let name = HeaderName::from_bytes(alloc, name.as_bytes());
-    name.ok().ok_or(AllocError)
-}
-
-fn value_of(alloc: Global, value: &str) -> Result<HeaderValue, AllocError> {
-    let value = HeaderValue::from_vec(octets_of(alloc, value)?);
-    value.ok().ok_or(AllocError)
+fn header(alloc: Global, name: &str, value: &[u8]) -> Result<(HeaderName, HeaderValue), AllocError> {
+    let name = HeaderName::from_bytes(alloc, name.as_bytes()).ok();
+    let value = HeaderValue::from_bytes(alloc, value).ok();
+    match (name, value) {
+        (Some(name), Some(value)) => Ok((name, value)),
+        _ => Err(AllocError),
+    }
 }

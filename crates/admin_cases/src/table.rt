@@ -1,6 +1,6 @@
 //! The tables, and what their rows are.
 
-use crate::{books, recordings, worlds};
+use crate::{books, recordings};
 use case_table::compare::CaseTable;
 use case_table::row::Row;
 use std::alloc::{AllocError, Global};
@@ -15,8 +15,6 @@ pub enum Rows {
     Paths,
     /// What is read and written of recordings.
     Recordings,
-    /// Schedules over a book.
-    Worlds,
 }
 
 #[derive(Clone, Copy)]
@@ -36,13 +34,12 @@ impl<R: Wait + Copy> CaseTable for Table<R> {
             Rows::Calls => books::answer(&self.rt, alloc, row, false),
             Rows::Paths => books::answer(&self.rt, alloc, row, true),
             Rows::Recordings => recordings::answer(alloc, row),
-            Rows::Worlds => worlds::replies(alloc, row),
         }
     }
 }
 
 /// All tables.
-pub fn tables<R: Wait + Copy>(rt: R) -> [Table<R>; 6] {
+pub fn tables<R: Wait + Copy>(rt: R) -> [Table<R>; 5] {
     [
         Table {
             rt,
@@ -68,11 +65,6 @@ pub fn tables<R: Wait + Copy>(rt: R) -> [Table<R>; 6] {
             rt,
             file: "recordings.tsv",
             rows: Rows::Recordings,
-        },
-        Table {
-            rt,
-            file: "worlds.tsv",
-            rows: Rows::Worlds,
         },
     ]
 }

@@ -25,12 +25,16 @@ pub fn id(alloc: Global, text: &str) -> Result<MappingId, AllocError> {
     match word {
         "default" => MappingId::of_default(alloc, number(digits)),
         "event" => MappingId::of_event(alloc, number(digits)),
-        _ => plain_id(alloc, number(digits)),
+        _ => plain_id(alloc, digits),
     }
 }
 
-fn plain_id(alloc: Global, number: u64) -> Result<MappingId, AllocError> {
-    let text = format!(in alloc; "00000000-0000-0000-0000-{number:012}")?;
+// The digits in place of the last ones of a UUID of zeros.
+fn plain_id(alloc: Global, digits: &str) -> Result<MappingId, AllocError> {
+    let zeros = "00000000-0000-0000-0000-000000000000";
+    let kept = zeros.len().saturating_sub(digits.len());
+    let mut text = String::from_str(alloc, zeros.get(..kept).unwrap_or(""))?;
+    text.push_str(digits)?;
     MappingId::parse(text.as_str()).ok_or(AllocError)
 }
 

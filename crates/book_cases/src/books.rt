@@ -89,10 +89,19 @@ fn push_defaults(
     count: u64,
 ) -> Result<(), AllocError> {
     for index in 0..count {
-        let words = format!(in alloc; "{index} GET /{index}")?;
+        let words = default_words(alloc, index)?;
         defaults.push(ready(alloc, words.as_str())?)?;
     }
     Ok(())
+}
+
+// As `7 GET /7`.
+fn default_words(alloc: Global, index: u64) -> Result<String, AllocError> {
+    let index = format!(in alloc; "{index}")?;
+    let mut words = index.clone()?;
+    words.push_str(" GET /")?;
+    words.push_str(index.as_str())?;
+    Ok(words)
 }
 
 fn refused(cells: &mut Cells, error: BookError) -> Result<(), AllocError> {

@@ -1,12 +1,11 @@
 //! Targets, and the calls of a recording.
 
-use crate::made::{made_exchange, made_request};
+use crate::book_inputs::exchange;
 use case_table::cells::Cells;
 use case_table::row::Row;
 use case_table::words::{number, parts};
 use plain_text::items::Items;
 use recorder::error::RecordingError;
-use recorder::exchange::SharedExchange;
 use recorder::recording::{Recording, RecordingStatus};
 use recorder::target::Target;
 use std::alloc::{AllocError, Global};
@@ -63,14 +62,9 @@ fn answer(alloc: Global, recording: &mut Recording, call: &str) -> Result<(), Re
             Items::from(Vec::new(alloc)),
             true,
         ),
-        "take" => recording.take(number(first), exchange(alloc)?),
+        "take" => recording.take(number(first), exchange(alloc, "GET /")?),
         _ => recording.stop(),
     }
-}
-
-fn exchange(alloc: Global) -> Result<SharedExchange, AllocError> {
-    let request = made_request(alloc, "GET", "/", &[], &[])?;
-    made_exchange(alloc, request, 200, Vec::new(alloc), &[])
 }
 
 fn refused(cells: &mut Cells, error: RecordingError) -> Result<(), AllocError> {

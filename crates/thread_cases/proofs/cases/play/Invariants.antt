@@ -1,4 +1,4 @@
-use Rattle.admin_cases.proofs.locked.play.Given as goal
+use Rattle.thread_cases.proofs.cases.play.Given as goal
 
 abbrev pub ghosts-play_on-L-Origin : goal.ghosts-play_on-L-Origin
 ghosts-play_on-L-Origin g a = record { origin = a.book }

@@ -1,10 +1,10 @@
 //! Two scripts, and a gate.
 ghost use Rattle.std.specs.Prelude.{◌≤◌};
 
-use crate::locked::books;
-use crate::locked::books::Change;
-use crate::locked::first_waits::FirstWaits;
-use crate::locked::words::{add_counts, add_number, add_told};
+use crate::books;
+use crate::books::Change;
+use crate::first_waits::FirstWaits;
+use crate::words::{add_counts, add_number, add_told};
 use case_table::cells::Cells;
 use shared_book::origin::Origin;
 use shared_book::script::{Call, Script, run_scripts};

@@ -1,8 +1,8 @@
 //! Calls on a shared book. Each is made once more where it is refused: then memory ran out, and book and seat are as they
 //! were, so that nothing differs after the second call. One that is refused again is missing in what is counted.
 
-use crate::locked::books;
-use crate::locked::books::Change;
+use crate::books;
+use crate::books::Change;
 use mapping_model::mapping_id::MappingId;
 use mapping_model::request_spec::RequestSpec;
 use request_match::request_matcher::RequestMatcher;

@@ -1,7 +1,7 @@
 //! Two threads that answer messages of one site, each by a seat of its own.
 
-use crate::locked::first_waits::FirstWaits;
-use crate::locked::messages::{Asked, message, status_of};
+use crate::first_waits::FirstWaits;
+use crate::messages::{Asked, message, status_of};
 use answering::answer::answer;
 use answering::site::Site;
 use bytes::Bytes;

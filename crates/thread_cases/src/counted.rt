@@ -1,10 +1,10 @@
 //! Many messages that two threads answer, and an admin call that counts them.
 ghost use Rattle.std.specs.Prelude.{◌≤◌};
 
-use crate::locked::calls;
-use crate::locked::message_threads::{Task, book_of, both_answer, length_of, site_of};
-use crate::locked::messages::Asked;
-use crate::locked::words::{add_counts, add_number, add_refusal, add_told};
+use crate::calls;
+use crate::message_threads::{Task, book_of, both_answer, length_of, site_of};
+use crate::messages::Asked;
+use crate::words::{add_counts, add_number, add_refusal, add_told};
 use crate::octets::add_octets;
 use crate::server::reply_to;
 use case_table::cells::Cells;

@@ -1,28 +1,15 @@
 //! Calls of one and two threads on shared books: what each case shows, in words.
 ghost use Rattle.std.specs.Prelude.{◌≡◌, ◌≤◌};
 
-mod answered;
-mod books;
-mod calls;
-mod cleared;
-mod counted;
-mod first_waits;
-mod full;
-mod message_threads;
-mod messages;
-mod one_seat;
-mod scripts;
-mod threads;
-mod two_threads;
-mod versions;
-mod words;
-
-use answered::answered;
+use crate::answered::answered;
+use crate::books;
+use crate::cleared::cleared;
+use crate::counted::counted;
+use crate::full::full;
+use crate::scripts::scripts;
+use crate::two_threads::two_threads;
+use crate::versions::versions;
 use case_table::cells::Cells;
-use cleared::cleared;
-use counted::counted;
-use full::full;
-use scripts::scripts;
 use shared_book::origin::Origin;
 use shared_book::seat::Seat;
 use shared_book::shared_book::SharedBook;
@@ -32,8 +19,6 @@ use std::sync::Wait;
 use std::sync::ledger::Blank;
 use std::thread::Threads;
 use stub_book::book::Book;
-use two_threads::two_threads;
-use versions::versions;
 
 /// Into how many parts each ledger is cut.
 const PARTS: u64 = 4_294_967_296;

@@ -1,9 +1,9 @@
 //! A message that a full history can't take.
 
-use crate::locked::books::LAST;
-use crate::locked::calls;
-use crate::locked::messages::{Asked, message};
-use crate::locked::words::{add_number, add_receipts, add_refusal};
+use crate::books::LAST;
+use crate::calls;
+use crate::messages::{Asked, message};
+use crate::words::{add_number, add_receipts, add_refusal};
 use answering::answer::answer;
 use answering::site::Site;
 use bytes::Bytes;

@@ -1,8 +1,8 @@
 //! What is shown, in words.
 
-use crate::locked::books::{is_stubbed, word_of};
-use crate::locked::calls;
-use crate::locked::calls::Asked;
+use crate::books::{is_stubbed, word_of};
+use crate::calls;
+use crate::calls::Asked;
 use case_table::cells::Cells;
 use shared_book::book_read::ReadAnswer;
 use shared_book::origin::Origin;

@@ -1,0 +1,63 @@
+//! Plays calls on shared books, also of two threads, and prints what each case shows. Then compares what schedules over a
+//! book give with the table in `data/`.
+#![tactic(auto)]
+
+mod answered;
+mod books;
+mod calls;
+mod cases;
+mod cleared;
+mod counted;
+mod exchanges;
+mod first_waits;
+mod full;
+mod message_threads;
+mod messages;
+mod one_seat;
+mod scripts;
+mod steps;
+mod table;
+mod threads;
+mod two_threads;
+mod versions;
+mod words;
+mod worlds;
+
+use case_table::compare::compare_all;
+use cases::{Case, play};
+use std::alloc::{AllocError, Global};
+use std::io;
+use std::process::ExitCode;
+use std::sync::Wait;
+use std::thread::Threads;
+use table::Schedules;
+
+fn main(rt: HostRuntime) -> io::Result<ExitCode> {
+    for case in [
+        Case::TwoThreads,
+        Case::Scripts,
+        Case::Versions,
+        Case::Answered,
+        Case::Counted,
+        Case::Cleared,
+        Case::Full,
+    ]
+    .as_slice()
+    {
+        let line = play_again(&rt, rt.alloc(), *case)?;
+        println!(rt; "{line}")?;
+    }
+    compare_all(&rt, &[Schedules])
+}
+
+// Once more where memory ran out.
+fn play_again<R: Threads + Wait + Sync>(
+    rt: &R,
+    alloc: Global,
+    case: Case,
+) -> Result<String, AllocError> {
+    match play(rt, alloc, case) {
+        Ok(text) => Ok(text),
+        Err(_error) => play(rt, alloc, case),
+    }
+}
