@@ -1,12 +1,11 @@
 //! Books to share, and calls to make on them.
 
-use crate::books::mappings_of;
+use crate::steps::mapping;
 use mapping_model::mapping_id::MappingId;
 use mapping_model::response_spec::{Body, Content};
 use mock_request::snapshot::Snapshot;
 use request_journal::event::{Event, ServeAnswer};
 use request_journal::input::BookInput;
-use request_match::ready_mapping::ReadyMapping;
 use shared_book::receipt::Receipt;
 use std::alloc::{AllocError, Global};
 use stub_book::book::Book;
@@ -35,7 +34,9 @@ pub const LAST: u64 = 9_223_372_036_854_775_807;
 
 /// A book with one default mapping, of version `v1`, which answers `GET /a`.
 pub fn book(alloc: Global, opening: u64) -> Result<Book, AllocError> {
-    let book = Book::new(alloc, mappings_of(alloc, FIRST)?, opening);
+    let mut mappings = Vec::new(alloc);
+    mappings.push(mapping(alloc, FIRST)?)?;
+    let book = Book::new(alloc, mappings, opening);
     book.ok().ok_or(AllocError)
 }
 
@@ -48,10 +49,6 @@ pub fn input(alloc: Global, change: Change) -> Result<BookInput, AllocError> {
         Change::Add => BookInput::Add(mapping(alloc, THIRD)?),
         Change::Clear => BookInput::ClearJournal,
     })
-}
-
-fn mapping(alloc: Global, document: &str) -> Result<ReadyMapping, AllocError> {
-    mappings_of(alloc, document)?.pop().ok_or(AllocError)
 }
 
 /// `GET /a`.

@@ -5,14 +5,16 @@ use crate::calls;
 use crate::message_threads::{Task, book_of, both_answer, length_of, site_of};
 use crate::messages::Asked;
 use crate::words::{add_counts, add_number, add_refusal, add_told};
-use crate::octets::add_octets;
-use crate::server::reply_to;
+use admin_answers::answer::answer_admin;
+use admin_routes::admin::admin;
+use admin_routes::call::AdminCall;
 use case_table::cells::Cells;
-use mock_request::snapshot::Snapshot;
+use mapping_model::reply::Reply;
 use shared_book::origin::Origin;
 use shared_book::seat::Seat;
 use shared_book::shared_book::SharedBook;
 use std::alloc::{AllocError, Global};
+use std::str;
 use std::sync::Wait;
 use std::thread::Threads;
 
@@ -84,10 +86,25 @@ fn add_count<L: Origin, R: Wait>(
     shared: &SharedBook<L>,
     seat: &mut Seat<L>,
 ) -> Result<(), AllocError> {
-    let body = "{}".as_bytes();
-    let request = Snapshot::new(alloc, "POST", "/__admin/requests/count", &[], body);
-    let reply = reply_to(rt, alloc, shared, seat, request)?;
-    add_octets(alloc, cells, reply.body.as_slice())?;
+    let reply = count(rt, alloc, shared, seat, count_call(alloc)?)?;
+    cells.add(str::from_utf8(reply.body.as_slice()).unwrap_or("not UTF-8"));
     cells.add("; ");
     Ok(())
+}
+
+fn count_call(alloc: Global) -> Result<AdminCall, AllocError> {
+    let body = "{}".as_bytes();
+    let call = admin(alloc, "POST", "/__admin/requests/count", body);
+    call.ok().ok_or(AllocError)
+}
+
+fn count<L: Origin, R: Wait>(
+    rt: &R,
+    alloc: Global,
+    shared: &SharedBook<L>,
+    seat: &mut Seat<L>,
+    call: AdminCall,
+) -> Result<Reply, AllocError> {
+    let reply = answer_admin(rt, alloc, shared, seat, call);
+    reply.ok().ok_or(AllocError)
 }

@@ -65,7 +65,8 @@ fn input(alloc: Global, word: &str, text: &str) -> Result<BookInput, AllocError>
     })
 }
 
-fn mapping(alloc: Global, document: &str) -> Result<ReadyMapping, AllocError> {
+/// The mapping of a document. None of the documents is refused.
+pub fn mapping(alloc: Global, document: &str) -> Result<ReadyMapping, AllocError> {
     read_mapping(alloc, document.as_bytes())
         .ok()
         .ok_or(AllocError)
