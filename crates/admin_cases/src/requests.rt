@@ -30,7 +30,11 @@ fn header_of(alloc: Global, line: &str) -> Result<(HeaderName, HeaderValue), All
     header(alloc, name, octets.as_slice())
 }
 
-fn header(alloc: Global, name: &str, value: &[u8]) -> Result<(HeaderName, HeaderValue), AllocError> {
+fn header(
+    alloc: Global,
+    name: &str,
+    value: &[u8],
+) -> Result<(HeaderName, HeaderValue), AllocError> {
     let name = HeaderName::from_bytes(alloc, name.as_bytes()).ok();
     let value = HeaderValue::from_bytes(alloc, value).ok();
     match (name, value) {

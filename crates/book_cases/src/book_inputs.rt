@@ -51,7 +51,13 @@ fn start(alloc: Global, target: &str, word: &str) -> Result<BookInput, AllocErro
 /// A request, and the body of its reply as `reply=1`.
 pub fn exchange(alloc: Global, words: &str) -> Result<SharedExchange, AllocError> {
     let reply = value(words, "reply").unwrap_or("");
-    made_exchange(alloc, request(alloc, words)?, 200, Vec::new(alloc), reply.as_bytes())
+    made_exchange(
+        alloc,
+        request(alloc, words)?,
+        200,
+        Vec::new(alloc),
+        reply.as_bytes(),
+    )
 }
 
 /// A method and a target, and perhaps a header as `X:1` and a body as `body=z`.

@@ -81,7 +81,9 @@ fn add(alloc: Global, draft: &mut Draft, word: &str, text: &str) -> Result<(), A
     match word {
         "header" => {
             let bytes = bytes_of(alloc, value)?;
-            draft.headers.push(made_header(alloc, name, bytes.as_slice())?)?;
+            draft
+                .headers
+                .push(made_header(alloc, name, bytes.as_slice())?)?;
         },
         "body" => draft.body = bytes_of(alloc, text)?,
         "reply" => draft.status = text.parse::<u16>().unwrap_or(0),
@@ -115,5 +117,11 @@ fn exchange(alloc: Global, draft: Draft) -> Result<SharedExchange, AllocError> {
         draft.headers.as_slice(),
         draft.body.as_slice(),
     )?;
-    made_exchange(alloc, request, draft.status, draft.lines, draft.reply_body.as_slice())
+    made_exchange(
+        alloc,
+        request,
+        draft.status,
+        draft.lines,
+        draft.reply_body.as_slice(),
+    )
 }
