@@ -18,6 +18,8 @@ use template_tree::escape::Escape;
 
 /// Makes the admin call that the request is, where the prints of the templates of a posted mapping are escaped so, and
 /// gives the reply. The error says that there was no memory to write it.
+// Not inlined: a function clears all its locals when it is entered, and most requests need none of these.
+#[inline(never)]
 pub(crate) fn admin_reply<L: Origin, R: Wait>(
     rt: &R,
     alloc: Global,

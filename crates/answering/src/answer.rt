@@ -56,6 +56,8 @@ fn written<L: Origin, R: Wait, G: Gate>(
     response_of(alloc, reply)
 }
 
+// Not inlined, as it is seldom called.
+#[inline(never)]
 fn out_of_memory(alloc: Global) -> Result<Response<Full<Bytes>>, AllocError>
     ensures { IfOk result (IsResponseOf (error_reply 503 OutOfMemory)) }
 {

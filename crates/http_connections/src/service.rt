@@ -107,7 +107,9 @@ where
     }
 }
 
-// The bytes of the content.
+// The bytes of the content. Not inlined: a function clears all its locals when it is entered, and most requests have no
+// content.
+#[inline(never)]
 fn bytes_of<E: Drop>(
     alloc: Global,
     gathered: Result<Collected, LimitedError<E>>,

@@ -26,6 +26,19 @@ pub fn snapshot_of(alloc: Global, message: &Request<Bytes>) -> Result<Snapshot, 
     if let Some(path) = lone_path(message.uri()) {
         return snapshot_at(alloc, message, path);
     }
+    snapshot_at_target(alloc, message)
+}
+
+// The request of the message, whose target is written as a text first. Not inlined: a function clears all its locals when
+// it is entered, and a target that is a path alone needs none of these.
+#[inline(never)]
+fn snapshot_at_target(alloc: Global, message: &Request<Bytes>) -> Result<Snapshot, SnapshotError>
+    ensures received { IfOk result (IsReceived message.now) }
+    ensures within { OnOk result (length (body_of message.now) ≤ BODY_LIMIT) }
+    ensures bad_url { IsErrOf result SnapshotError.BadUrl → ¬ (HasUrl (target_of message.now)) }
+    ensures too_large { IsErrOf result SnapshotError.BodyTooLarge
+        → (HasUrl (target_of message.now) × (BODY_LIMIT < length (body_of message.now))) }
+{
     let target = message.uri().to_string(alloc)?;
     snapshot_at(alloc, message, target.as_str())
 }

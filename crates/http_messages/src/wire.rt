@@ -24,6 +24,17 @@ pub fn sent(
     if is_as_sent(&response) {
         return Ok(response);
     }
+    sent_anew(alloc, response)
+}
+
+// Not inlined: a function clears all its locals when it is entered, and a response that is sent as it is needs none of these.
+#[inline(never)]
+fn sent_anew(
+    alloc: Global,
+    response: Response<Full<Bytes>>,
+) -> Result<Response<Full<Bytes>>, AllocError>
+    ensures { IfOk result (IsSent response) }
+{
     let (head, body) = response.into_parts();
     let headers = sent_headers(alloc, &head.headers)?;
     let body = if has_no_content(head.status) {

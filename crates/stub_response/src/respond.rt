@@ -59,7 +59,8 @@ fn reply_of(
     }
 }
 
-// The template of a URL matcher that is one.
+// The template of a URL matcher that is one. Not inlined, as `templated_reply`.
+#[inline(never)]
 fn path_template(alloc: Global, url: &UrlSpec) -> Result<Option<PathTemplate>, AllocError>
     ensures { IfOk result (IsPathTemplate url.now) }
 {

@@ -28,6 +28,8 @@ use std::alloc::{AllocError, Global};
 
 /// The reply of templates over the data of a request, in which a path template names segments of the path. Where it is
 /// plain from the request's length that the templates keep to the limits, no more of the data is made than they look at.
+// Not inlined: a function clears all its locals when it is entered, and a plain response needs none of these.
+#[inline(never)]
 pub(crate) fn templated_reply(
     alloc: Global,
     status: Status,
