@@ -7,6 +7,7 @@ use crate::requests::{request, request_with_body};
 use crate::templates::{add_path, add_text};
 use case_table::cells::Cells;
 use case_table::row::Row;
+use case_table::words::parts;
 use code_verifier::error::VerifyError;
 use code_verifier::verified::Verified;
 use code_verifier::verify::verify;
@@ -22,7 +23,7 @@ use template_code::listing::listing;
 use template_machine::run::run;
 
 /// The listing of the code, its texts and its paths.
-pub fn parts(alloc: Global, row: &Row) -> Result<String, AllocError> {
+pub fn listed(alloc: Global, row: &Row) -> Result<String, AllocError> {
     code_cells(alloc, &read_code(alloc, row)?)
 }
 
@@ -107,7 +108,7 @@ fn code_of(alloc: Global, instrs: &str, texts: &str, paths: &str) -> Result<Code
 fn read_instrs(alloc: Global, text: &str) -> Result<Vec<Instr>, AllocError> {
     let mut instrs = Vec::new(alloc);
     for word in text.split(';') {
-        let (name, operand) = word.trim().split_once(' ').unwrap_or((word.trim(), ""));
+        let (name, operand) = parts(word.trim());
         if let Some(instr) = read_instr(name.as_bytes(), operand) {
             instrs.push(instr)?;
         }

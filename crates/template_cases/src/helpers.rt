@@ -38,14 +38,13 @@ fn negated(alloc: Global, truth: bool) -> Result<String, AllocError> {
 }
 
 fn of_text(alloc: Global, helper: Helper, text: &str) -> Result<String, AllocError> {
-    let text = Value::Text(text);
     match helper {
-        Helper::Upper => cell(alloc, apply(alloc, Helper::Upper, &[text])?),
-        Helper::Lower => cell(alloc, apply(alloc, Helper::Lower, &[text])?),
-        Helper::Trim => cell(alloc, apply(alloc, Helper::Trim, &[text])?),
-        Helper::Size => cell(alloc, apply(alloc, Helper::Size, &[text])?),
-        Helper::Base64 => cell(alloc, apply(alloc, Helper::Base64, &[text])?),
-        Helper::UrlEncode => cell(alloc, apply(alloc, Helper::UrlEncode, &[text])?),
+        Helper::Upper
+        | Helper::Lower
+        | Helper::Trim
+        | Helper::Size
+        | Helper::Base64
+        | Helper::UrlEncode => cell(alloc, apply(alloc, helper, &[Value::Text(text)])?),
         _ => Ok(String::new(alloc)),
     }
 }
@@ -56,17 +55,11 @@ fn of_texts(
     first: &str,
     second: &str,
 ) -> Result<String, AllocError> {
-    let (first, second) = (Value::Text(first), Value::Text(second));
     match helper {
-        Helper::Eq => cell(alloc, apply(alloc, Helper::Eq, &[first, second])?),
-        Helper::Neq => cell(alloc, apply(alloc, Helper::Neq, &[first, second])?),
-        Helper::Contains => cell(alloc, apply(alloc, Helper::Contains, &[first, second])?),
-        Helper::DefaultIfEmpty => {
-            cell(
-                alloc,
-                apply(alloc, Helper::DefaultIfEmpty, &[first, second])?,
-            )
-        }
+        Helper::Eq | Helper::Neq | Helper::Contains | Helper::DefaultIfEmpty => {
+            let arguments = [Value::Text(first), Value::Text(second)];
+            cell(alloc, apply(alloc, helper, &arguments)?)
+        },
         _ => Ok(String::new(alloc)),
     }
 }

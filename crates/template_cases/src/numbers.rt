@@ -7,5 +7,5 @@ pub fn number(text: &str) -> Option<u64> {
 
 /// The decimal number as an index.
 pub fn index(text: &str) -> Option<usize> {
-    text.parse::<usize>().ok()
+    usize::try_from(number(text)?).ok()
 }

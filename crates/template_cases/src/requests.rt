@@ -1,10 +1,9 @@
 //! Requests, and the data that templates see of them. A row gives a method, a target, headers with a line feed between
 //! two, and a body whose characters are its bytes (ISO-8859-1).
 
-use crate::values::{cell_of, measured, path, printed};
+use crate::values::{cell_of, measured, path, printed_cell};
 use case_table::cells::Cells;
 use case_table::row::Row;
-use data_tree::data::Data;
 use data_tree::request_data::RequestData;
 use http_header::{HeaderName, HeaderValue};
 use mock_request::error::SnapshotError;
@@ -80,8 +79,8 @@ fn values_of(alloc: Global, values: &RequestValues<'_>) -> Result<String, AllocE
 
 fn add_pairs(cells: &mut Cells, pairs: &[(String, String)]) {
     cells.add("\t");
-    for (name, value) in pairs {
-        add_pair(cells, name.as_str(), "=", value.as_str());
+    for pair in pairs {
+        add_pair(cells, pair.0.as_str(), "=", pair.1.as_str());
     }
 }
 
@@ -128,16 +127,8 @@ pub fn printed_part(alloc: Global, row: &Row) -> Result<String, AllocError> {
 }
 
 fn printed_of(alloc: Global, request: &Snapshot, steps: &str) -> Result<String, AllocError> {
-    printed_cell(alloc, &data(alloc, request)?, steps)
-}
-
-fn printed_cell(alloc: Global, data: &RequestData, steps: &str) -> Result<String, AllocError> {
-    let path = path(alloc, steps)?;
-    let text = printed(
-        alloc,
-        data.root().at(path.steps()).unwrap_or(&Data::Nothing),
-    )?;
-    format!(in alloc; "\t{text}")
+    let (data, path) = (data(alloc, request)?, path(alloc, steps)?);
+    printed_cell(alloc, data.root().at(path.steps()))
 }
 
 /// The JSON texts of the path and of its segments in the data of a request, with what a path template binds in it.
@@ -149,7 +140,8 @@ pub fn bindings(alloc: Global, row: &Row) -> Result<String, AllocError> {
 }
 
 fn plain_request(alloc: Global, method: &str, target: &str) -> Result<Snapshot, SnapshotError> {
-    Snapshot::new(alloc, method, target, &[], &[])
+    let (headers, body) = (Vec::new(alloc), Vec::new(alloc));
+    Snapshot::new(alloc, method, target, &headers, &body)
 }
 
 // All templates of the table are well formed.
@@ -249,17 +241,13 @@ fn header(
 }
 
 fn header_name(alloc: Global, name: &str) -> Result<HeaderName, AllocError> {
-    match HeaderName::from_bytes(alloc, name.as_bytes()) {
-        Ok(name) => Ok(name),
-        Err(_error) => Err(AllocError),
-    }
+    HeaderName::from_bytes(alloc, name.as_bytes())
+        .ok()
+        .ok_or(AllocError)
 }
 
 fn header_value(alloc: Global, value: &[u8]) -> Result<HeaderValue, AllocError> {
-    match HeaderValue::from_bytes(alloc, value) {
-        Ok(value) => Ok(value),
-        Err(_error) => Err(AllocError),
-    }
+    HeaderValue::from_bytes(alloc, value).ok().ok_or(AllocError)
 }
 
 // A byte for each character.

@@ -86,7 +86,7 @@ impl CaseTable for Table {
             Table::Parameters => helpers::accepted(alloc, row.cell(0)),
             Table::Trees => templates::tree(alloc, row.cell(0)),
             Table::Compiled => templates::compiled(alloc, row.cell(0)),
-            Table::Listings => code::parts(alloc, row),
+            Table::Listings => code::listed(alloc, row),
             Table::Codes | Table::HelperCodes | Table::LoopCodes => code::verdict(alloc, row),
             Table::LoopRuns => code::run_over(alloc, row),
             Table::Writes => writes::written(alloc, row),

@@ -46,11 +46,7 @@ fn formed(alloc: Global, text: &str) -> Result<Data, AllocError>
 {
     let plain = read(alloc, text)?;
     match parts_of_named(&plain) {
-        Some((text, items, fields)) => Ok(named(
-            text.clone()?,
-            copied(alloc, items)?,
-            copied(alloc, fields)?,
-        )),
+        Some((text, items, fields)) => named_text(alloc, text, items, fields),
         None => Ok(plain),
     }
 }
@@ -69,10 +65,16 @@ fn parts_of_named(value: &Data) -> Option<(&String, &Data, &Data)> {
     let Data::Fields(members) = value else {
         return None;
     };
-    match members.as_slice() {
-        [(_, fields), (_, items), (name, Data::Text(text))] if name.as_str() == "text" => Some((
-            text, items, fields,
-        )),
+    let [(_, fields), (_, items), member] = members.as_slice() else {
+        return None;
+    };
+    Some((text_of(member)?, items, fields))
+}
+
+// The text of a member `text`.
+fn text_of(member: &(String, Data)) -> Option<&String> {
+    match &member.1 {
+        Data::Text(text) if member.0.as_str() == "text" => Some(text),
         _ => None,
     }
 }
@@ -81,6 +83,12 @@ fn copied(alloc: Global, value: &Data) -> Result<Data, AllocError>
     ensures { IfOk result (λ copy. IsWellFormed (view copy)) }
 {
     read(alloc, json_of(alloc, value)?.as_str())
+}
+
+fn named_text(alloc: Global, text: &String, items: &Data, fields: &Data) -> Result<Data, AllocError>
+    ensures { IfOk result (λ value. IsWellFormed (view value)) }
+{
+    Ok(named(text.clone()?, copied(alloc, items)?, copied(alloc, fields)?))
 }
 
 fn named(text: String, items: Data, fields: Data) -> Data
@@ -128,18 +136,24 @@ pub fn root_size(alloc: Global, text: &str) -> Result<String, AllocError> {
 pub fn measured(made: Result<RequestData, DataError>) -> (u16, u64) {
     match made {
         Ok(made) => (0, made.root().size()),
-        Err(error) => {
-            let number = error.error_code().number();
-            match error {
-                DataError::TooLarge(root) => (number, root.size()),
-                DataError::OutOfMemory => (number, 0),
-            }
-        }
+        Err(error) => (error.error_code().number(), size_of_refused(&error)),
     }
 }
 
-/// What the value prints.
-pub fn printed(alloc: Global, value: &Data) -> Result<String, AllocError> {
+fn size_of_refused(error: &DataError) -> u64 {
+    match error {
+        DataError::TooLarge(root) => root.size(),
+        DataError::OutOfMemory => 0,
+    }
+}
+
+/// A cell with what prints where something was found.
+pub fn printed_cell(alloc: Global, found: Option<&Data>) -> Result<String, AllocError> {
+    let text = printed(alloc, found.unwrap_or(&Data::Nothing))?;
+    format!(in alloc; "\t{text}")
+}
+
+fn printed(alloc: Global, value: &Data) -> Result<String, AllocError> {
     let mut out = String::new(alloc);
     value.print_into(alloc, &mut out)?;
     Ok(out)
@@ -171,7 +185,7 @@ fn step(item: Data) -> Step {
     }
 }
 
-/// The value of a JSON text. An object of `fields`, `items` and `text` is a named text, on each level.
+/// The value of a JSON text. An object of `fields`, `items` and `text` is a named text, also in lists and other objects.
 pub fn value(alloc: Global, text: &str) -> Result<Data, AllocError> {
     with_names(alloc, &read(alloc, text)?)
 }
@@ -180,12 +194,12 @@ pub fn value(alloc: Global, text: &str) -> Result<Data, AllocError> {
 #[cycle(with_names)]
 fn with_names(alloc: Global, value: &Data) -> Result<Data, AllocError> {
     match value {
-        Data::Truth(truth) => Ok(Data::Truth(*truth)),
-        Data::Number(number) => Ok(Data::Number(*number)),
-        Data::Text(text) => Ok(Data::Text(text.clone()?)),
         Data::List(items) => Ok(Data::List(each(alloc, items)?)),
-        Data::Fields(members) => Ok(object(alloc, each_member(alloc, members)?)),
-        _ => Ok(Data::Nothing),
+        Data::Fields(members) => match parts_of_named(value) {
+            Some((text, items, fields)) => named_text(alloc, text, items, fields),
+            None => Ok(Data::Fields(each_member(alloc, members)?)),
+        },
+        _ => copied(alloc, value),
     }
 }
 
@@ -208,47 +222,4 @@ fn each_member(
         made.push((name.clone()?, with_names(alloc, member)?))?;
     }
     Ok(made)
-}
-
-// The object of these members, or the named text: in byte order the text is the last of its three members.
-fn object(alloc: Global, mut members: Vec<(String, Data)>) -> Data {
-    if members.len() != 3 || members[2].0.as_str() != "text" {
-        return Data::Fields(members);
-    }
-    let text = text_of(alloc, members.pop());
-    let items = items_of(alloc, members.pop());
-    let fields = fields_of(alloc, members.pop());
-    Data::Named {
-        text,
-        items,
-        fields,
-    }
-}
-
-fn text_of(alloc: Global, member: Option<(String, Data)>) -> String {
-    match value_of(member) {
-        Data::Text(text) => text,
-        _ => String::new(alloc),
-    }
-}
-
-fn items_of(alloc: Global, member: Option<(String, Data)>) -> Vec<Data> {
-    match value_of(member) {
-        Data::List(items) => items,
-        _ => Vec::new(alloc),
-    }
-}
-
-fn fields_of(alloc: Global, member: Option<(String, Data)>) -> Vec<(String, Data)> {
-    match value_of(member) {
-        Data::Fields(fields) => fields,
-        _ => Vec::new(alloc),
-    }
-}
-
-fn value_of(member: Option<(String, Data)>) -> Data {
-    match member {
-        Some((_name, value)) => value,
-        None => Data::Nothing,
-    }
 }
