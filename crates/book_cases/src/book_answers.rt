@@ -43,10 +43,12 @@ pub fn add_mapping(cells: &mut Cells, spec: &MappingSpec) {
 
 fn add_body(cells: &mut Cells, content: &Content) {
     cells.add("body ");
-    if let Content::Plain { body, .. } = content {
-        if let Body::Text(text) = body {
-            cells.add(text.as_str());
-        }
+    if let Content::Plain {
+        body: Body::Text(text),
+        ..
+    } = content
+    {
+        cells.add(text.as_str());
     }
 }
 

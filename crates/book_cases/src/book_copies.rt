@@ -2,6 +2,7 @@
 
 use book_history::history::History;
 use request_journal::event::Event;
+use request_journal::shared_event::SharedEvent;
 use std::alloc::AllocError;
 use stub_book::book::Book;
 
@@ -28,10 +29,18 @@ fn is_copied(history: &History, copy: &History, number: u64) -> Result<bool, All
     let Some(event) = history.event(number) else {
         return Ok(copy.event(number).is_none());
     };
-    let Some(other) = copy.event(number) else {
-        return Ok(false);
-    };
-    let again = event.try_clone()?;
-    let whole: Event = event.event().try_clone()?;
-    Ok(event.same(other) && event.same(&again) && whole.same(event.event()))
+    match copy.event(number) {
+        Some(other) => Ok(event.same(other) && is_shared(event)? && is_cloned(event.event())?),
+        None => Ok(false),
+    }
+}
+
+fn is_shared(event: &SharedEvent) -> Result<bool, AllocError> {
+    let copy = event.try_clone()?;
+    Ok(event.same(&copy))
+}
+
+fn is_cloned(event: &Event) -> Result<bool, AllocError> {
+    let copy = event.try_clone()?;
+    Ok(copy.same(event))
 }

@@ -12,30 +12,49 @@ use std::alloc::{AllocError, Global};
 
 /// The change that a cell asks for.
 pub fn input(alloc: Global, word: &str, text: &str) -> Result<BookInput, AllocError> {
+    match word {
+        "delete-all" => Ok(BookInput::DeleteAll),
+        "reset-mappings" => Ok(BookInput::ResetMappings),
+        "reset-all" => Ok(BookInput::ResetAll),
+        "reset-scenarios" => Ok(BookInput::ResetScenarios),
+        "clear" => Ok(BookInput::ClearJournal),
+        "stop" => Ok(BookInput::StopRecording),
+        _ => input_with(alloc, word, text),
+    }
+}
+
+// A change that says what it is about.
+fn input_with(alloc: Global, word: &str, text: &str) -> Result<BookInput, AllocError> {
     let (first, rest) = parts(text);
-    Ok(match word {
-        "add" => BookInput::Add(ready(alloc, text)?),
-        "edit" => BookInput::Edit {
-            id: id(alloc, first)?,
-            mapping: ready(alloc, rest)?,
-        },
-        "delete" => BookInput::Delete(id(alloc, text)?),
-        "delete-all" => BookInput::DeleteAll,
-        "reset-mappings" => BookInput::ResetMappings,
-        "reset-all" => BookInput::ResetAll,
-        "reset-scenarios" => BookInput::ResetScenarios,
-        "set" => BookInput::SetScenario {
-            name: text_of(alloc, first)?,
-            state: text_of(alloc, rest)?,
-        },
-        "clear" => BookInput::ClearJournal,
-        "start" => start(alloc, first, rest)?,
-        "record" => BookInput::Record {
-            serve: number(first),
-            exchange: exchange(alloc, rest)?,
-        },
-        "stop" => BookInput::StopRecording,
-        _ => return Err(AllocError),
+    match word {
+        "add" => Ok(BookInput::Add(ready(alloc, text)?)),
+        "edit" => edit(alloc, first, rest),
+        "delete" => Ok(BookInput::Delete(id(alloc, text)?)),
+        "set" => set(alloc, first, rest),
+        "start" => start(alloc, first, rest),
+        "record" => record(alloc, first, rest),
+        _ => Err(AllocError),
+    }
+}
+
+fn edit(alloc: Global, id_text: &str, words: &str) -> Result<BookInput, AllocError> {
+    Ok(BookInput::Edit {
+        id: id(alloc, id_text)?,
+        mapping: ready(alloc, words)?,
+    })
+}
+
+fn set(alloc: Global, name: &str, state: &str) -> Result<BookInput, AllocError> {
+    Ok(BookInput::SetScenario {
+        name: text_of(alloc, name)?,
+        state: text_of(alloc, state)?,
+    })
+}
+
+fn record(alloc: Global, serve: &str, words: &str) -> Result<BookInput, AllocError> {
+    Ok(BookInput::Record {
+        serve: number(serve),
+        exchange: exchange(alloc, words)?,
     })
 }
 

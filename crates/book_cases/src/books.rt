@@ -13,7 +13,8 @@ use case_table::cells::Cells;
 use case_table::row::Row;
 use case_table::words::{number, parts};
 use error_code::error_code::ErrorCode;
-use request_journal::event::{Event, ServeAnswer};
+use mock_request::snapshot::Snapshot;
+use request_journal::event::Event;
 use request_journal::input::{BookAnswer, BookInput};
 use request_journal::shared_request::SharedRequest;
 use request_match::parsed_request::ParsedRequest;
@@ -24,7 +25,7 @@ use stub_book::book::Book;
 use stub_book::error::BookError;
 
 /// How the calls of a row are made.
-#[derive(Clone, Copy, PartialEq, Eq)]
+#[derive(Clone, Copy)]
 enum Way {
     Named,
     Applied,
@@ -76,17 +77,21 @@ fn defaults(alloc: Global, row: &Row) -> Result<Vec<ReadyMapping>, AllocError> {
         let (word, text) = parts(cell.as_str());
         match word {
             "default" => defaults.push(ready(alloc, text)?)?,
-            "defaults" => push_defaults(alloc, &mut defaults, number(text))?,
+            "defaults" => push_defaults(alloc, &mut defaults, count(text))?,
             _ => {}
         }
     }
     Ok(defaults)
 }
 
+fn count(text: &str) -> u32 {
+    u32::try_from(number(text)).unwrap_or(0)
+}
+
 fn push_defaults(
     alloc: Global,
     defaults: &mut Vec<ReadyMapping>,
-    count: u64,
+    count: u32,
 ) -> Result<(), AllocError> {
     for index in 0..count {
         let words = default_words(alloc, index)?;
@@ -96,12 +101,12 @@ fn push_defaults(
 }
 
 // As `7 GET /7`.
-fn default_words(alloc: Global, index: u64) -> Result<String, AllocError> {
-    let index = format!(in alloc; "{index}")?;
-    let mut words = index.clone()?;
-    words.push_str(" GET /")?;
-    words.push_str(index.as_str())?;
-    Ok(words)
+fn default_words(alloc: Global, index: u32) -> Result<String, AllocError> {
+    let mut words = Cells::new(alloc);
+    words.add_number(index);
+    words.add(" GET /");
+    words.add_number(index);
+    words.finish()
 }
 
 fn refused(cells: &mut Cells, error: BookError) -> Result<(), AllocError> {
@@ -116,7 +121,7 @@ fn is_memory(error: BookError) -> bool {
     error.code == ErrorCode::OutOfMemory
 }
 
-// Appends what a call answers.
+// Appends what a call answers. The cells of the opening answer nothing.
 fn call(
     alloc: Global,
     book: &mut Book,
@@ -126,24 +131,42 @@ fn call(
     cells: &mut Cells,
 ) -> Result<(), AllocError> {
     match word {
-        "open" | "default" | "defaults" => {}
-        "serve" => match serve_again(alloc, book, way, text, cells) {
-            Ok(answer) => add_served(cells, &answer),
-            Err(error) => refused(cells, error)?,
-        },
-        "event" | "state" | "recording" | "mapping" | "list" | "copies" => {
-            look(alloc, book, word, text, cells)?;
+        "open" | "default" | "defaults" => Ok(()),
+        "serve" => add_serve(alloc, book, way, text, cells),
+        _ => {
+            if is_counted(alloc, book, word, cells)? || is_shown(alloc, book, word, text, cells)? {
+                return Ok(());
+            }
+            add_change(alloc, book, way, word, text, cells)
         }
-        "count" | "kept" | "requests" | "unmatched" => {
-            cells.add_cell("");
-            add_number(alloc, cells, size(alloc, book, word)?)?;
-        }
-        _ => match change_again(alloc, book, way, word, text, cells) {
-            Ok(answer) => add_applied(alloc, cells, &answer)?,
-            Err(error) => refused(cells, error)?,
-        },
     }
-    Ok(())
+}
+
+fn add_serve(
+    alloc: Global,
+    book: &mut Book,
+    way: Way,
+    text: &str,
+    cells: &mut Cells,
+) -> Result<(), AllocError> {
+    match serve_again(alloc, book, way, text, cells) {
+        Ok(()) => Ok(()),
+        Err(error) => refused(cells, error),
+    }
+}
+
+fn add_change(
+    alloc: Global,
+    book: &mut Book,
+    way: Way,
+    word: &str,
+    text: &str,
+    cells: &mut Cells,
+) -> Result<(), AllocError> {
+    match change_again(alloc, book, way, word, text, cells) {
+        Ok(answer) => add_applied(alloc, cells, &answer),
+        Err(error) => refused(cells, error),
+    }
 }
 
 // Where memory runs out the book is as before, and the same call is made once more.
@@ -153,16 +176,16 @@ fn serve_again(
     way: Way,
     text: &str,
     cells: &mut Cells,
-) -> Result<ServeAnswer, BookError> {
+) -> Result<(), BookError> {
     let count = book.event_count();
-    match serve(alloc, book, way, text) {
-        Ok(answer) => Ok(answer),
+    match serve(alloc, book, way, text, cells) {
+        Ok(()) => Ok(()),
         Err(error) => {
             mark_change(book, count, cells);
             if !is_memory(error) {
                 return Err(error);
             }
-            serve(alloc, book, way, text)
+            serve(alloc, book, way, text, cells)
         }
     }
 }
@@ -194,23 +217,41 @@ fn mark_change(book: &Book, count: u64, cells: &mut Cells) {
     }
 }
 
-fn serve(alloc: Global, book: &mut Book, way: Way, text: &str) -> Result<ServeAnswer, BookError> {
+// Appends the answer, if there is one.
+fn serve(
+    alloc: Global,
+    book: &mut Book,
+    way: Way,
+    text: &str,
+    cells: &mut Cells,
+) -> Result<(), BookError> {
     let request = request(alloc, text)?;
-    if way == Way::Named {
-        return book.serve(request);
+    match way {
+        Way::Named => add_served(cells, &book.serve(request)?),
+        Way::Applied => add_served_read(alloc, book, request, cells)?,
     }
+    Ok(())
+}
+
+fn add_served_read(
+    alloc: Global,
+    book: &mut Book,
+    request: Snapshot,
+    cells: &mut Cells,
+) -> Result<(), BookError> {
     let shared = SharedRequest::new(alloc, request)?;
     let kept = shared.try_clone()?;
     let mut parsed = ParsedRequest::new(alloc, shared.request());
     let event = book.serve_read(kept, &mut parsed)?;
-    answer_in(event.event())
+    add_event(cells, event.event());
+    Ok(())
 }
 
-// A copy of the answer that the event has.
-fn answer_in(event: &Event) -> Result<ServeAnswer, BookError> {
+// The answer that the event has.
+fn add_event(cells: &mut Cells, event: &Event) {
     match event {
-        Event::Serve { answer, .. } => Ok(answer.try_clone()?),
-        _ => Err(BookError::from(ErrorCode::BadDocument)),
+        Event::Serve { answer, .. } => add_served(cells, answer),
+        _ => cells.add_cell(event_word(event)),
     }
 }
 
@@ -249,49 +290,75 @@ fn named(book: &mut Book, input: BookInput) -> Result<Accepted, BookError> {
     }
 }
 
-// What adds no event.
-fn look(
+// Appends what the word asks of the book, which adds no event. False where it asks for a change.
+fn is_shown(
     alloc: Global,
     book: &Book,
     word: &str,
     text: &str,
     cells: &mut Cells,
-) -> Result<(), AllocError> {
+) -> Result<bool, AllocError> {
     match word {
-        "event" => cells.add_cell(match book.history().event(number(text)) {
-            Some(shared) => event_word(shared.event()),
-            None => "none",
-        }),
+        "event" => cells.add_cell(event_at(book, number(text))),
         "state" => cells.add_cell(book.scenarios().state(text)),
         "recording" => cells.add_cell(status_word(book.recording().status())),
-        "mapping" => match book.mapping(id(alloc, text)?) {
-            Ok(spec) => {
-                cells.add_cell("");
-                add_mapping(cells, spec.spec());
-            }
-            Err(error) => refused(cells, error)?,
-        },
-        "list" => {
-            for mapping in book.mappings()?.as_slice() {
-                cells.add_cell("");
-                add_mapping(cells, mapping.spec.spec());
-            }
+        "mapping" => add_found(alloc, book, text, cells)?,
+        "list" => add_listed(book, cells)?,
+        "copies" => cells.add_cell(copies_word(book)?),
+        _ => return Ok(false),
+    }
+    Ok(true)
+}
+
+fn event_at(book: &Book, number: u64) -> &'static str {
+    match book.history().event(number) {
+        Some(shared) => event_word(shared.event()),
+        None => "none",
+    }
+}
+
+fn add_found(alloc: Global, book: &Book, text: &str, cells: &mut Cells) -> Result<(), AllocError> {
+    match book.mapping(id(alloc, text)?) {
+        Ok(spec) => {
+            cells.add_cell("");
+            add_mapping(cells, spec.spec());
+            Ok(())
         }
-        _ => cells.add_cell(if are_copied(book)? {
-            "same"
-        } else {
-            "different"
-        }),
+        Err(error) => refused(cells, error),
+    }
+}
+
+fn add_listed(book: &Book, cells: &mut Cells) -> Result<(), AllocError> {
+    for mapping in book.mappings()?.as_slice() {
+        cells.add_cell("");
+        add_mapping(cells, mapping.spec.spec());
     }
     Ok(())
 }
 
-fn size(alloc: Global, book: &Book, word: &str) -> Result<u64, AllocError> {
-    let history = book.history();
-    Ok(match word {
-        "count" => book.event_count(),
-        "kept" => history.len() as u64,
-        "requests" => history.requests(alloc)?.len() as u64,
-        _ => history.unmatched(alloc)?.len() as u64,
+fn copies_word(book: &Book) -> Result<&'static str, AllocError> {
+    Ok(if are_copied(book)? {
+        "same"
+    } else {
+        "different"
     })
+}
+
+// Appends the number that the word asks for, if it asks for one.
+fn is_counted(
+    alloc: Global,
+    book: &Book,
+    word: &str,
+    cells: &mut Cells,
+) -> Result<bool, AllocError> {
+    let count = match word {
+        "count" => book.event_count(),
+        "kept" => book.history().len() as u64,
+        "requests" => book.history().requests(alloc)?.len() as u64,
+        "unmatched" => book.history().unmatched(alloc)?.len() as u64,
+        _ => return Ok(false),
+    };
+    cells.add_cell("");
+    add_number(alloc, cells, count)?;
+    Ok(true)
 }

@@ -1,9 +1,10 @@
 //! The exchanges that a row gives, cell by cell: a word, a blank and a text.
 
+use crate::book_words::text_of;
 use crate::bytes_cell::bytes_of;
 use crate::made::{made_exchange, made_header, made_request};
 use case_table::row::Row;
-use case_table::words::parts;
+use case_table::words::{number, parts};
 use http_header::{HeaderName, HeaderValue};
 use mapping_model::field_name::FieldName;
 use mapping_model::reply::ReplyHeader;
@@ -34,33 +35,55 @@ struct Draft {
 }
 
 pub fn read(alloc: Global, row: &Row) -> Result<Given, AllocError> {
-    let mut given = Given {
-        captured: Vec::new(alloc),
-        repeats: false,
-        number: 0,
-        exchanges: Vec::new(alloc),
-    };
-    let mut draft = None;
+    Ok(Given {
+        captured: captured(alloc, row)?,
+        repeats: setting(row, "repeats") == "yes",
+        number: number(setting(row, "number")),
+        exchanges: exchanges(alloc, row.given.as_slice())?,
+    })
+}
+
+// The text of the last cell with this word, empty where there is none.
+fn setting<'r>(row: &'r Row, word: &str) -> &'r str {
+    let mut found = "";
     for cell in row.given.as_slice() {
-        let (word, text) = parts(cell.as_str());
-        match word {
-            "captured" => given
-                .captured
-                .push(Text::from(String::from_str(alloc, text)?))?,
-            "repeats" => given.repeats = text == "yes",
-            "number" => given.number = text.parse::<u64>().unwrap_or(0),
-            "exchange" => {
-                finish(alloc, &mut given, draft)?;
-                draft = Some(begun(alloc, text)?);
-            }
-            _ => match &mut draft {
-                Some(draft) => add(alloc, draft, word, text)?,
-                None => return Err(AllocError),
-            },
+        let (first, text) = parts(cell.as_str());
+        if first == word {
+            found = text;
         }
     }
-    finish(alloc, &mut given, draft)?;
-    Ok(given)
+    found
+}
+
+fn captured(alloc: Global, row: &Row) -> Result<Vec<Text>, AllocError> {
+    let mut captured = Vec::new(alloc);
+    for cell in row.given.as_slice() {
+        if let Some(name) = cell.as_str().strip_prefix("captured ") {
+            captured.push(text_of(alloc, name)?)?;
+        }
+    }
+    Ok(captured)
+}
+
+// The cells after that of an exchange, up to the next one, are its parts.
+fn exchanges(alloc: Global, cells: &[String]) -> Result<Vec<SharedExchange>, AllocError> {
+    let mut exchanges = Vec::new(alloc);
+    for index in 0..cells.len() {
+        if let Some(text) = cells[index].as_str().strip_prefix("exchange ") {
+            exchanges.push(exchange(alloc, text, &cells[index + 1..])?)?;
+        }
+    }
+    Ok(exchanges)
+}
+
+fn exchange(alloc: Global, text: &str, parts: &[String]) -> Result<SharedExchange, AllocError> {
+    let mut draft = begun(alloc, text)?;
+    for cell in parts {
+        if !is_added(alloc, &mut draft, cell.as_str())? {
+            break;
+        }
+    }
+    finished(alloc, draft)
 }
 
 fn begun(alloc: Global, text: &str) -> Result<Draft, AllocError> {
@@ -76,40 +99,39 @@ fn begun(alloc: Global, text: &str) -> Result<Draft, AllocError> {
     })
 }
 
-fn add(alloc: Global, draft: &mut Draft, word: &str, text: &str) -> Result<(), AllocError> {
-    let (name, value) = parts(text);
+// False where the next exchange begins.
+fn is_added(alloc: Global, draft: &mut Draft, cell: &str) -> Result<bool, AllocError> {
+    let (word, text) = parts(cell);
     match word {
-        "header" => {
-            let bytes = bytes_of(alloc, value)?;
-            draft
-                .headers
-                .push(made_header(alloc, name, bytes.as_slice())?)?;
-        },
+        "exchange" => return Ok(false),
+        "header" => draft.headers.push(header(alloc, text)?)?,
         "body" => draft.body = bytes_of(alloc, text)?,
         "reply" => draft.status = text.parse::<u16>().unwrap_or(0),
-        "reply-header" => draft.lines.push(line(alloc, name, value)?)?,
+        "reply-header" => draft.lines.push(line(alloc, text)?)?,
         "reply-body" => draft.reply_body = bytes_of(alloc, text)?,
         _ => return Err(AllocError),
     }
-    Ok(())
+    Ok(true)
 }
 
-fn line(alloc: Global, name: &str, value: &str) -> Result<ReplyHeader, AllocError> {
-    let name = FieldName::new(Text::from(String::from_str(alloc, name)?)).ok_or(AllocError)?;
+fn header(alloc: Global, text: &str) -> Result<(HeaderName, HeaderValue), AllocError> {
+    let (name, value) = parts(text);
+    made_header(alloc, name, bytes_of(alloc, value)?.as_slice())
+}
+
+fn line(alloc: Global, text: &str) -> Result<ReplyHeader, AllocError> {
+    let (name, value) = parts(text);
     Ok(ReplyHeader {
-        name,
+        name: field_name(alloc, name)?,
         value: Octets::from(bytes_of(alloc, value)?),
     })
 }
 
-fn finish(alloc: Global, given: &mut Given, draft: Option<Draft>) -> Result<(), AllocError> {
-    if let Some(draft) = draft {
-        given.exchanges.push(exchange(alloc, draft)?)?;
-    }
-    Ok(())
+fn field_name(alloc: Global, name: &str) -> Result<FieldName, AllocError> {
+    FieldName::new(text_of(alloc, name)?).ok_or(AllocError)
 }
 
-fn exchange(alloc: Global, draft: Draft) -> Result<SharedExchange, AllocError> {
+fn finished(alloc: Global, draft: Draft) -> Result<SharedExchange, AllocError> {
     let request = made_request(
         alloc,
         draft.method.as_str(),

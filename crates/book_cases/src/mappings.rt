@@ -1,5 +1,6 @@
 //! Keys of exchanges, and the mappings that recordings give.
 
+use crate::book_words::add_number;
 use crate::bytes_cell::add_bytes;
 use crate::exchanges::{Given, read};
 use case_table::cells::Cells;
@@ -13,7 +14,7 @@ use mapping_model::url_spec::UrlSpec;
 use plain_text::text::Text;
 use recorded_stubs::stubs::{Recorded, stubs_of};
 use recorder::exchange::SharedExchange;
-use recorder::key::key_of;
+use recorder::key::{Key, key_of};
 use std::alloc::{AllocError, Global};
 use value_match::value_spec::ValueSpec;
 
@@ -23,14 +24,18 @@ pub fn key(alloc: Global, row: &Row) -> Result<String, AllocError> {
     let mut cells = Cells::new(alloc);
     if let Some(shared) = given.exchanges.get(0) {
         let key = key_of(alloc, shared.exchange(), given.captured.as_slice())?;
-        cells.add_cell(key.method());
-        cells.add_cell(key.url());
-        for (name, value) in key.headers() {
-            add_bytes(alloc, &mut cells, name, value)?;
-        }
-        add_bytes(alloc, &mut cells, "body", key.body())?;
+        add_key(alloc, &mut cells, &key)?;
     }
     cells.finish()
+}
+
+fn add_key(alloc: Global, cells: &mut Cells, key: &Key<'_>) -> Result<(), AllocError> {
+    cells.add_cell(key.method());
+    cells.add_cell(key.url());
+    for header in key.headers() {
+        add_bytes(alloc, cells, header.0, header.1)?;
+    }
+    add_bytes(alloc, cells, "body", key.body())
 }
 
 /// Whether the row's first two exchanges are the same, and whether their keys are equal. Copies are compared.
@@ -39,41 +44,35 @@ pub fn same(alloc: Global, row: &Row) -> Result<String, AllocError> {
     let mut cells = Cells::new(alloc);
     if let Some(first) = given.exchanges.get(0) {
         if let Some(second) = given.exchanges.get(1) {
-            let first = first.try_clone()?;
-            let second = second.exchange().try_clone()?;
-            let second = SharedExchange::new(alloc, second)?;
-            add_comparison(
-                alloc,
-                &mut cells,
-                &first,
-                &second,
-                given.captured.as_slice(),
-            )?;
+            let (first, second) = (first.try_clone()?, whole_copy(alloc, second)?);
+            cells.add_cell(if first.same(&second) {
+                "same"
+            } else {
+                "different"
+            });
+            cells.add_cell(if have_same_key(alloc, &first, &second, given.captured.as_slice())? {
+                "same key"
+            } else {
+                "different keys"
+            });
         }
     }
     cells.finish()
 }
 
-fn add_comparison(
+// A copy of the exchange itself, where `try_clone` of a shared one shares it.
+fn whole_copy(alloc: Global, shared: &SharedExchange) -> Result<SharedExchange, AllocError> {
+    SharedExchange::new(alloc, shared.exchange().try_clone()?)
+}
+
+fn have_same_key(
     alloc: Global,
-    cells: &mut Cells,
     first: &SharedExchange,
     second: &SharedExchange,
     captured: &[Text],
-) -> Result<(), AllocError> {
-    cells.add_cell(if first.same(second) {
-        "same"
-    } else {
-        "different"
-    });
+) -> Result<bool, AllocError> {
     let key = key_of(alloc, first.exchange(), captured)?;
-    let has_same_key = key == key_of(alloc, second.exchange(), captured)?;
-    cells.add_cell(if has_same_key {
-        "same key"
-    } else {
-        "different keys"
-    });
-    Ok(())
+    Ok(key == key_of(alloc, second.exchange(), captured)?)
 }
 
 /// How many exchanges are skipped, and the mappings.
@@ -97,11 +96,6 @@ fn stubs(alloc: Global, given: &Given) -> Result<Recorded, AllocError> {
         given.repeats,
         given.number,
     )
-}
-
-fn add_number(alloc: Global, cells: &mut Cells, number: u64) -> Result<(), AllocError> {
-    cells.add(format!(in alloc; "{number}")?.as_str());
-    Ok(())
 }
 
 fn add_text(cells: &mut Cells, word: &str, text: &Text) {

@@ -1,12 +1,14 @@
 //! Targets, and the calls of a recording.
 
+use crate::book_answers::status_word;
 use crate::book_inputs::exchange;
+use crate::book_words::add_number;
 use case_table::cells::Cells;
 use case_table::row::Row;
 use case_table::words::{number, parts};
 use plain_text::items::Items;
 use recorder::error::RecordingError;
-use recorder::recording::{Recording, RecordingStatus};
+use recorder::recording::Recording;
 use recorder::target::Target;
 use std::alloc::{AllocError, Global};
 
@@ -37,34 +39,41 @@ pub fn calls(alloc: Global, row: &Row) -> Result<String, AllocError> {
         }
     }
     let recording = recording.try_clone()?;
-    cells.add_cell(match recording.status() {
-        RecordingStatus::NeverStarted => "never started",
-        RecordingStatus::Recording => "recording",
-        RecordingStatus::Stopped => "stopped",
-    });
+    add_recording(alloc, &mut cells, &recording)?;
+    cells.finish()
+}
+
+fn add_recording(
+    alloc: Global,
+    cells: &mut Cells,
+    recording: &Recording,
+) -> Result<(), AllocError> {
+    cells.add_cell(status_word(recording.status()));
     if let Some(session) = recording.session() {
         cells.add_cell(session.target.as_str());
         cells.add_cell("");
-        let count = session.exchanges.as_slice().len();
-        cells.add(format!(in alloc; "{count}")?.as_str());
+        add_number(alloc, cells, session.exchanges.as_slice().len() as u64)?;
     }
-    cells.finish()
+    Ok(())
 }
 
 fn answer(alloc: Global, recording: &mut Recording, call: &str) -> Result<(), RecordingError> {
     let (word, text) = parts(call);
     let (first, target) = parts(text);
     match word {
-        "start" => recording.start(
-            alloc,
-            number(first),
-            target,
-            Items::from(Vec::new(alloc)),
-            true,
-        ),
+        "start" => start(alloc, recording, number(first), target),
         "take" => recording.take(number(first), exchange(alloc, "GET /")?),
         _ => recording.stop(),
     }
+}
+
+fn start(
+    alloc: Global,
+    recording: &mut Recording,
+    number: u64,
+    target: &str,
+) -> Result<(), RecordingError> {
+    recording.start(alloc, number, target, Items::from(Vec::new(alloc)), true)
 }
 
 fn refused(cells: &mut Cells, error: RecordingError) -> Result<(), AllocError> {

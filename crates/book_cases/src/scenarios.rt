@@ -32,14 +32,24 @@ fn known<'r>(alloc: Global, row: &'r Row) -> Result<Vec<KnownState<'r>>, AllocEr
     let mut known = Vec::new(alloc);
     for cell in row.given.as_slice() {
         if let Some(text) = cell.as_str().strip_prefix("known ") {
-            let (scenario, state) = parts(text);
-            known.push(KnownState {
-                scenario,
-                state: if state.is_empty() { None } else { Some(state) },
-            })?;
+            known.push(known_state(text))?;
         }
     }
     Ok(known)
+}
+
+// A scenario's name, and perhaps a state.
+fn known_state(text: &str) -> KnownState<'_> {
+    match text.split_once(' ') {
+        Some((scenario, state)) => KnownState {
+            scenario,
+            state: Some(state),
+        },
+        None => KnownState {
+            scenario: text,
+            state: None,
+        },
+    }
 }
 
 fn answer(
