@@ -1,14 +1,11 @@
 //! Calls of one and two threads on shared books: what each case shows, in words.
 ghost use Rattle.std.specs.Prelude.{◌≡◌, ◌≤◌};
 
-use crate::answered::answered;
-use crate::books;
 use crate::cleared::cleared;
-use crate::counted::counted;
-use crate::full::full;
 use crate::scripts::scripts;
 use crate::two_threads::two_threads;
 use crate::versions::versions;
+use case_calls::books;
 use case_table::cells::Cells;
 use shared_book::origin::Origin;
 use shared_book::seat::Seat;
@@ -28,10 +25,7 @@ pub enum Case {
     TwoThreads,
     Scripts,
     Versions,
-    Answered,
-    Counted,
     Cleared,
-    Full,
 }
 
 impl Case {
@@ -40,18 +34,7 @@ impl Case {
             Case::TwoThreads => "two threads: ",
             Case::Scripts => "scripts: ",
             Case::Versions => "versions: ",
-            Case::Answered => "answered: ",
-            Case::Counted => "counted: ",
             Case::Cleared => "cleared: ",
-            Case::Full => "full: ",
-        }
-    }
-
-    // The number at which its book is opened.
-    fn opening(self) -> u64 {
-        match self {
-            Case::Full => books::LAST,
-            _ => 0,
         }
     }
 }
@@ -62,7 +45,7 @@ pub fn play<R: Threads + Wait + Sync>(
     alloc: Global,
     case: Case,
 ) -> Result<String, AllocError> {
-    let book = books::book(alloc, case.opening())?;
+    let book = books::book(alloc, 0)?;
     play_on::<Brand, R>(rt, alloc, case, Blank::new(PARTS), PARTS, book)
 }
 
@@ -101,9 +84,6 @@ fn play_case<L: Origin + Send + Sync, R: Threads + Wait + Sync>(
         Case::TwoThreads => two_threads(rt, alloc, cells, shared, seat),
         Case::Scripts => scripts(rt, alloc, cells, shared, seat),
         Case::Versions => versions(rt, alloc, cells, shared, seat),
-        Case::Answered => answered(rt, alloc, cells, shared, seat),
-        Case::Counted => counted(rt, alloc, cells, shared, seat),
         Case::Cleared => cleared(rt, alloc, cells, shared, seat),
-        Case::Full => full(rt, alloc, cells, shared, seat),
     }
 }

@@ -2,25 +2,14 @@
 //! book give with the table in `data/`.
 #![tactic(auto)]
 
-mod answered;
-mod books;
-mod calls;
 mod cases;
 mod cleared;
-mod counted;
-mod exchanges;
-mod first_waits;
-mod full;
-mod message_threads;
-mod messages;
-mod one_seat;
 mod scripts;
 mod steps;
 mod table;
 mod threads;
 mod two_threads;
 mod versions;
-mod words;
 mod worlds;
 
 use case_table::compare::compare_all;
@@ -37,10 +26,7 @@ fn main(rt: HostRuntime) -> io::Result<ExitCode> {
         Case::TwoThreads,
         Case::Scripts,
         Case::Versions,
-        Case::Answered,
-        Case::Counted,
         Case::Cleared,
-        Case::Full,
     ]
     .as_slice()
     {

@@ -1,13 +1,13 @@
 //! The step of a cell: the actor's number, a word, and what it is about.
 
-use crate::exchanges::{exchange, request};
+use case_calls::mappings::mapping;
+use case_requests::exchanges::exchange_of;
+use case_requests::requests::request_of;
 use case_table::words::{number, parts};
-use mapping_json::read::read_mapping;
 use mapping_model::mapping_id::MappingId;
 use plain_text::items::Items;
 use plain_text::text::Text;
 use request_journal::input::BookInput;
-use request_match::ready_mapping::ReadyMapping;
 use std::alloc::{AllocError, Global};
 use world_core::step::{Call, Step};
 
@@ -20,7 +20,7 @@ pub fn step(alloc: Global, cell: &str) -> Result<Step, AllocError> {
         "finish" => Step::Finish { actor },
         "serve" => Step::Act {
             actor,
-            call: Call::Serve(request(alloc, text)?),
+            call: Call::Serve(request_of(alloc, text)?),
         },
         _ => Step::Act {
             actor,
@@ -58,18 +58,11 @@ fn input(alloc: Global, word: &str, text: &str) -> Result<BookInput, AllocError>
         },
         "record" => BookInput::Record {
             serve: number(first),
-            exchange: exchange(alloc, rest)?,
+            exchange: exchange_of(alloc, rest)?,
         },
         "stop" => BookInput::StopRecording,
         _ => return Err(AllocError),
     })
-}
-
-/// The mapping of a document. None of the documents is refused.
-pub fn mapping(alloc: Global, document: &str) -> Result<ReadyMapping, AllocError> {
-    read_mapping(alloc, document.as_bytes())
-        .ok()
-        .ok_or(AllocError)
 }
 
 fn id(text: &str) -> Result<MappingId, AllocError> {

@@ -2,7 +2,7 @@ use denote.Param.Send.{sendable}
 use Rattle.std.proofs.Crossing.{crosses}
 use Rattle.shared_book.proofs.SendLemmas.{shared_book_sync}
 use Rattle.shared_book.proofs.seat.Seat.TheSendSync as seat
-use Rattle.thread_cases.proofs.first_waits.FirstWaits.TheSendSync as first_waits
+use Rattle.case_calls.proofs.first_waits.FirstWaits.TheSendSync as first_waits
 use Rattle.thread_cases.proofs.threads.Job.TheSendSync as job
 use Rattle.thread_cases.proofs.threads.both.Goals as goal
 

@@ -1,13 +1,9 @@
 //! Two threads that answer messages of one site, each by a seat of its own.
 
-use crate::first_waits::FirstWaits;
-use crate::messages::{Asked, message, status_of};
-use answering::answer::answer;
+use crate::answers::answer_to;
+use crate::messages::Asked;
 use answering::site::Site;
-use bytes::Bytes;
-use http::Response;
-use http_body::Body;
-use http_body_util::Full;
+use case_calls::first_waits::FirstWaits;
 use shared_book::gate::Gate;
 use shared_book::origin::Origin;
 use shared_book::seat::Seat;
@@ -124,14 +120,10 @@ pub fn length_of<L: Origin, R: Wait>(
     seat: &mut Seat<L>,
     asked: Asked,
 ) -> Option<u64> {
-    let message = message(alloc, asked).ok()?;
-    let response = answer(rt, alloc, site, seat, &message).ok()?;
-    length_with(&response, status_of(asked))
-}
-
-fn length_with(response: &Response<Full<Bytes>>, status: u16) -> Option<u64> {
-    if response.status().as_u16() != status {
-        return None;
+    let answer = answer_to(rt, alloc, site, seat, asked).ok()?;
+    if answer.status == asked.status() {
+        Some(answer.length)
+    } else {
+        None
     }
-    response.body().size_hint().exact()
 }

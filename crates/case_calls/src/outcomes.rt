@@ -1,4 +1,4 @@
-//! What is shown, in words.
+//! What calls and settled books give, in words.
 
 use crate::books::{is_stubbed, word_of};
 use crate::calls;

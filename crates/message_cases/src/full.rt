@@ -1,16 +1,12 @@
 //! A message that a full history can't take.
 
-use crate::books::LAST;
-use crate::calls;
-use crate::messages::{Asked, message};
-use crate::words::{add_number, add_receipts, add_refusal};
-use answering::answer::answer;
+use crate::answers::answer_to;
+use crate::messages::Asked;
 use answering::site::Site;
-use bytes::Bytes;
+use case_calls::books::LAST;
+use case_calls::calls;
+use case_calls::outcomes::{add_number, add_receipts, add_refusal};
 use case_table::cells::Cells;
-use http::Response;
-use http_body::Body;
-use http_body_util::Full;
 use shared_book::gate::NoGate;
 use shared_book::origin::Origin;
 use shared_book::seat::Seat;
@@ -68,6 +64,7 @@ fn add_settled<L: Origin, R: Wait>(
     Ok(())
 }
 
+// The status, and how many bytes the body has.
 fn add_answer<L: Origin, R: Wait>(
     rt: &R,
     alloc: Global,
@@ -75,18 +72,10 @@ fn add_answer<L: Origin, R: Wait>(
     site: &Site<L, NoGate>,
     seat: &mut Seat<L>,
 ) -> Result<(), AllocError> {
-    let message = message(alloc, Asked::Get)?;
-    let response = answer(rt, alloc, site, seat, &message)
-        .ok()
-        .ok_or(AllocError)?;
-    add_length(cells, &response);
-    Ok(())
-}
-
-// The status, and how many bytes the body has.
-fn add_length(cells: &mut Cells, response: &Response<Full<Bytes>>) {
-    cells.add_number(u32::from(response.status().as_u16()));
+    let answer = answer_to(rt, alloc, site, seat, Asked::Get)?;
+    cells.add_number(u32::from(answer.status));
     cells.add(" with ");
-    add_number(cells, response.body().size_hint().exact().unwrap_or(0));
+    add_number(cells, answer.length);
     cells.add(" bytes");
+    Ok(())
 }

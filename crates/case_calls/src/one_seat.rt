@@ -1,7 +1,7 @@
 //! Settling a book that one seat has all parts of.
 
 use crate::calls;
-use crate::words::{add_counts, add_receipts, add_refusal};
+use crate::outcomes::{add_counts, add_receipts, add_refusal};
 use case_table::cells::Cells;
 use shared_book::origin::Origin;
 use shared_book::seat::Seat;

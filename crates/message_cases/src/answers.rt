@@ -1,0 +1,41 @@
+//! What messages are answered.
+
+use crate::messages::{Asked, message};
+use answering::answer::answer;
+use answering::site::Site;
+use bytes::Bytes;
+use http::Response;
+use http_body::Body;
+use http_body_util::Full;
+use shared_book::gate::Gate;
+use shared_book::origin::Origin;
+use shared_book::seat::Seat;
+use std::alloc::{AllocError, Global};
+use std::sync::Wait;
+
+/// The status of an answer, and how many bytes its body has.
+#[derive(Clone, Copy)]
+pub struct Answer {
+    pub status: u16,
+    pub length: u64,
+}
+
+/// What the message is answered.
+pub fn answer_to<L: Origin, R: Wait, G: Gate>(
+    rt: &R,
+    alloc: Global,
+    site: &Site<L, G>,
+    seat: &mut Seat<L>,
+    asked: Asked,
+) -> Result<Answer, AllocError> {
+    let message = message(alloc, asked)?;
+    let response = answer(rt, alloc, site, seat, &message);
+    described(&response.ok().ok_or(AllocError)?)
+}
+
+fn described(response: &Response<Full<Bytes>>) -> Result<Answer, AllocError> {
+    Ok(Answer {
+        status: response.status().as_u16(),
+        length: response.body().size_hint().exact().ok_or(AllocError)?,
+    })
+}

@@ -1,0 +1,93 @@
+//! Messages that are answered over shared books, also by two threads: what each case shows, in words.
+ghost use Rattle.std.specs.Prelude.{◌≡◌, ◌≤◌};
+
+use crate::answered::answered;
+use crate::counted::counted;
+use crate::full::full;
+use case_calls::books;
+use case_table::cells::Cells;
+use shared_book::origin::Origin;
+use shared_book::seat::Seat;
+use shared_book::shared_book::SharedBook;
+use std::alloc::{AllocError, Global};
+use std::marker::Brand;
+use std::sync::Wait;
+use std::sync::ledger::Blank;
+use std::thread::Threads;
+use stub_book::book::Book;
+
+/// Into how many parts each ledger is cut.
+const PARTS: u64 = 4_294_967_296;
+
+#[derive(Clone, Copy)]
+pub enum Case {
+    Answered,
+    Counted,
+    Full,
+}
+
+impl Case {
+    fn name(self) -> &'static str {
+        match self {
+            Case::Answered => "answered: ",
+            Case::Counted => "counted: ",
+            Case::Full => "full: ",
+        }
+    }
+
+    // The number at which its book is opened.
+    fn opening(self) -> u64 {
+        match self {
+            Case::Full => books::LAST,
+            _ => 0,
+        }
+    }
+}
+
+/// What a case shows, on a book of its own.
+pub fn play<R: Threads + Wait + Sync>(
+    rt: &R,
+    alloc: Global,
+    case: Case,
+) -> Result<String, AllocError> {
+    let book = books::book(alloc, case.opening())?;
+    play_on::<Brand, R>(rt, alloc, case, Blank::new(PARTS), PARTS, book)
+}
+
+fn play_on<L: Origin + Send + Sync, R: Threads + Wait + Sync>(
+    rt: &R,
+    alloc: Global,
+    case: Case,
+    blank: Blank,
+    parts: u64,
+    book: Book,
+) -> Result<String, AllocError>
+    requires name { blank.name ≡ L.name }
+    requires ledger { blank.parts ≡ L.parts }
+    requires parts { parts ≡ L.parts }
+    requires some { 3 ≤ parts }
+    requires origin { book ≡ L.origin }
+{
+    let (shared, seat) = SharedBook::<L>::new(alloc, blank, parts, book)?;
+    let mut cells = Cells::new(alloc);
+    cells.add(case.name());
+    play_case(rt, alloc, case, &mut cells, shared, seat)?;
+    cells.finish()
+}
+
+fn play_case<L: Origin + Send + Sync, R: Threads + Wait + Sync>(
+    rt: &R,
+    alloc: Global,
+    case: Case,
+    cells: &mut Cells,
+    shared: SharedBook<L>,
+    seat: Seat<L>,
+) -> Result<(), AllocError>
+    requires { 3 ≤ seat.parts }
+{
+    match case {
+        Case::Answered => answered(rt, alloc, cells, shared, seat),
+        Case::Counted => counted(rt, alloc, cells, shared, seat),
+        Case::Full => full(rt, alloc, cells, shared, seat),
+    }
+}
