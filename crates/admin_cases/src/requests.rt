@@ -1,6 +1,7 @@
 //! Requests in cells.
 
 use crate::octets::octets_of;
+use case_requests::requests::header;
 use http_header::{HeaderName, HeaderValue};
 use mock_request::error::SnapshotError;
 use mock_request::snapshot::Snapshot;
@@ -28,17 +29,4 @@ fn header_of(alloc: Global, line: &str) -> Result<(HeaderName, HeaderValue), All
     let (name, value) = line.split_once(": ").unwrap_or((line, ""));
     let octets = octets_of(alloc, value)?;
     header(alloc, name, octets.as_slice())
-}
-
-fn header(
-    alloc: Global,
-    name: &str,
-    value: &[u8],
-) -> Result<(HeaderName, HeaderValue), AllocError> {
-    let name = HeaderName::from_bytes(alloc, name.as_bytes()).ok();
-    let value = HeaderValue::from_bytes(alloc, value).ok();
-    match (name, value) {
-        (Some(name), Some(value)) => Ok((name, value)),
-        _ => Err(AllocError),
-    }
 }
