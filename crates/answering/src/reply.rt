@@ -33,12 +33,19 @@ pub(crate) fn reply_to<L: Origin, R: Wait, G: Gate>(
         (IsReply L.origin site.now.limits site.now.escape seat.old seat.new message.now)
         (λ _. IsNotAnswered L.origin site.now.limits site.now.escape seat.old seat.new message.now) }
 {
-    match snapshot_of(alloc, message) {
+    match snapshot_of(alloc, message, last_request(seat)) {
         Ok(request) => reply_to_request(rt, alloc, site, seat, request),
         Err(SnapshotError::BadUrl) => error_reply(alloc, 400, ErrorCode::BadUrl),
         Err(SnapshotError::BodyTooLarge) => error_reply(alloc, 413, ErrorCode::TooLarge),
         Err(SnapshotError::OutOfMemory) => error_reply(alloc, 503, ErrorCode::OutOfMemory),
     }
+}
+
+// The request of the seat's last call. A client mostly sends the same headers again over a connection: the journal keeps
+// them once.
+fn last_request<L: Origin>(seat: &Seat<L>) -> Option<&Snapshot> {
+    let last = seat.receipts().last()?;
+    Some(last.event.event().request()?.request())
 }
 
 fn reply_to_request<L: Origin, R: Wait, G: Gate>(

@@ -13,8 +13,12 @@ use mock_request::snapshot::Snapshot;
 use std::alloc::Global;
 
 /// The request that a message is. It is a copy, which keeps nothing of the buffers of the connection that the message
-/// came over.
-pub fn snapshot_of(alloc: Global, message: &Request<Bytes>) -> Result<Snapshot, SnapshotError>
+/// came over. Where an earlier request had the same headers, they are shared with it.
+pub fn snapshot_of(
+    alloc: Global,
+    message: &Request<Bytes>,
+    earlier: Option<&Snapshot>,
+) -> Result<Snapshot, SnapshotError>
     ensures received { IfOk result (IsReceived message.now) }
     ensures within { OnOk result (length (body_of message.now) ≤ BODY_LIMIT) }
 
@@ -24,15 +28,19 @@ pub fn snapshot_of(alloc: Global, message: &Request<Bytes>) -> Result<Snapshot, 
         → (HasUrl (target_of message.now) × (BODY_LIMIT < length (body_of message.now))) }
 {
     if let Some(path) = lone_path(message.uri()) {
-        return snapshot_at(alloc, message, path);
+        return snapshot_at(alloc, message, path, earlier);
     }
-    snapshot_at_target(alloc, message)
+    snapshot_at_target(alloc, message, earlier)
 }
 
 // The request of the message, whose target is written as a text first. Not inlined: a function clears all its locals when
 // it is entered, and a target that is a path alone needs none of these.
 #[inline(never)]
-fn snapshot_at_target(alloc: Global, message: &Request<Bytes>) -> Result<Snapshot, SnapshotError>
+fn snapshot_at_target(
+    alloc: Global,
+    message: &Request<Bytes>,
+    earlier: Option<&Snapshot>,
+) -> Result<Snapshot, SnapshotError>
     ensures received { IfOk result (IsReceived message.now) }
     ensures within { OnOk result (length (body_of message.now) ≤ BODY_LIMIT) }
     ensures bad_url { IsErrOf result SnapshotError.BadUrl → ¬ (HasUrl (target_of message.now)) }
@@ -40,7 +48,7 @@ fn snapshot_at_target(alloc: Global, message: &Request<Bytes>) -> Result<Snapsho
         → (HasUrl (target_of message.now) × (BODY_LIMIT < length (body_of message.now))) }
 {
     let target = message.uri().to_string(alloc)?;
-    snapshot_at(alloc, message, target.as_str())
+    snapshot_at(alloc, message, target.as_str(), earlier)
 }
 
 // The text of a target that is a path alone, as most are.
@@ -58,6 +66,7 @@ fn snapshot_at(
     alloc: Global,
     message: &Request<Bytes>,
     target: &str,
+    earlier: Option<&Snapshot>,
 ) -> Result<Snapshot, SnapshotError>
     requires { target.now ≡ target_of message.now }
     ensures received { IfOk result (IsReceived message.now) }
@@ -72,5 +81,6 @@ fn snapshot_at(
         target,
         message.headers(),
         message.body().as_slice(),
+        earlier,
     )
 }

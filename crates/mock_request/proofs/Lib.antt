@@ -1,3 +1,4 @@
+mod BareLemmas
 mod BlockLemmas
 mod PartsLemmas
 pub mod TargetLemmas

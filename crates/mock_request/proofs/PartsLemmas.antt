@@ -1,15 +1,13 @@
--- Where the parts of a request are in a snapshot's block.
-use Rattle.std.proofs.Common.{◌≡◌, ℕ, zero, suc, ◌+◌, ◌*◌, ◌<◌, ◌≤◌, refl, sym, ap, subst, ◌∙◌, arith}
+-- Where the names and the values of headers are in a block.
+use Rattle.std.proofs.Common.{◌≡◌, ℕ, zero, suc, ◌+◌, ◌*◌, ◌<◌, refl, sym, ap, subst, ◌∙◌, arith}
 use Rattle.std.proofs.Common.{List, [], ◌∷◌, ◌++◌, length, get_or, take, All}
 use Rattle.std.specs.Prelude.{slice_get, Some, IsUtf8}
 use Rattle.std.proofs.lemmas.List.{map-append, take_more, append_assoc}
 use Rattle.http_header.specs.FieldValue.{FieldValue}
 use Rattle.http_header.specs.FieldName.{IsHeaderName}
 use Rattle.http_header.proofs.TokenLemmas.{IsUtf8-from_token}
-use Rattle.mock_request.specs.Request.{Request, Header, header_of, headers_of}
-use Rattle.mock_request.specs.Target.{IsRooted}
-use Rattle.mock_request.specs.declared.snapshot.TheConstants.{BODY_LIMIT}
-use Rattle.mock_request.specs.Inner.Parts.{fields_of, parts_of, headers_in, request_in, AreParts}
+use Rattle.mock_request.specs.Request.{Header, header_of, headers_of}
+use Rattle.mock_request.specs.Inner.Parts.{fields_of, headers_in, AreFields}
 
 pub length-fields : (headers : List Header) → length (fields_of headers) ≡ 2 * length headers
 length-fields [] = refl
@@ -18,11 +16,6 @@ length-fields (header ∷ headers) = omega (arith, length-fields headers)
 pub headers_in-fields : (headers : List Header) → headers_in (fields_of headers) ≡ headers
 headers_in-fields [] = refl
 headers_in-fields (header ∷ headers) = ap (λ hs. header ∷ hs) (headers_in-fields headers)
-
-pub request_in-parts : (request : Request) → request_in (parts_of request) ≡ request
-request_in-parts request =
-    ap (λ hs. record { method = request.method; url = request.url; headers = hs; body = request.body })
-    (headers_in-fields request.headers)
 
 pub fields_of-append : (before after : List Header)
     → fields_of (before ++ after) ≡ fields_of before ++ fields_of after
@@ -51,31 +44,12 @@ pub moved_fields : (total parts named whole : List (List ℕ)) (left rest : List
 moved_fields total parts named whole left rest header name value p l n w is_name is_value =
     rw (w, n, is_name, is_value, sym p, l) (simp append_assoc)
 
--- the parts of a request that keeps what each `Snapshot` keeps
-pub are_parts : (request : Request) → IsUtf8 request.method → IsUtf8 request.url → IsRooted request.url
-    → length request.body ≤ BODY_LIMIT → All (λ header. IsHeaderName header.name) request.headers
-    → AreParts (parts_of request)
-are_parts request method url rooted within names = record {
-  whole = ap parts_of (sym (request_in-parts request));
-  method = method;
-  url = url;
-  rooted = rooted;
-  within = within;
-  names = rw (headers_in-fields request.headers) names;
+-- the byte strings of headers
+pub are_fields : (headers : List Header) → All (λ header. IsHeaderName header.name) headers → AreFields (fields_of headers)
+are_fields headers names = record {
+  whole = ap fields_of (sym (headers_in-fields headers));
+  names = rw (headers_in-fields headers) names;
 }
-
--- the three parts that each request has
-pub record Fixed (parts : List (List ℕ)) : Type 0 where
-  pub count : 3 ≤ length parts
-  pub method : get_or parts 0 [] ≡ (request_in parts).method
-  pub url : get_or parts 1 [] ≡ (request_in parts).url
-  pub body : get_or parts 2 [] ≡ (request_in parts).body
-
-pub fixed : (parts : List (List ℕ)) → AreParts parts → Fixed parts
-fixed [] are = let e = are.whole in cc
-fixed (method ∷ []) are = let e = are.whole in cc
-fixed (method ∷ url ∷ []) are = let e = are.whole in cc
-fixed (method ∷ url ∷ body ∷ fields) are = record { count = omega arith; method = refl; url = refl; body = refl }
 
 -- the two parts of the header at an index
 pub record At (headers : List Header) (index at : ℕ) (fields : List (List ℕ)) : Type 0 where
@@ -97,25 +71,15 @@ field_at (header ∷ headers) (suc index) (suc (suc at)) e i names =
     let f = field_at headers index at (omega arith) (omega arith) (λ k d l. names (suc k) d (omega arith)) in
     record { within = omega (arith, f.within); found = f.found; name = f.name; text = f.text }
 
-pub header_count : (parts : List (List ℕ)) → AreParts parts
-    → length parts ≡ 2 * length (request_in parts).headers + 3
-header_count parts are = omega (arith, ap length are.whole, length-fields (request_in parts).headers)
+pub field_count : (fields : List (List ℕ)) → AreFields fields → length fields ≡ 2 * length (headers_in fields)
+field_count fields are = omega (arith, ap length are.whole, length-fields (headers_in fields))
 
-pub header_at : (parts : List (List ℕ)) (index at : ℕ) → AreParts parts → at ≡ 3 + 2 * index
-    → index < length (request_in parts).headers → At (request_in parts).headers index at parts
-header_at [] index at are e i = absurd (omega arith)
-header_at (method ∷ []) index at are e i = absurd (omega arith)
-header_at (method ∷ url ∷ []) index at are e i = absurd (omega arith)
-header_at (method ∷ url ∷ body ∷ fields) index zero are e i = absurd (omega arith)
-header_at (method ∷ url ∷ body ∷ fields) index (suc zero) are e i = absurd (omega arith)
-header_at (method ∷ url ∷ body ∷ fields) index (suc (suc zero)) are e i = absurd (omega arith)
-header_at (method ∷ url ∷ body ∷ fields) index (suc (suc (suc at))) are e i =
-    let whole = are.whole in
-    let same : fields_of (headers_in fields) ≡ fields = cc in
-    let f = subst (λ fs. At (headers_in fields) index at fs) same
-    (field_at (headers_in fields) index at (omega arith) i are.names) in
-    record { within = omega (arith, f.within); found = f.found; name = f.name; text = f.text }
+pub header_at : (fields : List (List ℕ)) (index : ℕ) → AreFields fields → index < length (headers_in fields)
+    → At (headers_in fields) index (2 * index) fields
+header_at fields index are i =
+    subst (λ fs. At (headers_in fields) index (2 * index) fs) (sym are.whole)
+    (field_at (headers_in fields) index (2 * index) refl i are.names)
 
--- the parts are those of the request, so equal requests have equal parts
-pub same_parts : (a b : List (List ℕ)) → AreParts a → AreParts b → request_in a ≡ request_in b → a ≡ b
-same_parts a b in_a in_b e = in_a.whole ∙ ap parts_of e ∙ sym in_b.whole
+-- equal headers have equal byte strings
+pub same_fields : (a b : List (List ℕ)) → AreFields a → AreFields b → headers_in a ≡ headers_in b → a ≡ b
+same_fields a b in_a in_b e = in_a.whole ∙ ap fields_of e ∙ sym in_b.whole

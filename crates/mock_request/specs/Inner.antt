@@ -1,3 +1,4 @@
+pub mod Bare
 pub mod Block
 pub mod Parts
 pub mod Made

@@ -77,6 +77,14 @@ impl Block {
         unsafe { str::from_utf8_unchecked(self.part(index)) }
     }
 
+    /// Whether the byte string at that index is this one.
+    pub(crate) fn is_at(&self, index: usize, bytes: &[u8]) -> bool
+        requires { index < length self.now }
+        ensures { IsTrue result ↔ (slice_index_or self.now index [] ≡ bytes.now) }
+    {
+        same_bytes(self.part(index), bytes)
+    }
+
     /// Whether it has the same byte strings.
     pub(crate) fn same(&self, other: &Block) -> bool
         ensures { IsTrue result ↔ (self.now ≡ other.now) }
@@ -85,21 +93,11 @@ impl Block {
             return false;
         }
         for i in 0..self.len() {
-            if !same_bytes(self.part(i), other.part(i)) {
+            if !self.is_at(i, other.part(i)) {
                 return false;
             }
         }
         true
-    }
-
-    /// A copy.
-    pub(crate) fn try_clone(&self) -> Result<Block, AllocError>
-        ensures { IfOk result (λ copy. copy ≡ self.now) }
-    {
-        Ok(Block {
-            bytes: self.bytes.clone()?,
-            ends: self.ends.clone()?,
-        })
     }
 }
 

@@ -5,8 +5,10 @@
 #![tactic(auto)]
 
 // The request.
+mod bare_request;
 mod block;
 pub mod error;
+mod fields;
 pub mod snapshot;
 mod target;
 

@@ -1,8 +1,8 @@
--- How the block of a `Snapshot` is a request: its parts are the method, the URL, the body, and then the name and the
--- value of each header.
+-- How a list of byte strings is the headers of a request: the name and the value of each.
 use Rattle.std.specs.Prelude.{◌≡◌, ℕ, ◌≤◌, List, [], ◌∷◌, length, All}
 use Rattle.std.specs.Str.{IsUtf8}
 use Rattle.http_header.specs.FieldName.{IsHeaderName}
+use Rattle.mock_request.specs.Inner.Bare.{Bare}
 use Rattle.mock_request.specs.Request.{Request, Header}
 use Rattle.mock_request.specs.Target.{IsRooted}
 use Rattle.mock_request.specs.declared.snapshot.TheConstants.{BODY_LIMIT}
@@ -11,28 +11,25 @@ abbrev pub fields_of : List Header → List (List ℕ)
 fields_of [] = []
 fields_of (header ∷ headers) = header.name ∷ header.value ∷ fields_of headers
 
-abbrev pub parts_of : Request → List (List ℕ)
-parts_of request = request.method ∷ request.url ∷ request.body ∷ fields_of request.headers
-
 -- the headers of these names and values
 abbrev pub headers_in : List (List ℕ) → List Header
 headers_in [] = []
 headers_in (name ∷ []) = []
 headers_in (name ∷ value ∷ fields) = record { name = name; value = value } ∷ headers_in fields
 
--- the request of these parts, and of fewer than three parts an empty one
-abbrev pub request_in : List (List ℕ) → Request
-request_in [] = record { method = []; url = []; headers = []; body = [] }
-request_in (method ∷ []) = record { method = method; url = []; headers = []; body = [] }
-request_in (method ∷ url ∷ []) = record { method = method; url = url; headers = []; body = [] }
-request_in (method ∷ url ∷ body ∷ fields) =
-    record { method = method; url = url; headers = headers_in fields; body = body }
+-- what holds of the byte strings that headers are kept in
+pub record AreFields (fields : List (List ℕ)) : Type 0 where
+  pub whole : fields ≡ fields_of (headers_in fields)
+  pub names : All (λ header. IsHeaderName header.name) (headers_in fields)
 
--- what holds of the parts of each `Snapshot`
-pub record AreParts (parts : List (List ℕ)) : Type 0 where
-  pub whole : parts ≡ parts_of (request_in parts)
-  pub method : IsUtf8 (request_in parts).method
-  pub url : IsUtf8 (request_in parts).url
-  pub rooted : IsRooted (request_in parts).url
-  pub within : length (request_in parts).body ≤ BODY_LIMIT
-  pub names : All (λ header. IsHeaderName header.name) (request_in parts).headers
+-- the request of these parts
+abbrev pub request_of : Bare → List Header → Request
+request_of bare headers =
+    record { method = bare.method; url = bare.url; headers = headers; body = bare.body }
+
+-- what holds of each `Snapshot`
+pub record IsSnapshot (bare : Bare) : Type 0 where
+  pub method : IsUtf8 bare.method
+  pub url : IsUtf8 bare.url
+  pub rooted : IsRooted bare.url
+  pub within : length bare.body ≤ BODY_LIMIT

@@ -3,7 +3,7 @@ use Rattle.std.proofs.lemmas.List.Elements.{All-push}
 use Rattle.http_header.specs.FieldName.{IsHeaderName}
 use Rattle.mock_request.specs.Request.{header_of, headers_of}
 use Rattle.mock_request.proofs.PartsLemmas.{more_headers, more_fields}
-use Rattle.mock_request.proofs.snapshot.push_headers.Goals as goal
+use Rattle.mock_request.proofs.fields.push_list.Goals as goal
 
 pub loop-name-preserved : goal.loop-name-preserved
 loop-name-preserved c =

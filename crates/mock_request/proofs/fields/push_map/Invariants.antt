@@ -3,7 +3,7 @@ use Rattle.http_header.specs.FieldName.{IsHeaderName}
 use Rattle.http_header.specs.HeaderMap.{pairs}
 use Rattle.mock_request.specs.Request.{headers_of}
 use Rattle.mock_request.specs.Inner.Parts.{fields_of}
-use Rattle.mock_request.proofs.snapshot.push_map.Given as goal
+use Rattle.mock_request.proofs.fields.push_map.Given as goal
 
 -- what is appended, and what is left, give the whole
 abbrev pub invariant-loop-name : goal.invariant-loop-name

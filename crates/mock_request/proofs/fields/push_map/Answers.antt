@@ -3,7 +3,7 @@ use Rattle.std.proofs.lemmas.List.Elements.{All-cons}
 use Rattle.http_header.specs.FieldName.{IsHeaderName}
 use Rattle.mock_request.specs.Request.{header_of, headers_of}
 use Rattle.mock_request.proofs.PartsLemmas.{moved_fields}
-use Rattle.mock_request.proofs.snapshot.push_map.Goals as goal
+use Rattle.mock_request.proofs.fields.push_map.Goals as goal
 
 pub loop-name-preserved : goal.loop-name-preserved
 loop-name-preserved c =

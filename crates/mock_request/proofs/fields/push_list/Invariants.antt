@@ -2,7 +2,7 @@ use Rattle.std.proofs.Common.{◌≡◌, ◌++◌, take, All}
 use Rattle.http_header.specs.FieldName.{IsHeaderName}
 use Rattle.mock_request.specs.Request.{headers_of}
 use Rattle.mock_request.specs.Inner.Parts.{fields_of}
-use Rattle.mock_request.proofs.snapshot.push_headers.Given as goal
+use Rattle.mock_request.proofs.fields.push_list.Given as goal
 
 abbrev pub invariant-loop-name : goal.invariant-loop-name
 invariant-loop-name l = record {
