@@ -23,10 +23,20 @@ pub const BODY_LIMIT: usize = 1_048_576;
 /// A request as it was received: its method, its URL (path and query as they were received), its headers in their
 /// order, and its body. It owns its method, URL and body, in one allocation. Its headers are shared with its copies, and
 /// with a later request that has the same.
-#[derive(Debug, Drop)]
+#[derive(Debug)]
 pub struct Snapshot {
     bare: BareRequest,
     headers: Arc<Fields>,
+}
+
+// Written out, so that a caller's proof sees one call and not the drop of each part.
+impl Drop for Snapshot {
+    fn drop(self) {
+        let Snapshot {
+            bare: _bare,
+            headers: _headers,
+        } = self;
+    }
 }
 
 impl Model for Snapshot {
