@@ -1,2 +1,3 @@
+mod PlainLemmas
 mod ReplyLemmas
 mod ResultLemmas

@@ -1,6 +1,10 @@
 -- Replies that a call gives, or would give if it had the memory.
-use Rattle.std.proofs.Common.{◌≡◌, Ok, Err, sym, subst}
-use Rattle.std.specs.Prelude.{Result, IfErr, IfOk, MatchResult}
+use Rattle.std.proofs.Common.{◌≡◌, ℕ, List, Ok, Err, sym, subst}
+use Rattle.std.specs.Prelude.{Result, IfOk, MatchResult}
+use Rattle.http.specs.declared.response.Response.{Response}
+use Rattle.http_body_util.specs.declared.full.Full.{Full}
+use Rattle.answering.specs.Inner.Sent.{HasReply}
+use Rattle.answering.specs.Reply.{IsResponseOf}
 use Rattle.mapping_model.specs.declared.reply.Reply.{Reply}
 
 -- one reply is right
@@ -15,12 +19,25 @@ pub weaker : {E : Type 0} (P Q : Reply → Type 0) → ((r : Reply) → P r → 
 weaker P Q f (Ok reply) h = f reply h
 weaker P Q f (Err error) h = (h.0, f h.0 h.1)
 
--- a response is that of a reply
-pub of_reply : {R E : Type 0} (P : Reply → Type 0) (Is : Reply → R → Type 0) (reply : Reply) (result : Result R E)
-    → P reply → IfOk result (Is reply) → IfOk result (λ response. (r : Reply) × P r × Is r response)
-of_reply P Is reply (Ok response) is h = (reply, is, h)
-of_reply P Is reply (Err error) is h = tt
+-- a response is that of a reply which is right
+pub of_reply : {E : Type 0} (P : Reply → Type 0) (reply : Reply) (result : Result (Response (Full (List ℕ))) E) → P reply
+    → IfOk result (IsResponseOf reply) → MatchResult result (HasReply P) (λ _. (r : Reply) × P r)
+of_reply P reply (Ok response) is h = (reply, is, h)
+of_reply P reply (Err error) is h = (reply, is)
 
-pub on_error : {R E Q : Type 0} (result : Result R E) → Q → IfErr result (λ _. Q)
-on_error (Ok response) q = tt
-on_error (Err error) q = q
+-- the same, where nothing is asked of an error
+pub of_right : {E : Type 0} (P : Reply → Type 0) (reply : Reply) (result : Result (Response (Full (List ℕ))) E) → P reply
+    → IfOk result (IsResponseOf reply) → IfOk result (HasReply P)
+of_right P reply (Ok response) is h = (reply, is, h)
+of_right P reply (Err error) is h = tt
+
+-- what a reply is in one sense it is in another
+pub sent_weaker : {E : Type 0} (P Q : Reply → Type 0) → ((r : Reply) → P r → Q r)
+    → (result : Result (Response (Full (List ℕ))) E)
+    → MatchResult result (HasReply P) (λ _. (r : Reply) × P r) → MatchResult result (HasReply Q) (λ _. (r : Reply) × Q r)
+sent_weaker P Q f (Ok response) (reply, is, of) = (reply, f reply is, of)
+sent_weaker P Q f (Err error) (reply, is) = (reply, f reply is)
+
+pub has_weaker : (P Q : Reply → Type 0) → ((r : Reply) → P r → Q r) → (response : Response (Full (List ℕ)))
+    → HasReply P response → HasReply Q response
+has_weaker P Q f response (reply, is, of) = (reply, f reply is, of)

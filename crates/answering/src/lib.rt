@@ -6,8 +6,9 @@
 
 mod admin_reply;
 pub mod answer;
-mod event_reply;
-mod reply;
+mod event_response;
+mod mapping_response;
+mod message_response;
 mod response;
 mod serve;
 pub mod site;

@@ -7,7 +7,7 @@
 pub mod error_reply;
 mod header_text;
 pub mod limits;
-mod plain;
+pub mod plain;
 mod rendered;
 pub mod respond;
 mod templated;

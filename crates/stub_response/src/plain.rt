@@ -1,6 +1,7 @@
 // Replies of texts.
-ghost use Rattle.std.specs.Prelude.{IfOk};
+ghost use Rattle.std.specs.Prelude.{◌≡◌, IfOk};
 ghost use Rattle.std.specs.List.{AllZip};
+ghost use Rattle.stub_response.specs.HeaderText.{header_text};
 ghost use Rattle.stub_response.specs.Response.{IsBody, IsLine, IsMade, Itself};
 
 use crate::header_text::header_text;
@@ -10,6 +11,7 @@ use mapping_model::reply::{Reply, ReplyHeader};
 use mapping_model::response_spec::Body;
 use mapping_model::status::Status;
 use plain_text::items::Items;
+use plain_text::octets::Octets;
 use plain_text::text::Text;
 use std::alloc::{AllocError, Global};
 
@@ -45,14 +47,22 @@ fn plain_headers(
 fn plain_header(alloc: Global, header: &HeaderLine<Text>) -> Result<ReplyHeader, AllocError>
     ensures { IfOk result (λ made. IsLine Itself header.now made) }
 {
-    let text = Vec::from_slice(alloc, header.value.as_str().as_bytes())?;
     Ok(ReplyHeader {
         name: header.name.try_clone()?,
-        value: header_text(text),
+        value: plain_value(alloc, &header.value)?,
     })
 }
 
-fn plain_body(alloc: Global, body: &Body<Text>) -> Result<Bytes, AllocError>
+/// The value of a header that is a text. Copies it once.
+pub fn plain_value(alloc: Global, text: &Text) -> Result<Octets, AllocError>
+    ensures { IfOk result (λ value. value ≡ header_text text.now) }
+{
+    let text = Vec::from_slice(alloc, text.as_str().as_bytes())?;
+    Ok(header_text(text))
+}
+
+/// The body that is a text or bytes. Copies it once.
+pub fn plain_body(alloc: Global, body: &Body<Text>) -> Result<Bytes, AllocError>
     ensures { IfOk result (λ made. IsBody Itself body.now made) }
 {
     match body {

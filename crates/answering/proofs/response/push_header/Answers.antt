@@ -8,14 +8,14 @@ use Rattle.answering.proofs.response.push_header.Goals as goal
 
 pub returns : goal.returns
 returns c =
-    let named : c.as_bytes.result.now ≡ c.args.header.name = c.as_bytes.ensures.value ∙ c.as_str.ensures.value in
-    let name : ¬ ¬ (IsFieldName c.args.header.name) =
+    let named : c.as_bytes.result.now ≡ c.args.name.now = c.as_bytes.ensures.value ∙ c.as_str.ensures.value in
+    let name : ¬ ¬ (IsFieldName c.args.name.now) =
     λ no. let e = c.in-Ok.ensures.invalid.1 (λ is. no (subst IsFieldName named is)) in absurd (cc) in
-    let value : ¬ ¬ (IsFieldValue c.args.header.value) =
+    let value : ¬ ¬ (IsFieldValue c.args.value) =
     λ no. let e = c.in-Ok-from_vec.ensures.invalid.1 (λ is. no (subst IsFieldValue c.into_vec.ensures is)) in absurd (cc) in
     let old = c.args.headers.now in
     c.in-Ok-append.ensures.ok
     ∙ ap (λ n. append old n c.in-Ok-from_vec.value) (c.in-Ok.ensures.ok ∙ ap lowercase named)
-    ∙ ap (λ v. append old (lowercase c.args.header.name) v)
+    ∙ ap (λ v. append old (lowercase c.args.name.now) v)
     (c.in-Ok-from_vec.ensures.ok ∙ ap plain_value c.into_vec.ensures)
-    ∙ sym (held old c.args.header name value)
+    ∙ sym (held old (record { name = c.args.name.now; value = c.args.value }) name value)

@@ -1,0 +1,88 @@
+// Responses to messages.
+ghost use Rattle.std.specs.Prelude.{◌≤◌, length, MatchResult};
+ghost use Rattle.mock_request.specs.declared.snapshot.TheConstants.{BODY_LIMIT};
+ghost use Rattle.answering.specs.Admin.{IsAdminAnswered};
+ghost use Rattle.answering.specs.Answering.{IsNotAnswered, IsReply, IsRequestAnswered};
+ghost use Rattle.answering.specs.Inner.Sent.{HasReply};
+
+use crate::admin_reply::admin_reply;
+use crate::response::{error_response, response_of};
+use crate::serve::serve;
+use crate::site::Site;
+use admin_table::route::is_admin;
+use bytes::Bytes;
+use error_code::error_code::ErrorCode;
+use http::{Request, Response};
+use http_body_util::Full;
+use http_messages::received::snapshot_of;
+use mock_request::error::SnapshotError;
+use mock_request::snapshot::Snapshot;
+use shared_book::gate::Gate;
+use shared_book::origin::Origin;
+use shared_book::seat::Seat;
+use std::alloc::{AllocError, Global};
+use std::sync::Wait;
+
+/// The response to a message. The error says that there was no memory to write it.
+pub(crate) fn message_response<L: Origin, R: Wait, G: Gate>(
+    rt: &R,
+    alloc: Global,
+    site: &Site<L, G>,
+    seat: &mut Seat<L>,
+    message: &Request<Bytes>,
+) -> Result<Response<Full<Bytes>>, AllocError>
+    ensures { MatchResult result
+        (HasReply (IsReply L.origin site.now.limits site.now.escape seat.old seat.new message.now))
+        (λ _. IsNotAnswered L.origin site.now.limits site.now.escape seat.old seat.new message.now) }
+{
+    match snapshot_of(alloc, message, last_request(seat)) {
+        Ok(request) => request_response(rt, alloc, site, seat, request),
+        Err(SnapshotError::BadUrl) => error_response(alloc, 400, ErrorCode::BadUrl),
+        Err(SnapshotError::BodyTooLarge) => error_response(alloc, 413, ErrorCode::TooLarge),
+        Err(SnapshotError::OutOfMemory) => error_response(alloc, 503, ErrorCode::OutOfMemory),
+    }
+}
+
+// The request of the seat's last call. A client mostly sends the same headers again over a connection: the journal keeps
+// them once.
+fn last_request<L: Origin>(seat: &Seat<L>) -> Option<&Snapshot> {
+    let last = seat.receipts().last()?;
+    Some(last.event.event().request()?.request())
+}
+
+fn request_response<L: Origin, R: Wait, G: Gate>(
+    rt: &R,
+    alloc: Global,
+    site: &Site<L, G>,
+    seat: &mut Seat<L>,
+    request: Snapshot,
+) -> Result<Response<Full<Bytes>>, AllocError>
+    ensures { MatchResult result
+        (HasReply (IsRequestAnswered L.origin site.now.limits site.now.escape seat.old seat.new request))
+        (λ _. (reply : _) × IsRequestAnswered L.origin site.now.limits site.now.escape seat.old seat.new request reply) }
+{
+    if is_admin(request.url()) {
+        return admin_response(rt, alloc, site, seat, &request);
+    }
+    match serve(rt, alloc, site, seat, request) {
+        Ok(response) => Ok(response),
+        Err(error) => error_response(alloc, 503, error.code),
+    }
+}
+
+// Not inlined, as `admin_reply`.
+#[inline(never)]
+fn admin_response<L: Origin, R: Wait, G: Gate>(
+    rt: &R,
+    alloc: Global,
+    site: &Site<L, G>,
+    seat: &mut Seat<L>,
+    request: &Snapshot,
+) -> Result<Response<Full<Bytes>>, AllocError>
+    ensures { MatchResult result
+        (HasReply (IsAdminAnswered L.origin site.now.escape seat.old seat.new request.now))
+        (λ _. (reply : _) × IsAdminAnswered L.origin site.now.escape seat.old seat.new request.now reply) }
+{
+    let reply = admin_reply(rt, alloc, &site.book, seat, request, site.escape)?;
+    response_of(alloc, reply)
+}
