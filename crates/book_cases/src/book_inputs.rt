@@ -2,11 +2,9 @@
 
 use crate::book_mappings::{id, ready};
 use crate::book_words::text_of;
-use crate::made::{made_exchange, made_header, made_request};
-use case_table::words::{number, parts, value};
-use mock_request::snapshot::Snapshot;
+use case_requests::exchanges::exchange_of;
+use case_table::words::{number, parts};
 use plain_text::items::Items;
-use recorder::exchange::SharedExchange;
 use request_journal::input::BookInput;
 use std::alloc::{AllocError, Global};
 
@@ -54,7 +52,7 @@ fn set(alloc: Global, name: &str, state: &str) -> Result<BookInput, AllocError> 
 fn record(alloc: Global, serve: &str, words: &str) -> Result<BookInput, AllocError> {
     Ok(BookInput::Record {
         serve: number(serve),
-        exchange: exchange(alloc, words)?,
+        exchange: exchange_of(alloc, words)?,
     })
 }
 
@@ -65,28 +63,4 @@ fn start(alloc: Global, target: &str, word: &str) -> Result<BookInput, AllocErro
         captured: Items::from(Vec::new(alloc)),
         repeats: word != "once",
     })
-}
-
-/// A request, and the body of its reply as `reply=1`.
-pub fn exchange(alloc: Global, words: &str) -> Result<SharedExchange, AllocError> {
-    let reply = value(words, "reply").unwrap_or("");
-    made_exchange(
-        alloc,
-        request(alloc, words)?,
-        200,
-        Vec::new(alloc),
-        reply.as_bytes(),
-    )
-}
-
-/// A method and a target, and perhaps a header as `X:1` and a body as `body=z`.
-pub fn request(alloc: Global, words: &str) -> Result<Snapshot, AllocError> {
-    let (method, rest) = parts(words);
-    let (target, rest) = parts(rest);
-    let mut headers = Vec::new(alloc);
-    if let Some((name, value)) = rest.split_once(':') {
-        headers.push(made_header(alloc, name, value.as_bytes())?)?;
-    }
-    let body = value(rest, "body").unwrap_or("");
-    made_request(alloc, method, target, headers.as_slice(), body.as_bytes())
 }

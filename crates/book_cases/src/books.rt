@@ -6,9 +6,10 @@ use crate::book_answers::{
     add_applied, add_error, add_mapping, add_served, event_word, status_word,
 };
 use crate::book_copies::are_copied;
-use crate::book_inputs::{input, request};
+use crate::book_inputs::input;
 use crate::book_mappings::{id, ready};
 use crate::book_words::add_number;
+use case_requests::requests::request_of;
 use case_table::cells::Cells;
 use case_table::row::Row;
 use case_table::words::{number, parts};
@@ -225,7 +226,7 @@ fn serve(
     text: &str,
     cells: &mut Cells,
 ) -> Result<(), BookError> {
-    let request = request(alloc, text)?;
+    let request = request_of(alloc, text)?;
     match way {
         Way::Named => add_served(cells, &book.serve(request)?),
         Way::Applied => add_served_read(alloc, book, request, cells)?,

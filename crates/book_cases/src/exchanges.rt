@@ -2,7 +2,7 @@
 
 use crate::book_words::text_of;
 use crate::bytes_cell::bytes_of;
-use crate::made::{made_exchange, made_header, made_request};
+use case_requests::{exchanges, requests};
 use case_table::row::Row;
 use case_table::words::{number, parts};
 use http_header::{HeaderName, HeaderValue};
@@ -34,46 +34,40 @@ struct Draft {
     reply_body: Vec<u8>,
 }
 
+/// The cells before the first exchange are settings; those after an exchange, up to the next one, are its parts.
 pub fn read(alloc: Global, row: &Row) -> Result<Given, AllocError> {
-    Ok(Given {
-        captured: captured(alloc, row)?,
-        repeats: setting(row, "repeats") == "yes",
-        number: number(setting(row, "number")),
-        exchanges: exchanges(alloc, row.given.as_slice())?,
-    })
-}
-
-// The text of the last cell with this word, empty where there is none.
-fn setting<'r>(row: &'r Row, word: &str) -> &'r str {
-    let mut found = "";
-    for cell in row.given.as_slice() {
-        let (first, text) = parts(cell.as_str());
-        if first == word {
-            found = text;
-        }
-    }
-    found
-}
-
-fn captured(alloc: Global, row: &Row) -> Result<Vec<Text>, AllocError> {
-    let mut captured = Vec::new(alloc);
-    for cell in row.given.as_slice() {
-        if let Some(name) = cell.as_str().strip_prefix("captured ") {
-            captured.push(text_of(alloc, name)?)?;
-        }
-    }
-    Ok(captured)
-}
-
-// The cells after that of an exchange, up to the next one, are its parts.
-fn exchanges(alloc: Global, cells: &[String]) -> Result<Vec<SharedExchange>, AllocError> {
-    let mut exchanges = Vec::new(alloc);
+    let mut given = nothing(alloc);
+    let cells = row.given.as_slice();
     for index in 0..cells.len() {
-        if let Some(text) = cells[index].as_str().strip_prefix("exchange ") {
-            exchanges.push(exchange(alloc, text, &cells[index + 1..])?)?;
+        let (word, text) = parts(cells[index].as_str());
+        if word == "exchange" {
+            given
+                .exchanges
+                .push(exchange(alloc, text, &cells[index + 1..])?)?;
+        } else if given.exchanges.is_empty() {
+            set(alloc, &mut given, word, text)?;
         }
     }
-    Ok(exchanges)
+    Ok(given)
+}
+
+fn nothing(alloc: Global) -> Given {
+    Given {
+        captured: Vec::new(alloc),
+        repeats: false,
+        number: 0,
+        exchanges: Vec::new(alloc),
+    }
+}
+
+fn set(alloc: Global, given: &mut Given, word: &str, text: &str) -> Result<(), AllocError> {
+    match word {
+        "captured" => given.captured.push(text_of(alloc, text)?)?,
+        "repeats" => given.repeats = text == "yes",
+        "number" => given.number = number(text),
+        _ => return Err(AllocError),
+    }
+    Ok(())
 }
 
 fn exchange(alloc: Global, text: &str, parts: &[String]) -> Result<SharedExchange, AllocError> {
@@ -116,7 +110,7 @@ fn is_added(alloc: Global, draft: &mut Draft, cell: &str) -> Result<bool, AllocE
 
 fn header(alloc: Global, text: &str) -> Result<(HeaderName, HeaderValue), AllocError> {
     let (name, value) = parts(text);
-    made_header(alloc, name, bytes_of(alloc, value)?.as_slice())
+    requests::header(alloc, name, bytes_of(alloc, value)?.as_slice())
 }
 
 fn line(alloc: Global, text: &str) -> Result<ReplyHeader, AllocError> {
@@ -132,14 +126,14 @@ fn field_name(alloc: Global, name: &str) -> Result<FieldName, AllocError> {
 }
 
 fn finished(alloc: Global, draft: Draft) -> Result<SharedExchange, AllocError> {
-    let request = made_request(
+    let request = requests::request(
         alloc,
         draft.method.as_str(),
         draft.url.as_str(),
         draft.headers.as_slice(),
         draft.body.as_slice(),
     )?;
-    made_exchange(
+    exchanges::exchange(
         alloc,
         request,
         draft.status,

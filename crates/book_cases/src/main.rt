@@ -10,7 +10,6 @@ mod books;
 mod bytes_cell;
 mod exchanges;
 mod groups;
-mod made;
 mod mappings;
 mod recordings;
 mod scenarios;

@@ -1,8 +1,8 @@
 //! Targets, and the calls of a recording.
 
 use crate::book_answers::status_word;
-use crate::book_inputs::exchange;
 use crate::book_words::add_number;
+use case_requests::exchanges::exchange_of;
 use case_table::cells::Cells;
 use case_table::row::Row;
 use case_table::words::{number, parts};
@@ -62,7 +62,7 @@ fn answer(alloc: Global, recording: &mut Recording, call: &str) -> Result<(), Re
     let (first, target) = parts(text);
     match word {
         "start" => start(alloc, recording, number(first), target),
-        "take" => recording.take(number(first), exchange(alloc, "GET /")?),
+        "take" => recording.take(number(first), exchange_of(alloc, "GET /")?),
         _ => recording.stop(),
     }
 }

@@ -1,5 +1,5 @@
-//! Compares what the calls of `mapping_json` and `request_document`, the mappings and matchers that they give, and path
-//! templates answer with the tables in `data/`.
+//! Compares what the calls of `mapping_json` and `request_document`, the mappings and matchers that they give, path
+//! templates and requests answer with the tables in `data/`.
 #![tactic(auto)]
 
 mod answers;
@@ -8,6 +8,7 @@ mod mappings;
 mod path_templates;
 mod ready;
 mod requests;
+mod snapshots;
 mod table;
 
 use case_table::compare::compare_all;
@@ -19,6 +20,8 @@ fn main(rt: HostRuntime) -> io::Result<ExitCode> {
     compare_all(
         &rt,
         [
+            Table::Requests,
+            Table::NamedValues,
             Table::SameTemplates,
             Table::Documents,
             Table::Literals,

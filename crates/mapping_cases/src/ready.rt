@@ -3,7 +3,7 @@
 use crate::answers::yes_or_no;
 use crate::literals::cells_of;
 use crate::mappings::{read, refused};
-use crate::requests::snapshot;
+use crate::requests::request_of;
 use case_table::row::{Row, add_cell};
 use mapping_model::mapping_spec::MappingSpec;
 use mock_request::snapshot::Snapshot;
@@ -36,6 +36,13 @@ fn cells(alloc: Global, mapping: &ReadyMapping, yes: bool) -> Result<String, All
 
 fn meets(alloc: Global, mapping: &mut ReadyMapping, row: &Row) -> Result<bool, AllocError> {
     meets_request(alloc, mapping, &snapshot(alloc, row)?)
+}
+
+// None of the table's requests is refused.
+fn snapshot(alloc: Global, row: &Row) -> Result<Snapshot, AllocError> {
+    let (method, target) = (row.cell(1), row.cell(2));
+    let made = request_of(alloc, method, target, row.cell(3), row.cell(4));
+    made.ok().ok_or(AllocError)
 }
 
 fn meets_request(

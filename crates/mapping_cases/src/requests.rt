@@ -1,31 +1,36 @@
-//! The request of a row, after its document: its method, its target, its headers with a line feed between two, and its body.
+//! Requests of cells.
 
-use case_table::row::Row;
+use case_requests::requests::header;
 use http_header::{HeaderName, HeaderValue};
+use mock_request::error::SnapshotError;
 use mock_request::snapshot::Snapshot;
 use std::alloc::{AllocError, Global};
 
-/// The request of a row's later cells. None of the tables is refused.
-pub fn snapshot(alloc: Global, row: &Row) -> Result<Snapshot, AllocError> {
-    let headers = headers(alloc, row.cell(3))?;
-    let body = latin1(alloc, row.cell(4))?;
-    let made = Snapshot::new(alloc, row.cell(1), row.cell(2), &headers, &body);
-    made.ok().ok_or(AllocError)
+/// The request of a method, a target, headers with a line feed between two, and a body. The characters of the headers'
+/// values and of the body are bytes (ISO-8859-1).
+pub fn request_of(
+    alloc: Global,
+    method: &str,
+    target: &str,
+    lines: &str,
+    body: &str,
+) -> Result<Snapshot, SnapshotError> {
+    let headers = headers(alloc, lines)?;
+    let body = latin1(alloc, body)?;
+    Snapshot::new(alloc, method, target, &headers, &body)
 }
 
 fn headers(alloc: Global, lines: &str) -> Result<Vec<(HeaderName, HeaderValue)>, AllocError> {
     let mut headers = Vec::new(alloc);
     for line in lines.lines() {
-        headers.push(header(alloc, line)?)?;
+        headers.push(header_of(alloc, line)?)?;
     }
     Ok(headers)
 }
 
-fn header(alloc: Global, line: &str) -> Result<(HeaderName, HeaderValue), AllocError> {
+fn header_of(alloc: Global, line: &str) -> Result<(HeaderName, HeaderValue), AllocError> {
     let (name, value) = line.split_once(": ").unwrap_or((line, ""));
-    let name = HeaderName::from_bytes(alloc, name.as_bytes());
-    let value = HeaderValue::from_bytes(alloc, value.as_bytes());
-    Ok((name.ok().ok_or(AllocError)?, value.ok().ok_or(AllocError)?))
+    header(alloc, name, latin1(alloc, value)?.as_slice())
 }
 
 // A byte for each character.

@@ -1,4 +1,4 @@
-//! Compares what values, requests, helpers, templates and stack code give with the tables in `data/`.
+//! Compares what values, the data of requests, helpers, templates and stack code give with the tables in `data/`.
 #![tactic(auto)]
 
 mod code;
@@ -29,8 +29,6 @@ fn main(rt: HostRuntime) -> io::Result<ExitCode> {
             Table::Roots,
             Table::Texts,
             Table::Paths,
-            Table::Requests,
-            Table::NamedValues,
             Table::Parts,
             Table::Printed,
             Table::Bindings,

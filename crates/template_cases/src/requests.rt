@@ -1,4 +1,4 @@
-//! Requests, and the data that templates see of them. A row gives a method, a target, headers with a line feed between
+//! The data that templates see of requests. A row gives a method, a target, headers with a line feed between
 //! two, and a body whose characters are its bytes (ISO-8859-1).
 
 use crate::values::{cell_of, measured, path, printed_cell};
@@ -7,91 +7,10 @@ use case_table::row::Row;
 use data_tree::request_data::RequestData;
 use http_header::{HeaderName, HeaderValue};
 use mock_request::error::SnapshotError;
-use mock_request::request_values::RequestValues;
 use mock_request::snapshot::Snapshot;
 use path_template::path_template::PathTemplate;
 use request_data::tree::request_data;
 use std::alloc::{AllocError, Global};
-
-/// What the copy of a request gives back: its method, its URL, path and query, its headers and its body.
-pub fn kept(alloc: Global, row: &Row) -> Result<String, AllocError> {
-    match snapshot(alloc, row) {
-        Ok(request) => parts_of_copy(alloc, &request),
-        Err(error) => refused(alloc, error),
-    }
-}
-
-fn parts_of_copy(alloc: Global, request: &Snapshot) -> Result<String, AllocError> {
-    let copy = request.try_clone()?;
-    parts(alloc, &copy)
-}
-
-fn parts(alloc: Global, request: &Snapshot) -> Result<String, AllocError> {
-    let mut cells = Cells::new(alloc);
-    cells.add_cell(request.method());
-    cells.add_cell(request.url());
-    cells.add_cell(request.path());
-    cells.add_cell(request.query().unwrap_or("none"));
-    add_headers(alloc, &mut cells, request)?;
-    cells.add_cell(lossy(alloc, request.body())?.as_str());
-    cells.finish()
-}
-
-fn add_headers(alloc: Global, cells: &mut Cells, request: &Snapshot) -> Result<(), AllocError> {
-    cells.add("\t");
-    for index in 0..request.header_count() {
-        if let Some((name, value)) = request.header(index) {
-            add_pair(cells, name, ": ", lossy(alloc, value)?.as_str());
-        }
-    }
-    Ok(())
-}
-
-fn add_pair(cells: &mut Cells, name: &str, between: &str, value: &str) {
-    cells.add(name);
-    cells.add(between);
-    cells.add(value);
-    cells.add("\n");
-}
-
-fn lossy(alloc: Global, bytes: &[u8]) -> Result<String, AllocError> {
-    String::from_utf8_lossy(alloc, bytes)
-}
-
-/// What matchers see of a request: the names and values of its query, of its cookies and of its headers, a line each,
-/// and the text of its body. The characters of the row's headers, too, are bytes.
-pub fn named_values(alloc: Global, row: &Row) -> Result<String, AllocError> {
-    match snapshot_of(alloc, row, Encoding::Latin1) {
-        Ok(request) => values_of(alloc, &RequestValues::read(alloc, &request)?),
-        Err(error) => refused(alloc, error),
-    }
-}
-
-fn values_of(alloc: Global, values: &RequestValues<'_>) -> Result<String, AllocError> {
-    let mut cells = Cells::new(alloc);
-    cells.add_cell(values.snapshot().method());
-    add_pairs(&mut cells, values.query());
-    add_pairs(&mut cells, values.cookies());
-    add_texts(&mut cells, values);
-    cells.add_cell(values.body_text());
-    cells.finish()
-}
-
-fn add_pairs(cells: &mut Cells, pairs: &[(String, String)]) {
-    cells.add("\t");
-    for pair in pairs {
-        add_pair(cells, pair.0.as_str(), "=", pair.1.as_str());
-    }
-}
-
-fn add_texts(cells: &mut Cells, values: &RequestValues<'_>) {
-    cells.add("\t");
-    for index in 0..values.header_count() {
-        if let Some((name, text)) = values.header(index) {
-            add_pair(cells, name, "=", text);
-        }
-    }
-}
 
 fn refused(alloc: Global, error: SnapshotError) -> Result<String, AllocError> {
     if error == SnapshotError::OutOfMemory {
@@ -198,56 +117,24 @@ fn size_of(alloc: Global, request: &Snapshot) -> Result<String, AllocError> {
 }
 
 fn snapshot(alloc: Global, row: &Row) -> Result<Snapshot, SnapshotError> {
-    snapshot_of(alloc, row, Encoding::Utf8)
-}
-
-// How the values of a row's headers give bytes. (Those of its body are always ISO-8859-1.)
-#[derive(Clone, Copy)]
-enum Encoding {
-    Utf8,
-    Latin1,
-}
-
-fn snapshot_of(alloc: Global, row: &Row, values: Encoding) -> Result<Snapshot, SnapshotError> {
-    let headers = headers(alloc, row.cell(2), values)?;
+    let headers = headers(alloc, row.cell(2))?;
     let body = latin1(alloc, row.cell(3))?;
     Snapshot::new(alloc, row.cell(0), row.cell(1), &headers, &body)
 }
 
-fn headers(
-    alloc: Global,
-    lines: &str,
-    values: Encoding,
-) -> Result<Vec<(HeaderName, HeaderValue)>, AllocError> {
+fn headers(alloc: Global, lines: &str) -> Result<Vec<(HeaderName, HeaderValue)>, AllocError> {
     let mut headers = Vec::new(alloc);
     for line in lines.lines() {
-        let (name, value) = line.split_once(": ").unwrap_or((line, ""));
-        headers.push(header(alloc, name, value, values)?)?;
+        headers.push(header(alloc, line)?)?;
     }
     Ok(headers)
 }
 
-fn header(
-    alloc: Global,
-    name: &str,
-    value: &str,
-    values: Encoding,
-) -> Result<(HeaderName, HeaderValue), AllocError> {
-    let name = header_name(alloc, name)?;
-    match values {
-        Encoding::Utf8 => Ok((name, header_value(alloc, value.as_bytes())?)),
-        Encoding::Latin1 => Ok((name, header_value(alloc, &latin1(alloc, value)?)?)),
-    }
-}
-
-fn header_name(alloc: Global, name: &str) -> Result<HeaderName, AllocError> {
-    HeaderName::from_bytes(alloc, name.as_bytes())
-        .ok()
-        .ok_or(AllocError)
-}
-
-fn header_value(alloc: Global, value: &[u8]) -> Result<HeaderValue, AllocError> {
-    HeaderValue::from_bytes(alloc, value).ok().ok_or(AllocError)
+fn header(alloc: Global, line: &str) -> Result<(HeaderName, HeaderValue), AllocError> {
+    let (name, value) = line.split_once(": ").unwrap_or((line, ""));
+    let name = HeaderName::from_bytes(alloc, name.as_bytes());
+    let value = HeaderValue::from_bytes(alloc, value.as_bytes());
+    Ok((name.ok().ok_or(AllocError)?, value.ok().ok_or(AllocError)?))
 }
 
 // A byte for each character.
