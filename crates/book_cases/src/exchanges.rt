@@ -2,7 +2,8 @@
 
 use crate::book_words::text_of;
 use crate::bytes_cell::bytes_of;
-use case_requests::{exchanges, requests};
+use case_requests::exchanges::exchange;
+use case_requests::requests::{header, request};
 use case_table::row::Row;
 use case_table::words::{number, parts};
 use http_header::{HeaderName, HeaderValue};
@@ -43,7 +44,7 @@ pub fn read(alloc: Global, row: &Row) -> Result<Given, AllocError> {
         if word == "exchange" {
             given
                 .exchanges
-                .push(exchange(alloc, text, &cells[index + 1..])?)?;
+                .push(read_exchange(alloc, text, &cells[index + 1..])?)?;
         } else if given.exchanges.is_empty() {
             set(alloc, &mut given, word, text)?;
         }
@@ -70,7 +71,11 @@ fn set(alloc: Global, given: &mut Given, word: &str, text: &str) -> Result<(), A
     Ok(())
 }
 
-fn exchange(alloc: Global, text: &str, parts: &[String]) -> Result<SharedExchange, AllocError> {
+fn read_exchange(
+    alloc: Global,
+    text: &str,
+    parts: &[String],
+) -> Result<SharedExchange, AllocError> {
     let mut draft = begun(alloc, text)?;
     for cell in parts {
         if !is_added(alloc, &mut draft, cell.as_str())? {
@@ -98,7 +103,7 @@ fn is_added(alloc: Global, draft: &mut Draft, cell: &str) -> Result<bool, AllocE
     let (word, text) = parts(cell);
     match word {
         "exchange" => return Ok(false),
-        "header" => draft.headers.push(header(alloc, text)?)?,
+        "header" => draft.headers.push(read_header(alloc, text)?)?,
         "body" => draft.body = bytes_of(alloc, text)?,
         "reply" => draft.status = text.parse::<u16>().unwrap_or(0),
         "reply-header" => draft.lines.push(line(alloc, text)?)?,
@@ -108,9 +113,9 @@ fn is_added(alloc: Global, draft: &mut Draft, cell: &str) -> Result<bool, AllocE
     Ok(true)
 }
 
-fn header(alloc: Global, text: &str) -> Result<(HeaderName, HeaderValue), AllocError> {
+fn read_header(alloc: Global, text: &str) -> Result<(HeaderName, HeaderValue), AllocError> {
     let (name, value) = parts(text);
-    requests::header(alloc, name, bytes_of(alloc, value)?.as_slice())
+    header(alloc, name, bytes_of(alloc, value)?.as_slice())
 }
 
 fn line(alloc: Global, text: &str) -> Result<ReplyHeader, AllocError> {
@@ -126,14 +131,14 @@ fn field_name(alloc: Global, name: &str) -> Result<FieldName, AllocError> {
 }
 
 fn finished(alloc: Global, draft: Draft) -> Result<SharedExchange, AllocError> {
-    let request = requests::request(
+    let request = request(
         alloc,
         draft.method.as_str(),
         draft.url.as_str(),
         draft.headers.as_slice(),
         draft.body.as_slice(),
     )?;
-    exchanges::exchange(
+    exchange(
         alloc,
         request,
         draft.status,
