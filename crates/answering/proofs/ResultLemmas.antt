@@ -37,7 +37,3 @@ pub sent_weaker : {E : Type 0} (P Q : Reply → Type 0) → ((r : Reply) → P r
     → MatchResult result (HasReply P) (λ _. (r : Reply) × P r) → MatchResult result (HasReply Q) (λ _. (r : Reply) × Q r)
 sent_weaker P Q f (Ok response) (reply, is, of) = (reply, f reply is, of)
 sent_weaker P Q f (Err error) (reply, is) = (reply, f reply is)
-
-pub has_weaker : (P Q : Reply → Type 0) → ((r : Reply) → P r → Q r) → (response : Response (Full (List ℕ)))
-    → HasReply P response → HasReply Q response
-has_weaker P Q f response (reply, is, of) = (reply, f reply is, of)
