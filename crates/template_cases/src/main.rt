@@ -1,15 +1,9 @@
-//! Compares what values, the data of requests, helpers, templates and stack code give with the tables in `data/`.
+//! Compares what templates and stack code give with the tables in `data/`.
 #![tactic(auto)]
 
 mod code;
-mod error_codes;
-mod helpers;
-mod json;
-mod numbers;
-mod requests;
 mod table;
 mod templates;
-mod values;
 mod writer;
 mod writes;
 
@@ -22,20 +16,6 @@ fn main(rt: HostRuntime) -> io::Result<ExitCode> {
     compare_all(
         &rt,
         [
-            Table::ErrorCodes,
-            Table::Values,
-            Table::Lookups,
-            Table::Items,
-            Table::Roots,
-            Table::Texts,
-            Table::Paths,
-            Table::Parts,
-            Table::Printed,
-            Table::Bindings,
-            Table::Sizes,
-            Table::Helpers,
-            Table::Signatures,
-            Table::Parameters,
             Table::Trees,
             Table::Compiled,
             Table::Listings,

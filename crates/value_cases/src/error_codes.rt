@@ -1,6 +1,6 @@
 //! The codes of errors.
 
-use crate::numbers;
+use case_snapshots::numbers;
 use error_code::error_code::ErrorCode;
 use std::alloc::{AllocError, Global};
 

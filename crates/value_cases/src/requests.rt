@@ -1,11 +1,10 @@
-//! The data that templates see of requests. A row gives a method, a target, headers with a line feed between
-//! two, and a body whose characters are its bytes (ISO-8859-1).
+//! What is found in the data that templates see of requests.
 
 use crate::values::{cell_of, measured, path, printed_cell};
+use case_snapshots::requests::{data, plain_request, snapshot};
 use case_table::cells::Cells;
 use case_table::row::Row;
 use data_tree::request_data::RequestData;
-use http_header::{HeaderName, HeaderValue};
 use mock_request::error::SnapshotError;
 use mock_request::snapshot::Snapshot;
 use path_template::path_template::PathTemplate;
@@ -58,11 +57,6 @@ pub fn bindings(alloc: Global, row: &Row) -> Result<String, AllocError> {
     }
 }
 
-fn plain_request(alloc: Global, method: &str, target: &str) -> Result<Snapshot, SnapshotError> {
-    let (headers, body) = (Vec::new(alloc), Vec::new(alloc));
-    Snapshot::new(alloc, method, target, &headers, &body)
-}
-
 // All templates of the table are well formed.
 fn paths_of(alloc: Global, request: &Snapshot, template: &str) -> Result<String, AllocError> {
     let template = PathTemplate::parse(alloc, template).ok().ok_or(AllocError)?;
@@ -86,23 +80,6 @@ fn path_cells(alloc: Global, data: &RequestData) -> Result<String, AllocError> {
     cells.finish()
 }
 
-// None of the requests' data is over the limit.
-fn data(alloc: Global, request: &Snapshot) -> Result<RequestData, AllocError> {
-    request_data(alloc, request, None).ok().ok_or(AllocError)
-}
-
-/// The data of a request without headers and body. None in the tables is refused.
-pub fn request(alloc: Global, method: &str, target: &str) -> Result<RequestData, AllocError> {
-    let request = plain_request(alloc, method, target).ok().ok_or(AllocError)?;
-    data(alloc, &request)
-}
-
-/// The data of a row's request. None in the tables is refused.
-pub fn request_with_body(alloc: Global, row: &Row) -> Result<RequestData, AllocError> {
-    let request = snapshot(alloc, row).ok().ok_or(AllocError)?;
-    data(alloc, &request)
-}
-
 /// The size of the data of a request, or of what is handed back, after the error's number.
 pub fn size(alloc: Global, row: &Row) -> Result<String, AllocError> {
     match snapshot(alloc, row) {
@@ -114,34 +91,4 @@ pub fn size(alloc: Global, row: &Row) -> Result<String, AllocError> {
 fn size_of(alloc: Global, request: &Snapshot) -> Result<String, AllocError> {
     let (error, size) = measured(request_data(alloc, request, None));
     format!(in alloc; "\t{error}\t{size}")
-}
-
-fn snapshot(alloc: Global, row: &Row) -> Result<Snapshot, SnapshotError> {
-    let headers = headers(alloc, row.cell(2))?;
-    let body = latin1(alloc, row.cell(3))?;
-    Snapshot::new(alloc, row.cell(0), row.cell(1), &headers, &body)
-}
-
-fn headers(alloc: Global, lines: &str) -> Result<Vec<(HeaderName, HeaderValue)>, AllocError> {
-    let mut headers = Vec::new(alloc);
-    for line in lines.lines() {
-        headers.push(header(alloc, line)?)?;
-    }
-    Ok(headers)
-}
-
-fn header(alloc: Global, line: &str) -> Result<(HeaderName, HeaderValue), AllocError> {
-    let (name, value) = line.split_once(": ").unwrap_or((line, ""));
-    let name = HeaderName::from_bytes(alloc, name.as_bytes());
-    let value = HeaderValue::from_bytes(alloc, value.as_bytes());
-    Ok((name.ok().ok_or(AllocError)?, value.ok().ok_or(AllocError)?))
-}
-
-// A byte for each character.
-fn latin1(alloc: Global, text: &str) -> Result<Vec<u8>, AllocError> {
-    let mut bytes = Vec::new(alloc);
-    for letter in text.chars() {
-        bytes.push(u8::try_from(u32::from(letter)).unwrap_or(0))?;
-    }
-    Ok(bytes)
 }
