@@ -1,4 +1,4 @@
-//! Compares what books, recordings and their mappings do with the tables in `data/`.
+//! Compares what books and scenarios do with the tables in `data/`.
 #![tactic(auto)]
 
 mod book_answers;
@@ -7,11 +7,6 @@ mod book_inputs;
 mod book_mappings;
 mod book_words;
 mod books;
-mod bytes_cell;
-mod exchanges;
-mod groups;
-mod mappings;
-mod recordings;
 mod scenarios;
 mod table;
 
@@ -21,18 +16,5 @@ use std::process::ExitCode;
 use table::Table;
 
 fn main(rt: HostRuntime) -> io::Result<ExitCode> {
-    compare_all(
-        &rt,
-        [
-            Table::Scenarios,
-            Table::Groups,
-            Table::Targets,
-            Table::Calls,
-            Table::Exchanges,
-            Table::Keys,
-            Table::Recordings,
-            Table::Books,
-        ]
-        .as_slice(),
-    )
+    compare_all(&rt, [Table::Scenarios, Table::Books].as_slice())
 }

@@ -1,6 +1,6 @@
 //! The tables, and which call each of them is about.
 
-use crate::{books, groups, mappings, recordings, scenarios};
+use crate::{books, scenarios};
 use case_table::compare::CaseTable;
 use case_table::row::Row;
 use std::alloc::{AllocError, Global};
@@ -9,13 +9,6 @@ use std::alloc::{AllocError, Global};
 #[derive(Clone, Copy)]
 pub enum Table {
     Scenarios,
-    Groups,
-    Targets,
-    Calls,
-    /// Whether two exchanges are the same, and whether their keys are equal.
-    Exchanges,
-    Keys,
-    Recordings,
     Books,
 }
 
@@ -23,12 +16,6 @@ impl CaseTable for Table {
     fn file(self) -> &'static str {
         match self {
             Table::Scenarios => "scenarios.tsv",
-            Table::Groups => "groups.tsv",
-            Table::Targets => "targets.tsv",
-            Table::Calls => "recording_calls.tsv",
-            Table::Exchanges => "exchanges.tsv",
-            Table::Keys => "keys.tsv",
-            Table::Recordings => "recordings.tsv",
             Table::Books => "books.tsv",
         }
     }
@@ -36,12 +23,6 @@ impl CaseTable for Table {
     fn answer(self, alloc: Global, row: &Row) -> Result<String, AllocError> {
         match self {
             Table::Scenarios => scenarios::calls(alloc, row),
-            Table::Groups => groups::places(alloc, row),
-            Table::Targets => recordings::target(alloc, row),
-            Table::Calls => recordings::calls(alloc, row),
-            Table::Exchanges => mappings::same(alloc, row),
-            Table::Keys => mappings::key(alloc, row),
-            Table::Recordings => mappings::recorded(alloc, row),
             Table::Books => books::answers(alloc, row),
         }
     }

@@ -1,6 +1,5 @@
 //! Keys of exchanges, and the mappings that recordings give.
 
-use crate::book_words::add_number;
 use crate::bytes_cell::add_bytes;
 use crate::exchanges::{Given, read};
 use case_table::cells::Cells;
@@ -80,8 +79,7 @@ pub fn recorded(alloc: Global, row: &Row) -> Result<String, AllocError> {
     let given = read(alloc, row)?;
     let recorded = stubs(alloc, &given)?;
     let mut cells = Cells::new(alloc);
-    cells.add_cell("skipped ");
-    add_number(alloc, &mut cells, recorded.skipped as u64)?;
+    cells.add_cell(format!(in alloc; "skipped {}", recorded.skipped)?.as_str());
     for mapping in recorded.mappings.as_slice() {
         add_mapping(alloc, &mut cells, mapping)?;
     }
@@ -180,7 +178,7 @@ fn add_response(
     response: &ResponseSpec,
 ) -> Result<(), AllocError> {
     cells.add_cell("status ");
-    add_number(alloc, cells, u64::from(response.status.code()))?;
+    cells.add_number(u32::from(response.status.code()));
     let Content::Plain { headers, body } = &response.content else {
         cells.add_cell("templates");
         return Ok(());

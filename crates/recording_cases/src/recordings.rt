@@ -1,14 +1,12 @@
 //! Targets, and the calls of a recording.
 
-use crate::book_answers::status_word;
-use crate::book_words::add_number;
 use case_requests::exchanges::exchange_of;
 use case_table::cells::Cells;
 use case_table::row::Row;
 use case_table::words::{number, parts};
 use plain_text::items::Items;
 use recorder::error::RecordingError;
-use recorder::recording::Recording;
+use recorder::recording::{Recording, Session};
 use recorder::target::Target;
 use std::alloc::{AllocError, Global};
 
@@ -48,12 +46,27 @@ fn add_recording(
     cells: &mut Cells,
     recording: &Recording,
 ) -> Result<(), AllocError> {
-    cells.add_cell(status_word(recording.status()));
-    if let Some(session) = recording.session() {
-        cells.add_cell(session.target.as_str());
-        cells.add_cell("");
-        add_number(alloc, cells, session.exchanges.as_slice().len() as u64)?;
+    match recording {
+        Recording::NeverStarted => {
+            cells.add_cell("never started");
+            Ok(())
+        }
+        Recording::On(session) => add_session(alloc, cells, "recording", session),
+        Recording::Stopped(session) => add_session(alloc, cells, "stopped", session),
     }
+}
+
+// The target, and how many exchanges.
+fn add_session(
+    alloc: Global,
+    cells: &mut Cells,
+    word: &str,
+    session: &Session,
+) -> Result<(), AllocError> {
+    let count = session.exchanges.as_slice().len();
+    cells.add_cell(word);
+    cells.add_cell(session.target.as_str());
+    cells.add_cell(format!(in alloc; "{count}")?.as_str());
     Ok(())
 }
 

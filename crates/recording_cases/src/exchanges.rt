@@ -1,6 +1,5 @@
 //! The exchanges that a row gives, cell by cell: a word, a blank and a text.
 
-use crate::book_words::text_of;
 use crate::bytes_cell::bytes_of;
 use case_requests::exchanges::exchange;
 use case_requests::requests::{header, request};
@@ -63,7 +62,9 @@ fn nothing(alloc: Global) -> Given {
 
 fn set(alloc: Global, given: &mut Given, word: &str, text: &str) -> Result<(), AllocError> {
     match word {
-        "captured" => given.captured.push(text_of(alloc, text)?)?,
+        "captured" => given
+            .captured
+            .push(Text::from(String::from_str(alloc, text)?))?,
         "repeats" => given.repeats = text == "yes",
         "number" => given.number = number(text),
         _ => return Err(AllocError),
@@ -127,7 +128,7 @@ fn line(alloc: Global, text: &str) -> Result<ReplyHeader, AllocError> {
 }
 
 fn field_name(alloc: Global, name: &str) -> Result<FieldName, AllocError> {
-    FieldName::new(text_of(alloc, name)?).ok_or(AllocError)
+    FieldName::new(Text::from(String::from_str(alloc, name)?)).ok_or(AllocError)
 }
 
 fn finished(alloc: Global, draft: Draft) -> Result<SharedExchange, AllocError> {
