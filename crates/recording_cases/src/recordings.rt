@@ -6,7 +6,7 @@ use case_table::row::Row;
 use case_table::words::{number, parts};
 use plain_text::items::Items;
 use recorder::error::RecordingError;
-use recorder::recording::{Recording, Session};
+use recorder::recording::{Recording, RecordingStatus};
 use recorder::target::Target;
 use std::alloc::{AllocError, Global};
 
@@ -46,28 +46,21 @@ fn add_recording(
     cells: &mut Cells,
     recording: &Recording,
 ) -> Result<(), AllocError> {
-    match recording {
-        Recording::NeverStarted => {
-            cells.add_cell("never started");
-            Ok(())
-        }
-        Recording::On(session) => add_session(alloc, cells, "recording", session),
-        Recording::Stopped(session) => add_session(alloc, cells, "stopped", session),
+    cells.add_cell(status_word(recording.status()));
+    if let Some(session) = recording.session() {
+        let count = session.exchanges.as_slice().len();
+        cells.add_cell(session.target.as_str());
+        cells.add_cell(format!(in alloc; "{count}")?.as_str());
     }
+    Ok(())
 }
 
-// The target, and how many exchanges.
-fn add_session(
-    alloc: Global,
-    cells: &mut Cells,
-    word: &str,
-    session: &Session,
-) -> Result<(), AllocError> {
-    let count = session.exchanges.as_slice().len();
-    cells.add_cell(word);
-    cells.add_cell(session.target.as_str());
-    cells.add_cell(format!(in alloc; "{count}")?.as_str());
-    Ok(())
+fn status_word(status: RecordingStatus) -> &'static str {
+    match status {
+        RecordingStatus::NeverStarted => "never started",
+        RecordingStatus::Recording => "recording",
+        RecordingStatus::Stopped => "stopped",
+    }
 }
 
 fn answer(alloc: Global, recording: &mut Recording, call: &str) -> Result<(), RecordingError> {
