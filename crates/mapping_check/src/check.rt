@@ -25,6 +25,7 @@ use mapping_model::template_text::TemplateText;
 use serde_json::Value;
 use std::alloc::{AllocError, Global};
 use std::io::Write;
+use std::mem::ManuallyDrop;
 use template_tree::escape::Escape;
 
 /// What is printed for a document.
@@ -46,6 +47,8 @@ pub fn check_document(alloc: Global, bytes: &[u8], escape: Escape) -> Result<Che
     let Some(document) = document_of(alloc, bytes)? else {
         return Err(MappingError::Document(Kind::NotJson));
     };
+    // Whoever checks a document ends then: its tree isn't taken apart, which takes a fifth of the time and more.
+    let document = ManuallyDrop::new(document);
     match mapping_values(&document) {
         Some(values) => Ok(report_of(alloc, values, escape)?),
         None => Err(MappingError::Document(Kind::Misshapen)),
