@@ -1,3 +1,3 @@
 mod PlainLemmas
-mod ReplyLemmas
 mod ResultLemmas
+mod ServeLemmas

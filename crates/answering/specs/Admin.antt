@@ -1,5 +1,5 @@
 -- How an admin call is answered.
-use Rattle.std.specs.Prelude.{◌≡◌, ◌⊎◌, ℕ, List, unwrap_or}
+use Rattle.std.specs.Prelude.{◌≡◌, ◌⊎◌, unwrap_or}
 use Rattle.admin_answers.specs.Answers.{IsAnswered, IsNotAnswered}
 use Rattle.admin_routes.specs.Calls.{IsCall, IsAdminError}
 use Rattle.admin_routes.specs.Errors.{error_code_of}

@@ -51,7 +51,7 @@ fn serve_response<G: Gate>(
     match answer {
         ServeAnswer::Stub(captured) => {
             gate.between_choice_and_render(number);
-            mapping_response(alloc, captured.mapping.spec.spec(), request, limits)
+            mapping_response(alloc, &captured.mapping.spec, request, limits)
         }
         ServeAnswer::Proxy(_target) => error_response(alloc, 502, ErrorCode::UpstreamFailed),
         ServeAnswer::Unmatched => unmatched_response(alloc),

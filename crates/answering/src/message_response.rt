@@ -64,10 +64,7 @@ fn request_response<L: Origin, R: Wait, G: Gate>(
     if is_admin(request.url()) {
         return admin_response(rt, alloc, site, seat, &request);
     }
-    match serve(rt, alloc, site, seat, request) {
-        Ok(response) => Ok(response),
-        Err(error) => error_response(alloc, 503, error.code),
-    }
+    serve(rt, alloc, site, seat, request)
 }
 
 // Not inlined, as `admin_reply`.

@@ -1,24 +1,20 @@
 // The response of `http` that a reply is.
-ghost use Rattle.std.specs.Prelude.{◌≡◌, [], IfOk, OnOk};
-ghost use Rattle.answering.specs.Reply.{IsResponseOf, content, headers_of, response_status, with_header};
+ghost use Rattle.std.specs.Prelude.{◌≡◌, IfOk};
+ghost use Rattle.answering.specs.Reply.{IsResponseOf, content, response_status};
 ghost use Rattle.http.specs.Response.{head_of, body_of};
 ghost use Rattle.http.specs.declared.version.TheConstants.Version.{HTTP_11};
 ghost use Rattle.stub_response.specs.ErrorReply.{error_reply};
+ghost use Rattle.stub_response.specs.Headers.{headers_of};
 
 use bytes::Bytes;
 use error_code::error_code::ErrorCode;
 use http::response::Parts;
-use http::{HeaderMap, HeaderName, HeaderValue, Response, StatusCode, Version};
+use http::{HeaderMap, Response, StatusCode, Version};
 use http_body_util::Full;
-use http_header::{HeaderNameError, HeaderValueError};
-use mapping_model::field_name::FieldName;
 use mapping_model::reply::{Reply, ReplyHeader};
-use plain_text::octets::Octets;
 use std::alloc::{AllocError, Global};
 use stub_response::error_reply::error_reply;
-
-// Room for more names than these is made as they come.
-const RESERVED: usize = 128;
+use stub_response::headers::{empty_headers, push_header};
 
 /// The response that reports the error, with that status.
 // Not inlined, as it is seldom called.
@@ -79,39 +75,4 @@ fn header_map(alloc: Global, headers: Vec<ReplyHeader>) -> Result<HeaderMap, All
         push_header(alloc, &mut made, &name, value)?;
     }
     Ok(made)
-}
-
-/// No headers, with room for so many names.
-pub(crate) fn empty_headers(alloc: Global, names: usize) -> Result<HeaderMap, AllocError>
-    ensures { IfOk result (λ made. made ≡ []) }
-{
-    match HeaderMap::with_capacity(alloc, names.min(RESERVED)) {
-        Ok(made) => Ok(made),
-        Err(_full) => Err(AllocError),
-    }
-}
-
-/// One more header, unless `http` can't hold it. A full map counts as no memory.
-pub(crate) fn push_header(
-    alloc: Global,
-    headers: &mut HeaderMap,
-    name: &FieldName,
-    value: Octets,
-) -> Result<(), AllocError>
-    ensures { OnOk result (headers.new ≡ with_header headers.old (record { name = name.now; value = value })) }
-{
-    let name = match HeaderName::from_bytes(alloc, name.as_str().as_bytes()) {
-        Ok(name) => name,
-        Err(HeaderNameError::Invalid) => return Ok(()),
-        Err(HeaderNameError::OutOfMemory) => return Err(AllocError),
-    };
-    let value = match HeaderValue::from_vec(value.into_vec()) {
-        Ok(value) => value,
-        Err(HeaderValueError::Invalid) => return Ok(()),
-        Err(HeaderValueError::OutOfMemory) => return Err(AllocError),
-    };
-    let Ok(_) = headers.append(name, value) else {
-        return Err(AllocError);
-    };
-    Ok(())
 }

@@ -1,39 +1,69 @@
 // A mapping as it was written, for those who keep it.
+ghost use Rattle.std.specs.Option.{option_copied};
 ghost use Rattle.std.specs.Prelude.{◌≡◌, ◌↔◌, IfOk, IsTrue};
+ghost use Rattle.stub_response.specs.PlainResponse.{IsPlain};
 
 use mapping_model::mapping_spec::MappingSpec;
 use plain_text::plain::{Same, TryClone};
 use std::alloc::{AllocError, Global};
 use std::marker::Model;
 use std::sync::Arc;
+use stub_response::plain_response::PlainResponse;
 
-/// A mapping as it was written, which contracts see as it is: a copy shares it.
+/// A mapping as it was written, which contracts see as it is: a copy shares it. What all its responses have, if they have
+/// no templates, is made once with it.
 pub struct SharedSpec {
-    spec: Arc<MappingSpec>,
+    kept: Arc<Kept>,
+}
+
+struct Kept {
+    spec: MappingSpec,
+    plain: Option<PlainResponse>,
+}
+
+// Written out, so that a caller's proof sees one call and not the drop of each field.
+impl Drop for Kept {
+    fn drop(self) {
+        let Kept {
+            spec: _spec,
+            plain: _plain,
+        } = self;
+    }
 }
 
 impl Model for SharedSpec {
     ghost use Rattle.std.specs.Arc.{arc_value};
     ghost use Rattle.mapping_model.specs.declared.mapping_spec.MappingSpec.{MappingSpec};
+    ghost use Rattle.stub_response.specs.PlainResponse.{IsPlain};
 
     ghost Value = { MappingSpec };
 
-    ghost view = { λ s. arc_value s.spec };
+    ghost view = { λ s. (arc_value s.kept).spec };
+
+    ghost invariant = { λ s. IsPlain (arc_value s.kept).spec.response (arc_value s.kept).plain };
 }
 
 impl SharedSpec {
     pub fn new(alloc: Global, spec: MappingSpec) -> Result<SharedSpec, AllocError>
         ensures { IfOk result (λ shared. shared ≡ spec) }
     {
+        let plain = PlainResponse::of(alloc, spec.response.response())?;
         Ok(SharedSpec {
-            spec: Arc::new(alloc, spec)?,
+            kept: Arc::new(alloc, Kept { spec, plain })?,
         })
     }
 
     pub fn spec(&self) -> &MappingSpec
         ensures { result.now ≡ self.now }
     {
-        &self.spec
+        &self.kept.spec
+    }
+
+    /// What all its responses have, if they have no templates.
+    pub fn plain(&self) -> Option<&PlainResponse>
+        ensures { IsPlain self.now.response (option_copied result) }
+    {
+        self.kept.plain.as_ref()
     }
 
     /// Takes no memory.
@@ -41,7 +71,7 @@ impl SharedSpec {
         ensures { IfOk result (λ copy. copy ≡ self.now) }
     {
         Ok(SharedSpec {
-            spec: Arc::try_clone(&self.spec)?,
+            kept: Arc::try_clone(&self.kept)?,
         })
     }
 
@@ -55,7 +85,7 @@ impl SharedSpec {
 // Written out, so that a caller's proof sees one call and not the drop of each field.
 impl Drop for SharedSpec {
     fn drop(self) {
-        let SharedSpec { spec: _spec } = self;
+        let SharedSpec { kept: _kept } = self;
     }
 }
 

@@ -3,3 +3,5 @@ pub mod ListLemmas
 pub mod ResponseLemmas
 pub mod AlikeLemmas
 pub mod GrowthLemmas
+mod HeaderLemmas
+mod PlainLemmas

@@ -54,7 +54,7 @@ fn plain_header(alloc: Global, header: &HeaderLine<Text>) -> Result<ReplyHeader,
 }
 
 /// The value of a header that is a text. Copies it once.
-pub fn plain_value(alloc: Global, text: &Text) -> Result<Octets, AllocError>
+pub(crate) fn plain_value(alloc: Global, text: &Text) -> Result<Octets, AllocError>
     ensures { IfOk result (λ value. value ≡ header_text text.now) }
 {
     let text = Vec::from_slice(alloc, text.as_str().as_bytes())?;
@@ -62,7 +62,7 @@ pub fn plain_value(alloc: Global, text: &Text) -> Result<Octets, AllocError>
 }
 
 /// The body that is a text or bytes. Copies it once.
-pub fn plain_body(alloc: Global, body: &Body<Text>) -> Result<Bytes, AllocError>
+pub(crate) fn plain_body(alloc: Global, body: &Body<Text>) -> Result<Bytes, AllocError>
     ensures { IfOk result (λ made. IsBody Itself body.now made) }
 {
     match body {

@@ -3,15 +3,8 @@ use Rattle.std.specs.Prelude.{ℕ, List}
 use Rattle.http.specs.declared.response.Response.{Response}
 use Rattle.http_body_util.specs.declared.full.Full.{Full}
 use Rattle.answering.specs.Reply.{IsResponseOf}
-use Rattle.mapping_model.specs.declared.header_lines.HeaderLine.{HeaderLine}
 use Rattle.mapping_model.specs.declared.reply.Reply.{Reply}
-use Rattle.mapping_model.specs.declared.reply.ReplyHeader.{ReplyHeader}
-use Rattle.stub_response.specs.HeaderText.{header_text}
 
 -- the response is that of a reply of which this holds
 abbrev pub HasReply : (Reply → Type 0) → Response (Full (List ℕ)) → Type 0
 HasReply Holds response = (reply : Reply) × Holds reply × IsResponseOf reply response
-
--- the header of the reply that a line without a template is
-abbrev pub plain_header : HeaderLine (List ℕ) → ReplyHeader
-plain_header line = record { name = line.name; value = header_text line.value }

@@ -1,4 +1,4 @@
-use Rattle.std.proofs.Common.{refl, inl, inr}
+use Rattle.std.proofs.Common.{refl, inr}
 use Rattle.answering.specs.Admin.{IsAnsweredCall, reporting}
 use Rattle.answering.proofs.ResultLemmas.{given}
 use Rattle.answering.proofs.admin_reply.call_reply.Goals as goal

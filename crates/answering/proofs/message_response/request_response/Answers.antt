@@ -1,10 +1,9 @@
-use Rattle.std.proofs.Common.{◌≡◌, refl, sym, ◌∙◌, subst, inl, inr}
+use Rattle.std.proofs.Common.{sym, ◌∙◌, subst, inl, inr}
 use Rattle.std.proofs.lemmas.Bool.{false≢true}
 use Rattle.admin_table.specs.Routes.{IsAdmin}
-use Rattle.stub_response.specs.ErrorReply.{error_reply}
 use Rattle.answering.specs.Admin.{IsAdminAnswered}
-use Rattle.answering.specs.Answering.{IsRequestAnswered}
-use Rattle.answering.proofs.ResultLemmas.{of_reply, sent_weaker}
+use Rattle.answering.specs.Answering.{IsRequestAnswered, IsServeAnswered}
+use Rattle.answering.proofs.ResultLemmas.{sent_weaker}
 use Rattle.answering.proofs.message_response.request_response.Goals as goal
 
 pub returns-then-is_admin : goal.returns-then-is_admin
@@ -14,10 +13,10 @@ returns-then-is_admin g c =
     (IsRequestAnswered g.L.Origin.origin c.args.site.now.limits c.args.site.now.escape c.args.seat.now c.admin_response.new.seat c.args.request)
     (λ reply is. inl (admin, is)) c.admin_response.result c.admin_response.ensures
 
-pub returns-in-Err : goal.returns-in-Err
-returns-in-Err g c =
+pub returns : goal.returns
+returns g c =
     let other : ¬ (IsAdmin c.args.request.url) =
     λ is. false≢true (sym c.if-is_admin.false ∙ c.is_admin.ensures.1 (subst IsAdmin (sym c.url.ensures.value) is)) in
-    of_reply (IsRequestAnswered g.L.Origin.origin c.args.site.now.limits c.args.site.now.escape c.args.seat.now c.serve.new.seat c.args.request)
-    (error_reply 503 c.in-Err.error.code) c.error_response.result
-    (inr (other, inr (c.in-Err.error.code, c.in-Err.ensures.refused, refl))) c.error_response.ensures
+    sent_weaker (IsServeAnswered g.L.Origin.origin c.args.site.now.limits c.args.seat.now c.serve.new.seat c.args.request)
+    (IsRequestAnswered g.L.Origin.origin c.args.site.now.limits c.args.site.now.escape c.args.seat.now c.serve.new.seat c.args.request)
+    (λ reply is. inr (other, is)) c.serve.result c.serve.ensures

@@ -1,6 +1,6 @@
 use Rattle.std.proofs.Common.{◌≡◌, fold, length}
 use Rattle.std.specs.Vec.Iter.{into_iter_items, into_iter_len}
-use Rattle.answering.specs.Reply.{headers_of, with_header}
+use Rattle.stub_response.specs.Headers.{headers_of, with_header}
 use Rattle.answering.proofs.response.header_map.Given as goal
 
 abbrev pub invariant-loop-header : goal.invariant-loop-header

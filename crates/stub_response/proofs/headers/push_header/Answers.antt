@@ -3,8 +3,8 @@ use Rattle.http_header.specs.FieldName.{IsFieldName}
 use Rattle.http_header.specs.FieldValue.{IsFieldValue, plain_value}
 use Rattle.http_header.specs.HeaderMap.{append}
 use Rattle.http_header.specs.Token.{lowercase}
-use Rattle.answering.proofs.ReplyLemmas.{held}
-use Rattle.answering.proofs.response.push_header.Goals as goal
+use Rattle.stub_response.proofs.HeaderLemmas.{held}
+use Rattle.stub_response.proofs.headers.push_header.Goals as goal
 
 pub returns : goal.returns
 returns c =

@@ -1,9 +1,9 @@
 use Rattle.std.proofs.Common.{◌≡◌, ◌+◌, ◌∷◌, ◌++◌, [], map, take, sym, ap, ◌∙◌, arith}
 use Rattle.std.proofs.lemmas.List.{take_more}
-use Rattle.answering.specs.Inner.Sent.{plain_header}
-use Rattle.answering.specs.Reply.{headers_of, with_header}
-use Rattle.answering.proofs.PlainLemmas.{headers_push}
-use Rattle.answering.proofs.mapping_response.plain_headers.Goals as goal
+use Rattle.stub_response.specs.Inner.Plain.{plain_header}
+use Rattle.stub_response.specs.Headers.{headers_of, with_header}
+use Rattle.stub_response.proofs.PlainLemmas.{headers_push}
+use Rattle.stub_response.proofs.plain_response.plain_headers.Goals as goal
 
 pub loop-header-preserved : goal.loop-header-preserved
 loop-header-preserved c =

@@ -1,5 +1,5 @@
 -- A header that `http` took is one that it can hold.
-use Rattle.std.proofs.Common.{◌≡◌, ℕ, ◌≤◌, ◌<◌, Bool, true, false, List, length, refl, sym, ap, ◌∙◌, arith, inl, inr, ◌⊎◌}
+use Rattle.std.proofs.Common.{◌≡◌, ℕ, ◌≤◌, ◌<◌, Bool, true, false, List, length, refl, sym, ◌∙◌, arith, inl, inr, ◌⊎◌}
 use Rattle.std.specs.Prelude.{nat_le}
 use Rattle.std.specs.List.{list_all}
 use Rattle.std.proofs.lemmas.Bool.{false≢true}
@@ -10,7 +10,7 @@ use Rattle.http_header.specs.FieldValue.{FieldValue, IsFieldValue, plain_value}
 use Rattle.http_header.specs.HeaderMap.{Entries, append}
 use Rattle.http_header.specs.Token.{is_value_byte, lowercase}
 use Rattle.mapping_model.specs.declared.reply.ReplyHeader.{ReplyHeader}
-use Rattle.answering.specs.Reply.{is_held, with_header}
+use Rattle.stub_response.specs.Headers.{with_header}
 
 short : (n : ℕ) → ¬ (65535 < n) → nat_le n 65535 ≡ true
 short n not_long = by (leb_tells n 65535)

@@ -1,0 +1,67 @@
+// What all responses of a mapping without templates have.
+ghost use Rattle.std.specs.Prelude.{◌≡◌, IfOk, map};
+ghost use Rattle.stub_response.specs.Headers.{headers_of};
+ghost use Rattle.stub_response.specs.Inner.Plain.{plain_header};
+ghost use Rattle.stub_response.specs.PlainResponse.{HoldsLines, IsPlain};
+
+use crate::headers::{empty_headers, push_header};
+use crate::plain::{plain_body, plain_value};
+use bytes::Bytes;
+use http_header::HeaderMap;
+use mapping_model::header_lines::HeaderLine;
+use mapping_model::response_spec::{Body, Content, ResponseSpec};
+use mapping_model::status::Status;
+use plain_text::text::Text;
+use std::alloc::{AllocError, Global};
+
+/// What all responses of a mapping without templates have. It is made once: each response shares its bytes.
+#[derive(Drop)]
+pub struct PlainResponse {
+    pub status: u16,
+    pub headers: HeaderMap,
+    pub body: Bytes,
+}
+
+impl PlainResponse {
+    /// What the responses of this specification have; `None` where it has templates.
+    pub fn of(alloc: Global, response: &ResponseSpec) -> Result<Option<PlainResponse>, AllocError>
+        ensures { IfOk result (IsPlain response.now) }
+    {
+        match &response.content {
+            Content::Plain { headers, body } => {
+                let made = made_of(alloc, response.status, headers.as_slice(), body)?;
+                Ok(Some(made))
+            }
+            Content::Templated { .. } => Ok(None),
+        }
+    }
+}
+
+// Copies each value and the body once.
+fn made_of(
+    alloc: Global,
+    status: Status,
+    headers: &[HeaderLine<Text>],
+    body: &Body<Text>,
+) -> Result<PlainResponse, AllocError>
+    ensures { IfOk result (HoldsLines status headers.now body.now) }
+{
+    let headers = plain_headers(alloc, headers)?;
+    let body = plain_body(alloc, body)?;
+    Ok(PlainResponse {
+        status: status.code(),
+        headers,
+        body,
+    })
+}
+
+fn plain_headers(alloc: Global, headers: &[HeaderLine<Text>]) -> Result<HeaderMap, AllocError>
+    ensures { IfOk result (λ made. made ≡ headers_of (map plain_header headers.now)) }
+{
+    let mut made = empty_headers(alloc, headers.len())?;
+    for header in headers {
+        let value = plain_value(alloc, &header.value)?;
+        push_header(alloc, &mut made, &header.name, value)?;
+    }
+    Ok(made)
+}
