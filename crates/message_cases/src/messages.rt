@@ -33,11 +33,11 @@ impl Asked {
         }
     }
 
-    fn body(self) -> &'static str {
+    fn body(self) -> &'static [u8] {
         match self {
-            Asked::Get | Asked::Missing => "",
+            Asked::Get | Asked::Missing => b"",
             Asked::Edit => {
-                "{\"request\":{\"method\":\"GET\",\"url\":\"/a\"},\"response\":{\"body\":\"version 2\"}}"
+                b"{\"request\":{\"method\":\"GET\",\"url\":\"/a\"},\"response\":{\"body\":\"version 2\"}}"
             }
         }
     }
@@ -51,7 +51,7 @@ impl Asked {
 }
 
 pub fn message(alloc: Global, asked: Asked) -> Result<Request<Bytes>, AllocError> {
-    let body = Bytes::from_static(asked.body().as_bytes());
+    let body = Bytes::from_static(asked.body());
     let mut message = Request::new(alloc, body);
     *message.uri_mut() = uri(asked)?;
     *message.method_mut() = asked.method();
