@@ -1,10 +1,11 @@
 -- The look-up finds the call of the table that a method and a path name, and no other.
 use Rattle.std.proofs.Common.{◌≡◌, ◌≢◌, ℕ, ◌≤◌, List, [], ◌∷◌, length, Bool, true, false, ◌&&◌, Option, Some, None, codes}
 use Rattle.std.proofs.Common.{IfSome, IsNone, IsTrue, ◌↔◌, true≢false, refl, sym, ap, subst, ◌∙◌, cond, option_and_then, arith}
-use Rattle.std.specs.List.{slice_split}
+use Rattle.std.proofs.Common.{◌++◌, drop, take-append-drop}
+use Rattle.std.specs.List.{join_with_byte, position_or_len, slice_split}
 use Rattle.std.specs.Option.{option_map_or}
 use Rattle.std.specs.Str.{bytes_eq}
-use Rattle.std.proofs.lemmas.List.Splits.{length-slice_split}
+use Rattle.std.proofs.lemmas.List.Splits.{join_with_byte-slice_split, length-slice_split}
 use Rattle.std.proofs.lemmas.Slice.Eq.{bytes_eq-Decides}
 use Rattle.admin_table.specs.Inner.Table.{is_admin_in, is_empty, place_in, place_below, one_segment, two_segments, three_segments}
 use Rattle.admin_table.specs.Inner.Table.{mapping_of, state_of, under_requests, under_scenarios, segments_at, IsPlace}
@@ -14,7 +15,8 @@ use Rattle.admin_table.specs.declared.route.Place.{Place}
 use Rattle.admin_table.specs.declared.route.Place.TheVariants as place
 use Rattle.admin_table.specs.declared.route.Route.{Route}
 use Rattle.admin_table.specs.declared.route.Route.TheVariants as route
-use Rattle.mock_request.specs.Url.{is_slash, path_of}
+use Rattle.mock_request.specs.Target.{slash}
+use Rattle.mock_request.specs.Url.{is_question_mark, is_slash, path_of}
 
 is_text : {x y : List ℕ} → bytes_eq x y ≡ true → x ≡ y
 is_text {x} {y} e = (bytes_eq-Decides x y).0 e
@@ -313,3 +315,17 @@ admin_means segments false e =
 pub is_admin_means
     : (url : List ℕ) (b : Bool) → b ≡ is_admin_in (slice_split is_slash (path_of url)) → IsTrue b ↔ IsAdmin url
 is_admin_means url b e = admin_means (slice_split is_slash (path_of url)) b (sym e)
+
+joined : (below : List (List ℕ))
+    → (rest : List ℕ) × (join_with_byte slash ([] ∷ codes "__admin" ∷ below) ≡ codes "/__admin" ++ rest)
+joined [] = ([], refl)
+joined (next ∷ below) = (slash ∷ join_with_byte slash (next ∷ below), refl)
+
+-- a URL of admin calls begins with `/__admin`
+pub admin_begins : (url : List ℕ) → IsAdmin url → (rest : List ℕ) × (url ≡ codes "/__admin" ++ rest)
+admin_begins url (below, is) =
+    let end = position_or_len is_question_mark url in
+    let path = sym (join_with_byte-slice_split slash (path_of url)) ∙ ap (join_with_byte slash) is ∙ (joined below).1 in (
+      (joined below).0 ++ drop end url,
+      sym (take-append-drop end url) ∙ ap (λ front. front ++ drop end url) path,
+    )
