@@ -1,5 +1,6 @@
 -- The values of a request and the JSON of its body as they are kept, and what a path finds in it.
-use Rattle.std.proofs.Common.{◌≡◌, ◌↔◌, ℕ, Bool, List, Option, None, Some, Result, IfOk, IsTrue, subst}
+use Rattle.std.proofs.Common.{◌≡◌, ◌↔◌, ℕ, Bool, List, Option, None, Some, Result, IfOk, IfSome, IsTrue, subst}
+use Rattle.std.specs.Global.{Box}
 use Rattle.std.specs.Option.{IsSomeAnd, option_map}
 use Rattle.std.specs.Str.Lossy.{utf8_lossy}
 use Rattle.std.specs.declared.alloc.AllocError.{AllocError}
@@ -17,9 +18,11 @@ use Rattle.value_match.specs.Matching.{Matches}
 use Rattle.value_match.specs.declared.value_spec.ValueSpec.{ValueSpec}
 
 -- the values that were read are those of the request
-pub are_of : (kept : Option Request) (values snapshot request : Request) → kept ≡ Some snapshot → kept ≡ Some values →
+pub are_of : (kept : Option (Box Request)) (values snapshot request : Request) →
+    IsSomeAnd kept (λ read. read.value ≡ snapshot) → IfSome kept (λ read. read.value ≡ values) →
     snapshot ≡ request → values ≡ request
-are_of kept values snapshot request read is same = cc
+are_of None values snapshot request read is same = elim read [ ]
+are_of (Some kept) values snapshot request read is same = cc
 
 -- the value that was read is the tree of the body's text
 pub was_read : (P : Tree → Type 0) (body : List ℕ) (kept : Option (Option Data)) (found : Option Data)

@@ -26,7 +26,11 @@ use mock_request::request_values::RequestValues;
 use mock_request::snapshot::Snapshot;
 use std::alloc::{AllocError, Global};
 use std::marker::Model;
+use std::mem::size_of;
 use value_match::value_matcher::ValueMatcher;
+
+// One is made for each request, and moved.
+const _: () = prove!(size_of::<ParsedRequest<'static>>() <= 208);
 
 /// A request with the hashes of its URL and of its path, and what matchers ask for beside: its values by name and the text
 /// of its body, and the JSON of that. Each is read once for all mappings that the request is compared with, when the first
@@ -36,7 +40,8 @@ pub struct ParsedRequest<'a> {
     method: &'a str,
     url: HashedStr<'a>,
     path: HashedStr<'a>,
-    values: Option<RequestValues<'a>>,
+    /// Boxed: most requests need none.
+    values: Option<Box<RequestValues<'a>>>,
     /// `Some(None)`: the body isn't JSON.
     json: Option<Option<Data>>,
     alloc: Global,
@@ -53,7 +58,7 @@ impl<'a> Model for ParsedRequest<'a> {
     ghost view = { λ p. p.snapshot.now };
 
     ghost invariant = { λ p. (p.method.now ≡ p.snapshot.now.method) × (p.url ≡ p.snapshot.now.url)
-        × (p.path ≡ path_of p.snapshot.now.url) × IfSome p.values (λ values. values ≡ p.snapshot.now)
+        × (p.path ≡ path_of p.snapshot.now.url) × IfSome p.values (λ values. values.value ≡ p.snapshot.now)
         × IfSome p.json (IsReadOf p.snapshot.now.body) };
 }
 
@@ -230,22 +235,22 @@ impl<'a> Drop for ParsedRequest<'a> {
 fn read_values<'a>(
     alloc: Global,
     snapshot: &'a Snapshot,
-    values: &mut Option<RequestValues<'a>>,
+    values: &mut Option<Box<RequestValues<'a>>>,
 ) -> Result<(), AllocError>
-    requires { IfSome values.old (λ read. read ≡ snapshot.now) }
-    ensures read { OnOk result (values.new ≡ Some snapshot.now) }
-    ensures kept { IfSome values.new (λ read. read ≡ snapshot.now) }
+    requires { IfSome values.old (λ read. read.value ≡ snapshot.now) }
+    ensures read { OnOk result (IsSomeAnd values.new (λ read. read.value ≡ snapshot.now)) }
+    ensures kept { IfSome values.new (λ read. read.value ≡ snapshot.now) }
 {
     if values.is_none() {
-        *values = Some(RequestValues::read(alloc, snapshot)?);
+        *values = Some(Box::new(alloc, RequestValues::read(alloc, snapshot)?)?);
     }
     Ok(())
 }
 
 /// The values, which were read.
-fn values_read<'v, 'a>(values: &'v Option<RequestValues<'a>>) -> &'v RequestValues<'a>
+fn values_read<'v, 'a>(values: &'v Option<Box<RequestValues<'a>>>) -> &'v RequestValues<'a>
     requires { IsSome values.now }
-    ensures { values.now ≡ Some result.now }
+    ensures { IfSome values.now (λ read. read.value ≡ result.now) }
 {
     match values {
         Some(values) => values,
@@ -257,13 +262,13 @@ fn values_read<'v, 'a>(values: &'v Option<RequestValues<'a>>) -> &'v RequestValu
 fn read_json<'a>(
     alloc: Global,
     snapshot: &'a Snapshot,
-    values: &mut Option<RequestValues<'a>>,
+    values: &mut Option<Box<RequestValues<'a>>>,
     json: &mut Option<Option<Data>>,
 ) -> Result<(), AllocError>
-    requires values { IfSome values.old (λ read. read ≡ snapshot.now) }
+    requires values { IfSome values.old (λ read. read.value ≡ snapshot.now) }
     requires json { IfSome json.old (IsReadOf snapshot.now.body) }
     ensures read { OnOk result (IsSomeAnd json.new (IsReadOf snapshot.now.body)) }
-    ensures kept_values { IfSome values.new (λ read. read ≡ snapshot.now) }
+    ensures kept_values { IfSome values.new (λ read. read.value ≡ snapshot.now) }
     ensures kept { IfSome json.new (IsReadOf snapshot.now.body) }
 {
     if json.is_none() {
