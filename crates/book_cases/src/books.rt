@@ -16,6 +16,7 @@ use case_table::words::{number, parts};
 use error_code::error_code::ErrorCode;
 use mock_request::snapshot::Snapshot;
 use request_journal::event::Event;
+use request_journal::event_memory::EventMemory;
 use request_journal::input::{BookAnswer, BookInput};
 use request_journal::shared_request::SharedRequest;
 use request_match::parsed_request::ParsedRequest;
@@ -243,7 +244,8 @@ fn add_served_read(
     let shared = SharedRequest::new(alloc, request)?;
     let kept = shared.try_clone()?;
     let mut parsed = ParsedRequest::new(alloc, shared.request());
-    let event = book.serve_read(kept, &mut parsed)?;
+    let memory = EventMemory::new(alloc)?;
+    let event = book.serve_read(kept, &mut parsed, memory)?;
     add_event(cells, event.event());
     Ok(())
 }

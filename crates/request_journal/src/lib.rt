@@ -6,6 +6,7 @@
 
 pub mod entry;
 pub mod event;
+pub mod event_memory;
 pub mod input;
 pub mod limits;
 pub mod mapping;

@@ -33,12 +33,20 @@ impl Model for SharedEvent {
 }
 
 impl SharedEvent {
+    ghost use Rattle.std.specs.Arc.{arc_value};
+
     pub fn new(alloc: Global, event: Event) -> Result<SharedEvent, AllocError>
         ensures { IfOk result (λ shared. shared ≡ event) }
     {
         Ok(SharedEvent {
             event: Arc::new(alloc, event)?,
         })
+    }
+
+    pub(crate) fn from_arc(event: Arc<Event>) -> SharedEvent
+        ensures { result ≡ arc_value event }
+    {
+        SharedEvent { event }
     }
 
     pub fn event(&self) -> &Event

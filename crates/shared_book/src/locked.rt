@@ -19,6 +19,7 @@ use crate::origin::Origin;
 use crate::receipt::Receipt;
 use crate::seat::Seat;
 use crate::settled::{SettleRefusal, Settled};
+use request_journal::event_memory::EventMemory;
 use request_journal::input::BookInput;
 use request_journal::shared_request::SharedRequest;
 use request_match::parsed_request::ParsedRequest;
@@ -85,13 +86,14 @@ impl<L: Origin> Locked<L> {
         }
     }
 
-    /// Serves the request, and enters that for the share.
+    /// Serves the request, whose event comes into this memory, and enters that for the share.
     #[tactic(auto, using(crate::proofs::ReachedLemmas::reached_next, crate::proofs::ReachedLemmas::number_grown))]
     pub(crate) fn serve(
         &mut self,
         share: &mut Share<L>,
         request: SharedRequest,
         parsed: &mut ParsedRequest<'_>,
+        memory: EventMemory,
     ) -> Result<Receipt, BookError>
         requires part { 0 < share.old.parts }
         requires read { parsed.old ≡ request }
@@ -104,7 +106,7 @@ impl<L: Origin> Locked<L> {
         ensures entered { OnOk result ((share.new.amount ≡ share.old.amount + 1) × (share.new.amount ≤ NUMBER_LIMIT)) }
         ensures not_entered { OnErr result (share.new.amount ≡ share.old.amount) }
     {
-        let event = self.book.serve_read(request, parsed)?;
+        let event = self.book.serve_read(request, parsed, memory)?;
         self.entries.add(share, 1);
         self.entries.audit(share);
         Ok(Receipt {

@@ -17,9 +17,8 @@ use crate::origin::Origin;
 use crate::receipt::Receipt;
 use crate::shared_book::SharedBook;
 use mock_request::snapshot::Snapshot;
-use request_journal::event::Event;
+use request_journal::event_memory::EventMemory;
 use request_journal::input::BookInput;
-use request_journal::shared_event::SharedEvent;
 use request_journal::shared_request::SharedRequest;
 use request_match::parsed_request::ParsedRequest;
 use std::alloc::{AllocError, Global};
@@ -211,7 +210,8 @@ impl<L: Origin> Seat<L> {
         Ok(())
     }
 
-    // Serves a request, and keeps the receipt as the last.
+    // Serves a request, and keeps the receipt as the last. What its event needs of memory is taken before the lock, so that
+    // nobody waits there for the system to give some.
     fn keep_served<R: Wait>(
         &mut self,
         rt: &R,
@@ -225,8 +225,14 @@ impl<L: Origin> Seat<L> {
         self.own.reserve(1)?;
         let request = SharedRequest::new(*self.own.allocator(), request)?;
         let mut parsed = ParsedRequest::new(*self.own.allocator(), request.request());
-        touch_memory(*self.own.allocator())?;
-        let receipt = shared.serve(rt, &mut self.share, request.try_clone()?, &mut parsed)?;
+        let memory = EventMemory::new(*self.own.allocator())?;
+        let receipt = shared.serve(
+            rt,
+            &mut self.share,
+            request.try_clone()?,
+            &mut parsed,
+            memory,
+        )?;
         self.count += 1;
         let Ok(()) = self.own.push(receipt) else {
             unreachable!()
@@ -253,13 +259,6 @@ impl<L: Origin> Seat<L> {
         };
         Ok(())
     }
-}
-
-// Takes the memory of an event, and gives it back. An allocator keeps what its thread gave back for the next who takes as
-// much: so the event that is made under the lock waits for no page from the system, and nobody else waits for it there.
-fn touch_memory(alloc: Global) -> Result<(), AllocError> {
-    let _event = SharedEvent::new(alloc, Event::DeleteAll)?;
-    Ok(())
 }
 
 // Adds a list to these, unless it is empty. Takes no memory.

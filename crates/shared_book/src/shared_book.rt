@@ -17,6 +17,7 @@ use crate::origin::Origin;
 use crate::receipt::Receipt;
 use crate::seat::Seat;
 use crate::settled::{SettleRefusal, Settled};
+use request_journal::event_memory::EventMemory;
 use request_journal::input::BookInput;
 use request_journal::shared_request::SharedRequest;
 use request_match::parsed_request::ParsedRequest;
@@ -80,13 +81,14 @@ impl<L: Origin> SharedBook<L> {
         self.locked.lock(rt)
     }
 
-    // Serves the request under the lock, and enters that for the share.
+    // Serves the request under the lock, where its event comes into this memory, and enters that for the share.
     pub(crate) fn serve<R: Wait>(
         &self,
         rt: &R,
         share: &mut Share<L>,
         request: SharedRequest,
         parsed: &mut ParsedRequest<'_>,
+        memory: EventMemory,
     ) -> Result<Receipt, BookError>
         requires part { 0 < share.old.parts }
         requires read { parsed.old ≡ request }
@@ -96,7 +98,7 @@ impl<L: Origin> SharedBook<L> {
         ensures entered { OnOk result ((share.new.amount ≡ share.old.amount + 1) × (share.new.amount ≤ NUMBER_LIMIT)) }
         ensures not_entered { OnErr result (share.new.amount ≡ share.old.amount) }
     {
-        self.lock(rt).serve(share, request, parsed)
+        self.lock(rt).serve(share, request, parsed, memory)
     }
 
     // Makes the change under the lock, and enters that for the share.

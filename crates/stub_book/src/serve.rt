@@ -10,11 +10,11 @@ ghost use Rattle.stub_book.specs.Refusals.{IsServeRefusal};
 
 use crate::book::Book;
 use crate::error::BookError;
-use crate::prepared::prepare;
 use mapping_store::mapping_store::MappingStore;
 use mock_request::snapshot::Snapshot;
 use recorder::recording::Recording;
 use request_journal::event::{Captured, Event, ServeAnswer};
+use request_journal::event_memory::EventMemory;
 use request_journal::shared_event::SharedEvent;
 use request_journal::shared_request::SharedRequest;
 use request_match::parsed_request::ParsedRequest;
@@ -29,21 +29,23 @@ impl Book {
         ensures why { IfErr result (λ error. IsServeRefusal self.old error.code) }
     {
         self.has_number()?;
+        let memory = EventMemory::new(self.alloc)?;
         let shared = SharedRequest::new(self.alloc, request)?;
         let kept = shared.try_clone()?;
         let mut parsed = ParsedRequest::new(self.alloc, shared.request());
         let answer = self.chosen(&mut parsed)?;
         let copy = answer.try_clone()?;
-        self.add_served(kept, answer)?;
+        self.add_served(kept, answer, memory)?;
         Ok(copy)
     }
 
-    /// The same for a request that is shared already: under a lock it is only compared and noted. It gives the event,
-    /// which is shared with the history.
+    /// The same for a request that is shared already, with memory for its event that was taken before: under a lock the
+    /// request is only compared and noted. It gives the event, which is shared with the history.
     pub fn serve_read(
         &mut self,
         request: SharedRequest,
         parsed: &mut ParsedRequest<'_>,
+        memory: EventMemory,
     ) -> Result<SharedEvent, BookError>
         requires { parsed.old ≡ request }
         ensures ok { IfOk result (λ served. IsServed request served × Grows self.old self.new served) }
@@ -53,7 +55,7 @@ impl Book {
     {
         self.has_number()?;
         let answer = self.chosen(parsed)?;
-        self.add_served(request, answer)
+        self.add_served(request, answer, memory)
     }
 
     // What the request is answered with. Nothing changes.
@@ -65,22 +67,24 @@ impl Book {
         choose(&mut self.store, &self.scenarios, &self.recording, request)
     }
 
-    // Adds the event of a request that this was chosen for.
+    // Adds the event of a request that this was chosen for. What can fail comes before anything changes.
     fn add_served(
         &mut self,
         request: SharedRequest,
         answer: ServeAnswer,
+        memory: EventMemory,
     ) -> Result<SharedEvent, BookError>
         requires { IsChoice self.old request answer }
         ensures ok { IfOk result (λ served. (served ≡ event.Serve request answer) × Grows self.old self.new served) }
         ensures err { OnErr result (self.new ≡ self.old) }
         ensures why { IfErr result (λ error. IsServeRefusal self.old error.code) }
     {
-        let event = Event::Serve { request, answer };
-        let made = prepare(self.alloc, &mut self.history, event)?;
-        move_scenario(self.alloc, &mut self.scenarios, made.event.event())?;
-        self.history.push_reserved(made.event);
-        Ok(made.accepted.event)
+        self.history.reserve()?;
+        let event = memory.fill(self.alloc, Event::Serve { request, answer })?;
+        let shared = event.try_clone()?;
+        move_scenario(self.alloc, &mut self.scenarios, event.event())?;
+        self.history.push_reserved(event);
+        Ok(shared)
     }
 }
 

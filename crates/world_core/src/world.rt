@@ -13,6 +13,7 @@ use error_code::error_code::ErrorCode;
 use mapping_model::reply::Reply;
 use mock_request::snapshot::Snapshot;
 use request_journal::event::{Event, ServeAnswer};
+use request_journal::event_memory::EventMemory;
 use request_journal::input::BookInput;
 use request_journal::shared_request::SharedRequest;
 use request_match::parsed_request::ParsedRequest;
@@ -115,7 +116,8 @@ impl World {
         let kept = shared.try_clone()?;
         let mut parsed = ParsedRequest::new(self.alloc, shared.request());
         self.held.reserve(1)?;
-        match self.book.serve_read(kept, &mut parsed) {
+        let memory = EventMemory::new(self.alloc)?;
+        match self.book.serve_read(kept, &mut parsed, memory) {
             Ok(event) => {
                 hold(&mut self.held, actor, event);
                 Ok(())
