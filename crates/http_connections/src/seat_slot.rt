@@ -1,5 +1,5 @@
 // Where a connection's seat lies, beside the site that it answers for.
-ghost use Rattle.std.specs.Prelude.{IfOk};
+ghost use Rattle.std.specs.Prelude.{IfOk, IsTrue};
 ghost use Rattle.http_messages.specs.Wire.{IsSent};
 
 use crate::answers::Answers;
@@ -7,7 +7,7 @@ use bytes::Bytes;
 use http::{Request, Response};
 use http_body_util::Full;
 use http_messages::error::ServiceError;
-use http_messages::wire::sent;
+use http_messages::wire::{is_as_sent, sent};
 use std::alloc::Global;
 use std::sync::{Arc, Mutex, Wait};
 
@@ -46,8 +46,12 @@ impl<A: Answers> SeatSlot<A> {
     ) -> Result<Response<Full<Bytes>>, ServiceError>
         ensures { IfOk result (λ made. (answer : _) × A.gives request.now answer × IsSent answer made) }
     {
-        let answer = self.answer_at_seat(rt, alloc, request)?;
-        Ok(sent(alloc, answer)?)
+        let answer = self.answer_at_seat(rt, alloc, request);
+        // Most answers are sent as they are, and aren't moved to see that.
+        if goes_as_it_is(&answer) {
+            return answer;
+        }
+        Ok(sent(alloc, answer?)?)
     }
 
     fn answer_at_seat<R: Wait>(
@@ -63,5 +67,15 @@ impl<A: Answers> SeatSlot<A> {
             Some(seat) => self.site.answer(rt, alloc, seat, request),
             None => Err(ServiceError::Broken),
         }
+    }
+}
+
+// Whether an answer is sent as it is, or there is none.
+fn goes_as_it_is(answer: &Result<Response<Full<Bytes>>, ServiceError>) -> bool
+    ensures { IsTrue result → IfOk answer.now (λ response. IsSent response response) }
+{
+    match answer {
+        Ok(response) => is_as_sent(response),
+        Err(_error) => true,
     }
 }

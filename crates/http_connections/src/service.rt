@@ -1,5 +1,7 @@
 // The requests of one connection.
-ghost use Rattle.std.specs.Prelude.{◌≡◌, length, IfOk, IfSome};
+ghost use Rattle.std.specs.Prelude.{◌≡◌, length, IfOk, IfSome, IsSome};
+ghost use Rattle.futures.specs.Poll.{OnPending};
+ghost use Rattle.futures.specs.Task.{IsArmed, Keeps};
 
 use crate::answers::Answers;
 use crate::seat_slot::SeatSlot;
@@ -30,11 +32,13 @@ pub struct MessageService<R, A: Answers> {
 #[derive(Drop)]
 pub struct Answering<R, A: Answers, G> {
     rt: R,
+    /// `None` where there was no memory for the answer, or it was given.
     slot: Option<Arc<SeatSlot<A>>>,
     /// What has come of the content is its body.
     request: Request<Bytes>,
-    /// What is still to come, if the request has content.
-    content: Option<G>,
+    /// What is still to come, if the request has content. It is in a box, since most requests have none, and the answer
+    /// is moved.
+    content: Option<Box<G>>,
 }
 
 impl<R, A: Answers> MessageService<R, A> {
@@ -57,14 +61,17 @@ where
 
     fn call(&self, request: Request<Incoming<I>>) -> Self::Future {
         let (head, body) = request.into_parts();
-        let content = if body.is_end_stream() {
-            None
-        } else {
-            Some(Limited::new(body, GATHERED).collect(self.rt.alloc()))
-        };
+        let mut slot = Arc::try_clone(&self.slot).ok();
+        let mut content = None;
+        if !body.is_end_stream() {
+            match gathering(self.rt.alloc(), body) {
+                Ok(gathering) => content = Some(gathering),
+                Err(_error) => slot = None,
+            }
+        }
         Answering {
             rt: self.rt,
-            slot: Arc::try_clone(&self.slot).ok(),
+            slot,
             request: Request::from_parts(head, Bytes::new()),
             content,
         }
@@ -80,11 +87,11 @@ where
 {
     type Output = Result<Response<Full<Bytes>>, ServiceError>;
 
-    ghost can_poll = { λ f. IfSome f.content G.can_poll };
+    ghost can_poll = { λ f. IfSome f.content (λ content. G.can_poll content.value) };
 
     fn poll(&mut self, cx: &mut Context<'_>) -> Poll<Result<Response<Full<Bytes>>, ServiceError>> {
         if let Some(content) = &mut self.content {
-            match bytes_of(self.rt.alloc(), ready!(content.poll(cx))) {
+            match ready!(poll_bytes(self.rt.alloc(), &mut **content, cx)) {
                 Ok(bytes) => *self.request.body_mut() = bytes,
                 Err(error) => return Poll::Ready(Err(error)),
             }
@@ -107,9 +114,36 @@ where
     }
 }
 
-// The bytes of the content. Not inlined: a function clears all its locals when it is entered, and most requests have no
-// content.
+// What gathers the content of a body. Not inlined: a function clears all its locals when it is entered, and most requests
+// have no content.
 #[inline(never)]
+fn gathering<I: Drop>(
+    alloc: Global,
+    body: Incoming<I>,
+) -> Result<Box<Collect<Limited<Incoming<I>>>>, AllocError>
+    ensures { IfOk result (λ content. IsSome content.value.collected) }
+{
+    Ok(Box::new(alloc, Limited::new(body, GATHERED).collect(alloc))?)
+}
+
+// The bytes of the content, once it has come. Not inlined, as `gathering`.
+#[inline(never)]
+fn poll_bytes<G, E>(
+    alloc: Global,
+    content: &mut G,
+    cx: &mut Context<'_>,
+) -> Poll<Result<Bytes, ServiceError>>
+where
+    G: Future<Output = Result<Collected, LimitedError<E>>>,
+    E: Drop,
+    requires { G.can_poll content.old }
+    ensures again { OnPending result (G.can_poll content.new) }
+    ensures registered { OnPending result (IsArmed cx.new) }
+    ensures kept { Keeps cx.old cx.new }
+{
+    Poll::Ready(bytes_of(alloc, ready!(content.poll(cx))))
+}
+
 fn bytes_of<E: Drop>(
     alloc: Global,
     gathered: Result<Collected, LimitedError<E>>,

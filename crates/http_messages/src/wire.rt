@@ -12,24 +12,18 @@ use http::{HeaderMap, HeaderName, HeaderValue, Response, StatusCode};
 use http_body_util::Full;
 use std::alloc::{AllocError, Global};
 
-/// What is sent of a response: without headers that say how a message is framed, without blanks at the ends of values,
-/// and without content where its status allows none. The connection frames it.
-pub fn sent(
-    alloc: Global,
-    response: Response<Full<Bytes>>,
-) -> Result<Response<Full<Bytes>>, AllocError>
-    ensures { IfOk result (IsSent response) }
+/// Whether a response is sent as it is: most are, and nothing of them is made anew. `sent` makes what is sent of the others.
+pub fn is_as_sent(response: &Response<Full<Bytes>>) -> bool
+    ensures { IsTrue result → IsSent response.now response.now }
 {
-    // Most responses are sent as they are, and nothing of them is made anew.
-    if is_as_sent(&response) {
-        return Ok(response);
-    }
-    sent_anew(alloc, response)
+    !has_no_content(response.status()) && are_as_sent(response.headers())
 }
 
+/// What is sent of a response: without headers that say how a message is framed, without blanks at the ends of values,
+/// and without content where its status allows none. The connection frames it.
 // Not inlined: a function clears all its locals when it is entered, and a response that is sent as it is needs none of these.
 #[inline(never)]
-fn sent_anew(
+pub fn sent(
     alloc: Global,
     response: Response<Full<Bytes>>,
 ) -> Result<Response<Full<Bytes>>, AllocError>
@@ -48,12 +42,6 @@ fn sent_anew(
         headers,
     };
     Ok(Response::from_parts(head, body))
-}
-
-fn is_as_sent(response: &Response<Full<Bytes>>) -> bool
-    ensures { IsTrue result → IsSent response.now response.now }
-{
-    !has_no_content(response.status()) && are_as_sent(response.headers())
 }
 
 fn are_as_sent(headers: &HeaderMap) -> bool
