@@ -1,13 +1,8 @@
 -- Responses of mappings without templates.
-use Rattle.std.proofs.Common.{◌≡◌, ℕ, List, [], ◌∷◌, Some, Ok, Err, refl}
+use Rattle.std.proofs.Common.{◌≡◌, List, [], ◌∷◌, Some, refl}
 use Rattle.std.specs.List.{AllZip}
-use Rattle.std.specs.Prelude.{Result, IfOk}
-use Rattle.http.specs.declared.response.Response.{Response}
-use Rattle.http_body_util.specs.declared.full.Full.{Full}
 use Rattle.http_header.specs.FieldValue.{FieldValue}
 use Rattle.http_header.specs.HeaderMap.{Entries, IsMapClone}
-use Rattle.answering.specs.Inner.Sent.{HasReply}
-use Rattle.answering.specs.Reply.{IsResponseOf}
 use Rattle.mapping_model.specs.declared.mapping_spec.MappingSpec.{MappingSpec}
 use Rattle.mapping_model.specs.declared.reply.Reply.{Reply}
 use Rattle.mapping_model.specs.declared.response_spec.Content.{Content}
@@ -28,13 +23,6 @@ is_response limits mapping request plain is = by mapping.response.content is
         × HoldsReply reply plain
     by (Plain lines body) is = is
     by (Templated lines body) is = absurd (cc)
-
-pub of_plain : {E : Type 0} (P : Reply → Type 0) (plain : PlainResponse) (result : Result (Response (Full (List ℕ))) E)
-    → (reply : Reply) × P reply × HoldsReply reply plain
-    → IfOk result (λ response. (reply : Reply) → HoldsReply reply plain → IsResponseOf reply response)
-    → IfOk result (HasReply P)
-of_plain P plain (Ok response) (reply, is, holds) h = (reply, is, h reply holds)
-of_plain P plain (Err error) is h = tt
 
 values_same : (values copies : List FieldValue) → AllZip (λ value copy. copy ≡ value) values copies → copies ≡ values
 values_same [] [] is = refl

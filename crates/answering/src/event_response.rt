@@ -2,7 +2,7 @@
 ghost use Rattle.std.specs.Prelude.{IfOk};
 ghost use Rattle.answering.specs.Inner.Sent.{HasReply};
 ghost use Rattle.answering.specs.Reply.{IsResponseOf};
-ghost use Rattle.answering.specs.Served.{IsEventReply, IsServeReply};
+ghost use Rattle.answering.specs.Served.{IsEventReply};
 ghost use Rattle.stub_book.specs.Growth.{IsServed};
 ghost use Rattle.stub_response.specs.ErrorReply.{unmatched_reply};
 
@@ -12,7 +12,6 @@ use bytes::Bytes;
 use error_code::error_code::ErrorCode;
 use http::Response;
 use http_body_util::Full;
-use mock_request::snapshot::Snapshot;
 use request_journal::event::{Event, ServeAnswer};
 use shared_book::gate::Gate;
 use std::alloc::{AllocError, Global};
@@ -30,28 +29,13 @@ pub(crate) fn event_response<G: Gate>(
     requires { (request : _) × IsServed request event.now }
     ensures { IfOk result (HasReply (IsEventReply limits event.now)) }
 {
-    match event {
-        Event::Serve { request, answer } => {
-            serve_response(alloc, limits, gate, number, request.request(), answer)
-        }
-        _ => unreachable!(),
-    }
-}
-
-fn serve_response<G: Gate>(
-    alloc: Global,
-    limits: Limits,
-    gate: &G,
-    number: u64,
-    request: &Snapshot,
-    answer: &ServeAnswer,
-) -> Result<Response<Full<Bytes>>, AllocError>
-    ensures { IfOk result (HasReply (IsServeReply limits request.now answer.now)) }
-{
+    let Event::Serve { request, answer } = event else {
+        unreachable!()
+    };
     match answer {
         ServeAnswer::Stub(captured) => {
             gate.between_choice_and_render(number);
-            mapping_response(alloc, &captured.mapping.spec, request, limits)
+            mapping_response(alloc, &captured.mapping.spec, request.request(), limits)
         }
         ServeAnswer::Proxy(_target) => error_response(alloc, 502, ErrorCode::UpstreamFailed),
         ServeAnswer::Unmatched => unmatched_response(alloc),

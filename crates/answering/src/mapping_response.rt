@@ -1,8 +1,6 @@
 // The response of a mapping.
 ghost use Rattle.std.specs.Prelude.{IfOk};
 ghost use Rattle.answering.specs.Inner.Sent.{HasReply};
-ghost use Rattle.answering.specs.Reply.{IsResponseOf};
-ghost use Rattle.stub_response.specs.PlainResponse.{HoldsReply};
 ghost use Rattle.stub_response.specs.Response.{IsResponse};
 
 use crate::response::{response_of, response_with};
@@ -14,7 +12,6 @@ use mock_request::snapshot::Snapshot;
 use request_match::shared_spec::SharedSpec;
 use std::alloc::{AllocError, Global};
 use stub_response::limits::Limits;
-use stub_response::plain_response::PlainResponse;
 use stub_response::respond::respond;
 
 /// The response of a mapping for a request. One without templates shares the bytes of what was made once of the mapping.
@@ -26,16 +23,10 @@ pub(crate) fn mapping_response(
 ) -> Result<Response<Full<Bytes>>, AllocError>
     ensures { IfOk result (HasReply (IsResponse limits mapping.now request.now)) }
 {
-    match mapping.plain() {
-        Some(plain) => plain_response(plain),
-        None => templated_response(alloc, mapping.spec(), request, limits),
-    }
-}
-
-// Copies no byte.
-fn plain_response(plain: &PlainResponse) -> Result<Response<Full<Bytes>>, AllocError>
-    ensures { IfOk result (λ response. (reply : _) → HoldsReply reply plain.now → IsResponseOf reply response) }
-{
+    let Some(plain) = mapping.plain() else {
+        return templated_response(alloc, mapping.spec(), request, limits);
+    };
+    // Neither copies a byte.
     let headers = plain.headers.clone()?;
     let body = plain.body.clone()?;
     Ok(response_with(plain.status, headers, body))
