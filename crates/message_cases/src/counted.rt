@@ -86,19 +86,19 @@ fn add_count<L: Origin, R: Wait>(
     shared: &SharedBook<L>,
     seat: &mut Seat<L>,
 ) -> Result<(), AllocError> {
-    let reply = count(rt, alloc, shared, seat, count_call(alloc)?)?;
+    let call = call_of(alloc, "POST", "/__admin/requests/count", "{}")?;
+    let reply = reply_to(rt, alloc, shared, seat, call)?;
     cells.add(str::from_utf8(reply.body.as_slice()).unwrap_or("not UTF-8"));
     cells.add("; ");
     Ok(())
 }
 
-fn count_call(alloc: Global) -> Result<AdminCall, AllocError> {
-    let body = "{}".as_bytes();
-    let call = admin(alloc, "POST", "/__admin/requests/count", body);
+fn call_of(alloc: Global, method: &str, url: &str, body: &str) -> Result<AdminCall, AllocError> {
+    let call = admin(alloc, method, url, body.as_bytes());
     call.ok().ok_or(AllocError)
 }
 
-fn count<L: Origin, R: Wait>(
+fn reply_to<L: Origin, R: Wait>(
     rt: &R,
     alloc: Global,
     shared: &SharedBook<L>,
