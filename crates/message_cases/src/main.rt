@@ -2,12 +2,9 @@
 #![tactic(auto)]
 
 mod answered;
-mod answers;
 mod cases;
 mod counted;
 mod full;
-mod message_threads;
-mod messages;
 
 use cases::{Case, play};
 use std::alloc::{AllocError, Global};

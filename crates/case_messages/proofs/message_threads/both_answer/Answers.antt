@@ -1,10 +1,10 @@
 use denote.Param.Send.{sendable}
 use Rattle.std.proofs.Crossing.{crosses}
 use Rattle.shared_book.proofs.seat.Seat.TheSendSync as seat
-use Rattle.message_cases.proofs.SiteLemmas.{site_sync}
+use Rattle.case_messages.proofs.SiteLemmas.{site_sync}
 use Rattle.case_calls.proofs.first_waits.FirstWaits.TheSendSync as first_waits
-use Rattle.message_cases.proofs.message_threads.Task.TheSendSync as task
-use Rattle.message_cases.proofs.message_threads.both_answer.Goals as goal
+use Rattle.case_messages.proofs.message_threads.Task.TheSendSync as task
+use Rattle.case_messages.proofs.message_threads.both_answer.Goals as goal
 
 pub join-requires-send-F : goal.join-requires-send-F
 join-requires-send-F g c κs within =
