@@ -1,5 +1,6 @@
 // The root of what a template sees, within its limit.
 ghost use Rattle.std.specs.Prelude.{◌≡◌, ◌≤◌};
+ghost use Rattle.std.specs.Option.{ForSome};
 ghost use Rattle.data_tree.specs.Tree.{view};
 ghost use Rattle.data_tree.specs.Json.{size};
 ghost use Rattle.data_tree.specs.LookUp.{EmptyNameFindsNothing};
@@ -18,9 +19,9 @@ pub const SIZE_LIMIT: u64 = 16_777_216;
 #[derive(Debug, Drop)]
 pub struct RequestData {
     root: Data,
-    /// The size of the root, which is counted once.
-    root_size: u64,
-    ghost sized: { root_size ≡ size (view root) },
+    /// The size of the root, where it was counted.
+    counted: Option<u64>,
+    ghost sized: { ForSome counted (λ root_size. root_size ≡ size (view root)) },
     ghost within_limit: { size (view root) ≤ SIZE_LIMIT },
     ghost well_formed: { IsWellFormed (view root) } by { IsWellFormed-prop (view root) },
     ghost no_empty_name: { EmptyNameFindsNothing (view root) },
@@ -55,14 +56,31 @@ impl RequestData {
         if root_size > SIZE_LIMIT {
             return Err(DataError::TooLarge(root));
         }
-        Ok(RequestData { root, root_size })
+        let counted = Some(root_size);
+        Ok(RequestData { root, counted })
     }
 
-    /// The size of the value. It was counted when the value was taken over.
+    /// Takes over a value that is known to be within the limit. Its size isn't counted.
+    pub fn within_limit(root: Data) -> RequestData
+        requires within_limit { size (view root) ≤ SIZE_LIMIT }
+        requires well_formed { IsWellFormed (view root) }
+        requires no_empty_name { EmptyNameFindsNothing (view root) }
+        ensures { root_of result ≡ view root }
+    {
+        RequestData {
+            root,
+            counted: None,
+        }
+    }
+
+    /// The size of the value. Where `new` took the value over, it is counted already.
     pub fn size(&self) -> u64
         ensures { result ≡ size (root_of self.now) }
     {
-        self.root_size
+        match self.counted {
+            Some(root_size) => root_size,
+            None => self.root.size(),
+        }
     }
 
     /// The value.

@@ -1,8 +1,10 @@
 -- What is needed after a step was added, and what roots that are alike have in common.
 use Rattle.std.proofs.Common.{◌≡◌, ℕ, Bool, false, true, List, [], ◌∷◌, ◌++◌, map, refl, ap, ◌∙◌, Bor}
+use Rattle.std.proofs.Common.{◌+◌, ◌<◌, length, take, get_or, sym}
 use Rattle.std.specs.Prelude.{IsTrue, ◌||◌}
 use Rattle.std.specs.List.{list_any}
 use Rattle.std.specs.Str.{bytes_eq}
+use Rattle.std.proofs.lemmas.List.Folds.{list_any_more}
 use Rattle.std.proofs.lemmas.Slice.Eq.{bytes_eq-Decides}
 use Rattle.needed_data.specs.Needed.{NeededData, is_needed, field_path, Covers}
 
@@ -20,6 +22,15 @@ pub needed_by_name : (everything json : Bool) (name : List ℕ) (slice names : L
     → found ≡ is_needed (of_names everything json names) name
 needed_by_name everything json name slice names found none same is =
     rw (none, ← same) (is ∙ any_of_texts name slice)
+
+-- where the next name is another one, none is so far
+pub none_more : (names : List (Bor (List ℕ))) (i : ℕ) (next : Bor (List ℕ)) (name : List ℕ) (found : Bool)
+    → i < length names → found ≡ bytes_eq (get_or names i next).now name → found ≡ false
+    → list_any (λ n. bytes_eq n.now name) (take i names) ≡ false
+    → list_any (λ n. bytes_eq n.now name) (take (i + 1) names) ≡ false
+none_more names i next name found within is other none =
+    list_any_more (λ n. bytes_eq n.now name) names i next within
+    ∙ ap (λ b. b || bytes_eq (get_or names i next).now name) none ∙ sym is ∙ other
 
 or_true : (b : Bool) → IsTrue (b || true)
 or_true true = refl

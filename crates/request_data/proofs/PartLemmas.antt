@@ -1,6 +1,6 @@
 -- What the part of a request's data that is needed keeps.
-use Rattle.std.proofs.Common.{◌≡◌, ℕ, ◌+◌, ◌<◌, ◌≤◌, Bool, true, false, cond, List, [], ◌∷◌, ◌++◌, length, refl, ap, ◌∙◌, sym}
-use Rattle.std.proofs.Common.{Option, Result, Ok, Err, MatchResult, IfOk, subst, arith, length-append, codes}
+use Rattle.std.proofs.Common.{◌≡◌, ℕ, ◌+◌, ◌≤◌, Bool, true, false, cond, List, [], ◌∷◌, ◌++◌, length, refl, ap, ◌∙◌, sym}
+use Rattle.std.proofs.Common.{Option, arith, length-append, codes}
 use Rattle.std.specs.List.{AllByRecursion}
 use Rattle.std.specs.List.Sorted.{IsStrictlySortedBy}
 use Rattle.std.specs.Str.{bytes_eq}
@@ -10,18 +10,12 @@ use Rattle.std.proofs.lemmas.Bool.{cond-false, cond_both, or_left, false≢true,
 use Rattle.std.proofs.lemmas.List.Elements.{filter-append}
 use Rattle.std.proofs.lemmas.Slice.Eq.{bytes_eq-Decides}
 use Rattle.json.specs.Print.{quoted}
-use Rattle.data_tree.specs.Tree.{Tree, view, fields, Members, no_members, member}
+use Rattle.data_tree.specs.Tree.{Tree, fields, Members, no_members, member}
 use Rattle.data_tree.specs.Json.{json, members_json, comma_if, size}
 use Rattle.data_tree.specs.LookUp.{under, at}
 use Rattle.data_tree.specs.Parts.{names_of}
 use Rattle.data_tree.specs.WellFormed.{IsWellFormed, IsAscending, HaveWellFormedValues}
 use Rattle.data_tree.proofs.Sizes.{length_fields}
-use Rattle.data_tree.specs.RequestData.{root_of}
-use Rattle.data_tree.specs.declared.request_data.RequestData.{RequestData}
-use Rattle.data_tree.specs.declared.request_data.DataError.{DataError}
-use Rattle.data_tree.specs.declared.request_data.DataError.TheVariants.{TooLarge}
-use Rattle.data_tree.specs.declared.request_data.TheConstants.{SIZE_LIMIT}
-use Rattle.data_tree.specs.declared.data.Data.{Data}
 use Rattle.mock_request.specs.Request.{Request}
 use Rattle.needed_data.specs.Needed.{NeededData, AreAlike, is_json_needed, is_needed, json_path, field_path}
 use Rattle.request_data.specs.Part.{kept, request_part, part_tree}
@@ -137,17 +131,6 @@ pub without_json
     → fields (request_part needed request template) ≡ part_tree needed request template
 without_json needed request template none =
     sym (ap (λ b. root_with b (json_tree (utf8_lossy request.body)) (kept needed (request_fields request template))) none)
-
--- ---- data made of the part
-
-pub made_alike
-    : (r : Result RequestData DataError) (needed : NeededData) (part whole : Tree) (root : Data)
-    → MatchResult r (λ made. (root_of made ≡ view root) × (size (view root) ≤ SIZE_LIMIT))
-    (λ error. (error ≡ TooLarge root) × (SIZE_LIMIT < size (view root)))
-    → view root ≡ part → AreAlike needed part whole → IfOk r (λ made. AreAlike needed (root_of made) whole)
-made_alike (Ok made) needed part whole root new same alike =
-    subst (λ t. AreAlike needed t whole) (sym (new.0 ∙ same)) alike
-made_alike (Err error) needed part whole root new same alike = tt
 
 -- ---- the part is well formed
 

@@ -1,5 +1,5 @@
 // The part of a request's data that is needed.
-ghost use Rattle.std.specs.Prelude.{◌≡◌, ◌≤◌, IfOk, OnOk, IfErr, IfSome, string_bytes, option_copied};
+ghost use Rattle.std.specs.Prelude.{◌≡◌, ◌≤◌, IfOk, IfSome, string_bytes, option_copied};
 ghost use Rattle.std.specs.Str.Lossy.{utf8_lossy};
 ghost use Rattle.data_tree.specs.Tree.{fields, view};
 ghost use Rattle.data_tree.specs.Json.{size};
@@ -7,7 +7,7 @@ ghost use Rattle.data_tree.specs.RequestData.{root_of};
 ghost use Rattle.data_tree.specs.WellFormed.{IsWellFormed};
 ghost use Rattle.needed_data.specs.Needed.{AreAlike};
 ghost use Rattle.request_data.specs.Part.{kept, part_tree};
-ghost use Rattle.request_data.specs.RequestTree.{json_tree, request_fields, request_tree, IsRefusal};
+ghost use Rattle.request_data.specs.RequestTree.{json_tree, request_fields, request_tree};
 
 use crate::fields::{
     push_base_url, push_body, push_cookies, push_headers, push_host, push_path, push_path_segments,
@@ -15,7 +15,7 @@ use crate::fields::{
 };
 use crate::object::Object;
 use data_tree::data::Data;
-use data_tree::request_data::{DataError, RequestData, SIZE_LIMIT};
+use data_tree::request_data::{RequestData, SIZE_LIMIT};
 use json_bridge::read::data_of_json;
 use mock_request::body::body_text;
 use mock_request::snapshot::Snapshot;
@@ -23,50 +23,29 @@ use needed_data::needed::Needed;
 use path_template::path_template::PathTemplate;
 use std::alloc::{AllocError, Global};
 
-// The names of a request's fields.
-const FIELDS: [&str; 12] = [
-    "baseUrl",
-    "body",
-    "cookies",
-    "headers",
-    "host",
-    "method",
-    "path",
-    "pathSegments",
-    "port",
-    "query",
-    "scheme",
-    "url",
-];
+// Templates seldom look at more fields of a request. Room for more is made as they come.
+const USUAL_FIELDS: usize = 2;
 
-/// The part of a request's data that is needed, where it is within `RequestData`'s limit. What isn't needed isn't
-/// computed. A path template that the path matches names segments of it, in the fields of `request.path`.
+/// The part of a request's data that is needed, where the whole is within `RequestData`'s limit. What isn't needed isn't
+/// made. A path template that the path matches names segments of it, in the fields of `request.path`.
 pub fn part_of_data(
     alloc: Global,
     snapshot: &Snapshot,
     template: Option<&PathTemplate>,
     needed: &Needed<'_>,
-) -> Result<RequestData, DataError>
+) -> Result<RequestData, AllocError>
+    requires { size (request_tree snapshot.now (option_copied template)) ≤ SIZE_LIMIT }
     ensures tree { IfOk result (λ made.
         root_of made ≡ part_tree needed.now snapshot.now (option_copied template.entry)) }
     ensures alike { IfOk result (λ made.
         AreAlike needed.now (root_of made) (request_tree snapshot.now (option_copied template.entry))) }
-    ensures within { OnOk result
-        (size (part_tree needed.now snapshot.now (option_copied template.entry)) ≤ SIZE_LIMIT) }
-    ensures well_formed { IfOk result (λ made. IsWellFormed (root_of made)) }
-    ensures refusal { IfErr result (IsRefusal (part_tree needed.now snapshot.now (option_copied template.entry))) }
-
-    // So where the data as a whole is within the limit, the part is.
-    ensures smaller { size (part_tree needed.now snapshot.now (option_copied template.entry))
-        ≤ size (request_tree snapshot.now (option_copied template.entry)) }
 {
-    let Ok(root) = root(alloc, snapshot, template, needed) else {
-        return Err(DataError::OutOfMemory);
-    };
-    RequestData::new(root)
+    let root = root(alloc, snapshot, template, needed)?;
+    Ok(RequestData::within_limit(root))
 }
 
-fn root(
+/// The root of that part.
+pub(crate) fn root(
     alloc: Global,
     snapshot: &Snapshot,
     template: Option<&PathTemplate>,
@@ -115,7 +94,7 @@ fn request(
     ensures { IfOk result (λ made.
         view made ≡ fields (kept needed.now (request_fields snapshot.now (option_copied template.entry)))) }
 {
-    let mut made = Object::with_room(alloc, field_count(needed))?;
+    let mut made = Object::with_room(alloc, USUAL_FIELDS)?;
     push_base_url(alloc, &mut made, needed, snapshot)?;
     push_body(alloc, &mut made, needed, snapshot, body)?;
     push_cookies(alloc, &mut made, needed, snapshot)?;
@@ -129,15 +108,4 @@ fn request(
     push_text(&mut made, needed, "scheme", "http")?;
     push_text(&mut made, needed, "url", snapshot.url())?;
     Ok(made.into_data())
-}
-
-// How many fields of the request are needed: the room that is taken for them.
-fn field_count(needed: &Needed<'_>) -> usize {
-    let mut count: usize = 0;
-    for name in FIELDS {
-        if needed.has(name) {
-            count = count.saturating_add(1);
-        }
-    }
-    count
 }

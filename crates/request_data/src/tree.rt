@@ -5,7 +5,7 @@ ghost use Rattle.data_tree.specs.RequestData.{root_of};
 ghost use Rattle.data_tree.specs.WellFormed.{IsWellFormed};
 ghost use Rattle.request_data.specs.RequestTree.{request_tree, IsRefusal};
 
-use crate::part::part_of_data;
+use crate::part::root;
 use data_tree::request_data::{DataError, RequestData, SIZE_LIMIT};
 use mock_request::snapshot::Snapshot;
 use needed_data::needed::Needed;
@@ -27,5 +27,8 @@ pub fn request_data(
     // No step at all finds the whole.
     let mut needed = Needed::new();
     needed.add_steps(&[]);
-    part_of_data(alloc, snapshot, template, &needed)
+    let Ok(root) = root(alloc, snapshot, template, &needed) else {
+        return Err(DataError::OutOfMemory);
+    };
+    RequestData::new(root)
 }

@@ -82,11 +82,8 @@ fn reply_over_part(
         status headers.now body.now) }
 {
     let needed = needed_by(headers, body);
-    match part_of_data(alloc, request, template, &needed) {
-        Ok(part) => rendered_reply(alloc, status, headers, body, &part),
-        Err(DataError::TooLarge(_part)) => unreachable!(),
-        Err(DataError::OutOfMemory) => Err(AllocError),
-    }
+    let part = part_of_data(alloc, request, template, &needed)?;
+    rendered_reply(alloc, status, headers, body, &part)
 }
 
 // What the templates look at.
