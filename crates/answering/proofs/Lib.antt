@@ -1,3 +1,3 @@
-mod PlainLemmas
+mod HeaderLemmas
 mod ResultLemmas
 mod ServeLemmas

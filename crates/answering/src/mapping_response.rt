@@ -1,20 +1,25 @@
 // The response of a mapping.
 ghost use Rattle.std.specs.Prelude.{IfOk};
 ghost use Rattle.answering.specs.Inner.Sent.{HasReply};
+ghost use Rattle.stub_response.specs.Prepared.{IsPrepared};
 ghost use Rattle.stub_response.specs.Response.{IsResponse};
+ghost use Rattle.stub_response.specs.declared.prepared.Prepared.TheVariants.{Headers};
 
-use crate::response::{response_of, response_with};
+use crate::response::{error_response, response_of, response_with};
 use bytes::Bytes;
-use http::Response;
+use error_code::error_code::ErrorCode;
+use http::{HeaderMap, Response};
 use http_body_util::Full;
 use mapping_model::mapping_spec::MappingSpec;
 use mock_request::snapshot::Snapshot;
 use request_match::shared_spec::SharedSpec;
 use std::alloc::{AllocError, Global};
 use stub_response::limits::Limits;
-use stub_response::respond::respond;
+use stub_response::prepared::Prepared;
+use stub_response::respond::{respond, respond_body};
 
-/// The response of a mapping for a request. One without templates shares the bytes of what was made once of the mapping.
+/// The response of a mapping for a request. What was made once with the mapping, all of the response or its headers, is
+/// shared; the rest is made for the request.
 pub(crate) fn mapping_response(
     alloc: Global,
     mapping: &SharedSpec,
@@ -23,13 +28,18 @@ pub(crate) fn mapping_response(
 ) -> Result<Response<Full<Bytes>>, AllocError>
     ensures { IfOk result (HasReply (IsResponse limits mapping.now request.now)) }
 {
-    let Some(plain) = mapping.plain() else {
-        return templated_response(alloc, mapping.spec(), request, limits);
-    };
-    // Neither copies a byte.
-    let headers = plain.headers.clone()?;
-    let body = plain.body.clone()?;
-    Ok(response_with(plain.status, headers, body))
+    match mapping.prepared() {
+        Prepared::Response(plain) => {
+            // Neither copies a byte.
+            let headers = plain.headers.clone()?;
+            let body = plain.body.clone()?;
+            Ok(response_with(plain.status, headers, body))
+        }
+        Prepared::Headers(headers) => {
+            templated_body_response(alloc, mapping.spec(), headers, request, limits)
+        }
+        Prepared::Nothing => templated_response(alloc, mapping.spec(), request, limits),
+    }
 }
 
 // Not inlined: a function clears all its locals when it is entered, and a plain response needs none of these.
@@ -44,4 +54,23 @@ fn templated_response(
 {
     let reply = respond(alloc, mapping, request, limits)?;
     response_of(alloc, reply)
+}
+
+// The headers were made before. Not inlined, as `templated_response`.
+#[inline(never)]
+fn templated_body_response(
+    alloc: Global,
+    mapping: &MappingSpec,
+    headers: &HeaderMap,
+    request: &Snapshot,
+    limits: Limits,
+) -> Result<Response<Full<Bytes>>, AllocError>
+    requires { IsPrepared mapping.now.response (Headers headers.now) }
+    ensures { IfOk result (HasReply (IsResponse limits mapping.now request.now)) }
+{
+    let status = mapping.response.response().status.code();
+    match respond_body(alloc, mapping, request, limits)? {
+        Some(body) => Ok(response_with(status, headers.clone()?, body)),
+        None => error_response(alloc, 500, ErrorCode::OverBudget),
+    }
 }

@@ -4,17 +4,16 @@ ghost use Rattle.answering.specs.Reply.{IsResponseOf, content, response_status};
 ghost use Rattle.http.specs.Response.{head_of, body_of};
 ghost use Rattle.http.specs.declared.version.TheConstants.Version.{HTTP_11};
 ghost use Rattle.stub_response.specs.ErrorReply.{error_reply};
-ghost use Rattle.stub_response.specs.Headers.{headers_of};
 
 use bytes::Bytes;
 use error_code::error_code::ErrorCode;
 use http::response::Parts;
 use http::{HeaderMap, Response, StatusCode, Version};
 use http_body_util::Full;
-use mapping_model::reply::{Reply, ReplyHeader};
+use mapping_model::reply::Reply;
 use std::alloc::{AllocError, Global};
 use stub_response::error_reply::error_reply;
-use stub_response::headers::{empty_headers, push_header};
+use stub_response::headers::header_map;
 
 /// The response that reports the error, with that status.
 // Not inlined, as it is seldom called.
@@ -64,15 +63,4 @@ fn response_status(status: u16) -> StatusCode
         Ok(status) => status,
         Err(_invalid) => StatusCode::INTERNAL_SERVER_ERROR,
     }
-}
-
-fn header_map(alloc: Global, headers: Vec<ReplyHeader>) -> Result<HeaderMap, AllocError>
-    ensures { IfOk result (λ made. made ≡ headers_of headers.items) }
-{
-    let mut made = empty_headers(alloc, headers.len())?;
-    for header in headers {
-        let ReplyHeader { name, value } = header;
-        push_header(alloc, &mut made, &name, value)?;
-    }
-    Ok(made)
 }

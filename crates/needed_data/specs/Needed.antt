@@ -1,5 +1,5 @@
 -- Which of a request's data is looked at, and when two roots of data are alike in it.
-use Rattle.std.specs.Prelude.{◌≡◌, ℕ, Bool, IsTrue, ◌||◌, List, [], ◌∷◌, codes}
+use Rattle.std.specs.Prelude.{◌≡◌, ℕ, Bool, false, IsTrue, ◌||◌, List, [], ◌∷◌, codes}
 use Rattle.std.specs.List.{list_any}
 use Rattle.std.specs.Str.{bytes_eq}
 use Rattle.data_tree.specs.Tree.{Tree}
@@ -12,6 +12,9 @@ pub record NeededData : Type 0 where
   pub everything : Bool
   pub json : Bool
   pub names : List (List ℕ)
+
+abbrev pub nothing : NeededData
+nothing = record { everything = false; json = false; names = [] }
 
 -- the paths to the body's data and to a field of the request
 abbrev pub json_path : List Step

@@ -1,9 +1,9 @@
 //! The data that is looked at.
-ghost use Rattle.std.specs.Prelude.{◌≡◌, false, true, [], ◌∷◌, IfSome, codes};
+ghost use Rattle.std.specs.Prelude.{◌≡◌, ◌↔◌, false, true, [], ◌∷◌, IfSome, IsTrue, codes};
 ghost use Rattle.std.specs.List.{list_any};
 ghost use Rattle.std.specs.Str.{bytes_eq};
 ghost use Rattle.data_tree.specs.declared.step.Step.TheVariants.{Name};
-ghost use Rattle.needed_data.specs.Needed.{is_json_needed, is_needed, json_path, field_path, Includes, Covers};
+ghost use Rattle.needed_data.specs.Needed.{is_json_needed, is_needed, nothing, json_path, field_path, Includes, Covers};
 
 use arrayvec::ArrayVec;
 use data_tree::step::Step;
@@ -98,6 +98,13 @@ impl<'a> Needed<'a> {
         } else {
             self.names.push(name);
         }
+    }
+
+    /// Whether nothing is needed.
+    pub fn is_empty(&self) -> bool
+        ensures { IsTrue result ↔ (self.now ≡ nothing) }
+    {
+        !self.everything && !self.json && self.names.is_empty()
     }
 
     /// Whether the body's data is needed.

@@ -1,24 +1,23 @@
 // A mapping as it was written, for those who keep it.
-ghost use Rattle.std.specs.Option.{option_copied};
 ghost use Rattle.std.specs.Prelude.{◌≡◌, ◌↔◌, IfOk, IsTrue};
-ghost use Rattle.stub_response.specs.PlainResponse.{IsPlain};
+ghost use Rattle.stub_response.specs.Prepared.{IsPrepared};
 
 use mapping_model::mapping_spec::MappingSpec;
 use plain_text::plain::{Same, TryClone};
 use std::alloc::{AllocError, Global};
 use std::marker::Model;
 use std::sync::Arc;
-use stub_response::plain_response::PlainResponse;
+use stub_response::prepared::Prepared;
 
-/// A mapping as it was written, which contracts see as it is: a copy shares it. What all its responses have, if they have
-/// no templates, is made once with it.
+/// A mapping as it was written, which contracts see as it is: a copy shares it. What its responses have in common is made
+/// once with it.
 pub struct SharedSpec {
     kept: Arc<Kept>,
 }
 
 struct Kept {
     spec: MappingSpec,
-    plain: Option<PlainResponse>,
+    prepared: Prepared,
 }
 
 // Written out, so that a caller's proof sees one call and not the drop of each field.
@@ -26,7 +25,7 @@ impl Drop for Kept {
     fn drop(self) {
         let Kept {
             spec: _spec,
-            plain: _plain,
+            prepared: _prepared,
         } = self;
     }
 }
@@ -34,22 +33,22 @@ impl Drop for Kept {
 impl Model for SharedSpec {
     ghost use Rattle.std.specs.Arc.{arc_value};
     ghost use Rattle.mapping_model.specs.declared.mapping_spec.MappingSpec.{MappingSpec};
-    ghost use Rattle.stub_response.specs.PlainResponse.{IsPlain};
+    ghost use Rattle.stub_response.specs.Prepared.{IsPrepared};
 
     ghost Value = { MappingSpec };
 
     ghost view = { λ s. (arc_value s.kept).spec };
 
-    ghost invariant = { λ s. IsPlain (arc_value s.kept).spec.response (arc_value s.kept).plain };
+    ghost invariant = { λ s. IsPrepared (arc_value s.kept).spec.response (arc_value s.kept).prepared };
 }
 
 impl SharedSpec {
     pub fn new(alloc: Global, spec: MappingSpec) -> Result<SharedSpec, AllocError>
         ensures { IfOk result (λ shared. shared ≡ spec) }
     {
-        let plain = PlainResponse::of(alloc, spec.response.response())?;
+        let prepared = Prepared::of(alloc, spec.response.response())?;
         Ok(SharedSpec {
-            kept: Arc::new(alloc, Kept { spec, plain })?,
+            kept: Arc::new(alloc, Kept { spec, prepared })?,
         })
     }
 
@@ -59,11 +58,11 @@ impl SharedSpec {
         &self.kept.spec
     }
 
-    /// What all its responses have, if they have no templates.
-    pub fn plain(&self) -> Option<&PlainResponse>
-        ensures { IsPlain self.now.response (option_copied result) }
+    /// What its responses have in common.
+    pub fn prepared(&self) -> &Prepared
+        ensures { IsPrepared self.now.response result.now }
     {
-        self.kept.plain.as_ref()
+        &self.kept.prepared
     }
 
     /// Takes no memory.

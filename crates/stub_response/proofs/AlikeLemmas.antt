@@ -1,9 +1,9 @@
 -- What templates give over the part of a request's data that they look at is what they give over the whole.
-use Rattle.std.proofs.Common.{◌≡◌, ℕ, List, [], ◌∷◌, ◌++◌, ◌≤◌, All, length, map, refl, sym, subst, take, Option}
+use Rattle.std.proofs.Common.{◌≡◌, ℕ, List, [], ◌∷◌, ◌++◌, All, map, ap, refl, sym, subst, Option}
 use Rattle.std.specs.List.{AllZip}
-use Rattle.std.proofs.lemmas.List.{append-nil, take_all}
+use Rattle.std.proofs.lemmas.List.{append-nil}
 use Rattle.std.proofs.lemmas.List.Elements.{All-head, All-tail, All-push}
-use Rattle.data_tree.specs.LookUp.{EmptyNameFindsNothing}
+use Rattle.data_tree.specs.LookUp.{EmptyNameFindsNothing, at}
 use Rattle.data_tree.specs.Tree.{Tree}
 use Rattle.mapping_model.specs.declared.header_lines.HeaderLine.{HeaderLine}
 use Rattle.mapping_model.specs.declared.reply.Reply.{Reply}
@@ -11,7 +11,7 @@ use Rattle.mapping_model.specs.declared.reply.ReplyHeader.{ReplyHeader}
 use Rattle.mapping_model.specs.declared.response_spec.Body.{Body}
 use Rattle.mapping_model.specs.declared.response_spec.Body.TheVariants.{Empty, Text, Json, Base64}
 use Rattle.mock_request.specs.Request.{Request}
-use Rattle.needed_data.specs.Needed.{NeededData, AreAlike, Includes}
+use Rattle.needed_data.specs.Needed.{NeededData, AreAlike, Includes, json_path, field_path, nothing}
 use Rattle.request_data.specs.RequestTree.{request_tree}
 use Rattle.template_machine.proofs.Programs.{renders_alike}
 use Rattle.template_machine.specs.Program.{FindsSame, IsMeant}
@@ -48,7 +48,7 @@ module _ (r r' : Tree) (clean : EmptyNameFindsNothing r') where
     value = h.value;
   }
 
-  alike_body : (content : Body Source) (bytes : List ℕ) → All (λ t. FindsSame t r r') (body_templates content) →
+  pub alike_body : (content : Body Source) (bytes : List ℕ) → All (λ t. FindsSame t r r') (body_templates content) →
       IsBody (Rendered r) content bytes → IsBody (Rendered r') content bytes
   alike_body Empty bytes finds h = h
   alike_body (Text text) bytes finds h = alike_rendered text bytes (All-head (λ t. FindsSame t r r') text [] finds) h
@@ -85,13 +85,28 @@ pub needed_more : (more less : NeededData) (templates : List Source) (template :
 needed_more more less templates template includes before finds r r' alike =
     All-push (λ t. FindsSame t r r') templates template (before r r' (includes r r' alike)) (finds r r' alike)
 
--- a body that is no template looks at nothing
-pub lines_alone : (needed : NeededData) (lines : List (HeaderLine Source)) (content : Body Source) (i : ℕ) →
-    body_templates content ≡ [] → length lines ≤ i →
-    IsNeededBy needed (map (λ (line : HeaderLine Source). line.value) (take i lines)) →
-    IsNeededBy needed (templates_of lines content)
-lines_alone needed lines content i none ended h =
-    let value = λ (line : HeaderLine Source). line.value in
-    subst (λ ts. IsNeededBy needed (map value lines ++ ts)) (sym none)
-    (subst (IsNeededBy needed) (sym (append-nil (map value lines)))
-    (subst (λ (ls : List (HeaderLine Source)). IsNeededBy needed (map value ls)) (take_all i lines ended) h))
+pub same_alike : (needed : NeededData) (r r' : Tree) → r ≡ r' → AreAlike needed r r'
+same_alike needed r r' same = record {
+  everything = λ h. same;
+  json = λ h. ap (at json_path) same;
+  fields = λ name h. ap (at (field_path name)) same;
+}
+
+nothing_alike : (r r' : Tree) → AreAlike nothing r r'
+nothing_alike r r' = record {
+  everything = λ h. absurd (cc h);
+  json = λ h. absurd (cc h);
+  fields = λ name h. absurd (cc h);
+}
+
+-- lines whose templates look at nothing give over each request what they give over any data
+pub lines_everywhere : (needed : NeededData) (r : Tree) (lines : List (HeaderLine Source)) (headers : List ReplyHeader) →
+    needed ≡ nothing → IsNeededBy needed (map (λ line. line.value) lines) → AllZip (IsLine (Rendered r)) lines headers →
+    (request : Request) (template : Option (List ℕ)) →
+    AllZip (IsLine (Rendered (request_tree request template))) lines headers
+lines_everywhere needed r lines headers none looks h request template =
+    let whole = request_tree request template in
+    let values = map (λ (line : HeaderLine Source). line.value) lines in
+    let finds = subst (λ n. IsNeededBy n values) none looks r whole (nothing_alike r whole) in
+    (alike_lines r whole (no_empty_name request template) lines headers []
+    (subst (All (λ t. FindsSame t r whole)) (sym (append-nil values)) finds) h).0

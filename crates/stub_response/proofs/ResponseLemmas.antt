@@ -1,5 +1,5 @@
 -- What was rendered is what is meant.
-use Rattle.std.proofs.Common.{◌≡◌, ◌<◌, inl, inr, ℕ, List, Option, sym, subst, arith}
+use Rattle.std.proofs.Common.{◌≡◌, ◌<◌, inl, inr, ℕ, List, Option, refl, sym, subst, arith}
 use Rattle.data_tree.specs.Json.{size}
 use Rattle.data_tree.specs.Tree.{Tree}
 use Rattle.data_tree.specs.declared.request_data.TheConstants.{SIZE_LIMIT}
@@ -17,7 +17,7 @@ use Rattle.request_data.specs.RequestTree.{request_tree}
 use Rattle.stub_response.proofs.ListLemmas.{all_zip_weaker}
 use Rattle.template_tree.specs.Source.{Source}
 use Rattle.stub_response.specs.ErrorReply.{error_reply}
-use Rattle.stub_response.specs.Response.{Giving, IsBody, IsLine, IsMade, IsPathTemplate, IsReplyOf, IsReplyOver, Meant, Rendered}
+use Rattle.stub_response.specs.Response.{Giving, IsBody, IsBodyOf, IsBodyOver, IsLine, IsMade, IsPathTemplate, IsReplyOf, IsReplyOver, Meant, Rendered}
 use Rattle.stub_response.specs.declared.limits.Limits.{Limits}
 
 meant_line :
@@ -66,6 +66,21 @@ reply_over limits matcher status content lines given body request template root 
       root,
       (template, asked, same_root),
       subst (λ ls. IsReplyOver (Rendered root) limits status ls body root reply) same made,
+    )
+
+-- and so the body that was made over it is the body of that reply
+pub body_over :
+    (limits : Limits) (matcher : UrlSpec) (content : Content) (lines given : List (HeaderLine Source))
+    (body : Body Source) (request : Request) (template : Option (List ℕ)) (made : Option (List ℕ))
+    → content ≡ Templated lines body → given ≡ lines → IsPathTemplate matcher template
+    → IsBodyOver (Rendered (request_tree request template)) limits given body (request_tree request template) made
+    → IsBodyOf Rendered limits matcher content request made
+body_over limits matcher content lines given body request template made is same asked over =
+    let root = request_tree request template in
+    subst (λ c. IsBodyOf Rendered limits matcher c request made) (sym is) (
+      root,
+      (template, asked, refl),
+      subst (λ ls. IsBodyOver (Rendered root) limits ls body root made) same over,
     )
 
 -- data over its limit is answered by an error

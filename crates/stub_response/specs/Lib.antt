@@ -4,4 +4,5 @@ pub mod Headers
 pub mod Inner
 pub mod Limits
 pub mod PlainResponse
+pub mod Prepared
 pub mod Response

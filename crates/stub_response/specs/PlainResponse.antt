@@ -1,11 +1,8 @@
 -- What all responses of a mapping without templates have.
-use Rattle.std.specs.Prelude.{◌≡◌, ℕ, List, Option, None, Some}
+use Rattle.std.specs.Prelude.{◌≡◌, ℕ, List}
 use Rattle.mapping_model.specs.declared.header_lines.HeaderLine.{HeaderLine}
 use Rattle.mapping_model.specs.declared.reply.Reply.{Reply}
 use Rattle.mapping_model.specs.declared.response_spec.Body.{Body}
-use Rattle.mapping_model.specs.declared.response_spec.Content.{Content}
-use Rattle.mapping_model.specs.declared.response_spec.Content.TheVariants.{Plain, Templated}
-use Rattle.mapping_model.specs.declared.response_spec.ResponseSpec.{ResponseSpec}
 use Rattle.stub_response.specs.Headers.{headers_of}
 use Rattle.stub_response.specs.Response.{IsMade, Itself}
 use Rattle.stub_response.specs.declared.plain_response.PlainResponse.{PlainResponse}
@@ -19,12 +16,3 @@ pub record HoldsReply (reply : Reply) (made : PlainResponse) : Type 0 where
 -- it holds the reply with this status, these lines and this body
 abbrev pub HoldsLines : ℕ → List (HeaderLine (List ℕ)) → Body (List ℕ) → PlainResponse → Type 0
 HoldsLines status lines content made = (reply : Reply) × IsMade Itself status lines content reply × HoldsReply reply made
-
--- what the responses of this content have: there is none where it has templates
-abbrev pub IsPlainOf : ℕ → Content → Option PlainResponse → Type 0
-IsPlainOf status (Plain lines content) (Some made) = HoldsLines status lines content made
-IsPlainOf status (Plain lines content) None = ⊥
-IsPlainOf status (Templated lines content) made = made ≡ None
-
-abbrev pub IsPlain : ResponseSpec → Option PlainResponse → Type 0
-IsPlain response made = IsPlainOf response.status response.content made

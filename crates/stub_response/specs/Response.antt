@@ -97,6 +97,19 @@ IsReplyOf Gives limits matcher status (Plain lines content) request reply =
 IsReplyOf Gives limits matcher status (Templated lines content) request reply =
     (root : Tree) × IsDataFor matcher request root × IsReplyOver (Gives root) limits status lines content root reply
 
+-- the body of that reply alone, and none where it is an error
+abbrev pub IsBodyOver : Giving Source → Limits → List (HeaderLine Source) → Body Source → Tree → Option (List ℕ) → Type 0
+IsBodyOver Gives limits lines content root (Some bytes) =
+    IsWithin limits (templates_of lines content) root × IsBody Gives content bytes
+IsBodyOver Gives limits lines content root None = ¬ (IsWithin limits (templates_of lines content) root)
+
+-- the body of the reply to a request: a text as it is, or what a template gives over the request's data
+abbrev pub IsBodyOf : (Tree → Giving Source) → Limits → UrlSpec → Content → Request → Option (List ℕ) → Type 0
+IsBodyOf Gives limits matcher (Plain lines content) request (Some bytes) = IsBody Itself content bytes
+IsBodyOf Gives limits matcher (Plain lines content) request None = ⊥
+IsBodyOf Gives limits matcher (Templated lines content) request made =
+    (root : Tree) × IsDataFor matcher request root × IsBodyOver (Gives root) limits lines content root made
+
 -- a template gives what it means
 abbrev pub Meant : Tree → Giving Source
 Meant root template text = IsMeant template root text
@@ -111,6 +124,11 @@ pub record Rendered (root : Tree) (template : Source) (text : List ℕ) : Type 0
   pub safe : IsSafe program.code
   pub steps : ℕ
   pub ran : Runs program.code root steps text
+
+-- the body of a mapping's response for a request, with the runs that wrote it
+abbrev pub IsRenderedBody : Limits → MappingSpec → Request → Option (List ℕ) → Type 0
+IsRenderedBody limits mapping request made =
+    IsBodyOf Rendered limits mapping.request.url mapping.response.content request made
 
 -- the response of a mapping for a request
 abbrev pub IsResponse : Limits → MappingSpec → Request → Reply → Type 0

@@ -1,17 +1,30 @@
 // Headers as `http` holds them.
 ghost use Rattle.std.specs.Prelude.{◌≡◌, [], IfOk, OnOk};
-ghost use Rattle.stub_response.specs.Headers.{with_header};
+ghost use Rattle.stub_response.specs.Headers.{headers_of, with_header};
 
 use http_header::{HeaderMap, HeaderName, HeaderNameError, HeaderValue, HeaderValueError};
 use mapping_model::field_name::FieldName;
+use mapping_model::reply::ReplyHeader;
 use plain_text::octets::Octets;
 use std::alloc::{AllocError, Global};
 
 // Room for more names than these is made as they come.
 const RESERVED: usize = 128;
 
+/// The headers of a reply. Values are moved, and not copied.
+pub fn header_map(alloc: Global, headers: Vec<ReplyHeader>) -> Result<HeaderMap, AllocError>
+    ensures { IfOk result (λ made. made ≡ headers_of headers.items) }
+{
+    let mut made = empty_headers(alloc, headers.len())?;
+    for header in headers {
+        let ReplyHeader { name, value } = header;
+        push_header(alloc, &mut made, &name, value)?;
+    }
+    Ok(made)
+}
+
 /// No headers, with room for so many names.
-pub fn empty_headers(alloc: Global, names: usize) -> Result<HeaderMap, AllocError>
+pub(crate) fn empty_headers(alloc: Global, names: usize) -> Result<HeaderMap, AllocError>
     ensures { IfOk result (λ made. made ≡ []) }
 {
     match HeaderMap::with_capacity(alloc, names.min(RESERVED)) {
@@ -21,7 +34,7 @@ pub fn empty_headers(alloc: Global, names: usize) -> Result<HeaderMap, AllocErro
 }
 
 /// One more header, unless `http` can't hold it. A full map counts as no memory.
-pub fn push_header(
+pub(crate) fn push_header(
     alloc: Global,
     headers: &mut HeaderMap,
     name: &FieldName,

@@ -2,14 +2,14 @@
 ghost use Rattle.std.specs.Prelude.{◌≡◌, IfOk, map};
 ghost use Rattle.stub_response.specs.Headers.{headers_of};
 ghost use Rattle.stub_response.specs.Inner.Plain.{plain_header};
-ghost use Rattle.stub_response.specs.PlainResponse.{HoldsLines, IsPlain};
+ghost use Rattle.stub_response.specs.PlainResponse.{HoldsLines};
 
 use crate::headers::{empty_headers, push_header};
 use crate::plain::{plain_body, plain_value};
 use bytes::Bytes;
 use http_header::HeaderMap;
 use mapping_model::header_lines::HeaderLine;
-use mapping_model::response_spec::{Body, Content, ResponseSpec};
+use mapping_model::response_spec::Body;
 use mapping_model::status::Status;
 use plain_text::text::Text;
 use std::alloc::{AllocError, Global};
@@ -22,23 +22,8 @@ pub struct PlainResponse {
     pub body: Bytes,
 }
 
-impl PlainResponse {
-    /// What the responses of this specification have; `None` where it has templates.
-    pub fn of(alloc: Global, response: &ResponseSpec) -> Result<Option<PlainResponse>, AllocError>
-        ensures { IfOk result (IsPlain response.now) }
-    {
-        match &response.content {
-            Content::Plain { headers, body } => {
-                let made = made_of(alloc, response.status, headers.as_slice(), body)?;
-                Ok(Some(made))
-            }
-            Content::Templated { .. } => Ok(None),
-        }
-    }
-}
-
-// Copies each value and the body once.
-fn made_of(
+/// What they have: status, headers in their order, and body. Copies each value and the body once.
+pub(crate) fn made_of(
     alloc: Global,
     status: Status,
     headers: &[HeaderLine<Text>],

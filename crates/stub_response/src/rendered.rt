@@ -32,7 +32,8 @@ pub(crate) fn rendered_reply(
     })
 }
 
-fn rendered_headers(
+/// The headers that templates give over the data, in their order.
+pub(crate) fn rendered_headers(
     alloc: Global,
     headers: &[HeaderLine<TemplateText>],
     request: &RequestData,
@@ -60,7 +61,8 @@ fn rendered_header(
     })
 }
 
-fn rendered_body(
+/// The body that a template gives over the data, or that is there as it is.
+pub(crate) fn rendered_body(
     alloc: Global,
     body: &Body<TemplateText>,
     request: &RequestData,

@@ -1,10 +1,11 @@
 // The response of a mapping for a request.
 ghost use Rattle.std.specs.Prelude.{IfOk};
-ghost use Rattle.stub_response.specs.Response.{IsPathTemplate, IsReplyOf, IsResponse, IsRendering, Rendered};
+ghost use Rattle.stub_response.specs.Response.{IsBodyOf, IsPathTemplate, IsRenderedBody, IsReplyOf, IsResponse, IsRendering, Rendered};
 
 use crate::limits::Limits;
-use crate::plain::plain_reply;
-use crate::templated::templated_reply;
+use crate::plain::{plain_body, plain_reply};
+use crate::templated::{templated_body, templated_reply};
+use bytes::Bytes;
 use mapping_model::mapping_spec::MappingSpec;
 use mapping_model::reply::Reply;
 use mapping_model::response_spec::{Content, ResponseSpec};
@@ -29,6 +30,50 @@ pub fn respond(
 {
     let url = &mapping.request.url;
     reply_of(alloc, url, mapping.response.response(), request, limits)
+}
+
+/// The body of that response alone, written by such runs; `None` where it reports an error.
+pub fn respond_body(
+    alloc: Global,
+    mapping: &MappingSpec,
+    request: &Snapshot,
+    limits: Limits,
+) -> Result<Option<Bytes>, AllocError>
+    ensures { IfOk result (IsRenderedBody limits mapping.now request.now) }
+{
+    let url = &mapping.request.url;
+    body_of(
+        alloc,
+        url,
+        &mapping.response.response().content,
+        request,
+        limits,
+    )
+}
+
+fn body_of(
+    alloc: Global,
+    url: &UrlSpec,
+    content: &Content,
+    request: &Snapshot,
+    limits: Limits,
+) -> Result<Option<Bytes>, AllocError>
+    ensures { IfOk result (IsBodyOf Rendered limits url.now content.now request.now) }
+{
+    match content {
+        Content::Plain { body, .. } => Ok(Some(plain_body(alloc, body)?)),
+        Content::Templated { headers, body } => {
+            let template = path_template(alloc, url)?;
+            templated_body(
+                alloc,
+                headers.as_slice(),
+                body,
+                request,
+                template.as_ref(),
+                limits,
+            )
+        }
+    }
 }
 
 fn reply_of(

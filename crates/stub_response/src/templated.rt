@@ -1,16 +1,17 @@
 // Replies of templates, within the limits.
-ghost use Rattle.std.specs.Prelude.{◌≡◌, ◌≤◌, ◌<◌, ◌++◌, [], All, IfOk, IfSome, IfNone, IsTrue, map, option_copied, take};
+ghost use Rattle.std.specs.Prelude.{◌≡◌, ◌≤◌, ◌<◌, IfOk, IfSome, IfNone, IsTrue, option_copied};
 ghost use Rattle.data_tree.specs.Json.{size};
 ghost use Rattle.data_tree.specs.RequestData.{root_of};
-ghost use Rattle.data_tree.specs.Tree.{Tree};
 ghost use Rattle.data_tree.specs.declared.request_data.TheConstants.{SIZE_LIMIT};
 ghost use Rattle.request_data.specs.RequestTree.{request_tree};
-ghost use Rattle.stub_response.specs.Inner.Alike.{IsNeededBy};
-ghost use Rattle.stub_response.specs.Response.{IsMade, IsReplyOver, IsWithin, Rendered, templates_of};
+ghost use Rattle.stub_response.specs.Inner.Alike.{IsDataWithin};
+ghost use Rattle.stub_response.specs.Response.{IsBodyOver, IsReplyOver, IsWithin, Rendered, templates_of};
 
 use crate::error_reply::error_reply;
 use crate::limits::{Limits, keep_to};
-use crate::rendered::rendered_reply;
+use crate::needs::{needed_by, needed_by_body};
+use crate::rendered::{rendered_body, rendered_reply};
+use bytes::Bytes;
 use data_tree::request_data::{DataError, RequestData, SIZE_LIMIT};
 use error_code::error_code::ErrorCode;
 use mapping_model::header_lines::HeaderLine;
@@ -26,8 +27,8 @@ use request_data::size_bound::size_bound;
 use request_data::tree::request_data;
 use std::alloc::{AllocError, Global};
 
-/// The reply of templates over the data of a request, in which a path template names segments of the path. Where it is
-/// plain from the request's length that the templates keep to the limits, no more of the data is made than they look at.
+/// The reply of templates over the data of a request, in which a path template names segments of the path: an error where
+/// they or the data could exceed a limit.
 // Not inlined: a function clears all its locals when it is entered, and a plain response needs none of these.
 #[inline(never)]
 pub(crate) fn templated_reply(
@@ -42,12 +43,29 @@ pub(crate) fn templated_reply(
     ensures { IfOk result (IsReplyOver (Rendered (request_tree request.now (option_copied template.entry)))
         limits status headers.now body.now (request_tree request.now (option_copied template.entry))) }
 {
-    if is_within(limits, headers, body, request, template) {
-        return reply_over_part(alloc, status, headers, body, request, template);
-    }
-    match data_within_limit(alloc, request, template)? {
-        Some(data) => reply_over(alloc, status, headers, body, &data, limits),
+    let needed = needed_by(headers, body);
+    match data_for(alloc, headers, body, request, template, limits, &needed)? {
+        Some(data) => rendered_reply(alloc, status, headers, body, &data),
         None => error_reply(alloc, 500, ErrorCode::OverBudget),
+    }
+}
+
+/// The body of that reply alone; `None` where it is an error.
+pub(crate) fn templated_body(
+    alloc: Global,
+    headers: &[HeaderLine<TemplateText>],
+    body: &Body<TemplateText>,
+    request: &Snapshot,
+    template: Option<&PathTemplate>,
+    limits: Limits,
+) -> Result<Option<Bytes>, AllocError>
+    ensures { IfOk result (IsBodyOver (Rendered (request_tree request.now (option_copied template.entry)))
+        limits headers.now body.now (request_tree request.now (option_copied template.entry))) }
+{
+    let needed = needed_by_body(body);
+    match data_for(alloc, headers, body, request, template, limits, &needed)? {
+        Some(data) => Ok(Some(rendered_body(alloc, body, &data)?)),
+        None => Ok(None),
     }
 }
 
@@ -68,57 +86,30 @@ fn is_within(
     }
 }
 
-// The reply over as much of the request's data as the templates look at.
-fn reply_over_part(
+// The data to render over; none where the request's data or the templates exceed a limit. Where a bound on the data's size
+// shows that they don't, only what is needed of it is made, and else all of it.
+fn data_for(
     alloc: Global,
-    status: Status,
     headers: &[HeaderLine<TemplateText>],
     body: &Body<TemplateText>,
     request: &Snapshot,
     template: Option<&PathTemplate>,
-) -> Result<Reply, AllocError>
-    requires { size (request_tree request.now (option_copied template)) ≤ SIZE_LIMIT }
-    ensures { IfOk result (IsMade (Rendered (request_tree request.now (option_copied template.entry)))
-        status headers.now body.now) }
-{
-    let needed = needed_by(headers, body);
-    let part = part_of_data(alloc, request, template, &needed)?;
-    rendered_reply(alloc, status, headers, body, &part)
-}
-
-// What the templates look at.
-fn needed_by<'a>(
-    headers: &'a [HeaderLine<TemplateText>],
-    body: &'a Body<TemplateText>,
-) -> Needed<'a>
-    ensures { IsNeededBy result (templates_of headers.now body.now) }
-{
-    let mut needed = Needed::new();
-    for header in headers {
-        header.value.program().add_needed(&mut needed);
-    }
-    match body {
-        Body::Text(template) => template.program().add_needed(&mut needed),
-        Body::Empty | Body::Json(_) | Body::Base64(_) => {}
-    }
-    needed
-}
-
-fn reply_over(
-    alloc: Global,
-    status: Status,
-    headers: &[HeaderLine<TemplateText>],
-    body: &Body<TemplateText>,
-    request: &RequestData,
     limits: Limits,
-) -> Result<Reply, AllocError>
-    ensures { IfOk result (IsReplyOver (Rendered (root_of request.now)) limits status headers.now body.now
-        (root_of request.now)) }
+    needed: &Needed<'_>,
+) -> Result<Option<RequestData>, AllocError>
+    ensures { IfOk result (IsDataWithin limits (templates_of headers.now body.now) needed.now
+        (request_tree request.now (option_copied template.entry))) }
 {
-    if keep_to(limits, headers, body, request.size()) {
-        rendered_reply(alloc, status, headers, body, request)
+    if is_within(limits, headers, body, request, template) {
+        return Ok(Some(part_of_data(alloc, request, template, needed)?));
+    }
+    let Some(data) = data_within_limit(alloc, request, template)? else {
+        return Ok(None);
+    };
+    if keep_to(limits, headers, body, data.size()) {
+        Ok(Some(data))
     } else {
-        error_reply(alloc, 500, ErrorCode::OverBudget)
+        Ok(None)
     }
 }
 

@@ -1,19 +1,23 @@
-use Rattle.std.proofs.Common.{ap, ◌∙◌}
+use Rattle.std.proofs.Common.{ap, subst, ◌∙◌}
 use Rattle.answering.specs.Reply.{response_status}
-use Rattle.answering.proofs.PlainLemmas.{headers_same, is_response}
+use Rattle.answering.proofs.HeaderLemmas.{headers_same}
 use Rattle.answering.proofs.mapping_response.mapping_response.Goals as goal
+use Rattle.stub_response.proofs.PreparedLemmas.{is_response}
+use Rattle.stub_response.specs.Prepared.{IsPrepared}
 
-pub returns : goal.returns
-returns c =
-    let plain = c.in-Some.plain.now in
-    let is = is_response c.args.limits c.args.mapping.now c.args.request.now plain c.in-Some.ensures in (
+pub returns-in_ok-body-in-Response : goal.returns-in_ok-body-in-Response
+returns-in_ok-body-in-Response c =
+    let plain = c.in-Response.plain in
+    let prepared = subst (IsPrepared c.args.mapping.now.response) c.in-Response.is c.prepared.ensures in
+    let is = is_response c.args.limits c.args.mapping.now c.args.request.now plain prepared in (
       is.0,
       is.1,
       record {
         version = c.response_with.ensures.version;
         status = c.response_with.ensures.status ∙ ap response_status is.2.status;
         headers = c.response_with.ensures.headers
-            ∙ headers_same plain.headers c.in_ok-headers.headers c.in_ok-headers.ensures.cases ∙ is.2.headers;
-        body = c.response_with.ensures.body ∙ c.in_ok-body.ensures.cases ∙ is.2.body;
+            ∙ headers_same plain.headers c.in_ok-headers-in-Response.headers c.in_ok-headers-in-Response.ensures.cases
+            ∙ is.2.headers;
+        body = c.response_with.ensures.body ∙ c.in_ok-body-in-Response.ensures.cases ∙ is.2.body;
       },
     )

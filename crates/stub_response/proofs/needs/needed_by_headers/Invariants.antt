@@ -2,7 +2,7 @@ use Rattle.std.proofs.Common.{map, take}
 use Rattle.mapping_model.specs.declared.header_lines.HeaderLine.{HeaderLine}
 use Rattle.template_tree.specs.Source.{Source}
 use Rattle.stub_response.specs.Inner.Alike.{IsNeededBy}
-use Rattle.stub_response.proofs.templated.needed_by.Given as goal
+use Rattle.stub_response.proofs.needs.needed_by_headers.Given as goal
 
 abbrev pub invariant-loop-header : goal.invariant-loop-header
 invariant-loop-header l =

@@ -1,7 +1,7 @@
 use Rattle.std.proofs.Common.{◌≡◌, fold, length}
 use Rattle.std.specs.Vec.Iter.{into_iter_items, into_iter_len}
 use Rattle.stub_response.specs.Headers.{headers_of, with_header}
-use Rattle.answering.proofs.response.header_map.Given as goal
+use Rattle.stub_response.proofs.headers.header_map.Given as goal
 
 abbrev pub invariant-loop-header : goal.invariant-loop-header
 invariant-loop-header l = record {
