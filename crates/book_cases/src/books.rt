@@ -2,13 +2,13 @@
 //! row is run twice: by the calls that have a name each, and by those that a lock makes (`serve_read`, `apply_shared`)
 //! or by `apply`.
 
-use crate::book_answers::{
+use case_books::answers::{
     add_applied, add_error, add_mapping, add_served, event_word, status_word,
 };
-use crate::book_copies::are_copied;
-use crate::book_inputs::input;
-use crate::book_mappings::{id, ready};
-use crate::book_words::add_number;
+use case_books::copies::are_copied;
+use case_books::inputs::input;
+use case_books::mappings::{id, ready};
+use case_books::words::add_number;
 use case_requests::requests::request_of;
 use case_table::cells::Cells;
 use case_table::row::Row;

@@ -1,11 +1,6 @@
 //! Compares what books and scenarios do with the tables in `data/`.
 #![tactic(auto)]
 
-mod book_answers;
-mod book_copies;
-mod book_inputs;
-mod book_mappings;
-mod book_words;
 mod books;
 mod scenarios;
 mod table;

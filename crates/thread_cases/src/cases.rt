@@ -2,11 +2,11 @@
 ghost use Rattle.std.specs.Prelude.{◌≡◌, ◌≤◌};
 
 use crate::cleared::cleared;
-use crate::scripts::scripts;
 use crate::two_threads::two_threads;
 use crate::versions::versions;
 use case_calls::books;
 use case_table::cells::Cells;
+use case_worlds::scripts::scripts;
 use shared_book::origin::Origin;
 use shared_book::seat::Seat;
 use shared_book::shared_book::SharedBook;

@@ -4,13 +4,10 @@
 
 mod cases;
 mod cleared;
-mod scripts;
-mod steps;
 mod table;
 mod threads;
 mod two_threads;
 mod versions;
-mod worlds;
 
 use case_table::compare::compare_all;
 use cases::{Case, play};

@@ -1,7 +1,7 @@
 //! What a row asks of a book: a word and what it is about.
 
-use crate::book_mappings::{id, ready};
-use crate::book_words::text_of;
+use crate::mappings::{id, ready};
+use crate::words::text_of;
 use case_requests::exchanges::exchange_of;
 use case_table::words::{number, parts};
 use plain_text::items::Items;

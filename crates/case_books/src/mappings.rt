@@ -1,7 +1,7 @@
 //! The mappings of a row: a name, a method (`ANY` for each), a URL, and further words as `priority=1`, `id=7`,
 //! `header=X:1`, `scenario=S`, `requires=Started`, `moves=two`.
 
-use crate::book_words::text_of;
+use crate::words::text_of;
 use case_table::words::{number, parts, value};
 use mapping_model::header_lines::HeaderLines;
 use mapping_model::mapping_id::MappingId;

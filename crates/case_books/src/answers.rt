@@ -1,6 +1,6 @@
 //! How what a book answers is written into cells.
 
-use crate::book_words::add_number;
+use crate::words::add_number;
 use case_table::cells::Cells;
 use mapping_model::mapping_spec::MappingSpec;
 use mapping_model::response_spec::{Body, Content};
