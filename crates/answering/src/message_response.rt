@@ -1,5 +1,8 @@
 // Responses to messages.
-ghost use Rattle.std.specs.Prelude.{◌≤◌, length, MatchResult};
+ghost use Rattle.std.specs.Prelude.{◌≡◌, ◌≤◌, ◌<◌, length, IfOk, IsErrOf, MatchResult, OnOk};
+ghost use Rattle.http.specs.Request.{body_of};
+ghost use Rattle.http_messages.specs.Received.{IsReceived, target_of};
+ghost use Rattle.mock_request.specs.Target.{HasUrl};
 ghost use Rattle.mock_request.specs.declared.snapshot.TheConstants.{BODY_LIMIT};
 ghost use Rattle.answering.specs.Admin.{IsAdminAnswered};
 ghost use Rattle.answering.specs.Answering.{IsNotAnswered, IsReply, IsRequestAnswered};
@@ -35,7 +38,7 @@ pub(crate) fn message_response<L: Origin, R: Wait, G: Gate>(
         (HasReply (IsReply L.origin site.now.limits site.now.escape seat.old seat.new message.now))
         (λ _. IsNotAnswered L.origin site.now.limits site.now.escape seat.old seat.new message.now) }
 {
-    match snapshot_of(alloc, message, last_request(seat)) {
+    match request_of(alloc, seat, message) {
         Ok(request) => request_response(rt, alloc, site, seat, request),
         Err(SnapshotError::BadUrl) => error_response(alloc, 400, ErrorCode::BadUrl),
         Err(SnapshotError::BodyTooLarge) => error_response(alloc, 413, ErrorCode::TooLarge),
@@ -43,11 +46,23 @@ pub(crate) fn message_response<L: Origin, R: Wait, G: Gate>(
     }
 }
 
-// The request of the seat's last call. A client mostly sends the same headers again over a connection: the journal keeps
-// them once.
-fn last_request<L: Origin>(seat: &Seat<L>) -> Option<&Snapshot> {
-    let last = seat.receipts().last()?;
-    Some(last.event.event().request()?.request())
+// The request that the message is. It shares the headers that came last to the seat, if its own are the same.
+fn request_of<L: Origin>(
+    alloc: Global,
+    seat: &mut Seat<L>,
+    message: &Request<Bytes>,
+) -> Result<Snapshot, SnapshotError>
+    ensures received { IfOk result (IsReceived message.now) }
+    ensures within { OnOk result (length (body_of message.now) ≤ BODY_LIMIT) }
+    ensures bad_url { IsErrOf result SnapshotError.BadUrl → ¬ (HasUrl (target_of message.now)) }
+    ensures too_large { IsErrOf result SnapshotError.BodyTooLarge
+        → (HasUrl (target_of message.now) × (BODY_LIMIT < length (body_of message.now))) }
+    ensures same { seat.new ≡ seat.old }
+{
+    let mut headers = seat.take_headers();
+    let request = snapshot_of(alloc, message, &mut headers);
+    seat.put_headers(headers);
+    request
 }
 
 fn request_response<L: Origin, R: Wait, G: Gate>(

@@ -74,11 +74,7 @@ where
         // Answers are written whole, so there is nothing to wait for.
         let _ = socket.set_nodelay(true);
         let connection = self.builder.serve_connection(socket, service);
-        let Ok(connection) = Box::new(self.rt.alloc(), connection) else {
-            pool.release(&self.rt, slot);
-            return None;
-        };
-        Some(ConnectionTask::new(self.rt, pool, slot, connection))
+        ConnectionTask::new(self.rt, pool, slot, connection)
     }
 
     fn give_up(&mut self) {

@@ -1,11 +1,12 @@
 // A connection as a task.
-ghost use Rattle.std.specs.Prelude.{◌≡◌};
+ghost use Rattle.std.specs.Prelude.{IfSome};
 
 use crate::answers::Answers;
 use crate::seat_pool::SeatPool;
 use crate::seat_slot::SeatSlot;
 use futures::task::{Context, Poll};
 use futures::{Future, ready};
+use std::alloc::AllocGlobal;
 use std::sync::{Arc, Wait};
 
 /// Serves a connection until it ends, and then releases its slot. The connection is in a box, since an executor
@@ -18,21 +19,32 @@ pub struct ConnectionTask<R, A: Answers, C> {
     connection: Box<C>,
 }
 
-impl<R, A: Answers, C> ConnectionTask<R, A, C> {
+impl<R, A, C> ConnectionTask<R, A, C>
+where
+    R: Wait + AllocGlobal + Copy + Drop,
+    A: Answers,
+    C: Future,
+{
+    /// The task of a connection. Where there is no memory for it the slot is released.
     pub fn new(
         rt: R,
         pool: Arc<SeatPool<A>>,
         slot: Arc<SeatSlot<A>>,
-        connection: Box<C>,
-    ) -> ConnectionTask<R, A, C>
-        ensures { result.connection.value ≡ connection.value }
+        connection: C,
+    ) -> Option<ConnectionTask<R, A, C>>
+        requires { C.can_poll connection }
+        ensures { IfSome result (λ task. C.can_poll task.connection.value) }
     {
-        ConnectionTask {
+        let Ok(connection) = Box::new(rt.alloc(), connection) else {
+            pool.release(&rt, slot);
+            return None;
+        };
+        Some(ConnectionTask {
             rt,
             pool,
             slot: Some(slot),
             connection,
-        }
+        })
     }
 }
 

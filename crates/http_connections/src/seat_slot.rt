@@ -1,5 +1,6 @@
 // Where a connection's seat lies, beside the site that it answers for.
 ghost use Rattle.std.specs.Prelude.{IfOk, IsTrue};
+ghost use Rattle.http_connections.specs.Sent.{IsSentFor};
 ghost use Rattle.http_messages.specs.Wire.{IsSent};
 
 use crate::answers::Answers;
@@ -44,7 +45,7 @@ impl<A: Answers> SeatSlot<A> {
         alloc: Global,
         request: &Request<Bytes>,
     ) -> Result<Response<Full<Bytes>>, ServiceError>
-        ensures { IfOk result (λ made. (answer : _) × A.gives request.now answer × IsSent answer made) }
+        ensures { IfOk result (IsSentFor A.gives request.now) }
     {
         let answer = self.answer_at_seat(rt, alloc, request);
         // Most answers are sent as they are, and aren't moved to see that.

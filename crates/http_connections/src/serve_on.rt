@@ -9,10 +9,9 @@ use std::io;
 use std::io::ErrorKind;
 use std::random::RandomSource;
 use std::sync::{Arc, Wait};
-use std::thread::Threads;
 use std::time::Clock;
 use tokio::net::TcpListener;
-use tokio::runtime::{LocalRuntime, Runtime};
+use tokio::runtime::LocalRuntime;
 
 /// The seats of all connections once they have been served, and why there were no more.
 #[derive(Drop)]
@@ -31,28 +30,9 @@ pub enum End {
     OutOfMemory,
 }
 
-/// Serves the connections of a listener, as many as are wanted, each with a seat of its own that is split off `seat`.
+/// Serves the connections of a listener, as many as are wanted, each with a seat of its own that is split off `seat`, all
+/// on the calling thread.
 pub fn serve_all<R, A>(
-    rt: R,
-    runtime: &mut Runtime,
-    listener: TcpListener,
-    site: &Arc<A>,
-    seat: A::Seat,
-    connections: Option<u64>,
-) -> Result<Served<A::Seat>, AllocError>
-where
-    R: Wait + Threads + Clock + RandomSource + AllocGlobal + Sync + Send + Copy + Drop,
-    A: Answers + Send + Sync,
-    A::Seat: Send,
-{
-    let pool = pool_of(rt.alloc(), site)?;
-    pool.open(&rt, seat);
-    let ran = run(rt, runtime, listener, &pool, connections);
-    served_by(&rt, rt.alloc(), &pool, &ran)
-}
-
-/// As `serve_all`, on the calling thread.
-pub fn serve_all_here<R, A>(
     rt: R,
     runtime: &mut LocalRuntime,
     listener: TcpListener,
@@ -66,7 +46,7 @@ where
 {
     let pool = pool_of(rt.alloc(), site)?;
     pool.open(&rt, seat);
-    let ran = run_here(rt, runtime, listener, &pool, connections);
+    let ran = run(rt, runtime, listener, &pool, connections);
     served_by(&rt, rt.alloc(), &pool, &ran)
 }
 
@@ -95,22 +75,6 @@ fn end_of(ran: &io::Result<()>, is_open: bool) -> End {
 }
 
 fn run<R, A>(
-    rt: R,
-    runtime: &mut Runtime,
-    listener: TcpListener,
-    pool: &Arc<SeatPool<A>>,
-    connections: Option<u64>,
-) -> io::Result<()>
-where
-    R: Wait + Threads + Clock + RandomSource + AllocGlobal + Sync + Send + Copy + Drop,
-    A: Answers + Send + Sync,
-    A::Seat: Send,
-{
-    let acceptor = Acceptor::new(rt, builder(&rt)?, Arc::try_clone(pool)?, connections);
-    runtime.run_all(&rt, Accepting::new(listener, acceptor))
-}
-
-fn run_here<R, A>(
     rt: R,
     runtime: &mut LocalRuntime,
     listener: TcpListener,

@@ -9,15 +9,16 @@ ghost use Rattle.mock_request.specs.declared.snapshot.TheConstants.{BODY_LIMIT};
 use bytes::Bytes;
 use http::{Request, Uri};
 use mock_request::error::SnapshotError;
+use mock_request::last_headers::LastHeaders;
 use mock_request::snapshot::Snapshot;
 use std::alloc::Global;
 
 /// The request that a message is. It is a copy, which keeps nothing of the buffers of the connection that the message
-/// came over. Where an earlier request had the same headers, they are shared with it.
+/// came over. Headers that are the last ones are shared, and others are the last from now on.
 pub fn snapshot_of(
     alloc: Global,
     message: &Request<Bytes>,
-    earlier: Option<&Snapshot>,
+    last: &mut LastHeaders,
 ) -> Result<Snapshot, SnapshotError>
     ensures received { IfOk result (IsReceived message.now) }
     ensures within { OnOk result (length (body_of message.now) ≤ BODY_LIMIT) }
@@ -28,9 +29,9 @@ pub fn snapshot_of(
         → (HasUrl (target_of message.now) × (BODY_LIMIT < length (body_of message.now))) }
 {
     if let Some(path) = lone_path(message.uri()) {
-        return snapshot_at(alloc, message, path, earlier);
+        return snapshot_at(alloc, message, path, last);
     }
-    snapshot_at_target(alloc, message, earlier)
+    snapshot_at_target(alloc, message, last)
 }
 
 // The request of the message, whose target is written as a text first. Not inlined: a function clears all its locals when
@@ -39,7 +40,7 @@ pub fn snapshot_of(
 fn snapshot_at_target(
     alloc: Global,
     message: &Request<Bytes>,
-    earlier: Option<&Snapshot>,
+    last: &mut LastHeaders,
 ) -> Result<Snapshot, SnapshotError>
     ensures received { IfOk result (IsReceived message.now) }
     ensures within { OnOk result (length (body_of message.now) ≤ BODY_LIMIT) }
@@ -48,7 +49,7 @@ fn snapshot_at_target(
         → (HasUrl (target_of message.now) × (BODY_LIMIT < length (body_of message.now))) }
 {
     let target = message.uri().to_string(alloc)?;
-    snapshot_at(alloc, message, target.as_str(), earlier)
+    snapshot_at(alloc, message, target.as_str(), last)
 }
 
 // The text of a target that is a path alone, as most are.
@@ -66,7 +67,7 @@ fn snapshot_at(
     alloc: Global,
     message: &Request<Bytes>,
     target: &str,
-    earlier: Option<&Snapshot>,
+    last: &mut LastHeaders,
 ) -> Result<Snapshot, SnapshotError>
     requires { target.now ≡ target_of message.now }
     ensures received { IfOk result (IsReceived message.now) }
@@ -81,6 +82,6 @@ fn snapshot_at(
         target,
         message.headers(),
         message.body().as_slice(),
-        earlier,
+        last,
     )
 }

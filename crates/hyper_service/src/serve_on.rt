@@ -7,7 +7,7 @@ use answering::site::Site;
 use command_output::error::CommandError;
 use command_output::status::FAILURE;
 use error_code::error_code::ErrorCode;
-use http_connections::serve_on::{End, Served, serve_all_here};
+use http_connections::serve_on::{End, Served, serve_all};
 use shared_book::gate::Gate;
 use shared_book::origin::Origin;
 use shared_book::seat::Seat;
@@ -80,7 +80,7 @@ where
     let book = site.book.try_clone()?;
     let answers = SiteAnswers::new(Arc::new(rt.alloc(), site)?);
     let answers = Arc::new(rt.alloc(), answers)?;
-    let Served { seats, end } = serve_all_here(rt, runtime, listener, &answers, seat, connections)?;
+    let Served { seats, end } = serve_all(rt, runtime, listener, &answers, seat, connections)?;
     Ok((events(&rt, rt.alloc(), book, seats), end))
 }
 

@@ -9,6 +9,7 @@ mod bare_request;
 mod block;
 pub mod error;
 mod fields;
+pub mod last_headers;
 pub mod snapshot;
 mod target;
 

@@ -11,6 +11,7 @@ ghost use Rattle.std.specs.Arc.{arc_value};
 use crate::bare_request::BareRequest;
 use crate::error::SnapshotError;
 use crate::fields::Fields;
+use crate::last_headers::LastHeaders;
 use crate::target::{path_and_query, rooted};
 use http_header::{HeaderMap, HeaderName, HeaderValue};
 use std::alloc::{AllocError, Global};
@@ -79,15 +80,15 @@ impl Snapshot {
         Ok(Snapshot::of_text(alloc, method, text, headers, body)?)
     }
 
-    /// The same of headers in a map: all values of a name are where its first one was. Where an earlier request had the
-    /// same headers, they are shared with it.
+    /// The same of headers in a map: all values of a name are where its first one was. They are shared where they are the
+    /// last ones, and else are these from now on.
     pub fn received(
         alloc: Global,
         method: &str,
         target: &str,
         headers: &HeaderMap,
         body: &[u8],
-        earlier: Option<&Snapshot>,
+        last: &mut LastHeaders,
     ) -> Result<Snapshot, SnapshotError>
         ensures url { IfOk result (λ request. IsTarget target.now request.url) }
         ensures kept { IfOk result (λ request. request ≡ record {
@@ -102,7 +103,7 @@ impl Snapshot {
             ↔ (HasUrl target.now × (BODY_LIMIT < length body.now)) }
     {
         let text = taken(target, body)?;
-        let headers = kept_headers(alloc, headers, earlier)?;
+        let headers = last.fields_of(alloc, headers)?;
         Ok(Snapshot::of_text(alloc, method, text, headers, body)?)
     }
 
@@ -253,20 +254,4 @@ fn copied_headers(
     ensures { IfOk result (λ copied. arc_value copied ≡ headers_of headers.now) }
 {
     Ok(Arc::new(alloc, Fields::of_list(alloc, headers)?)?)
-}
-
-// The headers in the map: those of the earlier request, where they are the same, and else a copy.
-fn kept_headers(
-    alloc: Global,
-    headers: &HeaderMap,
-    earlier: Option<&Snapshot>,
-) -> Result<Arc<Fields>, AllocError>
-    ensures { IfOk result (λ kept. arc_value kept ≡ headers_of (pairs headers.now)) }
-{
-    if let Some(earlier) = earlier
-        && earlier.headers.are_of_map(headers)
-    {
-        return Arc::try_clone(&earlier.headers);
-    }
-    Ok(Arc::new(alloc, Fields::of_map(alloc, headers)?)?)
 }

@@ -16,6 +16,7 @@ use crate::look::answer;
 use crate::origin::Origin;
 use crate::receipt::Receipt;
 use crate::shared_book::SharedBook;
+use mock_request::last_headers::LastHeaders;
 use mock_request::snapshot::Snapshot;
 use request_journal::event_memory::EventMemory;
 use request_journal::input::BookInput;
@@ -23,6 +24,7 @@ use request_journal::shared_request::SharedRequest;
 use request_match::parsed_request::ParsedRequest;
 use std::alloc::{AllocError, Global};
 use std::marker::Model;
+use std::mem;
 use std::sync::Wait;
 use std::sync::ledger::Share;
 use stub_book::error::BookError;
@@ -37,6 +39,8 @@ pub struct Seat<L: Origin> {
     pub(crate) own: Vec<Receipt>,
     /// The lists of the seats that it took over.
     pub(crate) joined: Vec<Vec<Receipt>>,
+    /// The headers that came last, for the next request to share. Contracts see nothing of them.
+    headers: LastHeaders,
 }
 
 // Written out, so that a caller's proof sees one call and not the drop of each part.
@@ -48,6 +52,7 @@ impl<L: Origin> Drop for Seat<L> {
             count: _count,
             own: _own,
             joined: _joined,
+            headers: _headers,
         } = self;
     }
 }
@@ -81,6 +86,7 @@ impl<L: Origin> Seat<L> {
             count: 0,
             own: Vec::new(alloc),
             joined: Vec::new(alloc),
+            headers: LastHeaders::none(),
         }
     }
 
@@ -100,7 +106,23 @@ impl<L: Origin> Seat<L> {
     {
         let share = self.share.split_off(1, 0);
         self.parts -= 1;
-        Seat::new(*self.own.allocator(), share, 1)
+        let mut seat = Seat::new(*self.own.allocator(), share, 1);
+        seat.headers = self.headers.share();
+        seat
+    }
+
+    /// Takes out the headers that came last, for the next request to share. `put_headers` puts them back.
+    pub fn take_headers(&mut self) -> LastHeaders
+        ensures { self.new ≡ self.old }
+    {
+        mem::replace(&mut self.headers, LastHeaders::none())
+    }
+
+    /// Puts back the headers that came last.
+    pub fn put_headers(&mut self, headers: LastHeaders)
+        ensures { self.new ≡ self.old }
+    {
+        self.headers = headers;
     }
 
     /// The receipts of its own calls, in their order.
@@ -181,8 +203,8 @@ impl<L: Origin> Seat<L> {
         })
     }
 
-    /// Takes over the other seat: its parts, and its lists of receipts beside the own ones. Where memory runs out (or
-    /// there are more receipts than a number has room for) the other seat is handed back.
+    /// Takes over the other seat: its parts, its lists of receipts beside the own ones, and its headers, if it has any.
+    /// Where memory runs out (or there are more receipts than a number has room for) the other seat is handed back.
     pub fn join(&mut self, other: Seat<L>) -> Result<(), Seat<L>>
         ensures ok { OnOk result (self.new ≡ with_seat self.old other) }
         ensures err { IfErr result (λ seat. (seat ≡ other) × (self.new ≡ self.old)) }
@@ -202,10 +224,12 @@ impl<L: Origin> Seat<L> {
             count: _,
             own,
             joined,
+            headers,
         } = other;
         self.share.merge(share);
         self.parts += parts;
         self.count = count;
+        keep_later(&mut self.headers, headers);
         take_over(&mut self.joined, own, joined);
         Ok(())
     }
@@ -258,6 +282,13 @@ impl<L: Origin> Seat<L> {
             unreachable!()
         };
         Ok(())
+    }
+}
+
+// Keeps the later headers in the place of these, if there are any.
+fn keep_later(headers: &mut LastHeaders, later: LastHeaders) {
+    if !later.is_none() {
+        *headers = later;
     }
 }
 
