@@ -3,12 +3,11 @@
 ghost use Rattle.std.specs.Prelude.{◌≡◌, ◌<◌};
 
 use crate::paths::add_paths;
-use crate::requests::request_of;
-use crate::server::{add_reply, reply_to};
+use case_replies::mappings::mappings_of;
+use case_replies::requests::request_of;
+use case_replies::server::{add_reply, reply_to};
 use case_table::cells::Cells;
 use case_table::row::Row;
-use mapping_json::read::read_mappings;
-use request_match::ready_mapping::ReadyMapping;
 use shared_book::origin::Origin;
 use shared_book::seat::Seat;
 use shared_book::shared_book::SharedBook;
@@ -37,15 +36,6 @@ fn book_of(alloc: Global, row: &Row) -> Result<Book, AllocError> {
     let opening = row.cell(0).parse::<u64>().unwrap_or(0);
     let book = Book::new(alloc, mappings_of(alloc, row.cell(1))?, opening);
     book.ok().ok_or(AllocError)
-}
-
-/// The mappings of a document, or of no text none. None of the documents is refused.
-pub fn mappings_of(alloc: Global, document: &str) -> Result<Vec<ReadyMapping>, AllocError> {
-    if document.is_empty() {
-        return Ok(Vec::new(alloc));
-    }
-    let mappings = read_mappings(alloc, document.as_bytes());
-    mappings.ok().ok_or(AllocError)
 }
 
 fn play<L: Origin, R: Wait>(

@@ -3,11 +3,7 @@
 #![tactic(auto)]
 
 mod books;
-mod octets;
 mod paths;
-mod recordings;
-mod requests;
-mod server;
 mod table;
 
 use case_table::compare::compare_all;

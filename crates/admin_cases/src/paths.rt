@@ -2,7 +2,7 @@
 //! words that it may be, with blanks between them. Added are how many paths there are, and the replies with another
 //! body, each with its method and its path.
 
-use crate::server::{add_reply, reply_to};
+use case_replies::server::{add_reply, reply_to};
 use case_table::cells::Cells;
 use case_table::row::Row;
 use mapping_model::reply::Reply;
@@ -72,5 +72,8 @@ fn longer(alloc: Global, paths: &[String], words: &str) -> Result<Vec<String>, A
 }
 
 fn joined(alloc: Global, path: &str, word: &str) -> Result<String, AllocError> {
-    format!(in alloc; "{path}/{word}")
+    let mut longer = String::from_str(alloc, path)?;
+    longer.push_str("/")?;
+    longer.push_str(word)?;
+    Ok(longer)
 }

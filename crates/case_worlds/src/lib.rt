@@ -1,7 +1,5 @@
-//! Lists of calls that are made first and then run, for the programs of cases: the schedule of a row, in worlds, and
-//! two scripts, on a shared book.
+//! Schedules over a book, for the programs of cases: the steps of a row, and what they give in worlds.
 #![tactic(auto)]
 
-pub mod scripts;
 pub mod steps;
 pub mod worlds;

@@ -1,7 +1,7 @@
 //! The exchanges that a row gives, cell by cell: a word, a blank and a text.
 
-use crate::bytes_cell::bytes_of;
 use case_requests::exchanges::exchange;
+use case_requests::octets::octets_of;
 use case_requests::requests::{header, request};
 use case_table::row::Row;
 use case_table::words::{number, parts};
@@ -105,10 +105,10 @@ fn is_added(alloc: Global, draft: &mut Draft, cell: &str) -> Result<bool, AllocE
     match word {
         "exchange" => return Ok(false),
         "header" => draft.headers.push(read_header(alloc, text)?)?,
-        "body" => draft.body = bytes_of(alloc, text)?,
+        "body" => draft.body = octets_of(alloc, text)?,
         "reply" => draft.status = text.parse::<u16>().unwrap_or(0),
         "reply-header" => draft.lines.push(line(alloc, text)?)?,
-        "reply-body" => draft.reply_body = bytes_of(alloc, text)?,
+        "reply-body" => draft.reply_body = octets_of(alloc, text)?,
         _ => return Err(AllocError),
     }
     Ok(true)
@@ -116,14 +116,14 @@ fn is_added(alloc: Global, draft: &mut Draft, cell: &str) -> Result<bool, AllocE
 
 fn read_header(alloc: Global, text: &str) -> Result<(HeaderName, HeaderValue), AllocError> {
     let (name, value) = parts(text);
-    header(alloc, name, bytes_of(alloc, value)?.as_slice())
+    header(alloc, name, octets_of(alloc, value)?.as_slice())
 }
 
 fn line(alloc: Global, text: &str) -> Result<ReplyHeader, AllocError> {
     let (name, value) = parts(text);
     Ok(ReplyHeader {
         name: field_name(alloc, name)?,
-        value: Octets::from(bytes_of(alloc, value)?),
+        value: Octets::from(octets_of(alloc, value)?),
     })
 }
 

@@ -1,7 +1,6 @@
 //! Compares what recordings and their mappings are with the tables in `data/`.
 #![tactic(auto)]
 
-mod bytes_cell;
 mod exchanges;
 mod groups;
 mod mappings;

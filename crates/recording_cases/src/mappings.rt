@@ -1,7 +1,7 @@
 //! Keys of exchanges, and the mappings that recordings give.
 
-use crate::bytes_cell::add_bytes;
 use crate::exchanges::{Given, read};
+use case_requests::octets::add_octets;
 use case_table::cells::Cells;
 use case_table::row::Row;
 use mapping_model::body_pattern::BodyPattern;
@@ -32,9 +32,16 @@ fn add_key(alloc: Global, cells: &mut Cells, key: &Key<'_>) -> Result<(), AllocE
     cells.add_cell(key.method());
     cells.add_cell(key.url());
     for header in key.headers() {
-        add_bytes(alloc, cells, header.0, header.1)?;
+        add_part(alloc, cells, header.0, header.1)?;
     }
-    add_bytes(alloc, cells, "body", key.body())
+    add_part(alloc, cells, "body", key.body())
+}
+
+// Appends a cell: the word, and the bytes after a blank.
+fn add_part(alloc: Global, cells: &mut Cells, word: &str, bytes: &[u8]) -> Result<(), AllocError> {
+    cells.add_cell(word);
+    cells.add(" ");
+    add_octets(alloc, cells, bytes)
 }
 
 /// Whether the row's first two exchanges are the same, and whether their keys are equal. Copies are compared.

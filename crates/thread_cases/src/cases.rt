@@ -1,12 +1,15 @@
-//! Calls of one and two threads on shared books: what each case shows, in words.
+//! Calls and messages of one and two threads over shared books: what each case shows, in words.
 ghost use Rattle.std.specs.Prelude.{◌≡◌, ◌≤◌};
 
-use crate::cleared::cleared;
-use crate::two_threads::two_threads;
-use crate::versions::versions;
 use case_calls::books;
+use case_calls::cleared::cleared;
+use case_calls::scripts::scripts;
+use case_calls::two_threads::two_threads;
+use case_calls::versions::versions;
+use case_messages::answered::answered;
+use case_messages::counted::counted;
+use case_messages::full::full;
 use case_table::cells::Cells;
-use case_worlds::scripts::scripts;
 use shared_book::origin::Origin;
 use shared_book::seat::Seat;
 use shared_book::shared_book::SharedBook;
@@ -26,6 +29,9 @@ pub enum Case {
     Scripts,
     Versions,
     Cleared,
+    Answered,
+    Counted,
+    Full,
 }
 
 impl Case {
@@ -35,6 +41,17 @@ impl Case {
             Case::Scripts => "scripts: ",
             Case::Versions => "versions: ",
             Case::Cleared => "cleared: ",
+            Case::Answered => "answered: ",
+            Case::Counted => "counted: ",
+            Case::Full => "full: ",
+        }
+    }
+
+    // The number at which its book is opened.
+    fn opening(self) -> u64 {
+        match self {
+            Case::Full => books::LAST,
+            _ => 0,
         }
     }
 }
@@ -45,7 +62,7 @@ pub fn play<R: Threads + Wait + Sync>(
     alloc: Global,
     case: Case,
 ) -> Result<String, AllocError> {
-    let book = books::book(alloc, 0)?;
+    let book = books::book(alloc, case.opening())?;
     play_on::<Brand, R>(rt, alloc, case, Blank::new(PARTS), PARTS, book)
 }
 
@@ -85,5 +102,8 @@ fn play_case<L: Origin + Send + Sync, R: Threads + Wait + Sync>(
         Case::Scripts => scripts(rt, alloc, cells, shared, seat),
         Case::Versions => versions(rt, alloc, cells, shared, seat),
         Case::Cleared => cleared(rt, alloc, cells, shared, seat),
+        Case::Answered => answered(rt, alloc, cells, shared, seat),
+        Case::Counted => counted(rt, alloc, cells, shared, seat),
+        Case::Full => full(rt, alloc, cells, shared, seat),
     }
 }

@@ -1,13 +1,9 @@
-//! Plays calls on shared books, also of two threads, and prints what each case shows. Then compares what schedules over a
-//! book give with the table in `data/`.
+//! Plays calls and messages over shared books, also of two threads, and prints what each case shows. Then compares what
+//! schedules over a book give with the table in `data/`.
 #![tactic(auto)]
 
 mod cases;
-mod cleared;
 mod table;
-mod threads;
-mod two_threads;
-mod versions;
 
 use case_table::compare::compare_all;
 use cases::{Case, play};
@@ -24,6 +20,9 @@ fn main(rt: HostRuntime) -> io::Result<ExitCode> {
         Case::Scripts,
         Case::Versions,
         Case::Cleared,
+        Case::Answered,
+        Case::Counted,
+        Case::Full,
     ]
     .as_slice()
     {

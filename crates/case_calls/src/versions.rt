@@ -1,11 +1,11 @@
 //! A receipt keeps the version that was chosen, whatever is edited meanwhile.
 ghost use Rattle.std.specs.Prelude.{◌≤◌};
 
+use crate::books::word_of;
+use crate::calls;
+use crate::first_waits::FirstWaits;
+use crate::one_seat::settle_seat;
 use crate::threads::{Job, both};
-use case_calls::books::word_of;
-use case_calls::calls;
-use case_calls::first_waits::FirstWaits;
-use case_calls::one_seat::settle_seat;
 use case_table::cells::Cells;
 use shared_book::origin::Origin;
 use shared_book::seat::Seat;

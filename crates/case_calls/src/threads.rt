@@ -1,8 +1,8 @@
 //! Two threads with a seat each.
 
-use case_calls::books::Change;
-use case_calls::calls;
-use case_calls::first_waits::FirstWaits;
+use crate::books::Change;
+use crate::calls;
+use crate::first_waits::FirstWaits;
 use shared_book::gate::Gate;
 use shared_book::origin::Origin;
 use shared_book::seat::Seat;

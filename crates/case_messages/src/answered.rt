@@ -1,10 +1,10 @@
 //! A message is answered with the version that was chosen for it, whatever is edited and answered meanwhile.
 ghost use Rattle.std.specs.Prelude.{◌≤◌};
 
+use crate::message_threads::{Task, book_of, both_answer, site_of};
 use case_calls::calls;
 use case_calls::one_seat::settle_seat;
 use case_calls::outcomes::add_number;
-use case_messages::message_threads::{Task, book_of, both_answer, site_of};
 use case_table::cells::Cells;
 use shared_book::origin::Origin;
 use shared_book::seat::Seat;

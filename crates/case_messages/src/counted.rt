@@ -1,13 +1,13 @@
 //! Many messages that two threads answer, and an admin call that counts them.
 ghost use Rattle.std.specs.Prelude.{◌≤◌};
 
+use crate::message_threads::{Task, book_of, both_answer, length_of, site_of};
+use crate::messages::Asked;
 use admin_answers::answer::answer_admin;
 use admin_routes::admin::admin;
 use admin_routes::call::AdminCall;
 use case_calls::calls;
 use case_calls::outcomes::{add_counts, add_number, add_refusal, add_told};
-use case_messages::message_threads::{Task, book_of, both_answer, length_of, site_of};
-use case_messages::messages::Asked;
 use case_table::cells::Cells;
 use mapping_model::reply::Reply;
 use shared_book::origin::Origin;

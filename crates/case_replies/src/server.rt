@@ -1,11 +1,11 @@
 //! What a server answers to a request: the book's answer to an admin call, or the response of the mapping that is
 //! chosen.
 
-use crate::octets::add_octets;
 use admin_answers::answer::answer_admin;
 use admin_routes::admin::admin;
 use admin_routes::call::AdminCall;
 use admin_table::route::is_admin;
+use case_requests::octets::add_octets;
 use case_table::cells::Cells;
 use error_code::error_code::ErrorCode;
 use mapping_model::mapping_spec::MappingSpec;

@@ -1,10 +1,10 @@
 //! Events that a cleared journal dropped are counted, and not compared; and what may be read.
 
-use case_calls::books::Change;
-use case_calls::calls;
-use case_calls::calls::Asked;
-use case_calls::one_seat::settle_seat;
-use case_calls::outcomes::add_read;
+use crate::books::Change;
+use crate::calls;
+use crate::calls::Asked;
+use crate::one_seat::settle_seat;
+use crate::outcomes::add_read;
 use case_table::cells::Cells;
 use shared_book::origin::Origin;
 use shared_book::seat::Seat;

@@ -1,11 +1,11 @@
 //! Many calls by two threads, and a seat that is kept back.
 ghost use Rattle.std.specs.Prelude.{◌≤◌};
 
+use crate::calls;
+use crate::calls::Asked;
+use crate::first_waits::FirstWaits;
+use crate::outcomes::{add_outcome, add_read, add_refusal};
 use crate::threads::{Job, both};
-use case_calls::calls;
-use case_calls::calls::Asked;
-use case_calls::first_waits::FirstWaits;
-use case_calls::outcomes::{add_outcome, add_read, add_refusal};
 use case_table::cells::Cells;
 use shared_book::origin::Origin;
 use shared_book::seat::Seat;

@@ -1,11 +1,11 @@
 //! A message that a full history can't take.
 
+use crate::answers::answer_to;
+use crate::messages::Asked;
 use answering::site::Site;
 use case_calls::books::LAST;
 use case_calls::calls;
 use case_calls::outcomes::{add_number, add_receipts, add_refusal};
-use case_messages::answers::answer_to;
-use case_messages::messages::Asked;
 use case_table::cells::Cells;
 use shared_book::gate::NoGate;
 use shared_book::origin::Origin;

@@ -1,7 +1,7 @@
 //! What is read and written of recordings. A row gives `start` and a body, `status` and a word, or `recorded`, how
 //! many exchanges were skipped, and a document of mappings with ids.
 
-use crate::books::mappings_of;
+use crate::mappings::mappings_of;
 use admin_json::error::BodyError;
 use admin_json::error_value::error_value;
 use admin_json::recordings::{recorded_value, status_value};

@@ -1,10 +1,10 @@
 //! Two scripts, and a gate.
 ghost use Rattle.std.specs.Prelude.{◌≤◌};
 
-use case_calls::books;
-use case_calls::books::Change;
-use case_calls::first_waits::FirstWaits;
-use case_calls::outcomes::{add_counts, add_number, add_told};
+use crate::books;
+use crate::books::Change;
+use crate::first_waits::FirstWaits;
+use crate::outcomes::{add_counts, add_number, add_told};
 use case_table::cells::Cells;
 use shared_book::origin::Origin;
 use shared_book::script::{Call, Script, run_scripts};

@@ -1,6 +1,6 @@
 //! Requests in cells.
 
-use crate::octets::octets_of;
+use case_requests::octets::octets_of;
 use case_requests::requests::header;
 use http_header::{HeaderName, HeaderValue};
 use mock_request::error::SnapshotError;
@@ -26,7 +26,7 @@ fn headers_of(alloc: Global, lines: &str) -> Result<Vec<(HeaderName, HeaderValue
 }
 
 fn header_of(alloc: Global, line: &str) -> Result<(HeaderName, HeaderValue), AllocError> {
-    let (name, value) = line.split_once(": ").unwrap_or((line, ""));
-    let octets = octets_of(alloc, value)?;
+    let (name, rest) = line.split_once(':').unwrap_or((line, ""));
+    let octets = octets_of(alloc, rest.strip_prefix(' ').unwrap_or(rest))?;
     header(alloc, name, octets.as_slice())
 }
