@@ -3,6 +3,7 @@ import collections, os, pathlib, re, socket, subprocess, sys
 
 FOLDER = pathlib.Path(__file__).resolve().parent
 TOP = FOLDER.parent
+EXAMPLES = TOP / "examples"
 
 Row = collections.namedtuple("Row", "place given wanted")
 
