@@ -10,6 +10,7 @@ pub mod StepFacts
 pub mod TableFacts
 pub mod ViolationFacts
 pub mod FormFacts
+pub mod LandingFacts
 pub mod OutermostFacts
 mod Examples
 mod LoopExamples

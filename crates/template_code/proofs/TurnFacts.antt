@@ -34,6 +34,12 @@ module _ {A : Type 0}
   abbrev after : List ℕ → State
   after output = state (suc (suc index + size)) stack loops output
 
+  -- the same turn, by another name of its number
+  by_number :
+      (k n : ℕ) (written : List ℕ) → k ≡ n → TurnWrites code root index size stack loops over k written
+      → TurnWrites code root index size stack loops over n written
+  by_number k n written e h = subst (λ m. TurnWrites code root index size stack loops over m written) e h
+
   -- the turns that are left, the first of which is that one
   turns-left :
       (left : List A) (turn : A) (k : ℕ) (output : List ℕ) → suc k + length left ≡ length (items over)
@@ -41,8 +47,7 @@ module _ {A : Type 0}
       → TurnWrites code root index size stack loops over (k + j) (text t))
       → Comes code root (at (suc index) k output) (after (output ++ flat_map text (turn ∷ left)))
   turns-left [] turn k output e body =
-      let this = subst (λ n. TurnWrites code root index size stack loops over n (text turn)) (omega arith)
-      (body 0 turn refl) output in
+      let this = by_number (k + 0) k (text turn) (omega arith) (body 0 turn refl) output in
       comes-join code root (at (suc index) k output) (at (suc index + size) k (output ++ text turn))
       (after (output ++ flat_map text (turn ∷ []))) this
       (comes-to code root (at (suc index + size) k (output ++ text turn)) (suc (suc index + size))
@@ -51,8 +56,7 @@ module _ {A : Type 0}
       (comes-out code root over k (suc index) (suc index + size) stack loops (output ++ text turn) loop.closes
       (omega (arith, e))))
   turns-left (next ∷ left) turn k output e body =
-      let this = subst (λ n. TurnWrites code root index size stack loops over n (text turn)) (omega arith)
-      (body 0 turn refl) output in
+      let this = by_number (k + 0) k (text turn) (omega arith) (body 0 turn refl) output in
       let between = output ++ text turn in
       comes-join code root (at (suc index) k output) (at (suc index + size) k between)
       (after (output ++ flat_map text (turn ∷ next ∷ left))) this
@@ -63,8 +67,7 @@ module _ {A : Type 0}
       (between ++ flat_map text (next ∷ left)) (output ++ flat_map text (turn ∷ next ∷ left)) refl
       (append_assoc output (text turn) (flat_map text (next ∷ left)))
       (turns-left left next (suc k) between (omega (arith, e))
-      (λ j t there. subst (λ n. TurnWrites code root index size stack loops over n (text t)) (omega arith)
-      (body (suc j) t there)))))
+      (λ j t there. by_number (k + suc j) (suc k + j) (text t) (omega arith) (body (suc j) t there)))))
 
   -- Over a value with items, a loop writes the texts of its turns, in order, and goes on after its `Next`. The turns are a
   -- list of anything, with a turn for each item.
@@ -79,8 +82,7 @@ module _ {A : Type 0}
       (after (output ++ flat_map text (turn ∷ left)))
       (comes-opening code root over target index stack loops output loop.opens (omega (arith, e, some)))
       (turns-left left turn 0 output (omega (arith, e))
-      (λ j t there. subst (λ n. TurnWrites code root index size stack loops over n (text t)) (omega arith)
-      (body j t there)))
+      (λ j t there. by_number j (0 + j) (text t) (omega arith) (body j t there)))
 
   -- Over a value without items, it writes nothing and goes on at its target.
   pub comes-past :
