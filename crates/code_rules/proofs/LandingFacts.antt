@@ -1,5 +1,5 @@
--- Code is well formed where each instruction keeps the rules on its own, and each jump lands: what V3, V4 and V8 ask at
--- a target, of all jumps that go there, is shown where each jump comes from. The converse of what the laws say of jumps.
+-- Code is well formed where each instruction keeps the rules on its own and each jump lands: what V3, V4 and V8 ask of
+-- all jumps to a target is shown where each jump comes from. It is the converse of what the laws say of jumps.
 use Rattle.std.proofs.Common.{◌≡◌, ℕ, zero, suc, ◌<◌, ◌≤◌, ◌⊎◌, Bool, true, false, true≢false, List, [], ◌∷◌, length, map}
 use Rattle.std.proofs.Common.{Option, Some, None, nat_eq, refl, sym, ap, ◌∙◌, ⊎_elim, inl, inr, arith}
 use Rattle.std.specs.Prelude.{◌&&◌, not, if◌then◌else◌, slice_get}
@@ -23,8 +23,8 @@ use Rattle.code_rules.specs.Verdict.{IsWellFormed}
 use Rattle.code_rules.proofs.MachineFacts.{Keeps}
 use Rattle.code_rules.proofs.TableFacts.{IsTable-entry_at}
 
--- what the rules up to V12 ask of an instruction with that index and that entry on its own, in code that isn't too long:
--- all but what they say of its target and of the jumps to it
+-- what the rules up to V12 ask of an instruction on its own, in code that isn't too long: all but what they say of its
+-- target and of the jumps to it
 pub record KeepsAlone (code : StackCode) (index : ℕ) (i : Instr) (e : Entry) : Type 0 where
   pub names : names_entries code i ≡ true
   pub enough : lacks_slots (pops i) e.kinds ≡ false
@@ -36,8 +36,8 @@ pub record KeepsAlone (code : StackCode) (index : ℕ) (i : Instr) (e : Entry) :
   pub open_loop : lacks_loop (loop_named i) (length e.nest) ≡ false
   pub well_placed : is_misplaced (flow i) (nat_eq (suc index) (length code.instrs)) ≡ false
 
--- a jump from the one index to the other goes to a later instruction, in the same loops, where there is no slot; an `Each`
--- jumps from outside of its loop
+-- a jump from the one index to the other goes to a later instruction, in the same loops, where there is no slot; what an
+-- `Each` jumps from is outside of its loop
 pub record Lands (code : StackCode) (index target : ℕ) : Type 0 where
   pub later : index < target
   pub inside : target < length code.instrs
@@ -138,8 +138,8 @@ module _ (code : StackCode) (lands : EachJumpLands code) where
       let l = all target refl in
       rw (lt-ltb index target l.later, lt-ltb target (length code.instrs) l.inside) refl
 
-  keeps-landing : (index : ℕ) (i : Instr) → length code.instrs ≤ MAX_INSTRUCTIONS → slice_get code.instrs index ≡ Some i →
-      KeepsAlone code index i (entry_at code index) →
+  keeps-landing : (index : ℕ) (i : Instr) → length code.instrs ≤ MAX_INSTRUCTIONS →
+      slice_get code.instrs index ≡ Some i → KeepsAlone code index i (entry_at code index) →
       Keeps code index (nests_to code (entry_at code) index) i (entry_at code index)
   keeps-landing index i short at alone =
       let t = is-target index index in
@@ -160,7 +160,8 @@ module _ (code : StackCode) (lands : EachJumpLands code) where
         well_placed = alone.well_placed;
       }
 
--- code that isn't empty nor too long, whose instructions keep the rules on their own and whose jumps land, is well formed
+-- code that isn't empty nor too long, whose instructions keep the rules on their own and whose jumps land, is well
+-- formed
 pub formed-from : (code : StackCode) → 0 < length code.instrs → length code.instrs ≤ MAX_INSTRUCTIONS →
     EachKeepsAlone code → EachJumpLands code → IsWellFormed code
 formed-from code some short alone lands =

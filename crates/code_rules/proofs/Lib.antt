@@ -12,5 +12,7 @@ pub mod ViolationFacts
 pub mod FormFacts
 pub mod LandingFacts
 pub mod OutermostFacts
+pub mod TotalFacts
+pub mod LightFacts
 mod Examples
 mod LoopExamples

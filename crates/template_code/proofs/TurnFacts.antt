@@ -12,7 +12,7 @@ use Rattle.template_code.specs.declared.instr.Instr.TheVariants.{Each, Next}
 use Rattle.template_code.proofs.FlowFacts.{Comes, state, at_turn, comes-join, comes-to, comes-passing, comes-opening}
 use Rattle.template_code.proofs.FlowFacts.{comes-again, comes-out}
 
--- the code of a loop: an `Each` at the index, then a body of that many instructions, then the `Next` that goes back to it
+-- the code of a loop: an `Each` at the index, a body of that many instructions, and the `Next` that goes back to it
 pub record HasLoop (code : StackCode) (index size target : ℕ) : Type 0 where
   pub opens : slice_get code.instrs index ≡ Some (Each target)
   pub closes : slice_get code.instrs (suc index + size) ≡ Some (Next (suc index))
@@ -69,8 +69,8 @@ module _ {A : Type 0}
       (turns-left left next (suc k) between (omega (arith, e))
       (λ j t there. by_number (k + suc j) (suc k + j) (text t) (omega arith) (body (suc j) t there)))))
 
-  -- Over a value with items, a loop writes the texts of its turns, in order, and goes on after its `Next`. The turns are a
-  -- list of anything, with a turn for each item.
+  -- Over a value with items, a loop writes the texts of its turns, in order, and goes on after its `Next`. The turns are
+  -- a list of anything, with a turn for each item.
   pub comes-through :
       (turns : List A) (output : List ℕ) → length turns ≡ length (items over) → 0 < length turns
       → ((k : ℕ) (turn : A) → slice_get turns k ≡ Some turn
@@ -89,7 +89,8 @@ module _ {A : Type 0}
       (turns : List A) (output : List ℕ) → length turns ≡ length (items over) → length turns ≡ 0
       → Comes code root (state index (a_datum over ∷ stack) loops output) (state target stack loops output)
   comes-past turns output e none =
-      comes-passing code root over target index stack loops output loop.opens (empty (items over) (omega (arith, e, none)))
+      comes-passing code root over target index stack loops output loop.opens
+      (empty (items over) (omega (arith, e, none)))
     where
       empty : (found : List Tree) → length found ≡ 0 → found ≡ []
       empty [] h = refl
