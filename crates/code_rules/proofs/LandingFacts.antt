@@ -36,8 +36,8 @@ pub record KeepsAlone (code : StackCode) (index : ℕ) (i : Instr) (e : Entry) :
   pub open_loop : lacks_loop (loop_named i) (length e.nest) ≡ false
   pub well_placed : is_misplaced (flow i) (nat_eq (suc index) (length code.instrs)) ≡ false
 
--- a jump from the one index to the other goes to a later instruction, in the same loops, where there is no slot; what an
--- `Each` jumps from is outside of its loop
+-- a jump from the one index to the other goes to a later instruction, in the same loops, where there is no slot; an
+-- `Each` itself is outside of its loop
 pub record Lands (code : StackCode) (index target : ℕ) : Type 0 where
   pub later : index < target
   pub inside : target < length code.instrs

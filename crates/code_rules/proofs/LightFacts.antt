@@ -36,7 +36,8 @@ all-fit : (most : ℕ) (bounds : List Bound) → most ≤ MAX_COEFFICIENT → Al
     list_all bound_fits bounds ≡ true
 all-fit most [] le h = refl
 all-fit most (b ∷ bs) le h =
-    and_from (bound_fits b) (list_all bound_fits bs) (bound_fits-total b (omega (arith, h.0, le))) (all-fit most bs le h.1)
+    and_from (bound_fits b) (list_all bound_fits bs) (bound_fits-total b (omega (arith, h.0, le)))
+    (all-fit most bs le h.1)
 
 times-more : (m n most : ℕ) → m ≤ n → m * most ≤ n * most
 times-more zero n most le = grind arith
@@ -46,8 +47,8 @@ times-more (suc m) (suc n) most le =
     let f : suc n * most ≡ n * most + most = grind arith in
     omega (arith, e, f, times-more m n most (omega (arith, le)))
 
--- where the bounds of each instruction have at most that total, and the whole code's is no larger than a coefficient may
--- be, all limits are kept
+-- where the bounds of each instruction have at most that total, and as often as there are instructions that is no more
+-- than a coefficient may be, all limits are kept
 pub within-light : (code : StackCode) (most : ℕ) → 1 ≤ most → length code.instrs * most ≤ MAX_COEFFICIENT →
     EachIsLight code most → IsWithinLimits code
 within-light code most some few light index = by (slice_get code.instrs index) refl

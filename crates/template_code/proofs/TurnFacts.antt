@@ -69,8 +69,8 @@ module _ {A : Type 0}
       (turns-left left next (suc k) between (omega (arith, e))
       (λ j t there. by_number (k + suc j) (suc k + j) (text t) (omega arith) (body (suc j) t there)))))
 
-  -- Over a value with items, a loop writes the texts of its turns, in order, and goes on after its `Next`. The turns are
-  -- a list of anything, with a turn for each item.
+  -- Over a value with items, a loop writes the texts of its turns, in order, and goes on after its `Next`. The turns
+  -- are a list of anything, with a turn for each item.
   pub comes-through :
       (turns : List A) (output : List ℕ) → length turns ≡ length (items over) → 0 < length turns
       → ((k : ℕ) (turn : A) → slice_get turns k ≡ Some turn
