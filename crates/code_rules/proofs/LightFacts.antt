@@ -6,6 +6,7 @@ use Rattle.std.specs.List.{list_all}
 use Rattle.std.specs.Option.{option_map_or}
 use Rattle.std.proofs.lemmas.Bool.{and_from}
 use Rattle.std.proofs.lemmas.Option.{slice_get_within}
+use Rattle.helper_set.specs.Helpers.{argument_kinds}
 use Rattle.helper_set.specs.declared.helper.Helper.{Helper}
 use Rattle.helper_set.specs.declared.helper.Helper.TheVariants.{Upper, Lower, Trim, Size, Eq, Neq, Contains, Not}
 use Rattle.helper_set.specs.declared.helper.Helper.TheVariants.{Base64, UrlEncode, DefaultIfEmpty, JsonPath}
@@ -90,11 +91,6 @@ within-light code most some few light index = by (slice_get code.instrs index) r
 
 -- the bound of a helper's result
 
-light-first : (n most : ℕ) (bounds : List Bound) → AllLight most bounds → AllLight most (take n bounds)
-light-first zero most bounds h = tt
-light-first (suc n) most [] h = tt
-light-first (suc n) most (b ∷ bs) h = (h.0, light-first n most bs h.1)
-
 first-few : (n : ℕ) (bounds : List Bound) → length (take n bounds) ≤ n
 first-few zero bounds = omega arith
 first-few (suc n) [] = omega arith
@@ -108,11 +104,11 @@ times-same (suc k) a b le =
     omega (arith, e, f, le, times-same k a b le)
 
 -- what grows from the first n bounds
-light-grown : (times plus n most : ℕ) (bounds : List Bound) → AllLight most bounds →
+light-grown : (times plus n most : ℕ) (bounds : List Bound) → AllLight most (take n bounds) →
     total (plus_bound (times_bound times (sum_of (take n bounds))) (at_most plus)) ≤ times * (n * most) + plus
 light-grown times plus n most bounds h =
     let taken = take n bounds in
-    let summed = total-sum_of most taken (light-first n most bounds h) in
+    let summed = total-sum_of most taken h in
     let few = times-more (length taken) n most (first-few n bounds) in
     let grown = times-same times (total (sum_of taken)) (n * most) (omega (arith, summed, few)) in
     omega (
@@ -123,9 +119,9 @@ light-grown times plus n most bounds h =
       total-at_most plus,
     )
 
--- a helper's result is at most three times as heavy as the stack's bounds
-pub light-call : (h : Helper) (most : ℕ) (bounds : List Bound) → MAX_NUMBER_LENGTH ≤ most → AllLight most bounds →
-    total (helper_bound h bounds) ≤ 3 * most
+-- a helper's result has at most three times the total of the heaviest argument
+pub light-call : (h : Helper) (most : ℕ) (bounds : List Bound) → MAX_NUMBER_LENGTH ≤ most →
+    AllLight most (take (length (argument_kinds h)) bounds) → total (helper_bound h bounds) ≤ 3 * most
 light-call Upper most bounds le h = omega (arith, le, light-grown 1 0 1 most bounds h)
 light-call Lower most bounds le h = omega (arith, le, light-grown 1 0 1 most bounds h)
 light-call Trim most bounds le h = omega (arith, le, light-grown 1 0 1 most bounds h)
