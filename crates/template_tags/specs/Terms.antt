@@ -1,5 +1,5 @@
 -- What a tag's parentheses group (Handlebars' subexpressions).
-use Rattle.std.specs.Prelude.{ℕ, suc, max, Bool, true, false, ◌&&◌, not, List, [], ◌∷◌, ◌++◌}
+use Rattle.std.specs.Prelude.{ℕ, suc, max, Bool, true, false, ◌&&◌, not, List, [], ◌∷◌}
 use Rattle.template_tags.specs.Items.{Item, word, left_parenthesis, right_parenthesis}
 
 -- a word, or what is between a `(` and its `)`

@@ -1,5 +1,5 @@
 -- What a word of a tag is, and the value that it names.
-use Rattle.std.specs.Prelude.{ℕ, ℤ, nat_lt, Bool, List, [], ◌∷◌, Option, Some, None, option_map, Result, Ok, Err}
+use Rattle.std.specs.Prelude.{ℕ, zero, suc, ℤ, nat_lt, Bool, List, [], ◌∷◌, Option, Some, None, option_map, Result, Ok, Err}
 use Rattle.std.specs.Prelude.{if◌then◌else◌, codes}
 use Rattle.std.specs.Option.{option_or, unwrap_or}
 use Rattle.std.specs.Str.{bytes_eq}
@@ -101,13 +101,16 @@ named_datum loops reference (Some up) = Item up (rest_of_steps (steps_in referen
 abbrev pub datum_of : List Level → List ℕ → Reference → Datum
 datum_of levels text reference = named_datum (loops_open levels) reference (loop_named (first_part text) levels)
 
+abbrev pub loop_word_value : LoopWord → Expression
+loop_word_value Index = index
+loop_word_value Key = key
+loop_word_value First = first
+loop_word_value Last = last
+
 -- outside of loops the words of loops find nothing
 abbrev pub loop_value : ℕ → LoopWord → Expression
-loop_value 0 w = datum Nothing
-loop_value loops Index = index
-loop_value loops Key = key
-loop_value loops First = first
-loop_value loops Last = last
+loop_value zero w = datum Nothing
+loop_value (suc loops) w = loop_word_value w
 
 abbrev pub word_value : List Level → List ℕ → Word → Result Expression TagError
 word_value levels text (text_word literal) = Ok (expressions.text_literal literal)
