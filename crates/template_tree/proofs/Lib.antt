@@ -5,3 +5,4 @@ pub mod Outcomes
 pub mod Vectors
 pub mod Pieces
 pub mod Plain
+pub mod Views

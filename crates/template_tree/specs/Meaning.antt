@@ -12,7 +12,7 @@ use Rattle.helper_set.specs.Values.{Value, a_datum, a_text, a_number, a_truth, t
 use Rattle.helper_set.specs.declared.helper.Helper.{Helper}
 use Rattle.helper_set.specs.declared.kind.Kind.{Kind}
 use Rattle.helper_set.specs.declared.signature.Parameter.{Parameter}
-use Rattle.helper_set.specs.declared.signature.Parameter.TheVariants.{DataOrText, Of}
+use Rattle.helper_set.specs.declared.signature.Parameter.TheVariants.{Any, DataOrText, Of}
 use Rattle.json_bridge.specs.PathFound.{path_of}
 use Rattle.template_tags.specs.declared.expression.Datum.{Datum}
 use Rattle.template_tags.specs.declared.expression.Datum.TheVariants.{Nothing, Root, Item, BodyPath}
@@ -101,9 +101,9 @@ converted (Of Kind.Truth) v = a_truth (truth_of v)
 converted DataOrText v = as_data_or_text v
 converted p v = v
 
-abbrev second_converted : Option Parameter → Value → List Value
-second_converted None v = []
-second_converted (Some p) v = converted p v ∷ []
+-- what a helper of two arguments wants its second one as
+abbrev pub second_parameter : Helper → Parameter
+second_parameter helper = unwrap_or (signature_of helper).second Any
 
 -- what a helper makes of its arguments; nothing where they aren't as many as its parameters
 abbrev pub made_by : Helper → List Value → Value
@@ -122,7 +122,7 @@ value_of (expressions.call helper e) root turns =
     made_by helper (converted (signature_of helper).first (value_of e root turns) ∷ [])
 value_of (expressions.call_two helper e f) root turns =
     made_by helper (converted (signature_of helper).first (value_of e root turns)
-    ∷ second_converted (signature_of helper).second (value_of f root turns))
+    ∷ converted (second_parameter helper) (value_of f root turns) ∷ [])
 
 -- ---- texts
 
@@ -136,10 +136,10 @@ abbrev pub is_taken : Bool → Bool → Bool
 is_taken true holds = not holds
 is_taken false holds = holds
 
--- the texts of the turns, joined, or the other text where there is no turn
-abbrev joined_or : List Turn → List ℕ → List ℕ → List ℕ
-joined_or [] joined otherwise = otherwise
-joined_or (turn ∷ turns) joined otherwise = joined
+-- the first text where there is a turn, and else the other
+abbrev where_any : List Turn → List ℕ → List ℕ → List ℕ
+where_any [] text otherwise = otherwise
+where_any (t ∷ turns) text otherwise = text
 
 abbrev mutual
   pub node_text : Node → Tree → List Turn → List ℕ
@@ -153,7 +153,7 @@ abbrev mutual
   node_text (each over body) root turns =
       flat_map (λ turn. template_text body root (turn ∷ turns)) (turns_of (datum_at over root turns))
   node_text (each_else over body otherwise) root turns =
-      joined_or (turns_of (datum_at over root turns))
+      where_any (turns_of (datum_at over root turns))
       (flat_map (λ turn. template_text body root (turn ∷ turns)) (turns_of (datum_at over root turns)))
       (template_text otherwise root turns)
 
