@@ -1,16 +1,20 @@
 -- Worked examples, which the checker computes.
-use Rattle.std.specs.Prelude.{◌≡◌, List, [], ◌∷◌, codes}
+use Rattle.std.specs.Prelude.{◌≡◌, true, false, List, [], ◌∷◌, codes}
 use Rattle.std.proofs.Common.{refl}
 use Rattle.data_tree.specs.Tree.{Tree, text, fields, named, no_items, item, no_members, member}
 use Rattle.data_tree.specs.declared.step.Step.{Step}
 use Rattle.data_tree.specs.declared.step.Step.TheVariants.{Name, Index}
-use Rattle.template_code.specs.declared.instr.Instr.TheVariants.{Emit, Root, Show, Escape, Print, Halt}
+use Rattle.helper_set.specs.declared.helper.Helper.TheVariants as helpers
+use Rattle.template_code.specs.declared.instr.Instr.TheVariants.{Emit, Root, Item, Index as AtIndex, Last, Show, Test, Call}
+use Rattle.template_code.specs.declared.instr.Instr.TheVariants.{Escape, Print, Jump, Branch, Each, Next, Halt}
+use Rattle.template_tags.specs.declared.expression.Datum.TheVariants as datums
+use Rattle.template_tags.specs.Expression as expressions
+use Rattle.template_tags.specs.Expression.{datum}
 use Rattle.template_tree.specs.declared.escape.Escape.TheVariants.{Off, Html}
-use Rattle.template_tree.specs.Tree.{reading, piece, print, Nodes, no_nodes, first_node}
-use Rattle.template_words.specs.declared.reference.Reference.{Reference}
+use Rattle.template_tree.specs.Meaning.{template_text}
+use Rattle.template_tree.specs.Tree.{piece, print, if_then, if_else, each_else, Nodes, no_nodes, first_node}
 use Rattle.template_compile.specs.Compiled.{stack_code}
 use Rattle.template_compile.specs.Length.{code_length}
-use Rattle.template_tree.specs.Meaning.{template_text}
 
 -- the path of `GET /hi/Ann`
 abbrev ann_path : Tree
@@ -25,7 +29,7 @@ second_segment = Name (codes "request") ∷ Name (codes "path") ∷ Index 1 ∷ 
 
 -- `Hello {{request.path.[1]}}`
 abbrev hello : Nodes
-hello = first_node (piece (codes "Hello ")) (first_node (print Off (reading (Reference.Root second_segment))) no_nodes)
+hello = first_node (piece (codes "Hello ")) (first_node (print Off (datum (datums.Root second_segment))) no_nodes)
 
 text_of_hello : template_text hello ann [] ≡ codes "Hello Ann"
 text_of_hello = refl
@@ -43,7 +47,7 @@ code_of_hello = refl
 -- the same with its value escaped, and a text of which nothing is
 abbrev escaped_hello : Nodes
 escaped_hello =
-    first_node (piece (codes "<Hello> ")) (first_node (print Html (reading (Reference.Root second_segment))) no_nodes)
+    first_node (piece (codes "<Hello> ")) (first_node (print Html (datum (datums.Root second_segment))) no_nodes)
 
 abbrev tag_path : Tree
 tag_path = named (codes "/hi/<a>") (item (text (codes "hi")) (item (text (codes "<a>")) no_items)) no_members
@@ -87,33 +91,48 @@ code_of_two_pieces : stack_code two_pieces ≡ record {
 }
 code_of_two_pieces = refl
 
--- `{{name}}` and `{{../name}}`
-abbrev here : Nodes
-here = first_node (print Off (reading (Reference.Item 0 (Name (codes "name") ∷ [])))) no_nodes
-
-abbrev further_out : Nodes
-further_out = first_node (print Off (reading (Reference.Item 1 (Name (codes "name") ∷ [])))) no_nodes
-
-abbrev named_Al : Tree
-named_Al = fields (member (codes "name") (text (codes "Al")) no_members)
-
-abbrev named_Bo : Tree
-named_Bo = fields (member (codes "name") (text (codes "Bo")) no_members)
-
--- outside of loops they are Nothing
-text_outside : template_text (first_node (piece (codes "a")) here) named_Bo [] ≡ codes "a"
-text_outside = refl
-
-code_outside : stack_code here ≡ record {
+-- outside of loops `{{name}}` is nothing
+code_outside : stack_code (first_node (print Off (datum datums.Nothing)) no_nodes) ≡ record {
   instrs = Root 0 ∷ Show ∷ Print ∷ Halt ∷ [];
   texts = [];
   paths = (Name [] ∷ []) ∷ [];
 }
 code_outside = refl
 
--- within two, they are read from the items of these
-text_inside : template_text here ann (named_Al ∷ named_Bo ∷ []) ≡ codes "Al"
-text_inside = refl
+abbrev query : List Step
+query = Name (codes "request") ∷ Name (codes "query") ∷ Name (codes "q") ∷ []
 
-text_further_out : template_text further_out ann (named_Al ∷ named_Bo ∷ []) ≡ codes "Bo"
-text_further_out = refl
+-- `{{#if request.query.q}}Q={{request.query.q}}{{else}}none{{/if}}`
+abbrev query_or_none : Nodes
+query_or_none =
+    first_node (if_else false (datum (datums.Root query))
+    (first_node (piece (codes "Q=")) (first_node (print Off (datum (datums.Root query))) no_nodes))
+    (first_node (piece (codes "none")) no_nodes)) no_nodes
+
+code_of_query_or_none : stack_code query_or_none ≡ record {
+  instrs = Root 0 ∷ Test ∷ Branch 8 ∷ Emit 0 ∷ Root 1 ∷ Show ∷ Print ∷ Jump 9 ∷ Emit 1 ∷ Halt ∷ [];
+  texts = codes "Q=" ∷ codes "none" ∷ [];
+  paths = query ∷ query ∷ [];
+}
+code_of_query_or_none = refl
+
+length_of_query_or_none : code_length query_or_none ≡ 10
+length_of_query_or_none = refl
+
+-- `{{#each request.query.q as |v|}}{{@index}}:{{v}}{{#unless @last}};{{/unless}}{{else}}none{{/each}}`
+abbrev numbered : Nodes
+numbered =
+    first_node (each_else (datums.Root query)
+    (first_node (print Off expressions.index) (first_node (piece (codes ":"))
+    (first_node (print Off (datum (datums.Item 0 []))) (first_node (if_then true expressions.last
+    (first_node (piece (codes ";")) no_nodes)) no_nodes))))
+    (first_node (piece (codes "none")) no_nodes)) no_nodes
+
+code_of_numbered : stack_code numbered ≡ record {
+  instrs =
+      Root 0 ∷ Each 15 ∷ AtIndex 0 ∷ Show ∷ Print ∷ Emit 0 ∷ Item 0 1 ∷ Show ∷ Print ∷ Last 0 ∷ Call helpers.Not
+      ∷ Branch 13 ∷ Emit 1 ∷ Next 2 ∷ Jump 16 ∷ Emit 2 ∷ Halt ∷ [];
+  texts = codes ":" ∷ codes ";" ∷ codes "none" ∷ [];
+  paths = query ∷ [] ∷ [];
+}
+code_of_numbered = refl

@@ -1,14 +1,12 @@
--- Code that is part of other code: a node's code is found at the node's offsets in the template's code.
-use Rattle.std.proofs.Common.{◌≡◌, ℕ, suc, ◌+◌, List, [], ◌∷◌, ◌++◌, length, Some, refl, subst, arith, length-append}
+-- Code that is part of other code: each part of a template's code stands in it at the part's offsets.
+use Rattle.std.proofs.Common.{◌≡◌, ℕ, suc, ◌+◌, List, [], ◌∷◌, ◌++◌, length, Some, refl, sym, ap, ◌∙◌, subst, arith}
+use Rattle.std.proofs.Common.{length-append, append_assoc}
 use Rattle.std.specs.Prelude.{slice_get}
+use Rattle.data_tree.specs.declared.step.Step.{Step}
 use Rattle.template_code.specs.Code.{StackCode}
-use Rattle.template_code.specs.declared.instr.Instr.TheVariants.{Halt}
-use Rattle.template_tree.specs.declared.escape.Escape.{Escape}
-use Rattle.template_tree.specs.declared.escape.Escape.TheVariants.{Off, Html}
-use Rattle.template_tree.specs.Tree.{Node, Nodes, no_nodes, first_node, piece, print, reading}
-use Rattle.template_compile.specs.Compiled.{Offsets, start_offsets, offsets_after, appended, without_tables}
-use Rattle.template_compile.specs.Compiled.{print_instrs, node_code, nodes_code, stack_code}
-use Rattle.template_compile.specs.Length.{print_length, node_length, nodes_length, code_length}
+use Rattle.template_code.specs.declared.instr.Instr.{Instr}
+use Rattle.template_compile.specs.Compiled.{Offsets, start_offsets, offsets_after, appended, Gen, ◌▸◌}
+use Rattle.template_compile.specs.Inner.Drafts.{extended_by}
 
 -- the list has the elements, in order, from an index on
 abbrev pub HasAt : {A : Type 0} → List A → ℕ → List A → Type 0
@@ -43,23 +41,70 @@ pub record HasCode (whole : StackCode) (offsets : Offsets) (code : StackCode) : 
   pub texts : HasAt whole.texts offsets.texts code.texts
   pub paths : HasAt whole.paths offsets.paths code.paths
 
-pub has_code-front :
-    (whole : StackCode) (offsets : Offsets) (a b : StackCode)
-    → HasCode whole offsets (appended a b) → HasCode whole offsets a
-has_code-front whole offsets a b h = record {
-  instrs = has_front whole.instrs offsets.index a.instrs b.instrs h.instrs;
-  texts = has_front whole.texts offsets.texts a.texts b.texts h.texts;
-  paths = has_front whole.paths offsets.paths a.paths b.paths h.paths;
-}
+-- the part stands in the whole code at the offsets
+abbrev pub HasPart : StackCode → Offsets → Gen → Type 0
+HasPart whole offsets f = HasCode whole offsets (f offsets)
 
-pub has_code-back :
-    (whole : StackCode) (offsets : Offsets) (a b : StackCode)
-    → HasCode whole offsets (appended a b) → HasCode whole (offsets_after offsets a) b
-has_code-back whole offsets a b h = record {
-  instrs = has_back whole.instrs offsets.index a.instrs b.instrs h.instrs;
-  texts = has_back whole.texts offsets.texts a.texts b.texts h.texts;
-  paths = has_back whole.paths offsets.paths a.paths b.paths h.paths;
-}
+-- where a part begins that comes after another
+abbrev pub after_part : Offsets → Gen → Offsets
+after_part offsets f = offsets_after offsets (f offsets)
+
+pub has_part-front :
+    (whole : StackCode) (offsets : Offsets) (f g : Gen) → HasPart whole offsets (f ▸ g) → HasPart whole offsets f
+has_part-front whole offsets f g h =
+    let a = f offsets in
+    let b = g (after_part offsets f) in
+    record {
+      instrs = has_front whole.instrs offsets.index a.instrs b.instrs h.instrs;
+      texts = has_front whole.texts offsets.texts a.texts b.texts h.texts;
+      paths = has_front whole.paths offsets.paths a.paths b.paths h.paths;
+    }
+
+pub has_part-back :
+    (whole : StackCode) (offsets : Offsets) (f g : Gen)
+    → HasPart whole offsets (f ▸ g) → HasPart whole (after_part offsets f) g
+has_part-back whole offsets f g h =
+    let a = f offsets in
+    let b = g (after_part offsets f) in
+    record {
+      instrs = has_back whole.instrs offsets.index a.instrs b.instrs h.instrs;
+      texts = has_back whole.texts offsets.texts a.texts b.texts h.texts;
+      paths = has_back whole.paths offsets.paths a.paths b.paths h.paths;
+    }
+
+same_offsets : (i j t u p q : ℕ) → i ≡ j → t ≡ u → p ≡ q
+    → ◌≡◌ {A = Offsets} (record { index = i; texts = t; paths = p }) (record { index = j; texts = u; paths = q })
+same_offsets i j t u p q e f g = rw (e, f, g) refl
+
+same_code : (i j : List Instr) (t u : List (List ℕ)) (p q : List (List Step)) → i ≡ j → t ≡ u → p ≡ q
+    → ◌≡◌ {A = StackCode} (record { instrs = i; texts = t; paths = p }) (record { instrs = j; texts = u; paths = q })
+same_code i j t u p q e f g = rw (e, f, g) refl
+
+-- two parts end where the second one does
+pub after_part-join :
+    (offsets : Offsets) (f g : Gen) → after_part offsets (f ▸ g) ≡ after_part (after_part offsets f) g
+after_part-join offsets f g =
+    let a = f offsets in
+    let b = g (after_part offsets f) in
+    same_offsets _ _ _ _ _ _ (omega (arith, length-append a.instrs b.instrs))
+    (omega (arith, length-append a.texts b.texts)) (omega (arith, length-append a.paths b.paths))
+
+-- to extend code by two parts is to extend it by the one and then by the other
+pub extended_by-join :
+    (code : StackCode) (f g : Gen) → extended_by code (f ▸ g) ≡ extended_by (extended_by code f) g
+extended_by-join code f g =
+    let start = offsets_after start_offsets code in
+    let a = f start in
+    let next = after_part start f in
+    let next' = offsets_after start_offsets (appended code a) in
+    let same : next' ≡ next =
+    same_offsets _ _ _ _ _ _ (omega (arith, length-append code.instrs a.instrs))
+    (omega (arith, length-append code.texts a.texts)) (omega (arith, length-append code.paths a.paths)) in
+    let b = g next in
+    let joined : extended_by code (f ▸ g) ≡ appended (appended code a) b =
+    same_code _ _ _ _ _ _ (sym (append_assoc code.instrs a.instrs b.instrs))
+    (sym (append_assoc code.texts a.texts b.texts)) (sym (append_assoc code.paths a.paths b.paths)) in
+    joined ∙ ap (λ o. appended (appended code a) (g o)) (sym same)
 
 pub has_code-itself : (code : StackCode) → HasCode code start_offsets code
 has_code-itself code =
@@ -68,32 +113,3 @@ has_code-itself code =
       texts = has_itself code.texts;
       paths = has_itself code.paths;
     }
-
-pub length-print : (escape : Escape) → length (print_instrs escape) ≡ print_length escape
-length-print Off = refl
-length-print Html = refl
-
-pub length-node : (node : Node) (offsets : Offsets) → length (node_code node offsets).instrs ≡ node_length node
-length-node (piece bytes) offsets = refl
-length-node (print Off (reading r)) offsets = refl
-length-node (print Html (reading r)) offsets = refl
-
-pub length-nodes : (nodes : Nodes) (offsets : Offsets) → length (nodes_code nodes offsets).instrs ≡ nodes_length nodes
-length-nodes no_nodes offsets = refl
-length-nodes (first_node node nodes) offsets =
-    let next = offsets_after offsets (node_code node offsets) in
-    omega (
-      arith,
-      length-append (node_code node offsets).instrs (nodes_code nodes next).instrs,
-      length-node node offsets,
-      length-nodes nodes next,
-    )
-
-pub length-stack_code : (nodes : Nodes) → length (stack_code nodes).instrs ≡ code_length nodes
-length-stack_code nodes =
-    omega (
-      arith,
-      length-append (nodes_code nodes start_offsets).instrs (without_tables (Halt ∷ [])).instrs,
-      length-nodes
-          nodes start_offsets,
-    )

@@ -1,4 +1,5 @@
 pub mod HasCode
+pub mod Lengths
 pub mod Runs
 pub mod Covers
 pub mod Outermost

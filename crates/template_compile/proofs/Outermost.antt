@@ -14,10 +14,13 @@ use Rattle.code_rules.specs.Rules.{is_target, jumps, jumps_among, nests_to}
 use Rattle.code_rules.specs.Table.{nest_after, entry_next, entry_at}
 use Rattle.code_rules.proofs.RegionFacts.{own-grows}
 use Rattle.code_rules.proofs.TableFacts.{entry_at-next}
+use Rattle.template_tags.specs.declared.expression.Datum.TheVariants.{Nothing, Root}
+use Rattle.template_tags.specs.Expression.{datum}
 use Rattle.template_tree.specs.declared.escape.Escape.TheVariants.{Off, Html}
-use Rattle.template_tree.specs.Tree.{Node, reading, piece, print, Nodes, no_nodes, first_node}
-use Rattle.template_compile.specs.Compiled.{Offsets, start_offsets, offsets_after, without_tables, node_code}
-use Rattle.template_compile.specs.Compiled.{nodes_code, stack_code}
+use Rattle.template_tree.specs.Inner.Plain.{IsPlain, ArePlain}
+use Rattle.template_tree.specs.Tree.{Node, piece, print, Nodes, no_nodes, first_node}
+use Rattle.template_compile.specs.Compiled.{Offsets, start_offsets, node_code, nodes_code, stack_code}
+use Rattle.template_compile.proofs.HasCode.{after_part}
 
 -- it neither opens nor closes a loop
 abbrev pub stays : Instr → Bool
@@ -36,17 +39,22 @@ straight-join : (is js : List Instr) → GoStraight is → GoStraight js → GoS
 straight-join [] js h k = k
 straight-join (i ∷ is) js h k = (h.0, h.1, straight-join is js h.2 k)
 
-straight-node : (node : Node) (offsets : Offsets) → GoStraight (node_code node offsets).instrs
-straight-node (piece bytes) offsets = (refl, refl, tt)
-straight-node (print Off (reading r)) offsets = (refl, refl, (refl, refl, (refl, refl, tt)))
-straight-node (print Html (reading r)) offsets = (refl, refl, (refl, refl, (refl, refl, (refl, refl, tt))))
+straight-node : (node : Node) → IsPlain node → (offsets : Offsets) → GoStraight (node_code node offsets).instrs
+straight-node (piece bytes) plain offsets = (refl, refl, tt)
+straight-node (print Off (datum Nothing)) plain offsets = (refl, refl, (refl, refl, (refl, refl, tt)))
+straight-node (print Html (datum Nothing)) plain offsets = (refl, refl, (refl, refl, (refl, refl, (refl, refl, tt))))
+straight-node (print Off (datum (Root path))) plain offsets = (refl, refl, (refl, refl, (refl, refl, tt)))
+straight-node (print Html (datum (Root path))) plain offsets =
+    (refl, refl, (refl, refl, (refl, refl, (refl, refl, tt))))
+straight-node node plain offsets = absurd plain
 
-straight-nodes : (nodes : Nodes) (offsets : Offsets) → GoStraight (nodes_code nodes offsets).instrs
-straight-nodes no_nodes offsets = tt
-straight-nodes (first_node node nodes) offsets =
-    let next = offsets_after offsets (node_code node offsets) in
-    straight-join (node_code node offsets).instrs (nodes_code nodes next).instrs (straight-node node offsets)
-    (straight-nodes nodes next)
+straight-nodes :
+    (nodes : Nodes) → ArePlain nodes → (offsets : Offsets) → GoStraight (nodes_code nodes offsets).instrs
+straight-nodes no_nodes plain offsets = tt
+straight-nodes (first_node node nodes) plain offsets =
+    let next = after_part offsets (node_code node) in
+    straight-join (node_code node offsets).instrs (nodes_code nodes next).instrs (straight-node node plain.0 offsets)
+    (straight-nodes nodes plain.1 next)
 
 none_at : (is : List Instr) → GoStraight is → (index target : ℕ) → jumps (slice_get is index) target ≡ false
 none_at [] h index target = refl
@@ -60,16 +68,16 @@ none_among code h (suc index) target =
     (none_at code.instrs h index target)
     ∙ none_among code h index target
 
-straight-code : (nodes : Nodes) → GoStraight (stack_code nodes).instrs
-straight-code nodes =
-    straight-join (nodes_code nodes start_offsets).instrs (without_tables (Halt ∷ [])).instrs
-    (straight-nodes nodes start_offsets) (refl, refl, tt)
+straight-code : (nodes : Nodes) → ArePlain nodes → GoStraight (stack_code nodes).instrs
+straight-code nodes plain =
+    straight-join (nodes_code nodes start_offsets).instrs (Halt ∷ []) (straight-nodes nodes plain start_offsets)
+    (refl, refl, tt)
 
-pub stack_code-no_jumps : (nodes : Nodes) (index : ℕ) →
+pub stack_code-no_jumps : (nodes : Nodes) → ArePlain nodes → (index : ℕ) →
     nests_to (stack_code nodes) (entry_at (stack_code nodes)) index ≡ []
-stack_code-no_jumps nodes index =
+stack_code-no_jumps nodes plain index =
     let code = stack_code nodes in
-    ap (map (λ source. (entry_at code source).nest)) (none_among code (straight-code nodes) index index)
+    ap (map (λ source. (entry_at code source).nest)) (none_among code (straight-code nodes plain) index index)
 
 stays-at : (is : List Instr) → GoStraight is → (index : ℕ) (i : Instr) → slice_get is index ≡ Some i →
     stays i ≡ true
@@ -77,8 +85,8 @@ stays-at [] h index i at = absurd (none-some i at)
 stays-at (j ∷ is) h zero i at = sym (ap stays (same_Some j i at)) ∙ h.1
 stays-at (j ∷ is) h (suc index) i at = stays-at is h.2 index i at
 
-pub stack_code-no_loops : (nodes : Nodes) → HasNoLoops (stack_code nodes)
-stack_code-no_loops nodes index i at = stays-at (stack_code nodes).instrs (straight-code nodes) index i at
+pub stack_code-no_loops : (nodes : Nodes) → ArePlain nodes → HasNoLoops (stack_code nodes)
+stack_code-no_loops nodes plain index i at = stays-at (stack_code nodes).instrs (straight-code nodes plain) index i at
 
 -- ---- code without loops
 

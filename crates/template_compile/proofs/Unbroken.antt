@@ -1,5 +1,5 @@
 -- No instruction of a template's code breaks a rule.
-use Rattle.std.proofs.Common.{◌≡◌, ℕ, suc, ◌+◌, ◌<◌, ◌≤◌, List, [], ◌∷◌, ◌++◌, length, Some, None, refl, ap, ◌∙◌}
+use Rattle.std.proofs.Common.{◌≡◌, ℕ, suc, ◌+◌, ◌<◌, ◌≤◌, List, [], ◌∷◌, length, Some, None, refl, sym, ap, ◌∙◌}
 use Rattle.std.proofs.Common.{subst, ⊎_elim, arith, length-append}
 use Rattle.std.specs.Prelude.{false, nat_eq, slice_get}
 use Rattle.std.proofs.lemmas.Bool.{cases_lt, lt-ltb, ne_eqb, eq-eqb}
@@ -14,16 +14,21 @@ use Rattle.code_rules.proofs.TableFacts.{entry_at-next, IsTable-entry_at}
 use Rattle.template_code.specs.declared.instr.Instr.{Instr}
 use Rattle.template_code.specs.declared.instr.Instr.TheVariants.{Emit, Root, Show, Escape, Print, Halt}
 use Rattle.helper_set.specs.declared.kind.Kind.{Kind}
+use Rattle.template_tags.specs.declared.expression.Datum.TheVariants as datums
+use Rattle.template_tags.specs.Expression.{datum}
 use Rattle.template_tree.specs.declared.escape.Escape as escapes
 use Rattle.template_tree.specs.declared.escape.Escape.TheVariants.{Off, Html}
-use Rattle.template_tree.specs.Tree.{Node, reading, piece, print, Nodes, no_nodes, first_node}
-use Rattle.template_compile.specs.Compiled.{Offsets, start_offsets, offsets_after, without_tables, node_code}
+use Rattle.template_tree.specs.Inner.Plain.{IsPlain, ArePlain}
+use Rattle.template_tree.specs.Tree.{Node, piece, print, Nodes, no_nodes, first_node}
+use Rattle.template_compile.specs.Compiled.{Offsets, start_offsets, instructions, ◌▸◌, nothing_path, node_code}
 use Rattle.template_compile.specs.Compiled.{print_instrs, nodes_code, stack_code}
 use Rattle.template_compile.specs.Length.{print_length, code_length}
-use Rattle.template_compile.proofs.HasCode.{HasAt, HasCode, has_code-front, has_code-back, has_code-itself}
-use Rattle.template_compile.proofs.HasCode.{length-print, length-stack_code}
-use Rattle.template_compile.proofs.Outermost.{stack_code-no_jumps}
 use Rattle.template_compile.proofs.Covers.{Covers, covers-none, covers-one, covers-join}
+use Rattle.template_compile.proofs.HasCode.{HasAt, HasPart, after_part, after_part-join, has_part-front, has_part-back}
+use Rattle.template_compile.proofs.HasCode.{has_code-itself}
+use Rattle.template_compile.proofs.Lengths.{length-print, length-stack_code}
+use Rattle.template_compile.proofs.Outermost.{stack_code-no_jumps}
+use Rattle.template_compile.proofs.Runs.{path_print_code}
 
 -- the instruction at an index breaks no rule
 abbrev IsSound : StackCode → ℕ → Type 0
@@ -142,18 +147,13 @@ module _
         ends = entry_on (suc index) Print (with_kinds (Kind.Text ∷ [])) h.1.0 escaped;
       })
 
-  node_sound :
-      (node : Node) (offsets : Offsets)
-      → HasCode code offsets (node_code node offsets) → entry_at code offsets.index ≡ blank
-      → (offsets_after offsets (node_code node offsets)).index < length code.instrs
-      → IsSoundTo code offsets.index (offsets_after offsets (node_code node offsets)).index
-  node_sound (piece bytes) offsets h at lt =
-      let p = offsets.index in
-      sound_to p (suc p) (p + 1) (omega arith) (record {
-        sound = covers-one (IsSound code) p (emit_sound p offsets.texts bytes h.instrs.0 h.texts.0 at (omega arith));
-        ends = entry_on p (Emit offsets.texts) blank h.instrs.0 at;
-      })
-  node_sound (print escape (reading r)) offsets h at lt =
+  -- what a path finds is read from the root and written
+  path_sound :
+      (escape : escapes.Escape) (path : List Step) (offsets : Offsets)
+      → HasPart code offsets (path_print_code escape path) → entry_at code offsets.index ≡ blank
+      → (after_part offsets (path_print_code escape path)).index < length code.instrs
+      → IsSoundTo code offsets.index (after_part offsets (path_print_code escape path)).index
+  path_sound escape path offsets h at lt =
       let p = offsets.index in
       let found : entry_at code (suc p) ≡ with_kinds (Kind.Data ∷ []) =
       entry_on p (Root offsets.paths) blank h.instrs.0 at in
@@ -162,37 +162,53 @@ module _
       let long = length-print escape in
       let end = suc (suc p) + print_length escape in
       let text = text_sound escape (suc (suc p)) h.instrs.1.1 shown (omega (arith, long, lt)) in
-      let one = covers-one (IsSound code) p (root_sound p offsets.paths _ h.instrs.0 h.paths.0 at (omega (arith, lt))) in
+      let one = covers-one (IsSound code) p (root_sound p offsets.paths path h.instrs.0 h.paths.0 at (omega (arith, lt))) in
       let two = covers-one (IsSound code) (suc p) (show_sound (suc p) h.instrs.1.0 found (omega (arith, long, lt))) in
-      sound_to p end (p + length (Root offsets.paths ∷ Show ∷ print_instrs escape)) (omega (arith, long)) (record {
+      sound_to p end (after_part offsets (path_print_code escape path)).index (omega (arith, long)) (record {
         sound =
             covers-join (IsSound code) p (suc p) end one
             (covers-join (IsSound code) (suc p) (suc (suc p)) end two text.sound);
         ends = text.ends;
       })
 
+  node_sound :
+      (node : Node) (offsets : Offsets)
+      → IsPlain node → HasPart code offsets (node_code node) → entry_at code offsets.index ≡ blank
+      → (after_part offsets (node_code node)).index < length code.instrs
+      → IsSoundTo code offsets.index (after_part offsets (node_code node)).index
+  node_sound (piece bytes) offsets plain h at lt =
+      let p = offsets.index in
+      sound_to p (suc p) (p + 1) (omega arith) (record {
+        sound = covers-one (IsSound code) p (emit_sound p offsets.texts bytes h.instrs.0 h.texts.0 at (omega arith));
+        ends = entry_on p (Emit offsets.texts) blank h.instrs.0 at;
+      })
+  node_sound (print escape (datum datums.Nothing)) offsets plain h at lt =
+      path_sound escape nothing_path offsets h at lt
+  node_sound (print escape (datum (datums.Root path))) offsets plain h at lt = path_sound escape path offsets h at lt
+  node_sound node offsets plain h at lt = absurd plain
+
   nodes_sound :
       (nodes : Nodes) (offsets : Offsets)
-      → HasCode code offsets (nodes_code nodes offsets) → entry_at code offsets.index ≡ blank
-      → (offsets_after offsets (nodes_code nodes offsets)).index < length code.instrs
-      → IsSoundTo code offsets.index (offsets_after offsets (nodes_code nodes offsets)).index
-  nodes_sound no_nodes offsets h at lt =
+      → ArePlain nodes → HasPart code offsets (nodes_code nodes) → entry_at code offsets.index ≡ blank
+      → (after_part offsets (nodes_code nodes)).index < length code.instrs
+      → IsSoundTo code offsets.index (after_part offsets (nodes_code nodes)).index
+  nodes_sound no_nodes offsets plain h at lt =
       let none : IsSoundTo code offsets.index offsets.index =
       record { sound = covers-none (IsSound code) offsets.index; ends = at } in
       sound_to offsets.index offsets.index (offsets.index + 0) (omega arith) none
-  nodes_sound (first_node node nodes) offsets h at lt =
-      let mine = node_code node offsets in
-      let next = offsets_after offsets mine in
-      let rest = nodes_code nodes next in
-      let e : next.index + length rest.instrs ≡ offsets.index + length (mine.instrs ++ rest.instrs) =
-      omega (arith, length-append mine.instrs rest.instrs) in
-      let front = node_sound node offsets (has_code-front code offsets mine rest h) at (omega (arith, e, lt)) in
-      let back = nodes_sound nodes next (has_code-back code offsets mine rest h) front.ends (omega (arith, e, lt)) in
-      sound_to offsets.index (next.index + length rest.instrs) (offsets.index + length (mine.instrs ++ rest.instrs)) e
-      (record {
-        sound =
-            covers-join (IsSound code) offsets.index next.index (next.index + length rest.instrs) front.sound
-            back.sound;
+  nodes_sound (first_node node nodes) offsets plain h at lt =
+      let next = after_part offsets (node_code node) in
+      let end = (after_part next (nodes_code nodes)).index in
+      let e : end ≡ (after_part offsets (node_code node ▸ nodes_code nodes)).index =
+      sym (ap (λ (o : Offsets). o.index) (after_part-join offsets (node_code node) (nodes_code nodes))) in
+      let front =
+      node_sound node offsets plain.0 (has_part-front code offsets (node_code node) (nodes_code nodes) h) at
+      (omega (arith, e, lt)) in
+      let back =
+      nodes_sound nodes next plain.1 (has_part-back code offsets (node_code node) (nodes_code nodes) h) front.ends
+      (omega (arith, e, lt)) in
+      sound_to offsets.index end (after_part offsets (node_code node ▸ nodes_code nodes)).index e (record {
+        sound = covers-join (IsSound code) offsets.index next.index end front.sound back.sound;
         ends = back.ends;
       })
 
@@ -209,20 +225,21 @@ module _
       ∙ beyond_unbroken code.instrs index some)
       (cases_lt index (length code.instrs))
 
-pub stack_code-well_formed : (nodes : Nodes) → code_length nodes ≤ MAX_INSTRUCTIONS → IsWellFormed (stack_code nodes)
-stack_code-well_formed nodes le =
+pub stack_code-well_formed :
+    (nodes : Nodes) → ArePlain nodes → code_length nodes ≤ MAX_INSTRUCTIONS → IsWellFormed (stack_code nodes)
+stack_code-well_formed nodes plain le =
     let code = stack_code nodes in
-    let body = nodes_code nodes start_offsets in
-    let halt_index = (offsets_after start_offsets body).index in
+    let last_part = instructions (Halt ∷ []) in
+    let halt_index = (after_part start_offsets (nodes_code nodes)).index in
     let long = length-stack_code nodes in
     let short : length code.instrs ≤ MAX_INSTRUCTIONS = omega (arith, long, le) in
     let whole = has_code-itself code in
-    let before = has_code-front code start_offsets body (without_tables (Halt ∷ [])) whole in
-    let halt = (has_code-back code start_offsets body (without_tables (Halt ∷ [])) whole).instrs.0 in
+    let before = has_part-front code start_offsets (nodes_code nodes) last_part whole in
+    let halt = (has_part-back code start_offsets (nodes_code nodes) last_part whole).instrs.0 in
     let end : suc halt_index ≡ length code.instrs =
-    omega (arith, length-append body.instrs (without_tables (Halt ∷ [])).instrs) in
-    let none = stack_code-no_jumps nodes in
-    let front = nodes_sound code short none nodes start_offsets before refl (omega (arith, end)) in
+    omega (arith, length-append (nodes_code nodes start_offsets).instrs (Halt ∷ [])) in
+    let none = stack_code-no_jumps nodes plain in
+    let front = nodes_sound code short none nodes start_offsets plain before refl (omega (arith, end)) in
     let last = halt_sound code short none halt_index halt front.ends end in
     let all =
     covers-join (IsSound code) 0 halt_index (suc halt_index) front.sound

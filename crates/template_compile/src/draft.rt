@@ -27,7 +27,7 @@ impl Model for Draft {
 
 impl Draft {
     ghost use Rattle.std.specs.Prelude.{[], ◌∷◌};
-    ghost use Rattle.template_compile.specs.Compiled.{no_code, appended, without_tables, emit_code, root_code};
+    ghost use Rattle.template_compile.specs.Compiled.{no_code, instructions, emit_code, root_code};
     ghost use Rattle.template_compile.specs.Inner.Drafts.{extended_by};
 
     /// No code.
@@ -61,7 +61,7 @@ impl Draft {
 
     /// An instruction that needs no new entry.
     pub fn push(&mut self, instr: Instr) -> Result<(), AllocError>
-        ensures { OnOk result (self.new ≡ appended self.old (without_tables (instr ∷ []))) }
+        ensures { OnOk result (self.new ≡ extended_by self.old (instructions (instr ∷ []))) }
     {
         self.instrs.push(instr)?;
         Ok(())

@@ -4,8 +4,8 @@ use Rattle.std.proofs.Common.{Option, Some, None, IfSome, sym, subst, arith, len
 use Rattle.std.proofs.lemmas.Bool.{cond_both}
 use Rattle.std.proofs.lemmas.List.{length-take}
 use Rattle.template_words.specs.declared.mode.Mode.TheVariants.{Start}
-use Rattle.template_tree.specs.declared.tags.Opening.{Opening}
-use Rattle.template_tree.specs.declared.tags.Opening.TheVariants.{Double, Triple}
+use Rattle.template_tags.specs.declared.tag.Opening.{Opening}
+use Rattle.template_tags.specs.declared.tag.Opening.TheVariants.{Double, Triple}
 use Rattle.template_words.specs.Marks.{begins, offset_of, close_from, around}
 use Rattle.template_tree.specs.Tags.{Tag, comment, shown, comment_tag, shown_tag, comment_close, comment_of}
 use Rattle.template_tree.specs.Tags.{shown_of, tag_of}

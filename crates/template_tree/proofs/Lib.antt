@@ -4,4 +4,5 @@ pub mod Unique
 pub mod Outcomes
 pub mod Vectors
 pub mod Pieces
-pub mod Bytes
+pub mod Plain
+pub mod Views

@@ -6,13 +6,14 @@ use Rattle.std.specs.List.{ends_with}
 use Rattle.std.proofs.lemmas.Bool.{cond_both, both_ways}
 use Rattle.std.proofs.lemmas.List.{append-nil, take-append-drop, drop-append-le, length-take-le}
 use Rattle.template_words.specs.declared.error.TagError.{TagError}
-use Rattle.template_tree.specs.declared.tags.Opening.{Opening}
+use Rattle.template_tags.specs.declared.tag.Opening.{Opening}
 use Rattle.template_tree.specs.Laws.{IsPiece}
 use Rattle.template_words.specs.Marks.{begins, offset_of}
 use Rattle.template_tree.specs.Tags.{Tag, comment, shown, tag_of}
 use Rattle.template_tree.specs.Tokens.{node_token, token, tag_error, ended, print_next, closed_next, tag_next}
 use Rattle.template_tree.specs.Tokens.{error_after_backslash, last_text_next, next_at, next_of, expression_of}
-use Rattle.template_tree.specs.Tree.{Expression, piece}
+use Rattle.template_tags.specs.Expression.{Expression}
+use Rattle.template_tree.specs.Tree.{piece}
 use Rattle.template_words.proofs.Closes.{Marks, marks}
 use Rattle.template_words.proofs.Finding.{begins_own, offset_none}
 

@@ -10,19 +10,20 @@ use Rattle.template_tree.specs.declared.error.TemplateErrorKind.{TemplateErrorKi
 use Rattle.template_tree.specs.declared.error.TemplateErrorKind.TheVariants as kinds
 use Rattle.template_tree.specs.declared.parser.TheConstants.{TEXT_LIMIT}
 use Rattle.template_words.specs.declared.error.TagError.{TagError}
-use Rattle.template_tree.specs.declared.template.Node as part
+use Rattle.template_tree.specs.declared.node.Node as part
 use Rattle.template_tree.specs.Grammar.{Level, Leads, node_under, nodes_under, spell, Spells, IsErrorAt}
 use Rattle.template_tree.specs.Grammar.{IsParseError}
 use Rattle.template_tree.specs.Source.{Source}
 use Rattle.template_tree.specs.declared.escape.Escape.{Escape}
-use Rattle.template_tree.specs.declared.tags.Opening.{Opening}
+use Rattle.template_tags.specs.declared.tag.Opening.{Opening}
 use Rattle.template_words.specs.Marks.{begins, offset_of}
 use Rattle.template_tree.specs.Tags.{Tag, comment, shown, tag_of}
 use Rattle.template_tree.specs.Tokens.{Token, comment_token, node_token, Next, token, tag_error, ended, print_next}
 use Rattle.template_tree.specs.Tokens.{closed_next, tag_next, error_after_backslash, text_next, last_text_next}
 use Rattle.template_tree.specs.Tokens.{next_at, next_of}
 use Rattle.template_tree.specs.Tokens.{expression_of}
-use Rattle.template_tree.specs.Tree.{Expression, Node, piece, node_view, nodes_view}
+use Rattle.template_tags.specs.Expression.{Expression}
+use Rattle.template_tree.specs.Tree.{Node, piece, node_view, nodes_view}
 use Rattle.template_tree.specs.Inner.Views.{IsNextErrorAt, IsNextError}
 use Rattle.template_words.proofs.Finding.{offset_at}
 use Rattle.template_tree.proofs.Lengths.{TagWithin, tag_short}

@@ -13,7 +13,8 @@ use Rattle.template_tree.specs.Grammar.{Level, Leads, nodes_under, spell, Spells
 use Rattle.template_tree.specs.Grammar.{IsTemplateError, IsParseError}
 use Rattle.template_tree.specs.Source.{Source}
 use Rattle.template_tree.specs.Tokens.{Token, node_token, Next, token, tag_error, ended, next_of}
-use Rattle.template_tree.specs.Tree.{Node, Nodes, no_nodes, first_node, tree_of}
+use Rattle.template_tree.specs.Template.{tree_of}
+use Rattle.template_tree.specs.Tree.{Node, Nodes, no_nodes, first_node}
 use Rattle.template_tree.proofs.Rows.{empty_ended}
 
 -- no token begins here

@@ -5,15 +5,17 @@ use Rattle.template_tree.specs.declared.parser.TheConstants.{TEXT_LIMIT}
 use Rattle.template_tree.specs.declared.escape.Escape.{Escape}
 use Rattle.template_tree.specs.declared.escape.Escape.TheVariants.{Off, Html}
 use Rattle.template_words.specs.declared.error.TagError.{TagError}
-use Rattle.template_words.specs.declared.reference.Reference.TheVariants.{Root, Item}
-use Rattle.template_tree.specs.Examples.{AreExamples, Gives, text_before, field_before}
+use Rattle.template_tags.specs.declared.expression.Datum.{Datum}
+use Rattle.template_tags.specs.declared.expression.Datum.TheVariants.{Nothing, Root}
+use Rattle.template_tags.specs.Expression.{datum}
+use Rattle.template_tree.specs.Examples.{AreExamples, Gives, text_before, url_before}
 use Rattle.template_tree.specs.Grammar.{nodes_under, Spells, IsTagErrorAt}
 use Rattle.template_tree.specs.Source.{with_escape}
 use Rattle.template_words.specs.Marks.{offset_of}
 use Rattle.template_words.specs.Paths.{reference_from, step_of}
 use Rattle.template_tree.specs.Tags.{tag_of}
 use Rattle.template_tree.specs.Tokens.{Token, comment_token, node_token, tag_error, next_at, next_of, expression_of}
-use Rattle.template_tree.specs.Tree.{no_nodes, piece, print, reading}
+use Rattle.template_tree.specs.Tree.{no_nodes, piece, print}
 
 -- an error at the start of a text
 at_start : (text : List ℕ) (f : TagError) → length text ≤ TEXT_LIMIT → next_of text ≡ tag_error f text
@@ -43,21 +45,23 @@ longest b bs long none =
       same = refl;
     }
 
+abbrev url : Datum
+url = Root (Name (codes "request") ∷ Name (codes "url") ∷ [])
+
 -- the same tokens, whatever is escaped
-two_fields : (escape : Escape) → Spells (with_escape escape (codes "{{x}}<{{{x}}}"))
-    (field_before escape (codes "x") (text_before (codes "<") (field_before Off (codes "x") no_nodes)))
+two_urls : (escape : Escape) → Spells (with_escape escape (codes "{{request.url}}<{{{request.url}}}"))
+    (url_before escape (text_before (codes "<") (url_before Off no_nodes)))
 unfolding next_of tag_of expression_of reference_from step_of
-two_fields escape = record {
+two_urls escape = record {
   short = omega arith;
-  tokens = node_token (print Html (reading (Item 0 (Name (codes "x") ∷ [])))) ∷ node_token (piece (codes "<")) ∷
-      node_token (print Off (reading (Item 0 (Name (codes "x") ∷ [])))) ∷ [];
-  leads = (codes "<{{{x}}}", refl, (codes "{{{x}}}", refl, ([], refl, (refl, refl))));
+  tokens = node_token (print Html (datum url)) ∷ node_token (piece (codes "<")) ∷ node_token (print Off (datum url)) ∷ [];
+  leads = (codes "<{{{request.url}}}", refl, (codes "{{{request.url}}}", refl, ([], refl, (refl, refl))));
   same = marks escape;
 }
   where
     row : Escape → List Token
-    row mark = node_token (print mark (reading (Item 0 (Name (codes "x") ∷ [])))) ∷ node_token (piece (codes "<")) ∷
-        node_token (print Off (reading (Item 0 (Name (codes "x") ∷ [])))) ∷ []
+    row mark = node_token (print mark (datum url)) ∷ node_token (piece (codes "<"))
+        ∷ node_token (print Off (datum url)) ∷ []
 
     marks : (e : Escape) → nodes_under e (row Html) ≡ row e
     marks Off = refl
@@ -79,7 +83,7 @@ are_examples = record {
     short = omega arith;
     tokens =
         node_token (piece (codes "Hello ")) ∷ node_token
-        (print Html (reading (Root (Name (codes "request") ∷ Name (codes "path") ∷ Index 1 ∷ [])))) ∷ node_token
+        (print Html (datum (Root (Name (codes "request") ∷ Name (codes "path") ∷ Index 1 ∷ [])))) ∷ node_token
         (piece (codes "!")) ∷ [];
     leads = (codes "{{request.path.[1]}}!", refl, (codes "!", refl, ([], refl, (refl, refl))));
     same = refl;
@@ -88,26 +92,26 @@ are_examples = record {
       record {
         short = omega arith;
         tokens = node_token
-            (print Off (reading (Item 0 (Name (codes "x") ∷ Name (codes "a b") ∷ [])))) ∷ [];
+            (print Off (datum (Root (Name (codes "request") ∷ Name (codes "a b") ∷ [])))) ∷ [];
         leads =
             ([], refl, (refl, refl));
         same = refl;
       };
-  outer_item = record {
+  out_of_loops = record {
     short = omega arith;
     tokens =
-        node_token (print Html (reading (Item 1 (Name (codes "x") ∷ [])))) ∷ node_token
-        (print Html (reading (Item 1 []))) ∷ [];
-    leads = (codes "{{..}}", refl, ([], refl, (refl, refl)));
+        node_token (print Html (datum Nothing)) ∷ node_token (print Html (datum Nothing)) ∷ node_token
+        (print Html (datum Nothing)) ∷ [];
+    leads = (codes "{{..}}{{x}}", refl, (codes "{{x}}", refl, ([], refl, (refl, refl))));
     same = refl;
   };
-  escaped = two_fields Html;
-  not_escaped = two_fields Off;
+  escaped = two_urls Html;
+  not_escaped = two_urls Off;
   header =
       record {
         short = omega arith;
         tokens = node_token
-            (print Html (reading
+            (print Html (datum
             (Root (Name (codes "request") ∷ Name (codes "headers") ∷ Name (codes "x-id") ∷ [])))) ∷ [];
         leads = (
           [],
@@ -148,7 +152,7 @@ are_examples = record {
       record {
         short = omega arith;
         tokens = node_token
-            (print Html (reading (Item 0 (Name (codes "x") ∷ Name (codes "01") ∷ [])))) ∷ [];
+            (print Html (datum (Root (Name (codes "request") ∷ Name (codes "01") ∷ [])))) ∷ [];
         leads =
             ([], refl, (refl, refl));
         same = refl;

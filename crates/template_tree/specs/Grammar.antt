@@ -11,7 +11,7 @@ use Rattle.template_tree.specs.declared.parser.TheConstants.{TEXT_LIMIT}
 use Rattle.template_words.specs.declared.error.TagError.{TagError}
 use Rattle.template_tree.specs.Tokens.{Token, comment_token, node_token, token, tag_error, next_of}
 use Rattle.template_tree.specs.Source.{Source}
-use Rattle.template_tree.specs.Tree.{Node, piece, print, Nodes, no_nodes, first_node}
+use Rattle.template_tree.specs.Tree.{Node, print, Nodes, no_nodes, first_node}
 
 -- a block that is open: the number of bytes that were left at its tag. No tag opens one yet
 pub record Level : Type 0 where
@@ -30,8 +30,8 @@ escape_under Html mark = mark
 
 -- the node of a token in a template whose prints are escaped so
 abbrev pub node_under : Escape → Node → Node
-node_under escape (piece bytes) = piece bytes
 node_under escape (print mark e) = print (escape_under escape mark) e
+node_under escape n = n
 
 -- the tokens of the nodes
 abbrev pub nodes_under : Escape → List Token → List Token

@@ -1,2 +1,3 @@
--- Words that only the contracts of this crate's private functions need.
+-- Words that only private facts need: those of private functions' contracts, and what a template keeps.
 pub mod Views
+pub mod Plain

@@ -1,5 +1,6 @@
 pub mod Source
 pub mod Tree
+pub mod Template
 pub mod Tags
 pub mod Tokens
 pub mod Grammar

@@ -6,13 +6,18 @@ use Rattle.template_words.specs.declared.error.TagError.{TagError}
 use Rattle.template_words.specs.declared.error.TagError.TheVariants.{UnclosedTag, UnsupportedTag}
 use Rattle.template_tree.specs.declared.escape.Escape.{Escape}
 use Rattle.template_tree.specs.declared.escape.Escape.TheVariants.{Off, Html}
-use Rattle.template_tree.specs.declared.tags.Opening.{Opening}
-use Rattle.template_tree.specs.declared.tags.Opening.TheVariants.{Double, Triple}
+use Rattle.template_tags.specs.declared.tag.Opening.{Opening}
+use Rattle.template_tags.specs.declared.tag.Opening.TheVariants.{Double, Triple}
 use Rattle.template_words.specs.Marks.{offset_of}
+use Rattle.template_tags.specs.declared.expression.Datum.{Datum}
+use Rattle.template_tags.specs.declared.expression.Datum.TheVariants.{Nothing, Root}
+use Rattle.template_tags.specs.Expression.{Expression, datum}
+use Rattle.template_words.specs.declared.reference.Reference.{Reference}
+use Rattle.template_words.specs.declared.reference.Reference.TheVariants as references
 use Rattle.template_words.specs.Paths.{reference_of}
 use Rattle.template_words.specs.Reading.{◌>>=◌}
 use Rattle.template_tree.specs.Tags.{Tag, comment, shown, tag_of, is_unsupported}
-use Rattle.template_tree.specs.Tree.{Expression, reading, Node, piece, print}
+use Rattle.template_tree.specs.Tree.{Node, piece, print}
 use Rattle.template_words.specs.Words.{trim_white_space}
 
 -- a comment leaves no node; a print is marked as it is escaped in a template whose prints are
@@ -27,11 +32,16 @@ pub data Next : Type 0 where
   tag_error : TagError → List ℕ → Next
   ended : Next
 
--- what the content of a tag shows
+-- what a path refers to where no loop is open: what leads to an item finds nothing
+abbrev pub datum_outside : Reference → Datum
+datum_outside (references.Root path) = Root path
+datum_outside (references.Item depth steps) = Nothing
+
+-- what the content of a tag shows; no loop is open, since no tag opens one yet
 unfoldable pub expression_of : Opening → List ℕ → Result Expression TagError
 expression_of opening content =
     if is_unsupported opening (trim_white_space content) then Err UnsupportedTag
-    else (reference_of (trim_white_space content) >>= λ reference. Ok (reading reference))
+    else (reference_of (trim_white_space content) >>= λ reference. Ok (datum (datum_outside reference)))
 
 -- `{{E}}` escapes, and `{{{E}}}` doesn't
 abbrev pub escape_of : Opening → Escape

@@ -1,45 +1,44 @@
--- The tree that a `Template` is: its nodes in order, pieces of text and prints.
-use Rattle.std.specs.Prelude.{ℕ, ◌+◌, List, [], ◌∷◌, length}
-use Rattle.template_words.specs.declared.reference.Reference.{Reference}
+-- The tree of a template: pieces of text, prints, and the blocks `if`, `unless` and `each` with what is in them.
+use Rattle.std.specs.Prelude.{ℕ, Bool, List, [], ◌∷◌, map}
+use Rattle.template_tags.specs.declared.expression.Datum.{Datum}
+use Rattle.template_tags.specs.Expression.{Expression, expression_view}
 use Rattle.template_tree.specs.declared.escape.Escape.{Escape}
-use Rattle.template_tree.specs.declared.template.Expression as expression
-use Rattle.template_tree.specs.declared.template.Expression.TheVariants as expressions
-use Rattle.template_tree.specs.declared.template.Node as node
-use Rattle.template_tree.specs.declared.template.Node.TheVariants as kinds
-use Rattle.template_tree.specs.declared.template.Template.{Template}
+use Rattle.template_tree.specs.declared.node.Node as declared
+use Rattle.template_tree.specs.declared.node.Node.{fold-Node}
+use Rattle.template_tree.specs.declared.node.Node.TheOpen.{Node-F}
 
--- what a tag shows: what a path leads to
-pub data Expression : Type 0 where
-  reading : Reference → Expression
+mutual
+  -- a piece of text by its bytes; a print, marked by how the text of its value is escaped; an `if`, or an `unless` where
+  -- that is true, with the part that is written where its test holds and maybe its else part; a loop over the items of a
+  -- value, with its body and maybe the else part that is written where there is no item
+  pub data Node : Type 0 where
+    piece : List ℕ → Node
+    print : Escape → Expression → Node
+    if_then : Bool → Expression → Nodes → Node
+    if_else : Bool → Expression → Nodes → Nodes → Node
+    each : Datum → Nodes → Node
+    each_else : Datum → Nodes → Nodes → Node
 
--- a piece of text by its bytes, or a print, marked by how the text of its value is escaped
-pub data Node : Type 0 where
-  piece : List ℕ → Node
-  print : Escape → Expression → Node
+  pub data Nodes : Type 0 where
+    no_nodes : Nodes
+    first_node : Node → Nodes → Nodes
 
-pub data Nodes : Type 0 where
-  no_nodes : Nodes
-  first_node : Node → Nodes → Nodes
+abbrev pub nodes_of : List Node → Nodes
+nodes_of [] = no_nodes
+nodes_of (n ∷ ns) = first_node n (nodes_of ns)
 
-abbrev pub expression_view : expression.Expression → Expression
-expression_view (expressions.Reference r) = reading r
+-- one level, with each node inside already seen
+abbrev pub view_step : Node-F Node → Node
+view_step (Node-F.Piece text) = piece text
+view_step (Node-F.Print escape e) = print escape (expression_view e)
+view_step (Node-F.If unless test body) = if_then unless (expression_view test) (nodes_of body.items)
+view_step (Node-F.IfElse unless test body otherwise) =
+    if_else unless (expression_view test) (nodes_of body.items) (nodes_of otherwise.items)
+view_step (Node-F.Each over body) = each over (nodes_of body.items)
+view_step (Node-F.EachElse over body otherwise) = each_else over (nodes_of body.items) (nodes_of otherwise.items)
 
-abbrev pub node_view : node.Node → Node
-node_view (kinds.Piece text) = piece text
-node_view (kinds.Print escape e) = print escape (expression_view e)
+abbrev pub node_view : declared.Node → Node
+node_view = fold-Node Node view_step
 
-abbrev pub nodes_view : List node.Node → Nodes
-nodes_view [] = no_nodes
-nodes_view (n ∷ ns) = first_node (node_view n) (nodes_view ns)
-
-abbrev pub tree_of : Template → Nodes
-tree_of t = nodes_view t.nodes.items
-
-abbrev pub node_bytes : Node → ℕ
-node_bytes (piece bytes) = length bytes
-node_bytes (print escape expression) = 0
-
--- how many bytes the pieces of text have together
-abbrev pub text_bytes : Nodes → ℕ
-text_bytes no_nodes = 0
-text_bytes (first_node n ns) = node_bytes n + text_bytes ns
+abbrev pub nodes_view : List declared.Node → Nodes
+nodes_view ns = nodes_of (map node_view ns)

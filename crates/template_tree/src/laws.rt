@@ -5,7 +5,7 @@ ghost use Rattle.template_tree.specs.Laws.{IsPiece};
 ghost use Rattle.template_tree.specs.Source.{Source};
 ghost use Rattle.template_tree.specs.Examples.{AreExamples};
 ghost use Rattle.template_tree.specs.Tokens.{token, node_token, next_of};
-ghost use Rattle.template_tree.specs.Tree.{Nodes, piece, text_bytes};
+ghost use Rattle.template_tree.specs.Tree.{Nodes, piece};
 ghost use Rattle.template_tree.specs.declared.error.TemplateError.{TemplateError};
 ghost use Rattle.template_tree.specs.declared.parser.TheConstants.{TEXT_LIMIT};
 
@@ -27,11 +27,6 @@ pub fn law_text_spells_tree_or_has_error()
 /// A piece of text is never split: it goes up to the next mark, or to the end.
 pub fn law_piece_ends_at_next_mark()
     ensures { (text p rest : List ℕ) → next_of text ≡ token (node_token (piece p)) rest → IsPiece text p rest }
-{}
-
-/// The pieces of the tree that a text spells have no more bytes than the text.
-pub fn law_pieces_are_within_text()
-    ensures { (source : Source) (tree : Nodes) → Spells source tree → text_bytes tree ≤ length source.text }
 {}
 
 /// Some twenty texts, each with its tree or its error.

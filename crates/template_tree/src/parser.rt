@@ -4,12 +4,14 @@ ghost use Rattle.template_tree.specs.Grammar.{Spells, IsTemplateError, IsParseEr
 ghost use Rattle.template_tree.specs.Inner.Views.{token_view, IsNextError};
 ghost use Rattle.template_tree.specs.Source.{with_escape, unescaped};
 ghost use Rattle.template_tree.specs.Tokens.{token, next_of};
-ghost use Rattle.template_tree.specs.Tree.{Nodes, tree_of, nodes_view};
+ghost use Rattle.template_tree.specs.Template.{tree_of};
+ghost use Rattle.template_tree.specs.Tree.{Nodes, nodes_view};
 ghost use Rattle.template_tree.specs.declared.parser.TheConstants.{TEXT_LIMIT};
 
 use crate::error::{ParseError, TemplateError, TemplateErrorKind};
 use crate::escape::Escape;
-use crate::template::{Node, Template};
+use crate::node::Node;
+use crate::template::Template;
 use crate::tokens::{Token, error_after_backslash, piece_token, tag_token};
 use std::alloc::Global;
 use template_words::error::{ReadError, TagError};
@@ -78,6 +80,15 @@ fn read_nodes(alloc: Global, text: &str, escape: Escape) -> Result<Vec<Node>, Pa
     Ok(nodes)
 }
 
+fn read_template(alloc: Global, text: &str, escape: Escape) -> Result<Template, ParseError>
+    requires { length text.now ≤ TEXT_LIMIT }
+    ensures { MatchResult result (λ template. Spells (with_escape escape text.now) (tree_of template))
+        (IsParseError text.now) }
+{
+    let nodes = read_nodes(alloc, text, escape)?;
+    Ok(Template::new(nodes))
+}
+
 /// The template that a text spells, or its first error. Nothing is escaped.
 pub fn parse(alloc: Global, text: &str) -> Result<Template, ParseError>
     ensures found { IfOk result (λ template. Spells (unescaped text.now) (tree_of template)) }
@@ -113,5 +124,5 @@ pub fn parse_with(alloc: Global, text: &str, escape: Escape) -> Result<Template,
             at: TEXT_LIMIT,
         }));
     }
-    read_nodes(alloc, text, escape).map(Template::new)
+    read_template(alloc, text, escape)
 }

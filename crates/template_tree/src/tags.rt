@@ -4,17 +4,9 @@ ghost use Rattle.template_words.specs.Marks.{begins};
 ghost use Rattle.template_tree.specs.Tags.{tag_of, comment_of, shown_of, is_marked, is_else, is_unsupported};
 ghost use Rattle.template_tree.specs.Inner.Views.{tag_rest_view};
 
+use template_tags::tag::Opening;
 use template_words::marks::{after_mark, around_close, around_mark};
 use template_words::words::{has_break, is_helper, is_literal_word};
-
-/// How a tag is opened that shows something.
-#[derive(Clone, Copy, Debug)]
-pub enum Opening {
-    /// `{{`
-    Double,
-    /// `{{{`
-    Triple,
-}
 
 /// The text between the marks of a tag.
 #[derive(Clone, Copy)]

@@ -1,53 +1,23 @@
 // A template as a tree.
+ghost use Rattle.template_tree.specs.Inner.Plain.{ArePlain, ArePlain-prop};
+ghost use Rattle.template_tree.specs.Tree.{nodes_view};
 
-use crate::escape::Escape;
-use data_tree::plain_text::PlainText;
-use template_words::reference::Reference;
-
-/// What a tag shows.
-#[derive(Debug, Drop)]
-pub enum Expression {
-    /// The value that a path leads to.
-    Reference(Reference),
-}
-
-/// A part of a template, in order with the others.
-#[derive(Debug, Drop)]
-pub enum Node {
-    /// Text, which is written as it is.
-    Piece(PlainText),
-    /// The printed text of a value, escaped so.
-    Print(Escape, Expression),
-}
-
-impl Node {
-    ghost use Rattle.std.specs.Prelude.{◌≡◌};
-    ghost use Rattle.template_tree.specs.Grammar.{node_under};
-    ghost use Rattle.template_tree.specs.Tree.{node_view};
-
-    /// The node in a template whose prints are escaped so.
-    pub(crate) fn under(self, escape: Escape) -> Node
-        ensures { node_view result ≡ node_under escape (node_view self) }
-    {
-        match self {
-            Node::Piece(text) => Node::Piece(text),
-            Node::Print(mark, expression) => Node::Print(mark.under(escape), expression),
-        }
-    }
-}
+use crate::node::Node;
 
 /// A template: what `parse` reads from a text. Contracts see `tree_of` it.
 #[derive(Debug, Drop)]
 pub struct Template {
     nodes: Vec<Node>,
+    ghost plain: { ArePlain (nodes_view nodes.items) } by { ArePlain-prop (nodes_view nodes.items) },
 }
 
 impl Template {
     ghost use Rattle.std.specs.Prelude.{◌≡◌};
-    ghost use Rattle.template_tree.specs.Tree.{tree_of, nodes_view};
+    ghost use Rattle.template_tree.specs.Template.{tree_of};
 
     /// Takes the nodes over, without copying them.
     pub(crate) fn new(nodes: Vec<Node>) -> Template
+        requires { ArePlain (nodes_view nodes.items) }
         ensures { tree_of result ≡ nodes_view nodes.items }
     {
         Template { nodes }
@@ -55,7 +25,8 @@ impl Template {
 
     /// Its nodes in order, which are handed over.
     pub fn into_nodes(self) -> Vec<Node>
-        ensures { nodes_view result.items ≡ tree_of self }
+        ensures nodes { nodes_view result.items ≡ tree_of self }
+        ensures plain { ArePlain (tree_of self) }
     {
         self.nodes
     }

@@ -3,17 +3,21 @@ ghost use Rattle.std.specs.Prelude.{◌≡◌, ◌<◌, ◌^◌, true, length, c
 ghost use Rattle.template_words.specs.Marks.{begins};
 ghost use Rattle.template_words.specs.Reading.{Gives};
 ghost use Rattle.template_tree.specs.Tags.{tag_of};
-ghost use Rattle.template_tree.specs.Tokens.{token, node_token, expression_of, escape_of, tag_next, error_after_backslash};
-ghost use Rattle.template_tree.specs.Tree.{expression_view, piece};
+ghost use Rattle.template_tree.specs.Tokens.{datum_outside, token, node_token, expression_of, escape_of, tag_next, error_after_backslash};
+ghost use Rattle.template_tags.specs.Expression.{expression_view};
+ghost use Rattle.template_tree.specs.Tree.{piece};
 ghost use Rattle.template_tree.specs.Inner.Views.{token_view, IsReadErrorOf};
 
 use crate::escape::Escape;
-use crate::tags::{Opening, TagText, is_unsupported, tag_at};
-use crate::template::{Expression, Node};
+use crate::node::Node;
+use crate::tags::{TagText, is_unsupported, tag_at};
 use data_tree::plain_text::PlainText;
 use std::alloc::{AllocError, Global};
+use template_tags::expression::{Datum, Expression};
+use template_tags::tag::Opening;
 use template_words::error::{ReadError, TagError};
 use template_words::paths::reference_of;
+use template_words::reference::Reference;
 use template_words::words::trim_white_space;
 
 /// A token. A comment leaves no node; a print is marked as it is escaped in a template whose prints are.
@@ -32,7 +36,17 @@ fn expression_of(alloc: Global, opening: Opening, content: &str) -> Result<Expre
     if is_unsupported(opening, word) {
         return Err(ReadError::Tag(TagError::UnsupportedTag));
     }
-    Ok(Expression::Reference(reference_of(alloc, word)?))
+    Ok(Expression::Datum(datum_outside(reference_of(alloc, word)?)))
+}
+
+// What a path refers to where no loop is open.
+fn datum_outside(reference: Reference) -> Datum
+    ensures { result ≡ datum_outside reference }
+{
+    match reference {
+        Reference::Root(path) => Datum::Root(path),
+        Reference::Item { .. } => Datum::Nothing,
+    }
 }
 
 fn escape_of(opening: Opening) -> Escape

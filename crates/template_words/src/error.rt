@@ -8,9 +8,17 @@ use std::alloc::{AllocError, AllocFailed};
 /// What is wrong with a tag.
 #[derive(Clone, Copy, Debug)]
 pub enum TagError {
-    /// It has no close.
+    /// It has no close, or it opens a block that has none.
     UnclosedTag,
-    /// Its path is spelled wrongly.
+    /// It closes another block than the innermost open one, or is an else where none may be.
+    UnexpectedClose,
+    /// A word with arguments is no helper.
+    UnknownHelper,
+    /// The number or the form of a helper's or a block's arguments is wrong.
+    WrongArguments,
+    /// Loops, blocks or calls nest too deeply.
+    TooDeep,
+    /// A path, a JSON path or another word is spelled wrongly.
     BadPath,
     /// It is of a kind that templates don't have here.
     UnsupportedTag,
@@ -24,6 +32,10 @@ impl TagError {
     {
         match self {
             TagError::UnclosedTag => ErrorCode::UnclosedTag,
+            TagError::UnexpectedClose => ErrorCode::UnexpectedClose,
+            TagError::UnknownHelper => ErrorCode::UnknownHelper,
+            TagError::WrongArguments => ErrorCode::WrongArguments,
+            TagError::TooDeep => ErrorCode::TooDeep,
             TagError::BadPath => ErrorCode::BadPath,
             TagError::UnsupportedTag => ErrorCode::UnsupportedTag,
         }

@@ -1,10 +1,9 @@
 use Rattle.std.proofs.Common.{◌≡◌, ℕ, ◌<◌, ◌≤◌, ◌↔◌, arith}
 use Rattle.std.specs.Prelude.{Bool, true, false}
-use Rattle.template_tree.specs.Tree.{tree_of}
+use Rattle.template_tree.specs.Template.{tree_of}
 use Rattle.template_compile.proofs.Runs.{stack_code-runs}
 use Rattle.template_compile.proofs.Unbroken.{stack_code-well_formed}
 use Rattle.template_compile.proofs.Limits.{stack_code-within_limits}
-use Rattle.template_tree.proofs.Bytes.{spelled_bytes}
 use Rattle.template_compile.proofs.compiler.compile.Goals as goal
 
 at_most : (b : Bool) (limit n : ℕ) → ((b ≡ true) ↔ (limit < n)) → b ≡ false → n ≤ limit
@@ -12,20 +11,21 @@ at_most b limit n h e = grind arith
 
 pub returns-clause-runs : goal.returns-clause-runs
 returns-clause-runs c =
-    rw (c.in_ok-translate.ensures, c.into_nodes-nodes.ensures) (stack_code-runs (tree_of c.args.template))
+    rw (c.in_ok-translate.ensures, c.into_nodes-nodes.ensures.nodes)
+    (stack_code-runs (tree_of c.args.template) c.into_nodes-nodes.ensures.plain)
 
 pub returns-clause-well_formed : goal.returns-clause-well_formed
 returns-clause-well_formed c =
     let short =
-    at_most _ _ _ (rw (c.as_slice.ensures.value, c.into_nodes-nodes.ensures) at c.is_too_long.ensures)
+    at_most _ _ _ (rw (c.as_slice.ensures.value, c.into_nodes-nodes.ensures.nodes) at c.is_too_long.ensures)
     c.if-is_too_long.false in
-    rw (c.in_ok-translate.ensures, c.into_nodes-nodes.ensures) (stack_code-well_formed (tree_of c.args.template) short)
+    rw (c.in_ok-translate.ensures, c.into_nodes-nodes.ensures.nodes)
+    (stack_code-well_formed (tree_of c.args.template) c.into_nodes-nodes.ensures.plain short)
 
 pub returns-clause-within_limits : goal.returns-clause-within_limits
-returns-clause-within_limits c = λ source spells.
+returns-clause-within_limits c =
     let short =
-    at_most _ _ _ (rw (c.as_slice.ensures.value, c.into_nodes-nodes.ensures) at c.is_too_long.ensures)
+    at_most _ _ _ (rw (c.as_slice.ensures.value, c.into_nodes-nodes.ensures.nodes) at c.is_too_long.ensures)
     c.if-is_too_long.false in
-    let few = spelled_bytes source (tree_of c.args.template) spells in
-    rw (c.in_ok-translate.ensures, c.into_nodes-nodes.ensures)
-    (stack_code-within_limits (tree_of c.args.template) short (omega (arith, few, spells.short)))
+    rw (c.in_ok-translate.ensures, c.into_nodes-nodes.ensures.nodes)
+    (stack_code-within_limits (tree_of c.args.template) c.into_nodes-nodes.ensures.plain short)

@@ -1,5 +1,5 @@
 use Rattle.std.proofs.Common.{List, sym, ap, subst, ◌∙◌, rules, arith}
-use Rattle.template_tree.specs.declared.template.Node.{Node}
+use Rattle.template_tree.specs.declared.node.Node.{Node}
 use Rattle.template_tree.specs.Source.{with_escape}
 use Rattle.template_tree.specs.Tokens.{token}
 use Rattle.template_tree.specs.Tree.{node_view}

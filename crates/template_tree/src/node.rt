@@ -1,0 +1,54 @@
+// The parts of a template.
+
+use crate::escape::Escape;
+use data_tree::plain_text::PlainText;
+use template_tags::expression::{Datum, Expression};
+
+/// A part of a template, in order with the others. An `if`, an `unless` or an `each` has the nodes of its parts.
+#[derive(Debug, Drop)]
+pub enum Node {
+    /// Text, which is written as it is.
+    Piece(PlainText),
+    /// The printed text of a value, escaped so.
+    Print(Escape, Expression),
+    /// An `if`, or an `unless`.
+    If {
+        unless: bool,
+        test: Expression,
+        then: Vec<Node>,
+    },
+    /// The same with an else part.
+    IfElse {
+        unless: bool,
+        test: Expression,
+        then: Vec<Node>,
+        otherwise: Vec<Node>,
+    },
+    /// An `each`.
+    Each {
+        over: Datum,
+        body: Vec<Node>,
+    },
+    /// The same with an else part, which is written where there is no item.
+    EachElse {
+        over: Datum,
+        body: Vec<Node>,
+        otherwise: Vec<Node>,
+    },
+}
+
+impl Node {
+    ghost use Rattle.std.specs.Prelude.{◌≡◌};
+    ghost use Rattle.template_tree.specs.Grammar.{node_under};
+    ghost use Rattle.template_tree.specs.Tree.{node_view};
+
+    /// The node in a template whose prints are escaped so.
+    pub(crate) fn under(self, escape: Escape) -> Node
+        ensures { node_view result ≡ node_under escape (node_view self) }
+    {
+        match self {
+            Node::Print(mark, expression) => Node::Print(mark.under(escape), expression),
+            node => node,
+        }
+    }
+}
