@@ -15,7 +15,7 @@ use Rattle.template_tree.specs.declared.error.ParseError.{ParseError}
 use Rattle.template_tree.specs.declared.error.ParseError.TheVariants as parse
 use Rattle.template_compile.specs.Compiled.{stack_code}
 use Rattle.template_compile.specs.Length.{code_length}
-use Rattle.template_compile.proofs.HasCode.{length-stack_code}
+use Rattle.template_compile.proofs.Lengths.{length-stack_code}
 use Rattle.template_compile.specs.declared.error.CompileError.{CompileError}
 use Rattle.template_compile.specs.declared.error.CompileError.TheVariants as compile
 use Rattle.template_machine.specs.Program.{ProgramParts, IsProgram, IsMeant}

@@ -1,7 +1,7 @@
 use Rattle.std.proofs.Common.{Err, ap}
 use Rattle.std.proofs.lemmas.Result.{err_from_is_err_and}
 use Rattle.template_tree.specs.Source.{with_escape}
-use Rattle.template_tree.specs.Tree.{tree_of}
+use Rattle.template_tree.specs.Template.{tree_of}
 use Rattle.template_machine.proofs.Programs.{program_of}
 use Rattle.template_machine.proofs.Refusals.{parse_error, compile_error, short_code}
 use Rattle.template_machine.proofs.program.verified_code.Goals as goal
