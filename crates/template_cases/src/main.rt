@@ -2,6 +2,7 @@
 #![tactic(auto)]
 
 mod code;
+mod programs;
 mod table;
 mod templates;
 mod writer;
@@ -24,6 +25,8 @@ fn main(rt: HostRuntime) -> io::Result<ExitCode> {
             Table::LoopCodes,
             Table::LoopRuns,
             Table::Writes,
+            Table::Language,
+            Table::Escaped,
         ]
         .as_slice(),
     )

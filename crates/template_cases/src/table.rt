@@ -1,9 +1,10 @@
 //! The tables, and which call each of them is about.
 
-use crate::{code, templates, writes};
+use crate::{code, programs, templates, writes};
 use case_table::compare::CaseTable;
 use case_table::row::Row;
 use std::alloc::{AllocError, Global};
+use template_tree::escape::Escape;
 
 /// A table, named for what it has in each row.
 #[derive(Clone, Copy)]
@@ -18,6 +19,10 @@ pub enum Table {
     /// Its runs.
     LoopRuns,
     Writes,
+    /// Templates as programs.
+    Language,
+    /// The same, whose prints are escaped for HTML.
+    Escaped,
 }
 
 impl CaseTable for Table {
@@ -31,6 +36,8 @@ impl CaseTable for Table {
             Table::LoopCodes => "loop_codes.tsv",
             Table::LoopRuns => "loop_runs.tsv",
             Table::Writes => "writes.tsv",
+            Table::Language => "language.tsv",
+            Table::Escaped => "language_escaped.tsv",
         }
     }
 
@@ -42,6 +49,8 @@ impl CaseTable for Table {
             Table::Codes | Table::HelperCodes | Table::LoopCodes => code::verdict(alloc, row),
             Table::LoopRuns => code::run_over(alloc, row),
             Table::Writes => writes::written(alloc, row),
+            Table::Language => programs::rendered(alloc, row, Escape::Off),
+            Table::Escaped => programs::rendered(alloc, row, Escape::Html),
         }
     }
 }
