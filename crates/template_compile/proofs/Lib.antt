@@ -1,4 +1,5 @@
 pub mod HasCode
+pub mod Drafts
 pub mod Lengths
 pub mod Sound
 pub mod Goes
