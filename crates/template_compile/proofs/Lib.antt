@@ -10,6 +10,8 @@ pub mod ExpressionRuns
 pub mod NodeRuns
 pub mod Stretch
 pub mod Heights
+pub mod PushLayout
+pub mod CallLayout
 pub mod ExpressionLayout
 pub mod Blocks
 pub mod NodeLayout

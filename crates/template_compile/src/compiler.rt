@@ -2,7 +2,8 @@
 ghost use Rattle.std.specs.Prelude.{◌≡◌, ◌<◌, ◌≤◌, ◌↔◌, IfOk, OnOk, IsErrOf};
 ghost use Rattle.code_rules.specs.Verdict.{IsWellFormed, IsWithinLimits};
 ghost use Rattle.template_code.specs.declared.limits.TheConstants.{MAX_INSTRUCTIONS};
-ghost use Rattle.template_compile.specs.Compiled.{instructions, print_instrs, test_code, node_code, nodes_code, stack_code};
+ghost use Rattle.template_compile.specs.Compiled.{instructions, print_instrs, test_code, node_code, nodes_code};
+ghost use Rattle.template_compile.specs.Compiled.{stack_code};
 ghost use Rattle.template_compile.specs.Correct.{WritesTextOf};
 ghost use Rattle.template_compile.specs.Inner.Drafts.{extended_by};
 ghost use Rattle.template_compile.specs.Length.{node_length, nodes_length, code_length};

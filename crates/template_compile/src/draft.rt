@@ -28,7 +28,8 @@ impl Model for Draft {
 
 impl Draft {
     ghost use Rattle.std.specs.Prelude.{[], ◌∷◌};
-    ghost use Rattle.template_compile.specs.Compiled.{no_code, instructions, emit_code, text_code, root_code, item_code};
+    ghost use Rattle.template_compile.specs.Compiled.{no_code, instructions, emit_code, text_code, root_code};
+    ghost use Rattle.template_compile.specs.Compiled.{item_code};
     ghost use Rattle.template_compile.specs.Compiled.{branch_over, jump_over, each_over, again};
     ghost use Rattle.template_compile.specs.Inner.Drafts.{extended_by};
 
@@ -61,8 +62,8 @@ impl Draft {
         Ok(())
     }
 
-    /// Pushes what a path finds in the item of the `up`-th enclosing loop, 0 being the innermost. The path becomes a new
-    /// entry.
+    /// Pushes what a path finds in the item of the `up`-th enclosing loop, 0 being the innermost. The path becomes a
+    /// new entry.
     pub fn item(&mut self, up: u32, path: Path) -> Result<(), AllocError>
         ensures { OnOk result (self.new ≡ extended_by self.old (item_code up path)) }
     {

@@ -1,5 +1,5 @@
-//! How many instructions code has, told without making it. The functions take the code of a part out of the room that is
-//! left for instructions, so that no sum of lengths is too large.
+//! How many instructions code has, told without making it. The functions take the code of a part out of the room that
+//! is left for instructions, so that no sum of lengths is too large.
 ghost use Rattle.std.specs.Prelude.{◌≡◌, ◌<◌, ◌≤◌, ◌↔◌, length, IsTrue};
 ghost use Rattle.template_code.specs.declared.limits.TheConstants.{MAX_INSTRUCTIONS};
 ghost use Rattle.template_compile.specs.Inner.Room.{TakesRoom};
