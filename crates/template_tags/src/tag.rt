@@ -1,7 +1,17 @@
-// What tags say.
+// What the content of a tag says.
+ghost use Rattle.std.specs.Prelude.{◌≡◌, ◌<◌, ◌^◌, ◌≤◌, ◌&&◌, length, map, reverse, IfOk};
 
+use crate::blocks::{closing_said, else_said, nest_error, opening_said};
+use crate::calls::{beside, call_read};
 use crate::expression::{Datum, Expression};
+use crate::items::{Item, items_of, lacks_space};
+use crate::level::Level;
+use crate::nest::{Nest, Piece, nest_of};
+use crate::word::lone_value;
 use data_tree::plain_text::PlainText;
+use std::alloc::{AllocError, Global};
+use template_words::error::{ReadError, TagError};
+use template_words::marks::after_mark;
 
 /// How a tag that is no comment is opened.
 #[derive(Clone, Copy, Debug)]
@@ -18,10 +28,7 @@ pub enum Tag {
     /// The text of a value.
     Print(Expression),
     /// Opens a block that is written where the test holds, or, by `unless`, where it doesn't.
-    If {
-        unless: bool,
-        test: Expression,
-    },
+    If { unless: bool, test: Expression },
     /// Opens a loop over the items of a value, which `parameter` names.
     Each {
         over: Datum,
@@ -31,4 +38,131 @@ pub enum Tag {
     Else,
     /// Closes the innermost open block.
     Close,
+}
+
+// The value of the one piece that a tag has.
+fn lone_piece(
+    alloc: Global,
+    levels: &[Level],
+    balanced: bool,
+    piece: Piece<'_>,
+) -> Result<Result<Expression, TagError>, AllocError>
+{
+    match piece {
+        Piece::Word(word) => lone_value(alloc, levels, word),
+        Piece::Group { value: _, height: _ } if balanced => Ok(Err(TagError::UnsupportedTag)),
+        Piece::Group { value, height: _ } => Ok(value),
+    }
+}
+
+// The value that a tag prints.
+fn value_said(
+    alloc: Global,
+    levels: &[Level],
+    balanced: bool,
+    mut pieces: Vec<Piece<'_>>,
+) -> Result<Result<Expression, TagError>, AllocError>
+{
+    if pieces.len() != 1 {
+        return if pieces.is_empty() {
+            Ok(Err(TagError::BadPath))
+        } else {
+            call_read(alloc, levels, pieces)
+        };
+    }
+    match pieces.pop() {
+        Some(piece) => lone_piece(alloc, levels, balanced, piece),
+        None => unreachable!(),
+    }
+}
+
+fn print_said(alloc: Global, levels: &[Level], nest: Nest<'_>) -> Result<Result<Tag, TagError>, AllocError>
+{
+    let balanced = nest.is_balanced();
+    let Nest {
+        pieces,
+        later,
+        unclosed: _,
+    } = nest;
+    let error = nest_error(alloc, levels, balanced, later)?;
+    let value = beside(error, value_said(alloc, levels, balanced, pieces)?);
+    Ok(match value {
+        Ok(value) => Ok(Tag::Print(value)),
+        Err(error) => Err(error),
+    })
+}
+
+// Whether the text begins with a byte that marks a tag which templates don't have.
+fn is_marked(text: &[u8]) -> bool
+{
+    match text {
+        [byte, ..] => b">&^*~{".contains(byte),
+        [] => false,
+    }
+}
+
+// What a tag says that begins with that word, which is the first of the items.
+fn word_said(
+    alloc: Global,
+    opening: Opening,
+    levels: &[Level],
+    text: &str,
+    items: &[Item<'_>],
+) -> Result<Result<Tag, TagError>, AllocError>
+{
+    let rest = match items {
+        [_, rest @ ..] => rest,
+        [] => unreachable!(),
+    };
+    if let Opening::Triple = opening {
+        return print_said(alloc, levels, nest_of(alloc, levels, items)?);
+    }
+    if let Some(name) = after_mark(text, "#") {
+        opening_said(alloc, levels, name, rest)
+    } else if let Some(name) = after_mark(text, "/") {
+        closing_said(alloc, levels, name, rest)
+    } else if text == "else" {
+        Ok(else_said(levels, rest))
+    } else {
+        print_said(alloc, levels, nest_of(alloc, levels, items)?)
+    }
+}
+
+fn items_said(
+    alloc: Global,
+    opening: Opening,
+    levels: &[Level],
+    items: &[Item<'_>],
+) -> Result<Result<Tag, TagError>, AllocError>
+{
+    let [first, ..] = items else {
+        return Ok(Err(TagError::UnsupportedTag));
+    };
+    match first.text() {
+        None => print_said(alloc, levels, nest_of(alloc, levels, items)?),
+        Some(text) if is_marked(text.as_bytes()) => Ok(Err(TagError::UnsupportedTag)),
+        Some(text) => word_said(alloc, opening, levels, text, items),
+    }
+}
+
+fn space_error(content: &str) -> Option<TagError>
+{
+    if lacks_space(content.as_bytes()) {
+        Some(TagError::BadPath)
+    } else {
+        None
+    }
+}
+
+/// What the content of a tag (between its marks; no comment) says where these blocks are open, the innermost last.
+pub fn read_tag(alloc: Global, opening: Opening, content: &str, levels: &[Level]) -> Result<Tag, ReadError>
+    requires content { length content.now < 2 ^ 31 }
+    requires levels { length levels.now < 2 ^ 32 }
+{
+    let items = items_of(alloc, content)?;
+    let said = items_said(alloc, opening, levels, items.as_slice())?;
+    match beside(space_error(content), said) {
+        Ok(tag) => Ok(tag),
+        Err(error) => Err(ReadError::Tag(error)),
+    }
 }
