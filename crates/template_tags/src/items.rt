@@ -1,7 +1,7 @@
 // The words and the parentheses of a tag.
-ghost use Rattle.std.specs.Prelude.{◌≡◌, ◌<◌, ◌^◌, false, length, map, option_map, IfOk};
-ghost use Rattle.template_tags.specs.Items.{is_start, touches, lacks_space, items_of};
-ghost use Rattle.template_tags.specs.Inner.Scan.{item_view, text_of, parenthesis, break_at};
+ghost use Rattle.std.specs.Prelude.{◌≡◌, ◌<◌, ◌≤◌, ◌^◌, [], ◌++◌, false, length, map, IfOk, IfSome};
+ghost use Rattle.template_tags.specs.Items.{is_start, touches, lacks_space, break_before, word_before, items_of};
+ghost use Rattle.template_tags.specs.Inner.Scan.{item_view, text_of, break_at, around_break, around_view};
 ghost use Rattle.template_words.specs.Inner.Views.{part_view};
 ghost use Rattle.template_words.specs.declared.mode.Mode.TheVariants.{Start};
 
@@ -40,8 +40,7 @@ fn is_start(mode: Mode) -> bool
 fn touches(mode: Mode, after_close: bool, byte: u8) -> bool
     ensures { result ≡ touches mode after_close byte }
 {
-    mode.is_outside()
-        && ((byte == b'(' && !is_start(mode)) || (after_close && !is_break(byte)))
+    mode.is_outside() && ((byte == b'(' && !is_start(mode)) || (after_close && !is_break(byte)))
 }
 
 /// Whether white space is missing between two words, where a parenthesis groups some.
@@ -82,16 +81,42 @@ fn break_offset(mode: Mode, text: &[u8]) -> Option<usize>
     None
 }
 
-fn parenthesis<'a>(byte: u8) -> Option<Item<'a>>
-    ensures { option_map item_view result ≡ parenthesis byte }
+// The text before that break, the break, and the text after it.
+fn around_break<'a>(mode: Mode, text: &'a str) -> Option<(&'a str, u8, &'a str)>
+    ensures value { around_view result ≡ around_break mode text.now }
+    ensures word { IfSome result (λ x. length x.0.now ≤ length text.now) }
+    ensures rest { IfSome result (λ x. length x.2.now < length text.now) }
+{
+    let offset = break_offset(mode, text.as_bytes())?;
+    let (front, back) = text.split_at(offset);
+    let byte = back.as_bytes()[0];
+    let (_, after) = back.split_at(1);
+    Some((front, byte, after))
+}
+
+// The items, and that word after them, unless it is empty.
+fn with_word<'a>(mut items: Vec<Item<'a>>, text: &'a str) -> Result<Vec<Item<'a>>, AllocError>
+    requires { length text.now < 2 ^ 31 }
+    ensures { IfOk result (λ made.
+        map item_view made.items ≡ map item_view items.entry.items ++ word_before text.now []) }
+{
+    if !text.is_empty() {
+        items.push(Item::Word(WordText { text }))?;
+    }
+    Ok(items)
+}
+
+// The items, and that break after them, unless it is white space.
+fn with_break<'a>(mut items: Vec<Item<'a>>, byte: u8) -> Result<Vec<Item<'a>>, AllocError>
+    ensures { IfOk result (λ made.
+        map item_view made.items ≡ map item_view items.entry.items ++ break_before byte []) }
 {
     if byte == b'(' {
-        Some(Item::LeftParenthesis)
+        items.push(Item::LeftParenthesis)?;
     } else if byte == b')' {
-        Some(Item::RightParenthesis)
-    } else {
-        None
+        items.push(Item::RightParenthesis)?;
     }
+    Ok(items)
 }
 
 /// The items of the content of a tag, in order.
@@ -102,20 +127,10 @@ pub fn items_of<'a>(alloc: Global, content: &'a str) -> Result<Vec<Item<'a>>, Al
     let mut items = Vec::new(alloc);
     let mut mode = Mode::Start;
     let mut rest = content;
-    while let Some(offset) = break_offset(mode, rest.as_bytes()) {
-        let (text, after) = rest.split_at(offset);
-        if !text.is_empty() {
-            items.push(Item::Word(WordText { text }))?;
-        }
-        let byte = after.as_bytes()[0];
-        if let Some(item) = parenthesis(byte) {
-            items.push(item)?;
-        }
+    while let Some((text, byte, after)) = around_break(mode, rest) {
+        items = with_break(with_word(items, text)?, byte)?;
         mode = mode_of_byte(byte);
-        rest = after.split_at(1).1;
+        rest = after;
     }
-    if !rest.is_empty() {
-        items.push(Item::Word(WordText { text: rest }))?;
-    }
-    Ok(items)
+    with_word(items, rest)
 }

@@ -74,7 +74,15 @@ impl Level {
 pub fn loops_open(levels: &[Level]) -> usize
     ensures { result ≡ loops_open (reverse levels.now) }
 {
-    levels.iter().filter(|level| level.is_loop()).count()
+    let mut count = 0;
+    let mut left = levels;
+    while let [outer @ .., level] = left {
+        if level.is_loop() {
+            count += 1;
+        }
+        left = outer;
+    }
+    count
 }
 
 /// The innermost loop whose items have that name, by the number of loops inside of it.

@@ -1,10 +1,10 @@
 // What a tag's parentheses group, read in one pass over the items of the tag from the last to the first. Groups nest as
 // deep as a text has parentheses, so nothing here goes down them by recursion.
-ghost use Rattle.std.specs.Prelude.{◌≡◌, ◌<◌, ◌^◌, ◌∷◌, length, map, reverse, IfOk};
-ghost use Rattle.template_tags.specs.Inner.Pieces.{Piece, nest_pieces, item_before, group_piece};
+ghost use Rattle.std.specs.Prelude.{◌≡◌, ◌<◌, ◌^◌, length, map, reverse, IfOk};
+ghost use Rattle.template_tags.specs.Inner.Pieces.{nest_pieces, is_balanced, piece_height, greatest, grouped_pieces, piece_before};
 ghost use Rattle.template_tags.specs.Inner.Scan.{item_view};
 ghost use Rattle.template_tags.specs.Inner.Views.{piece_view, pieces_view, nest_view};
-ghost use Rattle.template_tags.specs.Terms.{nest_of, is_balanced};
+ghost use Rattle.template_tags.specs.Terms.{nest_of};
 
 use crate::calls::{CALL_LIMIT, call_read, limited};
 use crate::expression::Expression;
@@ -26,7 +26,9 @@ pub enum Piece<'a> {
 }
 
 impl Piece<'_> {
-    fn height(&self) -> usize {
+    fn height(&self) -> usize
+        ensures { result ≡ piece_height (piece_view self.now) }
+    {
         match self {
             Piece::Word(_) => 0,
             Piece::Group { value: _, height } => *height,
@@ -47,15 +49,21 @@ pub struct Nest<'a> {
 
 impl Nest<'_> {
     /// Whether each parenthesis has its other one.
-    pub fn is_balanced(&self) -> bool {
+    pub fn is_balanced(&self) -> bool
+        ensures { result ≡ is_balanced (nest_view self.now) }
+    {
         !self.unclosed && self.later.is_empty()
     }
 }
 
-fn greatest_height(pieces: &[Piece<'_>]) -> usize {
+fn greatest_height(pieces: &[Piece<'_>]) -> usize
+    ensures { result ≡ greatest (map piece_view (reverse pieces.now)) }
+{
     let mut greatest = 0;
-    for piece in pieces {
+    let mut left = pieces;
+    while let [after @ .., piece] = left {
         greatest = greatest.max(piece.height());
+        left = after;
     }
     greatest
 }
@@ -65,6 +73,9 @@ fn group_piece<'a>(
     levels: &[Level],
     pieces: Vec<Piece<'a>>,
 ) -> Result<Piece<'a>, AllocError>
+    requires { length levels.now < 2 ^ 32 }
+    ensures { IfOk result (λ piece.
+        piece_view piece ≡ grouped_pieces (reverse levels.now) (pieces_view pieces.entry.items)) }
 {
     let height = greatest_height(pieces.as_slice()).min(CALL_LIMIT) + 1;
     let value = limited(height, call_read(alloc, levels, pieces)?);
@@ -77,6 +88,9 @@ fn item_before<'a>(
     item: Item<'a>,
     nest: Nest<'a>,
 ) -> Result<Nest<'a>, AllocError>
+    requires { length levels.now < 2 ^ 32 }
+    ensures { IfOk result (λ made.
+        nest_view made ≡ piece_before (reverse levels.now) (item_view item.entry) (nest_view nest.entry)) }
 {
     let Nest {
         mut pieces,
@@ -122,6 +136,9 @@ pub fn nest_of<'a>(
     levels: &[Level],
     items: &[Item<'a>],
 ) -> Result<Nest<'a>, AllocError>
+    requires { length levels.now < 2 ^ 32 }
+    ensures { IfOk result (λ nest.
+        nest_view nest ≡ nest_pieces (reverse levels.now) (nest_of (map item_view items.now))) }
 {
     let mut nest = Nest {
         pieces: Vec::new(alloc),

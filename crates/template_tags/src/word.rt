@@ -11,7 +11,7 @@ use crate::expression::{Datum, Expression};
 use crate::level::{Level, loop_named, loops_open};
 use crate::word_text::WordText;
 use data_tree::plain_text::PlainText;
-use data_tree::step::Path;
+use data_tree::step::{Path, Step};
 use helper_set::helper::Helper;
 use std::alloc::{AllocError, Global};
 use template_words::error::{ReadError, TagError};
@@ -132,17 +132,25 @@ fn steps_in(reference: Reference) -> Path
     }
 }
 
+// A path of copies of the steps.
+fn path_of(alloc: Global, steps: &[Step]) -> Result<Path, AllocError>
+    ensures { IfOk result (λ path. path ≡ steps.now) }
+{
+    let mut copies = Vec::new(alloc);
+    for step in steps {
+        copies.push(step.try_clone()?)?;
+    }
+    Ok(Path::new(copies))
+}
+
 // A copy of the path without its first step.
 fn rest_of_steps(alloc: Global, path: &Path) -> Result<Path, AllocError>
     ensures { IfOk result (λ rest. rest ≡ rest_of_steps path.now) }
 {
-    let mut steps = Vec::new(alloc);
-    if let [_, rest @ ..] = path.steps() {
-        for step in rest {
-            steps.push(step.try_clone()?)?;
-        }
+    match path.steps() {
+        [] => Ok(Path::new(Vec::new(alloc))),
+        [_, rest @ ..] => path_of(alloc, rest),
     }
-    Ok(Path::new(steps))
 }
 
 // A path that begins with no name of a loop's items.
@@ -162,7 +170,12 @@ fn found_datum(loops: usize, reference: Reference) -> Datum
 }
 
 /// Where the path leads that the word spells.
-fn datum_of(alloc: Global, levels: &[Level], text: &str, reference: Reference) -> Result<Datum, AllocError>
+fn datum_of(
+    alloc: Global,
+    levels: &[Level],
+    text: &str,
+    reference: Reference,
+) -> Result<Datum, AllocError>
     requires { length levels.now < 2 ^ 32 }
     ensures { IfOk result (λ datum. datum ≡ datum_of (reverse levels.now) text.now reference) }
 {
@@ -200,7 +213,9 @@ fn word_value(
         (λ read. read_view read ≡ word_value (reverse levels.now) text.now (word_view word.entry)) }
 {
     Ok(match word {
-        Word::Text(literal) => Ok(Expression::Text(PlainText::new(String::from_str(alloc, literal)?))),
+        Word::Text(literal) => Ok(Expression::Text(PlainText::new(String::from_str(
+            alloc, literal,
+        )?))),
         Word::Number(number) => Ok(Expression::Number(number)),
         Word::Truth(truth) => Ok(Expression::Truth(truth)),
         Word::Loop(word) => Ok(loop_value(loops_open(levels), word)),

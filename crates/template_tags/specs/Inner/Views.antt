@@ -1,10 +1,13 @@
 -- What the values of this crate's private types are seen as.
-use Rattle.std.specs.Prelude.{ℕ, Bool, List, map, reverse, Result, Ok, Err}
+use Rattle.std.specs.Prelude.{List, map, reverse, Result, Ok, Err}
+use Rattle.std.specs.Global.{Vec}
 use Rattle.template_words.specs.declared.error.TagError.{TagError}
 use Rattle.template_tags.specs.Expression.{Expression, expression_view}
+use Rattle.template_tags.specs.Tags.{Tag, tag_view}
 use Rattle.template_tags.specs.Words as words
 use Rattle.template_tags.specs.Inner.Pieces as spelled
 use Rattle.template_tags.specs.declared.expression.Expression as declared
+use Rattle.template_tags.specs.declared.tag.Tag as tags
 use Rattle.template_tags.specs.declared.word.Word.{Word}
 use Rattle.template_tags.specs.declared.word.Word.TheVariants as kinds
 use Rattle.template_tags.specs.declared.nest.Piece.{Piece}
@@ -33,9 +36,17 @@ piece_view (pieces.Group value height) = spelled.group_piece (read_view value) h
 abbrev pub pieces_view : List Piece → List spelled.Piece
 pieces_view elements = map piece_view (reverse elements)
 
+-- and so is the first list
+abbrev pub later_view : List (Vec Piece) → List (List spelled.Piece)
+later_view lists = map (λ elements. pieces_view elements.items) (reverse lists)
+
 abbrev pub nest_view : Nest → spelled.PieceNest
 nest_view nest = record {
   pieces = pieces_view nest.pieces.items;
-  later = map (λ elements. pieces_view elements.items) (reverse nest.later.items);
+  later = later_view nest.later.items;
   unclosed = nest.unclosed;
 }
+
+abbrev pub said_view : Result tags.Tag TagError → Result Tag TagError
+said_view (Ok tag) = Ok (tag_view tag)
+said_view (Err e) = Err e
