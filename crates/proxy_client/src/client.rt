@@ -1,0 +1,109 @@
+// What makes exchanges with targets.
+ghost use Rattle.std.specs.Prelude.{◌≡◌, IfOk};
+ghost use Rattle.proxy_client.specs.declared.stage.Stage.TheVariants.{Connecting};
+
+use crate::address::address_of;
+use crate::error::ProxyError;
+use crate::sent::message_of;
+use crate::stage::{Stage, Start};
+use crate::timed::Timed;
+use futures::Future;
+use hyper::client::conn::http1::Builder;
+use mock_request::snapshot::Snapshot;
+use recorder::target::Target;
+use std::alloc::{AllocError, AllocGlobal, Global};
+use std::cell::Cell;
+use std::hash::RandomState;
+use std::io;
+use std::net::Net;
+use std::random::RandomSource;
+use std::rc::Rc;
+use std::time::{Clock, Duration};
+use tokio::net::{ConnectFuture, TcpStream};
+use tokio::runtime::Handle;
+
+/// How long a target may be silent, in seconds.
+pub const SILENCE_SECONDS: u64 = 30;
+
+/// How many lines of headers a reply may have.
+pub const HEADER_LINES: usize = 256;
+
+/// An exchange with a target as a future, connecting by the future `K`, which gives an `I`. It may be a part of another
+/// future: it never blocks. It fails once no byte has moved for a time, or its reads and writes have used up their turns.
+pub type Exchange<R, K, I> = Timed<R, Stage<K, I>>;
+
+/// Makes exchanges, each over a connection of its own.
+#[derive(Clone, Copy)]
+pub struct Client<R> {
+    rt: R,
+    builder: Builder,
+    turns: u64,
+    silence: Duration,
+}
+
+impl<R: AllocGlobal + RandomSource + Copy + Drop> Client<R> {
+    /// Each exchange has as many turns, each of which polls a read or a write, and ends when it is silent for that long.
+    pub fn new(rt: R, turns: u64, silence: Duration) -> io::Result<Client<R>> {
+        let mut builder = Builder::new(rt.alloc(), RandomState::new(&rt)?);
+        builder.max_headers(HEADER_LINES);
+        Ok(Client {
+            rt,
+            builder,
+            turns,
+            silence,
+        })
+    }
+}
+
+impl<R: Clock + AllocGlobal + Copy + Drop> Client<R> {
+    /// The exchange for a request, over what `connect` gives.
+    pub fn exchange<K, I>(
+        &self,
+        handle: &Handle,
+        connect: K,
+        target: &Target,
+        request: &Snapshot,
+    ) -> Result<Exchange<R, K, I>, ProxyError>
+    where
+        K: Future<Output = io::Result<I>>,
+        I: Drop,
+        requires { K.can_poll connect }
+        ensures { IfOk result (λ exchange. (start : _) × (exchange.inner ≡ Connecting connect start)) }
+    {
+        let alloc = self.rt.alloc();
+        let moved = flag(alloc)?;
+        let start = Start {
+            alloc,
+            builder: self.builder,
+            message: message_of(alloc, target, request)?,
+            turns: self.turns,
+            moved: moved.clone()?,
+        };
+        let sleep = handle.time().sleep(&self.rt, self.silence)?;
+        let stage = Stage::Connecting(connect, Some(start));
+        Ok(Timed::new(self.rt, self.silence, sleep, moved, stage))
+    }
+}
+
+impl<R: Clock + Net + AllocGlobal + Copy + Drop> Client<R> {
+    /// The exchange for a request with its target, over a connection that is still to be made.
+    pub fn connect(
+        &self,
+        handle: &Handle,
+        target: &Target,
+        request: &Snapshot,
+    ) -> Result<Exchange<R, ConnectFuture, TcpStream>, ProxyError>
+        ensures { IfOk result (λ exchange. (connecting : _) × (start : _)
+            × (exchange.inner ≡ Connecting connecting start)) }
+    {
+        let Some(address) = address_of(target) else {
+            return Err(ProxyError::UpstreamFailed);
+        };
+        let connect = TcpStream::connect(&self.rt, address, handle.reactor());
+        self.exchange(handle, connect, target, request)
+    }
+}
+
+fn flag(alloc: Global) -> Result<Rc<Cell<bool>>, AllocError> {
+    Ok(Rc::new(alloc, Cell::new(false))?)
+}

@@ -1,0 +1,106 @@
+// A reader and writer that is asked a limited number of times.
+ghost use Rattle.std.specs.Prelude.{◌≡◌, ◌+◌, min, OnOk, OnErr};
+
+use futures::task::{Context, Poll};
+use std::cell::Cell;
+use std::io;
+use std::io::ErrorKind;
+use std::rc::Rc;
+use tokio::io::{AsyncRead, AsyncWrite};
+
+/// The most turns that a loop over the bytes of a connection has.
+pub const TURN_LIMIT: u64 = 100_000_000;
+
+/// A reader and writer that fails once it was polled as often as it may be, and that tells when it has moved a byte.
+#[derive(Drop)]
+pub struct Counted<I> {
+    io: I,
+    turns: u64,
+    moved: Rc<Cell<bool>>,
+}
+
+impl<I> Counted<I> {
+    /// Each poll of a read or a write is a turn. Whenever bytes move, `moved` is set.
+    pub fn new(io: I, turns: u64, moved: Rc<Cell<bool>>) -> Counted<I>
+        ensures { result.turns ≡ min turns TURN_LIMIT }
+    {
+        let turns = turns.min(TURN_LIMIT);
+        Counted { io, turns, moved }
+    }
+
+    fn take_turn(&mut self) -> io::Result<()>
+        ensures counted { OnOk result (self.new.turns + 1 ≡ self.old.turns) }
+        ensures ended { OnErr result (self.old.turns ≡ 0) }
+        ensures same { self.new.io ≡ self.old.io }
+    {
+        match self.turns.checked_sub(1) {
+            Some(left) => {
+                self.turns = left;
+                Ok(())
+            }
+            None => Err(io::Error::from(ErrorKind::QuotaExceeded)),
+        }
+    }
+
+    fn note(&self, polled: &Poll<io::Result<usize>>) {
+        if let Poll::Ready(Ok(count)) = polled
+            && *count > 0
+        {
+            self.moved.set(true);
+        }
+    }
+}
+
+impl<I: AsyncRead> AsyncRead for Counted<I> {
+    ghost needs = { λ c. I.needs c.io };
+
+    ghost reads = { λ a xs b. I.reads a.io xs b.io };
+
+    ghost is_at_end = { λ c. I.is_at_end c.io };
+
+    ghost reads_nothing = { λ c. I.reads_nothing c.io };
+
+    ghost reads_in_order = { λ a xs b ys c. I.reads_in_order a.io xs b.io ys c.io };
+
+    fn poll_read(&mut self, cx: &mut Context<'_>, buf: &mut [u8]) -> Poll<io::Result<usize>> {
+        if let Err(error) = self.take_turn() {
+            return Poll::Ready(Err(error));
+        }
+        let polled = self.io.poll_read(cx, buf);
+        self.note(&polled);
+        polled
+    }
+}
+
+impl<I: AsyncWrite> AsyncWrite for Counted<I> {
+    ghost needs = { λ c. I.needs c.io };
+
+    ghost writes = { λ a xs b. I.writes a.io xs b.io };
+
+    ghost writes_nothing = { λ c. I.writes_nothing c.io };
+
+    ghost writes_in_order = { λ a xs b ys c. I.writes_in_order a.io xs b.io ys c.io };
+
+    fn poll_write(&mut self, cx: &mut Context<'_>, buf: &[u8]) -> Poll<io::Result<usize>> {
+        if let Err(error) = self.take_turn() {
+            return Poll::Ready(Err(error));
+        }
+        let polled = self.io.poll_write(cx, buf);
+        self.note(&polled);
+        polled
+    }
+
+    fn poll_flush(&mut self, cx: &mut Context<'_>) -> Poll<io::Result<()>> {
+        if let Err(error) = self.take_turn() {
+            return Poll::Ready(Err(error));
+        }
+        self.io.poll_flush(cx)
+    }
+
+    fn poll_shutdown(&mut self, cx: &mut Context<'_>) -> Poll<io::Result<()>> {
+        if let Err(error) = self.take_turn() {
+            return Poll::Ready(Err(error));
+        }
+        self.io.poll_shutdown(cx)
+    }
+}

@@ -1,0 +1,76 @@
+// Why a request has no reply.
+ghost use Rattle.std.specs.Prelude.{◌≡◌};
+ghost use Rattle.proxy_client.specs.Errors.{error_code_of};
+ghost use Rattle.proxy_client.specs.declared.error.ProxyError.TheVariants.{OutOfMemory};
+
+use error_code::error_code::ErrorCode;
+use recorder::forwarding::ForwardError;
+use std::alloc::AllocError;
+use std::io;
+use std::io::ErrorKind;
+
+/// Why a request has no reply.
+#[derive(Clone, Copy, Debug, PartialEq, Eq)]
+pub enum ProxyError {
+    /// The target can't be reached, its reply isn't whole, isn't HTTP or is too long, it was silent for too long, or the
+    /// request can't be sent.
+    UpstreamFailed,
+    OutOfMemory,
+}
+
+impl ProxyError {
+    pub fn error_code(self) -> ErrorCode
+        ensures { result ≡ error_code_of self }
+    {
+        match self {
+            ProxyError::UpstreamFailed => ErrorCode::UpstreamFailed,
+            ProxyError::OutOfMemory => ErrorCode::OutOfMemory,
+        }
+    }
+}
+
+impl From<AllocError> for ProxyError {
+    ghost from_gives = { λ _ error. error ≡ OutOfMemory };
+
+    fn from(_error: AllocError) -> ProxyError {
+        ProxyError::OutOfMemory
+    }
+}
+
+impl From<ForwardError> for ProxyError {
+    fn from(error: ForwardError) -> ProxyError {
+        match error {
+            ForwardError::Unsendable => ProxyError::UpstreamFailed,
+            ForwardError::OutOfMemory => ProxyError::OutOfMemory,
+        }
+    }
+}
+
+impl From<http::Error> for ProxyError {
+    fn from(error: http::Error) -> ProxyError {
+        match error {
+            http::Error::OutOfMemory => ProxyError::OutOfMemory,
+            _ => ProxyError::UpstreamFailed,
+        }
+    }
+}
+
+impl From<hyper::Error> for ProxyError {
+    fn from(error: hyper::Error) -> ProxyError {
+        if error.is_out_of_memory() {
+            ProxyError::OutOfMemory
+        } else {
+            ProxyError::UpstreamFailed
+        }
+    }
+}
+
+impl From<io::Error> for ProxyError {
+    fn from(error: io::Error) -> ProxyError {
+        if error.kind() == ErrorKind::OutOfMemory {
+            ProxyError::OutOfMemory
+        } else {
+            ProxyError::UpstreamFailed
+        }
+    }
+}

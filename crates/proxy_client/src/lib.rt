@@ -1,0 +1,17 @@
+//! A request forwarded to the target of a recording, over a connection of its own: the message that is sent (`sent`),
+//! the reply (`reply`), and the exchange between them as a future (`exchange`), which `forward` runs.
+#![tactic(auto)]
+
+pub mod address;
+pub mod answer;
+pub mod client;
+pub mod content;
+pub mod counted;
+pub mod error;
+pub mod forward;
+pub mod reply;
+pub mod scripted_io;
+pub mod sent;
+pub mod stage;
+pub mod talk;
+pub mod timed;

@@ -1,0 +1,99 @@
+// An exchange with a target, from connecting to the reply.
+ghost use Rattle.std.specs.Prelude.{◌≡◌, ℕ, List, IfOk, IfSome, ⊤};
+ghost use Rattle.futures.specs.Poll.{IfReady, OnPending};
+ghost use Rattle.futures.specs.Task.{IsArmed, Keeps};
+ghost use Rattle.http.specs.declared.response.Parts.{Parts as Head};
+ghost use Rattle.hyper.specs.ClientDispatch.{Runs};
+ghost use Rattle.proxy_client.specs.Messages.{IsReply};
+ghost use Rattle.proxy_client.specs.declared.stage.Stage.TheVariants.{Connecting, Talking};
+
+use crate::counted::Counted;
+use crate::error::ProxyError;
+use crate::talk::{HttpTalk, http_talk};
+use bytes::Bytes;
+use futures::task::{Context, Poll};
+use futures::{Future, ready};
+use http::Request;
+use http_body_util::Full;
+use hyper::client::conn::http1::Builder;
+use mapping_model::reply::Reply;
+use std::alloc::Global;
+use std::cell::Cell;
+use std::io;
+use std::rc::Rc;
+use tokio::io::{AsyncRead, AsyncWrite};
+
+/// An exchange: connecting, by the future `K`, and then the request and its reply over what it gave.
+#[derive(Drop)]
+pub enum Stage<K, I: Drop> {
+    Connecting(K, Option<Start>),
+    Talking(Box<HttpTalk<Counted<I>>>),
+}
+
+/// What is sent once there is a connection.
+#[derive(Drop)]
+pub struct Start {
+    pub alloc: Global,
+    pub builder: Builder,
+    pub message: Request<Full<Bytes>>,
+    pub turns: u64,
+    pub moved: Rc<Cell<bool>>,
+}
+
+impl Start {
+    fn talk<I: AsyncRead + AsyncWrite>(self, io: I) -> Result<Box<HttpTalk<Counted<I>>>, ProxyError>
+        ensures { IfOk result (λ talk. IfSome talk.value.connection (λ conn. Runs
+            (λ a xs b. I.reads a.io xs b.io) (λ a xs b. I.writes a.io xs b.io) (λ _. ⊤) conn.inner)) }
+    {
+        let Start {
+            alloc,
+            builder,
+            message,
+            turns,
+            moved,
+        } = self;
+        let talk = http_talk(alloc, &builder, Counted::new(io, turns, moved), message)?;
+        match Box::new(alloc, talk) {
+            Ok(talk) => Ok(talk),
+            Err(_refused) => Err(ProxyError::OutOfMemory),
+        }
+    }
+}
+
+impl<K, I> Future for Stage<K, I>
+where
+    K: Future<Output = io::Result<I>>,
+    I: AsyncRead + AsyncWrite,
+{
+    type Output = Result<Reply, ProxyError>;
+
+    ghost can_poll = { elim [
+      | Connecting connect start ↦ K.can_poll connect
+      | Talking talk ↦ IfSome talk.value.connection (λ conn. Runs
+          (λ a xs b. I.reads a.io xs b.io) (λ a xs b. I.writes a.io xs b.io) (λ _. ⊤) conn.inner)
+    ] };
+
+    ghost gives = { λ _ result. IfOk result (λ reply. (head : Head) × (content : List ℕ) × IsReply head content reply) };
+
+    fn poll(&mut self, cx: &mut Context<'_>) -> Poll<Result<Reply, ProxyError>> {
+        match self {
+            Stage::Connecting(connect, start) => {
+                let io = match ready!(connect.poll(cx)) {
+                    Ok(io) => io,
+                    Err(error) => return Poll::Ready(Err(error.into())),
+                };
+                let Some(start) = start.take() else {
+                    return Poll::Ready(Err(ProxyError::UpstreamFailed));
+                };
+                let mut talk = match start.talk(io) {
+                    Ok(talk) => talk,
+                    Err(error) => return Poll::Ready(Err(error)),
+                };
+                let polled = talk.poll(cx);
+                *self = Stage::Talking(talk);
+                polled
+            }
+            Stage::Talking(talk) => talk.poll(cx),
+        }
+    }
+}

@@ -1,0 +1,85 @@
+// An exchange that ends when it has been silent for too long.
+ghost use Rattle.std.specs.Prelude.{◌≡◌, IfOk, Ok};
+ghost use Rattle.futures.specs.Poll.{IfReady, OnPending};
+ghost use Rattle.futures.specs.Task.{IsArmed, Keeps};
+
+use crate::error::ProxyError;
+use futures::task::{Context, Poll};
+use futures::{Future, ready};
+use std::cell::Cell;
+use std::rc::Rc;
+use std::time::{Clock, Duration, Instant};
+use tokio::time::Sleep;
+
+/// A future that fails once no byte has moved for a time. What moves bytes sets `moved`.
+#[derive(Drop)]
+pub struct Timed<R, F> {
+    clock: R,
+    limit: Duration,
+    sleep: Sleep,
+    moved: Rc<Cell<bool>>,
+    inner: F,
+}
+
+impl<R, F> Timed<R, F> {
+    /// `sleep` ends after the limit.
+    pub fn new(
+        clock: R,
+        limit: Duration,
+        sleep: Sleep,
+        moved: Rc<Cell<bool>>,
+        inner: F,
+    ) -> Timed<R, F>
+        ensures { result.inner ≡ inner }
+    {
+        Timed {
+            clock,
+            limit,
+            sleep,
+            moved,
+            inner,
+        }
+    }
+}
+
+impl<R, F, T> Future for Timed<R, F>
+where
+    R: Clock + Drop,
+    F: Future<Output = Result<T, ProxyError>>,
+{
+    type Output = Result<T, ProxyError>;
+
+    ghost can_poll = { λ t. F.can_poll t.inner };
+
+    ghost gives = { λ t result. IfOk result (λ value. F.gives t.inner (Ok value)) };
+
+    fn poll(&mut self, cx: &mut Context<'_>) -> Poll<Result<T, ProxyError>> {
+        if let Poll::Ready(output) = self.inner.poll(cx) {
+            return Poll::Ready(output);
+        }
+        ready!(self.poll_silence(cx));
+        Poll::Ready(Err(ProxyError::UpstreamFailed))
+    }
+}
+
+impl<R: Clock, F> Timed<R, F> {
+    // Ready once no byte has moved for the time.
+    fn poll_silence(&mut self, cx: &mut Context<'_>) -> Poll<()>
+        ensures registered { OnPending result (IsArmed cx.new) }
+        ensures kept { Keeps cx.old cx.new }
+        ensures same { self.new.inner ≡ self.old.inner }
+    {
+        if self.moved.replace(false)
+            && let Some(deadline) = self.deadline()
+        {
+            self.sleep.reset(deadline);
+        }
+        let _ = ready!(self.sleep.poll_elapsed(cx));
+        Poll::Ready(())
+    }
+
+    // None where the clock can't be read: then the old deadline stays.
+    fn deadline(&self) -> Option<Instant> {
+        Instant::now(&self.clock).ok()?.checked_add(self.limit)
+    }
+}
