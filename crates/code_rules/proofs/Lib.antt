@@ -10,6 +10,9 @@ pub mod StepFacts
 pub mod TableFacts
 pub mod ViolationFacts
 pub mod FormFacts
+pub mod LandingFacts
 pub mod OutermostFacts
+pub mod TotalFacts
+pub mod LightFacts
 mod Examples
 mod LoopExamples

@@ -1,8 +1,15 @@
 pub mod HasCode
 pub mod Lengths
-pub mod Runs
-pub mod Covers
-pub mod Outermost
-pub mod Unbroken
-pub mod Limits
+pub mod Sound
+pub mod Goes
+pub mod LoopRuns
+pub mod Fits
+pub mod Calls
+pub mod ExpressionRuns
+pub mod NodeRuns
+pub mod Stretch
+pub mod Heights
+pub mod ExpressionLayout
+pub mod Blocks
+pub mod NodeLayout
 mod Examples

@@ -1,9 +1,9 @@
 use Rattle.std.proofs.Common.{◌≡◌, ℕ, ◌<◌, ◌≤◌, ◌↔◌, arith}
 use Rattle.std.specs.Prelude.{Bool, true, false}
 use Rattle.template_tree.specs.Template.{tree_of}
-use Rattle.template_compile.proofs.Runs.{stack_code-runs}
-use Rattle.template_compile.proofs.Unbroken.{stack_code-well_formed}
-use Rattle.template_compile.proofs.Limits.{stack_code-within_limits}
+use Rattle.template_compile.proofs.NodeLayout.{stack_code-well_formed, stack_code-within_limits}
+use Rattle.template_compile.proofs.NodeRuns.{stack_code-runs}
+use Rattle.template_compile.proofs.Sound.{plain-sound}
 use Rattle.template_compile.proofs.compiler.compile.Goals as goal
 
 at_most : (b : Bool) (limit n : ℕ) → ((b ≡ true) ↔ (limit < n)) → b ≡ false → n ≤ limit
@@ -12,7 +12,7 @@ at_most b limit n h e = grind arith
 pub returns-clause-runs : goal.returns-clause-runs
 returns-clause-runs c =
     rw (c.in_ok-translate.ensures, c.into_nodes-nodes.ensures.nodes)
-    (stack_code-runs (tree_of c.args.template) c.into_nodes-nodes.ensures.plain)
+    (stack_code-runs (tree_of c.args.template) (plain-sound (tree_of c.args.template) c.into_nodes-nodes.ensures.plain))
 
 pub returns-clause-well_formed : goal.returns-clause-well_formed
 returns-clause-well_formed c =
@@ -20,7 +20,7 @@ returns-clause-well_formed c =
     at_most _ _ _ (rw (c.as_slice.ensures.value, c.into_nodes-nodes.ensures.nodes) at c.is_too_long.ensures)
     c.if-is_too_long.false in
     rw (c.in_ok-translate.ensures, c.into_nodes-nodes.ensures.nodes)
-    (stack_code-well_formed (tree_of c.args.template) c.into_nodes-nodes.ensures.plain short)
+    (stack_code-well_formed (tree_of c.args.template) (plain-sound (tree_of c.args.template) c.into_nodes-nodes.ensures.plain) short)
 
 pub returns-clause-within_limits : goal.returns-clause-within_limits
 returns-clause-within_limits c =
@@ -28,4 +28,4 @@ returns-clause-within_limits c =
     at_most _ _ _ (rw (c.as_slice.ensures.value, c.into_nodes-nodes.ensures.nodes) at c.is_too_long.ensures)
     c.if-is_too_long.false in
     rw (c.in_ok-translate.ensures, c.into_nodes-nodes.ensures.nodes)
-    (stack_code-within_limits (tree_of c.args.template) c.into_nodes-nodes.ensures.plain short)
+    (stack_code-within_limits (tree_of c.args.template) (plain-sound (tree_of c.args.template) c.into_nodes-nodes.ensures.plain) short)
