@@ -46,6 +46,13 @@ impl JsonPath {
     }
 }
 
+/// Whether the text spells a path. It takes no memory.
+pub fn is_json_path(text: &str) -> bool
+    ensures { IsTrue result ↔ IsPath text.now }
+{
+    spelled_steps(text).is_some()
+}
+
 // What follows the `$` of a path.
 fn spelled_steps(text: &str) -> Option<&str>
     ensures path { IsSome result ↔ IsPath text.now }

@@ -1,2 +1,10 @@
 pub mod Expression
+pub mod Levels
 pub mod Tags
+pub mod Items
+pub mod Terms
+pub mod Words
+pub mod Calls
+pub mod Blocks
+pub mod Said
+pub mod Examples

@@ -2,6 +2,12 @@
 
 use data_tree::plain_text::PlainText;
 
+/// The most blocks that may be open.
+pub const BLOCK_LIMIT: usize = 64;
+
+/// The most loops that may be open.
+pub const LOOP_LIMIT: usize = 4;
+
 /// A kind of block.
 #[derive(Clone, Copy, Debug)]
 pub enum Block {

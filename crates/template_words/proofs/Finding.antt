@@ -13,7 +13,7 @@ use Rattle.template_words.specs.declared.mode.Mode.{Mode}
 use Rattle.template_words.specs.Marks.{begins, offset_of, around, close_from}
 use Rattle.template_words.specs.Modes.{mode_after, is_literal}
 use Rattle.template_words.specs.Inner.Views.{parts_view}
-use Rattle.template_words.specs.Words.{closed_at_end, enclosed}
+use Rattle.template_words.specs.Words.{closed_at_end}
 
 pub strip_is : (n s : List ℕ) (r : Option (Bor (List ℕ)))
     → MatchOption r (FindsTextPrefix n s None) (λ x. StripsPrefix (FindsTextPrefix n) s x.now)
@@ -153,11 +153,10 @@ closed_yes close body inner rest (Some n) found e h =
     omega (arith, length-drop (n + length close) body, z, h, fits_at close body n found) in
     rw (eq-eqb (n + length close) (length body) q) (ap Some i)
 
-pub enclosed_yes : (open_mark close text body inner rest : List ℕ) → begins open_mark text ≡ true
-    → body ≡ drop (length open_mark) text → Some (inner, rest) ≡ around close body (offset_of close body)
-    → length rest ≡ 0 → Some inner ≡ enclosed open_mark close text
-enclosed_yes open_mark close text body inner rest begun same h e =
-    rw begun (rw (← same) (closed_yes close body inner rest (offset_of close body) (offset_at close body) h e))
+pub closed_at_end_yes : (close body inner rest : List ℕ) → Some (inner, rest) ≡ around close body (offset_of close body)
+    → length rest ≡ 0 → Some inner ≡ closed_at_end close body (offset_of close body)
+closed_at_end_yes close body inner rest h e =
+    closed_yes close body inner rest (offset_of close body) (offset_at close body) h e
 
 pub ok_err : {A E : Type 0} (r : Result A E) (x : A) (e : E) → r ≡ Ok x → r ≡ Err e → ⊥
 ok_err r x e p q = cc

@@ -5,3 +5,4 @@ pub mod Climbs
 pub mod Steps
 pub mod Lengths
 pub mod Closes
+pub mod Numbers

@@ -3,7 +3,9 @@ pub mod Errors
 pub mod Marks
 pub mod Modes
 pub mod Words
+pub mod Literals
 pub mod Paths
+pub mod Names
 pub mod Reading
 pub mod Laws
 pub mod Inner

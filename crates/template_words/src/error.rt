@@ -25,7 +25,7 @@ pub enum TagError {
 }
 
 impl TagError {
-    ghost use Rattle.template_words.specs.Errors.{error_code_of};
+    ghost use Rattle.template_words.specs.Errors.{error_code_of, rank, earlier};
 
     pub fn error_code(self) -> ErrorCode
         ensures { result ≡ error_code_of self }
@@ -38,6 +38,31 @@ impl TagError {
             TagError::TooDeep => ErrorCode::TooDeep,
             TagError::BadPath => ErrorCode::BadPath,
             TagError::UnsupportedTag => ErrorCode::UnsupportedTag,
+        }
+    }
+
+    fn rank(self) -> u8
+        ensures { result ≡ rank self }
+    {
+        match self {
+            TagError::UnclosedTag => 0,
+            TagError::UnsupportedTag => 1,
+            TagError::UnexpectedClose => 2,
+            TagError::UnknownHelper => 3,
+            TagError::BadPath => 4,
+            TagError::WrongArguments => 5,
+            TagError::TooDeep => 6,
+        }
+    }
+
+    /// The one of two errors of a tag that is reported.
+    pub fn earlier(self, other: TagError) -> TagError
+        ensures { result ≡ earlier self other }
+    {
+        if self.rank() <= other.rank() {
+            self
+        } else {
+            other
         }
     }
 }

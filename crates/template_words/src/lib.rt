@@ -8,9 +8,11 @@ pub mod reference;
 
 // Marks and closes.
 pub mod marks;
-mod mode;
+pub mod mode;
 
 // Words.
+pub mod literal;
+pub mod names;
 pub mod paths;
 pub mod words;
 

@@ -32,7 +32,7 @@ fn all_name_bytes(text: &str) -> bool
     text.as_bytes().iter().all(|byte| is_name_byte(*byte))
 }
 
-fn is_name(text: &str) -> bool
+pub(crate) fn is_name(text: &str) -> bool
     ensures { result ≡ is_name text.now }
 {
     !text.is_empty() && all_name_bytes(text)
@@ -95,7 +95,7 @@ fn dot_offset(text: &[u8]) -> Option<usize>
 }
 
 /// The text before that dot, and after it.
-fn around_dot<'a>(text: &'a str) -> Option<(&'a str, &'a str)>
+pub(crate) fn around_dot<'a>(text: &'a str) -> Option<(&'a str, &'a str)>
     ensures parts { MatchOption result (parts_of false text.now ≡ text.now ∷ [])
         (λ x. parts_of false text.now ≡ x.0.now ∷ parts_of false x.1.now) }
     ensures shorter { IfSome result (λ x. length x.1.now < length text.now) }

@@ -1,7 +1,9 @@
 // What a word in a tag is, before it is read as a path.
 ghost use Rattle.std.specs.Prelude.{◌≡◌, ◌<◌, ◌≤◌, length};
 ghost use Rattle.template_words.specs.Words.{without_leading_blanks, without_trailing_blanks, trim_white_space};
-ghost use Rattle.template_words.specs.Words.{is_break, has_break, enclosed, is_short_digits, is_whole_number};
+ghost use Rattle.template_words.specs.Marks.{offset_of};
+ghost use Rattle.template_words.specs.Words.{is_break, has_break, closed_at_end, enclosed};
+ghost use Rattle.template_words.specs.Words.{is_short_digits, is_whole_number};
 ghost use Rattle.template_words.specs.Words.{is_literal_word};
 ghost use Rattle.template_words.specs.Words.{is_text_helper, is_value_helper, is_foreign_helper, is_helper};
 ghost use Rattle.template_words.specs.Inner.Views.{part_view};
@@ -49,7 +51,8 @@ pub fn trim_white_space(text: &str) -> &str
     without_trailing_blanks(without_leading_blanks(text))
 }
 
-fn is_break(byte: u8) -> bool
+/// White space or a parenthesis.
+pub fn is_break(byte: u8) -> bool
     ensures { result ≡ is_break byte }
 {
     is_blank(byte) || byte == b'(' || byte == b')'
@@ -72,17 +75,24 @@ pub fn has_break(text: &[u8]) -> bool
     false
 }
 
+/// The text before the first closing mark, which is at the end.
+pub(crate) fn closed_at_end<'a>(text: &'a str, close: &str) -> Option<&'a str>
+    requires { 0 < length close.now }
+    ensures { part_view result ≡ closed_at_end close.now text.now (offset_of close.now text.now) }
+{
+    let (inner, rest) = around_mark(text, close)?;
+    if rest.is_empty() { Some(inner) } else { None }
+}
+
 /// The text between an opening mark at the front and the first closing mark, which is at the end.
 pub(crate) fn enclosed<'a>(text: &'a str, open_mark: &str, close: &str) -> Option<&'a str>
     requires { 0 < length close.now }
     ensures { part_view result ≡ enclosed open_mark.now close.now text.now }
 {
-    let body = after_mark(text, open_mark)?;
-    let (inner, rest) = around_mark(body, close)?;
-    if rest.is_empty() { Some(inner) } else { None }
+    closed_at_end(after_mark(text, open_mark)?, close)
 }
 
-fn is_short_digits(text: &str) -> bool
+pub(crate) fn is_short_digits(text: &str) -> bool
     ensures { result ≡ is_short_digits text.now }
 {
     0 < text.len() && text.len() <= NUMBER_DIGITS && is_digits(text)
@@ -127,7 +137,7 @@ fn is_value_helper(text: &str) -> bool
 }
 
 /// A helper that only other implementations of Handlebars have.
-fn is_foreign_helper(text: &str) -> bool
+pub fn is_foreign_helper(text: &str) -> bool
     ensures { result ≡ is_foreign_helper text.now }
 {
     matches!(

@@ -1,0 +1,171 @@
+-- What the tags of blocks say (Handlebars' `if`, `unless` and `each`, their else and their closes).
+use Rattle.std.specs.Prelude.{ℕ, nat_le, Bool, true, false, ◌&&◌, ◌||◌, List, [], ◌∷◌, length, Option, Some, None}
+use Rattle.std.specs.Prelude.{is_some, Result, Ok, Err, if◌then◌else◌, codes}
+use Rattle.std.specs.Str.{bytes_eq}
+use Rattle.template_words.specs.Errors.{joined, earlier}
+use Rattle.template_words.specs.Names.{name_in_bars, is_name_after_bar, name_before_bar}
+use Rattle.template_words.specs.Paths.{is_name}
+use Rattle.template_words.specs.Reading.{◌>>=◌}
+use Rattle.template_words.specs.declared.error.TagError.{TagError}
+use Rattle.template_words.specs.declared.error.TagError.TheVariants.{UnexpectedClose, WrongArguments, TooDeep, BadPath}
+use Rattle.template_words.specs.declared.error.TagError.TheVariants.{UnsupportedTag}
+use Rattle.template_tags.specs.Calls.{beside, errors_in, arguments}
+use Rattle.template_tags.specs.Expression.{Expression, datum}
+use Rattle.template_tags.specs.Items.{Item, word, left_parenthesis, right_parenthesis}
+use Rattle.template_tags.specs.Levels.{block_name, loops_open}
+use Rattle.template_tags.specs.Tags.{Tag, open_if, open_each, begin_else, close}
+use Rattle.template_tags.specs.Terms.{Terms, Nest, nest_of, is_balanced}
+use Rattle.template_tags.specs.declared.expression.Datum.{Datum}
+use Rattle.template_tags.specs.declared.level.TheConstants.{BLOCK_LIMIT, LOOP_LIMIT}
+use Rattle.template_tags.specs.declared.level.Level.{Level}
+
+-- ---- parameters
+
+-- the last items of an `each`, where they aren't its name for items, and that name
+pub record LoopItems : Type 0 where
+  pub items : List Item
+  pub parameter : Option (List ℕ)
+
+abbrev pub parameter_in : Item → Item → Option (List ℕ)
+parameter_in (word a) (word b) = if bytes_eq a (codes "as") then name_in_bars b else None
+parameter_in a b = None
+
+abbrev pub last_two : Item → Item → Option (List ℕ) → LoopItems
+last_two a b None = record { items = a ∷ b ∷ []; parameter = None }
+last_two a b (Some name) = record { items = []; parameter = Some name }
+
+abbrev pub loop_item : Item → LoopItems → LoopItems
+loop_item item later = record { items = item ∷ later.items; parameter = later.parameter }
+
+-- `as |name|` at the end
+abbrev pub loop_items : List Item → LoopItems
+loop_items [] = record { items = []; parameter = None }
+loop_items (a ∷ []) = record { items = a ∷ []; parameter = None }
+loop_items (a ∷ b ∷ []) = last_two a b (parameter_in a b)
+loop_items (a ∷ b ∷ c ∷ items) = loop_item a (loop_items (b ∷ c ∷ items))
+
+abbrev pub is_word : List ℕ → Item → Bool
+is_word text (word w) = bytes_eq w text
+is_word text left_parenthesis = false
+is_word text right_parenthesis = false
+
+-- names, of which the last has a bar after it
+abbrev pub are_last_names : List Item → Bool
+are_last_names [] = false
+are_last_names (word w ∷ []) = is_some (name_before_bar w)
+are_last_names (word w ∷ item ∷ items) = is_name w && are_last_names (item ∷ items)
+are_last_names (left_parenthesis ∷ items) = false
+are_last_names (right_parenthesis ∷ items) = false
+
+-- names between bars, two at least
+abbrev pub are_names : List Item → Bool
+are_names [] = false
+are_names (word w ∷ items) = is_name_after_bar w && are_last_names items
+are_names (left_parenthesis ∷ items) = false
+are_names (right_parenthesis ∷ items) = false
+
+-- `as |name name|`, and any more names, at the end
+abbrev pub has_names : List Item → Bool
+has_names [] = false
+has_names (item ∷ items) = (is_word (codes "as") item && are_names items) || has_names items
+
+-- ---- what an opening tag takes
+
+-- the errors of terms that no call and no block takes
+abbrev pub unused_errors : List Level → List Terms → Option TagError
+unused_errors levels [] = None
+unused_errors levels (terms ∷ later) = joined (errors_in (arguments levels terms)) (unused_errors levels later)
+
+-- a parenthesis without its other one is a malformed word
+abbrev pub nest_error : List Level → Nest → Option TagError
+nest_error levels nest =
+    joined (if is_balanced nest then None else Some BadPath) (unused_errors levels nest.later)
+
+abbrev pub only_one : List (Result Expression TagError) → Result Expression TagError
+only_one [] = Err WrongArguments
+only_one (a ∷ []) = a
+only_one (a ∷ b ∷ more) = beside (errors_in (a ∷ b ∷ more)) (Err WrongArguments)
+
+-- the one argument of a block
+abbrev pub block_argument : List Level → Nest → Result Expression TagError
+block_argument levels nest = beside (nest_error levels nest) (only_one (arguments levels nest.terms))
+
+abbrev pub deep_error : Bool → Option TagError
+deep_error true = Some TooDeep
+deep_error false = None
+
+-- another block, or another loop, in those that are open
+abbrev pub block_error : List Level → Option TagError
+block_error levels = deep_error (nat_le BLOCK_LIMIT (length levels))
+
+abbrev pub loop_error : List Level → Option TagError
+loop_error levels = deep_error (nat_le BLOCK_LIMIT (length levels) || nat_le LOOP_LIMIT (loops_open levels))
+
+abbrev pub unsupported_if : Bool → Option TagError
+unsupported_if true = Some UnsupportedTag
+unsupported_if false = None
+
+-- ---- opening tags
+
+-- `if` and `unless` have no parameters
+abbrev pub test_said : List Level → Bool → List Item → Result Tag TagError
+test_said levels unless items =
+    beside (block_error levels)
+    (beside (unsupported_if (is_some (loop_items items).parameter || has_names items))
+    (block_argument levels (nest_of items) >>= λ test. Ok (open_if unless test)))
+
+abbrev pub data_only : Result Expression TagError → Result Datum TagError
+data_only (Ok (datum d)) = Ok d
+data_only (Ok x) = Err WrongArguments
+data_only (Err e) = Err (earlier WrongArguments e)
+
+-- a name that paths begin with
+abbrev pub is_taken : Option (List ℕ) → Bool
+is_taken None = false
+is_taken (Some name) = bytes_eq name (codes "request") || bytes_eq name (codes "this")
+
+abbrev pub loop_said : List Level → LoopItems → Result Tag TagError
+loop_said levels loop =
+    beside (unsupported_if (is_taken loop.parameter))
+    (data_only (block_argument levels (nest_of loop.items)) >>= λ over. Ok (open_each over loop.parameter))
+
+-- an `each` has one parameter at most
+abbrev pub each_said : List Level → List Item → Result Tag TagError
+each_said levels items =
+    beside (loop_error levels) (beside (unsupported_if (has_names items)) (loop_said levels (loop_items items)))
+
+-- a tag with `#` and that name
+abbrev pub opening_said : List Level → List ℕ → List Item → Result Tag TagError
+opening_said levels name items =
+    if bytes_eq name (codes "if") then test_said levels false items
+    else if bytes_eq name (codes "unless") then test_said levels true items
+    else if bytes_eq name (codes "each") then each_said levels items
+    else Err UnsupportedTag
+
+-- ---- else and close
+
+-- an else is the first one of the innermost open block
+abbrev pub first_else : List Level → Result Tag TagError
+first_else [] = Err UnexpectedClose
+first_else (level ∷ levels) = if level.in_else then Err UnexpectedClose else Ok begin_else
+
+abbrev pub else_said : List Level → List Item → Result Tag TagError
+else_said levels [] = first_else levels
+else_said levels (item ∷ items) = Err UnsupportedTag
+
+abbrev pub is_innermost : List ℕ → List Level → Bool
+is_innermost name [] = false
+is_innermost name (level ∷ levels) = bytes_eq name (block_name level.block)
+
+abbrev pub close_alone : List Item → Result Tag TagError
+close_alone [] = Ok close
+close_alone (item ∷ items) = Err UnsupportedTag
+
+abbrev pub all_errors : List Level → Nest → Option TagError
+all_errors levels nest = unused_errors levels (nest.terms ∷ nest.later)
+
+-- a tag with `/` and that name, which closes the innermost open block
+abbrev pub closing_said : List Level → List ℕ → List Item → Result Tag TagError
+closing_said levels name items =
+    if is_innermost name levels then close_alone items
+    else beside (all_errors levels (nest_of items)) (Err UnexpectedClose)
