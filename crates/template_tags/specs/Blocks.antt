@@ -1,5 +1,5 @@
 -- What the tags of blocks say (Handlebars' `if`, `unless` and `each`, their else and their closes).
-use Rattle.std.specs.Prelude.{ℕ, nat_le, Bool, true, false, ◌&&◌, ◌||◌, List, [], ◌∷◌, length, Option, Some, None}
+use Rattle.std.specs.Prelude.{ℕ, nat_le, Bool, true, false, ◌&&◌, ◌||◌, not, List, [], ◌∷◌, length, Option, Some, None}
 use Rattle.std.specs.Prelude.{is_some, Result, Ok, Err, if◌then◌else◌, codes}
 use Rattle.std.specs.Str.{bytes_eq}
 use Rattle.template_words.specs.Errors.{joined, earlier}
@@ -9,7 +9,7 @@ use Rattle.template_words.specs.Reading.{◌>>=◌}
 use Rattle.template_words.specs.declared.error.TagError.{TagError}
 use Rattle.template_words.specs.declared.error.TagError.TheVariants.{UnexpectedClose, WrongArguments, TooDeep, BadPath}
 use Rattle.template_words.specs.declared.error.TagError.TheVariants.{UnsupportedTag}
-use Rattle.template_tags.specs.Calls.{beside, errors_in, arguments}
+use Rattle.template_tags.specs.Calls.{beside, error_if, errors_in, arguments}
 use Rattle.template_tags.specs.Expression.{Expression, datum}
 use Rattle.template_tags.specs.Items.{Item, word, left_parenthesis, right_parenthesis}
 use Rattle.template_tags.specs.Levels.{block_name, loops_open}
@@ -78,8 +78,7 @@ unused_errors levels (terms ∷ later) = joined (errors_in (arguments levels ter
 
 -- a parenthesis without its other one is a malformed word
 abbrev pub nest_error : List Level → Nest → Option TagError
-nest_error levels nest =
-    joined (if is_balanced nest then None else Some BadPath) (unused_errors levels nest.later)
+nest_error levels nest = joined (error_if BadPath (not (is_balanced nest))) (unused_errors levels nest.later)
 
 abbrev pub only_one : List (Result Expression TagError) → Result Expression TagError
 only_one [] = Err WrongArguments
@@ -90,29 +89,25 @@ only_one (a ∷ b ∷ more) = beside (errors_in (a ∷ b ∷ more)) (Err WrongAr
 abbrev pub block_argument : List Level → Nest → Result Expression TagError
 block_argument levels nest = beside (nest_error levels nest) (only_one (arguments levels nest.terms))
 
-abbrev pub deep_error : Bool → Option TagError
-deep_error true = Some TooDeep
-deep_error false = None
-
 -- another block, or another loop, in those that are open
 abbrev pub block_error : List Level → Option TagError
-block_error levels = deep_error (nat_le BLOCK_LIMIT (length levels))
+block_error levels = error_if TooDeep (nat_le BLOCK_LIMIT (length levels))
 
 abbrev pub loop_error : List Level → Option TagError
-loop_error levels = deep_error (nat_le BLOCK_LIMIT (length levels) || nat_le LOOP_LIMIT (loops_open levels))
-
-abbrev pub unsupported_if : Bool → Option TagError
-unsupported_if true = Some UnsupportedTag
-unsupported_if false = None
+loop_error levels =
+    error_if TooDeep (nat_le BLOCK_LIMIT (length levels) || nat_le LOOP_LIMIT (loops_open levels))
 
 -- ---- opening tags
+
+abbrev pub if_read : Bool → Result Expression TagError → Result Tag TagError
+if_read unless read = read >>= λ test. Ok (open_if unless test)
 
 -- `if` and `unless` have no parameters
 abbrev pub test_said : List Level → Bool → List Item → Result Tag TagError
 test_said levels unless items =
     beside (block_error levels)
-    (beside (unsupported_if (is_some (loop_items items).parameter || has_names items))
-    (block_argument levels (nest_of items) >>= λ test. Ok (open_if unless test)))
+    (beside (error_if UnsupportedTag (is_some (loop_items items).parameter || has_names items))
+    (if_read unless (block_argument levels (nest_of items))))
 
 abbrev pub data_only : Result Expression TagError → Result Datum TagError
 data_only (Ok (datum d)) = Ok d
@@ -124,15 +119,18 @@ abbrev pub is_taken : Option (List ℕ) → Bool
 is_taken None = false
 is_taken (Some name) = bytes_eq name (codes "request") || bytes_eq name (codes "this")
 
+abbrev pub each_read : Option (List ℕ) → Result Datum TagError → Result Tag TagError
+each_read parameter read = read >>= λ over. Ok (open_each over parameter)
+
 abbrev pub loop_said : List Level → LoopItems → Result Tag TagError
 loop_said levels loop =
-    beside (unsupported_if (is_taken loop.parameter))
-    (data_only (block_argument levels (nest_of loop.items)) >>= λ over. Ok (open_each over loop.parameter))
+    beside (error_if UnsupportedTag (is_taken loop.parameter))
+    (each_read loop.parameter (data_only (block_argument levels (nest_of loop.items))))
 
 -- an `each` has one parameter at most
 abbrev pub each_said : List Level → List Item → Result Tag TagError
 each_said levels items =
-    beside (loop_error levels) (beside (unsupported_if (has_names items)) (loop_said levels (loop_items items)))
+    beside (loop_error levels) (beside (error_if UnsupportedTag (has_names items)) (loop_said levels (loop_items items)))
 
 -- a tag with `#` and that name
 abbrev pub opening_said : List Level → List ℕ → List Item → Result Tag TagError

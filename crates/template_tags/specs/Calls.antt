@@ -1,6 +1,6 @@
 -- The values that the arguments and the calls of a tag name (Handlebars' helpers and subexpressions), or, of the errors
 -- that they have, the one that is reported.
-use Rattle.std.specs.Prelude.{ℕ, suc, nat_lt, Bool, false, ◌&&◌, List, [], ◌∷◌, Option, Some, None, Result, Ok}
+use Rattle.std.specs.Prelude.{ℕ, suc, nat_lt, Bool, true, false, ◌&&◌, List, [], ◌∷◌, Option, Some, None, Result, Ok}
 use Rattle.std.specs.Prelude.{Err, is_some, if◌then◌else◌, codes}
 use Rattle.data_tree.specs.declared.step.Step.{Step}
 use Rattle.helper_set.specs.Helpers.{signature_of}
@@ -26,6 +26,10 @@ beside None read = read
 beside (Some e) (Ok x) = Err e
 beside (Some e) (Err d) = Err (earlier e d)
 
+abbrev pub error_if : TagError → Bool → Option TagError
+error_if e true = Some e
+error_if e false = None
+
 abbrev pub error_in : {A : Type 0} → Result A TagError → Option TagError
 error_in (Ok x) = None
 error_in (Err e) = Some e
@@ -39,10 +43,13 @@ one_value h [] = Err WrongArguments
 one_value h (a ∷ []) = a >>= λ x. Ok (call h x)
 one_value h (a ∷ b ∷ more) = Err WrongArguments
 
+abbrev pub pair_call : Helper → Result Expression TagError → Result Expression TagError → Result Expression TagError
+pair_call h a b = a >>= λ x. b >>= λ y. Ok (call_two h x y)
+
 abbrev pub two_values : Helper → List (Result Expression TagError) → Result Expression TagError
 two_values h [] = Err WrongArguments
 two_values h (a ∷ []) = Err WrongArguments
-two_values h (a ∷ b ∷ []) = a >>= λ x. b >>= λ y. Ok (call_two h x y)
+two_values h (a ∷ b ∷ []) = pair_call h a b
 two_values h (a ∷ b ∷ c ∷ more) = Err WrongArguments
 
 -- a helper's call on as many values as it takes

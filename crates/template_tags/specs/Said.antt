@@ -9,7 +9,7 @@ use Rattle.template_words.specs.declared.error.TagError.{TagError}
 use Rattle.template_words.specs.declared.error.TagError.TheVariants.{BadPath, UnsupportedTag}
 use Rattle.template_words.specs.declared.mode.Mode.TheVariants.{Start}
 use Rattle.template_tags.specs.Blocks.{opening_said, closing_said, else_said, nest_error}
-use Rattle.template_tags.specs.Calls.{beside, argument, call_read}
+use Rattle.template_tags.specs.Calls.{beside, error_if, argument, call_read}
 use Rattle.template_tags.specs.Expression.{Expression}
 use Rattle.template_tags.specs.Items.{Item, word, left_parenthesis, right_parenthesis, items_of, lacks_space}
 use Rattle.template_tags.specs.Tags.{Tag, print}
@@ -28,9 +28,12 @@ value_said levels balanced (first_term (group terms) no_terms) =
 value_said levels balanced (first_term head (first_term term terms)) =
     call_read levels (first_term head (first_term term terms))
 
+abbrev pub print_read : Result Expression TagError → Result Tag TagError
+print_read read = read >>= λ value. Ok (print value)
+
 abbrev pub print_said : List Level → Nest → Result Tag TagError
 print_said levels nest =
-    beside (nest_error levels nest) (value_said levels (is_balanced nest) nest.terms) >>= λ value. Ok (print value)
+    print_read (beside (nest_error levels nest) (value_said levels (is_balanced nest) nest.terms))
 
 -- begins with a byte that marks a tag of Handlebars which templates don't have here
 abbrev pub is_marked : List ℕ → Bool
@@ -54,7 +57,7 @@ items_said opening levels (left_parenthesis ∷ items) = print_said levels (nest
 items_said opening levels (right_parenthesis ∷ items) = print_said levels (nest_of (right_parenthesis ∷ items))
 
 abbrev pub space_error : List ℕ → Option TagError
-space_error content = if lacks_space Start false content then Some BadPath else None
+space_error content = error_if BadPath (lacks_space Start false content)
 
 -- the blocks are those that are open, the innermost first
 unfoldable pub tag_said : Opening → List ℕ → List Level → Result Tag TagError

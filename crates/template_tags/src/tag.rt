@@ -1,7 +1,15 @@
 // What tags say.
 
+ghost use Rattle.std.specs.Prelude.{◌<◌, ◌^◌, length, reverse};
+ghost use Rattle.template_words.specs.Reading.{Gives};
+ghost use Rattle.template_tags.specs.Said.{tag_said};
+ghost use Rattle.template_tags.specs.Tags.{tag_view};
+
 use crate::expression::{Datum, Expression};
+use crate::level::Level;
 use data_tree::plain_text::PlainText;
+use std::alloc::Global;
+use template_words::error::ReadError;
 
 /// How a tag that is no comment is opened.
 #[derive(Clone, Copy, Debug)]
@@ -31,4 +39,18 @@ pub enum Tag {
     Else,
     /// Closes the innermost open block.
     Close,
+}
+
+/// STAND-IN.
+pub fn read_tag(
+    _alloc: Global,
+    _opening: Opening,
+    _content: &str,
+    _levels: &[Level],
+) -> Result<Tag, ReadError>
+    requires content { length _content.now < 2 ^ 31 }
+    requires levels { length _levels.now < 2 ^ 32 }
+    ensures { Gives tag_view result (tag_said _opening _content.now (reverse _levels.now)) }
+{
+    Err(ReadError::OutOfMemory)
 }

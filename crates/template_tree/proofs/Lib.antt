@@ -1,8 +1,10 @@
 pub mod Lengths
 pub mod Rows
+pub mod Pieces
+pub mod Views
+pub mod Nests
+pub mod Allowed
+pub mod Progress
+pub mod Formed
 pub mod Unique
 pub mod Outcomes
-pub mod Vectors
-pub mod Pieces
-pub mod Plain
-pub mod Views

@@ -38,19 +38,3 @@ tag_of text =
     if begins (codes "{{!") text then comment_of (drop 3 text)
     else if begins (codes "{{{") text then shown_of Triple (codes "}}}") (drop 3 text)
     else shown_of Double (codes "}}") (drop 2 text)
-
--- begins with a byte that marks another kind of tag
-abbrev pub is_marked : Opening → List ℕ → Bool
-is_marked opening [] = false
-is_marked Double (b ∷ bs) = list_any (λ c. c == b) (codes ">&^*~{@#/")
-is_marked Triple (b ∷ bs) = list_any (λ c. c == b) (codes ">&^*~{@")
-
-abbrev pub is_else : Opening → List ℕ → Bool
-is_else Double text = bytes_eq text (codes "else")
-is_else Triple text = false
-
--- something other than one word that may be a path
-abbrev pub is_unsupported : Opening → List ℕ → Bool
-is_unsupported opening text =
-    is_nil text || is_marked opening text || has_break Start text
-    || is_literal_word text || is_helper text || is_else opening text
