@@ -8,3 +8,5 @@ pub mod Progress
 pub mod Formed
 pub mod Unique
 pub mod Outcomes
+pub mod SoundWords
+pub mod SoundTags

@@ -4,6 +4,7 @@ pub mod Template
 pub mod Tags
 pub mod Tokens
 pub mod Parts
+pub mod Sound
 pub mod Grammar
 pub mod Meaning
 pub mod Errors
