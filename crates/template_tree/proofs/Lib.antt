@@ -10,3 +10,4 @@ pub mod Unique
 pub mod Outcomes
 pub mod SoundWords
 pub mod SoundTags
+pub mod SoundTrees
