@@ -11,3 +11,4 @@ pub mod Outcomes
 pub mod SoundWords
 pub mod SoundTags
 pub mod SoundTrees
+pub mod Vectors

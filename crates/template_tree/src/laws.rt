@@ -3,7 +3,7 @@ ghost use Rattle.std.specs.Prelude.{◌≡◌, ◌≤◌, ◌↔◌, ℕ, List, 
 ghost use Rattle.template_tree.specs.Grammar.{Spells, IsTemplateError};
 ghost use Rattle.template_tree.specs.Laws.{IsPiece};
 ghost use Rattle.template_tree.specs.Source.{Source};
-ghost use Rattle.template_tree.specs.Examples.{AreExamples};
+ghost use Rattle.template_tree.specs.Examples.{AreExamples, AreBlocks};
 ghost use Rattle.template_tags.specs.declared.level.Level.{Level};
 ghost use Rattle.template_tree.specs.Tokens.{token, text_token, next_of};
 ghost use Rattle.template_tree.specs.Tree.{Nodes};
@@ -31,7 +31,8 @@ pub fn law_piece_ends_at_next_mark()
         → IsPiece text p rest }
 {}
 
-/// Some twenty texts, each with its tree or its error.
+/// Some forty texts, each with its tree or its error.
 pub fn law_examples()
-    ensures { AreExamples }
+    ensures one_tag { AreExamples }
+    ensures blocks { AreBlocks }
 {}
