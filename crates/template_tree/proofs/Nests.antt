@@ -1,10 +1,8 @@
 -- What a token makes of the blocks that are open: their levels, their parts, and that each level is that of a frame.
-use Rattle.std.proofs.Common.{◌≡◌, ℕ, suc, ◌+◌, ◌≤◌, Bool, true, false, true≢false, List, [], ◌∷◌, ◌++◌, length, drop}
-use Rattle.std.proofs.Common.{Option, Some, None, refl, sym, ap, ◌∙◌, subst, arith}
+use Rattle.std.proofs.Common.{◌≡◌, ℕ, suc, ◌≤◌, Bool, true, false, true≢false, List, [], ◌∷◌, ◌++◌, length, drop}
+use Rattle.std.proofs.Common.{Option, Some, None, refl, ap, ◌∙◌, arith}
 use Rattle.std.specs.Prelude.{is_some}
 use Rattle.template_tags.specs.declared.level.Level.{Level}
-use Rattle.template_tags.specs.declared.level.Block.TheVariants.{Each}
-use Rattle.template_tags.specs.declared.tag.Opening.{Opening}
 use Rattle.template_tags.specs.Levels.{is_each}
 use Rattle.template_tags.specs.Tags as said
 use Rattle.template_tree.specs.declared.escape.Escape.{Escape}
@@ -13,7 +11,7 @@ use Rattle.template_tree.specs.Grammar.{test_block, else_begun, token_levels}
 use Rattle.template_tree.specs.Inner.Frames.{Head, if_head, each_head, Frame, Nest, pushed, block_node}
 use Rattle.template_tree.specs.Inner.Frames.{with_token, Allows, AllowsToken, Fit, head_part, main_parts}
 use Rattle.template_tree.specs.Inner.Frames.{frames_with_else, closed_here, parts_in, BeginWithin}
-use Rattle.template_tree.specs.Parts.{Part, leaf, begins_else, closes, escape_under, tag_part, token_part, spell_node, spell}
+use Rattle.template_tree.specs.Parts.{Part, begins_else, closes, escape_under, token_part, spell_node, spell}
 use Rattle.template_tree.specs.Tokens.{Token, text_token, comment_token, tag_token}
 use Rattle.template_tree.specs.Tree.{Node, piece, print, Nodes, no_nodes, first_node, node_view, nodes_view}
 

@@ -9,7 +9,7 @@ use Rattle.template_tags.specs.declared.level.Level.{Level}
 use Rattle.template_tree.specs.Grammar.{Spells, IsTemplateError}
 use Rattle.template_tree.specs.Inner.Frames.{Nest, with_token, BeginWithin, Read}
 use Rattle.template_tree.specs.Source.{Source}
-use Rattle.template_tree.specs.Tokens.{Token, token, tag_error, ended, next_of}
+use Rattle.template_tree.specs.Tokens.{token, tag_error, ended, next_of}
 use Rattle.template_tree.specs.Tree.{Nodes}
 use Rattle.template_tree.proofs.Progress.{nothing_read, read_none, read_more, read_all, read_open, read_error_at}
 use Rattle.template_tree.proofs.Rows.{token_shorter, mark_fits, ended_empty, leads_shorter}
@@ -20,15 +20,15 @@ data Outcome (source : Source) : Type 0 where
   stopped : (nest : Nest) (rest mark : List ℕ) (f : TagError) → Read source nest rest
       → next_of nest.levels rest ≡ tag_error f mark → Outcome source
 
-outcome : (source : Source) (n : ℕ) (nest : Nest) (rest : List ℕ) → length rest ≤ n → Read source nest rest
-    → Outcome source
-outcome source zero nest [] le r = reached nest r
-outcome source zero nest (b ∷ bs) le r = absurd (omega arith)
-outcome source (suc n) nest rest le r =
+outcome : (source : Source) (n : ℕ) (nest : Nest) (rest : List ℕ) → length source.text ≤ TEXT_LIMIT → length rest ≤ n
+    → Read source nest rest → Outcome source
+outcome source zero nest [] short le r = reached nest r
+outcome source zero nest (b ∷ bs) short le r = absurd (omega arith)
+outcome source (suc n) nest rest short le r =
     elim (next_of nest.levels rest) as (λ x. next_of nest.levels rest ≡ x → Outcome source) [
       | token t more ↦ λ e.
-          outcome source n (with_token source.escape (length rest) t nest) more
-          (omega (arith, token_shorter nest.levels rest more t e)) (read_more source nest rest more t r e)
+          outcome source n (with_token source.escape (length rest) t nest) more short
+          (omega (arith, token_shorter nest.levels rest more t e)) (read_more source nest rest more t short r e)
       | tag_error f mark ↦ λ e. stopped nest rest mark f r e
       | ended ↦ λ e. reached nest (subst (Read source nest) (ended_empty nest.levels rest e) r)
     ] refl
@@ -65,7 +65,7 @@ pub tree_or_error : (source : Source) → length source.text ≤ TEXT_LIMIT
     → ((tree : Nodes) × Spells source tree) ⊎ ((e : TemplateError) × IsTemplateError source.text e)
 tree_or_error source short =
     decided source short
-    (outcome source (length source.text) nothing_read source.text (omega arith) (read_none source))
+    (outcome source (length source.text) nothing_read source.text short (omega arith) (read_none source))
 
 pub tree_if_no_error : (source : Source) → length source.text ≤ TEXT_LIMIT
     → ((e : TemplateError) → IsTemplateError source.text e → ⊥) → (tree : Nodes) × Spells source tree

@@ -1,6 +1,5 @@
 -- What was read of a source, token by token.
-use Rattle.std.proofs.Common.{◌≡◌, ℕ, suc, ◌+◌, ◌<◌, ◌≤◌, List, [], ◌∷◌, ◌++◌, length, inl, inr, refl, sym, ap, subst, ◌∙◌, arith}
-use Rattle.template_words.specs.declared.error.TagError.{TagError}
+use Rattle.std.proofs.Common.{◌≡◌, ℕ, ◌+◌, ◌≤◌, List, [], ◌∷◌, ◌++◌, length, inl, inr, refl, sym, ap, subst, ◌∙◌, arith}
 use Rattle.template_words.specs.declared.error.TagError.TheVariants.{UnclosedTag}
 use Rattle.template_tags.specs.declared.level.Level.{Level}
 use Rattle.template_tree.specs.declared.error.ParseError.{ParseError}
@@ -15,10 +14,10 @@ use Rattle.template_tree.specs.Inner.Views.{IsNextErrorAt, IsNextError}
 use Rattle.template_tree.specs.Parts.{Part, token_part, parts_of}
 use Rattle.template_tree.specs.Source.{Source}
 use Rattle.template_tree.specs.Tokens.{Token, token, next_of}
-use Rattle.template_tree.specs.Tree.{Nodes, no_nodes}
-use Rattle.template_tree.proofs.Allowed.{allowed_token}
+use Rattle.template_tree.specs.Tree.{no_nodes}
 use Rattle.template_tree.proofs.Nests.{levels_with, few_after, within_after, fit_after, parts_after}
 use Rattle.template_tree.proofs.Rows.{token_shorter, leads_push, leads_shorter}
+use Rattle.template_tree.proofs.SoundTokens.{allowed_token}
 
 abbrev pub nothing_read : Nest
 nothing_read = record { levels = []; frames = []; here = no_nodes }
@@ -41,15 +40,16 @@ parts_of-push escape (u ∷ ts) t parts = ap (token_part escape u) (parts_of-pus
 -- one token more
 pub read_more :
     (source : Source) (nest : Nest) (rest more : List ℕ) (t : Token)
-    → Read source nest rest → next_of nest.levels rest ≡ token t more
+    → length source.text ≤ TEXT_LIMIT → Read source nest rest → next_of nest.levels rest ≡ token t more
     → Read source (with_token source.escape (length rest) t nest) more
-read_more source nest rest more t r e =
+read_more source nest rest more t short r e =
     let left = length rest in
     let levels = levels_with source.escape left t nest in
-    let allowed = allowed_token nest.levels rest more t e in
+    let shorter = leads_shorter r.tokens [] nest.levels source.text rest r.leads in
+    let allowed = allowed_token nest.levels rest more t (omega (arith, short, shorter)) e in
     let within : BeginWithin (length source.text) (token_levels left t nest.levels) =
     within_after (length source.text) left t nest.levels
-    (omega (arith, leads_shorter r.tokens [] nest.levels source.text rest r.leads)) r.within in
+    (omega (arith, shorter)) r.within in
     record {
       tokens = r.tokens ++ t ∷ [];
       leads =

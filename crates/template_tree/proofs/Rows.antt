@@ -1,6 +1,6 @@
 -- What a text begins with, and the row of tokens that it is made of.
 use Rattle.std.proofs.Common.{◌≡◌, ℕ, zero, suc, ◌<◌, ◌≤◌, ◌≢◌, ◌==◌, true, false, List, [], ◌∷◌, ◌++◌, length}
-use Rattle.std.proofs.Common.{take, drop, codes, Option, Some, None, IfSome, Result, Ok, Err, refl, sym, ap, subst}
+use Rattle.std.proofs.Common.{take, drop, codes, Option, Some, None, IfSome, Result, Ok, Err, refl, ap, subst}
 use Rattle.std.proofs.Common.{◌∙◌, arith, length-drop}
 use Rattle.std.specs.List.{ends_with}
 use Rattle.std.proofs.lemmas.Bool.{cond_both}
@@ -13,7 +13,7 @@ use Rattle.template_tags.specs.Said.{tag_said}
 use Rattle.template_tags.specs.Tags as said
 use Rattle.template_tree.specs.Grammar.{Leads, token_levels}
 use Rattle.template_tree.specs.Tags.{Tag, comment, shown, tag_of}
-use Rattle.template_tree.specs.Tokens.{Token, text_token, comment_token, tag_token, Next, token, tag_error, ended}
+use Rattle.template_tree.specs.Tokens.{Token, text_token, Next, token, tag_error, ended}
 use Rattle.template_tree.specs.Tokens.{said_next, closed_next, tag_next, error_after_backslash, text_next}
 use Rattle.template_tree.specs.Tokens.{last_text_next, next_at, next_of}
 use Rattle.template_tree.proofs.Lengths.{TagWithin, tag_short}

@@ -1,11 +1,11 @@
--- What a tag says is sound where the blocks are open that it is said in.
-use Rattle.std.proofs.Common.{◌≡◌, ℕ, zero, suc, ◌<◌, ◌≤◌, max, Bool, true, false, List, [], ◌∷◌, length, drop, codes}
-use Rattle.std.proofs.Common.{Option, Some, None, Result, Ok, Err, refl, arith, length-drop}
-use Rattle.std.specs.Prelude.{nat_lt, nat_le, not, is_some, IsTrue, ◌&&◌, ◌||◌, ◌==◌, cond, if◌then◌else◌}
+-- What a tag says is sound where the blocks are open that it is said in. An else is said only of a block that has none,
+-- and a close only of an open block.
+use Rattle.std.proofs.Common.{◌≡◌, ℕ, suc, ◌<◌, ◌≤◌, max, Bool, true, false, List, [], ◌∷◌, length, drop, codes}
+use Rattle.std.proofs.Common.{Option, Some, None, Result, Ok, Err, refl, arith}
+use Rattle.std.specs.Prelude.{nat_lt, nat_le, is_some, ◌&&◌, ◌||◌, ◌==◌, cond, if◌then◌else◌}
 use Rattle.std.specs.Str.{bytes_eq}
 use Rattle.std.proofs.lemmas.Bool.{cond_both, ltb-false, leb-false}
 use Rattle.json_bridge.specs.PathFound.{path_of}
-use Rattle.helper_set.specs.Helpers.{signature_of}
 use Rattle.helper_set.specs.declared.helper.Helper.{Helper}
 use Rattle.helper_set.specs.declared.helper.Helper.TheVariants.{Upper, Lower, Trim, Size, Eq, Neq, Contains, Not, Base64}
 use Rattle.helper_set.specs.declared.helper.Helper.TheVariants.{UrlEncode, DefaultIfEmpty, JsonPath}
@@ -19,31 +19,30 @@ use Rattle.template_words.specs.Modes.{mode_after, is_outside}
 use Rattle.template_words.specs.Reading.{◌>>=◌}
 use Rattle.template_words.specs.Words.{is_break}
 use Rattle.template_tags.specs.declared.calls.TheConstants.{CALL_LIMIT}
-use Rattle.template_tags.specs.declared.expression.Datum.{Datum}
 use Rattle.template_tags.specs.declared.expression.Datum.TheVariants.{BodyPath}
 use Rattle.template_tags.specs.declared.level.Level.{Level}
 use Rattle.template_tags.specs.declared.level.TheConstants.{BLOCK_LIMIT, LOOP_LIMIT}
 use Rattle.template_tags.specs.declared.tag.Opening.{Opening}
 use Rattle.template_tags.specs.declared.tag.Opening.TheVariants.{Double, Triple}
-use Rattle.template_tags.specs.Blocks.{LoopItems, last_two, parameter_in, loop_item, loop_items, has_names, nest_error}
+use Rattle.template_tags.specs.Blocks.{last_two, parameter_in, loop_items, has_names, nest_error}
 use Rattle.template_tags.specs.Blocks.{only_one, block_argument, block_error, loop_error, test_said, data_only, is_taken}
-use Rattle.template_tags.specs.Blocks.{loop_said, each_said, opening_said, first_else, else_said, is_innermost, close_alone}
+use Rattle.template_tags.specs.Blocks.{each_said, opening_said, else_said, is_innermost, close_alone}
 use Rattle.template_tags.specs.Blocks.{all_errors, closing_said}
-use Rattle.template_tags.specs.Calls.{beside, error_if, errors_in, one_value, two_values, helper_call, is_body, literal_in}
+use Rattle.template_tags.specs.Calls.{beside, error_if, errors_in, one_value, two_values, is_body, literal_in}
 use Rattle.template_tags.specs.Calls.{body_call, json_path_call, called, call_of, limited, argument, arguments, call_read}
 use Rattle.template_tags.specs.Calls.{helper_read}
 use Rattle.template_tags.specs.Expression as expressions
 use Rattle.template_tags.specs.Expression.{Expression, datum, text_literal}
 use Rattle.template_tags.specs.Items.{Item, word, left_parenthesis, right_parenthesis, break_before, word_before}
-use Rattle.template_tags.specs.Items.{byte_before, cut, items_after, items_of}
+use Rattle.template_tags.specs.Items.{byte_before, cut, items_of}
 use Rattle.template_tags.specs.Levels.{loops_open}
 use Rattle.template_tags.specs.Said.{value_said, print_said, is_marked, word_said, items_said, space_error, tag_said}
 use Rattle.template_tags.specs.Tags as said
 use Rattle.template_tags.specs.Terms.{Term, single, group, Terms, no_terms, first_term, Nest, grouped, item_before, nest_of}
 use Rattle.template_tags.specs.Terms.{is_balanced, height, greatest_height}
-use Rattle.template_tags.specs.Words.{word_of}
 use Rattle.template_tree.specs.declared.parser.TheConstants.{TEXT_LIMIT}
-use Rattle.template_tree.specs.Sound.{SoundDatum, takes_one, takes_two, depth_of, SoundExpression, MOST_CALLS, SoundValue}
+use Rattle.template_tree.specs.Inner.Frames.{HasBlock, HasNoElse}
+use Rattle.template_tree.specs.Sound.{SoundDatum, takes_one, takes_two, MOST_CALLS, SoundValue}
 use Rattle.template_tree.proofs.SoundWords.{SoundTo, argument_word-sound, lone_value-sound}
 
 -- ---- words are no longer than the content of their tag
@@ -82,7 +81,7 @@ short-cut n mode (b ∷ bs) le =
     by true h = (
       omega arith,
       short-break n b (word_before (cut (mode_after mode b) bs).0 (cut (mode_after mode b) bs).1)
-      (short-word n (cut (mode_after mode b) bs).0 (cut (mode_after mode b) bs).1 (omega (arith, h.0, le)) h.1),
+          (short-word n (cut (mode_after mode b) bs).0 (cut (mode_after mode b) bs).1 (omega (arith, h.0, le)) h.1),
     )
     by false h = (omega (arith, h.0), h.1)
 
@@ -239,7 +238,7 @@ mutual
       let most = max (height term) (greatest_height terms) in (
         deeper loops (height term) most (argument levels term) (omega arith) (argument-sound levels term short.0).0,
         all-deeper loops (greatest_height terms) most (arguments levels terms) (omega arith)
-        (inner-arguments-sound levels terms short.1),
+            (inner-arguments-sound levels terms short.1),
       )
 
   inner-call-sound : (levels : List Level) (terms : Terms) → AreShortTerms TEXT_LIMIT terms
@@ -272,8 +271,8 @@ SoundTag levels (said.print e) = SoundValue (loops_open levels) e
 SoundTag levels (said.open_if unless test) = SoundValue (loops_open levels) test
 SoundTag levels (said.open_each over parameter) =
     SoundDatum (loops_open levels) over × (loops_open levels < LOOP_LIMIT)
-SoundTag levels said.begin_else = Unit {0}
-SoundTag levels said.close = Unit {0}
+SoundTag levels said.begin_else = HasNoElse levels
+SoundTag levels said.close = HasBlock levels
 
 abbrev pub SoundSaid : List Level → Result said.Tag TagError → Type 0
 SoundSaid levels (Ok tag) = SoundTag levels tag
@@ -413,24 +412,27 @@ opening-sound levels name items short =
 
 else-sound : (levels : List Level) (items : List Item) → SoundSaid levels (else_said levels items)
 else-sound [] [] = tt
-else-sound (level ∷ levels) [] = by level.in_else
+else-sound (level ∷ levels) [] = by level.in_else refl
   where
-    by : (b : Bool) → SoundSaid (level ∷ levels) (if b then Err UnexpectedClose else Ok said.begin_else)
-    by true = tt
-    by false = tt
+    by : (b : Bool) → level.in_else ≡ b
+        → SoundSaid (level ∷ levels) (if b then Err UnexpectedClose else Ok said.begin_else)
+    by true e = tt
+    by false e = e
 else-sound levels (item ∷ items) = tt
 
-close-sound : (levels : List Level) (items : List Item) → SoundSaid levels (close_alone items)
-close-sound levels [] = tt
-close-sound levels (item ∷ items) = tt
+close-sound : (level : Level) (levels : List Level) (items : List Item)
+    → SoundSaid (level ∷ levels) (close_alone items)
+close-sound level levels [] = tt
+close-sound level levels (item ∷ items) = tt
 
 closing-sound : (levels : List Level) (name : List ℕ) (items : List Item)
     → SoundSaid levels (closing_said levels name items)
-closing-sound levels name items =
-    cond_both (is_innermost name levels) (close_alone items)
-    (beside (all_errors levels (nest_of items)) (Err UnexpectedClose)) (SoundSaid levels)
-    (λ t. close-sound levels items)
-    (λ f. said-beside levels (all_errors levels (nest_of items)) (Err UnexpectedClose) tt)
+closing-sound [] name items = said-beside [] (all_errors [] (nest_of items)) (Err UnexpectedClose) tt
+closing-sound (level ∷ levels) name items =
+    let errors = all_errors (level ∷ levels) (nest_of items) in
+    cond_both (is_innermost name (level ∷ levels)) (close_alone items) (beside errors (Err UnexpectedClose))
+    (SoundSaid (level ∷ levels)) (λ t. close-sound level levels items)
+    (λ f. said-beside (level ∷ levels) errors (Err UnexpectedClose) tt)
 
 word-sound : (opening : Opening) (levels : List Level) (text : List ℕ) (items : List Item) → length text ≤ TEXT_LIMIT
     → AreShort TEXT_LIMIT items → SoundSaid levels (word_said opening levels text items)

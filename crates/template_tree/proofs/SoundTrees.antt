@@ -1,17 +1,9 @@
 -- The tree that a text spells is sound.
-use Rattle.std.proofs.Common.{◌≡◌, ℕ, zero, suc, ◌≤◌, ◌==◌, Bool, true, false, List, [], ◌∷◌, map, length, take, drop, codes}
-use Rattle.std.proofs.Common.{Option, Some, None, Result, Ok, Err, refl, sym, subst, arith}
-use Rattle.std.specs.List.{ends_with}
-use Rattle.std.proofs.lemmas.Bool.{cond_both}
-use Rattle.std.proofs.lemmas.List.{length-take}
-use Rattle.template_words.specs.declared.error.TagError.{TagError}
-use Rattle.template_words.specs.Marks.{offset_of}
+use Rattle.std.proofs.Common.{◌≡◌, ℕ, suc, ◌≤◌, Bool, true, false, List, [], ◌∷◌, map, length, drop, None, refl, subst, arith}
 use Rattle.template_tags.specs.declared.level.Block.TheVariants.{Each}
 use Rattle.template_tags.specs.declared.level.Level.{Level}
 use Rattle.template_tags.specs.declared.level.TheConstants.{LOOP_LIMIT}
-use Rattle.template_tags.specs.declared.tag.Opening.{Opening}
 use Rattle.template_tags.specs.Levels.{loops_open}
-use Rattle.template_tags.specs.Said.{tag_said}
 use Rattle.template_tags.specs.Tags as said
 use Rattle.template_tree.specs.declared.escape.Escape.{Escape}
 use Rattle.template_tree.specs.declared.parser.TheConstants.{TEXT_LIMIT}
@@ -19,65 +11,10 @@ use Rattle.template_tree.specs.Grammar.{test_block, opened, else_begun, token_le
 use Rattle.template_tree.specs.Parts.{Part, leaf, opens_if, opens_each, begins_else, closes, parts_of, spell_node, spell}
 use Rattle.template_tree.specs.Sound.{SoundDatum, SoundValue, SoundNode, SoundNodes}
 use Rattle.template_tree.specs.Source.{Source}
-use Rattle.template_tree.specs.Tags.{Tag, comment, shown, tag_of}
-use Rattle.template_tree.specs.Tokens.{Token, text_token, comment_token, tag_token, Next, token, tag_error, ended}
-use Rattle.template_tree.specs.Tokens.{said_next, closed_next, tag_next, error_after_backslash, text_next}
-use Rattle.template_tree.specs.Tokens.{last_text_next, next_at, next_of}
+use Rattle.template_tree.specs.Tokens.{Token, text_token, comment_token, tag_token}
 use Rattle.template_tree.specs.Tree.{Node, piece, print, if_then, if_else, each, each_else, Nodes, no_nodes, first_node}
-use Rattle.template_tree.proofs.Lengths.{shown_length, TagWithin, tag_short}
 use Rattle.template_tree.proofs.Rows.{token_shorter}
-use Rattle.template_tree.proofs.SoundTags.{SoundTag, SoundSaid, tag_said-sound}
-
--- ---- tokens
-
-abbrev SoundToken : List Level → Token → Type 0
-SoundToken levels (text_token bytes) = length bytes ≤ TEXT_LIMIT
-SoundToken levels comment_token = Unit {0}
-SoundToken levels (tag_token opening tag) = SoundTag levels tag
-
-abbrev SoundNext : List Level → Next → Type 0
-SoundNext levels (token t more) = SoundToken levels t
-SoundNext levels (tag_error f mark) = Unit {0}
-SoundNext levels ended = Unit {0}
-
-said-sound : (levels : List Level) (text : List ℕ) (opening : Opening) (r : Result said.Tag TagError) (rest : List ℕ)
-    → SoundSaid levels r → SoundNext levels (said_next text opening r rest)
-said-sound levels text opening (Ok tag) rest h = h
-said-sound levels text opening (Err e) rest h = tt
-
-tag-sound : (levels : List Level) (text : List ℕ) (o : Option (Tag × List ℕ)) → TagWithin TEXT_LIMIT o
-    → SoundNext levels (tag_next levels text o)
-tag-sound levels text None h = tt
-tag-sound levels text (Some x) h = by x.0 h.0
-  where
-    by : (tag : Tag) → shown_length tag ≤ TEXT_LIMIT → SoundNext levels (closed_next levels text tag x.1)
-    by comment le = tt
-    by (shown opening content) le =
-        said-sound levels text opening (tag_said opening content levels) x.1
-        (tag_said-sound opening content levels le)
-
-within : (n m : ℕ) (o : Option (Tag × List ℕ)) → n ≤ m → TagWithin n o → TagWithin m o
-within n m None le h = tt
-within n m (Some x) le h = (omega (arith, h.0), omega (arith, h.1))
-
-last-sound : (levels : List Level) (text : List ℕ) → length text ≤ TEXT_LIMIT → SoundNext levels (last_text_next text)
-last-sound levels [] le = tt
-last-sound levels (b ∷ bs) le = le
-
-at-sound : (levels : List Level) (text : List ℕ) (index : Option ℕ) → length text ≤ TEXT_LIMIT
-    → SoundNext levels (next_at levels text index)
-at-sound levels text None le = last-sound levels text le
-at-sound levels text (Some zero) le =
-    tag-sound levels text (tag_of text) (within (length text) TEXT_LIMIT (tag_of text) le (tag_short text))
-at-sound levels text (Some (suc n)) le =
-    let front = take (suc n) text in
-    let mark = drop (suc n) text in
-    cond_both (ends_with ◌==◌ front (codes "\\")) (tag_error (error_after_backslash (tag_of mark)) mark)
-    (token (text_token front) mark) (SoundNext levels) (λ t. tt) (λ f. omega (arith, le, length-take (suc n) text))
-
-next-sound : (levels : List Level) (text : List ℕ) → length text ≤ TEXT_LIMIT → SoundNext levels (next_of levels text)
-unfolding next_of
-next-sound levels text le = at-sound levels text (offset_of (codes "{{") text) le
+use Rattle.template_tree.proofs.SoundTokens.{SoundToken, token-sound}
 
 -- ---- parts
 
@@ -114,7 +51,7 @@ parts-sound :
     → SoundParts (map shape levels) (parts_of escape ts [])
 parts-sound escape [] levels new_levels text rest le h = tt
 parts-sound escape (t ∷ ts) levels new_levels text rest le h =
-    by t (subst (SoundNext levels) h.1 (next-sound levels text le))
+    by t (token-sound levels text h.0 t le h.1)
     (parts-sound escape ts (token_levels (length text) t levels) new_levels h.0 rest
     (omega (arith, le, token_shorter levels text h.0 t h.1)) h.2)
   where

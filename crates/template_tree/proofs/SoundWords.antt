@@ -1,12 +1,10 @@
 -- What a word of a tag names is sound, and its text is no longer than the word.
 use Rattle.std.proofs.Common.{◌≡◌, ℕ, zero, suc, ◌+◌, ◌<◌, ◌≤◌, Bool, true, false, List, [], ◌∷◌, length, take, drop}
-use Rattle.std.proofs.Common.{Option, Some, None, Result, Ok, Err, refl, sym, ap, subst, ◌∙◌, arith, codes, length-drop}
-use Rattle.std.specs.Prelude.{nat_lt, nat_eq, ◌==◌, option_map, cond, if◌then◌else◌}
+use Rattle.std.proofs.Common.{Option, Some, None, Result, Ok, Err, refl, subst, arith, codes, length-drop}
+use Rattle.std.specs.Prelude.{nat_lt, ◌==◌, option_map, cond}
 use Rattle.std.specs.Option.{option_or, unwrap_or}
-use Rattle.std.specs.Str.{bytes_eq}
 use Rattle.std.proofs.lemmas.Bool.{cond_both, ltb-true}
 use Rattle.std.proofs.lemmas.List.{length-take}
-use Rattle.helper_set.specs.declared.helper.Helper.{Helper}
 use Rattle.template_words.specs.declared.error.TagError.{TagError}
 use Rattle.template_words.specs.declared.error.TagError.TheVariants.{UnsupportedTag}
 use Rattle.template_words.specs.declared.reference.Reference.{Reference}
@@ -14,18 +12,17 @@ use Rattle.template_words.specs.declared.reference.Reference.TheVariants as refe
 use Rattle.template_words.specs.Literals.{text_literal, whole_number, truth_literal}
 use Rattle.template_words.specs.Marks.{begins, offset_of}
 use Rattle.template_words.specs.Names.{is_hash_argument, first_part}
-use Rattle.template_words.specs.Paths.{reference_of, rest_of_steps}
+use Rattle.template_words.specs.Paths.{reference_of}
 use Rattle.template_words.specs.Words.{enclosed, closed_at_end, is_foreign_helper}
-use Rattle.template_tags.specs.declared.expression.Datum.{Datum}
-use Rattle.template_tags.specs.declared.expression.Datum.TheVariants.{Nothing, Root, Item}
+use Rattle.template_tags.specs.declared.expression.Datum.TheVariants.{Nothing, Item}
 use Rattle.template_tags.specs.declared.level.Level.{Level}
 use Rattle.template_tags.specs.declared.word.LoopWord.{LoopWord}
 use Rattle.template_tags.specs.declared.word.LoopWord.TheVariants as words
-use Rattle.template_tags.specs.Expression.{Expression, datum}
+use Rattle.template_tags.specs.Expression.{Expression}
 use Rattle.template_tags.specs.Levels.{is_loop, count_loop, loops_open, is_parameter, loop_at, loop_named}
 use Rattle.template_tags.specs.Words.{Word, text_word, number_word, truth_word, loop_word, helper_word, foreign_word}
 use Rattle.template_tags.specs.Words.{path_word, wrong_word, helper_named, loop_word_of, path_read, other_word, literal_of}
-use Rattle.template_tags.specs.Words.{known_word, word_of, steps_in, found_datum, named_datum, datum_of, loop_word_value}
+use Rattle.template_tags.specs.Words.{known_word, word_of, found_datum, named_datum, datum_of}
 use Rattle.template_tags.specs.Words.{loop_value, word_value, argument_word, lone_value}
 use Rattle.template_tree.specs.declared.parser.TheConstants.{TEXT_LIMIT}
 use Rattle.template_tree.specs.Sound.{SoundDatum, SoundExpression, depth_of}

@@ -9,7 +9,6 @@ use Rattle.template_tree.specs.declared.error.TemplateErrorKind.{TemplateErrorKi
 use Rattle.template_tree.specs.declared.error.TemplateErrorKind.TheVariants.{Tag, TooLong}
 use Rattle.template_tree.specs.declared.parser.TheConstants.{TEXT_LIMIT}
 use Rattle.template_words.specs.declared.error.TagError.{TagError}
-use Rattle.template_words.specs.declared.error.TagError.TheVariants.{UnclosedTag}
 use Rattle.template_tags.specs.declared.level.Level.{Level}
 use Rattle.template_tree.specs.Grammar.{Leads, token_levels, Spells, IsReadErrorAt, IsOpenAt, IsTagErrorAt, IsErrorAt}
 use Rattle.template_tree.specs.Grammar.{IsTemplateError, IsParseError}

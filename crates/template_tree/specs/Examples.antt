@@ -1,5 +1,5 @@
 -- Texts, each with the tree that it spells or with its error.
-use Rattle.std.specs.Prelude.{◌≡◌, ℕ, suc, Bool, true, false, List, [], ◌∷◌, length, None, codes}
+use Rattle.std.specs.Prelude.{◌≡◌, ℕ, suc, true, false, List, [], ◌∷◌, length, None, codes}
 use Rattle.data_tree.specs.declared.step.Step.{Step}
 use Rattle.data_tree.specs.declared.step.Step.TheVariants.{Name, Index}
 use Rattle.helper_set.specs.declared.helper.Helper.TheVariants.{Upper, Base64}

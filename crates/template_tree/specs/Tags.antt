@@ -1,13 +1,10 @@
 -- Where a tag of a text ends, and of which kind it is (Handlebars' `{{ }}`, `{{{ }}}`, `{{! }}`, `{{!-- --}}`).
-use Rattle.std.specs.Prelude.{ℕ, ◌==◌, Bool, false, ◌||◌, List, [], ◌∷◌, drop, Option, Some, None}
+use Rattle.std.specs.Prelude.{ℕ, List, drop, Option, Some, None}
 use Rattle.std.specs.Prelude.{if◌then◌else◌, codes}
-use Rattle.std.specs.List.{list_any}
-use Rattle.std.specs.Str.{bytes_eq}
 use Rattle.template_words.specs.declared.mode.Mode.TheVariants.{Start}
 use Rattle.template_tags.specs.declared.tag.Opening.{Opening}
 use Rattle.template_tags.specs.declared.tag.Opening.TheVariants.{Double, Triple}
 use Rattle.template_words.specs.Marks.{begins, offset_of, close_from, around}
-use Rattle.template_words.specs.Words.{is_nil, has_break, is_literal_word, is_helper}
 
 -- a comment, or what is shown: the bytes between the marks
 pub data Tag : Type 0 where

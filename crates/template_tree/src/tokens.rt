@@ -21,7 +21,11 @@ pub enum Token {
 }
 
 /// The token of a text that begins with a tag, and what follows it, where these blocks are open, the innermost last.
-pub fn tag_token<'a>(alloc: Global, levels: &[Level], text: &'a str) -> Result<(Token, &'a str), ReadError>
+pub fn tag_token<'a>(
+    alloc: Global,
+    levels: &[Level],
+    text: &'a str,
+) -> Result<(Token, &'a str), ReadError>
     requires mark { begins (codes "{{") text.now ≡ true }
     requires short { length text.now < 2 ^ 31 }
     requires few { length levels.now < 2 ^ 32 }
