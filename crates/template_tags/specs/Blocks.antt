@@ -69,6 +69,10 @@ abbrev pub has_names : List Item → Bool
 has_names [] = false
 has_names (item ∷ items) = (is_word (codes "as") item && are_names items) || has_names items
 
+-- names for items, one or more, at the end
+abbrev pub has_parameters : List Item → Bool
+has_parameters items = is_some (loop_items items).parameter || has_names items
+
 -- ---- what an opening tag takes
 
 -- the errors of terms that no call and no block takes
@@ -106,7 +110,7 @@ if_read unless read = read >>= λ test. Ok (open_if unless test)
 abbrev pub test_said : List Level → Bool → List Item → Result Tag TagError
 test_said levels unless items =
     beside (block_error levels)
-    (beside (error_if UnsupportedTag (is_some (loop_items items).parameter || has_names items))
+    (beside (error_if UnsupportedTag (has_parameters items))
     (if_read unless (block_argument levels (nest_of items))))
 
 abbrev pub data_only : Result Expression TagError → Result Datum TagError

@@ -8,3 +8,4 @@ pub mod Calls
 pub mod Blocks
 pub mod Said
 pub mod Examples
+pub mod Inner

@@ -1,4 +1,6 @@
 // The blocks that are open where a tag is.
+ghost use Rattle.std.specs.Prelude.{◌≡◌, ◌<◌, ◌^◌, length, reverse};
+ghost use Rattle.template_tags.specs.Levels.{block_name, is_each, loops_open, loop_named};
 
 use data_tree::plain_text::PlainText;
 
@@ -16,6 +18,25 @@ pub enum Block {
     Each,
 }
 
+impl Block {
+    /// The word that opens the block after `#`, and closes it after `/`.
+    pub fn name(self) -> &'static str
+        ensures { result.now ≡ block_name self }
+    {
+        match self {
+            Block::If => "if",
+            Block::Unless => "unless",
+            Block::Each => "each",
+        }
+    }
+
+    fn is_each(self) -> bool
+        ensures { result ≡ is_each self }
+    {
+        matches!(self, Block::Each)
+    }
+}
+
 /// A block that is open.
 #[derive(Debug, Drop)]
 pub struct Level {
@@ -26,4 +47,59 @@ pub struct Level {
     pub parameter: Option<PlainText>,
     /// Whether its else has come.
     pub in_else: bool,
+}
+
+impl Level {
+    ghost use Rattle.template_tags.specs.Levels.{is_loop, is_parameter};
+
+    /// Whether it is a loop, and not its else part.
+    fn is_loop(&self) -> bool
+        ensures { result ≡ is_loop self.now }
+    {
+        self.block.is_each() && !self.in_else
+    }
+
+    /// Whether its items have that name.
+    fn is_named(&self, name: &str) -> bool
+        ensures { result ≡ is_parameter name.now self.now.parameter }
+    {
+        match &self.parameter {
+            Some(parameter) => name == parameter.as_str(),
+            None => false,
+        }
+    }
+}
+
+/// The number of open loops.
+pub fn loops_open(levels: &[Level]) -> usize
+    ensures { result ≡ loops_open (reverse levels.now) }
+{
+    let mut count = 0;
+    let mut left = levels;
+    while let [outer @ .., level] = left {
+        if level.is_loop() {
+            count += 1;
+        }
+        left = outer;
+    }
+    count
+}
+
+/// The innermost loop whose items have that name, by the number of loops inside of it.
+pub fn loop_named(levels: &[Level], name: &str) -> Option<u32>
+    requires { length levels.now < 2 ^ 32 }
+    ensures { result ≡ loop_named name.now (reverse levels.now) }
+{
+    let mut up = 0;
+    let mut left = levels;
+    while let [outer @ .., level] = left {
+        if level.is_loop() {
+            if level.is_named(name) {
+                return Some(up);
+            }
+            up += 1;
+        }
+        left = outer;
+    }
+    None
 }

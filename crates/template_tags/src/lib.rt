@@ -2,9 +2,18 @@
 // are in a text, and what a template is as a whole, are `template_tree`'s.
 #![tactic(auto)]
 
-pub mod calls;
+// What tags say, and the blocks that are open.
 pub mod expression;
-pub mod laws;
 pub mod level;
 pub mod tag;
+
+// The parts of a tag, lowest first.
+mod blocks;
+pub mod calls;
+mod items;
+mod nest;
 pub mod word;
+pub mod word_text;
+
+// What holds of the definitions.
+pub mod laws;

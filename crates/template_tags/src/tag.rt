@@ -1,15 +1,25 @@
-// What tags say.
-
-ghost use Rattle.std.specs.Prelude.{◌<◌, ◌^◌, length, reverse};
-ghost use Rattle.template_words.specs.Reading.{Gives};
-ghost use Rattle.template_tags.specs.Said.{tag_said};
+// What the content of a tag says.
+ghost use Rattle.std.specs.Prelude.{◌≡◌, ◌<◌, ◌^◌, ◌∷◌, drop, length, map, reverse, IfOk};
+ghost use Rattle.template_tags.specs.Inner.Pieces.{lone_piece, value_pieces, print_pieces};
+ghost use Rattle.template_tags.specs.Inner.Scan.{item_view};
+ghost use Rattle.template_tags.specs.Inner.Views.{read_view, piece_view, pieces_view, nest_view, said_view};
+ghost use Rattle.template_tags.specs.Items.{word};
+ghost use Rattle.template_tags.specs.Said.{print_read, print_said, is_marked, word_said, items_said, space_error, tag_said};
 ghost use Rattle.template_tags.specs.Tags.{tag_view};
+ghost use Rattle.template_tags.specs.Terms.{nest_of};
+ghost use Rattle.template_words.specs.Reading.{Gives};
 
+use crate::blocks::{closing_said, else_said, nest_error, opening_said};
+use crate::calls::{beside, call_read, error_if};
 use crate::expression::{Datum, Expression};
+use crate::items::{Item, items_of, lacks_space};
 use crate::level::Level;
+use crate::nest::{Nest, Piece, nest_of};
+use crate::word::lone_value;
 use data_tree::plain_text::PlainText;
-use std::alloc::Global;
-use template_words::error::ReadError;
+use std::alloc::{AllocError, Global};
+use template_words::error::{ReadError, TagError};
+use template_words::marks::after_mark;
 
 /// How a tag that is no comment is opened.
 #[derive(Clone, Copy, Debug)]
@@ -41,16 +51,177 @@ pub enum Tag {
     Close,
 }
 
-/// STAND-IN.
-pub fn read_tag(
-    _alloc: Global,
-    _opening: Opening,
-    _content: &str,
-    _levels: &[Level],
-) -> Result<Tag, ReadError>
-    requires content { length _content.now < 2 ^ 31 }
-    requires levels { length _levels.now < 2 ^ 32 }
-    ensures { Gives tag_view result (tag_said _opening _content.now (reverse _levels.now)) }
+// The value of the one piece that a tag has.
+fn lone_piece(
+    alloc: Global,
+    levels: &[Level],
+    balanced: bool,
+    piece: Piece<'_>,
+) -> Result<Result<Expression, TagError>, AllocError>
+    requires { length levels.now < 2 ^ 32 }
+    ensures { IfOk result
+        (λ read. read_view read ≡ lone_piece (reverse levels.now) balanced (piece_view piece.entry)) }
 {
-    Err(ReadError::OutOfMemory)
+    match piece {
+        Piece::Word(word) => lone_value(alloc, levels, word),
+        Piece::Group {
+            value: _,
+            height: _,
+        } if balanced => Ok(Err(TagError::UnsupportedTag)),
+        Piece::Group { value, height: _ } => Ok(value),
+    }
+}
+
+// The value that a tag prints.
+fn value_said(
+    alloc: Global,
+    levels: &[Level],
+    balanced: bool,
+    mut pieces: Vec<Piece<'_>>,
+) -> Result<Result<Expression, TagError>, AllocError>
+    requires { length levels.now < 2 ^ 32 }
+    ensures { IfOk result
+        (λ read. read_view read ≡ value_pieces (reverse levels.now) balanced (pieces_view pieces.entry.items)) }
+{
+    if pieces.len() != 1 {
+        return if pieces.is_empty() {
+            Ok(Err(TagError::BadPath))
+        } else {
+            call_read(alloc, levels, pieces)
+        };
+    }
+    match pieces.pop() {
+        Some(piece) => lone_piece(alloc, levels, balanced, piece),
+        None => unreachable!(),
+    }
+}
+
+fn print_read(read: Result<Expression, TagError>) -> Result<Tag, TagError>
+    ensures { said_view result ≡ print_read (read_view read) }
+{
+    match read {
+        Ok(value) => Ok(Tag::Print(value)),
+        Err(error) => Err(error),
+    }
+}
+
+#[tactic(auto, using(crate::proofs::Besides::read_beside))]
+fn piece_said(
+    alloc: Global,
+    levels: &[Level],
+    nest: Nest<'_>,
+) -> Result<Result<Tag, TagError>, AllocError>
+    requires { length levels.now < 2 ^ 32 }
+    ensures { IfOk result (λ said. said_view said ≡ print_pieces (reverse levels.now) (nest_view nest.entry)) }
+{
+    let balanced = nest.is_balanced();
+    let Nest {
+        pieces,
+        later,
+        unclosed: _,
+    } = nest;
+    let error = nest_error(alloc, levels, balanced, later)?;
+    let value = beside(error, value_said(alloc, levels, balanced, pieces)?);
+    Ok(print_read(value))
+}
+
+// What a tag says that prints.
+#[tactic(auto, using(crate::proofs::Nests::print_pieces_are))]
+fn print_said(
+    alloc: Global,
+    levels: &[Level],
+    items: &[Item<'_>],
+) -> Result<Result<Tag, TagError>, AllocError>
+    requires { length levels.now < 2 ^ 32 }
+    ensures { IfOk result
+        (λ said. said_view said ≡ print_said (reverse levels.now) (nest_of (map item_view items.now))) }
+{
+    piece_said(alloc, levels, nest_of(alloc, levels, items)?)
+}
+
+// Whether the text begins with a byte that marks a tag which templates don't have.
+fn is_marked(text: &[u8]) -> bool
+    ensures { result ≡ is_marked text.now }
+{
+    match text {
+        [byte, ..] => b">&^*~{".contains(byte),
+        [] => false,
+    }
+}
+
+// What a tag says that begins with that word, which is the first of the items.
+fn word_said(
+    alloc: Global,
+    opening: Opening,
+    levels: &[Level],
+    text: &str,
+    items: &[Item<'_>],
+) -> Result<Result<Tag, TagError>, AllocError>
+    requires levels { length levels.now < 2 ^ 32 }
+    requires first { map item_view items.now ≡ word text.now ∷ map item_view (drop 1 items.now) }
+    ensures { IfOk result (λ said.
+        said_view said ≡ word_said opening (reverse levels.now) text.now (map item_view (drop 1 items.now))) }
+{
+    let rest = match items {
+        [_, rest @ ..] => rest,
+        [] => unreachable!(),
+    };
+    if let Opening::Triple = opening {
+        return print_said(alloc, levels, items);
+    }
+    if let Some(name) = after_mark(text, "#") {
+        opening_said(alloc, levels, name, rest)
+    } else if let Some(name) = after_mark(text, "/") {
+        closing_said(alloc, levels, name, rest)
+    } else if text == "else" {
+        Ok(else_said(levels, rest))
+    } else {
+        print_said(alloc, levels, items)
+    }
+}
+
+fn items_said(
+    alloc: Global,
+    opening: Opening,
+    levels: &[Level],
+    items: &[Item<'_>],
+) -> Result<Result<Tag, TagError>, AllocError>
+    requires { length levels.now < 2 ^ 32 }
+    ensures { IfOk result
+        (λ said. said_view said ≡ items_said opening (reverse levels.now) (map item_view items.now)) }
+{
+    let [first, ..] = items else {
+        return Ok(Err(TagError::UnsupportedTag));
+    };
+    match first.text() {
+        None => print_said(alloc, levels, items),
+        Some(text) if is_marked(text.as_bytes()) => Ok(Err(TagError::UnsupportedTag)),
+        Some(text) => word_said(alloc, opening, levels, text, items),
+    }
+}
+
+fn space_error(content: &str) -> Option<TagError>
+    ensures { result ≡ space_error content.now }
+{
+    error_if(TagError::BadPath, lacks_space(content.as_bytes()))
+}
+
+/// What the content of a tag (between its marks; no comment) says where these blocks are open, the innermost last.
+#[tactic(auto, unfolding(crate::specs::Said::tag_said), using(crate::proofs::Besides::said_beside))]
+pub fn read_tag(
+    alloc: Global,
+    opening: Opening,
+    content: &str,
+    levels: &[Level],
+) -> Result<Tag, ReadError>
+    requires content { length content.now < 2 ^ 31 }
+    requires levels { length levels.now < 2 ^ 32 }
+    ensures { Gives tag_view result (tag_said opening content.now (reverse levels.now)) }
+{
+    let items = items_of(alloc, content)?;
+    let said = items_said(alloc, opening, levels, items.as_slice())?;
+    match beside(space_error(content), said) {
+        Ok(tag) => Ok(tag),
+        Err(error) => Err(ReadError::Tag(error)),
+    }
 }

@@ -1,5 +1,6 @@
 // Why a tag can't be read.
 ghost use Rattle.std.specs.Prelude.{◌≡◌};
+ghost use Rattle.template_words.specs.Errors.{joined};
 ghost use Rattle.template_words.specs.declared.error.ReadError.TheVariants.{OutOfMemory};
 
 use error_code::error_code::ErrorCode;
@@ -64,6 +65,17 @@ impl TagError {
         } else {
             other
         }
+    }
+}
+
+/// The error that is reported where these were found in the parts of a tag.
+pub fn joined(first: Option<TagError>, second: Option<TagError>) -> Option<TagError>
+    ensures { result ≡ joined first second }
+{
+    match (first, second) {
+        (None, error) => error,
+        (Some(error), None) => Some(error),
+        (Some(error), Some(other)) => Some(error.earlier(other)),
     }
 }
 

@@ -28,7 +28,8 @@ fn is_quote(byte: u8) -> bool
     byte == b'"' || byte == b'\''
 }
 
-fn mode_of_byte(byte: u8) -> Mode
+/// The mode after a byte that opens or closes no literal and closes no bracket.
+pub fn mode_of_byte(byte: u8) -> Mode
     ensures { result ≡ mode_of_byte byte }
 {
     if byte == b'[' {

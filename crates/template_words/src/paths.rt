@@ -32,7 +32,8 @@ fn all_name_bytes(text: &str) -> bool
     text.as_bytes().iter().all(|byte| is_name_byte(*byte))
 }
 
-pub(crate) fn is_name(text: &str) -> bool
+/// Whether the text is a name outside of brackets.
+pub fn is_name(text: &str) -> bool
     ensures { result ≡ is_name text.now }
 {
     !text.is_empty() && all_name_bytes(text)
@@ -122,7 +123,8 @@ fn steps_of(alloc: Global, text: &str) -> Result<Vec<Step>, ReadError>
     Ok(steps)
 }
 
-fn is_step(step: &Step, name: &str) -> bool
+/// Whether the step is of that name.
+pub fn is_step(step: &Step, name: &str) -> bool
     ensures { result ≡ is_step name.now step.now }
 {
     matches!(step, Step::Name(text) if text.as_str() == name)

@@ -1,0 +1,4 @@
+-- Words that only the contracts of this crate's private functions need.
+pub mod Scan
+pub mod Views
+pub mod Pieces

@@ -1,0 +1,460 @@
+// What the tags of blocks say.
+ghost use Rattle.std.specs.Prelude.{◌≡◌, ◌<◌, ◌^◌, is_some, length, map, reverse, IfOk};
+ghost use Rattle.template_tags.specs.Blocks.{parameter_in, loop_items, is_word, are_last_names, are_names, has_names};
+ghost use Rattle.template_tags.specs.Blocks.{has_parameters};
+ghost use Rattle.template_tags.specs.Blocks.{only_one, block_argument, block_error, loop_error, test_said, data_only};
+ghost use Rattle.template_tags.specs.Blocks.{if_read, each_read, is_taken, loop_said, each_said, opening_said, first_else, else_said};
+ghost use Rattle.template_tags.specs.Blocks.{is_innermost, close_alone, all_errors, closing_said};
+ghost use Rattle.template_tags.specs.Calls.{error_if, errors_in};
+ghost use Rattle.template_tags.specs.Inner.Pieces.{piece_arguments, unused_pieces, block_pieces, pieces_error, all_pieces_error};
+ghost use Rattle.template_tags.specs.Inner.Scan.{item_view, item_is, with_items, loop_view};
+ghost use Rattle.template_tags.specs.Inner.Views.{read_view, pieces_view, later_view, nest_view, said_view};
+ghost use Rattle.template_tags.specs.Terms.{nest_of};
+ghost use Rattle.template_words.specs.Inner.Views.{part_view};
+ghost use Rattle.template_words.specs.Names.{is_name_after_bar, name_before_bar};
+ghost use Rattle.template_words.specs.Paths.{is_name};
+
+use crate::calls::{arguments, beside, error_if, errors_in};
+use crate::expression::{Datum, Expression};
+use crate::items::Item;
+use crate::level::{BLOCK_LIMIT, LOOP_LIMIT, Level, loops_open};
+use crate::nest::{Nest, Piece, nest_of};
+use crate::tag::Tag;
+use data_tree::plain_text::PlainText;
+use std::alloc::{AllocError, Global};
+use template_words::error::{TagError, joined};
+use template_words::names::{is_name_after_bar, name_before_bar, name_in_bars};
+use template_words::paths::is_name;
+
+fn parameter_in<'a>(first: Item<'a>, second: Item<'a>) -> Option<&'a str>
+    ensures { part_view result ≡ parameter_in (item_view first.entry) (item_view second.entry) }
+{
+    if is_word("as", first) {
+        name_in_bars(second.text()?)
+    } else {
+        None
+    }
+}
+
+// The items of an `each` but for its name for items, which is at the end, and that name.
+fn loop_items<'a, 'b>(items: &'b [Item<'a>]) -> (&'b [Item<'a>], Option<&'a str>)
+    ensures { loop_view result ≡ loop_items (map item_view items.now) }
+{
+    match items {
+        [before @ .., first, second] => match parameter_in(*first, *second) {
+            Some(name) => (before, Some(name)),
+            None => (items, None),
+        },
+        _ => (items, None),
+    }
+}
+
+fn is_word(text: &str, item: Item<'_>) -> bool
+    ensures { result ≡ is_word text.now (item_view item.entry) }
+{
+    match item.text() {
+        Some(word) => word == text,
+        None => false,
+    }
+}
+
+fn is_name_item(item: Item<'_>) -> bool
+    ensures { result ≡ item_is is_name (item_view item.entry) }
+{
+    match item.text() {
+        Some(word) => is_name(word),
+        None => false,
+    }
+}
+
+fn is_last_name(item: Item<'_>) -> bool
+    ensures { result ≡ item_is (λ w. is_some (name_before_bar w)) (item_view item.entry) }
+{
+    match item.text() {
+        Some(word) => name_before_bar(word).is_some(),
+        None => false,
+    }
+}
+
+fn is_first_name(item: Item<'_>) -> bool
+    ensures { result ≡ item_is is_name_after_bar (item_view item.entry) }
+{
+    match item.text() {
+        Some(word) => is_name_after_bar(word),
+        None => false,
+    }
+}
+
+// Whether the items are names, of which the last has a bar after it.
+fn are_last_names(items: &[Item<'_>]) -> bool
+    ensures { result ≡ are_last_names (map item_view items.now) }
+{
+    let mut rest = items;
+    while let [item, after @ ..] = rest {
+        if after.is_empty() {
+            return is_last_name(*item);
+        }
+        if !is_name_item(*item) {
+            return false;
+        }
+        rest = after;
+    }
+    false
+}
+
+// Whether the items are names between bars, two at least.
+fn are_names(items: &[Item<'_>]) -> bool
+    ensures { result ≡ are_names (map item_view items.now) }
+{
+    match items {
+        [item, rest @ ..] => is_first_name(*item) && are_last_names(rest),
+        [] => false,
+    }
+}
+
+// Whether `as |name name|`, with any more names, is at the end.
+fn has_names(items: &[Item<'_>]) -> bool
+    ensures { result ≡ has_names (map item_view items.now) }
+{
+    let mut rest = items;
+    while let [item, after @ ..] = rest {
+        if is_word("as", *item) && are_names(after) {
+            return true;
+        }
+        rest = after;
+    }
+    false
+}
+
+// Whether names for items are at the end.
+fn has_parameters(items: &[Item<'_>]) -> bool
+    ensures { result ≡ has_parameters (map item_view items.now) }
+{
+    let (_, parameter) = loop_items(items);
+    parameter.is_some() || has_names(items)
+}
+
+// The error of pieces that no call and no block takes.
+fn unused_error(
+    alloc: Global,
+    levels: &[Level],
+    pieces: Vec<Piece<'_>>,
+) -> Result<Option<TagError>, AllocError>
+    requires { length levels.now < 2 ^ 32 }
+    ensures { IfOk result (λ e. e ≡ errors_in (piece_arguments (reverse levels.now) (pieces_view pieces.entry.items))) }
+{
+    Ok(errors_in(arguments(alloc, levels, pieces)?.as_slice()))
+}
+
+#[tactic(auto, using(crate::proofs::Joins::joined_assoc, crate::proofs::Joins::joined_none))]
+fn unused_errors(
+    alloc: Global,
+    levels: &[Level],
+    mut later: Vec<Vec<Piece<'_>>>,
+) -> Result<Option<TagError>, AllocError>
+    requires { length levels.now < 2 ^ 32 }
+    ensures { IfOk result (λ e. e ≡ unused_pieces (reverse levels.now) (later_view later.entry.items)) }
+{
+    let mut error = None;
+    while let Some(pieces) = later.pop() {
+        error = joined(error, unused_error(alloc, levels, pieces)?);
+    }
+    Ok(error)
+}
+
+// The error of parentheses without their other one, and of what follows them.
+pub fn nest_error(
+    alloc: Global,
+    levels: &[Level],
+    balanced: bool,
+    later: Vec<Vec<Piece<'_>>>,
+) -> Result<Option<TagError>, AllocError>
+    requires { length levels.now < 2 ^ 32 }
+    ensures { IfOk result (λ e. e ≡ pieces_error (reverse levels.now) balanced (later_view later.entry.items)) }
+{
+    Ok(joined(
+        error_if(TagError::BadPath, !balanced),
+        unused_errors(alloc, levels, later)?,
+    ))
+}
+
+#[tactic(auto, using(crate::proofs::Besides::read_beside))]
+fn only_one(mut arguments: Vec<Result<Expression, TagError>>) -> Result<Expression, TagError>
+    ensures { read_view result ≡ only_one (map read_view arguments.items) }
+{
+    if arguments.len() == 1 {
+        return match arguments.pop() {
+            Some(argument) => argument,
+            None => unreachable!(),
+        };
+    }
+    beside(
+        errors_in(arguments.as_slice()),
+        Err(TagError::WrongArguments),
+    )
+}
+
+// The one argument that pieces are.
+#[tactic(auto, using(crate::proofs::Besides::read_beside))]
+fn piece_argument(
+    alloc: Global,
+    levels: &[Level],
+    nest: Nest<'_>,
+) -> Result<Result<Expression, TagError>, AllocError>
+    requires { length levels.now < 2 ^ 32 }
+    ensures { IfOk result (λ read. read_view read ≡ block_pieces (reverse levels.now) (nest_view nest.entry)) }
+{
+    let balanced = nest.is_balanced();
+    let Nest {
+        pieces,
+        later,
+        unclosed: _,
+    } = nest;
+    let error = nest_error(alloc, levels, balanced, later)?;
+    Ok(beside(error, only_one(arguments(alloc, levels, pieces)?)))
+}
+
+// The one argument of a block.
+#[tactic(auto, using(crate::proofs::Nests::block_pieces_are))]
+fn block_argument(
+    alloc: Global,
+    levels: &[Level],
+    items: &[Item<'_>],
+) -> Result<Result<Expression, TagError>, AllocError>
+    requires { length levels.now < 2 ^ 32 }
+    ensures { IfOk result
+        (λ read. read_view read ≡ block_argument (reverse levels.now) (nest_of (map item_view items.now))) }
+{
+    piece_argument(alloc, levels, nest_of(alloc, levels, items)?)
+}
+
+// Another block in those that are open.
+fn block_error(levels: &[Level]) -> Option<TagError>
+    ensures { result ≡ block_error (reverse levels.now) }
+{
+    error_if(TagError::TooDeep, BLOCK_LIMIT <= levels.len())
+}
+
+// Another loop in the blocks that are open.
+fn loop_error(levels: &[Level]) -> Option<TagError>
+    ensures { result ≡ loop_error (reverse levels.now) }
+{
+    error_if(
+        TagError::TooDeep,
+        BLOCK_LIMIT <= levels.len() || LOOP_LIMIT <= loops_open(levels),
+    )
+}
+
+fn if_read(unless: bool, read: Result<Expression, TagError>) -> Result<Tag, TagError>
+    ensures { said_view result ≡ if_read unless (read_view read) }
+{
+    match read {
+        Ok(test) => Ok(Tag::If { unless, test }),
+        Err(error) => Err(error),
+    }
+}
+
+#[tactic(auto, using(crate::proofs::Besides::said_beside))]
+fn test_said(
+    alloc: Global,
+    levels: &[Level],
+    unless: bool,
+    items: &[Item<'_>],
+) -> Result<Result<Tag, TagError>, AllocError>
+    requires { length levels.now < 2 ^ 32 }
+    ensures { IfOk result
+        (λ said. said_view said ≡ test_said (reverse levels.now) unless (map item_view items.now)) }
+{
+    let named = error_if(TagError::UnsupportedTag, has_parameters(items));
+    let tag = if_read(unless, block_argument(alloc, levels, items)?);
+    Ok(beside(block_error(levels), beside(named, tag)))
+}
+
+fn data_only(read: Result<Expression, TagError>) -> Result<Datum, TagError>
+    ensures { result ≡ data_only (read_view read) }
+{
+    match read {
+        Ok(Expression::Datum(datum)) => Ok(datum),
+        Ok(
+            Expression::Text(_)
+            | Expression::Index
+            | Expression::Key
+            | Expression::First
+            | Expression::Last
+            | Expression::Number(_)
+            | Expression::Truth(_)
+            | Expression::Call(_, _)
+            | Expression::CallTwo(_, _, _),
+        ) => Err(TagError::WrongArguments),
+        Err(error) => Err(TagError::WrongArguments.earlier(error)),
+    }
+}
+
+// Whether paths begin with that name already.
+fn is_taken(parameter: Option<&str>) -> bool
+    ensures { result ≡ is_taken (part_view parameter.entry) }
+{
+    match parameter {
+        Some(name) => name == "request" || name == "this",
+        None => false,
+    }
+}
+
+// A copy of the name.
+fn copied(alloc: Global, name: Option<&str>) -> Result<Option<PlainText>, AllocError>
+    ensures { IfOk result (λ copy. copy ≡ part_view name.entry) }
+{
+    match name {
+        Some(name) => Ok(Some(PlainText::new(String::from_str(alloc, name)?))),
+        None => Ok(None),
+    }
+}
+
+fn each_read(parameter: Option<PlainText>, read: Result<Datum, TagError>) -> Result<Tag, TagError>
+    ensures { said_view result ≡ each_read parameter read }
+{
+    match read {
+        Ok(over) => Ok(Tag::Each { over, parameter }),
+        Err(error) => Err(error),
+    }
+}
+
+#[tactic(auto, using(crate::proofs::Besides::said_beside))]
+fn loop_said(
+    alloc: Global,
+    levels: &[Level],
+    items: &[Item<'_>],
+    parameter: Option<&str>,
+) -> Result<Result<Tag, TagError>, AllocError>
+    requires { length levels.now < 2 ^ 32 }
+    ensures { IfOk result (λ said. said_view said
+        ≡ loop_said (reverse levels.now) (with_items (map item_view items.now) (part_view parameter.entry))) }
+{
+    let taken = error_if(TagError::UnsupportedTag, is_taken(parameter));
+    let name = copied(alloc, parameter)?;
+    let tag = each_read(name, data_only(block_argument(alloc, levels, items)?));
+    Ok(beside(taken, tag))
+}
+
+#[tactic(auto, using(crate::proofs::Besides::said_beside))]
+fn each_said(
+    alloc: Global,
+    levels: &[Level],
+    items: &[Item<'_>],
+) -> Result<Result<Tag, TagError>, AllocError>
+    requires { length levels.now < 2 ^ 32 }
+    ensures { IfOk result (λ said. said_view said ≡ each_said (reverse levels.now) (map item_view items.now)) }
+{
+    let named = error_if(TagError::UnsupportedTag, has_names(items));
+    let (before, parameter) = loop_items(items);
+    let tag = loop_said(alloc, levels, before, parameter)?;
+    Ok(beside(loop_error(levels), beside(named, tag)))
+}
+
+/// What a tag with `#` and that name says.
+pub fn opening_said(
+    alloc: Global,
+    levels: &[Level],
+    name: &str,
+    items: &[Item<'_>],
+) -> Result<Result<Tag, TagError>, AllocError>
+    requires { length levels.now < 2 ^ 32 }
+    ensures { IfOk result
+        (λ said. said_view said ≡ opening_said (reverse levels.now) name.now (map item_view items.now)) }
+{
+    match name {
+        "if" => test_said(alloc, levels, false, items),
+        "unless" => test_said(alloc, levels, true, items),
+        "each" => each_said(alloc, levels, items),
+        _ => Ok(Err(TagError::UnsupportedTag)),
+    }
+}
+
+fn first_else(levels: &[Level]) -> Result<Tag, TagError>
+    ensures { said_view result ≡ first_else (reverse levels.now) }
+{
+    match levels {
+        [.., level] if !level.in_else => Ok(Tag::Else),
+        _ => Err(TagError::UnexpectedClose),
+    }
+}
+
+/// What an else tag says.
+pub fn else_said(levels: &[Level], items: &[Item<'_>]) -> Result<Tag, TagError>
+    ensures { said_view result ≡ else_said (reverse levels.now) (map item_view items.now) }
+{
+    if items.is_empty() {
+        first_else(levels)
+    } else {
+        Err(TagError::UnsupportedTag)
+    }
+}
+
+fn is_innermost(name: &str, levels: &[Level]) -> bool
+    ensures { result ≡ is_innermost name.now (reverse levels.now) }
+{
+    match levels {
+        [.., level] => name == level.block.name(),
+        [] => false,
+    }
+}
+
+fn close_alone(items: &[Item<'_>]) -> Result<Tag, TagError>
+    ensures { said_view result ≡ close_alone (map item_view items.now) }
+{
+    if items.is_empty() {
+        Ok(Tag::Close)
+    } else {
+        Err(TagError::UnsupportedTag)
+    }
+}
+
+// The error of all that pieces are, as arguments.
+fn all_pieces(
+    alloc: Global,
+    levels: &[Level],
+    nest: Nest<'_>,
+) -> Result<Option<TagError>, AllocError>
+    requires { length levels.now < 2 ^ 32 }
+    ensures { IfOk result (λ e. e ≡ all_pieces_error (reverse levels.now) (nest_view nest.entry)) }
+{
+    let Nest {
+        pieces,
+        mut later,
+        unclosed: _,
+    } = nest;
+    later.push(pieces)?;
+    unused_errors(alloc, levels, later)
+}
+
+// The error of all items, as arguments.
+#[tactic(auto, using(crate::proofs::Nests::all_errors_are))]
+fn all_errors(
+    alloc: Global,
+    levels: &[Level],
+    items: &[Item<'_>],
+) -> Result<Option<TagError>, AllocError>
+    requires { length levels.now < 2 ^ 32 }
+    ensures { IfOk result (λ e. e ≡ all_errors (reverse levels.now) (nest_of (map item_view items.now))) }
+{
+    all_pieces(alloc, levels, nest_of(alloc, levels, items)?)
+}
+
+/// What a tag with `/` and that name says.
+#[tactic(auto, using(crate::proofs::Besides::said_beside))]
+pub fn closing_said(
+    alloc: Global,
+    levels: &[Level],
+    name: &str,
+    items: &[Item<'_>],
+) -> Result<Result<Tag, TagError>, AllocError>
+    requires { length levels.now < 2 ^ 32 }
+    ensures { IfOk result
+        (λ said. said_view said ≡ closing_said (reverse levels.now) name.now (map item_view items.now)) }
+{
+    if is_innermost(name, levels) {
+        return Ok(close_alone(items));
+    }
+    let error = all_errors(alloc, levels, items)?;
+    Ok(beside(error, Err(TagError::UnexpectedClose)))
+}
