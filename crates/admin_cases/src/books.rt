@@ -2,10 +2,10 @@
 //! nothing), and the calls.
 ghost use Rattle.std.specs.Prelude.{◌≡◌, ◌<◌};
 
+use crate::mappings::mappings_of;
 use crate::paths::add_paths;
-use case_replies::mappings::mappings_of;
-use case_replies::requests::request_of;
-use case_replies::server::{add_reply, reply_to};
+use crate::requests::request_of;
+use crate::server::{add_reply, reply_to};
 use case_table::cells::Cells;
 use case_table::row::Row;
 use shared_book::origin::Origin;

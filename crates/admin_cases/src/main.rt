@@ -2,9 +2,16 @@
 //! recordings, with the tables in `data/`.
 #![tactic(auto)]
 
+// The tables.
 mod books;
 mod paths;
 mod table;
+
+// What a shared book answers to requests, in cells.
+mod mappings;
+mod recordings;
+mod requests;
+mod server;
 
 use case_table::compare::compare_all;
 use std::io;

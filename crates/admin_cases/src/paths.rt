@@ -2,7 +2,7 @@
 //! words that it may be, with blanks between them. Added are how many paths there are, and the replies with another
 //! body, each with its method and its path.
 
-use case_replies::server::{add_reply, reply_to};
+use crate::server::{add_reply, reply_to};
 use case_table::cells::Cells;
 use case_table::row::Row;
 use mapping_model::reply::Reply;

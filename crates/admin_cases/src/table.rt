@@ -1,7 +1,6 @@
 //! The tables, and what their rows are.
 
-use crate::books;
-use case_replies::recordings;
+use crate::{books, recordings};
 use case_table::compare::CaseTable;
 use case_table::row::Row;
 use std::alloc::{AllocError, Global};

@@ -13,7 +13,7 @@ use Rattle.json_reading.specs.declared.reading.Reading.TheVariants.{Read}
 use Rattle.mapping_json.specs.Spelling.{SpellsDocument, IsDocumentError}
 use Rattle.mapping_model.specs.declared.mapping_spec.MappingSpec.{MappingSpec}
 use Rattle.mapping_model.specs.declared.request_spec.RequestSpec.{RequestSpec}
-use Rattle.request_document.specs.Refusal.{Spells, IsRefused}
+use Rattle.mapping_json.specs.RequestRefusal.{Spells, IsRefused}
 use Rattle.request_match.specs.Refusal.{CanBeBuilt}
 use Rattle.template_tree.specs.declared.escape.Escape.{Escape}
 use Rattle.uuid.specs.Text.{parsed}

@@ -6,7 +6,7 @@ use Rattle.admin_routes.specs.declared.error.AdminError.TheVariants.{State, OutO
 use Rattle.error_code.specs.declared.error_code.ErrorCode.{ErrorCode}
 use Rattle.error_code.specs.declared.error_code.ErrorCode.TheVariants as code
 use Rattle.mapping_json.specs.Errors as mapping
-use Rattle.request_document.specs.Errors as matcher
+use Rattle.mapping_json.specs.RequestErrors as matcher
 
 abbrev pub error_code_of : AdminError → ErrorCode
 error_code_of UnknownCall = code.UnknownAdminCall

@@ -14,8 +14,8 @@ use admin_json::state::state_of;
 use admin_table::route::{Route, route_of};
 use admin_table::segment::Segment;
 use mapping_json::read::read_mapping_with;
+use mapping_json::read_request::read_request;
 use mapping_model::mapping_id::MappingId;
-use request_document::read_request::read_request;
 use std::alloc::Global;
 use template_tree::escape::Escape;
 

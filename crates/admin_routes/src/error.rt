@@ -4,7 +4,7 @@ ghost use Rattle.std.specs.Prelude.{◌≡◌};
 use admin_json::error::BodyError;
 use error_code::error_code::ErrorCode;
 use mapping_json::error::MappingError;
-use request_document::error::RequestDocumentError;
+use mapping_json::request_error::RequestDocumentError;
 use std::alloc::AllocError;
 
 /// Why a request is no admin call. An unknown call is reported first, then an id that is none, then the body.

@@ -2,13 +2,11 @@
 //! row is run twice: by the calls that have a name each, and by those that a lock makes (`serve_read`, `apply_shared`)
 //! or by `apply`.
 
-use case_books::answers::{
-    add_applied, add_error, add_mapping, add_served, event_word, status_word,
-};
-use case_books::copies::are_copied;
-use case_books::inputs::input;
-use case_books::mappings::{id, ready};
-use case_books::words::add_number;
+use crate::answers::{add_applied, add_error, add_mapping, add_served, event_word, status_word};
+use crate::copies::are_copied;
+use crate::inputs::input;
+use crate::mappings::{id, ready};
+use crate::words::add_number;
 use case_requests::requests::request_of;
 use case_table::cells::Cells;
 use case_table::row::Row;

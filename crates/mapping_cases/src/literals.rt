@@ -2,8 +2,8 @@
 
 use crate::answers::refused;
 use case_table::row::add_cell;
-use request_document::error::RequestDocumentError;
-use request_document::read_request::read_request;
+use mapping_json::read_request::read_request;
+use mapping_json::request_error::RequestDocumentError;
 use request_match::literal::{Literal, LiteralKind};
 use request_match::request_matcher::RequestMatcher;
 use std::alloc::{AllocError, Global};

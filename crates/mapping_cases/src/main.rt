@@ -1,4 +1,4 @@
-//! Compares what the calls of `mapping_json` and `request_document`, the mappings and matchers that they give, path
+//! Compares what the calls of `mapping_json`, the mappings and matchers that they give, path
 //! templates and requests answer with the tables in `data/`.
 #![tactic(auto)]
 

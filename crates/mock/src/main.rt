@@ -1,19 +1,25 @@
-//! The program: it hands its arguments and its standard streams to `mock_serving`, and ends with the
-//! exit status that comes back.
+//! The program: its command line, and its command `mock serve` with its arguments, the book of its file of mappings, and
+//! its server. Every other command is `mock_program`'s. `main` hands on the process's arguments and standard streams, and
+//! ends with the exit status that comes back.
 #![tactic(auto)]
 
+mod arguments;
+mod book;
+mod command_line;
+mod serve;
+
+use command_line::run;
 use mock_program::arguments::report_unreadable;
-use mock_serving::command_line::run;
 use std::process::ExitCode;
 use std::{env, io};
 
 fn main(rt: HostRuntime) -> ExitCode {
-    ExitCode::from(match arguments(&rt) {
+    ExitCode::from(match process_arguments(&rt) {
         Ok(arguments) => run(rt, arguments.as_slice(), &mut rt.stdout(), &mut rt.stderr()),
         Err(error) => report_unreadable(&error, &mut rt.stderr()),
     })
 }
 
-fn arguments(rt: &HostRuntime) -> io::Result<Vec<String>> {
+fn process_arguments(rt: &HostRuntime) -> io::Result<Vec<String>> {
     Ok(env::args(rt)?.collect(rt.alloc())?)
 }

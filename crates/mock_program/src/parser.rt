@@ -8,7 +8,7 @@ ghost use Rattle.mock_program.specs.Inner.Parser.{is_taken, mock_app, render_in,
 use clap::{Arg, ArgMatches, Command, Error};
 use std::alloc::{AllocError, Global};
 
-// The help of the program: with the command `serve`, whose arguments `mock_serving` reads.
+// The help of the program: with the command `serve`, whose arguments `mock` itself reads.
 const MOCK_HELP: &str = "A stub server for HTTP, like WireMock, whose answers are proved
 
 Usage: mock <COMMAND>

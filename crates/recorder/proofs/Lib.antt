@@ -3,3 +3,4 @@ pub mod LastLemmas
 pub mod AuthorityLemmas
 pub mod TargetLemmas
 pub mod KeyLemmas
+pub mod ForwardingLemmas

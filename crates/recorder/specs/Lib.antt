@@ -1,4 +1,5 @@
 pub mod Target
+pub mod Forwarding
 pub mod Recording
 pub mod Key
 pub mod Errors

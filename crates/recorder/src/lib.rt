@@ -1,11 +1,12 @@
 // What a recording is: its target, the exchanges that it takes, and the key by which they are grouped. Nothing here
 // opens a connection. Its contracts cite `specs/Target.antt` (which texts are targets), `specs/Recording.antt` (what a
-// recording takes) and `specs/Key.antt` (keys).
+// recording takes), `specs/Key.antt` (keys) and `specs/Forwarding.antt` (what is sent to a target, and what is relayed).
 #![tactic(auto)]
 
 pub mod error;
 pub mod exchange;
 pub mod exchanges;
+pub mod forwarding;
 pub mod key;
 pub mod recording;
 pub mod target;

@@ -1,5 +1,6 @@
 // Where a recording forwards requests to.
 ghost use Rattle.std.specs.Prelude.{◌≡◌, ◌↔◌, ◌⊎◌, IsTrue, IfOk, IsErr, IsErrOf};
+ghost use Rattle.recorder.specs.Forwarding.{target_authority};
 ghost use Rattle.recorder.specs.Target.{IsTarget, after_scheme, target_host, target_port, target_prefix};
 
 use crate::error::RecordingError;
@@ -25,6 +26,7 @@ impl Drop for Target {
 
 impl Model for Target {
     ghost use Rattle.std.specs.Prelude.{List, ℕ};
+    ghost use Rattle.recorder.specs.Forwarding.{target_authority};
     ghost use Rattle.recorder.specs.Target.{IsTarget};
 
     ghost Value = { List ℕ };
@@ -64,6 +66,14 @@ impl Target {
         let (authority, _prefix) = split_prefix(self.rest());
         let (host, _port) = host_and_port(authority);
         host
+    }
+
+    /// The host and the port as they were written.
+    pub fn authority(&self) -> &str
+        ensures { result.now ≡ target_authority self.now }
+    {
+        let (authority, _prefix) = split_prefix(self.rest());
+        authority
     }
 
     /// The port, 80 where none is written.

@@ -1,16 +1,18 @@
 //! The exchanges that a row gives, cell by cell: a word, a blank and a text.
 
-use case_requests::exchanges::exchange;
+use bytes::Bytes;
 use case_requests::octets::octets_of;
 use case_requests::requests::{header, request};
 use case_table::row::Row;
 use case_table::words::{number, parts};
 use http_header::{HeaderName, HeaderValue};
 use mapping_model::field_name::FieldName;
-use mapping_model::reply::ReplyHeader;
+use mapping_model::reply::{Reply, ReplyHeader};
+use plain_text::items::Items;
 use plain_text::octets::Octets;
 use plain_text::text::Text;
-use recorder::exchange::SharedExchange;
+use recorder::exchange::{Exchange, SharedExchange};
+use recorder::target::Target;
 use std::alloc::{AllocError, Global};
 
 /// What a row gives. A cell that can't be read counts as one for which memory didn't suffice.
@@ -19,6 +21,7 @@ pub struct Given {
     pub captured: Vec<Text>,
     pub repeats: bool,
     pub number: u64,
+    pub target: Option<Target>,
     pub exchanges: Vec<SharedExchange>,
 }
 
@@ -32,6 +35,8 @@ struct Draft {
     status: u16,
     lines: Vec<ReplyHeader>,
     reply_body: Vec<u8>,
+    started_ms: u64,
+    wait_ms: u64,
 }
 
 /// The cells before the first exchange are settings; those after an exchange, up to the next one, are its parts.
@@ -56,6 +61,7 @@ fn nothing(alloc: Global) -> Given {
         captured: Vec::new(alloc),
         repeats: false,
         number: 0,
+        target: None,
         exchanges: Vec::new(alloc),
     }
 }
@@ -67,6 +73,7 @@ fn set(alloc: Global, given: &mut Given, word: &str, text: &str) -> Result<(), A
             .push(Text::from(String::from_str(alloc, text)?))?,
         "repeats" => given.repeats = text == "yes",
         "number" => given.number = number(text),
+        "target" => given.target = Target::parse(alloc, text).ok(),
         _ => return Err(AllocError),
     }
     Ok(())
@@ -96,6 +103,8 @@ fn begun(alloc: Global, text: &str) -> Result<Draft, AllocError> {
         status: 0,
         lines: Vec::new(alloc),
         reply_body: Vec::new(alloc),
+        started_ms: 0,
+        wait_ms: 0,
     })
 }
 
@@ -109,6 +118,8 @@ fn is_added(alloc: Global, draft: &mut Draft, cell: &str) -> Result<bool, AllocE
         "reply" => draft.status = text.parse::<u16>().unwrap_or(0),
         "reply-header" => draft.lines.push(line(alloc, text)?)?,
         "reply-body" => draft.reply_body = octets_of(alloc, text)?,
+        "started" => draft.started_ms = number(text),
+        "wait" => draft.wait_ms = number(text),
         _ => return Err(AllocError),
     }
     Ok(true)
@@ -139,11 +150,18 @@ fn finished(alloc: Global, draft: Draft) -> Result<SharedExchange, AllocError> {
         draft.headers.as_slice(),
         draft.body.as_slice(),
     )?;
-    exchange(
+    let reply = Reply {
+        status: draft.status,
+        headers: Items::from(draft.lines),
+        body: Bytes::copy_from_slice(alloc, draft.reply_body.as_slice())?,
+    };
+    SharedExchange::new(
         alloc,
-        request,
-        draft.status,
-        draft.lines,
-        draft.reply_body.as_slice(),
+        Exchange {
+            request,
+            reply,
+            started_ms: draft.started_ms,
+            wait_ms: draft.wait_ms,
+        },
     )
 }

@@ -1,8 +1,9 @@
-//! Compares what recordings and their mappings are with the tables in `data/`.
+//! Compares what recordings, their mappings and their HAR documents are with the tables in `data/`.
 #![tactic(auto)]
 
 mod exchanges;
 mod groups;
+mod hars;
 mod mappings;
 mod recordings;
 mod table;
@@ -22,6 +23,7 @@ fn main(rt: HostRuntime) -> io::Result<ExitCode> {
             Table::Exchanges,
             Table::Keys,
             Table::Recordings,
+            Table::Hars,
         ]
         .as_slice(),
     )

@@ -1,6 +1,6 @@
 //! The tables, and which call each of them is about.
 
-use crate::{groups, mappings, recordings};
+use crate::{groups, hars, mappings, recordings};
 use case_table::compare::CaseTable;
 use case_table::row::Row;
 use std::alloc::{AllocError, Global};
@@ -15,6 +15,7 @@ pub enum Table {
     Exchanges,
     Keys,
     Recordings,
+    Hars,
 }
 
 impl CaseTable for Table {
@@ -26,6 +27,7 @@ impl CaseTable for Table {
             Table::Exchanges => "exchanges.tsv",
             Table::Keys => "keys.tsv",
             Table::Recordings => "recordings.tsv",
+            Table::Hars => "hars.tsv",
         }
     }
 
@@ -37,6 +39,7 @@ impl CaseTable for Table {
             Table::Exchanges => mappings::same(alloc, row),
             Table::Keys => mappings::key(alloc, row),
             Table::Recordings => mappings::recorded(alloc, row),
+            Table::Hars => hars::text(alloc, row),
         }
     }
 }

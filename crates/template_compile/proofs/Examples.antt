@@ -5,7 +5,8 @@ use Rattle.data_tree.specs.Tree.{Tree, text, fields, named, no_items, item, no_m
 use Rattle.data_tree.specs.declared.step.Step.{Step}
 use Rattle.data_tree.specs.declared.step.Step.TheVariants.{Name, Index}
 use Rattle.helper_set.specs.declared.helper.Helper.TheVariants as helpers
-use Rattle.template_code.specs.declared.instr.Instr.TheVariants.{Emit, Root, Item, Index as AtIndex, Last, Show, Test, Call}
+use Rattle.template_code.specs.declared.instr.Instr.TheVariants.{Emit, Root, Item, Index as AtIndex, Last, Show, Test}
+use Rattle.template_code.specs.declared.instr.Instr.TheVariants.{Call}
 use Rattle.template_code.specs.declared.instr.Instr.TheVariants.{Escape, Print, Jump, Branch, Each, Next, Halt}
 use Rattle.template_tags.specs.declared.expression.Datum.TheVariants as datums
 use Rattle.template_tags.specs.Expression as expressions

@@ -15,8 +15,10 @@ use Rattle.helper_set.specs.declared.signature.Parameter.{Parameter}
 use Rattle.helper_set.specs.declared.signature.Parameter.TheVariants.{Any, NoText, DataOrText, Of}
 use Rattle.template_code.specs.Code.{StackCode}
 use Rattle.template_code.specs.Machine.{Loop, with_stack, effect}
-use Rattle.template_code.specs.declared.instr.Instr.TheVariants.{Index, Key, First, Last, Number, Truth, Show, Test, Call}
-use Rattle.template_tags.specs.Expression.{Expression, datum, index, key, first, last, text_literal, number, truth, call}
+use Rattle.template_code.specs.declared.instr.Instr.TheVariants.{Index, Key, First, Last, Number, Truth, Show, Test}
+use Rattle.template_code.specs.declared.instr.Instr.TheVariants.{Call}
+use Rattle.template_tags.specs.Expression.{Expression, datum, index, key, first, last, text_literal, number, truth}
+use Rattle.template_tags.specs.Expression.{call}
 use Rattle.template_tags.specs.Expression.{call_two}
 use Rattle.template_tags.specs.declared.expression.Datum.{Datum}
 use Rattle.template_tags.specs.declared.expression.Datum.TheVariants as data_variants
@@ -63,7 +65,9 @@ kind-of_value (call_two helper e f) tree turns sound =
     kind-two helper (value_of e tree turns) (value_of f tree turns) sound.0
 
 module _ (code : StackCode) (tree : Tree) (loops : List Loop) where
-  goes-shown : (v : Value) (stack : List Value) → effect code tree Show loops (v ∷ stack) ≡ Some (with_stack (a_text (text_of v) ∷ stack))
+  goes-shown :
+      (v : Value) (stack : List Value)
+      → effect code tree Show loops (v ∷ stack) ≡ Some (with_stack (a_text (text_of v) ∷ stack))
       → Goes code tree (instructions (Show ∷ [])) loops (v ∷ stack) (a_text (text_of v) ∷ stack) []
   goes-shown v stack does = goes-instr code tree loops Show (v ∷ stack) (a_text (text_of v) ∷ stack) refl does
 
@@ -114,9 +118,11 @@ module _ (code : StackCode) (tree : Tree) (loops : List Loop) where
     goes-datum (data_variants.BodyPath bytes) stack sound =
         let body = a_datum (at body_path tree) ∷ stack in
         let found = a_datum (datum_at (data_variants.BodyPath bytes) tree turns) ∷ stack in
-        goes-then code tree loops (root_code body_path) (text_code bytes ▸ instructions (Call JsonPath ∷ [])) stack body found []
+        goes-then code tree loops (root_code body_path) (text_code bytes ▸ instructions (Call JsonPath ∷ []))
+        stack body found []
         (goes-root code tree loops body_path stack)
-        (goes-then code tree loops (text_code bytes) (instructions (Call JsonPath ∷ [])) body (a_text bytes ∷ body) found []
+        (goes-then code tree loops (text_code bytes) (instructions (Call JsonPath ∷ [])) body
+        (a_text bytes ∷ body) found []
         (goes-text code tree loops bytes body)
         (goes-instr code tree loops (Call JsonPath) (a_text bytes ∷ body) found refl
         (ap (λ t. Some (with_stack (a_datum t ∷ stack))) (found-same bytes tree turns))))
@@ -128,7 +134,8 @@ module _ (code : StackCode) (tree : Tree) (loops : List Loop) where
         → Goes code tree (code_for p e) loops stack (converted p (value_of e tree turns) ∷ stack) []
     goes-argument p e stack runs sound =
         let v = value_of e tree turns in
-        goes-then code tree loops (expression_code e) (instructions (conversion p (expression_kind e))) stack (v ∷ stack)
+        goes-then code tree loops (expression_code e) (instructions (conversion p (expression_kind e))) stack
+        (v ∷ stack)
         (converted p v ∷ stack) [] runs
         (goes-converted p (expression_kind e) v stack (kind-of_value e tree turns sound))
 

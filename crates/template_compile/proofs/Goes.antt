@@ -25,7 +25,8 @@ pub index-join :
     → (after_part offsets (f ▸ g)).index ≡ (after_part (after_part offsets f) g).index
 index-join f g offsets = ap (λ (o : Offsets). o.index) (after_part-join offsets f g)
 
--- wherever code has the part, a run leads from its start to its end, from the one stack to the other, and writes that text
+-- wherever code has the part, a run leads from its start to its end, from the one stack to the other, and writes that
+-- text
 abbrev pub Goes : StackCode → Tree → Gen → List Loop → List Value → List Value → List ℕ → Type 0
 Goes code root f loops before after written =
     (offsets : Offsets) (output : List ℕ) → HasPart code offsets f →
@@ -35,7 +36,8 @@ Goes code root f loops before after written =
 module _ (code : StackCode) (root_data : Tree) (loops : List Loop) where
   pub goes-nothing : (stack : List Value) → Goes code root_data (instructions []) loops stack stack []
   goes-nothing stack offsets output h =
-      comes-to code root_data (state offsets.index stack loops output) offsets.index (offsets.index + 0) stack loops output
+      comes-to code root_data (state offsets.index stack loops output) offsets.index
+      (offsets.index + 0) stack loops output
       (output ++ []) (omega arith) (sym (append-nil output))
       (comes-nowhere code root_data (state offsets.index stack loops output))
 
@@ -68,19 +70,22 @@ module _ (code : StackCode) (root_data : Tree) (loops : List Loop) where
       → flow i ≡ Flow.Straight → effect code root_data i loops stack ≡ Some (with_stack after)
       → Goes code root_data (instructions (i ∷ [])) loops stack after []
   goes-instr i stack after straight does offsets output has =
-      comes-to code root_data (state offsets.index stack loops output) (suc offsets.index) (offsets.index + 1) after loops
+      comes-to code root_data (state offsets.index stack loops output) (suc offsets.index)
+      (offsets.index + 1) after loops
       output (output ++ []) (omega arith) (sym (append-nil output))
       (comes-pushing code root_data i offsets.index stack after loops output has.instrs.0 straight does)
 
   pub goes-emit : (bytes : List ℕ) (stack : List Value) → Goes code root_data (emit_code bytes) loops stack stack bytes
   goes-emit bytes stack offsets output has =
-      comes-to code root_data (state offsets.index stack loops output) (suc offsets.index) (offsets.index + 1) stack loops
+      comes-to code root_data (state offsets.index stack loops output) (suc offsets.index)
+      (offsets.index + 1) stack loops
       (output ++ bytes) (output ++ bytes) (omega arith) refl
       (comes-straight code root_data (Emit offsets.texts) offsets.index stack loops output (writes bytes stack)
       has.instrs.0 refl (ap (option_map (λ b. writes b stack)) has.texts.0))
 
   pub goes-text :
-      (bytes : List ℕ) (stack : List Value) → Goes code root_data (text_code bytes) loops stack (a_text bytes ∷ stack) []
+      (bytes : List ℕ) (stack : List Value) → Goes code root_data (text_code bytes) loops stack
+      (a_text bytes ∷ stack) []
   goes-text bytes stack offsets output has =
       goes-instr (Text offsets.texts) stack (a_text bytes ∷ stack) refl
       (ap (option_map (λ b. with_stack (a_text b ∷ stack))) has.texts.0) offsets output
@@ -175,5 +180,6 @@ module _ (code : StackCode) (root_data : Tree) (loops : List Loop) where
       (comes-join code root_data start (state else_start.index stack loops output)
       (state else_end.index stack loops (output ++ otherwise))
       (comes-to code root_data start (offsets.index + 1 + (m + 1)) else_start.index stack loops output output e refl
-      (comes-branching code root_data false (offsets.index + 1 + (m + 1)) offsets.index stack loops output has.instrs.0))
+      (comes-branching code root_data false (offsets.index + 1 + (m + 1)) offsets.index stack loops output
+      has.instrs.0))
       (k else_start output at_else))

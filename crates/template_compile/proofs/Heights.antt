@@ -5,7 +5,8 @@ use Rattle.std.specs.Prelude.{max}
 use Rattle.std.proofs.lemmas.Option.{none-some}
 use Rattle.helper_set.specs.Helpers.{argument_kinds}
 use Rattle.helper_set.specs.declared.helper.Helper.{Helper}
-use Rattle.helper_set.specs.declared.helper.Helper.TheVariants.{Upper, Lower, Trim, Size, Eq, Neq, Contains, Not, Base64}
+use Rattle.helper_set.specs.declared.helper.Helper.TheVariants.{Upper, Lower, Trim, Size, Eq, Neq, Contains, Not}
+use Rattle.helper_set.specs.declared.helper.Helper.TheVariants.{Base64}
 use Rattle.helper_set.specs.declared.helper.Helper.TheVariants.{UrlEncode, DefaultIfEmpty, JsonPath}
 use Rattle.code_rules.specs.Bounds.{Bound}
 use Rattle.code_rules.specs.Costs.{helper_bound}

@@ -16,7 +16,8 @@ use Rattle.template_tree.specs.Meaning.{second_parameter}
 use Rattle.template_tree.specs.Tree.{Node, piece, print, if_then, if_else, each, each_else, Nodes, no_nodes, first_node}
 use Rattle.template_compile.specs.Compiled.{Offsets, start_offsets, Gen, ◌▸◌, instructions, branch_over}
 use Rattle.template_compile.specs.Compiled.{jump_over, each_over, again, datum_code, argument_code, expression_code}
-use Rattle.template_compile.specs.Compiled.{code_for, print_instrs, negation, test_code, node_code, nodes_code, stack_code}
+use Rattle.template_compile.specs.Compiled.{code_for, print_instrs, negation, test_code, node_code, nodes_code}
+use Rattle.template_compile.specs.Compiled.{stack_code}
 use Rattle.template_compile.specs.Kinds.{expression_kind, conversion}
 use Rattle.template_compile.specs.Length.{datum_length, argument_length, expression_length, length_for, print_length}
 use Rattle.template_compile.specs.Length.{test_length, node_length, nodes_length, code_length}
@@ -81,7 +82,8 @@ length-expression (expressions.call_two helper e f) = λ offsets.
     let e : a + (b + 1) ≡ a + b + 1 = omega arith in all ∙ e
 
 length-code_for : (p : Parameter) (e : Expression) → HasLength (code_for p e) (length_for p e)
-length-code_for p e = length-argument p (expression_code e) (expression_length e) (expression_kind e) (length-expression e)
+length-code_for p e =
+    length-argument p (expression_code e) (expression_length e) (expression_kind e) (length-expression e)
 
 length-test : (unless : Bool) (test : Expression) → HasLength (test_code unless test) (test_length unless test)
 length-test true test =
@@ -114,7 +116,8 @@ mutual
       let t = test_length unless test in
       let n = nodes_length body in
       let m = nodes_length otherwise in
-      as_sum (node_code (if_else unless test body otherwise)) (t + (1 + (n + (1 + m)))) (t + 1 + n + 1 + m) (omega arith)
+      as_sum (node_code (if_else unless test body otherwise)) (t + (1 + (n + (1 + m)))) (t + 1 + n + 1 + m)
+      (omega arith)
       (length-join (test_code unless test)
       (branch_over (n + 1) ▸ nodes_code body ▸ jump_over m ▸ nodes_code otherwise) t (1 + (n + (1 + m)))
       (length-test unless test)
@@ -134,7 +137,8 @@ mutual
       let d = datum_length over in
       let n = nodes_length body in
       let m = nodes_length otherwise in
-      as_sum (node_code (each_else over body otherwise)) (d + (1 + (n + (1 + (1 + m))))) (d + 1 + n + 1 + 1 + m) (omega arith)
+      as_sum (node_code (each_else over body otherwise)) (d + (1 + (n + (1 + (1 + m))))) (d + 1 + n + 1 + 1 + m)
+      (omega arith)
       (length-join (datum_code over)
       (each_over (n + 2) ▸ nodes_code body ▸ again n ▸ jump_over m ▸ nodes_code otherwise) d
       (1 + (n + (1 + (1 + m)))) (length-datum over)

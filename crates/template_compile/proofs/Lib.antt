@@ -1,4 +1,5 @@
 pub mod HasCode
+pub mod Drafts
 pub mod Lengths
 pub mod Sound
 pub mod Goes
@@ -9,6 +10,8 @@ pub mod ExpressionRuns
 pub mod NodeRuns
 pub mod Stretch
 pub mod Heights
+pub mod PushLayout
+pub mod CallLayout
 pub mod ExpressionLayout
 pub mod Blocks
 pub mod NodeLayout

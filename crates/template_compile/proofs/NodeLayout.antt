@@ -138,7 +138,8 @@ module _ (code : StackCode) (nest : List ℕ) (shallow : length nest ≤ MAX_LOO
       lays-join code (code_for (Of Kind.Truth) test) (instructions (negation unless)) nest []
       (slot Kind.Truth most ∷ []) (slot Kind.Truth most ∷ [])
       (lays-code_for code nest shallow (Of Kind.Truth) test tt sound deep)
-      (lays-negated unless most (omega (arith, cap-some (depth_of test))) (omega (arith, cap-nine (depth_of test) deep)))
+      (lays-negated unless most (omega (arith, cap-some (depth_of test)))
+      (omega (arith, cap-nine (depth_of test) deep)))
 
 module _ (code : StackCode) where
   mutual
@@ -194,7 +195,9 @@ module _ (code : StackCode) where
 -- ---- the whole code
 
 -- the stretch up to and with `Halt`
-laid-whole : (nodes : Nodes) → SoundNodes 0 nodes → Covers (FollowsAt (stack_code nodes)) 0 (length (stack_code nodes).instrs)
+laid-whole :
+    (nodes : Nodes) → SoundNodes 0 nodes
+    → Covers (FollowsAt (stack_code nodes)) 0 (length (stack_code nodes).instrs)
 laid-whole nodes sound =
     let code = stack_code nodes in
     let end = after_part start_offsets (nodes_code nodes) in
@@ -205,7 +208,8 @@ laid-whole nodes sound =
     let start : Stands code 0 [] [] = record { entry = refl; bounds = tt } in
     let body =
     lays-nodes code nodes [] (omega arith) sound start_offsets
-    (has_part-front code start_offsets (nodes_code nodes) (instructions (Halt ∷ [])) whole) (omega (arith, long)) start in
+    (has_part-front code start_offsets (nodes_code nodes) (instructions (Halt ∷ [])) whole)
+    (omega (arith, long)) start in
     let last =
     laid-one code end.index Halt [] [] [] [] halt body.ends
     (record {

@@ -22,7 +22,8 @@ use Rattle.template_tree.specs.declared.escape.Escape.TheVariants.{Off, Html}
 use Rattle.template_tree.specs.Tree.{Node, piece, print, if_then, if_else, each, each_else, Nodes, no_nodes, first_node}
 use Rattle.template_tree.specs.Meaning.{Turn, turns_of, datum_at, value_of, escaped, is_taken, node_text, template_text}
 use Rattle.template_compile.specs.Compiled.{◌▸◌, start_offsets, instructions, branch_over, jump_over, each_over, again}
-use Rattle.template_compile.specs.Compiled.{datum_code, code_for, print_instrs, negation, test_code, node_code, nodes_code}
+use Rattle.template_compile.specs.Compiled.{datum_code, code_for, print_instrs, negation, test_code, node_code}
+use Rattle.template_compile.specs.Compiled.{nodes_code}
 use Rattle.template_compile.specs.Compiled.{stack_code}
 use Rattle.template_compile.specs.Correct.{WritesTextOf}
 use Rattle.template_compile.specs.Length.{nodes_length}
@@ -50,14 +51,17 @@ module _ (code : StackCode) (root : Tree) (loops : List Loop) where
       → Goes code root (instructions (print_instrs escape)) loops (a_text text ∷ stack) stack (escaped escape text)
   goes-escaped Off text stack = goes-print text stack
   goes-escaped Html text stack =
-      goes-then code root loops (instructions (instrs_of.TheVariants.Escape ∷ [])) (instructions (Print ∷ [])) (a_text text ∷ stack)
+      goes-then code root loops (instructions (instrs_of.TheVariants.Escape ∷ [])) (instructions (Print ∷ []))
+      (a_text text ∷ stack)
       (a_text (html_escaped text) ∷ stack) stack (html_escaped text)
-      (goes-instr code root loops instrs_of.TheVariants.Escape (a_text text ∷ stack) (a_text (html_escaped text) ∷ stack)
+      (goes-instr code root loops instrs_of.TheVariants.Escape (a_text text ∷ stack)
+      (a_text (html_escaped text) ∷ stack)
       refl refl)
       (goes-print (html_escaped text) stack)
 
   goes-negated : (unless : Bool) (b : Bool) (stack : List Value)
-      → Goes code root (instructions (negation unless)) loops (a_truth b ∷ stack) (a_truth (is_taken unless b) ∷ stack) []
+      → Goes code root (instructions (negation unless)) loops (a_truth b ∷ stack)
+      (a_truth (is_taken unless b) ∷ stack) []
   goes-negated false b stack = goes-nothing code root loops (a_truth b ∷ stack)
   goes-negated true b stack =
       goes-instr code root loops (Call Not) (a_truth b ∷ stack) (a_truth (not b) ∷ stack) refl refl

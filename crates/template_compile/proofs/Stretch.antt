@@ -1,4 +1,5 @@
--- Stretches of code by the rules of code: each instruction keeps them, and after a stretch the stack and the loops are known.
+-- Stretches of code by the rules of code: each instruction keeps them, and after a stretch the stack and the loops are
+-- known.
 use Rattle.std.proofs.Common.{◌≡◌, ℕ, suc, ◌+◌, ◌<◌, ◌≤◌, List, [], ◌∷◌, ◌++◌, length, drop, Some, refl, sym, ap, ◌∙◌}
 use Rattle.std.proofs.Common.{true, false, nat_eq, subst, ⊎_elim, arith}
 use Rattle.std.specs.Prelude.{slice_get}
@@ -63,8 +64,8 @@ pub record Stands (code : StackCode) (index : ℕ) (nest : List ℕ) (slots : Li
   pub entry : entry_at code index ≡ record { nest = nest; kinds = kinds_of slots }
   pub bounds : Weigh slots (bounds_at code index)
 
--- the greatest total of a bound in a template's code: six times that of nine calls, each of which makes a text three times
--- as long, on a text of 65,536 bytes
+-- the greatest total of a bound in a template's code: six times that of nine calls, each of which makes a text three
+-- times as long, on a text of 65,536 bytes
 abbrev pub heaviest : ℕ
 heaviest = 7739670528
 

@@ -1,2 +1,4 @@
 -- Words for the contracts of private functions; no public contract cites them.
 pub mod Drafts
+pub mod Room
+pub mod Listed

@@ -52,8 +52,8 @@ abbrev pub test_length : Bool → Expression → ℕ
 test_length true test = length_for (Of Kind.Truth) test + 1
 test_length false test = length_for (Of Kind.Truth) test
 
--- a piece is one instruction; a print makes a text of its value and writes it, escaped first or not; an `if` has a branch
--- after its test, a loop one instruction at its start and one at its end, and an else part a jump before it
+-- a piece is one instruction; a print makes a text of its value and writes it, escaped first or not; an `if` has a
+-- branch after its test, a loop one instruction at its start and one at its end, and an else part a jump before it
 abbrev mutual
   pub node_length : Node → ℕ
   node_length (piece bytes) = 1

@@ -1,27 +1,27 @@
-//! From a tree to code.
-ghost use Rattle.std.specs.Prelude.{◌≡◌, ◌<◌, ◌↔◌, [], ◌∷◌, IfOk, OnOk, IsErrOf};
+//! From a tree to code: nodes.
+ghost use Rattle.std.specs.Prelude.{◌≡◌, ◌<◌, ◌≤◌, ◌↔◌, IfOk, OnOk, IsErrOf};
 ghost use Rattle.code_rules.specs.Verdict.{IsWellFormed, IsWithinLimits};
 ghost use Rattle.template_code.specs.declared.limits.TheConstants.{MAX_INSTRUCTIONS};
-ghost use Rattle.template_compile.specs.Compiled.{instructions, print_instrs, nothing_path, root_code, datum_code};
-ghost use Rattle.template_compile.specs.Compiled.{expression_code};
-ghost use Rattle.template_compile.specs.Compiled.{node_code, nodes_code, stack_code};
+ghost use Rattle.template_compile.specs.Compiled.{instructions, print_instrs, test_code, node_code, nodes_code};
+ghost use Rattle.template_compile.specs.Compiled.{stack_code};
 ghost use Rattle.template_compile.specs.Correct.{WritesTextOf};
 ghost use Rattle.template_compile.specs.Inner.Drafts.{extended_by};
-ghost use Rattle.template_compile.specs.Length.{code_length};
+ghost use Rattle.template_compile.specs.Length.{node_length, nodes_length, code_length};
 ghost use Rattle.template_tags.specs.Expression.{expression_view};
-ghost use Rattle.template_tree.specs.Inner.Plain.{IsPlainDatum, IsPlainExpression, IsPlain, ArePlain};
 ghost use Rattle.template_tree.specs.Template.{tree_of};
 ghost use Rattle.template_tree.specs.Tree.{node_view, nodes_view};
 
 use crate::draft::Draft;
 use crate::error::CompileError;
-use crate::length::is_too_long;
-use data_tree::plain_text::PlainText;
-use data_tree::step::{Path, Step};
+use crate::expressions::{add_datum, add_value};
+use crate::length::{is_too_long, nodes_length};
+use helper_set::helper::Helper;
+use helper_set::kind::Kind;
+use helper_set::signature::Parameter;
 use std::alloc::{AllocError, Global};
 use template_code::code::Code;
 use template_code::instr::Instr;
-use template_tags::expression::{Datum, Expression};
+use template_tags::expression::Expression;
 use template_tree::escape::Escape;
 use template_tree::node::Node;
 use template_tree::template::Template;
@@ -37,36 +37,82 @@ pub fn compile(alloc: Global, template: Template) -> Result<Code, CompileError>
     ensures too_long { IsErrOf result CompileError.TooLong ↔ MAX_INSTRUCTIONS < code_length (tree_of template) }
 {
     let nodes = template.into_nodes();
-    if is_too_long(nodes.as_slice()) {
+    if is_too_long(&nodes) {
         return Err(CompileError::TooLong);
     }
     Ok(translate(alloc, nodes)?)
 }
 
 fn translate(alloc: Global, nodes: Vec<Node>) -> Result<Code, AllocError>
-    requires { ArePlain (nodes_view nodes.items) }
+    requires { nodes_length (nodes_view nodes.items) ≤ MAX_INSTRUCTIONS }
     ensures { IfOk result (λ code. code ≡ stack_code (nodes_view nodes.items)) }
 {
     let mut draft = Draft::new(alloc);
-    for node in nodes {
-        add_node(&mut draft, alloc, node)?;
-    }
+    add_nodes(&mut draft, alloc, nodes)?;
     draft.push(Instr::Halt)?;
     Ok(draft.into_code())
 }
 
+#[cycle(add_nodes)]
+fn add_nodes(draft: &mut Draft, alloc: Global, nodes: Vec<Node>) -> Result<(), AllocError>
+    requires { nodes_length (nodes_view nodes.items) ≤ MAX_INSTRUCTIONS }
+    ensures { OnOk result (draft.new ≡ extended_by draft.old (nodes_code (nodes_view nodes.items))) }
+{
+    for node in nodes {
+        add_node(draft, alloc, node)?;
+    }
+    Ok(())
+}
+
+#[cycle(add_nodes)]
+#[tactic(auto, using(template_tree::proofs::Views::view_if, template_tree::proofs::Views::view_if_else, template_tree::proofs::Views::view_each, template_tree::proofs::Views::view_each_else))]
 fn add_node(draft: &mut Draft, alloc: Global, node: Node) -> Result<(), AllocError>
-    requires { IsPlain (node_view node) }
+    requires { node_length (node_view node) ≤ MAX_INSTRUCTIONS }
     ensures { OnOk result (draft.new ≡ extended_by draft.old (node_code (node_view node))) }
 {
     match node {
         Node::Piece(text) => draft.emit(text),
         Node::Print(escape, expression) => {
-            add_datum(draft, alloc, expression)?;
-            draft.push(Instr::Show)?;
+            add_value(draft, alloc, Parameter::Of(Kind::Text), expression)?;
             add_print(draft, escape)
         }
-        _ => unreachable!(),
+        Node::If { unless, test, then } => {
+            add_test(draft, alloc, unless, test)?;
+            draft.branch_over(nodes_length(&then))?;
+            add_nodes(draft, alloc, then)
+        }
+        Node::IfElse {
+            unless,
+            test,
+            then,
+            otherwise,
+        } => {
+            add_test(draft, alloc, unless, test)?;
+            draft.branch_over(nodes_length(&then) + 1)?;
+            add_nodes(draft, alloc, then)?;
+            draft.jump_over(nodes_length(&otherwise))?;
+            add_nodes(draft, alloc, otherwise)
+        }
+        Node::Each { over, body } => {
+            let size = nodes_length(&body);
+            add_datum(draft, alloc, over)?;
+            draft.each_over(size + 1)?;
+            add_nodes(draft, alloc, body)?;
+            draft.again(size)
+        }
+        Node::EachElse {
+            over,
+            body,
+            otherwise,
+        } => {
+            let size = nodes_length(&body);
+            add_datum(draft, alloc, over)?;
+            draft.each_over(size + 2)?;
+            add_nodes(draft, alloc, body)?;
+            draft.again(size)?;
+            draft.jump_over(nodes_length(&otherwise))?;
+            add_nodes(draft, alloc, otherwise)
+        }
     }
 }
 
@@ -83,40 +129,18 @@ fn add_print(draft: &mut Draft, escape: Escape) -> Result<(), AllocError>
     }
 }
 
-#[tactic(auto, using(template_tree::proofs::Views::view_call, template_tree::proofs::Views::view_call_two))]
-fn add_datum(draft: &mut Draft, alloc: Global, expression: Expression) -> Result<(), AllocError>
-    requires { IsPlainExpression (expression_view expression) }
-    ensures { OnOk result (draft.new ≡ extended_by draft.old (expression_code (expression_view expression))) }
+// Whether the part after an `if` is to be written, or that after an `unless`.
+fn add_test(
+    draft: &mut Draft,
+    alloc: Global,
+    unless: bool,
+    test: Expression,
+) -> Result<(), AllocError>
+    ensures { OnOk result (draft.new ≡ extended_by draft.old (test_code unless (expression_view test))) }
 {
-    match expression {
-        Expression::Datum(datum) => draft.root(root_path(alloc, datum)?),
-        Expression::Index
-        | Expression::Key
-        | Expression::First
-        | Expression::Last
-        | Expression::Text(_)
-        | Expression::Number(_)
-        | Expression::Truth(_)
-        | Expression::Call(..)
-        | Expression::CallTwo(..) => unreachable!(),
+    add_value(draft, alloc, Parameter::Of(Kind::Truth), test)?;
+    if unless {
+        draft.push(Instr::Call(Helper::Not))?;
     }
-}
-
-// The path that is read from the root.
-fn root_path(alloc: Global, datum: Datum) -> Result<Path, AllocError>
-    requires { IsPlainDatum datum }
-    ensures { IfOk result (λ path. root_code path ≡ datum_code datum) }
-{
-    match datum {
-        Datum::Nothing => nothing_path(alloc),
-        Datum::Root(path) => Ok(path),
-        _ => unreachable!(),
-    }
-}
-
-fn nothing_path(alloc: Global) -> Result<Path, AllocError>
-    ensures { IfOk result (λ path. path ≡ nothing_path) }
-{
-    let name = Step::Name(PlainText::new(String::new(alloc)));
-    Ok(Path::new(vec![in alloc; name]?))
+    Ok(())
 }

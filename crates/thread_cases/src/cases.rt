@@ -1,14 +1,14 @@
 //! Calls and messages of one and two threads over shared books: what each case shows, in words.
 ghost use Rattle.std.specs.Prelude.{◌≡◌, ◌≤◌};
 
-use case_calls::books;
-use case_calls::cleared::cleared;
-use case_calls::scripts::scripts;
-use case_calls::two_threads::two_threads;
-use case_calls::versions::versions;
-use case_messages::answered::answered;
-use case_messages::counted::counted;
-use case_messages::full::full;
+use crate::answered::answered;
+use crate::books;
+use crate::cleared::cleared;
+use crate::counted::counted;
+use crate::full::full;
+use crate::scripts::scripts;
+use crate::two_threads::two_threads;
+use crate::versions::versions;
 use case_table::cells::Cells;
 use shared_book::origin::Origin;
 use shared_book::seat::Seat;

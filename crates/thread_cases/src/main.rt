@@ -2,8 +2,33 @@
 //! schedules over a book give with the table in `data/`.
 #![tactic(auto)]
 
+// The table of schedules, and the cases by their names.
 mod cases;
 mod table;
+
+// Schedules over a book.
+mod steps;
+mod worlds;
+
+// Calls on shared books, also of two threads.
+mod books;
+mod calls;
+mod cleared;
+mod first_waits;
+mod one_seat;
+mod outcomes;
+mod scripts;
+mod threads;
+mod two_threads;
+mod versions;
+
+// Messages that are answered over shared books, also by two threads.
+mod answered;
+mod answers;
+mod counted;
+mod full;
+mod message_threads;
+mod messages;
 
 use case_table::compare::compare_all;
 use cases::{Case, play};

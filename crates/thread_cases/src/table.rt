@@ -1,8 +1,8 @@
 //! The table of schedules.
 
+use crate::worlds;
 use case_table::compare::CaseTable;
 use case_table::row::Row;
-use case_worlds::worlds;
 use std::alloc::{AllocError, Global};
 
 /// Schedules over a book, a row each.

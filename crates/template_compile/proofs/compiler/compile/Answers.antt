@@ -17,15 +17,17 @@ returns-clause-runs c =
 pub returns-clause-well_formed : goal.returns-clause-well_formed
 returns-clause-well_formed c =
     let short =
-    at_most _ _ _ (rw (c.as_slice.ensures.value, c.into_nodes-nodes.ensures.nodes) at c.is_too_long.ensures)
+    at_most _ _ _ (rw c.into_nodes-nodes.ensures.nodes at c.is_too_long.ensures)
     c.if-is_too_long.false in
     rw (c.in_ok-translate.ensures, c.into_nodes-nodes.ensures.nodes)
-    (stack_code-well_formed (tree_of c.args.template) (plain-sound (tree_of c.args.template) c.into_nodes-nodes.ensures.plain) short)
+    (stack_code-well_formed (tree_of c.args.template)
+    (plain-sound (tree_of c.args.template) c.into_nodes-nodes.ensures.plain) short)
 
 pub returns-clause-within_limits : goal.returns-clause-within_limits
 returns-clause-within_limits c =
     let short =
-    at_most _ _ _ (rw (c.as_slice.ensures.value, c.into_nodes-nodes.ensures.nodes) at c.is_too_long.ensures)
+    at_most _ _ _ (rw c.into_nodes-nodes.ensures.nodes at c.is_too_long.ensures)
     c.if-is_too_long.false in
     rw (c.in_ok-translate.ensures, c.into_nodes-nodes.ensures.nodes)
-    (stack_code-within_limits (tree_of c.args.template) (plain-sound (tree_of c.args.template) c.into_nodes-nodes.ensures.plain) short)
+    (stack_code-within_limits (tree_of c.args.template)
+    (plain-sound (tree_of c.args.template) c.into_nodes-nodes.ensures.plain) short)

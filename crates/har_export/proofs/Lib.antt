@@ -1,0 +1,4 @@
+mod Texts
+mod PairLemmas
+mod EntryLemmas
+mod FloatLemmas

@@ -1,0 +1,6 @@
+pub mod Moment
+pub mod Pairs
+pub mod Content
+pub mod Message
+pub mod Document
+pub mod Errors

@@ -1,0 +1,90 @@
+//! The command line of the program: `mock serve` is done here, each other command by `mock_program`.
+ghost use Rattle.std.specs.Prelude.{◌≡◌, ◌⊎◌, ◌≤◌, map, string_bytes};
+ghost use Rattle.command_output.specs.Output.{WritesOneStream};
+ghost use Rattle.mock_program.specs.CommandLine.{AreInvalid, Asked, AsksFor, CallsForHelp};
+ghost use Rattle.mock_program.specs.Commands.{Does};
+ghost use Rattle.template_tree.specs.declared.escape.Escape.{Escape};
+ghost use Rattle.mock.specs.CommandLine.{AskToServe};
+ghost use Rattle.mock.specs.Inner.Arguments.{ask_to_serve};
+
+use crate::arguments::serve_arguments;
+use crate::serve::serve;
+use command_output::error::CommandError;
+use command_output::files::FileReader;
+use command_output::status::FAILURE;
+use error_code::error_code::ErrorCode;
+use mock_program::command_line::write_parser_message;
+use std::alloc::{AllocError, AllocGlobal, Global};
+use std::io::Write;
+use std::net::Net;
+use std::random::RandomSource;
+use std::sync::Wait;
+use std::time::Clock;
+
+/// Runs the command that the arguments name, the first of them being the program's name, and gives the exit status:
+/// 0; 1 for an error or output that can't be written; 2 for invalid arguments. The text of `clap` for invalid
+/// arguments goes to `err`, its help to `out`.
+pub fn run<R, O, E>(rt: R, arguments: &[String], out: &mut O, err: &mut E) -> u8
+where
+    R: Wait + Net + Clock + RandomSource + AllocGlobal + FileReader + Copy + Drop,
+    O: Write,
+    E: Write,
+    // Arguments that ask for a command other than `serve` do what that command does, each argument taken as it is.
+    ensures command { (escape : Escape) (asked : Asked) → AsksFor (map string_bytes arguments.now) escape asked
+        → Does O.contents E.contents (R.content rt) escape asked out.old out.new err.old err.new result }
+
+    // Help is no mistake, and invalid arguments are one. Where the text can't be made or written, the status is 1.
+    ensures help { CallsForHelp (map string_bytes arguments.now) → (result ≡ 0) ⊎ (result ≡ 1) }
+    ensures invalid { AreInvalid (map string_bytes arguments.now) → ¬ (AskToServe (map string_bytes arguments.now))
+        → (result ≡ 2) ⊎ (result ≡ 1) }
+    ensures range { result ≤ 2 }
+
+    // What the other commands write goes to one of both streams.
+    ensures streams { ¬ (AskToServe (map string_bytes arguments.now))
+        → WritesOneStream out.old out.new err.old err.new result }
+{
+    if ask_to_serve(arguments) {
+        run_serve(rt, arguments, out, err)
+    } else {
+        mock_program::command_line::run(rt.alloc(), &rt, arguments, out, err)
+    }
+}
+
+fn ask_to_serve(arguments: &[String]) -> bool
+    ensures { result ≡ ask_to_serve (map string_bytes arguments.now) }
+{
+    match arguments {
+        [_program, command, ..] => command.as_str() == "serve",
+        _ => false,
+    }
+}
+
+fn run_serve<R, O, E>(rt: R, arguments: &[String], out: &mut O, err: &mut E) -> u8
+where
+    R: Wait + Net + Clock + RandomSource + AllocGlobal + FileReader + Copy + Drop,
+    O: Write,
+    E: Write,
+    ensures { result ≤ 2 }
+{
+    let Ok(words) = words_of(rt.alloc(), arguments) else {
+        CommandError::from(ErrorCode::OutOfMemory).report(err);
+        return FAILURE;
+    };
+    match serve_arguments(rt.alloc(), words.as_slice()) {
+        Ok(Some(given)) => serve(rt, given, out, err),
+        Ok(None) => FAILURE,
+        Err(error) => write_parser_message(&error, out, err),
+    }
+}
+
+// The words that the parser is given: the program's name as it is known, and the arguments after it.
+fn words_of<'a>(alloc: Global, arguments: &'a [String]) -> Result<Vec<&'a str>, AllocError> {
+    let mut words = Vec::with_capacity(alloc, arguments.len().saturating_add(1))?;
+    words.push("mock")?;
+    if let [_program, given @ ..] = arguments {
+        for argument in given {
+            words.push(argument.as_str())?;
+        }
+    }
+    Ok(words)
+}
