@@ -1,5 +1,5 @@
 -- What is always so of the tree of a template, where that many loops are open.
-use Rattle.std.specs.Prelude.{ℕ, zero, suc, max, ◌<◌, ◌≤◌, not, is_some, Bool, ◌&&◌, IsTrue, length}
+use Rattle.std.specs.Prelude.{ℕ, suc, max, ◌<◌, ◌≤◌, not, is_some, Bool, ◌&&◌, IsTrue, length}
 use Rattle.helper_set.specs.Helpers.{signature_of, is_looked_up}
 use Rattle.helper_set.specs.declared.helper.Helper.{Helper}
 use Rattle.template_tags.specs.Expression.{Expression, datum, index, key, first, last, text_literal, call, call_two}
