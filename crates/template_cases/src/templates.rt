@@ -5,10 +5,11 @@ use case_table::cells::Cells;
 use data_tree::step::{Path, Step};
 use std::alloc::{AllocError, Global};
 use template_compile::compiler::compile;
+use template_tags::expression::{Datum, Expression};
 use template_tree::error::{ParseError, TemplateError};
+use template_tree::node::Node;
 use template_tree::parser::parse;
-use template_tree::template::{Expression, Node, Template};
-use template_words::reference::Reference;
+use template_tree::template::Template;
 
 /// The parts of a template, or its error's number and offset.
 pub fn tree(alloc: Global, text: &str) -> Result<String, AllocError> {
@@ -34,10 +35,12 @@ fn parts(alloc: Global, template: Template) -> Result<String, AllocError> {
     cells.finish()
 }
 
+// No text spells another node or expression so far.
 fn add_node(cells: &mut Cells, node: &Node) {
     match node {
         Node::Piece(piece) => add_text(cells, piece.as_str()),
-        Node::Print(_, Expression::Reference(reference)) => add_reference(cells, reference),
+        Node::Print(_, Expression::Datum(datum)) => add_datum(cells, datum),
+        _ => cells.add("{unknown}"),
     }
 }
 
@@ -48,16 +51,22 @@ pub fn add_text(cells: &mut Cells, text: &str) {
     cells.add("|");
 }
 
-fn add_reference(cells: &mut Cells, reference: &Reference) {
-    match reference {
-        Reference::Root(path) => {
+fn add_datum(cells: &mut Cells, datum: &Datum) {
+    match datum {
+        Datum::Nothing => cells.add("{nothing}"),
+        Datum::Root(path) => {
             cells.add("{root");
             add_path(cells, path);
         }
-        Reference::Item { depth, steps } => {
+        Datum::Item { up, steps } => {
             cells.add("{item ");
-            cells.add_number(*depth);
+            cells.add_number(*up);
             add_path(cells, steps);
+        }
+        Datum::BodyPath(text) => {
+            cells.add("{body ");
+            cells.add(text.as_str());
+            cells.add("}");
         }
     }
 }

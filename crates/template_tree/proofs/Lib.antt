@@ -1,8 +1,14 @@
 pub mod Lengths
+pub mod Views
 pub mod Rows
+pub mod Pieces
+pub mod SoundWords
+pub mod SoundTags
+pub mod SoundTokens
+pub mod SoundTrees
+pub mod Nests
+pub mod Progress
+pub mod Formed
 pub mod Unique
 pub mod Outcomes
 pub mod Vectors
-pub mod Pieces
-pub mod Plain
-pub mod Views

@@ -10,18 +10,19 @@ use Rattle.template_tags.specs.declared.tag.Opening.{Opening}
 use Rattle.template_tree.specs.Laws.{IsPiece}
 use Rattle.template_words.specs.Marks.{begins, offset_of}
 use Rattle.template_tree.specs.Tags.{Tag, comment, shown, tag_of}
-use Rattle.template_tree.specs.Tokens.{node_token, token, tag_error, ended, print_next, closed_next, tag_next}
-use Rattle.template_tree.specs.Tokens.{error_after_backslash, last_text_next, next_at, next_of, expression_of}
-use Rattle.template_tags.specs.Expression.{Expression}
-use Rattle.template_tree.specs.Tree.{piece}
+use Rattle.template_tree.specs.Tokens.{text_token, token, tag_error, ended, said_next, closed_next, tag_next}
+use Rattle.template_tree.specs.Tokens.{error_after_backslash, last_text_next, next_at, next_of}
+use Rattle.template_tags.specs.declared.level.Level.{Level}
+use Rattle.template_tags.specs.Said.{tag_said}
+use Rattle.template_tags.specs.Tags as said
 use Rattle.template_words.proofs.Closes.{Marks, marks}
 use Rattle.template_words.proofs.Finding.{begins_own, offset_none}
 
-same_piece : (a b x y : List ℕ) → token (node_token (piece a)) x ≡ token (node_token (piece b)) y → (a ≡ b) × (x ≡ y)
+same_piece : (a b x y : List ℕ) → token (text_token a) x ≡ token (text_token b) y → (a ≡ b) × (x ≡ y)
 same_piece a b x y e = (cc, cc)
 
 -- the same piece and rest under other names
-renamed : (text a b x y : List ℕ) → token (node_token (piece a)) x ≡ token (node_token (piece b)) y
+renamed : (text a b x y : List ℕ) → token (text_token a) x ≡ token (text_token b) y
     → IsPiece text a x → IsPiece text b y
 renamed text a b x y e h =
     let p = same_piece a b x y e in
@@ -29,19 +30,21 @@ renamed text a b x y e h =
     let Q : List ℕ → Type 0 = λ r. IsPiece text b r in
     subst Q p.1 (subst P p.0 h)
 
-no_print : (text p rest more : List ℕ) (opening : Opening) (term : Result Expression TagError)
-    → print_next text opening term rest ≡ token (node_token (piece p)) more → ⊥
-no_print text p rest more opening (Ok term) e = cc
-no_print text p rest more opening (Err f) e = cc
+no_said : (text p rest more : List ℕ) (opening : Opening) (tag : Result said.Tag TagError)
+    → said_next text opening tag rest ≡ token (text_token p) more → ⊥
+no_said text p rest more opening (Ok tag) e = cc
+no_said text p rest more opening (Err f) e = cc
 
-no_closed : (text p rest more : List ℕ) (tag : Tag) → closed_next text tag rest ≡ token (node_token (piece p)) more → ⊥
-no_closed text p rest more comment e = cc
-no_closed text p rest more (shown opening content) e =
-    no_print text p rest more opening (expression_of opening content) e
+no_closed : (levels : List Level) (text p rest more : List ℕ) (tag : Tag)
+    → closed_next levels text tag rest ≡ token (text_token p) more → ⊥
+no_closed levels text p rest more comment e = cc
+no_closed levels text p rest more (shown opening content) e =
+    no_said text p rest more opening (tag_said opening content levels) e
 
-no_tag : (text p more : List ℕ) (o : Option (Tag × List ℕ)) → tag_next text o ≡ token (node_token (piece p)) more → ⊥
-no_tag text p more None e = cc
-no_tag text p more (Some x) e = no_closed text p x.1 more x.0 e
+no_tag : (levels : List Level) (text p more : List ℕ) (o : Option (Tag × List ℕ))
+    → tag_next levels text o ≡ token (text_token p) more → ⊥
+no_tag levels text p more None e = cc
+no_tag levels text p more (Some x) e = no_closed levels text p x.1 more x.0 e
 
 -- before the first mark there is none
 before_first : (mark text : List ℕ) (n : ℕ) → 0 < length mark → Marks mark text n → offset_of mark (take n text) ≡ None
@@ -61,24 +64,24 @@ before_first mark text n some m = offset_none mark (take n text) some none
         (ap (begins mark) here ∙ begins_own mark (rest ++ drop n text))
 
 last_piece : (text p rest : List ℕ) → offset_of (codes "{{") text ≡ None
-    → last_text_next text ≡ token (node_token (piece p)) rest → IsPiece text p rest
+    → last_text_next text ≡ token (text_token p) rest → IsPiece text p rest
 last_piece [] p rest none e = absurd (ended_differs e)
   where
-    ended_differs : ended ≡ token (node_token (piece p)) rest → ⊥
+    ended_differs : ended ≡ token (text_token p) rest → ⊥
     ended_differs q = cc
 last_piece (b ∷ bs) p rest none e =
     renamed (b ∷ bs) (b ∷ bs) p [] rest e
     (record { split = sym (append-nil (b ∷ bs)); some = omega arith; unmarked = none; until = inl refl })
 
-piece_at : (text p rest : List ℕ) (o : Option ℕ) → offset_of (codes "{{") text ≡ o
-    → IfSome o (Marks (codes "{{") text) → next_at text o ≡ token (node_token (piece p)) rest → IsPiece text p rest
-piece_at text p rest None o h e = last_piece text p rest o e
-piece_at text p rest (Some zero) o h e = absurd (no_tag text p rest (tag_of text) e)
-piece_at text p rest (Some (suc n)) o h e =
+piece_at : (levels : List Level) (text p rest : List ℕ) (o : Option ℕ) → offset_of (codes "{{") text ≡ o
+    → IfSome o (Marks (codes "{{") text) → next_at levels text o ≡ token (text_token p) rest → IsPiece text p rest
+piece_at levels text p rest None o h e = last_piece text p rest o e
+piece_at levels text p rest (Some zero) o h e = absurd (no_tag levels text p rest (tag_of text) e)
+piece_at levels text p rest (Some (suc n)) o h e =
     let front = take (suc n) text in
     let mark = drop (suc n) text in
     cond_both (ends_with ◌==◌ front (codes "\\")) (tag_error (error_after_backslash (tag_of mark)) mark)
-    (token (node_token (piece front)) mark) (λ x. x ≡ token (node_token (piece p)) rest → IsPiece text p rest)
+    (token (text_token front) mark) (λ x. x ≡ token (text_token p) rest → IsPiece text p rest)
     (λ t q. absurd (error_differs q))
     (λ f q. renamed text front p mark rest q (record {
       split = sym (take-append-drop (suc n) text);
@@ -89,9 +92,11 @@ piece_at text p rest (Some (suc n)) o h e =
     e
   where
     error_differs : tag_error (error_after_backslash (tag_of (drop (suc n) text))) (drop (suc n) text)
-        ≡ token (node_token (piece p)) rest → ⊥
+        ≡ token (text_token p) rest → ⊥
     error_differs q = cc
 
-pub whole_piece : (text p rest : List ℕ) → next_of text ≡ token (node_token (piece p)) rest → IsPiece text p rest
+pub whole_piece : (levels : List Level) (text p rest : List ℕ) → next_of levels text ≡ token (text_token p) rest
+    → IsPiece text p rest
 unfolding next_of
-whole_piece text p rest e = piece_at text p rest (offset_of (codes "{{") text) refl (marks (codes "{{") text) e
+whole_piece levels text p rest e =
+    piece_at levels text p rest (offset_of (codes "{{") text) refl (marks (codes "{{") text) e

@@ -1,191 +1,169 @@
 -- The examples, computed.
-use Rattle.std.proofs.Common.{◌≡◌, ℕ, ◌≤◌, List, [], ◌∷◌, length, None, codes, refl, ap, arith}
-use Rattle.data_tree.specs.declared.step.Step.TheVariants.{Name, Index}
-use Rattle.template_tree.specs.declared.parser.TheConstants.{TEXT_LIMIT}
-use Rattle.template_tree.specs.declared.escape.Escape.{Escape}
-use Rattle.template_tree.specs.declared.escape.Escape.TheVariants.{Off, Html}
+use Rattle.std.proofs.Common.{◌≡◌, ℕ, zero, suc, ◌+◌, ◌≤◌, List, [], ◌∷◌, length, drop, None, inl, inr, codes, refl, ap, subst, arith}
 use Rattle.template_words.specs.declared.error.TagError.{TagError}
-use Rattle.template_tags.specs.declared.expression.Datum.{Datum}
-use Rattle.template_tags.specs.declared.expression.Datum.TheVariants.{Nothing, Root}
-use Rattle.template_tags.specs.Expression.{datum}
-use Rattle.template_tree.specs.Examples.{AreExamples, Gives, text_before, url_before}
-use Rattle.template_tree.specs.Grammar.{nodes_under, Spells, IsTagErrorAt}
-use Rattle.template_tree.specs.Source.{with_escape}
+use Rattle.template_words.specs.declared.error.TagError.TheVariants as errors
 use Rattle.template_words.specs.Marks.{offset_of}
 use Rattle.template_words.specs.Paths.{reference_from, step_of}
+use Rattle.template_tags.specs.declared.level.Block.TheVariants.{If}
+use Rattle.template_tags.specs.declared.level.Level.{Level}
+use Rattle.template_tags.specs.Said.{tag_said}
+use Rattle.template_tags.specs.Words.{word_of}
+use Rattle.template_tree.specs.declared.escape.Escape.{Escape}
+use Rattle.template_tree.specs.declared.escape.Escape.TheVariants.{Off, Html}
+use Rattle.template_tree.specs.declared.parser.TheConstants.{TEXT_LIMIT}
+use Rattle.template_tree.specs.Examples.{AreExamples, AreBlocks, Gives, text_before}
+use Rattle.template_tree.specs.Grammar.{opened, token_levels, Leads, Spells, IsTagErrorAt}
+use Rattle.template_tree.specs.Parts.{parts_of, spell}
+use Rattle.template_tree.specs.Source.{with_escape}
 use Rattle.template_tree.specs.Tags.{tag_of}
-use Rattle.template_tree.specs.Tokens.{Token, comment_token, node_token, tag_error, next_at, next_of, expression_of}
-use Rattle.template_tree.specs.Tree.{no_nodes, piece, print}
+use Rattle.template_tree.specs.Tokens.{Token, text_token, Next, token, tag_error, ended, next_at, next_of}
+use Rattle.template_tree.specs.Tree.{Nodes, no_nodes}
 
--- an error at the start of a text
-at_start : (text : List ℕ) (f : TagError) → length text ≤ TEXT_LIMIT → next_of text ≡ tag_error f text
-    → IsTagErrorAt text f 0
-at_start text f short e =
-    record {
+-- a row of tokens, with the blocks that are open after it and what is left of the text
+record Row : Type 0 where
+  tokens : List Token
+  levels : List Level
+  rest : List ℕ
+
+abbrev no_token : List Level → List ℕ → Row
+no_token levels text = record { tokens = []; levels = levels; rest = text }
+
+abbrev with_first : Token → Row → Row
+with_first t row = record { tokens = t ∷ row.tokens; levels = row.levels; rest = row.rest }
+
+abbrev row_at : (List Level → List ℕ → Row) → List Level → List ℕ → Next → Row
+row_at later levels text (token t more) = with_first t (later (token_levels (length text) t levels) more)
+row_at later levels text (tag_error f mark) = no_token levels text
+row_at later levels text ended = no_token levels text
+
+-- the row that the text begins with, of that many tokens at most
+abbrev row : ℕ → List Level → List ℕ → Row
+row zero levels text = no_token levels text
+row (suc n) levels text = row_at (row n) levels text (next_of levels text)
+
+abbrev IsRow : List Level → List ℕ → Row → Type 0
+IsRow levels text r = Leads r.tokens levels text r.levels r.rest
+
+row_leads : (n : ℕ) (levels : List Level) (text : List ℕ) → IsRow levels text (row n levels text)
+row_leads zero levels text = (refl, refl)
+row_leads (suc n) levels text = by (row n) (row_leads n) (next_of levels text) refl
+  where
+    by : (later : List Level → List ℕ → Row) → ((ls : List Level) (more : List ℕ) → IsRow ls more (later ls more))
+        → (next : Next) → next_of levels text ≡ next → IsRow levels text (row_at later levels text next)
+    by later h (token t more) e = (more, e, h (token_levels (length text) t levels) more)
+    by later h (tag_error f mark) e = (refl, refl)
+    by later h ended e = (refl, refl)
+
+spells : (n : ℕ) (escape : Escape) (text : List ℕ) (tree : Nodes) → length text ≤ TEXT_LIMIT
+    → (row n [] text).levels ≡ [] → (row n [] text).rest ≡ [] → parts_of escape (row n [] text).tokens [] ≡ spell tree []
+    → Spells (with_escape escape text) tree
+spells n escape text tree short e f same = record {
+  short = short;
+  tokens = (row n [] text).tokens;
+  leads =
+      subst (λ rest. Leads (row n [] text).tokens [] text [] rest) f
+      (subst (λ levels. Leads (row n [] text).tokens [] text levels (row n [] text).rest) e (row_leads n [] text));
+  same = same;
+}
+
+fails : (n : ℕ) (text : List ℕ) (f : TagError) (at : ℕ) → length text ≤ TEXT_LIMIT
+    → next_of (row n [] text).levels (row n [] text).rest ≡ tag_error f (drop at text)
+    → at + length (drop at text) ≡ length text → IsTagErrorAt text f at
+fails n text f at short wrong offset =
+    inl (record {
       short = short;
-      tokens = [];
-      levels = [];
-      rest = text;
-      mark = text;
-      leads =
-          (refl, refl);
-      wrong = e;
-      offset = omega arith;
-    }
+      tokens = (row n [] text).tokens;
+      levels = (row n [] text).levels;
+      rest = (row n [] text).rest;
+      mark = drop at text;
+      leads = row_leads n [] text;
+      wrong = wrong;
+      offset = offset;
+    })
+
+is_open : (n : ℕ) (text : List ℕ) (at : ℕ) (level : Level) (levels : List Level) → length text ≤ TEXT_LIMIT
+    → (row n [] text).levels ≡ level ∷ levels → (row n [] text).rest ≡ [] → at + level.left ≡ length text
+    → IsTagErrorAt text errors.UnclosedTag at
+is_open n text at level levels short e f offset =
+    inr (
+      refl,
+      record {
+        short = short;
+        tokens = (row n [] text).tokens;
+        level = level;
+        levels = levels;
+        leads =
+            subst (λ rest. Leads (row n [] text).tokens [] text (level ∷ levels) rest) f
+            (subst (λ ls. Leads (row n [] text).tokens [] text ls (row n [] text).rest) e (row_leads n [] text));
+        offset = offset;
+      },
+    )
 
 longest : (b : ℕ) (bs : List ℕ) → length (b ∷ bs) ≡ TEXT_LIMIT → offset_of (codes "{{") (b ∷ bs) ≡ None
     → Gives (b ∷ bs) (text_before (b ∷ bs) no_nodes)
 unfolding next_of
-longest b bs long none =
-    record {
-      short = omega (arith, long);
-      tokens = node_token (piece (b ∷ bs)) ∷ [];
-      leads =
-          ([], ap (next_at (b ∷ bs)) none, (refl, refl));
-      same = refl;
-    }
-
-abbrev url : Datum
-url = Root (Name (codes "request") ∷ Name (codes "url") ∷ [])
-
--- the same tokens, whatever is escaped
-two_urls : (escape : Escape) → Spells (with_escape escape (codes "{{request.url}}<{{{request.url}}}"))
-    (url_before escape (text_before (codes "<") (url_before Off no_nodes)))
-unfolding next_of tag_of expression_of reference_from step_of
-two_urls escape = record {
-  short = omega arith;
-  tokens = node_token (print Html (datum url)) ∷ node_token (piece (codes "<")) ∷ node_token (print Off (datum url)) ∷ [];
-  leads = (codes "<{{{request.url}}}", refl, (codes "{{{request.url}}}", refl, ([], refl, (refl, refl))));
-  same = marks escape;
+longest b bs long none = record {
+  short = omega (arith, long);
+  tokens = text_token (b ∷ bs) ∷ [];
+  leads = ([], ap (next_at [] (b ∷ bs)) none, (refl, refl));
+  same = refl;
 }
-  where
-    row : Escape → List Token
-    row mark = node_token (print mark (datum url)) ∷ node_token (piece (codes "<"))
-        ∷ node_token (print Off (datum url)) ∷ []
-
-    marks : (e : Escape) → nodes_under e (row Html) ≡ row e
-    marks Off = refl
-    marks Html = refl
 
 pub are_examples : AreExamples
-unfolding next_of tag_of expression_of reference_from step_of
+unfolding next_of tag_of tag_said word_of reference_from step_of
 are_examples = record {
-  empty = record { short = omega arith; tokens = []; leads = (refl, refl); same = refl };
-  text_alone =
-      record {
-        short = omega arith;
-        tokens = node_token (piece (codes "a } {b")) ∷ [];
-        leads =
-            ([], refl, (refl, refl));
-        same = refl;
-      };
-  path = record {
-    short = omega arith;
-    tokens =
-        node_token (piece (codes "Hello ")) ∷ node_token
-        (print Html (datum (Root (Name (codes "request") ∷ Name (codes "path") ∷ Index 1 ∷ [])))) ∷ node_token
-        (piece (codes "!")) ∷ [];
-    leads = (codes "{{request.path.[1]}}!", refl, (codes "!", refl, ([], refl, (refl, refl))));
-    same = refl;
-  };
-  three_braces =
-      record {
-        short = omega arith;
-        tokens = node_token
-            (print Off (datum (Root (Name (codes "request") ∷ Name (codes "a b") ∷ [])))) ∷ [];
-        leads =
-            ([], refl, (refl, refl));
-        same = refl;
-      };
-  out_of_loops = record {
-    short = omega arith;
-    tokens =
-        node_token (print Html (datum Nothing)) ∷ node_token (print Html (datum Nothing)) ∷ node_token
-        (print Html (datum Nothing)) ∷ [];
-    leads = (codes "{{..}}{{x}}", refl, (codes "{{x}}", refl, ([], refl, (refl, refl))));
-    same = refl;
-  };
-  escaped = two_urls Html;
-  not_escaped = two_urls Off;
-  header =
-      record {
-        short = omega arith;
-        tokens = node_token
-            (print Html (datum
-            (Root (Name (codes "request") ∷ Name (codes "headers") ∷ Name (codes "x-id") ∷ [])))) ∷ [];
-        leads = (
-          [],
-          refl,
-          (refl, refl),
-        );
-        same = refl;
-      };
-  comment = record {
-    short = omega arith;
-    tokens = node_token (piece (codes "a")) ∷ comment_token ∷ node_token (piece (codes "b")) ∷ comment_token ∷ [];
-    leads = (
-      codes "{{!-- }} --}}b{{!}}",
-      refl,
-      (codes "b{{!}}", refl, (codes "{{!}}", refl, ([], refl, (refl, refl)))),
-    );
-    same = refl;
-  };
-  no_close = at_start (codes "{{x") TagError.UnclosedTag (omega arith) refl;
-  no_close_of_three = at_start (codes "{{{x}}") TagError.UnclosedTag (omega arith) refl;
-  no_close_of_comment =
-      record {
-        short = omega arith;
-        tokens = node_token
-            (piece (codes "a")) ∷ [];
-        levels = [];
-        rest = codes "{{!-- x }}";
-        mark = codes "{{!-- x }}";
-        leads =
-            (codes "{{!-- x }}", refl, (refl, refl));
-        wrong = refl;
-        offset = refl;
-      };
-  hidden_close = at_start (codes "{{\"}}") TagError.UnclosedTag (omega arith) refl;
-  literal_alone = at_start (codes "{{\"}}\"}}") TagError.UnsupportedTag (omega arith) refl;
-  open_bracket = at_start (codes "{{request.path.[}}") TagError.BadPath (omega arith) refl;
-  leading_zero =
-      record {
-        short = omega arith;
-        tokens = node_token
-            (print Html (datum (Root (Name (codes "request") ∷ Name (codes "01") ∷ [])))) ∷ [];
-        leads =
-            ([], refl, (refl, refl));
-        same = refl;
-      };
-  slash_in_name =
-      record {
-        short = omega arith;
-        tokens = node_token
-            (piece (195 ∷ 169 ∷ [])) ∷ [];
-        levels = [];
-        rest = codes "{{a/b}}";
-        mark = codes "{{a/b}}";
-        leads =
-            (codes "{{a/b}}", refl, (refl, refl));
-        wrong = refl;
-        offset = refl;
-      };
-  partial = at_start (codes "{{> p}}") TagError.UnsupportedTag (omega arith) refl;
-  escape =
-      record {
-        short = omega arith;
-        tokens = [];
-        levels = [];
-        rest = codes "\\{{x}}";
-        mark = codes "{{x}}";
-        leads =
-            (refl, refl);
-        wrong = refl;
-        offset = refl;
-      };
-  empty_tag = at_start (codes "{{}}") TagError.UnsupportedTag (omega arith) refl;
-  first_error = at_start (codes "{{a!}}{{x") TagError.BadPath (omega arith) refl;
-  order_in_a_tag = at_start (codes "{{a! 1}}") TagError.UnsupportedTag (omega arith) refl;
+  empty = spells 1 Off _ _ (omega arith) refl refl refl;
+  text_alone = spells 9 Off (codes "a } {b") _ (omega arith) refl refl refl;
+  path = spells 9 Off (codes "Hello {{request.path.[1]}}!") _ (omega arith) refl refl refl;
+  three_braces = spells 9 Off (codes "{{{ request.[a b] }}}") _ (omega arith) refl refl refl;
+  out_of_loops = spells 9 Off (codes "{{../this.x}}{{..}}{{x}}") _ (omega arith) refl refl refl;
+  escaped = spells 9 Html (codes "{{request.url}}<{{{request.url}}}") _ (omega arith) refl refl refl;
+  not_escaped = spells 9 Off (codes "{{request.url}}<{{{request.url}}}") _ (omega arith) refl refl refl;
+  header = spells 9 Off (codes "{{request.headers.X-Id}}") _ (omega arith) refl refl refl;
+  comment = spells 9 Off (codes "a{{!-- }} --}}b{{!}}") _ (omega arith) refl refl refl;
+  no_close = fails 9 (codes "{{x") errors.UnclosedTag 0 (omega arith) refl refl;
+  no_close_of_three = fails 9 (codes "{{{x}}") errors.UnclosedTag 0 (omega arith) refl refl;
+  no_close_of_comment = fails 9 (codes "a{{!-- x }}") errors.UnclosedTag 1 (omega arith) refl refl;
+  hidden_close = fails 9 (codes "{{\"}}") errors.UnclosedTag 0 (omega arith) refl refl;
+  literal_alone = fails 9 (codes "{{\"}}\"}}") errors.UnsupportedTag 0 (omega arith) refl refl;
+  open_bracket = fails 9 (codes "{{request.path.[}}") errors.BadPath 0 (omega arith) refl refl;
+  leading_zero = spells 9 Off (codes "{{request.01}}") _ (omega arith) refl refl refl;
+  slash_in_name = fails 9 (195 ∷ 169 ∷ codes "{{a/b}}") errors.BadPath 2 (omega arith) refl refl;
+  partial = fails 9 (codes "{{> p}}") errors.UnsupportedTag 0 (omega arith) refl refl;
+  escape = fails 9 (codes "\\{{x}}") errors.UnsupportedTag 1 (omega arith) refl refl;
+  empty_tag = fails 9 (codes "{{}}") errors.UnsupportedTag 0 (omega arith) refl refl;
+  first_error = fails 9 (codes "{{a!}}{{x") errors.BadPath 0 (omega arith) refl refl;
+  order_in_a_tag = fails 9 (codes "{{a! 1}}") errors.UnknownHelper 0 (omega arith) refl refl;
+  helper_alone = fails 9 (codes "{{upper}}") errors.WrongArguments 0 (omega arith) refl refl;
+  json_path = fails 9 (codes "{{jsonPath request.body '$.a['}}") errors.BadPath 0 (omega arith) refl refl;
   longest = longest;
   longer = λ text long. (omega (arith, long), refl);
+}
+
+pub are_blocks : AreBlocks
+unfolding next_of tag_of tag_said word_of reference_from step_of
+are_blocks = record {
+  calls = spells 9 Off (codes "{{base64 (upper request)}}") _ (omega arith) refl refl refl;
+  with_else = spells 9 Off (codes "{{#if request.query.q}}Q{{else}}none{{/if}}!") _ (omega arith) refl refl refl;
+  without_else = spells 9 Off (codes "{{#unless request}}a{{/unless}}") _ (omega arith) refl refl refl;
+  empty_else = spells 9 Off (codes "{{#if request}}{{else}}{{/if}}") _ (omega arith) refl refl refl;
+  loop =
+      spells 9 Off (codes "{{#each request.query.q as |v|}}{{@index}}{{v}}{{else}}{{v}}{{/each}}") _ (omega arith)
+      refl refl refl;
+  inner_loop =
+      spells 9 Off
+      (codes "{{#each request.query.a}}{{#each request.query.b}}{{..}}{{this}} {{/each}}{{/each}}") _ (omega arith)
+      refl refl refl;
+  left_open = is_open 9 (codes "a{{#if request.path}}x") 1 (opened 21 If None) [] (omega arith) refl refl refl;
+  left_open_inside =
+      is_open 9 (codes "{{#if a}}{{#if b}}{{/if}}{{#if c}}") 25 (opened 9 If None) (opened 34 If None ∷ [])
+      (omega arith) refl refl refl;
+  close_alone = fails 9 (codes "{{/if}}") errors.UnexpectedClose 0 (omega arith) refl refl;
+  other_close =
+      fails 9 (codes "{{#if request.path}}{{/unless}}") errors.UnexpectedClose 20 (omega arith) refl refl;
+  second_else = fails 9 (codes "{{#if a}}{{else}}{{else}}") errors.UnexpectedClose 17 (omega arith) refl refl;
+  error_in_block = fails 9 (codes "{{#if a}}{{foo 1}}") errors.UnknownHelper 9 (omega arith) refl refl;
+  fifth_loop =
+      fails 9 (codes "{{#each a}}{{#each b}}{{#each c}}{{#each d}}{{#each e}}") errors.TooDeep 44 (omega arith) refl
+      refl;
 }

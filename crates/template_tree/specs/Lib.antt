@@ -3,6 +3,8 @@ pub mod Tree
 pub mod Template
 pub mod Tags
 pub mod Tokens
+pub mod Parts
+pub mod Sound
 pub mod Grammar
 pub mod Meaning
 pub mod Errors

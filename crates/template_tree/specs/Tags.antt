@@ -1,13 +1,10 @@
 -- Where a tag of a text ends, and of which kind it is (Handlebars' `{{ }}`, `{{{ }}}`, `{{! }}`, `{{!-- --}}`).
-use Rattle.std.specs.Prelude.{ℕ, ◌==◌, Bool, false, ◌||◌, List, [], ◌∷◌, drop, Option, Some, None}
+use Rattle.std.specs.Prelude.{ℕ, List, drop, Option, Some, None}
 use Rattle.std.specs.Prelude.{if◌then◌else◌, codes}
-use Rattle.std.specs.List.{list_any}
-use Rattle.std.specs.Str.{bytes_eq}
 use Rattle.template_words.specs.declared.mode.Mode.TheVariants.{Start}
 use Rattle.template_tags.specs.declared.tag.Opening.{Opening}
 use Rattle.template_tags.specs.declared.tag.Opening.TheVariants.{Double, Triple}
 use Rattle.template_words.specs.Marks.{begins, offset_of, close_from, around}
-use Rattle.template_words.specs.Words.{is_nil, has_break, is_literal_word, is_helper}
 
 -- a comment, or what is shown: the bytes between the marks
 pub data Tag : Type 0 where
@@ -38,19 +35,3 @@ tag_of text =
     if begins (codes "{{!") text then comment_of (drop 3 text)
     else if begins (codes "{{{") text then shown_of Triple (codes "}}}") (drop 3 text)
     else shown_of Double (codes "}}") (drop 2 text)
-
--- begins with a byte that marks another kind of tag
-abbrev pub is_marked : Opening → List ℕ → Bool
-is_marked opening [] = false
-is_marked Double (b ∷ bs) = list_any (λ c. c == b) (codes ">&^*~{@#/")
-is_marked Triple (b ∷ bs) = list_any (λ c. c == b) (codes ">&^*~{@")
-
-abbrev pub is_else : Opening → List ℕ → Bool
-is_else Double text = bytes_eq text (codes "else")
-is_else Triple text = false
-
--- something other than one word that may be a path
-abbrev pub is_unsupported : Opening → List ℕ → Bool
-is_unsupported opening text =
-    is_nil text || is_marked opening text || has_break Start text
-    || is_literal_word text || is_helper text || is_else opening text

@@ -11,7 +11,6 @@ pub enum Escape {
 
 impl Escape {
     ghost use Rattle.std.specs.Prelude.{◌≡◌, ◌↔◌, IsTrue};
-    ghost use Rattle.template_tree.specs.Grammar.{escape_under};
 
     pub fn same(self, other: Escape) -> bool
         ensures { IsTrue result ↔ (self ≡ other) }
@@ -19,16 +18,6 @@ impl Escape {
         match (self, other) {
             (Escape::Off, Escape::Off) | (Escape::Html, Escape::Html) => true,
             _ => false,
-        }
-    }
-
-    /// How a print that is marked so is escaped in a template whose prints are escaped so.
-    pub(crate) fn under(self, escape: Escape) -> Escape
-        ensures { result ≡ escape_under escape self }
-    {
-        match escape {
-            Escape::Off => Escape::Off,
-            Escape::Html => self,
         }
     }
 }

@@ -3,9 +3,10 @@ ghost use Rattle.std.specs.Prelude.{◌≡◌, ◌≤◌, ◌↔◌, ℕ, List, 
 ghost use Rattle.template_tree.specs.Grammar.{Spells, IsTemplateError};
 ghost use Rattle.template_tree.specs.Laws.{IsPiece};
 ghost use Rattle.template_tree.specs.Source.{Source};
-ghost use Rattle.template_tree.specs.Examples.{AreExamples};
-ghost use Rattle.template_tree.specs.Tokens.{token, node_token, next_of};
-ghost use Rattle.template_tree.specs.Tree.{Nodes, piece};
+ghost use Rattle.template_tree.specs.Examples.{AreExamples, AreBlocks};
+ghost use Rattle.template_tags.specs.declared.level.Level.{Level};
+ghost use Rattle.template_tree.specs.Tokens.{token, text_token, next_of};
+ghost use Rattle.template_tree.specs.Tree.{Nodes};
 ghost use Rattle.template_tree.specs.declared.error.TemplateError.{TemplateError};
 ghost use Rattle.template_tree.specs.declared.parser.TheConstants.{TEXT_LIMIT};
 
@@ -26,10 +27,12 @@ pub fn law_text_spells_tree_or_has_error()
 
 /// A piece of text is never split: it goes up to the next mark, or to the end.
 pub fn law_piece_ends_at_next_mark()
-    ensures { (text p rest : List ℕ) → next_of text ≡ token (node_token (piece p)) rest → IsPiece text p rest }
+    ensures { (levels : List Level) (text p rest : List ℕ) → next_of levels text ≡ token (text_token p) rest
+        → IsPiece text p rest }
 {}
 
-/// Some twenty texts, each with its tree or its error.
+/// Some forty texts, each with its tree or its error.
 pub fn law_examples()
-    ensures { AreExamples }
+    ensures one_tag { AreExamples }
+    ensures blocks { AreBlocks }
 {}

@@ -5,6 +5,7 @@
 pub mod error;
 pub mod escape;
 pub mod laws;
+mod nest;
 pub mod node;
 pub mod parser;
 mod tags;

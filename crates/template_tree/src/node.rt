@@ -36,19 +36,3 @@ pub enum Node {
         otherwise: Vec<Node>,
     },
 }
-
-impl Node {
-    ghost use Rattle.std.specs.Prelude.{◌≡◌};
-    ghost use Rattle.template_tree.specs.Grammar.{node_under};
-    ghost use Rattle.template_tree.specs.Tree.{node_view};
-
-    /// The node in a template whose prints are escaped so.
-    pub(crate) fn under(self, escape: Escape) -> Node
-        ensures { node_view result ≡ node_under escape (node_view self) }
-    {
-        match self {
-            Node::Print(mark, expression) => Node::Print(mark.under(escape), expression),
-            node => node,
-        }
-    }
-}

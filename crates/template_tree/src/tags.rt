@@ -1,12 +1,11 @@
 // Finding a tag's end, and what kind of tag it is.
 ghost use Rattle.std.specs.Prelude.{◌≡◌, ◌<◌, true, codes, length, slice_index};
 ghost use Rattle.template_words.specs.Marks.{begins};
-ghost use Rattle.template_tree.specs.Tags.{tag_of, comment_of, shown_of, is_marked, is_else, is_unsupported};
+ghost use Rattle.template_tree.specs.Tags.{tag_of, comment_of, shown_of};
 ghost use Rattle.template_tree.specs.Inner.Views.{tag_rest_view};
 
 use template_tags::tag::Opening;
 use template_words::marks::{after_mark, around_close, around_mark};
-use template_words::words::{has_break, is_helper, is_literal_word};
 
 /// The text between the marks of a tag.
 #[derive(Clone, Copy)]
@@ -50,37 +49,4 @@ pub fn tag_at<'a>(text: &'a str) -> Option<(TagText<'a>, &'a str)>
     } else {
         unreachable!()
     }
-}
-
-fn is_marked(opening: Opening, text: &[u8]) -> bool
-    ensures { result ≡ is_marked opening text.now }
-{
-    match text {
-        [] => false,
-        [byte, ..] => match opening {
-            Opening::Double => b">&^*~{@#/".contains(byte),
-            Opening::Triple => b">&^*~{@".contains(byte),
-        },
-    }
-}
-
-fn is_else(opening: Opening, text: &str) -> bool
-    ensures { result ≡ is_else opening text.now }
-{
-    match opening {
-        Opening::Double => text == "else",
-        Opening::Triple => false,
-    }
-}
-
-/// Whether the content of a tag is something other than one word that may be a path.
-pub fn is_unsupported(opening: Opening, text: &str) -> bool
-    ensures { result ≡ is_unsupported opening text.now }
-{
-    text.is_empty()
-        || is_marked(opening, text.as_bytes())
-        || has_break(text.as_bytes())
-        || is_literal_word(text)
-        || is_helper(text)
-        || is_else(opening, text)
 }

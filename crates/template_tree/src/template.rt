@@ -1,5 +1,6 @@
 // A template as a tree.
-ghost use Rattle.template_tree.specs.Inner.Plain.{ArePlain, ArePlain-prop};
+ghost use Rattle.template_tree.specs.Inner.OneProof.{SoundNodes-prop};
+ghost use Rattle.template_tree.specs.Sound.{SoundNodes};
 ghost use Rattle.template_tree.specs.Tree.{nodes_view};
 
 use crate::node::Node;
@@ -8,7 +9,7 @@ use crate::node::Node;
 #[derive(Debug, Drop)]
 pub struct Template {
     nodes: Vec<Node>,
-    ghost plain: { ArePlain (nodes_view nodes.items) } by { ArePlain-prop (nodes_view nodes.items) },
+    ghost sound: { SoundNodes 0 (nodes_view nodes.items) } by { SoundNodes-prop 0 (nodes_view nodes.items) },
 }
 
 impl Template {
@@ -17,7 +18,7 @@ impl Template {
 
     /// Takes the nodes over, without copying them.
     pub(crate) fn new(nodes: Vec<Node>) -> Template
-        requires { ArePlain (nodes_view nodes.items) }
+        requires { SoundNodes 0 (nodes_view nodes.items) }
         ensures { tree_of result ≡ nodes_view nodes.items }
     {
         Template { nodes }
@@ -26,7 +27,7 @@ impl Template {
     /// Its nodes in order, which are handed over.
     pub fn into_nodes(self) -> Vec<Node>
         ensures nodes { nodes_view result.items ≡ tree_of self }
-        ensures plain { ArePlain (tree_of self) }
+        ensures sound { SoundNodes 0 (tree_of self) }
     {
         self.nodes
     }

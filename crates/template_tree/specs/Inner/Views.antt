@@ -1,19 +1,19 @@
 -- What the values of the parser's private types are seen as.
 use Rattle.std.specs.Prelude.{◌≡◌, ℕ, ◌+◌, List, length, Option, Some, None}
 use denote.Ref.{Bor}
+use Rattle.template_words.specs.declared.error.ReadError.{ReadError}
+use Rattle.template_words.specs.declared.error.ReadError.TheVariants as reads
+use Rattle.template_tags.specs.Tags as said
 use Rattle.template_tree.specs.declared.error.ParseError.{ParseError}
 use Rattle.template_tree.specs.declared.error.ParseError.TheVariants.{Template, OutOfMemory}
 use Rattle.template_tree.specs.declared.error.TemplateErrorKind.{TemplateErrorKind}
 use Rattle.template_tree.specs.declared.error.TemplateErrorKind.TheVariants as kinds
-use Rattle.template_words.specs.declared.error.ReadError.{ReadError}
-use Rattle.template_words.specs.declared.error.ReadError.TheVariants as reads
 use Rattle.template_tree.specs.declared.tags.TagText.{TagText}
 use Rattle.template_tree.specs.declared.tags.TagText.TheVariants as tags
 use Rattle.template_tree.specs.declared.tokens.Token as parser
 use Rattle.template_tree.specs.declared.tokens.Token.TheVariants as tokens
 use Rattle.template_tree.specs.Tags.{Tag, comment, shown}
-use Rattle.template_tree.specs.Tokens.{Token, comment_token, node_token, Next, tag_error}
-use Rattle.template_tree.specs.Tree.{node_view}
+use Rattle.template_tree.specs.Tokens.{Token, text_token, comment_token, tag_token, Next, tag_error}
 
 abbrev pub tag_view : TagText → Tag
 tag_view tags.Comment = comment
@@ -24,8 +24,9 @@ tag_rest_view None = None
 tag_rest_view (Some x) = Some (tag_view x.0, x.1.now)
 
 abbrev pub token_view : parser.Token → Token
+token_view (tokens.Text text) = text_token text
 token_view tokens.Comment = comment_token
-token_view (tokens.Node n) = node_token (node_view n)
+token_view (tokens.Tag opening tag) = tag_token opening (said.tag_view tag)
 
 -- a text begins with a tag of that error, and is what is left, from that byte on, of a text of that length
 abbrev pub IsNextErrorAt : ℕ → Next → TemplateErrorKind → ℕ → Type 0
