@@ -1,8 +1,8 @@
 -- Conversions of values, and calls with converted arguments, keep the rules.
+use Rattle.std.specs.Bool.{IsTrue}
 use Rattle.std.proofs.Common.{◌≡◌, ℕ, suc, ◌≤◌, List, [], ◌∷◌, length, drop, refl, sym, ap}
 use Rattle.std.proofs.Common.{true, false, true≢false, arith}
 use Rattle.std.specs.Prelude.{max}
-use Rattle.std.proofs.lemmas.Option.{none-some}
 use Rattle.helper_set.specs.Helpers.{signature_of, result_kind}
 use Rattle.helper_set.specs.declared.helper.Helper.{Helper}
 use Rattle.helper_set.specs.declared.helper.Helper.TheVariants.{Upper, Lower, Trim, Size, Eq, Neq, Contains, Not}
@@ -22,7 +22,7 @@ use Rattle.code_rules.proofs.LightFacts.{IsLight}
 use Rattle.template_tree.specs.Meaning.{second_parameter}
 use Rattle.template_compile.specs.Kinds.{conversion}
 use Rattle.template_compile.specs.Compiled.{instructions}
-use Rattle.template_compile.proofs.Sound.{HasOne, HasTwo}
+use Rattle.template_tree.specs.Sound.{takes_one, takes_two}
 use Rattle.template_compile.proofs.Heights.{cap, cap-nine, cap-one, cap-two}
 use Rattle.template_compile.proofs.Stretch.{Slot, slot, kinds_of, Weigh, heaviest, Lays, lays-nothing}
 use Rattle.template_compile.proofs.Stretch.{lays-straight}
@@ -41,7 +41,7 @@ IsWanted (Of Kind.Truth) = Unit {0}
 IsWanted DataOrText = Unit {0}
 IsWanted p = ⊥
 
-pub wants-one : (h : Helper) → HasOne h → IsWanted (signature_of h).first
+pub wants-one : (h : Helper) → IsTrue (takes_one h) → IsWanted (signature_of h).first
 wants-one Upper one = tt
 wants-one Lower one = tt
 wants-one Trim one = tt
@@ -49,15 +49,15 @@ wants-one Size one = tt
 wants-one Not one = tt
 wants-one Base64 one = tt
 wants-one UrlEncode one = tt
-wants-one h one = absurd (none-some _ (sym one.one))
+wants-one h one = absurd (true≢false (sym one))
 
-pub wants-two : (h : Helper) → HasTwo h → IsWanted (signature_of h).first × IsWanted (second_parameter h)
+pub wants-two : (h : Helper) → IsTrue (takes_two h) → IsWanted (signature_of h).first × IsWanted (second_parameter h)
 wants-two Eq two = (tt, tt)
 wants-two Neq two = (tt, tt)
 wants-two Contains two = (tt, tt)
 wants-two DefaultIfEmpty two = (tt, tt)
-wants-two JsonPath two = absurd (true≢false two.by_arguments)
-wants-two h two = absurd (none-some _ two.two)
+wants-two JsonPath two = absurd (true≢false (sym two))
+wants-two h two = absurd (true≢false (sym two))
 
 -- the slots that a call pops are there, and have its parameters' kinds
 record CallFits (h : Helper) (kinds rest : List Kind) : Type 0 where
@@ -65,7 +65,7 @@ record CallFits (h : Helper) (kinds rest : List Kind) : Type 0 where
   fit : kinds_fit (pops (Call h)) kinds ≡ true
   below : drop (length (pops (Call h))) kinds ≡ rest
 
-one-fits : (h : Helper) (kind : Kind) (rest : List Kind) → HasOne h →
+one-fits : (h : Helper) (kind : Kind) (rest : List Kind) → IsTrue (takes_one h) →
     CallFits h (kind_for (signature_of h).first kind ∷ rest) rest
 one-fits Upper kind rest one = record { enough = refl; fit = refl; below = refl }
 one-fits Lower kind rest one = record { enough = refl; fit = refl; below = refl }
@@ -77,18 +77,18 @@ one-fits Size Kind.Truth rest one = record { enough = refl; fit = refl; below = 
 one-fits Not kind rest one = record { enough = refl; fit = refl; below = refl }
 one-fits Base64 kind rest one = record { enough = refl; fit = refl; below = refl }
 one-fits UrlEncode kind rest one = record { enough = refl; fit = refl; below = refl }
-one-fits h kind rest one = absurd (none-some _ (sym one.one))
+one-fits h kind rest one = absurd (true≢false (sym one))
 
-two-fits : (h : Helper) (kind other : Kind) (rest : List Kind) → HasTwo h →
+two-fits : (h : Helper) (kind other : Kind) (rest : List Kind) → IsTrue (takes_two h) →
     CallFits h (kind_for (second_parameter h) other ∷ kind_for (signature_of h).first kind ∷ rest) rest
 two-fits Eq kind other rest two = record { enough = refl; fit = refl; below = refl }
 two-fits Neq kind other rest two = record { enough = refl; fit = refl; below = refl }
 two-fits Contains kind other rest two = record { enough = refl; fit = refl; below = refl }
 two-fits DefaultIfEmpty kind other rest two = record { enough = refl; fit = refl; below = refl }
-two-fits JsonPath kind other rest two = absurd (true≢false two.by_arguments)
-two-fits h kind other rest two = absurd (none-some _ two.two)
+two-fits JsonPath kind other rest two = absurd (true≢false (sym two))
+two-fits h kind other rest two = absurd (true≢false (sym two))
 
-pops-one : (h : Helper) → HasOne h → length (pops (Call h)) ≡ 1
+pops-one : (h : Helper) → IsTrue (takes_one h) → length (pops (Call h)) ≡ 1
 pops-one Upper one = refl
 pops-one Lower one = refl
 pops-one Trim one = refl
@@ -96,15 +96,15 @@ pops-one Size one = refl
 pops-one Not one = refl
 pops-one Base64 one = refl
 pops-one UrlEncode one = refl
-pops-one h one = absurd (none-some _ (sym one.one))
+pops-one h one = absurd (true≢false (sym one))
 
-pops-two : (h : Helper) → HasTwo h → length (pops (Call h)) ≡ 2
+pops-two : (h : Helper) → IsTrue (takes_two h) → length (pops (Call h)) ≡ 2
 pops-two Eq two = refl
 pops-two Neq two = refl
 pops-two Contains two = refl
 pops-two DefaultIfEmpty two = refl
 pops-two JsonPath two = refl
-pops-two h two = absurd (none-some _ two.two)
+pops-two h two = absurd (true≢false (sym two))
 
 module _ (code : StackCode) (nest : List ℕ) (shallow : length nest ≤ MAX_LOOPS) where
   lays-show :
@@ -183,7 +183,7 @@ module _ (code : StackCode) (nest : List ℕ) (shallow : length nest ≤ MAX_LOO
 
   pub lays-call :
       (h : Helper) (depth : ℕ) (kind : Kind) (below : List Slot)
-      → HasOne h → suc depth ≤ 9 → suc (length below) ≤ MAX_SLOTS
+      → IsTrue (takes_one h) → suc depth ≤ 9 → suc (length below) ≤ MAX_SLOTS
       → Lays code (instructions (Call h ∷ [])) nest (slot (kind_for (signature_of h).first kind) (cap depth) ∷ below)
       (slot (result_kind h) (cap (suc depth)) ∷ below)
   lays-call h depth kind below one deep room =
@@ -213,7 +213,7 @@ module _ (code : StackCode) (nest : List ℕ) (shallow : length nest ≤ MAX_LOO
 
   pub lays-call_two :
       (h : Helper) (m n : ℕ) (kind other : Kind) (below : List Slot)
-      → HasTwo h → suc (max m n) ≤ 9 → suc (length below) ≤ MAX_SLOTS
+      → IsTrue (takes_two h) → suc (max m n) ≤ 9 → suc (length below) ≤ MAX_SLOTS
       → Lays code (instructions (Call h ∷ [])) nest
       (slot (kind_for (second_parameter h) other) (cap n) ∷ slot (kind_for (signature_of h).first kind) (cap m) ∷ below)
       (slot (result_kind h) (cap (suc (max m n))) ∷ below)

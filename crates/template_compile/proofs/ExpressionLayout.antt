@@ -21,7 +21,7 @@ use Rattle.template_tree.specs.Meaning.{second_parameter}
 use Rattle.template_compile.specs.Kinds.{conversion, expression_kind}
 use Rattle.template_compile.specs.Compiled.{◌▸◌, instructions, text_code, root_code, nothing_path}
 use Rattle.template_compile.specs.Compiled.{body_path, datum_code, expression_code, code_for}
-use Rattle.template_compile.proofs.Sound.{SoundDatum, depth_of, SoundExpression}
+use Rattle.template_tree.specs.Sound.{SoundDatum, depth_of, SoundExpression}
 use Rattle.template_compile.proofs.CallLayout.{kind_for, IsWanted, wants-one, wants-two, lays-conversion, lays-call}
 use Rattle.template_compile.proofs.CallLayout.{lays-call_two, lays-looked_up}
 use Rattle.template_compile.proofs.Heights.{cap, cap-some, cap-nine}

@@ -26,7 +26,7 @@ use Rattle.template_tree.specs.Meaning.{Turn, item_at, body_data, datum_at, conv
 use Rattle.template_compile.specs.Kinds.{conversion, expression_kind}
 use Rattle.template_compile.specs.Compiled.{◌▸◌, instructions, text_code, root_code, nothing_path, body_path}
 use Rattle.template_compile.specs.Compiled.{datum_code, expression_code, code_for}
-use Rattle.template_compile.proofs.Sound.{SoundDatum, SoundExpression}
+use Rattle.template_tree.specs.Sound.{SoundDatum, SoundExpression}
 use Rattle.template_compile.proofs.Calls.{call-one, call-two, kind-one, kind-two}
 use Rattle.template_compile.proofs.Fits.{LoopsFit, fits-item}
 use Rattle.template_compile.proofs.Goes.{Goes, goes-nothing, goes-then, goes-instr, goes-text, goes-root, goes-item}

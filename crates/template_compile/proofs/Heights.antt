@@ -1,8 +1,9 @@
 -- How heavy the values of expressions are, by how deep their calls are nested.
+use Rattle.std.specs.Bool.{IsTrue}
+use Rattle.std.proofs.Common.{true≢false}
 use Rattle.std.proofs.Common.{◌≡◌, ℕ, zero, suc, ◌+◌, ◌*◌, ◌-◌, ◌≤◌, List, ◌∷◌, length, take, sym}
 use Rattle.std.proofs.Common.{subst, arith}
 use Rattle.std.specs.Prelude.{max}
-use Rattle.std.proofs.lemmas.Option.{none-some}
 use Rattle.helper_set.specs.Helpers.{argument_kinds}
 use Rattle.helper_set.specs.declared.helper.Helper.{Helper}
 use Rattle.helper_set.specs.declared.helper.Helper.TheVariants.{Upper, Lower, Trim, Size, Eq, Neq, Contains, Not}
@@ -12,7 +13,7 @@ use Rattle.code_rules.specs.Bounds.{Bound}
 use Rattle.code_rules.specs.Costs.{helper_bound}
 use Rattle.code_rules.proofs.LightFacts.{light-call}
 use Rattle.code_rules.proofs.TotalFacts.{total, AllLight}
-use Rattle.template_compile.proofs.Sound.{HasOne, HasTwo}
+use Rattle.template_tree.specs.Sound.{takes_one, takes_two}
 
 -- the total of the bound of an expression's value, at most, by the depth of its calls: each makes a text at most three
 -- times as long, and a template has no text of more than 65,536 bytes
@@ -36,7 +37,7 @@ cap-nine depth le = omega (arith, cap-more depth 9 le)
 
 -- a call's arguments
 
-one-light : (h : Helper) (most : ℕ) (b : Bound) (bounds : List Bound) → HasOne h → total b ≤ most →
+one-light : (h : Helper) (most : ℕ) (b : Bound) (bounds : List Bound) → IsTrue (takes_one h) → total b ≤ most →
     AllLight most (take (length (argument_kinds h)) (b ∷ bounds))
 one-light Upper most b bounds one le = (le, tt)
 one-light Lower most b bounds one le = (le, tt)
@@ -45,23 +46,23 @@ one-light Size most b bounds one le = (le, tt)
 one-light Not most b bounds one le = (le, tt)
 one-light Base64 most b bounds one le = (le, tt)
 one-light UrlEncode most b bounds one le = (le, tt)
-one-light h most b bounds one le = absurd (none-some _ (sym one.one))
+one-light h most b bounds one le = absurd (true≢false (sym one))
 
-two-light : (h : Helper) (most : ℕ) (b c : Bound) (bounds : List Bound) → HasTwo h → total b ≤ most → total c ≤ most →
-    AllLight most (take (length (argument_kinds h)) (b ∷ c ∷ bounds))
+two-light : (h : Helper) (most : ℕ) (b c : Bound) (bounds : List Bound) → IsTrue (takes_two h) → total b ≤ most →
+    total c ≤ most → AllLight most (take (length (argument_kinds h)) (b ∷ c ∷ bounds))
 two-light Eq most b c bounds two le also = (le, (also, tt))
 two-light Neq most b c bounds two le also = (le, (also, tt))
 two-light Contains most b c bounds two le also = (le, (also, tt))
 two-light DefaultIfEmpty most b c bounds two le also = (le, (also, tt))
 two-light JsonPath most b c bounds two le also = (le, (also, tt))
-two-light h most b c bounds two le also = absurd (none-some _ two.two)
+two-light h most b c bounds two le also = absurd (true≢false (sym two))
 
-pub cap-one : (h : Helper) (depth : ℕ) (b : Bound) (bounds : List Bound) → HasOne h → total b ≤ cap depth →
+pub cap-one : (h : Helper) (depth : ℕ) (b : Bound) (bounds : List Bound) → IsTrue (takes_one h) → total b ≤ cap depth →
     total (helper_bound h (b ∷ bounds)) ≤ cap (suc depth)
 cap-one h depth b bounds one le =
     light-call h (cap depth) (b ∷ bounds) (omega (arith, cap-some depth)) (one-light h (cap depth) b bounds one le)
 
-pub cap-two : (h : Helper) (m n : ℕ) (b c : Bound) (bounds : List Bound) → HasTwo h → total b ≤ cap n →
+pub cap-two : (h : Helper) (m n : ℕ) (b c : Bound) (bounds : List Bound) → IsTrue (takes_two h) → total b ≤ cap n →
     total c ≤ cap m → total (helper_bound h (b ∷ c ∷ bounds)) ≤ cap (suc (max m n))
 cap-two h m n b c bounds two le also =
     let most = cap (max m n) in

@@ -1,7 +1,6 @@
 pub mod HasCode
 pub mod Drafts
 pub mod Lengths
-pub mod Sound
 pub mod Goes
 pub mod LoopRuns
 pub mod Fits

@@ -25,7 +25,7 @@ use Rattle.template_compile.specs.Compiled.{start_offsets, ◌▸◌, instructio
 use Rattle.template_compile.specs.Compiled.{each_over, again, datum_code, code_for, print_instrs, negation, test_code}
 use Rattle.template_compile.specs.Compiled.{node_code, nodes_code, stack_code}
 use Rattle.template_compile.specs.Length.{nodes_length, code_length}
-use Rattle.template_compile.proofs.Sound.{SoundExpression, depth_of, SoundNode, SoundNodes}
+use Rattle.template_tree.specs.Sound.{SoundExpression, depth_of, SoundNode, SoundNodes}
 use Rattle.template_compile.proofs.Blocks.{lays-if, lays-if_else, lays-each, lays-each_else}
 use Rattle.template_compile.proofs.ExpressionLayout.{lays-datum, lays-code_for}
 use Rattle.template_compile.proofs.HasCode.{after_part, has_part-front, has_part-back, has_code-itself}
@@ -156,32 +156,33 @@ module _ (code : StackCode) where
         let n = nodes_length body in
         let most = cap (depth_of test) in
         lays-join code (test_code unless test) (branch_over n ▸ nodes_code body) nest [] (slot Kind.Truth most ∷ []) []
-        (lays-test code nest shallow unless test sound.0 sound.1)
+        (lays-test code nest shallow unless test sound.0.0 sound.0.1)
         (lays-if code n most (nodes_code body) nest shallow (length-nodes body)
-        (lays-nodes body nest shallow sound.2))
+        (lays-nodes body nest shallow sound.1))
     lays-node (if_else unless test body otherwise) nest shallow sound =
         let m = nodes_length body in
         let n = nodes_length otherwise in
         let most = cap (depth_of test) in
         lays-join code (test_code unless test)
         (branch_over (m + 1) ▸ nodes_code body ▸ jump_over n ▸ nodes_code otherwise) nest []
-        (slot Kind.Truth most ∷ []) [] (lays-test code nest shallow unless test sound.0 sound.1)
+        (slot Kind.Truth most ∷ []) [] (lays-test code nest shallow unless test sound.0.0 sound.0.1)
         (lays-if_else code m n most (nodes_code body) (nodes_code otherwise) nest shallow (length-nodes body)
-        (length-nodes otherwise) (lays-nodes body nest shallow sound.2) (lays-nodes otherwise nest shallow sound.3))
+        (length-nodes otherwise) (lays-nodes body nest shallow sound.1) (lays-nodes otherwise nest shallow sound.2))
     lays-node (each over body) nest shallow sound =
         let n = nodes_length body in
         lays-join code (datum_code over) (each_over (n + 1) ▸ nodes_code body ▸ again n) nest []
         (slot Kind.Data (cap 0) ∷ []) [] (lays-datum code nest shallow over [] sound.0 (omega arith))
-        (lays-each code n (cap 0) (nodes_code body) nest sound.1 (length-nodes body)
-        (λ opener. lays-nodes body (opener ∷ nest) sound.1 sound.2))
+        (lays-each code n (cap 0) (nodes_code body) nest (omega (arith, sound.1)) (length-nodes body)
+        (λ opener. lays-nodes body (opener ∷ nest) (omega (arith, sound.1)) sound.2))
     lays-node (each_else over body otherwise) nest shallow sound =
         let m = nodes_length body in
         let n = nodes_length otherwise in
         lays-join code (datum_code over)
         (each_over (m + 2) ▸ nodes_code body ▸ again m ▸ jump_over n ▸ nodes_code otherwise) nest []
         (slot Kind.Data (cap 0) ∷ []) [] (lays-datum code nest shallow over [] sound.0 (omega arith))
-        (lays-each_else code m n (cap 0) (nodes_code body) (nodes_code otherwise) nest sound.1 (length-nodes body)
-        (length-nodes otherwise) (λ opener. lays-nodes body (opener ∷ nest) sound.1 sound.2)
+        (lays-each_else code m n (cap 0) (nodes_code body) (nodes_code otherwise) nest (omega (arith, sound.1))
+        (length-nodes body)
+        (length-nodes otherwise) (λ opener. lays-nodes body (opener ∷ nest) (omega (arith, sound.1)) sound.2)
         (lays-nodes otherwise nest shallow sound.3))
 
     lays-nodes :

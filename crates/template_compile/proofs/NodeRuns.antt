@@ -27,7 +27,7 @@ use Rattle.template_compile.specs.Compiled.{nodes_code}
 use Rattle.template_compile.specs.Compiled.{stack_code}
 use Rattle.template_compile.specs.Correct.{WritesTextOf}
 use Rattle.template_compile.specs.Length.{nodes_length}
-use Rattle.template_compile.proofs.Sound.{SoundExpression, SoundNode, SoundNodes}
+use Rattle.template_tree.specs.Sound.{SoundExpression, SoundNode, SoundNodes}
 use Rattle.template_compile.proofs.ExpressionRuns.{goes-datum, goes-code_for}
 use Rattle.template_compile.proofs.Fits.{TurnFits, LoopsFit, length-turns_of, turn-fits}
 use Rattle.template_compile.proofs.Goes.{Goes, goes-nothing, goes-join, goes-then, goes-instr, goes-emit, goes-if}
@@ -127,9 +127,9 @@ module _ (code : StackCode) (root : Tree) (empty : EmptyNameFindsNothing root) w
         let n = nodes_length body in
         goes-then code root loops (test_code unless test) (branch_over n ▸ nodes_code body) stack (a_truth b ∷ stack)
         stack (node_text (if_then unless test body) root turns)
-        (goes-test loops turns unless test stack fits sound.0)
+        (goes-test loops turns unless test stack fits sound.0.0)
         (goes-if code root loops b n (nodes_code body) stack (template_text body root turns) (length-nodes body)
-        (goes-nodes body loops turns stack fits sound.2))
+        (goes-nodes body loops turns stack fits sound.1))
     goes-node (if_else unless test body otherwise) loops turns stack fits sound =
         let b = is_taken unless (truth_of (value_of test root turns)) in
         let m = nodes_length body in
@@ -137,11 +137,11 @@ module _ (code : StackCode) (root : Tree) (empty : EmptyNameFindsNothing root) w
         goes-then code root loops (test_code unless test)
         (branch_over (m + 1) ▸ nodes_code body ▸ jump_over n ▸ nodes_code otherwise) stack (a_truth b ∷ stack) stack
         (node_text (if_else unless test body otherwise) root turns)
-        (goes-test loops turns unless test stack fits sound.0)
+        (goes-test loops turns unless test stack fits sound.0.0)
         (goes-if_else code root loops b m n (nodes_code body) (nodes_code otherwise) stack
         (template_text body root turns) (template_text otherwise root turns) (length-nodes body)
-        (length-nodes otherwise) (goes-nodes body loops turns stack fits sound.2)
-        (goes-nodes otherwise loops turns stack fits sound.3))
+        (length-nodes otherwise) (goes-nodes body loops turns stack fits sound.1)
+        (goes-nodes otherwise loops turns stack fits sound.2))
     goes-node (each over body) loops turns stack fits sound =
         let t = datum_at over root turns in
         let n = nodes_length body in

@@ -3,7 +3,6 @@ use Rattle.std.specs.Prelude.{Bool, true, false}
 use Rattle.template_tree.specs.Template.{tree_of}
 use Rattle.template_compile.proofs.NodeLayout.{stack_code-well_formed, stack_code-within_limits}
 use Rattle.template_compile.proofs.NodeRuns.{stack_code-runs}
-use Rattle.template_compile.proofs.Sound.{plain-sound}
 use Rattle.template_compile.proofs.compiler.compile.Goals as goal
 
 at_most : (b : Bool) (limit n : ℕ) → ((b ≡ true) ↔ (limit < n)) → b ≡ false → n ≤ limit
@@ -12,7 +11,7 @@ at_most b limit n h e = grind arith
 pub returns-clause-runs : goal.returns-clause-runs
 returns-clause-runs c =
     rw (c.in_ok-translate.ensures, c.into_nodes-nodes.ensures.nodes)
-    (stack_code-runs (tree_of c.args.template) (plain-sound (tree_of c.args.template) c.into_nodes-nodes.ensures.plain))
+    (stack_code-runs (tree_of c.args.template) c.into_nodes-nodes.ensures.sound)
 
 pub returns-clause-well_formed : goal.returns-clause-well_formed
 returns-clause-well_formed c =
@@ -21,7 +20,7 @@ returns-clause-well_formed c =
     c.if-is_too_long.false in
     rw (c.in_ok-translate.ensures, c.into_nodes-nodes.ensures.nodes)
     (stack_code-well_formed (tree_of c.args.template)
-    (plain-sound (tree_of c.args.template) c.into_nodes-nodes.ensures.plain) short)
+    c.into_nodes-nodes.ensures.sound short)
 
 pub returns-clause-within_limits : goal.returns-clause-within_limits
 returns-clause-within_limits c =
@@ -30,4 +29,4 @@ returns-clause-within_limits c =
     c.if-is_too_long.false in
     rw (c.in_ok-translate.ensures, c.into_nodes-nodes.ensures.nodes)
     (stack_code-within_limits (tree_of c.args.template)
-    (plain-sound (tree_of c.args.template) c.into_nodes-nodes.ensures.plain) short)
+    c.into_nodes-nodes.ensures.sound short)
