@@ -12,3 +12,4 @@ pub mod Formed
 pub mod Unique
 pub mod Outcomes
 pub mod Vectors
+pub mod Texts

@@ -10,4 +10,5 @@ pub mod Meaning
 pub mod Errors
 pub mod Laws
 pub mod Examples
+pub mod TextExamples
 pub mod Inner

@@ -4,6 +4,7 @@ ghost use Rattle.template_tree.specs.Grammar.{Spells, IsTemplateError};
 ghost use Rattle.template_tree.specs.Laws.{IsPiece};
 ghost use Rattle.template_tree.specs.Source.{Source};
 ghost use Rattle.template_tree.specs.Examples.{AreExamples, AreBlocks};
+ghost use Rattle.template_tree.specs.TextExamples.{AreTexts};
 ghost use Rattle.template_tags.specs.declared.level.Level.{Level};
 ghost use Rattle.template_tree.specs.Tokens.{token, text_token, next_of};
 ghost use Rattle.template_tree.specs.Tree.{Nodes};
@@ -31,8 +32,9 @@ pub fn law_piece_ends_at_next_mark()
         → IsPiece text p rest }
 {}
 
-/// Some forty texts, each with its tree or its error.
+/// Some forty texts, each with its tree or its error, and some twenty trees, each with the text that it means.
 pub fn law_examples()
     ensures one_tag { AreExamples }
     ensures blocks { AreBlocks }
+    ensures texts { AreTexts }
 {}
