@@ -6,3 +6,6 @@ pub mod Helpers
 pub mod Names
 pub mod Nests
 pub mod Cuts
+pub mod Shorts
+pub mod Sounds
+pub mod Flat
