@@ -8,4 +8,5 @@ pub mod Nests
 pub mod Cuts
 pub mod Shorts
 pub mod Sounds
+pub mod TagSounds
 pub mod Flat

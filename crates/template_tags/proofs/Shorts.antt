@@ -9,7 +9,8 @@ use Rattle.template_words.specs.declared.mode.Mode.TheVariants.{Start}
 use Rattle.template_tags.specs.Blocks.{LoopItems, parameter_in, last_two, loop_item, loop_items}
 use Rattle.template_tags.specs.Items.{Item, word, left_parenthesis, right_parenthesis, break_before, word_before}
 use Rattle.template_tags.specs.Items.{byte_before, cut, items_of}
-use Rattle.template_tags.specs.Terms.{Term, single, group, Terms, no_terms, first_term, Nest, grouped, item_before, nest_of}
+use Rattle.template_tags.specs.Terms.{Term, single, group, Terms, no_terms, first_term, Nest, grouped, item_before}
+use Rattle.template_tags.specs.Terms.{nest_of}
 
 abbrev pub ShortItem : ℕ → Item → Type 0
 ShortItem limit (word text) = length text ≤ limit
