@@ -6,3 +6,7 @@ pub mod Helpers
 pub mod Names
 pub mod Nests
 pub mod Cuts
+pub mod Shorts
+pub mod Sounds
+pub mod TagSounds
+pub mod Flat
