@@ -11,7 +11,7 @@ use Rattle.template_tags.specs.declared.tag.Opening.{Opening}
 use Rattle.template_tags.specs.Said.{tag_said}
 use Rattle.template_tags.specs.Sound.{IsSoundTag}
 use Rattle.template_tags.specs.Tags as said
-use Rattle.template_tags.proofs.Sounds.{tag_sound_within}
+use Rattle.template_tags.proofs.Raised.{tag_sound_within}
 use Rattle.template_tree.specs.declared.parser.TheConstants.{TEXT_LIMIT}
 use Rattle.template_tree.specs.Inner.Frames.{AllowsToken}
 use Rattle.template_tree.specs.Tags.{Tag, comment, shown, tag_of}
