@@ -10,3 +10,4 @@ pub mod Shorts
 pub mod Sounds
 pub mod TagSounds
 pub mod Flat
+pub mod Between

@@ -64,10 +64,10 @@ cut_short limit mode (b ∷ s) le =
     byte_short limit (length s) (is_outside mode && is_break b) b (cut (mode_after mode b) s) (omega (arith, le))
     (cut_short limit (mode_after mode b) s (omega (arith, le)))
 
-pub short_items_of : (content : List ℕ) → ShortItems (length content) (items_of content)
-short_items_of content =
-    let c = cut_short (length content) Start content (omega arith) in
-    word_short (length content) (cut Start content).0 (cut Start content).1 c.0 c.1
+pub short_items_of : (limit : ℕ) (content : List ℕ) → length content ≤ limit → ShortItems limit (items_of content)
+short_items_of limit content le =
+    let c = cut_short limit Start content le in
+    word_short limit (cut Start content).0 (cut Start content).1 (omega (arith, c.0, le)) c.1
 
 onto_short : (limit : ℕ) (item : Item) (loop : LoopItems) → ShortItem limit item → ShortItems limit loop.items
     → ShortItems limit (loop_item item loop).items

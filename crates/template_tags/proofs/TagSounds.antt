@@ -1,8 +1,6 @@
 -- What a tag says is sound.
-use Rattle.std.proofs.Common.{◌≡◌, ℕ, suc, ◌<◌, nat_le, ◌||◌}
-use Rattle.std.proofs.Common.{Bool, true, false, List, [], ◌∷◌, length, drop, Result, Ok}
-use Rattle.std.proofs.Common.{Err}
-use Rattle.std.proofs.Common.{IfOk, refl, subst, arith}
+use Rattle.std.proofs.Common.{◌≡◌, ℕ, suc, ◌<◌, ◌≤◌, nat_le, ◌||◌, Bool, true, false, List, [], ◌∷◌, length, drop}
+use Rattle.std.proofs.Common.{Result, Ok, Err, IfOk, refl, subst, arith}
 use Rattle.std.specs.Prelude.{codes}
 use Rattle.std.specs.Str.{bytes_eq}
 use Rattle.std.proofs.lemmas.Bool.{cond_both, leb-false, true≢false}
@@ -178,15 +176,15 @@ items_sound limit opening levels (left_parenthesis ∷ items) short =
 items_sound limit opening levels (right_parenthesis ∷ items) short =
     print_sound limit levels (nest_of (right_parenthesis ∷ items)) (short_nest limit (right_parenthesis ∷ items) short)
 
-said_sound : (opening : Opening) (content : List ℕ) (levels : List Level)
-    → IfOk (tag_said opening content levels) (IsSoundTag (length content) levels)
+said_sound : (limit : ℕ) (opening : Opening) (content : List ℕ) (levels : List Level) → length content ≤ limit
+    → IfOk (tag_said opening content levels) (IsSoundTag limit levels)
 unfolding tag_said
-said_sound opening content levels =
-    beside_ok (IsSoundTag (length content) levels) (space_error content) (items_said opening levels (items_of content))
-    (items_sound (length content) opening levels (items_of content) (short_items_of content))
+said_sound limit opening content levels le =
+    beside_ok (IsSoundTag limit levels) (space_error content) (items_said opening levels (items_of content))
+    (items_sound limit opening levels (items_of content) (short_items_of limit content le))
 
-pub tag_sound : (opening : Opening) (content : List ℕ) (levels : List Level) (tag : Tag)
-    → tag_said opening content levels ≡ Ok tag → IsSoundTag (length content) levels tag
-tag_sound opening content levels tag said =
-    let P : Result Tag TagError → Type 0 = λ r. IfOk r (IsSoundTag (length content) levels) in
-    subst P said (said_sound opening content levels)
+pub tag_sound : (limit : ℕ) (opening : Opening) (content : List ℕ) (levels : List Level) (tag : Tag)
+    → length content ≤ limit → tag_said opening content levels ≡ Ok tag → IsSoundTag limit levels tag
+tag_sound limit opening content levels tag le said =
+    let P : Result Tag TagError → Type 0 = λ r. IfOk r (IsSoundTag limit levels) in
+    subst P said (said_sound limit opening content levels le)

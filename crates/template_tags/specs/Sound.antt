@@ -1,4 +1,4 @@
--- What is always so of what a tag says, where no text in the tag is longer than a limit.
+-- What is always so of what a tag says whose content is no longer than a limit.
 use Rattle.std.specs.Prelude.{◌≡◌, ℕ, suc, max, ◌<◌, ◌≤◌, not, ◌&&◌, Bool, false, is_some, IsTrue, FitsSigned, List}
 use Rattle.std.specs.Prelude.{[], ◌∷◌, length}
 use Rattle.std.specs.Int.{w64}
