@@ -11,3 +11,4 @@ pub mod Sounds
 pub mod TagSounds
 pub mod Flat
 pub mod Raised
+pub mod Between
