@@ -1,3 +1,4 @@
 pub mod Errors
 pub mod Messages
 pub mod Address
+pub mod Content

@@ -1,5 +1,7 @@
 // The content of a message, gathered into one buffer.
-ghost use Rattle.std.specs.Prelude.{◌≡◌, []};
+ghost use Rattle.std.specs.Prelude.{◌≡◌, ◌≤◌, ◌++◌, [], length, IfOk, OnOk};
+ghost use Rattle.http_body.specs.Frame.{MapsData, bytes_in};
+ghost use Rattle.proxy_client.specs.Content.{Gathers};
 
 use crate::error::ProxyError;
 use bytes::{Buf, Bytes, BytesMut};
@@ -45,6 +47,8 @@ where
 
     ghost needs = { λ c. B.needs c.body };
 
+    ghost gives = { λ c result. IfOk result (Gathers D.converts (B.yields c.body) c.gathered.items) };
+
     // One frame a poll: a connection hands its frames over one by one, and others are served between them.
     fn poll(&mut self, cx: &mut Context<'_>) -> Poll<Result<Bytes, ProxyError>> {
         let frame = match ready!(self.body.poll_frame(cx)) {
@@ -52,7 +56,7 @@ where
             Some(Err(error)) => return Poll::Ready(Err(error.into())),
             None => return Poll::Ready(self.take()),
         };
-        match self.push(frame) {
+        match self.push(frame_of_bytes(frame)) {
             Ok(()) => cx.yield_now(),
             Err(error) => Poll::Ready(Err(error)),
         }
@@ -60,25 +64,37 @@ where
 }
 
 impl<B> Content<B> {
-    fn push<D: Into<Bytes> + Drop>(&mut self, frame: Frame<D>) -> Result<(), ProxyError>
-        ensures { self.new.body ≡ self.old.body }
+    // The data of one more frame; trailers aren't relayed.
+    fn push(&mut self, frame: Frame<Bytes>) -> Result<(), ProxyError>
+        ensures pushed { OnOk result (self.new.gathered.items ≡ self.old.gathered.items ++ bytes_in frame.kind) }
+        ensures same { self.new.body ≡ self.old.body }
     {
         let Ok(data) = frame.into_data() else {
-            // Trailers aren't relayed.
             return Ok(());
         };
-        let data: Bytes = data.into();
-        if data.len() > CONTENT_LIMIT - self.gathered.len().min(CONTENT_LIMIT) {
+        if data.len() > CONTENT_LIMIT.saturating_sub(self.gathered.len()) {
             return Err(ProxyError::UpstreamFailed);
         }
         Ok(self.gathered.extend_from_slice(data.as_slice())?)
     }
 
-    fn take(&mut self) -> Result<Bytes, ProxyError> {
+    fn take(&mut self) -> Result<Bytes, ProxyError>
+        ensures value { IfOk result (λ content. content ≡ self.old.gathered.items) }
+        ensures within { IfOk result (λ content. length content ≤ CONTENT_LIMIT) }
+    {
+        if self.gathered.len() > CONTENT_LIMIT {
+            return Err(ProxyError::UpstreamFailed);
+        }
         let gathered = mem::replace(&mut self.gathered, BytesMut::new(self.alloc));
         match gathered.freeze() {
             Ok(content) => Ok(content),
             Err(_refused) => Err(ProxyError::OutOfMemory),
         }
     }
+}
+
+fn frame_of_bytes<D: Into<Bytes> + Drop>(frame: Frame<D>) -> Frame<Bytes>
+    ensures { MapsData D.converts frame result }
+{
+    frame.map_data(|data| data.into())
 }

@@ -12,13 +12,25 @@ use std::time::{Clock, Duration, Instant};
 use tokio::time::Sleep;
 
 /// A future that fails once no byte has moved for a time. What moves bytes sets `moved`.
-#[derive(Drop)]
 pub struct Timed<R, F> {
     clock: R,
     limit: Duration,
     sleep: Sleep,
     moved: Rc<Cell<bool>>,
     inner: F,
+}
+
+// Written out, so that a caller's proof sees one call and not the drop of each part.
+impl<R: Drop, F: Drop> Drop for Timed<R, F> {
+    fn drop(self) {
+        let Timed {
+            clock: _clock,
+            limit: _limit,
+            sleep: _sleep,
+            moved: _moved,
+            inner: _inner,
+        } = self;
+    }
 }
 
 impl<R, F> Timed<R, F> {

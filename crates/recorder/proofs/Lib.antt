@@ -4,3 +4,4 @@ pub mod AuthorityLemmas
 pub mod TargetLemmas
 pub mod KeyLemmas
 pub mod ForwardingLemmas
+pub mod SendableLemmas

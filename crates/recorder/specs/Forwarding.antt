@@ -1,6 +1,7 @@
 -- What is sent to a target for a request, and what is relayed of the reply: the part of an intermediary (RFC 9110,
 -- section 7.6).
-use Rattle.std.specs.Prelude.{ℕ, Bool, not, List, [], ◌∷◌, ◌++◌, All, IsPermutation, map, codes, bytes_eq, if◌then◌else◌}
+use Rattle.std.specs.Prelude.{ℕ, ◌≤◌, Bool, not, List, [], ◌∷◌, ◌++◌, length, map, All, IsPermutation}
+use Rattle.std.specs.Prelude.{codes, bytes_eq, if◌then◌else◌}
 use Rattle.std.specs.Cmp.Lexicographic.{slice_cmp}
 use Rattle.std.specs.List.{filter, list_any}
 use Rattle.std.specs.List.Sorted.{IsSortedByKey, IsStableByKey}
@@ -72,6 +73,15 @@ field_of header = (header.name, plain_value header.value)
 
 abbrev pub map_of : List Header → Entries FieldValue
 map_of headers = append_all [] (map field_of headers)
+
+-- A map has as many names at most.
+abbrev pub most_names : ℕ
+most_names = 24576
+
+-- each value is one that a header may have, and a map has room for them
+pub record AreSendable (headers : List Header) : Type 0 where
+  pub values : All (λ header. IsFieldValue header.value) headers
+  pub few : length headers ≤ most_names
 
 -- ---- the reply
 

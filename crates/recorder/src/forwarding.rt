@@ -1,15 +1,16 @@
 // What is sent to a target for a request, and what is relayed of the reply to it.
-ghost use Rattle.std.specs.Prelude.{◌≡◌, ◌++◌, ◌∷◌, [], All, IsPermutation, IfOk, OnOk, List, bytes_eq, if◌then◌else◌, string_bytes};
+ghost use Rattle.std.specs.Prelude.{◌≡◌, ◌≢◌, ◌⊎◌, List, ◌++◌, ◌∷◌, [], All, IsPermutation, IfOk, OnOk, IsErrOf};
+ghost use Rattle.std.specs.Prelude.{false, codes, bytes_eq, if◌then◌else◌, string_bytes};
 ghost use Rattle.std.specs.Cmp.Lexicographic.{slice_cmp};
 ghost use Rattle.std.specs.List.{list_any};
 ghost use Rattle.std.specs.List.Sorted.{IsSortedByKey, IsStableByKey};
 ghost use Rattle.std.specs.Ordering.{nat_cmp};
 ghost use Rattle.http_header.specs.FieldName.{IsHeaderName};
-ghost use Rattle.http_header.specs.FieldValue.{plain_value};
-ghost use Rattle.http_header.specs.HeaderMap.{append, pairs};
+ghost use Rattle.http_header.specs.FieldValue.{IsFieldValue, plain_value};
+ghost use Rattle.http_header.specs.HeaderMap.{RefusesAppend, append, pairs};
 ghost use Rattle.mapping_model.specs.declared.reply.ReplyHeader.{ReplyHeader as Line};
 ghost use Rattle.mock_request.specs.Request.{Header, header_of, headers_of};
-ghost use Rattle.recorder.specs.Forwarding.{IsRelayed, expects_content, forwarded_headers, forwarded_path};
+ghost use Rattle.recorder.specs.Forwarding.{AreSendable, IsRelayed, expects_content, forwarded_headers, forwarded_path};
 ghost use Rattle.recorder.specs.Forwarding.{forwarded_url, is_left_out_of_reply, is_left_out_of_request};
 ghost use Rattle.recorder.specs.Forwarding.{connection_names, length_headers, map_of, passed_back, IsField};
 
@@ -35,6 +36,12 @@ pub enum ForwardError {
 }
 
 impl From<HeaderNameError> for ForwardError {
+    ghost use Rattle.std.specs.Prelude.{◌≡◌, ◌↔◌};
+    ghost use Rattle.recorder.specs.declared.forwarding.ForwardError.TheVariants.{Unsendable};
+    ghost use Rattle.http_header.specs.declared.name.HeaderNameError.TheVariants.{Invalid};
+
+    ghost from_gives = { λ error given. (given ≡ Unsendable) ↔ (error ≡ Invalid) };
+
     fn from(error: HeaderNameError) -> ForwardError {
         match error {
             HeaderNameError::Invalid => ForwardError::Unsendable,
@@ -44,6 +51,12 @@ impl From<HeaderNameError> for ForwardError {
 }
 
 impl From<HeaderValueError> for ForwardError {
+    ghost use Rattle.std.specs.Prelude.{◌≡◌, ◌↔◌};
+    ghost use Rattle.recorder.specs.declared.forwarding.ForwardError.TheVariants.{Unsendable};
+    ghost use Rattle.http_header.specs.declared.value.HeaderValueError.TheVariants.{Invalid};
+
+    ghost from_gives = { λ error given. (given ≡ Unsendable) ↔ (error ≡ Invalid) };
+
     fn from(error: HeaderValueError) -> ForwardError {
         match error {
             HeaderValueError::Invalid => ForwardError::Unsendable,
@@ -53,6 +66,12 @@ impl From<HeaderValueError> for ForwardError {
 }
 
 impl From<HeaderMapError> for ForwardError {
+    ghost use Rattle.std.specs.Prelude.{◌≡◌, ◌↔◌};
+    ghost use Rattle.recorder.specs.declared.forwarding.ForwardError.TheVariants.{Unsendable};
+    ghost use Rattle.http_header.specs.declared.map.HeaderMapError.TheVariants.{MaxSizeReached};
+
+    ghost from_gives = { λ error given. (given ≡ Unsendable) ↔ (error ≡ MaxSizeReached) };
+
     fn from(error: HeaderMapError) -> ForwardError {
         match error {
             HeaderMapError::MaxSizeReached => ForwardError::Unsendable,
@@ -89,7 +108,9 @@ pub fn forwarded_headers(
     target: &Target,
     request: &Snapshot,
 ) -> Result<HeaderMap, ForwardError>
-    ensures { IfOk result (λ headers. headers ≡ map_of (forwarded_headers target.now request.now)) }
+    ensures value { IfOk result (λ headers. headers ≡ map_of (forwarded_headers target.now request.now)) }
+    ensures unsendable { IsErrOf result ForwardError.Unsendable
+        → ¬ (AreSendable (forwarded_headers target.now request.now)) }
 {
     let mut headers = HeaderMap::new(alloc);
     push(alloc, &mut headers, "host", target.authority().as_bytes())?;
@@ -109,8 +130,10 @@ fn push_length(
     method: &str,
     body: &[u8],
 ) -> Result<(), ForwardError>
-    ensures { OnOk result ((front : List Header) → headers.old ≡ map_of front
+    ensures value { OnOk result ((front : List Header) → headers.old ≡ map_of front
         → headers.new ≡ map_of (front ++ length_headers method.now body.now)) }
+    ensures unsendable { IsErrOf result ForwardError.Unsendable
+        → (length_headers method.now body.now ≢ []) × RefusesAppend headers.old (codes "content-length") }
 {
     if body.is_empty() && expects_content(method) {
         push(alloc, headers, "content-length", b"0")?;
@@ -132,8 +155,10 @@ fn push_passed_on(
     value: &[u8],
 ) -> Result<(), ForwardError>
     requires { IsHeaderName name.now }
-    ensures { OnOk result (headers.new ≡ (if is_left_out_of_request name.now then headers.old
+    ensures value { OnOk result (headers.new ≡ (if is_left_out_of_request name.now then headers.old
         else append headers.old name.now (plain_value value.now))) }
+    ensures unsendable { IsErrOf result ForwardError.Unsendable → (is_left_out_of_request name.now ≡ false)
+        × (¬ (IsFieldValue value.now) ⊎ RefusesAppend headers.old name.now) }
 {
     if is_left_out_of_request(name) {
         return Ok(());
@@ -153,7 +178,9 @@ fn push<K: IntoHeaderName>(
     value: &[u8],
 ) -> Result<(), ForwardError>
     requires { K.is_valid name }
-    ensures { OnOk result (headers.new ≡ append headers.old (K.name name) (plain_value value.now)) }
+    ensures value { OnOk result (headers.new ≡ append headers.old (K.name name) (plain_value value.now)) }
+    ensures unsendable { IsErrOf result ForwardError.Unsendable
+        → ¬ (IsFieldValue value.now) ⊎ RefusesAppend headers.old (K.name name) }
 {
     headers.append(name, HeaderValue::from_bytes(alloc, value)?)?;
     Ok(())
@@ -235,8 +262,10 @@ fn reply_header(
 // Puts the headers into the order of their names. Those of one name stay in their order.
 fn sort(headers: &mut Vec<ReplyHeader>) -> Result<(), AllocError>
     ensures same { IsPermutation headers.old.items headers.new.items }
-    ensures in_order { OnOk result (IsSortedByKey (λ (header : Line). header.name) (slice_cmp nat_cmp) headers.new.items) }
-    ensures stable { IsStableByKey (λ (header : Line). header.name) (slice_cmp nat_cmp) headers.old.items headers.new.items }
+    ensures in_order { OnOk result
+        (IsSortedByKey (λ (header : Line). header.name) (slice_cmp nat_cmp) headers.new.items) }
+    ensures stable { IsStableByKey (λ (header : Line). header.name) (slice_cmp nat_cmp)
+        headers.old.items headers.new.items }
 {
     headers.sort_by(|one, other| one.name.as_str().cmp(other.name.as_str()))?;
     Ok(())

@@ -22,7 +22,7 @@ use Rattle.code_rules.proofs.LightFacts.{IsLight}
 use Rattle.template_tree.specs.Meaning.{second_parameter}
 use Rattle.template_compile.specs.Kinds.{conversion}
 use Rattle.template_compile.specs.Compiled.{instructions}
-use Rattle.template_tree.specs.Sound.{takes_one, takes_two}
+use Rattle.template_tags.specs.Sound.{takes_one, takes_two}
 use Rattle.template_compile.proofs.Heights.{cap, cap-nine, cap-one, cap-two}
 use Rattle.template_compile.proofs.Stretch.{Slot, slot, kinds_of, Weigh, heaviest, Lays, lays-nothing}
 use Rattle.template_compile.proofs.Stretch.{lays-straight}

@@ -12,7 +12,7 @@ use Rattle.template_code.specs.Code.{StackCode}
 use Rattle.template_code.specs.Machine.{Loop, with_stack, effect}
 use Rattle.template_code.specs.declared.instr.Instr.TheVariants.{Call}
 use Rattle.template_tree.specs.Meaning.{converted, second_parameter, made_by}
-use Rattle.template_tree.specs.Sound.{takes_one, takes_two}
+use Rattle.template_tags.specs.Sound.{takes_one, takes_two}
 
 module _ (code : StackCode) (root : Tree) (loops : List Loop) (stack : List Value) where
   pub call-one :

@@ -21,7 +21,8 @@ use Rattle.template_tree.specs.Meaning.{second_parameter}
 use Rattle.template_compile.specs.Kinds.{conversion, expression_kind}
 use Rattle.template_compile.specs.Compiled.{◌▸◌, instructions, text_code, root_code, nothing_path}
 use Rattle.template_compile.specs.Compiled.{body_path, datum_code, expression_code, code_for}
-use Rattle.template_tree.specs.Sound.{SoundDatum, depth_of, SoundExpression}
+use Rattle.template_tags.specs.Sound.{depth_of}
+use Rattle.template_tree.specs.Sound.{SoundDatum, SoundExpression}
 use Rattle.template_compile.proofs.CallLayout.{kind_for, IsWanted, wants-one, wants-two, lays-conversion, lays-call}
 use Rattle.template_compile.proofs.CallLayout.{lays-call_two, lays-looked_up}
 use Rattle.template_compile.proofs.Heights.{cap, cap-some, cap-nine}
@@ -47,7 +48,7 @@ module _ (code : StackCode) (nest : List ℕ) (shallow : length nest ≤ MAX_LOO
       lays-join code (root_code body_path) (text_code bytes ▸ calls) nest below (body ∷ below) (body ∷ below)
       (lays-root code nest shallow body_path (cap 0) below (omega arith) (omega arith) (omega (arith, room)))
       (lays-join code (text_code bytes) calls nest (body ∷ below) (spelled ∷ body ∷ below) (body ∷ below)
-      (lays-text code nest shallow bytes (cap 0) (body ∷ below) sound (omega arith) (omega (arith, room)))
+      (lays-text code nest shallow bytes (cap 0) (body ∷ below) sound.0 (omega arith) (omega (arith, room)))
       (lays-looked_up code nest shallow (cap 0) below (omega arith) (omega arith) (omega (arith, room))))
 
   lays-simple :

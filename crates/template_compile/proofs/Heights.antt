@@ -13,7 +13,7 @@ use Rattle.code_rules.specs.Bounds.{Bound}
 use Rattle.code_rules.specs.Costs.{helper_bound}
 use Rattle.code_rules.proofs.LightFacts.{light-call}
 use Rattle.code_rules.proofs.TotalFacts.{total, AllLight}
-use Rattle.template_tree.specs.Sound.{takes_one, takes_two}
+use Rattle.template_tags.specs.Sound.{takes_one, takes_two}
 
 -- the total of the bound of an expression's value, at most, by the depth of its calls: each makes a text at most three
 -- times as long, and a template has no text of more than 65,536 bytes

@@ -25,7 +25,8 @@ use Rattle.template_compile.specs.Compiled.{start_offsets, ◌▸◌, instructio
 use Rattle.template_compile.specs.Compiled.{each_over, again, datum_code, code_for, print_instrs, negation, test_code}
 use Rattle.template_compile.specs.Compiled.{node_code, nodes_code, stack_code}
 use Rattle.template_compile.specs.Length.{nodes_length, code_length}
-use Rattle.template_tree.specs.Sound.{SoundExpression, depth_of, SoundNode, SoundNodes}
+use Rattle.template_tags.specs.Sound.{depth_of}
+use Rattle.template_tree.specs.Sound.{SoundExpression, SoundNode, SoundNodes}
 use Rattle.template_compile.proofs.Blocks.{lays-if, lays-if_else, lays-each, lays-each_else}
 use Rattle.template_compile.proofs.ExpressionLayout.{lays-datum, lays-code_for}
 use Rattle.template_compile.proofs.HasCode.{after_part, has_part-front, has_part-back, has_code-itself}

@@ -44,7 +44,7 @@ after_ascii s n utf8 inside below =
 
 -- ---- words up to breaks
 
-mode_is : (mode : Mode) (b : ℕ) → (is_outside mode && is_break b) ≡ true → mode_after mode b ≡ mode_of_byte b
+pub mode_is : (mode : Mode) (b : ℕ) → (is_outside mode && is_break b) ≡ true → mode_after mode b ≡ mode_of_byte b
 mode_is Start b h = rw (no_quote b h) refl
 mode_is Word b h = refl
 mode_is Bracket b h = absurd (false≢true h)

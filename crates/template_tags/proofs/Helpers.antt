@@ -7,7 +7,8 @@ use Rattle.std.proofs.lemmas.Bool.{cases_Bool}
 use Rattle.std.proofs.lemmas.Slice.Eq.{bytes_eq-Decides}
 use Rattle.helper_set.specs.Helpers.{name_of}
 use Rattle.helper_set.specs.declared.helper.Helper.{Helper}
-use Rattle.helper_set.specs.declared.helper.Helper.TheVariants.{Upper, Lower, Trim, Size, Eq, Neq, Contains, Not, Base64}
+use Rattle.helper_set.specs.declared.helper.Helper.TheVariants.{Upper, Lower, Trim, Size, Eq, Neq, Contains, Not}
+use Rattle.helper_set.specs.declared.helper.Helper.TheVariants.{Base64}
 use Rattle.helper_set.specs.declared.helper.Helper.TheVariants.{UrlEncode, DefaultIfEmpty, JsonPath}
 use Rattle.json_bridge.proofs.Found.{path_found_is_spelled}
 use Rattle.json_bridge.specs.Path.{IsPath}

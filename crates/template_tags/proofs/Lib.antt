@@ -6,3 +6,9 @@ pub mod Helpers
 pub mod Names
 pub mod Nests
 pub mod Cuts
+pub mod Shorts
+pub mod Sounds
+pub mod TagSounds
+pub mod Flat
+pub mod Raised
+pub mod Between

@@ -30,7 +30,8 @@ argument_is : (levels : List Level) (t : Term) → piece_argument levels (piece_
 argument_is levels (single text) = refl
 argument_is levels (group ts) = refl
 
-pub arguments_are : (levels : List Level) (ts : Terms) → piece_arguments levels (pieces_of levels ts) ≡ arguments levels ts
+pub arguments_are : (levels : List Level) (ts : Terms)
+    → piece_arguments levels (pieces_of levels ts) ≡ arguments levels ts
 arguments_are levels no_terms = refl
 arguments_are levels (first_term t ts) =
     let first = argument_is levels t in

@@ -21,7 +21,7 @@ use Rattle.template_tags.specs.declared.level.Level.{Level}
 
 -- ---- parameters
 
--- the last items of an `each`, where they aren't its name for items, and that name
+-- what an `each` loops over, and its name for items
 pub record LoopItems : Type 0 where
   pub items : List Item
   pub parameter : Option (List ℕ)
@@ -37,7 +37,7 @@ last_two a b (Some name) = record { items = []; parameter = Some name }
 abbrev pub loop_item : Item → LoopItems → LoopItems
 loop_item item later = record { items = item ∷ later.items; parameter = later.parameter }
 
--- `as |name|` at the end
+-- `as |name|` at the end is the name for items
 abbrev pub loop_items : List Item → LoopItems
 loop_items [] = record { items = []; parameter = None }
 loop_items (a ∷ []) = record { items = a ∷ []; parameter = None }
@@ -84,6 +84,7 @@ unused_errors levels (terms ∷ later) = joined (errors_in (arguments levels ter
 abbrev pub nest_error : List Level → Nest → Option TagError
 nest_error levels nest = joined (error_if BadPath (not (is_balanced nest))) (unused_errors levels nest.later)
 
+-- the argument, where there is one
 abbrev pub only_one : List (Result Expression TagError) → Result Expression TagError
 only_one [] = Err WrongArguments
 only_one (a ∷ []) = a
@@ -118,7 +119,7 @@ data_only (Ok (datum d)) = Ok d
 data_only (Ok x) = Err WrongArguments
 data_only (Err e) = Err (earlier WrongArguments e)
 
--- a name that paths begin with
+-- `request` and `this`, with which paths begin that mean something else
 abbrev pub is_taken : Option (List ℕ) → Bool
 is_taken None = false
 is_taken (Some name) = bytes_eq name (codes "request") || bytes_eq name (codes "this")
@@ -134,7 +135,8 @@ loop_said levels loop =
 -- an `each` has one parameter at most
 abbrev pub each_said : List Level → List Item → Result Tag TagError
 each_said levels items =
-    beside (loop_error levels) (beside (error_if UnsupportedTag (has_names items)) (loop_said levels (loop_items items)))
+    beside (loop_error levels)
+    (beside (error_if UnsupportedTag (has_names items)) (loop_said levels (loop_items items)))
 
 -- a tag with `#` and that name
 abbrev pub opening_said : List Level → List ℕ → List Item → Result Tag TagError
@@ -163,6 +165,7 @@ abbrev pub close_alone : List Item → Result Tag TagError
 close_alone [] = Ok close
 close_alone (item ∷ items) = Err UnsupportedTag
 
+-- the errors of a tag's words, as arguments
 abbrev pub all_errors : List Level → Nest → Option TagError
 all_errors levels nest = unused_errors levels (nest.terms ∷ nest.later)
 

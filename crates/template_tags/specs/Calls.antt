@@ -26,6 +26,7 @@ beside None read = read
 beside (Some e) (Ok x) = Err e
 beside (Some e) (Err d) = Err (earlier e d)
 
+-- the error, if it was found
 abbrev pub error_if : TagError → Bool → Option TagError
 error_if e true = Some e
 error_if e false = None
@@ -38,6 +39,7 @@ abbrev pub errors_in : {A : Type 0} → List (Result A TagError) → Option TagE
 errors_in [] = None
 errors_in (read ∷ reads) = joined (error_in read) (errors_in reads)
 
+-- a helper's call on one value, and on two
 abbrev pub one_value : Helper → List (Result Expression TagError) → Result Expression TagError
 one_value h [] = Err WrongArguments
 one_value h (a ∷ []) = a >>= λ x. Ok (call h x)
@@ -68,6 +70,7 @@ abbrev pub is_body : Result Expression TagError → Bool
 is_body (Ok (datum (Root steps))) = is_body_path steps
 is_body read = false
 
+-- the text of a text literal
 abbrev pub literal_in : Result Expression TagError → Option (List ℕ)
 literal_in (Ok (text_literal text)) = Some text
 literal_in read = None
@@ -86,11 +89,12 @@ json_path_call (a ∷ []) = Err WrongArguments
 json_path_call (a ∷ b ∷ []) = body_call (is_body a) (literal_in b)
 json_path_call (a ∷ b ∷ c ∷ more) = body_call false (literal_in b)
 
+-- a helper's call on these arguments
 abbrev pub called : Helper → List (Result Expression TagError) → Result Expression TagError
 called JsonPath arguments = json_path_call arguments
 called h arguments = helper_call (signature_of h).second h arguments
 
--- a call, of which each argument is looked at
+-- a call, of which each argument is looked at for errors
 abbrev pub call_of : Result Helper TagError → List (Result Expression TagError) → Result Expression TagError
 call_of head arguments = beside (errors_in arguments) (head >>= λ h. called h arguments)
 

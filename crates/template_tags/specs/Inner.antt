@@ -2,3 +2,4 @@
 pub mod Scan
 pub mod Views
 pub mod Pieces
+pub mod OneProof

@@ -1,5 +1,6 @@
 -- The blocks that are open where a tag is, the innermost first.
-use Rattle.std.specs.Prelude.{ℕ, suc, Bool, true, false, ◌&&◌, not, List, [], ◌∷◌, Option, Some, None, option_map, codes}
+use Rattle.std.specs.Prelude.{ℕ, suc, Bool, true, false, ◌&&◌, not, List, [], ◌∷◌, Option, Some, None, option_map}
+use Rattle.std.specs.Prelude.{codes}
 use Rattle.std.specs.Str.{bytes_eq}
 use Rattle.template_tags.specs.declared.level.Block.{Block}
 use Rattle.template_tags.specs.declared.level.Block.TheVariants.{If, Unless, Each}

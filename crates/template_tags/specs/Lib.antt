@@ -7,5 +7,6 @@ pub mod Words
 pub mod Calls
 pub mod Blocks
 pub mod Said
+pub mod Sound
 pub mod Examples
 pub mod Inner

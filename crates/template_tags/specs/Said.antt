@@ -49,6 +49,7 @@ word_said Double levels text items =
     else if bytes_eq text (codes "else") then else_said levels items
     else print_said levels (nest_of (word text ∷ items))
 
+-- a tag that has these items. Without any it is empty
 abbrev pub items_said : Opening → List Level → List Item → Result Tag TagError
 items_said opening levels [] = Err UnsupportedTag
 items_said opening levels (word text ∷ items) =

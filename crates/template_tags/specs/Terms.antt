@@ -39,6 +39,10 @@ abbrev pub nest_of : List Item → Nest
 nest_of [] = empty_nest
 nest_of (item ∷ items) = item_before item (nest_of items)
 
+-- terms whose parentheses each have their other one
+abbrev pub balanced : Terms → Nest
+balanced terms = record { terms = terms; later = []; unclosed = false }
+
 abbrev pub has_none : List Terms → Bool
 has_none [] = true
 has_none (terms ∷ later) = false

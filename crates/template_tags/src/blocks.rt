@@ -3,10 +3,12 @@ ghost use Rattle.std.specs.Prelude.{◌≡◌, ◌<◌, ◌^◌, is_some, length
 ghost use Rattle.template_tags.specs.Blocks.{parameter_in, loop_items, is_word, are_last_names, are_names, has_names};
 ghost use Rattle.template_tags.specs.Blocks.{has_parameters};
 ghost use Rattle.template_tags.specs.Blocks.{only_one, block_argument, block_error, loop_error, test_said, data_only};
-ghost use Rattle.template_tags.specs.Blocks.{if_read, each_read, is_taken, loop_said, each_said, opening_said, first_else, else_said};
+ghost use Rattle.template_tags.specs.Blocks.{if_read, each_read, is_taken, loop_said, each_said, opening_said};
+ghost use Rattle.template_tags.specs.Blocks.{first_else, else_said};
 ghost use Rattle.template_tags.specs.Blocks.{is_innermost, close_alone, all_errors, closing_said};
 ghost use Rattle.template_tags.specs.Calls.{error_if, errors_in};
-ghost use Rattle.template_tags.specs.Inner.Pieces.{piece_arguments, unused_pieces, block_pieces, pieces_error, all_pieces_error};
+ghost use Rattle.template_tags.specs.Inner.Pieces.{piece_arguments, unused_pieces, block_pieces, pieces_error};
+ghost use Rattle.template_tags.specs.Inner.Pieces.{all_pieces_error};
 ghost use Rattle.template_tags.specs.Inner.Scan.{item_view, item_is, with_items, loop_view};
 ghost use Rattle.template_tags.specs.Inner.Views.{read_view, pieces_view, later_view, nest_view, said_view};
 ghost use Rattle.template_tags.specs.Terms.{nest_of};

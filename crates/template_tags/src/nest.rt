@@ -1,7 +1,8 @@
 // What a tag's parentheses group, read in one pass over the items of the tag from the last to the first. Groups nest as
 // deep as a text has parentheses, so nothing here goes down them by recursion.
 ghost use Rattle.std.specs.Prelude.{◌≡◌, ◌<◌, ◌^◌, length, map, reverse, IfOk};
-ghost use Rattle.template_tags.specs.Inner.Pieces.{nest_pieces, is_balanced, piece_height, greatest, grouped_pieces, piece_before};
+ghost use Rattle.template_tags.specs.Inner.Pieces.{nest_pieces, is_balanced, piece_height, greatest, grouped_pieces};
+ghost use Rattle.template_tags.specs.Inner.Pieces.{piece_before};
 ghost use Rattle.template_tags.specs.Inner.Scan.{item_view};
 ghost use Rattle.template_tags.specs.Inner.Views.{piece_view, pieces_view, nest_view};
 ghost use Rattle.template_tags.specs.Terms.{nest_of};

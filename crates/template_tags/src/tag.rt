@@ -4,7 +4,8 @@ ghost use Rattle.template_tags.specs.Inner.Pieces.{lone_piece, value_pieces, pri
 ghost use Rattle.template_tags.specs.Inner.Scan.{item_view};
 ghost use Rattle.template_tags.specs.Inner.Views.{read_view, piece_view, pieces_view, nest_view, said_view};
 ghost use Rattle.template_tags.specs.Items.{word};
-ghost use Rattle.template_tags.specs.Said.{print_read, print_said, is_marked, word_said, items_said, space_error, tag_said};
+ghost use Rattle.template_tags.specs.Said.{print_read, print_said, is_marked, word_said, items_said, space_error};
+ghost use Rattle.template_tags.specs.Said.{tag_said};
 ghost use Rattle.template_tags.specs.Tags.{tag_view};
 ghost use Rattle.template_tags.specs.Terms.{nest_of};
 ghost use Rattle.template_words.specs.Reading.{Gives};

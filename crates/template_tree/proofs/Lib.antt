@@ -2,8 +2,6 @@ pub mod Lengths
 pub mod Views
 pub mod Rows
 pub mod Pieces
-pub mod SoundWords
-pub mod SoundTags
 pub mod SoundTokens
 pub mod SoundTrees
 pub mod Nests

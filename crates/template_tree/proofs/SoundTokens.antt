@@ -1,6 +1,6 @@
 -- What a token says is sound where the blocks are open that it is read in.
 use Rattle.std.proofs.Common.{◌≡◌, ℕ, zero, suc, ◌≤◌, ◌==◌, List, [], ◌∷◌, length, take, drop, codes}
-use Rattle.std.proofs.Common.{Option, Some, None, Result, Ok, Err, subst, arith}
+use Rattle.std.proofs.Common.{Option, Some, None, Result, Ok, Err, refl, subst, arith}
 use Rattle.std.specs.List.{ends_with}
 use Rattle.std.proofs.lemmas.Bool.{cond_both}
 use Rattle.std.proofs.lemmas.List.{length-take}
@@ -9,7 +9,9 @@ use Rattle.template_words.specs.Marks.{offset_of}
 use Rattle.template_tags.specs.declared.level.Level.{Level}
 use Rattle.template_tags.specs.declared.tag.Opening.{Opening}
 use Rattle.template_tags.specs.Said.{tag_said}
+use Rattle.template_tags.specs.Sound.{IsSoundTag}
 use Rattle.template_tags.specs.Tags as said
+use Rattle.template_tags.proofs.Raised.{tag_sound_within}
 use Rattle.template_tree.specs.declared.parser.TheConstants.{TEXT_LIMIT}
 use Rattle.template_tree.specs.Inner.Frames.{AllowsToken}
 use Rattle.template_tree.specs.Tags.{Tag, comment, shown, tag_of}
@@ -17,12 +19,11 @@ use Rattle.template_tree.specs.Tokens.{Token, text_token, comment_token, tag_tok
 use Rattle.template_tree.specs.Tokens.{said_next, closed_next, tag_next, error_after_backslash}
 use Rattle.template_tree.specs.Tokens.{last_text_next, next_at, next_of}
 use Rattle.template_tree.proofs.Lengths.{shown_length, TagWithin, tag_short}
-use Rattle.template_tree.proofs.SoundTags.{SoundTag, SoundSaid, tag_said-sound}
 
 abbrev pub SoundToken : List Level → Token → Type 0
 SoundToken levels (text_token bytes) = length bytes ≤ TEXT_LIMIT
 SoundToken levels comment_token = Unit {0}
-SoundToken levels (tag_token opening tag) = SoundTag levels tag
+SoundToken levels (tag_token opening tag) = IsSoundTag TEXT_LIMIT levels tag
 
 abbrev SoundNext : List Level → Next → Type 0
 SoundNext levels (token t more) = SoundToken levels t
@@ -30,8 +31,9 @@ SoundNext levels (tag_error f mark) = Unit {0}
 SoundNext levels ended = Unit {0}
 
 said-sound : (levels : List Level) (text : List ℕ) (opening : Opening) (r : Result said.Tag TagError) (rest : List ℕ)
-    → SoundSaid levels r → SoundNext levels (said_next text opening r rest)
-said-sound levels text opening (Ok tag) rest h = h
+    → ((tag : said.Tag) → r ≡ Ok tag → IsSoundTag TEXT_LIMIT levels tag)
+    → SoundNext levels (said_next text opening r rest)
+said-sound levels text opening (Ok tag) rest h = h tag refl
 said-sound levels text opening (Err e) rest h = tt
 
 tag-sound : (levels : List Level) (text : List ℕ) (o : Option (Tag × List ℕ)) → TagWithin TEXT_LIMIT o
@@ -43,7 +45,7 @@ tag-sound levels text (Some x) h = by x.0 h.0
     by comment le = tt
     by (shown opening content) le =
         said-sound levels text opening (tag_said opening content levels) x.1
-        (tag_said-sound opening content levels le)
+        (λ tag e. tag_sound_within TEXT_LIMIT opening content levels tag le e)
 
 within : (n m : ℕ) (o : Option (Tag × List ℕ)) → n ≤ m → TagWithin n o → TagWithin m o
 within n m None le h = tt
@@ -79,7 +81,8 @@ allowed_by levels (tag_token opening (said.print e)) s = tt
 allowed_by levels (tag_token opening (said.open_if unless test)) s = tt
 allowed_by levels (tag_token opening (said.open_each over parameter)) s = tt
 allowed_by levels (tag_token opening said.begin_else) s = s
-allowed_by levels (tag_token opening said.close) s = s
+allowed_by [] (tag_token opening said.close) s = absurd (omega (arith, s))
+allowed_by (level ∷ levels) (tag_token opening said.close) s = tt
 
 pub allowed_token : (levels : List Level) (text more : List ℕ) (t : Token) → length text ≤ TEXT_LIMIT
     → next_of levels text ≡ token t more → AllowsToken levels t

@@ -67,9 +67,9 @@ parts-sound escape (t ∷ ts) levels new_levels text rest le h =
     by (text_token bytes) s more = (s, more)
     by comment_token s more = more
     by (tag_token opening (said.print e)) s more = (moved (λ loops. SoundValue loops e) s, more)
-    by (tag_token opening (said.open_if unless test)) s more = (moved (λ loops. SoundValue loops test) s, more)
+    by (tag_token opening (said.open_if unless test)) s more = (moved (λ loops. SoundValue loops test) s.0, more)
     by (tag_token opening (said.open_each over parameter)) s more =
-        (moved (λ loops. SoundDatum loops over) s.0, moved (λ loops. suc loops ≤ LOOP_LIMIT) s.1, more)
+        (moved (λ loops. SoundDatum loops over) s.0, moved (λ loops. suc loops ≤ LOOP_LIMIT) s.2, more)
     by (tag_token opening said.begin_else) s more =
         subst (λ ls. SoundParts ls (parts_of escape ts [])) (begun levels) more
     by (tag_token opening said.close) s more =

@@ -1,10 +1,11 @@
 // The blocks that are open while a template is read.
 ghost use Rattle.std.specs.Prelude.{◌≡◌, [], IfOk};
 ghost use Rattle.template_tags.specs.Expression.{expression_view};
+ghost use Rattle.template_tags.specs.Sound.{HasNoElse};
 ghost use Rattle.template_tags.specs.Tags.{tag_view};
 ghost use Rattle.template_tree.specs.Grammar.{test_block, with_else};
 ghost use Rattle.template_tree.specs.Inner.Frames.{head_view, main_view, frame_view, nest_view, block_node, closed_nodes, with_node, with_block};
-ghost use Rattle.template_tree.specs.Inner.Frames.{in_else_part, without_block, with_tag, with_token, HasBlock, HasNoElse};
+ghost use Rattle.template_tree.specs.Inner.Frames.{in_else_part, without_block, with_tag, with_token, HasBlock};
 ghost use Rattle.template_tree.specs.Inner.Frames.{Allows, AllowsToken, Fit};
 ghost use Rattle.template_tree.specs.Inner.Views.{token_view};
 ghost use Rattle.template_tree.specs.Parts.{escape_under};

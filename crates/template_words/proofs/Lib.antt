@@ -6,3 +6,4 @@ pub mod Steps
 pub mod Lengths
 pub mod Closes
 pub mod Numbers
+pub mod Literals

@@ -8,6 +8,7 @@ use Rattle.template_tags.specs.declared.level.Level.{Level}
 use Rattle.template_tags.specs.declared.tag.Opening.{Opening}
 use Rattle.template_tags.specs.Expression.{Expression, expression_view}
 use Rattle.template_tags.specs.Levels.{is_each}
+use Rattle.template_tags.specs.Sound.{HasNoElse}
 use Rattle.template_tags.specs.Tags as said
 use Rattle.template_tree.specs.declared.escape.Escape.{Escape}
 use Rattle.template_tree.specs.declared.nest.Frame as declared_frame
@@ -127,10 +128,6 @@ with_token escape left (tag_token opening tag) nest = with_tag escape left openi
 abbrev pub HasBlock : List Level → Type 0
 HasBlock [] = ⊥
 HasBlock (level ∷ levels) = Unit {0}
-
-abbrev pub HasNoElse : List Level → Type 0
-HasNoElse [] = ⊥
-HasNoElse (level ∷ levels) = level.in_else ≡ false
 
 abbrev pub Allows : List Level → said.Tag → Type 0
 Allows levels said.begin_else = HasNoElse levels

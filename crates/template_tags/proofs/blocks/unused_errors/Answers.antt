@@ -17,6 +17,7 @@ loop-pieces-preserved c =
     let first = errors_in (piece_arguments levels (pieces_view pieces.items)) in
     let rest = unused_pieces levels (later_view after) in
     c.loop-pieces.invariant
-    ∙ ap (λ l. joined error (unused_pieces levels l)) (ap later_view split ∙ popped (λ v. pieces_view v.items) after pieces)
+    ∙ ap (λ l. joined error (unused_pieces levels l))
+    (ap later_view split ∙ popped (λ v. pieces_view v.items) after pieces)
     ∙ sym (joined_assoc error first rest)
     ∙ ap (λ e. joined e rest) (sym (c.joined-error.ensures ∙ ap (joined error) c.in_ok-unused_error.ensures))
