@@ -12,8 +12,8 @@ use std::io::ErrorKind;
 /// Why a request has no reply.
 #[derive(Clone, Copy, Debug, PartialEq, Eq)]
 pub enum ProxyError {
-    /// The target can't be reached, its reply isn't whole, isn't HTTP or is too long, it was silent for too long, or the
-    /// request can't be sent.
+    /// The target can't be reached, its reply isn't whole, isn't HTTP or is too long, it was silent for too long, or
+    /// the request can't be sent.
     UpstreamFailed,
     OutOfMemory,
 }
