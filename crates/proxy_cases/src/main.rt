@@ -1,5 +1,5 @@
-//! Forwards a request to peers that a script plays, and prints what comes of it. With arguments it forwards one request to a
-//! port of this machine and prints the reply, as `tests/proxy` wants it.
+//! Forwards a request to peers that a script plays, and prints what comes of it. With arguments it forwards one request
+//! to a target and prints the reply, as `tests/proxy` wants it.
 #![tactic(auto)]
 
 mod cases;

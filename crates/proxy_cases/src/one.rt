@@ -1,4 +1,4 @@
-// One request forwarded to a port of this machine.
+// One request forwarded to the target that the arguments name.
 use http_header::{HeaderName, HeaderValue};
 use mapping_model::reply::Reply;
 use mock_request::snapshot::Snapshot;
@@ -28,8 +28,8 @@ pub enum Printed {
     BadArguments,
 }
 
-/// Forwards one request: TARGET METHOD URL LENGTH SILENCE, where its content has that length, and the target may be silent
-/// for as many milliseconds (0: for as long as it may be).
+/// Forwards one request: TARGET METHOD URL LENGTH SILENCE, where its content has that length, and the target may be
+/// silent for as many milliseconds (0: for the usual time).
 pub fn forward_one<R>(rt: &R, arguments: &[String]) -> Result<Printed, AllocError>
 where
     R: Wait + Net + Clock + RandomSource + AllocGlobal + Copy + Drop,

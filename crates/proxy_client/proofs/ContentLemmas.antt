@@ -1,5 +1,6 @@
 -- Each frame of a body adds its data to the content.
-use Rattle.std.proofs.Common.{◌≡◌, ◌≤◌, ℕ, List, [], ◌∷◌, ◌++◌, None, Ok, Err, IfOk, Result, length, map, append_assoc, append-nil, sym, ap, ◌∙◌}
+use Rattle.std.proofs.Common.{◌≡◌, ◌≤◌, ℕ, List, [], ◌∷◌, ◌++◌, None, Ok, Err, IfOk, Result}
+use Rattle.std.proofs.Common.{length, map, append_assoc, append-nil, sym, ap, ◌∙◌}
 use Rattle.futures.specs.Runs.{Runs, After}
 use Rattle.http_body.specs.Frame.{MapsData, bytes_in, joined_data}
 use Rattle.http_body.specs.declared.frame.Frame.{Frame}
@@ -36,7 +37,8 @@ module _ {D E : Type 0} (converts : D → List ℕ → Type 0) (old : Runs (Resu
 
     pub gathers_after : {F : Type 0} (frame : Frame D) (made : Frame (List ℕ)) → After old (Ok frame) new
         → MapsData converts frame made → (held next : List ℕ) → next ≡ held ++ bytes_in made.kind
-        → (result : Result (List ℕ) F) → IfOk result (Gathers converts new next) → IfOk result (Gathers converts old held)
+        → (result : Result (List ℕ) F) → IfOk result (Gathers converts new next)
+        → IfOk result (Gathers converts old held)
     gathers_after frame made after as_bytes held next pushed (Ok content) more =
         after_frame frame made after as_bytes held next pushed content more
     gathers_after frame made after as_bytes held next pushed (Err error) more = tt

@@ -35,7 +35,8 @@ pub struct Received<I: Drop> {
 impl<I: Drop> Future for Answer<I> {
     type Output = Result<Reply, ProxyError>;
 
-    ghost gives = { λ _ result. IfOk result (λ reply. (head : Head) × (content : List ℕ) × IsReply head content reply) };
+    ghost gives = { λ _ result. IfOk result
+        (λ reply. (head : Head) × (content : List ℕ) × IsReply head content reply) };
 
     fn poll(&mut self, cx: &mut Context<'_>) -> Poll<Result<Reply, ProxyError>> {
         match self {

@@ -29,7 +29,8 @@ pub const SILENCE_SECONDS: u64 = 30;
 pub const HEADER_LINES: usize = 256;
 
 /// An exchange with a target as a future, connecting by the future `K`, which gives an `I`. It may be a part of another
-/// future: it never blocks. It fails once no byte has moved for a time, or its reads and writes have used up their turns.
+/// future: it never blocks. It fails once no byte has moved for a time, or its reads and writes have used up their
+/// turns.
 pub type Exchange<R, K, I> = Timed<R, Stage<K, I>>;
 
 /// Makes exchanges, each over a connection of its own.
@@ -42,8 +43,12 @@ pub struct Client<R> {
 }
 
 impl<R: AllocGlobal + RandomSource + Copy + Drop> Client<R> {
-    /// Each exchange has as many turns, each of which polls a read or a write, and ends when it is silent for that long.
-    pub fn new(rt: R, turns: u64, silence: Duration) -> io::Result<Client<R>> {
+    /// Each exchange has as many turns, each of which polls a read or a write, and ends when it is silent for that
+    /// long.
+    pub fn new(rt: R, turns: u64, silence: Duration) -> io::Result<Client<R>>
+        ensures turns { IfOk result (λ client. client.turns ≡ turns) }
+        ensures silence { IfOk result (λ client. client.silence ≡ silence) }
+    {
         let mut builder = Builder::new(rt.alloc(), RandomState::new(&rt)?);
         builder.max_headers(HEADER_LINES);
         Ok(Client {
@@ -68,7 +73,8 @@ impl<R: Clock + AllocGlobal + Copy + Drop> Client<R> {
         K: Future<Output = io::Result<I>>,
         I: Drop,
         requires { K.can_poll connect }
-        ensures { IfOk result (λ exchange. (start : _) × (exchange.inner ≡ Connecting connect start)) }
+        ensures limit { IfOk result (λ exchange. exchange.limit ≡ self.now.silence) }
+        ensures stage { IfOk result (λ exchange. (start : _) × (exchange.inner ≡ Connecting connect start)) }
     {
         let alloc = self.rt.alloc();
         let moved = flag(alloc)?;

@@ -12,8 +12,8 @@ use std::io::ErrorKind;
 /// Why a request has no reply.
 #[derive(Clone, Copy, Debug, PartialEq, Eq)]
 pub enum ProxyError {
-    /// The target can't be reached, its reply isn't whole, isn't HTTP or is too long, it was silent for too long, or the
-    /// request can't be sent.
+    /// The target can't be reached, its reply isn't whole, isn't HTTP or is too long, it was silent for too long, or
+    /// the request can't be sent.
     UpstreamFailed,
     OutOfMemory,
 }
@@ -38,6 +38,11 @@ impl From<AllocError> for ProxyError {
 }
 
 impl From<ForwardError> for ProxyError {
+    ghost use Rattle.std.specs.Prelude.{◌↔◌};
+    ghost use Rattle.recorder.specs.declared.forwarding.ForwardError.TheVariants as forwarding;
+
+    ghost from_gives = { λ error given. (given ≡ OutOfMemory) ↔ (error ≡ forwarding.OutOfMemory) };
+
     fn from(error: ForwardError) -> ProxyError {
         match error {
             ForwardError::Unsendable => ProxyError::UpstreamFailed,
@@ -47,6 +52,11 @@ impl From<ForwardError> for ProxyError {
 }
 
 impl From<http::Error> for ProxyError {
+    ghost use Rattle.std.specs.Prelude.{◌↔◌};
+    ghost use Rattle.http.specs.declared.error.Error.TheVariants as message;
+
+    ghost from_gives = { λ error given. (given ≡ OutOfMemory) ↔ (error ≡ message.OutOfMemory) };
+
     fn from(error: http::Error) -> ProxyError {
         match error {
             http::Error::OutOfMemory => ProxyError::OutOfMemory,
@@ -56,6 +66,12 @@ impl From<http::Error> for ProxyError {
 }
 
 impl From<hyper::Error> for ProxyError {
+    ghost use Rattle.std.specs.Prelude.{◌↔◌};
+    ghost use Rattle.hyper.specs.Error.{kind_of};
+    ghost use Rattle.hyper.specs.declared.error.Kind.TheVariants as connection;
+
+    ghost from_gives = { λ error given. (given ≡ OutOfMemory) ↔ (kind_of error ≡ connection.OutOfMemory) };
+
     fn from(error: hyper::Error) -> ProxyError {
         if error.is_out_of_memory() {
             ProxyError::OutOfMemory

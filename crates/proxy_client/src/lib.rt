@@ -1,5 +1,5 @@
 //! A request forwarded to the target of a recording, over a connection of its own: the message that is sent (`sent`),
-//! the reply (`reply`), and the exchange between them as a future (`exchange`), which `forward` runs.
+//! the reply (`reply`), and the exchange between them as a future (`client`), which `forward` runs.
 #![tactic(auto)]
 
 pub mod address;

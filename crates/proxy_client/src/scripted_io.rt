@@ -1,5 +1,5 @@
 // A reader and writer in memory whose peer goes away, or fails, where a script says so.
-ghost use Rattle.std.specs.Prelude.{◌≡◌, ◌++◌, ◌≤◌, length, take, refl, ⊤};
+ghost use Rattle.std.specs.Prelude.{◌≡◌, ◌++◌, IfOk, ◌≤◌, length, take, refl, ⊤};
 ghost use Rattle.std.proofs.Common.{rules};
 ghost use Rattle.std.proofs.lemmas.Grind.{common_steps};
 
@@ -84,7 +84,10 @@ impl Taken {
 
 impl ScriptedIo {
     /// A peer that gives the bytes.
-    pub fn new(alloc: Global, input: Bytes, script: Script) -> Result<ScriptedIo, AllocError> {
+    pub fn new(alloc: Global, input: Bytes, script: Script) -> Result<ScriptedIo, AllocError>
+        ensures input { IfOk result (λ io. io.input ≡ input) }
+        ensures script { IfOk result (λ io. io.script ≡ script) }
+    {
         Ok(ScriptedIo {
             alloc,
             script,

@@ -83,7 +83,8 @@ where
           (λ a xs b. I.reads a.io xs b.io) (λ a xs b. I.writes a.io xs b.io) (λ _. ⊤) conn.inner)
     ] };
 
-    ghost gives = { λ _ result. IfOk result (λ reply. (head : Head) × (content : List ℕ) × IsReply head content reply) };
+    ghost gives = { λ _ result. IfOk result
+        (λ reply. (head : Head) × (content : List ℕ) × IsReply head content reply) };
 
     fn poll(&mut self, cx: &mut Context<'_>) -> Poll<Result<Reply, ProxyError>> {
         match self {

@@ -17,7 +17,7 @@ use tokio::io::{AsyncRead, AsyncWrite};
 /// A connection, and what is awaited of it. Polling it moves bytes first, and then looks whether the answer has come.
 #[derive(Drop)]
 pub struct Talk<C, A> {
-    // `None` once it has ended: the answer may still be to be taken.
+    // `None` once it has ended; the answer is awaited on.
     connection: Option<C>,
     answer: A,
 }

@@ -42,7 +42,8 @@ impl<R, F> Timed<R, F> {
         moved: Rc<Cell<bool>>,
         inner: F,
     ) -> Timed<R, F>
-        ensures { result.inner ≡ inner }
+        ensures limit { result.limit ≡ limit }
+        ensures inner { result.inner ≡ inner }
     {
         Timed {
             clock,
