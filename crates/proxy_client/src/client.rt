@@ -110,10 +110,7 @@ impl<R: Clock + Net + AllocGlobal + Copy + Drop> Client<R> {
             × IsForwarded target.now request.now start.message
             × (start.turns ≡ self.now.turns)) }
     {
-        let Some(address) = address_of(target) else {
-            return Err(ProxyError::UpstreamFailed);
-        };
-        let connect = TcpStream::connect(&self.rt, address, handle.reactor());
+        let connect = TcpStream::connect(&self.rt, address_of(target), handle.reactor());
         self.exchange(handle, connect, target, request)
     }
 }
