@@ -1,10 +1,9 @@
 // An exchange with a target, from connecting to the reply.
-ghost use Rattle.std.specs.Prelude.{◌≡◌, ℕ, List, IfOk, IfSome, ⊤};
+ghost use Rattle.std.specs.Prelude.{IfOk, IfSome, ⊤};
 ghost use Rattle.futures.specs.Poll.{IfReady, OnPending};
 ghost use Rattle.futures.specs.Task.{IsArmed, Keeps};
-ghost use Rattle.http.specs.declared.response.Parts.{Parts as Head};
 ghost use Rattle.hyper.specs.ClientDispatch.{Runs};
-ghost use Rattle.proxy_client.specs.Messages.{IsReply};
+ghost use Rattle.proxy_client.specs.Messages.{IsSomeReply};
 ghost use Rattle.proxy_client.specs.declared.stage.Stage.TheVariants.{Connecting, Talking};
 
 use crate::counted::Counted;
@@ -83,8 +82,7 @@ where
           (λ a xs b. I.reads a.io xs b.io) (λ a xs b. I.writes a.io xs b.io) (λ _. ⊤) conn.inner)
     ] };
 
-    ghost gives = { λ _ result. IfOk result
-        (λ reply. (head : Head) × (content : List ℕ) × IsReply head content reply) };
+    ghost gives = { λ _ result. IfOk result IsSomeReply };
 
     fn poll(&mut self, cx: &mut Context<'_>) -> Poll<Result<Reply, ProxyError>> {
         match self {
