@@ -1,1 +1,2 @@
+mod AddressLemmas
 mod ContentLemmas

@@ -2,3 +2,4 @@ pub mod Errors
 pub mod Messages
 pub mod Address
 pub mod Content
+pub mod Turns

@@ -1,6 +1,6 @@
 -- The message that is sent to a target for a request, and the reply that a message of the target is (RFC 9110, section
 -- 7.6).
-use Rattle.std.specs.Prelude.{◌≡◌, ℕ, List, None, Some, length, ◌==◌, if◌then◌else◌}
+use Rattle.std.specs.Prelude.{◌≡◌, ◌≤◌, ℕ, List, None, Some, length, ◌==◌, if◌then◌else◌}
 use Rattle.http.specs.Request.{head_of, body_of}
 use Rattle.http.specs.declared.request.Request.{Request as Message}
 use Rattle.http.specs.declared.response.Parts.{Parts}
@@ -11,6 +11,7 @@ use Rattle.http_uri.specs.Grammar.{without_fragment}
 use Rattle.http_uri.specs.Uri.{HasParts}
 use Rattle.mapping_model.specs.declared.reply.Reply.{Reply}
 use Rattle.mock_request.specs.Request.{Request, headers_of}
+use Rattle.proxy_client.specs.declared.content.TheConstants.{CONTENT_LIMIT}
 use Rattle.recorder.specs.Forwarding.{IsRelayed, forwarded_headers, forwarded_path, map_of}
 
 -- The message has the method, the headers and the body that are passed on, and asks for the path and query; a fragment
@@ -27,3 +28,8 @@ pub record IsReply (head : Parts) (content : List ℕ) (reply : Reply) : Type 0 
   pub status : reply.status ≡ head.status
   pub headers : IsRelayed (headers_of (pairs head.headers)) reply.headers
   pub body : reply.body ≡ content
+
+-- the reply that a message is whose content is within the limit
+abbrev pub IsSomeReply : Reply → Type 0
+IsSomeReply reply =
+    (head : Parts) × (content : List ℕ) × (length content ≤ CONTENT_LIMIT) × IsReply head content reply

@@ -1,30 +1,52 @@
 // The address of a target.
-ghost use Rattle.std.specs.Prelude.{IfSome};
+ghost use Rattle.std.specs.Prelude.{◌≡◌, ◌≢◌, ℕ, List, ◌++◌, codes, MatchOption};
+ghost use Rattle.std.specs.Net.Grammar.{IsIpv6Text};
+ghost use Rattle.recorder.specs.Target.{IsBracketed, IsHost};
 ghost use Rattle.proxy_client.specs.Address.{IsAddressOf, IsIpOf};
 
 use recorder::target::Target;
 use std::net::{IpAddr, Ipv4Addr, Ipv6Addr, SocketAddr};
 
 /// The address of a target; each target has one.
-pub fn address_of(target: &Target) -> Option<SocketAddr>
-    ensures { IfSome result (IsAddressOf target.now) }
+pub fn address_of(target: &Target) -> SocketAddr
+    ensures { IsAddressOf target.now result }
 {
-    let ip = ip_of(target.host())?;
-    Some(SocketAddr::new(ip, target.port()))
+    match ip_of(target.host()) {
+        Some(ip) => SocketAddr::new(ip, target.port()),
+        None => {
+            // Its text is that of a target, so its host has an address.
+            let _text = target.as_str();
+            unreachable!()
+        }
+    }
 }
 
+// None where the text isn't a host.
 fn ip_of(host: &str) -> Option<IpAddr>
-    ensures { IfSome result (IsIpOf host.now) }
+    ensures { MatchOption result (¬ (IsHost host.now)) (IsIpOf host.now) }
 {
     if host == "localhost" {
         return Some(IpAddr::V4(Ipv4Addr::new(127, 0, 0, 1)));
     }
-    if let Ok(address) = Ipv4Addr::parse_ascii(host.as_bytes()) {
-        return Some(IpAddr::V4(address));
+    match Ipv4Addr::parse_ascii(host.as_bytes()) {
+        Ok(address) => Some(IpAddr::V4(address)),
+        Err(_error) => Some(IpAddr::V6(bracketed_ip(host)?)),
     }
-    let inner = host.strip_prefix('[')?.strip_suffix(']')?;
-    match Ipv6Addr::parse_ascii(inner.as_bytes()) {
-        Ok(address) => Some(IpAddr::V6(address)),
+}
+
+fn bracketed_ip(host: &str) -> Option<Ipv6Addr>
+    ensures { MatchOption result (¬ (IsBracketed host.now)) (λ address.
+        (inner : List ℕ) × (host.now ≡ codes "[" ++ (inner ++ codes "]")) × IsIpv6Text inner address) }
+{
+    match Ipv6Addr::parse_ascii(in_brackets(host)?.as_bytes()) {
+        Ok(address) => Some(address),
         Err(_error) => None,
     }
+}
+
+fn in_brackets(host: &str) -> Option<&str>
+    ensures { MatchOption result ((inner : List ℕ) → host.now ≢ codes "[" ++ (inner ++ codes "]"))
+        (λ inner. host.now ≡ codes "[" ++ (inner.now ++ codes "]")) }
+{
+    host.strip_prefix('[')?.strip_suffix(']')
 }

@@ -1,9 +1,8 @@
 // The reply to a request that was sent.
-ghost use Rattle.std.specs.Prelude.{◌≡◌, ℕ, List, IfOk};
+ghost use Rattle.std.specs.Prelude.{IfOk};
 ghost use Rattle.futures.specs.Poll.{IfReady, OnPending};
 ghost use Rattle.futures.specs.Task.{IsArmed, Keeps};
-ghost use Rattle.http.specs.declared.response.Parts.{Parts as Head};
-ghost use Rattle.proxy_client.specs.Messages.{IsReply};
+ghost use Rattle.proxy_client.specs.Messages.{IsReply, IsSomeReply};
 
 use crate::content::Content;
 use crate::error::ProxyError;
@@ -35,8 +34,7 @@ pub struct Received<I: Drop> {
 impl<I: Drop> Future for Answer<I> {
     type Output = Result<Reply, ProxyError>;
 
-    ghost gives = { λ _ result. IfOk result
-        (λ reply. (head : Head) × (content : List ℕ) × IsReply head content reply) };
+    ghost gives = { λ _ result. IfOk result IsSomeReply };
 
     fn poll(&mut self, cx: &mut Context<'_>) -> Poll<Result<Reply, ProxyError>> {
         match self {
@@ -62,8 +60,7 @@ impl<I: Drop> Future for Answer<I> {
 
 impl<I: Drop> Received<I> {
     fn poll(&mut self, cx: &mut Context<'_>) -> Poll<Result<Reply, ProxyError>>
-        ensures value { IfReady result (λ result. IfOk result
-            (λ reply. (head : Head) × (content : List ℕ) × IsReply head content reply)) }
+        ensures value { IfReady result (λ result. IfOk result IsSomeReply) }
         ensures registered { OnPending result (IsArmed cx.new) }
         ensures kept { Keeps cx.old cx.new }
     {

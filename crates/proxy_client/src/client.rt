@@ -1,6 +1,8 @@
 // What makes exchanges with targets.
-ghost use Rattle.std.specs.Prelude.{◌≡◌, IfOk};
+ghost use Rattle.std.specs.Prelude.{◌≡◌, IfOk, Some};
+ghost use Rattle.proxy_client.specs.Messages.{IsForwarded};
 ghost use Rattle.proxy_client.specs.declared.stage.Stage.TheVariants.{Connecting};
+ghost use Rattle.proxy_client.specs.declared.stage.Start.{Start as Begun};
 
 use crate::address::address_of;
 use crate::error::ProxyError;
@@ -74,7 +76,10 @@ impl<R: Clock + AllocGlobal + Copy + Drop> Client<R> {
         I: Drop,
         requires { K.can_poll connect }
         ensures limit { IfOk result (λ exchange. exchange.limit ≡ self.now.silence) }
-        ensures stage { IfOk result (λ exchange. (start : _) × (exchange.inner ≡ Connecting connect start)) }
+        ensures start { IfOk result (λ exchange. (start : Begun)
+            × (exchange.inner ≡ Connecting connect (Some start))
+            × IsForwarded target.now request.now start.message
+            × (start.turns ≡ self.now.turns)) }
     {
         let alloc = self.rt.alloc();
         let moved = flag(alloc)?;
@@ -99,13 +104,13 @@ impl<R: Clock + Net + AllocGlobal + Copy + Drop> Client<R> {
         target: &Target,
         request: &Snapshot,
     ) -> Result<Exchange<R, ConnectFuture, TcpStream>, ProxyError>
-        ensures { IfOk result (λ exchange. (connecting : _) × (start : _)
-            × (exchange.inner ≡ Connecting connecting start)) }
+        ensures limit { IfOk result (λ exchange. exchange.limit ≡ self.now.silence) }
+        ensures start { IfOk result (λ exchange. (connecting : _) × (start : Begun)
+            × (exchange.inner ≡ Connecting connecting (Some start))
+            × IsForwarded target.now request.now start.message
+            × (start.turns ≡ self.now.turns)) }
     {
-        let Some(address) = address_of(target) else {
-            return Err(ProxyError::UpstreamFailed);
-        };
-        let connect = TcpStream::connect(&self.rt, address, handle.reactor());
+        let connect = TcpStream::connect(&self.rt, address_of(target), handle.reactor());
         self.exchange(handle, connect, target, request)
     }
 }

@@ -1,5 +1,6 @@
 // A reader and writer that is asked a limited number of times.
 ghost use Rattle.std.specs.Prelude.{◌≡◌, ◌+◌, min, OnOk, OnErr};
+ghost use Rattle.proxy_client.specs.Turns.{Costs, costs_nothing, costs_in_order};
 
 use futures::task::{Context, Poll};
 use std::cell::Cell;
@@ -20,7 +21,7 @@ pub struct Counted<I> {
 }
 
 impl<I> Counted<I> {
-    /// Each poll of a read or a write is a turn. Whenever bytes move, `moved` is set.
+    /// Each poll of a read, a write, a flush or a shutdown is a turn. Whenever bytes move, `moved` is set.
     pub fn new(io: I, turns: u64, moved: Rc<Cell<bool>>) -> Counted<I>
         ensures { result.turns ≡ min turns TURN_LIMIT }
     {
@@ -30,7 +31,7 @@ impl<I> Counted<I> {
 
     fn take_turn(&mut self) -> io::Result<()>
         ensures counted { OnOk result (self.new.turns + 1 ≡ self.old.turns) }
-        ensures ended { OnErr result (self.old.turns ≡ 0) }
+        ensures ended { OnErr result ((self.old.turns ≡ 0) × (self.new.turns ≡ 0)) }
         ensures same { self.new.io ≡ self.old.io }
     {
         match self.turns.checked_sub(1) {
@@ -54,13 +55,13 @@ impl<I> Counted<I> {
 impl<I: AsyncRead> AsyncRead for Counted<I> {
     ghost needs = { λ c. I.needs c.io };
 
-    ghost reads = { λ a xs b. I.reads a.io xs b.io };
+    ghost reads = { Costs I.reads };
 
     ghost is_at_end = { λ c. I.is_at_end c.io };
 
-    ghost reads_nothing = { λ c. I.reads_nothing c.io };
+    ghost reads_nothing = { costs_nothing I.reads I.reads_nothing };
 
-    ghost reads_in_order = { λ a xs b ys c. I.reads_in_order a.io xs b.io ys c.io };
+    ghost reads_in_order = { costs_in_order I.reads I.reads_in_order };
 
     fn poll_read(&mut self, cx: &mut Context<'_>, buf: &mut [u8]) -> Poll<io::Result<usize>> {
         if let Err(error) = self.take_turn() {
@@ -75,11 +76,11 @@ impl<I: AsyncRead> AsyncRead for Counted<I> {
 impl<I: AsyncWrite> AsyncWrite for Counted<I> {
     ghost needs = { λ c. I.needs c.io };
 
-    ghost writes = { λ a xs b. I.writes a.io xs b.io };
+    ghost writes = { Costs I.writes };
 
-    ghost writes_nothing = { λ c. I.writes_nothing c.io };
+    ghost writes_nothing = { costs_nothing I.writes I.writes_nothing };
 
-    ghost writes_in_order = { λ a xs b ys c. I.writes_in_order a.io xs b.io ys c.io };
+    ghost writes_in_order = { costs_in_order I.writes I.writes_in_order };
 
     fn poll_write(&mut self, cx: &mut Context<'_>, buf: &[u8]) -> Poll<io::Result<usize>> {
         if let Err(error) = self.take_turn() {

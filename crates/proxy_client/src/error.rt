@@ -82,6 +82,12 @@ impl From<hyper::Error> for ProxyError {
 }
 
 impl From<io::Error> for ProxyError {
+    ghost use Rattle.std.specs.Prelude.{◌↔◌};
+    ghost use Rattle.std.specs.IoError.{error_kind};
+    ghost use Rattle.std.specs.declared.io.ErrorKind.TheVariants as kind;
+
+    ghost from_gives = { λ error given. (given ≡ OutOfMemory) ↔ (error_kind error ≡ kind.OutOfMemory) };
+
     fn from(error: io::Error) -> ProxyError {
         if error.kind() == ErrorKind::OutOfMemory {
             ProxyError::OutOfMemory

@@ -1,7 +1,6 @@
 // A request forwarded, on a runtime of its own.
-ghost use Rattle.std.specs.Prelude.{ℕ, List, IfOk};
-ghost use Rattle.http.specs.declared.response.Parts.{Parts as Head};
-ghost use Rattle.proxy_client.specs.Messages.{IsReply};
+ghost use Rattle.std.specs.Prelude.{IfOk};
+ghost use Rattle.proxy_client.specs.Messages.{IsSomeReply};
 
 use crate::client::{Client, SILENCE_SECONDS};
 use crate::error::ProxyError;
@@ -27,7 +26,7 @@ pub fn forward<R>(
 ) -> Result<Reply, ProxyError>
 where
     R: Wait + Net + Clock + RandomSource + AllocGlobal + Copy + Drop,
-    ensures { IfOk result (λ reply. (head : Head) × (content : List ℕ) × IsReply head content reply) }
+    ensures { IfOk result IsSomeReply }
 {
     let client = Client::new(*rt, turns, Duration::from_secs(SILENCE_SECONDS))?;
     let mut runtime = LocalRuntime::new(rt)?;
@@ -46,7 +45,7 @@ pub fn forward_over<R, I>(
 where
     R: Wait + Net + Clock + RandomSource + AllocGlobal + Copy + Drop,
     I: AsyncRead + AsyncWrite,
-    ensures { IfOk result (λ reply. (head : Head) × (content : List ℕ) × IsReply head content reply) }
+    ensures { IfOk result IsSomeReply }
 {
     let client = Client::new(*rt, turns, Duration::from_secs(SILENCE_SECONDS))?;
     let mut runtime = LocalRuntime::new(rt)?;

@@ -1,10 +1,10 @@
 // An exchange with a target, from connecting to the reply.
-ghost use Rattle.std.specs.Prelude.{◌≡◌, ℕ, List, IfOk, IfSome, ⊤};
+ghost use Rattle.std.specs.Prelude.{IfOk, IfSome, ⊤};
 ghost use Rattle.futures.specs.Poll.{IfReady, OnPending};
 ghost use Rattle.futures.specs.Task.{IsArmed, Keeps};
-ghost use Rattle.http.specs.declared.response.Parts.{Parts as Head};
 ghost use Rattle.hyper.specs.ClientDispatch.{Runs};
-ghost use Rattle.proxy_client.specs.Messages.{IsReply};
+ghost use Rattle.proxy_client.specs.Messages.{IsSomeReply};
+ghost use Rattle.proxy_client.specs.Turns.{Costs};
 ghost use Rattle.proxy_client.specs.declared.stage.Stage.TheVariants.{Connecting, Talking};
 
 use crate::counted::Counted;
@@ -53,7 +53,7 @@ pub struct Start {
 impl Start {
     fn talk<I: AsyncRead + AsyncWrite>(self, io: I) -> Result<Box<HttpTalk<Counted<I>>>, ProxyError>
         ensures { IfOk result (λ talk. IfSome talk.value.connection (λ conn. Runs
-            (λ a xs b. I.reads a.io xs b.io) (λ a xs b. I.writes a.io xs b.io) (λ _. ⊤) conn.inner)) }
+            (Costs I.reads) (Costs I.writes) (λ _. ⊤) conn.inner)) }
     {
         let Start {
             alloc,
@@ -80,11 +80,10 @@ where
     ghost can_poll = { elim [
       | Connecting connect start ↦ K.can_poll connect
       | Talking talk ↦ IfSome talk.value.connection (λ conn. Runs
-          (λ a xs b. I.reads a.io xs b.io) (λ a xs b. I.writes a.io xs b.io) (λ _. ⊤) conn.inner)
+          (Costs I.reads) (Costs I.writes) (λ _. ⊤) conn.inner)
     ] };
 
-    ghost gives = { λ _ result. IfOk result
-        (λ reply. (head : Head) × (content : List ℕ) × IsReply head content reply) };
+    ghost gives = { λ _ result. IfOk result IsSomeReply };
 
     fn poll(&mut self, cx: &mut Context<'_>) -> Poll<Result<Reply, ProxyError>> {
         match self {
