@@ -12,11 +12,13 @@ abbrev pub IsSentFor : (Request (List ℕ) → Response (Full (List ℕ)) → Ty
     → Response (Full (List ℕ)) → Type 0
 IsSentFor gives message made = (answer : Response (Full (List ℕ))) × gives message answer × IsSent answer made
 
--- the message has an answer that may be given to it, or an exchange by which it may be forwarded, and which may be polled
-abbrev pub IsBegun : {E : Type 0} → (Request (List ℕ) → Response (Full (List ℕ)) → Type 0) → (Request (List ℕ) → E → Type 0)
-    → (E → Type 0) → Request (List ℕ) → Begun E → Type 0
+-- the message has an answer that may be given to it, or an exchange by which it may be forwarded, and which
+-- may be polled
+abbrev pub IsBegun : {E : Type 0} → (Request (List ℕ) → Response (Full (List ℕ)) → Type 0)
+    → (Request (List ℕ) → E → Type 0) → (E → Type 0) → Request (List ℕ) → Begun E → Type 0
 IsBegun gives forwards can_poll message (Answered answer) = gives message answer
-IsBegun gives forwards can_poll message (Forwarding exchange) = forwards message exchange.value × can_poll exchange.value
+IsBegun gives forwards can_poll message (Forwarding exchange) =
+    forwards message exchange.value × can_poll exchange.value
 
 -- the exchange goes on from one by which the message may be forwarded: what it gives, that one gives
 abbrev pub IsExchangeFor : {E Reply : Type 0} → (Request (List ℕ) → E → Type 0) → (E → Reply → Type 0)

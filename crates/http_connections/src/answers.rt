@@ -42,8 +42,8 @@ pub trait Answers: Drop {
     ) -> Result<Begun<Self::Exchange>, ServiceError>
         ensures { IfOk result (IsBegun gives forwards Self.Exchange.can_poll request.now) };
 
-    /// The answer to a request that was forwarded, once its exchange has given what came of it. An error is out of memory
-    /// for the answer itself.
+    /// The answer to a request that was forwarded, once its exchange has given what came of it. An error is out of
+    /// memory for the answer itself.
     fn finish<R: Wait>(
         &self,
         rt: &R,

@@ -2,7 +2,8 @@
 ghost use Rattle.std.specs.Prelude.{◌≡◌, ℕ, List, [], length, Err, IfOk, IfSome, IsSome, IsSomeAnd, Some};
 ghost use Rattle.futures.specs.Poll.{IfReady, OnPending};
 ghost use Rattle.futures.specs.Task.{IsArmed, Keeps};
-ghost use Rattle.http_connections.specs.declared.service.Answering.TheVariants.{Forwarding as Forwards, Made, Waiting as Waits};
+ghost use Rattle.http_connections.specs.declared.service.Answering.TheVariants.{Forwarding as Forwards, Made};
+ghost use Rattle.http_connections.specs.declared.service.Answering.TheVariants.{Waiting as Waits};
 ghost use Rattle.http.specs.Request.{head_of};
 ghost use Rattle.http_messages.specs.declared.error.ServiceError.TheVariants.{OutOfMemory as NoMemory};
 ghost use Rattle.http_connections.specs.Sent.{IsBegun, IsExchangeFor, IsSentFor};
@@ -75,7 +76,8 @@ where
     type Future = Answering<R, A, Collect<Limited<Incoming<I>>>>;
 
     ghost calls = { λ _ request future. elim future [
-      | Made made ↦ IfSome made (λ result. IfOk result (IsSentFor A.gives (record { head = head_of request; body = [] })))
+      | Made made ↦ IfSome made
+          (λ result. IfOk result (IsSentFor A.gives (record { head = head_of request; body = [] })))
       | Waits waiting ↦ head_of waiting.value.request ≡ head_of request
       | Forwards forwarding ↦ A.forwards (record { head = head_of request; body = [] }) forwarding.exchange.value
     ] };
@@ -128,8 +130,8 @@ where
         }
     }
 
-    // What waits for the content of a request. Not inlined: a function clears all its locals when it is entered, and most
-    // requests have no content.
+    // What waits for the content of a request. Not inlined: a function clears all its locals when it is entered, and
+    // most requests have no content.
     #[inline(never)]
     fn waiting<I: Drop>(
         &self,
@@ -212,7 +214,7 @@ where
         requires { G.can_poll self.old.content }
         ensures value { IfReady result (λ result. IfOk result (λ begun. (body : List ℕ)
             × IsBegun (IsSentFor A.gives) A.forwards A.Exchange.can_poll
-                (record { head = head_of self.old.request; body = body }) begun)) }
+            (record { head = head_of self.old.request; body = body }) begun)) }
         ensures again { OnPending result (G.can_poll self.new.content) }
         ensures same { OnPending result (head_of self.new.request ≡ head_of self.old.request) }
         ensures registered { OnPending result (IsArmed cx.new) }
@@ -228,7 +230,7 @@ where
     ) -> Result<Begun<A::Exchange>, ServiceError>
         ensures { IfOk result (λ begun. (body : List ℕ)
             × IsBegun (IsSentFor A.gives) A.forwards A.Exchange.can_poll
-                (record { head = head_of self.old.request; body = body }) begun) }
+            (record { head = head_of self.old.request; body = body }) begun) }
     {
         *self.request.body_mut() = bytes_of(self.rt.alloc(), gathered)?;
         self.slot.begin(&self.rt, self.rt.alloc(), &self.request)
