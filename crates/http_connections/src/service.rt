@@ -179,20 +179,20 @@ where
     fn poll(&mut self, cx: &mut Context<'_>) -> Poll<Result<Response<Full<Bytes>>, ServiceError>> {
         match self {
             Answering::Made(made) => Poll::Ready(made.take().unwrap()),
-            Answering::Waiting(waiting) => {
-                let exchange = match ready!(waiting.poll(cx)) {
-                    Ok(Begun::Answered(response)) => return Poll::Ready(Ok(response)),
-                    Ok(Begun::Forwarding(exchange)) => exchange,
-                    Err(error) => return Poll::Ready(Err(error)),
-                };
-                let mut forwarding = match waiting.forwarding(exchange) {
-                    Ok(forwarding) => forwarding,
-                    Err(AllocError) => return Poll::Ready(Err(ServiceError::OutOfMemory)),
-                };
-                let polled = forwarding.poll(cx);
-                *self = Answering::Forwarding(forwarding);
-                polled
-            }
+            Answering::Waiting(waiting) => match waiting.poll(cx) {
+                Poll::Pending => Poll::Pending,
+                Poll::Ready(Err(error)) => Poll::Ready(Err(error)),
+                Poll::Ready(Ok(Begun::Answered(response))) => Poll::Ready(Ok(response)),
+                Poll::Ready(Ok(Begun::Forwarding(exchange))) => {
+                    let mut forwarding = match waiting.forwarding(exchange) {
+                        Ok(forwarding) => forwarding,
+                        Err(AllocError) => return Poll::Ready(Err(ServiceError::OutOfMemory)),
+                    };
+                    let polled = forwarding.poll(cx);
+                    *self = Answering::Forwarding(forwarding);
+                    polled
+                }
+            },
             Answering::Forwarding(forwarding) => forwarding.poll(cx),
         }
     }
