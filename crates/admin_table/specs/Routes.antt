@@ -1,5 +1,5 @@
--- The table of the admin calls (WireMock's documentation, "Admin API"): the method and the path of each. The calls under
--- `/recordings` aren't in it yet.
+-- The table of the admin calls (WireMock's documentation, "Admin API"): the method and the path of each. The calls
+-- under `/recordings` aren't in it yet.
 use Rattle.std.specs.Prelude.{◌≡◌, ◌≢◌, ℕ, List, [], ◌∷◌, codes}
 use Rattle.std.specs.List.{slice_split}
 use Rattle.admin_table.specs.declared.route.Route.{Route}

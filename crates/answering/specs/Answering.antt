@@ -41,8 +41,8 @@ IsRequestAnswered origin limits escape old new request reply =
     (IsAdmin request.url × IsAdminAnswered origin escape old new request reply)
     ⊎ (¬ (IsAdmin request.url) × IsServeAnswered origin limits old new request reply)
 
--- the reply to a message that is no request of ours: its target is bad, or else its body is too large; or memory ran out
--- before it was read
+-- the reply to a message that is no request of ours: its target is bad, or else its body is too large; or memory ran
+-- out before it was read
 abbrev pub refusal : SnapshotError → Reply
 refusal unread.BadUrl = error_reply 400 BadUrl
 refusal unread.BodyTooLarge = error_reply 413 TooLarge
@@ -70,7 +70,8 @@ IsReply origin limits escape old new message reply =
     IsNotRead old new message reply ⊎ IsRead origin limits escape old new message reply
 
 -- the response is that of the reply; or memory ran out while it was written
-abbrev pub IsBegun : Past → Limits → Escape → Held → Held → Message (List ℕ) → Response (Full (List ℕ)) → Type 0
+abbrev pub IsBegun : Past → Limits → Escape → Held → Held → Message (List ℕ)
+    → Response (Full (List ℕ)) → Type 0
 IsBegun origin limits escape old new message response =
     (reply : Reply) × IsReply origin limits escape old new message reply
     × (IsResponseOf reply response ⊎ IsResponseOf (error_reply 503 OutOfMemory) response)
@@ -86,7 +87,8 @@ Begins origin limits escape old new message (Answered response) =
 Begins origin limits escape old new message (ToForward forward) = IsToForward origin old new message forward
 
 -- the message was forwarded after the first of its events, and this is the response to what came of that
-pub record IsForwarded (origin : Past) (old new : Held) (message : Message (List ℕ)) (response : Response (Full (List ℕ)))
+pub record IsForwarded (origin : Past) (old new : Held) (message : Message (List ℕ))
+    (response : Response (Full (List ℕ)))
     : Type 0 where
   pub middle : Held
   pub forward : Forward
@@ -96,7 +98,8 @@ pub record IsForwarded (origin : Past) (old new : Held) (message : Message (List
   pub finished : IsFinished origin middle new forward forwarded response
 
 -- the response to a message, and what the seat has gained by it
-abbrev pub IsAnswered : Past → Limits → Escape → Held → Held → Message (List ℕ) → Response (Full (List ℕ)) → Type 0
+abbrev pub IsAnswered : Past → Limits → Escape → Held → Held → Message (List ℕ)
+    → Response (Full (List ℕ)) → Type 0
 IsAnswered origin limits escape old new message response =
     IsBegun origin limits escape old new message response ⊎ IsForwarded origin old new message response
 

@@ -1,5 +1,7 @@
--- How a request is answered that is forwarded to the target of a recording: with the reply of the target, which is recorded.
-use Rattle.std.specs.Prelude.{◌≡◌, ◌⊎◌, ◌≤◌, ℕ, Bool, List, Ok, Err, Result, false, if◌then◌else◌, length, true}
+-- How a request is answered that is forwarded to the target of a recording: with the reply of the target,
+-- which is recorded.
+use Rattle.std.specs.Prelude.{◌≡◌, ◌⊎◌, ◌≤◌, ℕ, Bool, List, Ok, Err, Result, false}
+use Rattle.std.specs.Prelude.{if◌then◌else◌, length, true}
 use Rattle.admin_table.specs.Routes.{IsAdmin}
 use Rattle.answering.specs.Reply.{IsResponseOf}
 use Rattle.answering.specs.Served.{GainsServe}
@@ -32,15 +34,17 @@ abbrev pub serve_receipt : Forward → Receipt
 serve_receipt forward =
     record { number = forward.number; event = event.Serve forward.request (Proxy forward.target) }
 
--- the message is a request that is no admin call, and was served: what is to be forwarded has its number, request and target
-pub record IsToForward (origin : Past) (old new : Held) (message : Message (List ℕ)) (forward : Forward) : Type 0 where
+-- the message is a request that is no admin call, and was served: what is to be forwarded has its number,
+-- request and target
+pub record IsToForward (origin : Past) (old new : Held) (message : Message (List ℕ))
+    (forward : Forward) : Type 0 where
   pub received : IsReceived message forward.request
   pub within : length (body_of message) ≤ BODY_LIMIT
   pub other : ¬ (IsAdmin forward.request.url)
   pub served : GainsServe origin old new forward.request (serve_receipt forward)
 
--- what the book is asked for when the reply has come, after that time: a record under the serve's number, of its request
--- and this reply
+-- what the book is asked for when the reply has come, after that time: a record under the serve's number, of its
+-- request and this reply
 abbrev pub record_of : Forward → Reply → ℕ → BookInput
 record_of forward sent wait_ms =
     input.Record forward.number
@@ -66,7 +70,8 @@ reply_unrecorded sent reason = if is_untaken reason then sent else error_reply 5
 abbrev pub IsRelayed : Past → Held → Held → BookInput → Reply → Reply → Type 0
 IsRelayed origin old new asked sent reply =
     ((reply ≡ sent) × ((receipt : Receipt) × Gains origin old new asked receipt))
-    ⊎ ((new ≡ old) × ((reason : ErrorCode) × IsRefused origin asked reason × (reply ≡ reply_unrecorded sent reason)))
+    ⊎ ((new ≡ old) × ((reason : ErrorCode) × IsRefused origin asked reason
+    × (reply ≡ reply_unrecorded sent reason)))
 
 -- the reply where none came
 abbrev pub failure_reply : ProxyError → Reply

@@ -95,7 +95,8 @@ fn begin_request<L: Origin, R: Wait, G: Gate, C: Clock>(
     ensures { MatchResult result
         (HasBegun (IsRequestAnswered L.origin site.now.limits site.now.escape seat.old seat.new request)
         (IsRequestToForward L.origin seat.old seat.new request))
-        (λ _. (reply : _) × IsRequestAnswered L.origin site.now.limits site.now.escape seat.old seat.new request reply) }
+        (λ _. (reply : _) × IsRequestAnswered L.origin site.now.limits site.now.escape seat.old
+        seat.new request reply) }
 {
     if is_admin(request.url()) {
         let response = admin_response(rt, alloc, site, seat, &request)?;

@@ -23,8 +23,8 @@ use shared_book::seat::Seat;
 use std::alloc::{AllocError, Global};
 use std::sync::Wait;
 
-/// The response to a message that was forwarded, by what came of that: a reply is recorded where the recording takes it,
-/// and relayed. The error says that there was no memory for a response; then nothing is recorded.
+/// The response to a message that was forwarded, by what came of that: a reply is recorded where the recording takes
+/// it, and relayed. The error says that there was no memory for a response; then nothing is recorded.
 pub fn finish<L: Origin, R: Wait, G, C: Clock>(
     rt: &R,
     alloc: Global,
@@ -60,8 +60,8 @@ fn forwarded_response<L: Origin, R: Wait, G, C: Clock>(
     }
 }
 
-// Records the exchange, and gives the response that the reply is. That is made first, so that a reply which was recorded is
-// sent: from then on no memory is needed.
+// Records the exchange, and gives the response that the reply is. That is made first, so that a reply which was
+// recorded is sent: from then on no memory is needed.
 fn relay<L: Origin, R: Wait, G, C: Clock>(
     rt: &R,
     alloc: Global,

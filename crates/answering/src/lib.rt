@@ -1,21 +1,20 @@
 // How a server's requests are answered: a request is an admin call or one serve of the shared book, and its response is
 // made outside the lock, or it is forwarded and its reply is recorded. It knows messages of `http`, and no connections.
-// Contracts cite `specs/Served.antt` (the reply to a request that was served), `specs/Forwarding.antt` (that to one that
-// is forwarded), `specs/Admin.antt` (that to an admin call), `specs/Reply.antt` (the response of `http` that a reply is)
-// and `specs/Answering.antt` (the response to a message).
+// Contracts cite `specs/Served.antt` (the reply to a request that was served), `specs/Forwarding.antt` (that to one
+// that is forwarded), `specs/Admin.antt` (that to an admin call), `specs/Reply.antt` (the response of `http` that a
+// reply is) and `specs/Answering.antt` (the response to a message).
 #![tactic(auto)]
 
-pub mod site;
-pub mod clock;
-pub mod forward;
-pub mod begun;
+mod admin_reply;
 pub mod answer;
 pub mod begin;
-pub mod finish;
-
-mod admin_reply;
 mod begin_event;
 mod begin_message;
+pub mod begun;
+pub mod clock;
+pub mod finish;
+pub mod forward;
 mod mapping_response;
 mod response;
 mod serve;
+pub mod site;
