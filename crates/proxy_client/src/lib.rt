@@ -1,5 +1,6 @@
 //! A request forwarded to the target of a recording, over a connection of its own: the message that is sent (`sent`),
-//! the reply (`reply`), and the exchange between them as a future (`client`), which `forward` runs.
+//! the reply (`reply`), and the exchange between them as a future (`client`), which `forward` runs. A server forwards by a
+//! `forwarder`.
 #![tactic(auto)]
 
 pub mod address;
@@ -9,6 +10,8 @@ pub mod content;
 pub mod counted;
 pub mod error;
 pub mod forward;
+pub mod forwarder;
+pub mod forwards;
 pub mod reply;
 pub mod scripted_io;
 pub mod sent;

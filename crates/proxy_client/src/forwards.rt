@@ -1,0 +1,23 @@
+// What forwards the requests of a server.
+ghost use Rattle.std.specs.Prelude.{IfOk};
+ghost use Rattle.proxy_client.specs.Messages.{IsSomeReply};
+
+use crate::error::ProxyError;
+use futures::Future;
+use mapping_model::reply::Reply;
+use mock_request::snapshot::Snapshot;
+use recorder::target::Target;
+
+/// Forwards requests to their targets.
+pub trait Forwards: Drop {
+    ghost use Rattle.std.specs.Prelude.{IfOk};
+    ghost use Rattle.proxy_client.specs.Messages.{IsSomeReply};
+
+    type Exchange: Future<Output = Result<Reply, ProxyError>>;
+
+    /// The exchange for a request with its target. It is a future that never blocks.
+    fn exchange(&self, target: &Target, request: &Snapshot) -> Result<Self::Exchange, ProxyError>
+        ensures can_poll { IfOk result Self.Exchange.can_poll }
+        ensures gives { IfOk result (λ exchange. (given : _)
+            → Self.Exchange.gives exchange given → IfOk given IsSomeReply) };
+}
