@@ -1,5 +1,6 @@
 -- What is answered from a reading is what the past that was read says.
-use Rattle.std.proofs.Common.{◌≡◌, ◌⊎◌, ℕ, List, Vec, Option, Some, None, Any, Result, Ok, Err, IfOk, IfErr, inl, inr, sym, subst, ◌∙◌}
+use Rattle.std.proofs.Common.{◌≡◌, ◌⊎◌, ℕ, List, Vec, Option, Some, None, Any, Result, Ok, Err, IfOk}
+use Rattle.std.proofs.Common.{IfErr, inl, inr, sym, subst, ◌∙◌}
 use Rattle.std.specs.declared.alloc.AllocError.{AllocError}
 use Rattle.std.specs.declared.alloc.Global.{Global}
 use Rattle.admin_answers.specs.Answers.{InPast, IsHeldReply, IsReadReply}
@@ -26,14 +27,15 @@ use Rattle.shared_book.specs.declared.book_read.ReadAnswer.TheVariants as answer
 use Rattle.shared_book.specs.declared.book_read.Reading.{Reading}
 
 -- what the past that was read says of this answer
-said : (origin : Past) (asked : BookRead) (reading : Reading) (found : ReadAnswer) → (is : IsRead origin asked reading)
-    → reading.answer ≡ found → IsReadAnswer is.past asked found
+said : (origin : Past) (asked : BookRead) (reading : Reading) (found : ReadAnswer)
+    → (is : IsRead origin asked reading) → reading.answer ≡ found → IsReadAnswer is.past asked found
 said origin asked reading found is e = subst (IsReadAnswer is.past asked) e is.answer
 
 pub mappings
     : (origin : Past) (list : Vec Mapping Global) (reading : Reading) (result : Result Reply AllocError)
     → IsRead origin read.Mappings reading → reading.answer ≡ answer.Mappings list
-    → IfOk result (IsJsonReply 200 (json_of_mappings list.items)) → IfOk result (λ reply. InPast origin (IsReadReply call.ListMappings reply))
+    → IfOk result (IsJsonReply 200 (json_of_mappings list.items))
+    → IfOk result (λ reply. InPast origin (IsReadReply call.ListMappings reply))
 mappings origin list reading (Ok reply) is e json =
     (is.past, is.reached, (list.items, said origin read.Mappings reading _ is e, json))
 mappings origin list reading (Err why) is e json = tt
@@ -41,23 +43,35 @@ mappings origin list reading (Err why) is e json = tt
 pub requests
     : (origin : Past) (list : Vec Entry Global) (reading : Reading) (result : Result Reply AllocError)
     → IsRead origin read.Requests reading → reading.answer ≡ answer.Requests list
-    → IfOk result (IsJsonReply 200 (json_of_requests list.items)) → IfOk result (λ reply. InPast origin (IsReadReply call.ListRequests reply))
-requests origin list reading (Ok reply) is e json =
-    (is.past, is.reached, subst (λ es. IsJsonReply 200 (json_of_requests es) reply) (said origin read.Requests reading _ is e) json)
+    → IfOk result (IsJsonReply 200 (json_of_requests list.items))
+    → IfOk result (λ reply. InPast origin (IsReadReply call.ListRequests reply))
+requests origin list reading (Ok reply) is e json = (
+  is.past,
+  is.reached,
+  subst (λ es. IsJsonReply 200 (json_of_requests es) reply)
+      (said origin read.Requests reading _ is e) json,
+)
 requests origin list reading (Err why) is e json = tt
 
 pub unmatched
     : (origin : Past) (list : Vec Entry Global) (reading : Reading) (result : Result Reply AllocError)
     → IsRead origin read.Unmatched reading → reading.answer ≡ answer.Requests list
-    → IfOk result (IsJsonReply 200 (json_of_found list.items)) → IfOk result (λ reply. InPast origin (IsReadReply call.ListUnmatched reply))
-unmatched origin list reading (Ok reply) is e json =
-    (is.past, is.reached, subst (λ es. IsJsonReply 200 (json_of_found es) reply) (said origin read.Unmatched reading _ is e) json)
+    → IfOk result (IsJsonReply 200 (json_of_found list.items))
+    → IfOk result (λ reply. InPast origin (IsReadReply call.ListUnmatched reply))
+unmatched origin list reading (Ok reply) is e json = (
+  is.past,
+  is.reached,
+  subst (λ es. IsJsonReply 200 (json_of_found es) reply)
+      (said origin read.Unmatched reading _ is e) json,
+)
 unmatched origin list reading (Err why) is e json = tt
 
 pub found
-    : (origin : Past) (matcher : RequestSpec) (list : Vec Entry Global) (reading : Reading) (result : Result Reply AllocError)
+    : (origin : Past) (matcher : RequestSpec) (list : Vec Entry Global) (reading : Reading)
+    (result : Result Reply AllocError)
     → IsRead origin (read.Find matcher) reading → reading.answer ≡ answer.Requests list
-    → IfOk result (IsJsonReply 200 (json_of_found list.items)) → IfOk result (λ reply. InPast origin (IsReadReply (call.FindRequests matcher) reply))
+    → IfOk result (IsJsonReply 200 (json_of_found list.items))
+    → IfOk result (λ reply. InPast origin (IsReadReply (call.FindRequests matcher) reply))
 found origin matcher list reading (Ok reply) is e json =
     (is.past, is.reached, (list.items, said origin (read.Find matcher) reading _ is e, json))
 found origin matcher list reading (Err why) is e json = tt
@@ -65,13 +79,15 @@ found origin matcher list reading (Err why) is e json = tt
 pub counted
     : (origin : Past) (matcher : RequestSpec) (count : ℕ) (reading : Reading) (result : Result Reply AllocError)
     → IsRead origin (read.Count matcher) reading → reading.answer ≡ answer.Count count
-    → IfOk result (IsJsonReply 200 (json_of_number count)) → IfOk result (λ reply. InPast origin (IsReadReply (call.CountRequests matcher) reply))
+    → IfOk result (IsJsonReply 200 (json_of_number count))
+    → IfOk result (λ reply. InPast origin (IsReadReply (call.CountRequests matcher) reply))
 counted origin matcher count reading (Ok reply) is e json =
     (is.past, is.reached, (count, said origin (read.Count matcher) reading _ is e, json))
 counted origin matcher count reading (Err why) is e json = tt
 
 pub scenarios
-    : (origin : Past) (states : States) (list : Vec Mapping Global) (reading : Reading) (result : Result Reply AllocError)
+    : (origin : Past) (states : States) (list : Vec Mapping Global) (reading : Reading)
+    (result : Result Reply AllocError)
     → IsRead origin read.Scenarios reading → reading.answer ≡ answer.Scenarios states list
     → IfOk result (IsJsonReply 200 (json_of_scenarios states list.items))
     → IfOk result (λ reply. InPast origin (IsReadReply call.ListScenarios reply))
@@ -106,7 +122,8 @@ missing origin id reading is e = (is.past, is.reached, said origin (read.Mapping
 
 pub held
     : (origin : Past) (id : List ℕ) (kept : Option Mapping) (reading : Reading) (result : Result Reply SharedError)
-    → IsRead origin (read.Mapping id) reading → reading.answer ≡ answer.Mapping kept → IfOk result (IsHeldReply kept)
+    → IsRead origin (read.Mapping id) reading → reading.answer ≡ answer.Mapping kept
+    → IfOk result (IsHeldReply kept)
     → IfOk result (λ reply. InPast origin (IsReadReply (call.ReadMapping id) reply))
 held origin id (Some m) reading (Ok reply) is e json = mapping origin id m reading reply is e json
 held origin id None reading (Ok reply) is e json = absurd json
@@ -115,7 +132,8 @@ held origin id kept reading (Err why) is e json = tt
 pub not_held
     : (origin : Past) (id : List ℕ) (kept : Option Mapping) (reading : Reading) (result : Result Reply SharedError)
     → IsRead origin (read.Mapping id) reading → reading.answer ≡ answer.Mapping kept
-    → IfErr result (λ error. (error.code ≡ code.OutOfMemory) ⊎ ((error.code ≡ code.UnknownMapping) × (kept ≡ None)))
+    → IfErr result (λ error.
+    (error.code ≡ code.OutOfMemory) ⊎ ((error.code ≡ code.UnknownMapping) × (kept ≡ None)))
     → IfErr result (λ error. (error.code ≡ code.OutOfMemory)
     ⊎ ((error.code ≡ code.UnknownMapping) × InPast origin (λ past. ¬ (IsLive past id))))
 not_held origin id kept reading (Ok reply) is e why = tt

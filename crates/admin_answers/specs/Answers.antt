@@ -99,8 +99,8 @@ IsReadReply other reply past = ⊥
 
 -- ---- calls
 
--- the call was answered: what it changed, or read, is that of the one history, and the seat has one more receipt exactly
--- where it changed something
+-- the call was answered: what it changed, or read, is that of the one history, and the seat has one more receipt
+-- exactly where it changed something
 abbrev pub IsAnswered : Past → Held → Held → AdminCall → Reply → Type 0
 IsAnswered origin old new (call.AddMapping mapping) reply = IsChanged origin old new (input.Add mapping) reply
 IsAnswered origin old new (call.EditMapping id mapping) reply = IsChanged origin old new (input.Edit id mapping) reply
@@ -135,7 +135,8 @@ IsNotAnswered origin old new (call.StartRecording start) reason =
 IsNotAnswered origin old new call.StopRecording reason = IsNotChanged origin old new input.StopRecording reason
 IsNotAnswered origin old new (call.ReadMapping id) reason =
     (new ≡ old)
-    × ((reason ≡ code.OutOfMemory) ⊎ ((reason ≡ code.UnknownMapping) × InPast origin (λ past. ¬ (IsLive past id))))
+    × ((reason ≡ code.OutOfMemory)
+    ⊎ ((reason ≡ code.UnknownMapping) × InPast origin (λ past. ¬ (IsLive past id))))
 IsNotAnswered origin old new call.ReadRecordingHar reason =
     (new ≡ old) × ((reason ≡ code.OutOfMemory) ⊎ InPast origin (λ past. HasNoHar (recording past) reason))
 IsNotAnswered origin old new read reason = (new ≡ old) × (reason ≡ code.OutOfMemory)

@@ -22,7 +22,8 @@ use shared_book::shared_book::SharedBook;
 use std::alloc::{AllocError, Global};
 use std::sync::Wait;
 
-/// Makes the change, and answers it. The JSON is written after the lock was let go, from the event that the receipt has.
+/// Makes the change, and answers it. The JSON is written after the lock was let go, from the event that
+/// the receipt has.
 pub(crate) fn change<L: Origin, R: Wait>(
     rt: &R,
     alloc: Global,

@@ -1,5 +1,6 @@
 -- The entries of a map in byte order are the groups that the definition makes.
-use Rattle.std.proofs.Common.{◌≡◌, ℕ, List, [], ◌∷◌, map, is_some, String, Vec, string_bytes, refl, sym, ap, ◌∙◌}
+use Rattle.std.proofs.Common.{◌≡◌, ℕ, List, [], ◌∷◌, map, is_some, String, Vec, string_bytes, refl, sym}
+use Rattle.std.proofs.Common.{ap, ◌∙◌}
 use Rattle.std.specs.declared.alloc.Global.{Global}
 use Rattle.std.specs.List.{list_any}
 use Rattle.std.specs.List.Sorted.{IsStrictlySortedBy}
@@ -80,7 +81,8 @@ name_groups (name ∷ names) pairs =
 -- a map in byte order that has the values of each name of the pairs, and no other name
 pub groups_of_entries
     : (pairs : List (List ℕ × List ℕ)) (entries : List Entry) → IsStrictlySortedBy string_cmp (keys_of entries)
-    → ((name : List ℕ) → option_map_or values_at (found tree_of values_at name entries) [] ≡ values_of name pairs)
+    → ((name : List ℕ) → option_map_or values_at (found tree_of values_at name entries) []
+    ≡ values_of name pairs)
     → ((name : List ℕ)
     → is_some (found tree_of values_at name entries) ≡ list_any (λ pair. bytes_eq name pair.0) pairs)
     → groups_in entries ≡ groups_of pairs
@@ -104,7 +106,8 @@ pub values_of_entries
     : (states : States) (entries : List Entry)
     → map (λ e. group_json states (group_of e)) entries ≡ map (group_json states) (groups_in entries)
 values_of_entries states [] = refl
-values_of_entries states (e ∷ entries) = ap (λ ds. group_json states (group_of e) ∷ ds) (values_of_entries states entries)
+values_of_entries states (e ∷ entries) =
+    ap (λ ds. group_json states (group_of e) ∷ ds) (values_of_entries states entries)
 
 pub values_of_names
     : (states : States) (names : List (List ℕ)) (pairs : List (List ℕ × List ℕ))

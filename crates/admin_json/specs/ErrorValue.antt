@@ -7,7 +7,8 @@ use Rattle.serde_json.specs.Data.{Data, string, array, object, no_items, item, n
 
 abbrev pub json_of_reported : ErrorCode → Data
 json_of_reported code =
-    object (put (codes "title") (string (title_of code)) (put (codes "code") (json_of_count (number_of code)) no_members))
+    object (put (codes "title") (string (title_of code))
+    (put (codes "code") (json_of_count (number_of code)) no_members))
 
 abbrev pub json_of_error : ErrorCode → Data
 json_of_error code = only_member (codes "errors") (array (item (json_of_reported code) no_items))

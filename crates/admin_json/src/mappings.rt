@@ -54,7 +54,8 @@ fn with_id(alloc: Global, id: MappingId, value: Value) -> Result<Value, AllocErr
 }
 
 fn put_id(alloc: Global, id: MappingId, members: Map<String, Value>) -> Result<Value, AllocError>
-    ensures { IfOk result (λ made. view made ≡ object (put (codes "id") (json_of_id id) (members_view members.entries))) }
+    ensures { IfOk result (λ made.
+        view made ≡ object (put (codes "id") (json_of_id id) (members_view members.entries))) }
 {
     let mut members = members;
     let text = id.hyphenated(alloc)?;

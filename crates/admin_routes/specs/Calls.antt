@@ -21,14 +21,15 @@ use Rattle.request_match.specs.Refusal.{CanBeBuilt}
 use Rattle.template_tree.specs.declared.escape.Escape.{Escape}
 use Rattle.uuid.specs.Text.{parsed}
 
--- the call of the route that this body makes it, where the prints of a mapping's templates are escaped so; calls that take
--- no body ignore it
+-- the call of the route that this body makes it, where the prints of a mapping's templates are escaped so; calls that
+-- take no body ignore it
 abbrev pub IsCallOf : Escape → Route → List ℕ → AdminCall → Type 0
 IsCallOf escape route.ListMappings body found = found ≡ call.ListMappings
 IsCallOf escape route.AddMapping body found =
     (mapping : MappingSpec) × SpellsDocument escape body mapping × (found ≡ call.AddMapping mapping)
 IsCallOf escape route.DeleteMappings body found = found ≡ call.DeleteMappings
-IsCallOf escape (route.ReadMapping text) body found = (id : List ℕ) × (parsed text ≡ Some id) × (found ≡ call.ReadMapping id)
+IsCallOf escape (route.ReadMapping text) body found =
+    (id : List ℕ) × (parsed text ≡ Some id) × (found ≡ call.ReadMapping id)
 IsCallOf escape (route.EditMapping text) body found =
     (id : List ℕ) × (mapping : MappingSpec) × (parsed text ≡ Some id) × SpellsDocument escape body mapping
     × (found ≡ call.EditMapping id mapping)
@@ -42,7 +43,8 @@ IsCallOf escape route.ListUnmatched body found = found ≡ call.ListUnmatched
 IsCallOf escape route.FindRequests body found =
     (matcher : RequestSpec) × Spells body (Read matcher) × CanBeBuilt matcher × (found ≡ call.FindRequests matcher)
 IsCallOf escape route.CountRequests body found =
-    (matcher : RequestSpec) × Spells body (Read matcher) × CanBeBuilt matcher × (found ≡ call.CountRequests matcher)
+    (matcher : RequestSpec) × Spells body (Read matcher) × CanBeBuilt matcher
+    × (found ≡ call.CountRequests matcher)
 IsCallOf escape route.ListScenarios body found = found ≡ call.ListScenarios
 IsCallOf escape route.ResetScenarios body found = found ≡ call.ResetScenarios
 IsCallOf escape (route.SetScenario name) body found =

@@ -90,7 +90,8 @@ fn add_of(alloc: Global, body: &[u8], escape: Escape) -> Result<AdminCall, Admin
 }
 
 fn read_of(segment: &Segment<'_>) -> Result<AdminCall, AdminError>
-    ensures ok { IfOk result (λ found. (id : List ℕ) × (parsed segment.now ≡ Some id) × (found ≡ call.ReadMapping id)) }
+    ensures ok { IfOk result
+        (λ found. (id : List ℕ) × (parsed segment.now ≡ Some id) × (found ≡ call.ReadMapping id)) }
     ensures error { IfErr result (λ error. (error ≡ UnknownMapping) × (parsed segment.now ≡ None)) }
 {
     let id = id_of(segment)?;
@@ -112,7 +113,8 @@ fn edit_of(
 }
 
 fn delete_of(segment: &Segment<'_>) -> Result<AdminCall, AdminError>
-    ensures ok { IfOk result (λ found. (id : List ℕ) × (parsed segment.now ≡ Some id) × (found ≡ call.DeleteMapping id)) }
+    ensures ok { IfOk result
+        (λ found. (id : List ℕ) × (parsed segment.now ≡ Some id) × (found ≡ call.DeleteMapping id)) }
     ensures error { IfErr result (λ error. (error ≡ UnknownMapping) × (parsed segment.now ≡ None)) }
 {
     let id = id_of(segment)?;

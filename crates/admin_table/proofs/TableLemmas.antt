@@ -1,15 +1,16 @@
 -- The look-up finds the call of the table that a method and a path name, and no other.
-use Rattle.std.proofs.Common.{◌≡◌, ◌≢◌, ℕ, ◌≤◌, List, [], ◌∷◌, length, Bool, true, false, ◌&&◌, Option, Some, None, codes}
-use Rattle.std.proofs.Common.{IfSome, IsNone, IsTrue, ◌↔◌, true≢false, refl, sym, ap, subst, ◌∙◌, cond, option_and_then, arith}
-use Rattle.std.proofs.Common.{◌++◌, drop, take-append-drop}
+use Rattle.std.proofs.Common.{◌≡◌, ◌≢◌, ℕ, ◌≤◌, List, [], ◌∷◌, length, Bool, true, false}
+use Rattle.std.proofs.Common.{◌&&◌, Option, Some, None, codes, IfSome, IsNone, IsTrue, ◌↔◌, true≢false}
+use Rattle.std.proofs.Common.{refl, sym, ap, subst, ◌∙◌, cond, option_and_then, arith, ◌++◌, drop}
+use Rattle.std.proofs.Common.{take-append-drop}
 use Rattle.std.specs.List.{join_with_byte, position_or_len, slice_split}
 use Rattle.std.specs.Option.{option_map_or}
 use Rattle.std.specs.Str.{bytes_eq}
 use Rattle.std.proofs.lemmas.List.Splits.{join_with_byte-slice_split, length-slice_split}
 use Rattle.std.proofs.lemmas.Slice.Eq.{bytes_eq-Decides}
-use Rattle.admin_table.specs.Inner.Table.{is_admin_in, is_empty, place_in, place_below, one_segment, two_segments, three_segments}
-use Rattle.admin_table.specs.Inner.Table.{mapping_of, state_of, under_requests, under_scenarios, under_recordings}
-use Rattle.admin_table.specs.Inner.Table.{segments_at, IsPlace}
+use Rattle.admin_table.specs.Inner.Table.{is_admin_in, is_empty, place_in, place_below, one_segment, two_segments}
+use Rattle.admin_table.specs.Inner.Table.{three_segments, mapping_of, state_of, under_requests, under_scenarios}
+use Rattle.admin_table.specs.Inner.Table.{under_recordings, segments_at, IsPlace}
 use Rattle.admin_table.specs.Inner.Table.{route_at, route_in, when, mappings_at, mapping_at, requests_at}
 use Rattle.admin_table.specs.Routes.{method_of, path_below, HasParameter, Names, IsAdmin}
 use Rattle.admin_table.specs.declared.route.Place.{Place}
@@ -24,8 +25,8 @@ is_text {x} {y} e = (bytes_eq-Decides x y).0 e
 
 -- a chain of tests gives what one of its tests gives
 pick
-    : {A R : Type 0} (b : Bool) (here there : Option A) (a : A) → (b ≡ true → here ≡ Some a → R) → (there ≡ Some a → R)
-    → cond b here there ≡ Some a → R
+    : {A R : Type 0} (b : Bool) (here there : Option A) (a : A) → (b ≡ true → here ≡ Some a → R)
+    → (there ≡ Some a → R) → cond b here there ≡ Some a → R
 pick true here there a first rest e = first refl e
 pick false here there a first rest e = rest e
 
@@ -86,7 +87,8 @@ mapping_found
     → IsAt (first ∷ second ∷ []) p
 mapping_found first [] p same e = absurd (nothing p e)
 mapping_found first (b ∷ bs) p same e =
-    at_place (first ∷ (b ∷ bs) ∷ []) (place.Mapping (b ∷ bs)) p (not_nil b bs) (ap (λ x. x ∷ (b ∷ bs) ∷ []) same) e
+    at_place (first ∷ (b ∷ bs) ∷ []) (place.Mapping (b ∷ bs)) p (not_nil b bs)
+    (ap (λ x. x ∷ (b ∷ bs) ∷ []) same) e
 
 two : (first second : List ℕ) {a b : List ℕ} → first ≡ a → bytes_eq second b ≡ true
     → first ∷ second ∷ [] ≡ a ∷ b ∷ []
@@ -118,7 +120,8 @@ recordings_found first second p same =
     (pick _ _ _ p (λ e. at_place (first ∷ second ∷ []) place.RecordingHar p tt (two first second same e))
     (λ e. absurd (nothing p e)))))
 
-two_found : (first second : List ℕ) (p : Place) → two_segments first second ≡ Some p → IsAt (first ∷ second ∷ []) p
+two_found : (first second : List ℕ) (p : Place) → two_segments first second ≡ Some p
+    → IsAt (first ∷ second ∷ []) p
 two_found first second p =
     pick _ _ _ p (λ e. mapping_found first second p (is_text e))
     (pick _ _ _ p (λ e. requests_found first second p (is_text e))
@@ -131,7 +134,8 @@ state_found
 state_found first [] third p one last e = absurd (nothing p e)
 state_found first (b ∷ bs) third p one last e =
     at_place (first ∷ (b ∷ bs) ∷ third ∷ []) (place.ScenarioState (b ∷ bs)) p (not_nil b bs)
-    (ap (λ x. x ∷ (b ∷ bs) ∷ third ∷ []) one ∙ ap (λ x. codes "scenarios" ∷ (b ∷ bs) ∷ x ∷ []) last) e
+    (ap (λ x. x ∷ (b ∷ bs) ∷ third ∷ []) one
+    ∙ ap (λ x. codes "scenarios" ∷ (b ∷ bs) ∷ x ∷ []) last) e
 
 three_found
     : (first second third : List ℕ) (p : Place) → three_segments first second third ≡ Some p
@@ -172,7 +176,8 @@ pub too_long
 too_long first second third rest = more (slice_split is_slash rest) (omega (arith, length-slice_split is_slash rest))
   where
     more
-        : (segments : List (List ℕ)) → 1 ≤ length segments → place_below (first ∷ second ∷ third ∷ segments) ≡ None
+        : (segments : List (List ℕ)) → 1 ≤ length segments
+        → place_below (first ∷ second ∷ third ∷ segments) ≡ None
     more [] some = absurd (omega arith)
     more (fourth ∷ segments) some = refl
 
@@ -230,7 +235,8 @@ when_found
 when_found method p q r holds same =
     pick _ _ _ r (at_route method p q r holds same) (λ e. absurd (nothing r e))
 
-route_found : (method : List ℕ) (p : Place) (r : Route) → IsPlace p → route_at method p ≡ Some r → IsRouteAt method p r
+route_found : (method : List ℕ) (p : Place) (r : Route) → IsPlace p → route_at method p ≡ Some r
+    → IsRouteAt method p r
 route_found method place.Mappings r holds e = mappings_found method r e
 route_found method (place.Mapping id) r holds e = mapping_at_found method id r holds e
 route_found method place.Reset r holds e = when_found method place.Reset route.ResetAll r tt refl e
@@ -271,7 +277,8 @@ named_in
 named_in method url None r at e = absurd (nothing r e)
 named_in method url (Some p) r at e = named method url p r at e
 
-in_table : (r : Route) → HasParameter r → route_in (method_of r) ([] ∷ codes "__admin" ∷ path_below r) ≡ Some r
+in_table : (r : Route) → HasParameter r
+    → route_in (method_of r) ([] ∷ codes "__admin" ∷ path_below r) ≡ Some r
 in_table route.ListMappings holds = refl
 in_table route.AddMapping holds = refl
 in_table route.DeleteMappings holds = refl
@@ -301,7 +308,8 @@ in_table route.ReadRecordingHar holds = refl
 looked_up
     : (method url : List ℕ) (r : Route) → Names method url r
     → route_in method (slice_split is_slash (path_of url)) ≡ Some r
-looked_up method url r names = (λ i. route_in (names.same_method i) (names.same_path i)) ∙ in_table r names.has_parameter
+looked_up method url r names =
+    (λ i. route_in (names.same_method i) (names.same_path i)) ∙ in_table r names.has_parameter
 
 -- what is looked up is named, and nothing is named where nothing is looked up
 pub found_is_named
@@ -337,7 +345,8 @@ admin_means segments false e =
     (λ t. absurd (true≢false (sym t)), λ w. absurd (true≢false (sym (ap is_admin_in w.1) ∙ e)))
 
 pub is_admin_means
-    : (url : List ℕ) (b : Bool) → b ≡ is_admin_in (slice_split is_slash (path_of url)) → IsTrue b ↔ IsAdmin url
+    : (url : List ℕ) (b : Bool) → b ≡ is_admin_in (slice_split is_slash (path_of url))
+    → IsTrue b ↔ IsAdmin url
 is_admin_means url b e = admin_means (slice_split is_slash (path_of url)) b (sym e)
 
 joined : (below : List (List ℕ))
@@ -349,7 +358,8 @@ joined (next ∷ below) = (slash ∷ join_with_byte slash (next ∷ below), refl
 pub admin_begins : (url : List ℕ) → IsAdmin url → (rest : List ℕ) × (url ≡ codes "/__admin" ++ rest)
 admin_begins url (below, is) =
     let end = position_or_len is_question_mark url in
-    let path = sym (join_with_byte-slice_split slash (path_of url)) ∙ ap (join_with_byte slash) is ∙ (joined below).1 in (
+    let path = sym (join_with_byte-slice_split slash (path_of url)) ∙ ap (join_with_byte slash) is
+    ∙ (joined below).1 in (
       (joined below).0 ++ drop end url,
       sym (take-append-drop end url) ∙ ap (λ front. front ++ drop end url) path,
     )

@@ -1,9 +1,10 @@
 // The table of the admin calls.
 ghost use Rattle.std.specs.Prelude.{◌≡◌, ◌↔◌, [], ◌∷◌, MatchOption, IfSome, IsNone, IsTrue};
 ghost use Rattle.std.specs.List.{slice_split};
-ghost use Rattle.admin_table.specs.Inner.Table.{is_admin_in, place_in, place_below, one_segment, two_segments, three_segments};
-ghost use Rattle.admin_table.specs.Inner.Table.{mapping_of, state_of, under_requests, under_scenarios, under_recordings};
-ghost use Rattle.admin_table.specs.Inner.Table.{route_in, route_at, when, mappings_at, mapping_at, requests_at};
+ghost use Rattle.admin_table.specs.Inner.Table.{is_admin_in, place_in, place_below, one_segment, two_segments};
+ghost use Rattle.admin_table.specs.Inner.Table.{three_segments, mapping_of, state_of, under_requests, under_scenarios};
+ghost use Rattle.admin_table.specs.Inner.Table.{under_recordings, route_in, route_at, when, mappings_at, mapping_at};
+ghost use Rattle.admin_table.specs.Inner.Table.{requests_at};
 ghost use Rattle.admin_table.specs.Routes.{IsAdmin, Names};
 ghost use Rattle.mock_request.specs.Url.{is_slash, path_of};
 

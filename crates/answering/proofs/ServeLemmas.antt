@@ -20,7 +20,8 @@ use Rattle.stub_response.specs.ErrorReply.{error_reply}
 use Rattle.stub_response.specs.declared.limits.Limits.{Limits}
 
 -- what the response to a request is, or would be if there were memory
-abbrev pub Answered : {E : Type 0} → Past → Limits → Held → Held → Request → Result (Response (Full (List ℕ))) E → Type 0
+abbrev pub Answered : {E : Type 0} → Past → Limits → Held → Held → Request
+    → Result (Response (Full (List ℕ))) E → Type 0
 Answered origin limits old new request result =
     MatchResult result (HasReply (IsServeAnswered origin limits old new request))
     (λ _. (reply : Reply) × IsServeAnswered origin limits old new request reply)
@@ -29,7 +30,8 @@ Answered origin limits old new request result =
 pub of_event : {E : Type 0} (origin : Past) (limits : Limits) (old new : Held) (request : Request) (receipt : Receipt)
     (result : Result (Response (Full (List ℕ))) E) → GainsServe origin old new request receipt
     → IfOk result (HasReply (IsEventReply limits receipt.event)) → Answered origin limits old new request result
-of_event origin limits old new request receipt (Ok response) gains (reply, is, of) = (reply, inl (receipt, gains, is), of)
+of_event origin limits old new request receipt (Ok response) gains (reply, is, of) =
+    (reply, inl (receipt, gains, is), of)
 of_event origin limits old new request receipt (Err error) gains h =
     (error_reply 503 OutOfMemory, inr (OutOfMemory, inr (refl, (receipt, gains)), refl))
 

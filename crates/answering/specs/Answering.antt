@@ -32,8 +32,8 @@ IsRequestAnswered origin limits escape old new request reply =
     (IsAdmin request.url × IsAdminAnswered origin escape old new request reply)
     ⊎ (¬ (IsAdmin request.url) × IsServeAnswered origin limits old new request reply)
 
--- a message that is no request of ours makes no event: its target is bad, or else its body is too large; or memory ran out
--- before it was read
+-- a message that is no request of ours makes no event: its target is bad, or else its body is too large; or memory ran
+-- out before it was read
 abbrev pub IsNotRead : Held → Held → Message (List ℕ) → Reply → Type 0
 IsNotRead old new message reply =
     (new ≡ old)
@@ -52,11 +52,13 @@ IsReply origin limits escape old new message reply =
     IsNotRead old new message reply ⊎ IsRead origin limits escape old new message reply
 
 -- the response is that of the reply; or memory ran out while it was written
-abbrev pub IsAnswered : Past → Limits → Escape → Held → Held → Message (List ℕ) → Response (Full (List ℕ)) → Type 0
+abbrev pub IsAnswered : Past → Limits → Escape → Held → Held → Message (List ℕ)
+    → Response (Full (List ℕ)) → Type 0
 IsAnswered origin limits escape old new message response =
     (reply : Reply) × IsReply origin limits escape old new message reply
     × (IsResponseOf reply response ⊎ IsResponseOf (error_reply 503 OutOfMemory) response)
 
 -- there is no response, and the seat is as one of its replies leaves it
 abbrev pub IsNotAnswered : Past → Limits → Escape → Held → Held → Message (List ℕ) → Type 0
-IsNotAnswered origin limits escape old new message = (reply : Reply) × IsReply origin limits escape old new message reply
+IsNotAnswered origin limits escape old new message =
+    (reply : Reply) × IsReply origin limits escape old new message reply

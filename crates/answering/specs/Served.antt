@@ -40,7 +40,8 @@ abbrev pub IsServedWith : Past → Limits → Held → Held → Request → Repl
 IsServedWith origin limits old new request reply =
     (receipt : Receipt) × GainsServe origin old new request receipt × IsEventReply limits receipt.event reply
 
--- the request wasn't served, and the seat is as before; or memory ran out while its reply was made, and the serve stands
+-- the request wasn't served, and the seat is as before; or memory ran out while its reply was made, and
+-- the serve stands
 abbrev pub IsNotServed : Past → Held → Held → Request → ErrorCode → Type 0
 IsNotServed origin old new request reason =
     ((new ≡ old) × IsServeRefused origin reason)

@@ -74,7 +74,8 @@ fn request_response<L: Origin, R: Wait, G: Gate>(
 ) -> Result<Response<Full<Bytes>>, AllocError>
     ensures { MatchResult result
         (HasReply (IsRequestAnswered L.origin site.now.limits site.now.escape seat.old seat.new request))
-        (λ _. (reply : _) × IsRequestAnswered L.origin site.now.limits site.now.escape seat.old seat.new request reply) }
+        (λ _. (reply : _) × IsRequestAnswered L.origin site.now.limits site.now.escape seat.old
+        seat.new request reply) }
 {
     if is_admin(request.url()) {
         return admin_response(rt, alloc, site, seat, &request);

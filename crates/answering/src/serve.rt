@@ -16,8 +16,8 @@ use shared_book::seat::Seat;
 use std::alloc::{AllocError, Global};
 use std::sync::Wait;
 
-/// Serves the request, and gives the response. It is made after the lock was let go, from the event that the receipt has.
-/// The error says that there was no memory to write it.
+/// Serves the request, and gives the response. It is made after the lock was let go, from the event that the receipt
+/// has. The error says that there was no memory to write it.
 pub(crate) fn serve<L: Origin, R: Wait, G: Gate>(
     rt: &R,
     alloc: Global,

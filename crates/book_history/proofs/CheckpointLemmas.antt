@@ -1,5 +1,6 @@
 -- The base that a checkpoint makes says what the events left.
-use Rattle.std.proofs.Common.{◌≡◌, ℕ, ◌+◌, arith, append-nil, Bool, true, false, cond, List, [], ◌∷◌, Option, None, Some, refl, sym, ap, subst, ◌∙◌}
+use Rattle.std.proofs.Common.{◌≡◌, ℕ, ◌+◌, arith, append-nil, Bool, true, false, cond, List, [], ◌∷◌}
+use Rattle.std.proofs.Common.{Option, None, Some, refl, sym, ap, subst, ◌∙◌}
 use Rattle.std.proofs.lemmas.Map.Text.{is_eq-slice_cmp}
 use Rattle.std.proofs.lemmas.Slice.Eq.{bytes_eq-Decides}
 use Rattle.std.specs.FinMap as map
@@ -36,7 +37,8 @@ same_name : (name other : List ℕ) → eq_by_cmp (slice_cmp nat_cmp) name other
 same_name name other = is_eq-slice_cmp name other ∙ same_back name other
 
 set_leaves : (set state : List ℕ) (states : States) (name : List ℕ)
-    → state_of (map.insert states set state) name ≡ unwrap_or (cond (bytes_eq set name) (Some state) None) (state_of states name)
+    → state_of (map.insert states set state) name
+    ≡ unwrap_or (cond (bytes_eq set name) (Some state) None) (state_of states name)
 set_leaves set state states name =
     ap (λ o. unwrap_or o started) (get-insert nat_list_cmp_total states set state name)
     ∙ ap (λ b. unwrap_or (cond b (Some state) (map.get states name)) started) (same_name name set)
@@ -103,8 +105,8 @@ is_checkpoint past = record {
 }
 
 -- a past with the base that a checkpoint makes, and with no events
-pub is_checkpoint_of : (old past known : Past) (events : List Event) → past ≡ old → known ≡ checkpointed past → events ≡ []
-    → IsCheckpoint old (with_events known events)
+pub is_checkpoint_of : (old past known : Past) (events : List Event) → past ≡ old
+    → known ≡ checkpointed past → events ≡ [] → IsCheckpoint old (with_events known events)
 unfolding checkpointed
 is_checkpoint_of old past known events o k n =
     subst (λ (p : Past). IsCheckpoint p (with_events known events)) o

@@ -1,6 +1,7 @@
 -- One turn of the loop over the events, from the last to the first.
-use Rattle.std.proofs.Common.{◌≡◌, ℕ, ◌+◌, ◌-◌, ◌<◌, ◌≤◌, true, false, List, [], ◌∷◌, ◌++◌, length, get_or, take, Option}
-use Rattle.std.proofs.Common.{None, Some, option_map, sym, ap, ◌∙◌, arith, append-nil, append_assoc}
+use Rattle.std.proofs.Common.{◌≡◌, ℕ, ◌+◌, ◌-◌, ◌<◌, ◌≤◌, true, false, List, [], ◌∷◌}
+use Rattle.std.proofs.Common.{◌++◌, length, get_or, take, Option, None, Some, option_map, sym, ap, ◌∙◌, arith}
+use Rattle.std.proofs.Common.{append-nil, append_assoc}
 use Rattle.std.proofs.lemmas.List.{take_more, length-take-le}
 use Rattle.std.specs.List.{cons_option}
 use Rattle.mock_request.specs.Request.{Request}
@@ -10,7 +11,8 @@ use Rattle.request_journal.specs.declared.event.Event.{Event}
 use Rattle.book_history.specs.Inner.Shown.{entry_of, visible_in}
 use Rattle.book_history.proofs.VisibleLemmas.{shown_cleared, shown_more}
 
-module _ (found : Event → Option Request) (before : ℕ) (es : List Event) (k : ℕ) (d : Event) (l : k < length es) where
+module _ (found : Event → Option Request) (before : ℕ) (es : List Event) (k : ℕ) (d : Event)
+    (l : k < length es) where
   pub turn_cleared : clears (get_or es k d) ≡ true → visible_in found before (take (k + 1) es) ≡ []
   turn_cleared h =
       ap (visible_in found before) (take_more es k d l) ∙ shown_cleared found before (take k es) (get_or es k d) h
@@ -28,7 +30,8 @@ module _ (found : Event → Option Request) (before : ℕ) (es : List Event) (k 
       (visible_in found before (take k es))) number
 
 -- the loop: `left` events are to be looked at, `entries` were shown of the others, and `event` is the next one
-module _ (found : Event → Option Request) (before : ℕ) (es : List Event) (left : ℕ) (entries : List Entry) (event : Event)
+module _ (found : Event → Option Request) (before : ℕ) (es : List Event) (left : ℕ)
+    (entries : List Entry) (event : Event)
     (some : 0 < left) (within : left ≤ length es)
     (so_far : visible_in found before es ≡ entries ++ visible_in found before (take left es))
     (is_next : event ≡ get_or es (left - 1) event) where
@@ -47,7 +50,8 @@ module _ (found : Event → Option Request) (before : ℕ) (es : List Event) (le
   pub at_clear : clears event ≡ true → entries ≡ visible_in found before es
   at_clear h =
       sym (here
-      ∙ ap (λ l. entries ++ l) (turn_cleared found before es (left - 1) event in_range (ap clears (sym is_next) ∙ h))
+      ∙ ap (λ l. entries ++ l)
+      (turn_cleared found before es (left - 1) event in_range (ap clears (sym is_next) ∙ h))
       ∙ append-nil entries)
 
   past_it : clears event ≡ false → (o : Option Request) → found event ≡ o
@@ -64,8 +68,8 @@ module _ (found : Event → Option Request) (before : ℕ) (es : List Event) (le
       → visible_in found before es ≡ entries ++ visible_in found before (take (left - 1) es)
   past_none h f = past_it h None f
 
-  pub past_some : clears event ≡ false → (request : Request) → found event ≡ Some request → (more : List Entry)
-      → more ≡ entries ++ record { number = number; request = request } ∷ []
+  pub past_some : clears event ≡ false → (request : Request) → found event ≡ Some request
+      → (more : List Entry) → more ≡ entries ++ record { number = number; request = request } ∷ []
       → visible_in found before es ≡ more ++ visible_in found before (take (left - 1) es)
   past_some h request f more m =
       past_it h (Some request) f

@@ -1,6 +1,7 @@
 -- What a list of events shows after one more, and what is picked from a list after one more.
-use Rattle.std.proofs.Common.{◌≡◌, inl, inr, ℕ, ◌+◌, Bool, true, false, List, [], ◌∷◌, ◌++◌, length, Option, None, Some}
-use Rattle.std.proofs.Common.{refl, sym, ap, subst, ◌∙◌, append-nil, reverse, get_or, take, ◌<◌}
+use Rattle.std.proofs.Common.{◌≡◌, inl, inr, ℕ, ◌+◌, Bool, true, false, List, [], ◌∷◌, ◌++◌}
+use Rattle.std.proofs.Common.{length, Option, None, Some, refl, sym, ap, subst, ◌∙◌, append-nil, reverse, get_or}
+use Rattle.std.proofs.Common.{take, ◌<◌}
 use Rattle.std.proofs.lemmas.List.{reverse-append, take_more}
 use Rattle.std.specs.List.{filter_map, cons_option}
 use Rattle.mock_request.specs.Request.{Request}
@@ -13,7 +14,8 @@ use Rattle.book_history.specs.Inner.Shown.{entry_of, visible_in}
 abbrev does_clear : Numbered → Bool
 does_clear n = clears n.event
 
-last_of_all : {X : Type 0} (xs : List X) (o : Option X) → reverse (xs ++ cons_option o []) ≡ cons_option o (reverse xs)
+last_of_all : {X : Type 0} (xs : List X) (o : Option X)
+    → reverse (xs ++ cons_option o []) ≡ cons_option o (reverse xs)
 last_of_all xs None = ap reverse (append-nil xs)
 last_of_all xs (Some x) = reverse-append xs (x ∷ [])
 
@@ -24,7 +26,8 @@ module _ (found : Event → Option Request) (before : ℕ) (es : List Event) (e 
   pub shown_cleared : clears e ≡ true → visible_in found before (es ++ e ∷ []) ≡ []
   shown_cleared h =
       ap (λ l. reverse (filter_map (entry_of found) (after_last does_clear l))) (numbered_one (before + 1) es e)
-      ∙ ap (λ l. reverse (filter_map (entry_of found) l)) (after_passing does_clear (numbered (before + 1) es) last h)
+      ∙ ap (λ l. reverse (filter_map (entry_of found) l))
+      (after_passing does_clear (numbered (before + 1) es) last h)
 
   pub shown_more : clears e ≡ false
       → visible_in found before (es ++ e ∷ []) ≡ cons_option (entry_of found last) (visible_in found before es)
@@ -32,7 +35,8 @@ module _ (found : Event → Option Request) (before : ℕ) (es : List Event) (e 
       ap (λ l. reverse (filter_map (entry_of found) (after_last does_clear l))) (numbered_one (before + 1) es e)
       ∙ ap (λ l. reverse (filter_map (entry_of found) l)) (after_other does_clear (numbered (before + 1) es) last h)
       ∙ ap reverse (found_one (entry_of found) (after_last does_clear (numbered (before + 1) es)) last)
-      ∙ last_of_all (filter_map (entry_of found) (after_last does_clear (numbered (before + 1) es))) (entry_of found last)
+      ∙ last_of_all (filter_map (entry_of found)
+      (after_last does_clear (numbered (before + 1) es))) (entry_of found last)
 
 module _ {X : Type 0} (P : X → Type 0) where
   pub picked : (xs ys : List X) (x : X) → Picks P xs ys → P x → Picks P (xs ++ x ∷ []) (ys ++ x ∷ [])
@@ -47,7 +51,8 @@ module _ {X : Type 0} (P : X → Type 0) where
   left_out (z ∷ zs) ys x (inr h) p = inr (h.0, left_out zs ys x h.1 p)
 
   -- the loop over `xs`, at the item `x` with this index
-  module _ (xs : List X) (index : ℕ) (x : X) (in_range : index < length xs) (is_item : x ≡ get_or xs index x) (ys : List X)
+  module _ (xs : List X) (index : ℕ) (x : X) (in_range : index < length xs)
+      (is_item : x ≡ get_or xs index x) (ys : List X)
       (so_far : Picks P (take index xs) ys) where
     one_more : take index xs ++ x ∷ [] ≡ take (index + 1) xs
     one_more = ap (λ y. take index xs ++ y ∷ []) is_item ∙ sym (take_more xs index x in_range)

@@ -19,8 +19,8 @@ impl Row {
     }
 }
 
-/// The row of a line, if it has one: a line that is empty or begins with `#` has none. Where a line has no `=>`, what is
-/// wanted is no answer, since answers begin with a TAB.
+/// The row of a line, if it has one: a line that is empty or begins with `#` has none. Where a line has no `=>`, what
+/// is wanted is no answer, since answers begin with a TAB.
 ///
 /// In a cell, the pictures U+2400 to U+241F and U+2421 are the control characters that they show, and parts like
 /// `a × 3`, with ` + ` between two, are texts that are repeated.

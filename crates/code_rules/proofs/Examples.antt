@@ -1,5 +1,6 @@
 -- Worked examples of code without loops, which the checker computes.
-use Rattle.std.specs.Prelude.{◌≡◌, ℕ, zero, suc, List, [], ◌∷◌, ◌++◌, replicate, Option, Some, None, codes, pos}
+use Rattle.std.specs.Prelude.{◌≡◌, ℕ, zero, suc, List, [], ◌∷◌, ◌++◌, replicate, Option, Some, None}
+use Rattle.std.specs.Prelude.{codes, pos}
 use Rattle.std.proofs.Common.{refl, sym, ap, length, ◌^◌, ◌-◌, Bool, true, false, true≢false}
 use Rattle.data_tree.specs.Tree.{Tree, text, nothing}
 use Rattle.helper_set.specs.Values.{a_datum}
@@ -42,7 +43,11 @@ run_of_one_value : Runs one_value (text (codes "Ann")) 4 (codes "Ann")
 run_of_one_value = (record { index = 3; stack = []; loops = []; output = codes "Ann" }, (3, refl, refl, refl), refl)
 
 abbrev hello : StackCode
-hello = record { instrs = Emit 0 ∷ Root 0 ∷ Show ∷ Print ∷ Halt ∷ []; texts = codes "Hello " ∷ []; paths = [] ∷ [] }
+hello = record {
+  instrs = Emit 0 ∷ Root 0 ∷ Show ∷ Print ∷ Halt ∷ [];
+  texts = codes "Hello " ∷ [];
+  paths = [] ∷ [];
+}
 
 budget_of_hello : budget hello ≡ record { steps = 5 ∷ []; bytes = 6 ∷ 1 ∷ [] }
 budget_of_hello = refl
@@ -86,7 +91,8 @@ trap_of_endless root = (
 )
 
 -- accepted: no verdict at any index, nor after the last instruction
-one_value_accepted : verdicts (Root 0 ∷ Show ∷ Print ∷ Halt ∷ []) 5 ≡ None ∷ None ∷ None ∷ None ∷ None ∷ []
+one_value_accepted : verdicts (Root 0 ∷ Show ∷ Print ∷ Halt ∷ []) 5
+    ≡ None ∷ None ∷ None ∷ None ∷ None ∷ []
 one_value_accepted = refl
 
 halt_accepted : verdicts (Halt ∷ []) 2 ≡ None ∷ None ∷ []
@@ -150,7 +156,8 @@ left_before_end : verdicts (Root 0 ∷ Halt ∷ Halt ∷ []) 2 ≡ None ∷ Some
 left_before_end = refl
 
 -- the kind of the top is judged, whatever lies below it
-text_below_data : verdicts (Root 0 ∷ Show ∷ Root 0 ∷ Print ∷ Halt ∷ []) 4 ≡ None ∷ None ∷ None ∷ Some V6 ∷ []
+text_below_data : verdicts (Root 0 ∷ Show ∷ Root 0 ∷ Print ∷ Halt ∷ []) 4
+    ≡ None ∷ None ∷ None ∷ Some V6 ∷ []
 text_below_data = refl
 
 -- a text that is one byte too long for a budget, and one that just fits
@@ -189,7 +196,8 @@ second_is_too_much bytes h = rw h refl
 jump_to_itself : verdicts (Jump 0 ∷ Halt ∷ []) 1 ≡ Some V3 ∷ []
 jump_to_itself = refl
 
-jump_back : verdicts (Root 0 ∷ Show ∷ Print ∷ Jump 1 ∷ Halt ∷ []) 5 ≡ None ∷ None ∷ None ∷ Some V3 ∷ None ∷ []
+jump_back : verdicts (Root 0 ∷ Show ∷ Print ∷ Jump 1 ∷ Halt ∷ []) 5
+    ≡ None ∷ None ∷ None ∷ Some V3 ∷ None ∷ []
 jump_back = refl
 
 jump_past_the_end : verdicts (Jump 2 ∷ Halt ∷ []) 1 ≡ Some V3 ∷ []
@@ -208,7 +216,8 @@ print_after_a_jump = refl
 slot_left_at_a_jump : verdicts (Root 0 ∷ Jump 2 ∷ Halt ∷ []) 3 ≡ None ∷ Some V8 ∷ None ∷ []
 slot_left_at_a_jump = refl
 
-slot_left_after_a_branch : verdicts (Root 0 ∷ Truth true ∷ Branch 3 ∷ Halt ∷ []) 3 ≡ None ∷ None ∷ Some V8 ∷ []
+slot_left_after_a_branch
+    : verdicts (Root 0 ∷ Truth true ∷ Branch 3 ∷ Halt ∷ []) 3 ≡ None ∷ None ∷ Some V8 ∷ []
 slot_left_after_a_branch = refl
 
 -- a slot where a jump goes to
@@ -234,7 +243,11 @@ unless_value_accepted = refl
 
 -- a branch over a text, whose bytes count whether it is written or not
 abbrev over_a_text : StackCode
-over_a_text = record { instrs = Truth true ∷ Branch 3 ∷ Emit 0 ∷ Halt ∷ []; texts = codes "abc" ∷ []; paths = [] }
+over_a_text = record {
+  instrs = Truth true ∷ Branch 3 ∷ Emit 0 ∷ Halt ∷ [];
+  texts = codes "abc" ∷ [];
+  paths = [];
+}
 
 over_a_text_accepted : verdict over_a_text (entry_at over_a_text) 1 ≡ None
 over_a_text_accepted = refl
@@ -273,8 +286,10 @@ run_where_false : Runs if_value nothing 5 (codes "none")
 run_where_false = (record { index = 9; stack = []; loops = []; output = codes "none" }, (4, refl, refl, refl), refl)
 
 -- a literal number has the bound of any number
-bytes_of_a_number : as_printed (budget (with_tables (Number (pos 5) ∷ Show ∷ Print ∷ Halt ∷ []))).bytes ≡ 20 ∷ []
+bytes_of_a_number : as_printed (budget (with_tables (Number (pos 5) ∷ Show ∷ Print ∷ Halt ∷ []))).bytes
+    ≡ 20 ∷ []
 bytes_of_a_number = refl
 
-bytes_of_a_truth : as_printed (budget (with_tables (Root 0 ∷ Test ∷ Show ∷ Print ∷ Halt ∷ []))).bytes ≡ 5 ∷ []
+bytes_of_a_truth : as_printed (budget (with_tables (Root 0 ∷ Test ∷ Show ∷ Print ∷ Halt ∷ []))).bytes
+    ≡ 5 ∷ []
 bytes_of_a_truth = refl

@@ -57,7 +57,8 @@ run_of_no_item = (record { index = 7; stack = []; loops = []; output = [] }, (2,
 abbrev each_index : StackCode
 each_index = record {
   instrs =
-      Root 0 ∷ Each 15 ∷ Index 0 ∷ Show ∷ Print ∷ Emit 0 ∷ Item 0 0 ∷ Show ∷ Print ∷ Last 0 ∷ Call Not ∷ Branch 13
+      Root 0 ∷ Each 15 ∷ Index 0 ∷ Show ∷ Print ∷ Emit 0 ∷ Item 0 0 ∷ Show ∷ Print ∷ Last 0
+      ∷ Call Not ∷ Branch 13
       ∷ Emit 1 ∷ Next 2 ∷ Jump 16 ∷ Emit 2 ∷ Halt ∷ [];
   texts = codes ":" ∷ codes ";" ∷ codes "none" ∷ [];
   paths = [] ∷ [];
@@ -91,7 +92,8 @@ run_of_no_index = (
 abbrev each_pair : StackCode
 each_pair = record {
   instrs =
-      Root 0 ∷ Each 13 ∷ Root 1 ∷ Each 12 ∷ Item 1 2 ∷ Show ∷ Print ∷ Item 0 2 ∷ Show ∷ Print ∷ Emit 0 ∷ Next 4
+      Root 0 ∷ Each 13 ∷ Root 1 ∷ Each 12 ∷ Item 1 2 ∷ Show ∷ Print ∷ Item 0 2 ∷ Show ∷ Print
+      ∷ Emit 0 ∷ Next 4
       ∷ Next 2 ∷ Halt ∷ [];
   texts = codes " " ∷ [];
   paths = (steps.Name (codes "a") ∷ []) ∷ (steps.Name (codes "b") ∷ []) ∷ [] ∷ [];
@@ -121,7 +123,8 @@ run_of_each_pair = (
 -- a loop over each item of a loop: all of it together is no more than the data
 abbrev each_part : StackCode
 each_part = record {
-  instrs = Root 0 ∷ Each 9 ∷ Item 0 1 ∷ Each 8 ∷ Item 0 1 ∷ Show ∷ Print ∷ Next 4 ∷ Next 2 ∷ Halt ∷ [];
+  instrs = Root 0 ∷ Each 9 ∷ Item 0 1 ∷ Each 8 ∷ Item 0 1 ∷ Show ∷ Print ∷ Next 4
+      ∷ Next 2 ∷ Halt ∷ [];
   texts = [];
   paths = [] ∷ [] ∷ [];
 }
@@ -132,7 +135,8 @@ each_part_accepted = refl
 budget_of_each_part : budget each_part ≡ record { steps = 3 ∷ 7 ∷ []; bytes = 0 ∷ 1 ∷ [] }
 budget_of_each_part = refl
 
-coarse_budget_of_each_part : coarse_budget each_part ≡ record { steps = 3 ∷ 3 ∷ 4 ∷ []; bytes = 0 ∷ 0 ∷ 0 ∷ 1 ∷ [] }
+coarse_budget_of_each_part
+    : coarse_budget each_part ≡ record { steps = 3 ∷ 3 ∷ 4 ∷ []; bytes = 0 ∷ 0 ∷ 0 ∷ 1 ∷ [] }
 coarse_budget_of_each_part = refl
 
 run_of_each_part : Runs each_part (fields (member (codes "q") a_and_b no_members)) 14 (codes "ab")
@@ -145,7 +149,8 @@ run_of_each_part = (
 -- three loops in one another, each over the root, and a text
 abbrev three_loops : StackCode
 three_loops = record {
-  instrs = Root 0 ∷ Each 10 ∷ Root 0 ∷ Each 9 ∷ Root 0 ∷ Each 8 ∷ Emit 0 ∷ Next 6 ∷ Next 4 ∷ Next 2 ∷ Halt ∷ [];
+  instrs = Root 0 ∷ Each 10 ∷ Root 0 ∷ Each 9 ∷ Root 0 ∷ Each 8 ∷ Emit 0 ∷ Next 6 ∷ Next 4
+      ∷ Next 2 ∷ Halt ∷ [];
   texts = codes "x" ∷ [];
   paths = [] ∷ [];
 }
@@ -153,7 +158,8 @@ three_loops = record {
 three_loops_accepted : judged_to three_loops 12 ≡ replicate 12 None
 three_loops_accepted = refl
 
-budget_of_three_loops : budget three_loops ≡ record { steps = 3 ∷ 3 ∷ 3 ∷ 2 ∷ []; bytes = 0 ∷ 0 ∷ 0 ∷ 1 ∷ [] }
+budget_of_three_loops : budget three_loops
+    ≡ record { steps = 3 ∷ 3 ∷ 3 ∷ 2 ∷ []; bytes = 0 ∷ 0 ∷ 0 ∷ 1 ∷ [] }
 budget_of_three_loops = refl
 
 run_of_three_loops : Runs three_loops a_and_b 37 (codes "xxxxxxxx")
@@ -209,7 +215,8 @@ budget_of_default = refl
 
 -- the item of the outer loop, once for each part of it
 budget_of_outer_for_parts :
-    budget (with_tables (Root 0 ∷ Each 9 ∷ Item 0 0 ∷ Each 8 ∷ Item 1 0 ∷ Show ∷ Print ∷ Next 4 ∷ Next 2 ∷ Halt ∷ []))
+    budget (with_tables (Root 0 ∷ Each 9 ∷ Item 0 0 ∷ Each 8 ∷ Item 1 0 ∷ Show ∷ Print ∷ Next 4
+    ∷ Next 2 ∷ Halt ∷ []))
     ≡ record { steps = 3 ∷ 7 ∷ []; bytes = 0 ∷ 0 ∷ 1 ∷ [] }
 budget_of_outer_for_parts = refl
 
@@ -250,12 +257,14 @@ jump_out_of_a_loop : verdicts (Root 0 ∷ Each 5 ∷ Truth true ∷ Branch 5 ∷
 jump_out_of_a_loop = refl
 
 -- `Each` goes into its own loop where there is no item
-each_into_its_loop : verdicts (Root 0 ∷ Each 3 ∷ Emit 0 ∷ Next 2 ∷ Halt ∷ []) 4 ≡ None ∷ None ∷ None ∷ Some V4 ∷ []
+each_into_its_loop : verdicts (Root 0 ∷ Each 3 ∷ Emit 0 ∷ Next 2 ∷ Halt ∷ []) 4
+    ≡ None ∷ None ∷ None ∷ Some V4 ∷ []
 each_into_its_loop = refl
 
 -- into another loop of the same depth
 jump_into_another_loop :
-    verdicts (Root 0 ∷ Each 6 ∷ Truth true ∷ Branch 8 ∷ Emit 0 ∷ Next 2 ∷ Root 0 ∷ Each 10 ∷ Emit 0 ∷ Next 8 ∷ Halt
+    verdicts (Root 0 ∷ Each 6 ∷ Truth true ∷ Branch 8 ∷ Emit 0 ∷ Next 2 ∷ Root 0 ∷ Each 10 ∷ Emit 0
+    ∷ Next 8 ∷ Halt
     ∷ []) 9 ≡ replicate 8 None ++ Some V4 ∷ []
 jump_into_another_loop = refl
 
@@ -263,30 +272,35 @@ slot_at_the_end_of_a_loop : verdicts (Root 0 ∷ Each 4 ∷ Root 0 ∷ Next 2 �
     ≡ None ∷ None ∷ None ∷ Some V8 ∷ []
 slot_at_the_end_of_a_loop = refl
 
-slot_below_a_loop : verdicts (Root 0 ∷ Root 0 ∷ Each 4 ∷ Next 3 ∷ Halt ∷ []) 3 ≡ None ∷ None ∷ Some V8 ∷ []
+slot_below_a_loop : verdicts (Root 0 ∷ Root 0 ∷ Each 4 ∷ Next 3 ∷ Halt ∷ []) 3
+    ≡ None ∷ None ∷ Some V8 ∷ []
 slot_below_a_loop = refl
 
 loop_5 :
-    verdicts (Root 0 ∷ Each 15 ∷ Root 0 ∷ Each 14 ∷ Root 0 ∷ Each 13 ∷ Root 0 ∷ Each 12 ∷ Root 0 ∷ Each 11 ∷ Next 10
+    verdicts (Root 0 ∷ Each 15 ∷ Root 0 ∷ Each 14 ∷ Root 0 ∷ Each 13 ∷ Root 0 ∷ Each 12 ∷ Root 0
+    ∷ Each 11 ∷ Next 10
     ∷ Next 8 ∷ Next 6 ∷ Next 4 ∷ Next 2 ∷ Halt ∷ []) 10 ≡ replicate 9 None ++ Some V9 ∷ []
 loop_5 = refl
 
 next_without_a_loop : verdicts (Next 0 ∷ Halt ∷ []) 1 ≡ Some V10 ∷ []
 next_without_a_loop = refl
 
-next_to_another_place : verdicts (Root 0 ∷ Each 4 ∷ Emit 0 ∷ Next 3 ∷ Halt ∷ []) 4 ≡ None ∷ None ∷ None ∷ Some V10 ∷ []
+next_to_another_place : verdicts (Root 0 ∷ Each 4 ∷ Emit 0 ∷ Next 3 ∷ Halt ∷ []) 4
+    ≡ None ∷ None ∷ None ∷ Some V10 ∷ []
 next_to_another_place = refl
 
 halt_in_a_loop : verdicts (Root 0 ∷ Each 2 ∷ Halt ∷ []) 3 ≡ None ∷ None ∷ Some V4 ∷ []
 halt_in_a_loop = refl
 
-halt_in_an_open_loop : verdicts (Root 0 ∷ Each 4 ∷ Emit 0 ∷ Halt ∷ Halt ∷ []) 4 ≡ None ∷ None ∷ None ∷ Some V10 ∷ []
+halt_in_an_open_loop : verdicts (Root 0 ∷ Each 4 ∷ Emit 0 ∷ Halt ∷ Halt ∷ []) 4
+    ≡ None ∷ None ∷ None ∷ Some V10 ∷ []
 halt_in_an_open_loop = refl
 
 index_without_a_loop : verdicts (Index 0 ∷ Show ∷ Print ∷ Halt ∷ []) 1 ≡ Some V11 ∷ []
 index_without_a_loop = refl
 
-item_of_an_outer_loop : verdicts (Root 0 ∷ Each 4 ∷ Item 1 0 ∷ Next 2 ∷ Halt ∷ []) 3 ≡ None ∷ None ∷ Some V11 ∷ []
+item_of_an_outer_loop : verdicts (Root 0 ∷ Each 4 ∷ Item 1 0 ∷ Next 2 ∷ Halt ∷ []) 3
+    ≡ None ∷ None ∷ Some V11 ∷ []
 item_of_an_outer_loop = refl
 
 -- a path that is `urlEncode`d 39 times has three times the coefficient each time
@@ -312,14 +326,16 @@ third_print = refl
 
 -- the coefficient of m is too large
 encoded_item_40 :
-    judged (Root 0 ∷ Each 46 ∷ Item 0 0 ∷ Show ∷ (replicate 40 (Call UrlEncode) ++ Print ∷ Next 2 ∷ Halt ∷ [])) 43
+    judged (Root 0 ∷ Each 46 ∷ Item 0 0 ∷ Show
+    ∷ (replicate 40 (Call UrlEncode) ++ Print ∷ Next 2 ∷ Halt ∷ [])) 43
     ≡ Some V13
 encoded_item_40 = refl
 
 -- 8 * 6^23 + 4 bytes and 6^24 * m: both fit, and their sum, where the loop closes, doesn't
 abbrev text_and_item : List Instr
 text_and_item =
-    Root 0 ∷ Each 57 ∷ Text 0 ∷ Call Base64 ∷ (replicate 23 Escape ++ Call Base64 ∷ Print ∷ Item 0 0 ∷ Show
+    Root 0 ∷ Each 57 ∷ Text 0 ∷ Call Base64
+    ∷ (replicate 23 Escape ++ Call Base64 ∷ Print ∷ Item 0 0 ∷ Show
     ∷ (replicate 24 Escape ++ Print ∷ Next 2 ∷ Halt ∷ []))
 
 both_fit : judged text_and_item 55 ≡ None
@@ -331,7 +347,8 @@ sum_is_too_much = refl
 -- a loop's turns are what takes the region round it over the limit, at its `Next`
 abbrev long_in_a_loop : List ℕ → StackCode
 long_in_a_loop bytes = record {
-  instrs = Emit 0 ∷ Root 0 ∷ Each 5 ∷ Emit 0 ∷ Next 3 ∷ Root 0 ∷ Each 9 ∷ Emit 0 ∷ Next 7 ∷ Halt ∷ [];
+  instrs = Emit 0 ∷ Root 0 ∷ Each 5 ∷ Emit 0 ∷ Next 3 ∷ Root 0 ∷ Each 9 ∷ Emit 0
+      ∷ Next 7 ∷ Halt ∷ [];
   texts = bytes ∷ [];
   paths = [] ∷ [];
 }

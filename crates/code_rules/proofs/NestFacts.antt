@@ -1,5 +1,6 @@
 -- Code as a course of places with loops round them; so the nests of its table are those of a course.
-use Rattle.std.proofs.Common.{◌≡◌, ℕ, zero, suc, List, ◌∷◌, length, Option, Some, None, refl, sym, ap, ◌∙◌}
+use Rattle.std.proofs.Common.{◌≡◌, ℕ, zero, suc, List, ◌∷◌, length, Option, Some, None, refl, sym, ap}
+use Rattle.std.proofs.Common.{◌∙◌}
 use Rattle.std.specs.Prelude.{slice_get, Bool}
 use Rattle.loop_law.specs.Course.{Cost, Bracket, level, opens_over_part, opens_over_data, ends, Course, nothing, nest}
 use Rattle.loop_law.proofs.Nests.{opened-from}
@@ -66,4 +67,5 @@ pub opener-nest : (code : StackCode) (index opener : ℕ) (outer : List ℕ) →
     (entry_at code index).nest ≡ opener ∷ outer → (entry_at code opener).nest ≡ outer
 opener-nest code index opener outer at =
     sym (same-nests code 0 (λ i. nothing) opener)
-    ∙ opened-from (course_of code 0 (λ i. nothing)) index opener outer (same-nests code 0 (λ i. nothing) index ∙ at)
+    ∙ opened-from (course_of code 0 (λ i. nothing)) index opener outer
+    (same-nests code 0 (λ i. nothing) index ∙ at)

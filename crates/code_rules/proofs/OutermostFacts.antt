@@ -1,7 +1,7 @@
 -- Outside of the loops of well-formed code no bound and no cost depends on an item.
-use Rattle.std.proofs.Common.{◌≡◌, ℕ, zero, suc, ◌≤◌, Bool, true, false, true≢false, List, [], ◌∷◌, ◌++◌, length}
-use Rattle.std.proofs.Common.{take, drop, Option, Some, None, refl, sym, ap, ◌∙◌, subst, ⊎_elim, arith}
-use Rattle.std.proofs.Common.{length-append}
+use Rattle.std.proofs.Common.{◌≡◌, ℕ, zero, suc, ◌≤◌, Bool, true, false, true≢false, List, []}
+use Rattle.std.proofs.Common.{◌∷◌, ◌++◌, length, take, drop, Option, Some, None, refl, sym, ap, ◌∙◌}
+use Rattle.std.proofs.Common.{subst, ⊎_elim, arith, length-append}
 use Rattle.std.specs.Prelude.{slice_get, not}
 use Rattle.std.specs.Option.{option_map_or}
 use Rattle.std.proofs.lemmas.Option.{slice_get_cases}
@@ -191,7 +191,8 @@ module _ (code : StackCode) (well : IsWellFormed code) where
       ∙ (formed-keeps code well index i is).open_loop)
       (earlier out)
 
-  flat-at : (index : ℕ) → index ≤ length code.instrs → (well.table index).nest ≡ [] → AllFlat (bounds_at code index)
+  flat-at : (index : ℕ) → index ≤ length code.instrs → (well.table index).nest ≡ []
+      → AllFlat (bounds_at code index)
   flat-at zero le out = tt
   flat-at (suc index) le out =
       ⊎_elim
@@ -224,7 +225,8 @@ module _ (code : StackCode) (well : IsWellFormed code) where
   Whole (o ∷ []) = goes_over_part code o ≡ false
   Whole (o ∷ p ∷ ns) = Whole (p ∷ ns)
 
-  whole : (index : ℕ) (ns : List ℕ) → index ≤ length code.instrs → (entry_at code index).nest ≡ ns → Whole ns
+  whole : (index : ℕ) (ns : List ℕ) → index ≤ length code.instrs
+      → (entry_at code index).nest ≡ ns → Whole ns
   whole index [] le at = tt
   whole index (o ∷ []) le at =
       let here = nest-shape index ∙ at in

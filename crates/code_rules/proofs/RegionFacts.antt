@@ -1,6 +1,7 @@
 -- The cost of regions, as one pass over the instructions adds it up.
-use Rattle.std.proofs.Common.{◌≡◌, ℕ, zero, suc, ◌+◌, ◌-◌, ◌<◌, ◌≤◌, Bool, true, false, true≢false, List, [], ◌∷◌, ◌++◌}
-use Rattle.std.proofs.Common.{length, take, drop, Some, refl, sym, ap, ◌∙◌, subst, arith}
+use Rattle.std.proofs.Common.{◌≡◌, ℕ, zero, suc, ◌+◌, ◌-◌, ◌<◌, ◌≤◌, Bool, true, false}
+use Rattle.std.proofs.Common.{true≢false, List, [], ◌∷◌, ◌++◌, length, take, drop, Some, refl, sym, ap}
+use Rattle.std.proofs.Common.{◌∙◌, subst, arith}
 use Rattle.std.specs.Prelude.{◌||◌, if◌then◌else◌, slice_get}
 use Rattle.std.proofs.lemmas.Option.{none-some, same_Some}
 use Rattle.loop_law.specs.Course as course
@@ -37,7 +38,8 @@ bounds_at-next code index i h =
 share-self : (code : StackCode) (ns : List ℕ) (k : Cost) → share code ns ns k ≡ k
 share-self code [] k = refl
 share-self code (n ∷ ns) k =
-    ap (λ b. if b then k else share code (n ∷ ns) ns (cost_of_turns (goes_over_part code n) k)) (same-refl (n ∷ ns))
+    ap (λ b. if b then k else share code (n ∷ ns) ns (cost_of_turns (goes_over_part code n) k))
+    (same-refl (n ∷ ns))
 
 neither-left : (b c : Bool) → (b || c) ≡ false → b ≡ false
 neither-left true c h = h
@@ -56,7 +58,8 @@ share-outside code outer (n ∷ ns) k h =
     ∙ share-outside code outer ns (cost_of_turns (goes_over_part code n) k)
     (neither-right (same_nest outer (n ∷ ns)) (inside outer ns) h)
 
-share-inside : (code : StackCode) (opener : ℕ) (outer ns : List ℕ) (k : Cost) → inside (opener ∷ outer) ns ≡ true →
+share-inside : (code : StackCode) (opener : ℕ) (outer ns : List ℕ) (k : Cost) →
+    inside (opener ∷ outer) ns ≡ true →
     share code outer ns k ≡ cost_of_turns (goes_over_part code opener) (share code (opener ∷ outer) ns k)
 share-inside code opener outer [] k h = absurd (true≢false (sym h))
 share-inside code opener outer (n ∷ ns) k h =
@@ -144,7 +147,8 @@ module _ (code : StackCode) (index opener : ℕ) (outer : List ℕ)
       (inside-before (shape code) opener y index outer lt le here)
 
   -- what has been added since the loop opened
-  since : (n d : ℕ) → suc opener + d ≡ n → n ≤ suc index → round n ≡ plus_cost (round (suc opener)) (turns (own n))
+  since : (n d : ℕ) → suc opener + d ≡ n → n ≤ suc index
+      → round n ≡ plus_cost (round (suc opener)) (turns (own n))
   since n zero e le =
       let same : n ≡ suc opener = omega (arith, e) in
       let none = before-open code opener n outer (omega (arith, same)) in

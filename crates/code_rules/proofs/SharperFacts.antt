@@ -1,6 +1,6 @@
 -- At each size the budget is at most the one that takes each item for as large as all of the data.
-use Rattle.std.proofs.Common.{◌≡◌, ℕ, zero, suc, ◌+◌, ◌*◌, ◌≤◌, Bool, true, false, List, [], ◌∷◌, length, refl, ap}
-use Rattle.std.proofs.Common.{◌∙◌, arith}
+use Rattle.std.proofs.Common.{◌≡◌, ℕ, zero, suc, ◌+◌, ◌*◌, ◌≤◌, Bool, true, false, List, []}
+use Rattle.std.proofs.Common.{◌∷◌, length, refl, ap, ◌∙◌, arith}
 use Rattle.template_code.specs.Code.{StackCode}
 use Rattle.code_rules.specs.Polynomial.{Polynomial, plus, times_size, value}
 use Rattle.code_rules.specs.Bounds.{Bound, plus_bound, of_turns}
@@ -25,7 +25,8 @@ once-more a p (suc n) =
     times-le (a + p) (a + suc n * p) (suc n) h
 
 -- the turns of a loop cost at most as often as much as there is data
-coarse-turns : (is_part : Bool) (b : Bound) (n : ℕ) → value (coarse (of_turns is_part b)) n ≤ n * value (coarse b) n
+coarse-turns : (is_part : Bool) (b : Bound) (n : ℕ)
+    → value (coarse (of_turns is_part b)) n ≤ n * value (coarse b) n
 coarse-turns true b n =
     let a = value b.alone n in
     let p = value b.per n in

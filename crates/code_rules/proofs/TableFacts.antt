@@ -1,6 +1,6 @@
 -- Each code has a table, and all its tables agree on its instructions; so one rule is broken by all of them.
-use Rattle.std.proofs.Common.{◌≡◌, ℕ, zero, suc, ◌<◌, ◌≤◌, Bool, true, false, List, [], ◌∷◌, length, map, Some}
-use Rattle.std.proofs.Common.{refl, sym, ap, ◌∙◌, ⊎_elim, arith}
+use Rattle.std.proofs.Common.{◌≡◌, ℕ, zero, suc, ◌<◌, ◌≤◌, Bool, true, false, List, [], ◌∷◌}
+use Rattle.std.proofs.Common.{length, map, Some, refl, sym, ap, ◌∙◌, ⊎_elim, arith}
 use Rattle.std.specs.Prelude.{slice_get, not, ◌&&◌, if◌then◌else◌}
 use Rattle.std.specs.List.{list_all}
 use Rattle.std.proofs.lemmas.Option.{slice_get_cases}
@@ -38,8 +38,8 @@ Agree code t u = (index : ℕ) → index ≤ length code.instrs → t index ≡ 
 abbrev nests_of : (ℕ → Entry) → List ℕ → List (List ℕ)
 nests_of t sources = map (λ source. (t source).nest) sources
 
-sources-same : (code : StackCode) (t u : ℕ → Entry) → Agree code t u → (target n : ℕ) → n ≤ length code.instrs →
-    nests_of t (jumps_among code n target) ≡ nests_of u (jumps_among code n target)
+sources-same : (code : StackCode) (t u : ℕ → Entry) → Agree code t u → (target n : ℕ) →
+    n ≤ length code.instrs → nests_of t (jumps_among code n target) ≡ nests_of u (jumps_among code n target)
 sources-same code t u same target zero le = refl
 sources-same code t u same target (suc n) le =
     by (sources-same code t u same target n (omega (arith, le))) (jumps (slice_get code.instrs n) target)
@@ -63,7 +63,8 @@ region-same code t u same nest (suc n) le =
     ∙ ap (λ (e : Entry). plus_cost (region code u nest n) (share code nest e.nest (cost_at code n)))
     (same n (omega (arith, le)))
 
-list_all-same : {A : Type 0} (f g : A → Bool) (xs : List A) → ((x : A) → f x ≡ g x) → list_all f xs ≡ list_all g xs
+list_all-same : {A : Type 0} (f g : A → Bool) (xs : List A) → ((x : A) → f x ≡ g x)
+    → list_all f xs ≡ list_all g xs
 list_all-same f g [] h = refl
 list_all-same f g (x ∷ xs) h = ap (λ b. b && list_all f xs) (h x) ∙ ap (λ b. g x && b) (list_all-same f g xs h)
 

@@ -1,6 +1,7 @@
 -- Code has one violation, or none and is well formed and within its limits.
-use Rattle.std.proofs.Common.{◌≡◌, ℕ, zero, suc, ◌<◌, ◌≤◌, ◌⊎◌, List, [], ◌∷◌, length, Option, Some, None, true}
-use Rattle.std.proofs.Common.{false, true≢false, refl, sym, ap, ◌∙◌, ⊎_elim, inl, inr, arith}
+use Rattle.std.proofs.Common.{◌≡◌, ℕ, zero, suc, ◌<◌, ◌≤◌, ◌⊎◌, List, [], ◌∷◌, length}
+use Rattle.std.proofs.Common.{Option, Some, None, true, false, true≢false, refl, sym, ap, ◌∙◌, ⊎_elim, inl}
+use Rattle.std.proofs.Common.{inr, arith}
 use Rattle.std.specs.Prelude.{Bool}
 use Rattle.std.proofs.Math.Nat.{eq-or-lt_of_le}
 use Rattle.std.proofs.lemmas.Option.{none-some, same_Some, slice_get_past}
@@ -60,7 +61,8 @@ look judge (suc n) = ⊎_elim inl (λ clean. look_at judge n (judge n) refl clea
 look_all : (judge : ℕ → Option Rule) (n : ℕ) → ((index : ℕ) → n ≤ index → judge index ≡ None) →
     Least judge ⊎ ((index : ℕ) → judge index ≡ None)
 look_all judge n past =
-    ⊎_elim inl (λ clean. inr (λ index. ⊎_elim (λ less. clean index less) (λ le. past index le) (cases_lt index n)))
+    ⊎_elim inl (λ clean.
+    inr (λ index. ⊎_elim (λ less. clean index less) (λ le. past index le) (cases_lt index n)))
     (look judge n)
 
 abbrev verdict_of : StackCode → ℕ → Option Rule
@@ -69,7 +71,8 @@ verdict_of code index = verdict code (entry_at code) index
 abbrev broken_of : StackCode → ℕ → Option Rule
 broken_of code index = broken code (entry_at code) index
 
-verdicts_past : (code : StackCode) (index : ℕ) → suc (length code.instrs) ≤ index → verdict_of code index ≡ None
+verdicts_past : (code : StackCode) (index : ℕ) → suc (length code.instrs) ≤ index
+    → verdict_of code index ≡ None
 verdicts_past code zero le = absurd (omega (arith, le))
 verdicts_past code (suc index) le = verdict-past code index (entry_at code) (omega (arith, le))
 
@@ -128,8 +131,8 @@ here-by : (code : StackCode) (index : ℕ) (rule : Rule) → IsViolation code in
 here-by code index rule f t b = verdict-same code t f.table b f.follows index ∙ f.here
 
 -- the only violation of well-formed code is that of V13
-pub violation-V13 : (code : StackCode) (index : ℕ) (rule : Rule) → IsViolation code index rule → IsWellFormed code →
-    (rule ≡ V13) × (is_over_at code (entry_at code) index ≡ true)
+pub violation-V13 : (code : StackCode) (index : ℕ) (rule : Rule) → IsViolation code index rule →
+    IsWellFormed code → (rule ≡ V13) × (is_over_at code (entry_at code) index ≡ true)
 violation-V13 code index rule f w =
     let o = over_is (is_over_at code w.table index)
     (sym (ap (λ o. or_over o (is_over_at code w.table index)) (w.unbroken index))
@@ -140,11 +143,12 @@ violation-V13 code index rule f w =
     over_is true h = (sym (same_Some V13 rule h), refl)
     over_is false h = absurd (none-some rule h)
 
-pub never_both : (code : StackCode) (index : ℕ) (rule : Rule) → IsViolation code index rule → IsWellFormed code →
-    IsWithinLimits code → ⊥
+pub never_both : (code : StackCode) (index : ℕ) (rule : Rule) → IsViolation code index rule →
+    IsWellFormed code → IsWithinLimits code → ⊥
 never_both code index rule f w l = absurd (true≢false (sym (violation-V13 code index rule f w).1 ∙ l index))
 
-earlier_none : (code : StackCode) (p q : ℕ) (r s : Rule) → IsViolation code p r → IsViolation code q s → p < q → ⊥
+earlier_none : (code : StackCode) (p q : ℕ) (r s : Rule) → IsViolation code p r
+    → IsViolation code q s → p < q → ⊥
 earlier_none code p q r s f g less = none-some r (sym (g.before p less) ∙ here-by code p r f g.table g.follows)
 
 pub one_violation : (code : StackCode) (p q : ℕ) (r s : Rule) → IsViolation code p r → IsViolation code q s →

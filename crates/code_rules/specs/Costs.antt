@@ -1,6 +1,7 @@
 -- The lengths of what the slots print as, at most, and the cost of each instruction: the steps that it takes and the
 -- bytes that it writes, at most.
-use Rattle.std.specs.Prelude.{ℕ, zero, suc, Bool, not, ◌&&◌, List, [], ◌∷◌, length, slice_get, unwrap_or, take}
+use Rattle.std.specs.Prelude.{ℕ, zero, suc, Bool, not, ◌&&◌, List, [], ◌∷◌, length, slice_get, unwrap_or}
+use Rattle.std.specs.Prelude.{take}
 use Rattle.std.specs.Option.{option_map_or}
 use Rattle.helper_set.specs.Helpers.{argument_kinds, result_kind, signature_of}
 use Rattle.helper_set.specs.declared.helper.Helper.{Helper}

@@ -1,6 +1,6 @@
 -- What holds of all code.
-use Rattle.std.specs.Prelude.{◌≡◌, ℕ, zero, suc, ◌<◌, ◌≤◌, false, not, ◌&&◌, ◌⊎◌, List, [], ◌∷◌, ◌++◌, map, length}
-use Rattle.std.specs.Prelude.{drop}
+use Rattle.std.specs.Prelude.{◌≡◌, ℕ, zero, suc, ◌<◌, ◌≤◌, false, not, ◌&&◌, ◌⊎◌, List, []}
+use Rattle.std.specs.Prelude.{◌∷◌, ◌++◌, map, length, drop}
 use Rattle.std.specs.Prelude.{Some, is_some, slice_get}
 use Rattle.data_tree.specs.Tree.{Tree}
 use Rattle.helper_set.specs.Values.{Value, kind_of}
@@ -35,7 +35,8 @@ IsAccepted code = IsWellFormed code × IsWithinLimits code
 
 -- code has a violation, or it is accepted
 abbrev pub EachIsJudged : Type 0
-EachIsJudged = (code : StackCode) → ((index : ℕ) × (rule : Rule) × IsViolation code index rule) ⊎ IsAccepted code
+EachIsJudged = (code : StackCode)
+    → ((index : ℕ) × (rule : Rule) × IsViolation code index rule) ⊎ IsAccepted code
 
 abbrev pub NoneIsBoth : Type 0
 NoneIsBoth = (code : StackCode) (index : ℕ) (rule : Rule) → IsViolation code index rule → IsAccepted code → ⊥
@@ -65,7 +66,8 @@ FormedIsLimited =
 -- the only violation of well-formed code is that of V13
 abbrev pub FormedViolatesV13 : Type 0
 FormedViolatesV13 =
-    (code : StackCode) (index : ℕ) (rule : Rule) → IsViolation code index rule → IsWellFormed code → rule ≡ V13
+    (code : StackCode) (index : ℕ) (rule : Rule) → IsViolation code index rule
+    → IsWellFormed code → rule ≡ V13
 
 -- an instruction has an effect exactly where it keeps V2, V11, V5 and V6
 abbrev pub EffectsAreRuled : Type 0

@@ -1,6 +1,6 @@
 -- Bounds and costs with a coefficient that is too large, and the bounds of slots.
-use Rattle.std.proofs.Common.{◌≡◌, ℕ, zero, suc, ◌<◌, Bool, true, false, List, [], ◌∷◌, take, drop, map, Some, None}
-use Rattle.std.proofs.Common.{refl, sym, ◌∙◌, ⊎_elim}
+use Rattle.std.proofs.Common.{◌≡◌, ℕ, zero, suc, ◌<◌, Bool, true, false, List, [], ◌∷◌, take, drop}
+use Rattle.std.proofs.Common.{map, Some, None, refl, sym, ◌∙◌, ⊎_elim}
 use Rattle.std.specs.Prelude.{◌&&◌, if◌then◌else◌}
 use Rattle.std.specs.List.{list_all}
 use Rattle.std.proofs.lemmas.Bool.{and_cases, and_left, and_right}
@@ -84,7 +84,8 @@ within-left b c h = by_none (bound_fits (plus_bound b c)) (plus_bound b c) (boun
 pub within-right : (b c : Bound) → None ≡ bound_within c → None ≡ bound_within (plus_bound b c)
 within-right b c h = by_none (bound_fits (plus_bound b c)) (plus_bound b c) (bound-right b c (bound-none c h))
 
-pub within-times : (k : ℕ) (b : Bound) → 0 < k → None ≡ bound_within b → None ≡ bound_within (times_bound k b)
+pub within-times : (k : ℕ) (b : Bound) → 0 < k → None ≡ bound_within b
+    → None ≡ bound_within (times_bound k b)
 within-times k b some h =
     by_none (bound_fits (times_bound k b)) (times_bound k b) (bound-times k b some (bound-none b h))
 
@@ -111,8 +112,8 @@ two-bounds (b ∷ []) = refl
 two-bounds (b ∷ c ∷ bs) = refl
 
 -- the bound of a slot, where there is one
-top-map : {A : Type 0} (f : A → Bound) (depth : ℕ) (slots below : List A) (slot : A) → drop depth slots ≡ slot ∷ below →
-    top (drop depth (map f slots)) ≡ f slot
+top-map : {A : Type 0} (f : A → Bound) (depth : ℕ) (slots below : List A) (slot : A) →
+    drop depth slots ≡ slot ∷ below → top (drop depth (map f slots)) ≡ f slot
 top-map f zero slots below slot e = rw e refl
 top-map f (suc depth) [] below slot e = cc
 top-map f (suc depth) (s ∷ slots) below slot e = top-map f depth slots below slot e

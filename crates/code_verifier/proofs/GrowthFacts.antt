@@ -1,6 +1,6 @@
 -- Where a part of a sum has a coefficient that is too large, the sum has one.
-use Rattle.std.proofs.Common.{◌≡◌, ℕ, zero, suc, ◌+◌, ◌<◌, ◌≤◌, nat_le, Bool, true, false, [], ◌∷◌}
-use Rattle.std.proofs.Common.{Some, None, refl, sym, subst, ⊎_elim, ◌-◌, arith}
+use Rattle.std.proofs.Common.{◌≡◌, ℕ, zero, suc, ◌+◌, ◌<◌, ◌≤◌, nat_le, Bool, true, false, []}
+use Rattle.std.proofs.Common.{◌∷◌, Some, None, refl, sym, subst, ⊎_elim, ◌-◌, arith}
 use Rattle.std.specs.Prelude.{if◌then◌else◌}
 use Rattle.std.proofs.lemmas.Bool.{and_cases, and_left, and_right}
 use Rattle.std.proofs.lemmas.Bool.Decides.{nat_tests}
@@ -59,15 +59,16 @@ some_is false ps qs h = absurd (none-some qs (sym h))
 pub within-some : (ps qs : Polynomial) → Some qs ≡ within ps → qs ≡ ps
 within-some ps qs h = some_is (fits ps) ps qs h
 
-pub within-later : (k n : ℕ) (ps : Polynomial) → k ≤ n → None ≡ within (times k ps) → None ≡ within (times n ps)
+pub within-later : (k n : ℕ) (ps : Polynomial) → k ≤ n → None ≡ within (times k ps)
+    → None ≡ within (times n ps)
 within-later k n ps le h =
     let e : (n - k) + k ≡ n = omega arith in
     let P : ℕ → Type 0 = λ m. None ≡ within (times m ps) in
     subst P e (over_is_none (times ((n - k) + k) ps) (over-later k (n - k) ps (none_is_over _ (times k ps) h)))
 
 -- one more of the many
-pub times-none : (done count : ℕ) (ps product : Polynomial) → done < count → Some product ≡ within (times done ps) →
-    None ≡ within (plus ps product) → None ≡ within (times count ps)
+pub times-none : (done count : ℕ) (ps product : Polynomial) → done < count →
+    Some product ≡ within (times done ps) → None ≡ within (plus ps product) → None ≡ within (times count ps)
 times-none done count ps product le before h =
     let P : Polynomial → Type 0 = λ x. None ≡ within (plus ps x) in
     within-later (suc done) count ps (omega arith) (subst P (within-some (times done ps) product before) h)

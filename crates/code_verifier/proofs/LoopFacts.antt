@@ -1,5 +1,6 @@
 -- The open loops and the costs of their regions, before an instruction and after it.
-use Rattle.std.proofs.Common.{◌≡◌, ℕ, suc, Bool, true, false, List, [], ◌∷◌, drop, Some, refl, sym, ap, ◌∙◌}
+use Rattle.std.proofs.Common.{◌≡◌, ℕ, suc, Bool, true, false, List, [], ◌∷◌, drop, Some, refl, sym, ap}
+use Rattle.std.proofs.Common.{◌∙◌}
 use Rattle.std.specs.Prelude.{◌&&◌, slice_get}
 use Rattle.std.specs.List.{list_all}
 use Rattle.std.specs.Option.{option_map_or}
@@ -42,7 +43,8 @@ own-is code index i bounds spent at b s =
     let nest = (entry_at code index).nest in
     ap (λ c. plus_cost c (cost code i bounds)) s
     ∙ (ap (λ bs. plus_cost (region_at code nest index) (cost code i bs)) b
-    ∙ (ap (λ o. plus_cost (region_at code nest index) (option_map_or (λ j. cost code j (bounds_at code index)) o no_cost))
+    ∙ (ap (λ o. plus_cost (region_at code nest index)
+    (option_map_or (λ j. cost code j (bounds_at code index)) o no_cost))
     (sym at)
     ∙ sym (own-grows code index)))
 
@@ -94,13 +96,15 @@ module _ (code : StackCode) (index : ℕ) (own : Cost) (is_part : Bool) where
   both_fit f nest =
       cost_fits (region_at code nest (suc index)) && cost_fits (region_at code (nest_after f index nest) (suc index))
 
-  regions-fit : (f : Flow) (nest : List ℕ) → (entry_at code index).nest ≡ nest → regions_fit f nest ≡ both_fit f nest
+  regions-fit : (f : Flow) (nest : List ℕ) → (entry_at code index).nest ≡ nest
+      → regions_fit f nest ≡ both_fit f nest
   regions-fit Flow.Straight nest at = twice (cost_fits (region_at code nest (suc index)))
   regions-fit (Flow.Jump a) nest at = twice (cost_fits (region_at code nest (suc index)))
   regions-fit (Flow.Branch a) nest at = twice (cost_fits (region_at code nest (suc index)))
   regions-fit (Flow.Open a) nest at =
       let none : cost_fits (region_at code (index ∷ nest) (suc index)) ≡ true =
-      ap (λ ns. cost_fits (region_at code (index ∷ ns) (suc index))) (sym at) ∙ ap cost_fits (region-opens code index) in
+      ap (λ ns. cost_fits (region_at code (index ∷ ns) (suc index))) (sym at)
+      ∙ ap cost_fits (region-opens code index) in
       ap (λ b. cost_fits (region_at code nest (suc index)) && b) (sym none)
   regions-fit (Flow.Close a) nest at =
       ap (λ b. cost_fits (region_at code nest (suc index)) && b)

@@ -1,6 +1,6 @@
 -- A nest is known by its innermost loop; so a mark says whether all jumps to an instruction come from its nest.
-use Rattle.std.proofs.Common.{◌≡◌, ℕ, ◌<◌, Bool, true, false, true≢false, nat_eq, List, [], ◌∷◌, length, map}
-use Rattle.std.proofs.Common.{Option, Some, None, refl, sym, ap, ◌∙◌, arith}
+use Rattle.std.proofs.Common.{◌≡◌, ℕ, ◌<◌, Bool, true, false, true≢false, nat_eq, List, [], ◌∷◌}
+use Rattle.std.proofs.Common.{length, map, Option, Some, None, refl, sym, ap, ◌∙◌, arith}
 use Rattle.std.specs.Prelude.{◌&&◌, not, set, replicate, if◌then◌else◌}
 use Rattle.std.specs.List.{list_all}
 use Rattle.std.proofs.lemmas.Bool.Decides.{nat_tests}
@@ -33,8 +33,8 @@ loop-true (Some m) None h = absurd (true≢false (sym h))
 loop-true (Some m) (Some n) h = let e : m ≡ n = grind (arith, nat_tests, h) in ap Some e
 
 -- the nests of two indices are the same where their innermost loops are
-by-loop : (code : StackCode) (p q : ℕ) (ms ns : List ℕ) → (entry_at code p).nest ≡ ms → (entry_at code q).nest ≡ ns →
-    same_nest ms ns ≡ same_loop (innermost ms) (innermost ns)
+by-loop : (code : StackCode) (p q : ℕ) (ms ns : List ℕ) → (entry_at code p).nest ≡ ms →
+    (entry_at code q).nest ≡ ns → same_nest ms ns ≡ same_loop (innermost ms) (innermost ns)
 by-loop code p q [] [] a b = refl
 by-loop code p q [] (n ∷ ns) a b = refl
 by-loop code p q (m ∷ ms) [] a b = refl
@@ -126,8 +126,8 @@ mark_at-set_other marks t index mark other =
     ∙ (get_or-set_other marks t index mark Unmarked other ∙ sym (unwrap_or-slice_get marks index Unmarked))
 
 -- one more instruction, and where it jumps to
-pub mark-next : (code : StackCode) (index target : ℕ) (marks : List Mark) (jump : Option ℕ) → target < length marks →
-    mark_at marks target ≡ mark_of (nests_of code (jumps_among code index target)) →
+pub mark-next : (code : StackCode) (index target : ℕ) (marks : List Mark) (jump : Option ℕ) →
+    target < length marks → mark_at marks target ≡ mark_of (nests_of code (jumps_among code index target)) →
     mark_at (with_target jump (innermost (entry_at code index).nest) marks) target
     ≡ mark_of (nests_of code
     (if is_target jump target then index ∷ jumps_among code index target else jumps_among code index target))
@@ -141,13 +141,15 @@ mark-next code index target marks (Some t) lt h = by (nat_eq t target) refl
     new n = with_jump from (mark_at marks n)
 
     by : (b : Bool) → nat_eq t target ≡ b → mark_at (set marks t (new t)) target
-        ≡ mark_of (nests_of code (if b then index ∷ jumps_among code index target else jumps_among code index target))
+        ≡ mark_of (nests_of code
+        (if b then index ∷ jumps_among code index target else jumps_among code index target))
     by true at = let same : t ≡ target = grind (arith, nat_tests, at) in
         ap (λ n. mark_at (set marks n (new n)) target) same
         ∙ (mark_at-set_same marks target (new target) lt ∙ ap (with_jump from) h)
     by false at = mark_at-set_other marks t target (new t)
         (λ same. true≢false (sym (same_index t) ∙ (ap (nat_eq t) (sym same) ∙ at))) ∙ h
 
-pub length-with_target : (jump l : Option ℕ) (marks : List Mark) → length (with_target jump l marks) ≡ length marks
+pub length-with_target : (jump l : Option ℕ) (marks : List Mark)
+    → length (with_target jump l marks) ≡ length marks
 length-with_target None l marks = refl
 length-with_target (Some t) l marks = length-set marks t (with_jump l (mark_at marks t))

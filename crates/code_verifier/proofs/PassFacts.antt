@@ -1,6 +1,7 @@
 -- What the pass knows before an instruction, and what it knows after it.
-use Rattle.std.proofs.Common.{◌≡◌, ℕ, zero, suc, ◌<◌, ◌≤◌, Bool, true, false, true≢false, nat_eq, List, [], ◌∷◌, length, map}
-use Rattle.std.proofs.Common.{Option, Some, None, refl, sym, ap, ◌∙◌, subst, ⊎_elim, arith}
+use Rattle.std.proofs.Common.{◌≡◌, ℕ, zero, suc, ◌<◌, ◌≤◌, Bool, true, false, true≢false, nat_eq}
+use Rattle.std.proofs.Common.{List, [], ◌∷◌, length, map, Option, Some, None, refl, sym, ap, ◌∙◌, subst}
+use Rattle.std.proofs.Common.{⊎_elim, arith}
 use Rattle.std.specs.Prelude.{min, replicate, slice_get, not, ◌&&◌, if◌then◌else◌}
 use Rattle.std.specs.List.{list_all}
 use Rattle.std.proofs.Math.Nat.{eq-or-lt_of_le}
@@ -114,7 +115,8 @@ module _ (code : StackCode) (index : ℕ) (i : Instr) (slots : List Slot) (loops
   broken-is mark m =
       let nest = open-nest code here.nest loops k.loops_open in
       ap (λ ns. broken_parts code index i ns (kinds_of slots) (agrees (innermost ns) mark) (is_marked mark)) nest
-      ∙ (ap (λ ks. broken_parts code index i here.nest ks (agrees (innermost here.nest) mark) (is_marked mark)) k.kinds
+      ∙ (ap (λ ks. broken_parts code index i here.nest ks (agrees (innermost here.nest) mark)
+      (is_marked mark)) k.kinds
       ∙ (ap (λ x. broken_parts code index i here.nest here.kinds (agrees (innermost here.nest) x) (is_marked x)) m
       ∙ (ap (λ b. broken_parts code index i here.nest here.kinds b (is_marked (mark_of sources)))
       (agrees-all code index (jumps_among code index index))
@@ -204,8 +206,8 @@ empty : (nest : List ℕ) → not (is_empty nest) ≡ false → nest ≡ []
 empty [] h = refl
 empty (o ∷ nest) h = absurd (true≢false h)
 
-ends-out : (f : Flow) (last : Bool) (index : ℕ) (nest : List ℕ) → last ≡ true → is_misplaced f last ≡ false →
-    closes_wrongly f nest ≡ false → nest_after f index nest ≡ []
+ends-out : (f : Flow) (last : Bool) (index : ℕ) (nest : List ℕ) → last ≡ true →
+    is_misplaced f last ≡ false → closes_wrongly f nest ≡ false → nest_after f index nest ≡ []
 ends-out Flow.Straight last index nest e m c = absurd (true≢false (sym e ∙ m))
 ends-out (Flow.Jump a) last index nest e m c = absurd (true≢false (sym e ∙ m))
 ends-out (Flow.Branch a) last index nest e m c = absurd (true≢false (sym e ∙ m))

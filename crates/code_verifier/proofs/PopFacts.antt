@@ -1,6 +1,6 @@
 -- What is popped and pushed, by the number of slots.
-use Rattle.std.proofs.Common.{◌≡◌, ℕ, suc, ◌+◌, ◌-◌, List, [], ◌∷◌, ◌++◌, length, drop, Bool, true, false, nat_lt}
-use Rattle.std.proofs.Common.{refl, sym, ap, ◌∙◌, length-append, length-drop, arith}
+use Rattle.std.proofs.Common.{◌≡◌, ℕ, suc, ◌+◌, ◌-◌, List, [], ◌∷◌, ◌++◌, length, drop, Bool}
+use Rattle.std.proofs.Common.{true, false, nat_lt, refl, sym, ap, ◌∙◌, length-append, length-drop, arith}
 use Rattle.std.specs.Prelude.{◌&&◌}
 use Rattle.std.specs.List.{list_any}
 use Rattle.helper_set.specs.Values.{same_kind}
@@ -33,7 +33,8 @@ fit-two w v (k ∷ kinds) = ap (λ b. b && kinds_fit (v ∷ []) kinds) (and_true
     and_true true = refl
     and_true false = refl
 
-pub fit-one : (w : List Kind) (k : Kind) (kinds : List Kind) → list_any (same_kind k) w ≡ kinds_fit (w ∷ []) (k ∷ kinds)
+pub fit-one : (w : List Kind) (k : Kind) (kinds : List Kind)
+    → list_any (same_kind k) w ≡ kinds_fit (w ∷ []) (k ∷ kinds)
 fit-one w k kinds = true_and (list_any (same_kind k) w)
   where
     true_and : (b : Bool) → b ≡ (b && true)

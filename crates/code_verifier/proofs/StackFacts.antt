@@ -1,6 +1,6 @@
 -- The slots of a stack, which are kept with the top last.
-use Rattle.std.proofs.Common.{◌≡◌, ℕ, ◌+◌, ◌-◌, ◌<◌, List, ◌∷◌, ◌++◌, length, take, drop, get_or, sym, ap, ◌∙◌}
-use Rattle.std.proofs.Common.{⊎_elim, length-drop, arith}
+use Rattle.std.proofs.Common.{◌≡◌, ℕ, ◌+◌, ◌-◌, ◌<◌, List, ◌∷◌, ◌++◌, length, take, drop}
+use Rattle.std.proofs.Common.{get_or, sym, ap, ◌∙◌, ⊎_elim, length-drop, arith}
 use Rattle.std.specs.Prelude.{reverse}
 use Rattle.std.proofs.lemmas.List.{reverse-append, length-reverse, take-append-drop, drop_at, drop_all, drop_more}
 use Rattle.std.proofs.lemmas.List.{get_or-reverse}
@@ -14,7 +14,8 @@ drop-reverse xs n =
     let k = length xs - n in
     let whole : reverse (drop k xs) ++ reverse (take k xs)
     ≡ reverse xs = sym (reverse-append (take k xs) (drop k xs)) ∙ ap reverse (take-append-drop k xs) in
-    let len : length (reverse (drop k xs)) ≡ n = length-reverse (drop k xs) ∙ (length-drop k xs ∙ omega (arith, lt)) in
+    let len : length (reverse (drop k xs)) ≡ n =
+    length-reverse (drop k xs) ∙ (length-drop k xs ∙ omega (arith, lt)) in
     sym (drop_at (reverse (drop k xs)) (reverse (take k xs)) n len) ∙ ap (drop n) whole)
     (λ le.
     let none : length xs - n ≡ 0 = omega (arith, le) in

@@ -1,6 +1,7 @@
 -- A sum of polynomials, coefficient by coefficient, and values.
-use Rattle.std.proofs.Common.{◌≡◌, ℕ, zero, suc, ◌+◌, ◌*◌, ◌<◌, ◌≤◌, nat_le, Bool, true, false, [], ◌∷◌, ◌++◌}
-use Rattle.std.proofs.Common.{length, drop, get_or, Some, None, append_assoc, refl, sym, ap, ◌∙◌, arith}
+use Rattle.std.proofs.Common.{◌≡◌, ℕ, zero, suc, ◌+◌, ◌*◌, ◌<◌, ◌≤◌, nat_le, Bool, true}
+use Rattle.std.proofs.Common.{false, [], ◌∷◌, ◌++◌, length, drop, get_or, Some, None, append_assoc, refl, sym}
+use Rattle.std.proofs.Common.{ap, ◌∙◌, arith}
 use Rattle.std.specs.Prelude.{max, ◌&&◌, cond}
 use Rattle.std.proofs.lemmas.List.Folds.{list_all-append}
 use Rattle.std.proofs.lemmas.Option.{none-some, same_Some}
@@ -28,7 +29,8 @@ plus-drop [] [] i h = absurd (omega (arith, h))
 plus-drop [] (q ∷ qs) i h =
     ap (λ x. plus x (drop i (q ∷ qs))) (drop-none i) ∙ drop-right (q ∷ qs) i (omega (arith, h))
 plus-drop (p ∷ ps) [] i h =
-    ap (plus (drop i (p ∷ ps))) (drop-none i) ∙ (plus-empty (drop i (p ∷ ps)) ∙ (drop-left (p ∷ ps) i (omega (arith, h))
+    ap (plus (drop i (p ∷ ps))) (drop-none i)
+    ∙ (plus-empty (drop i (p ∷ ps)) ∙ (drop-left (p ∷ ps) i (omega (arith, h))
     ∙ ap (λ x. (get_or (p ∷ ps) i 0 + 0) ∷ x) (sym (plus-empty (drop (suc i) (p ∷ ps))))))
 plus-drop (p ∷ ps) (q ∷ qs) zero h = refl
 plus-drop (p ∷ ps) (q ∷ qs) (suc i) h = plus-drop ps qs i (omega (arith, h))
@@ -38,7 +40,8 @@ value-zero [] = refl
 value-zero (p ∷ ps) = grind arith
 
 -- a value that is too large stays so where a coefficient is put before the list
-pub value-over : (p : ℕ) (ps : Polynomial) (n l m : ℕ) → l ≤ m → get_or ps 0 0 < l → m ≤ value ps n → m ≤ value (p ∷ ps) n
+pub value-over : (p : ℕ) (ps : Polynomial) (n l m : ℕ) → l ≤ m → get_or ps 0 0 < l → m ≤ value ps n
+    → m ≤ value (p ∷ ps) n
 value-over p ps zero l m le lt h = absurd (let e = value-zero ps in omega (arith, le, lt, h, e))
 value-over p ps (suc n) l m le lt h = let k : suc n * value ps (suc n)
     ≡ value ps (suc n) + n * value ps (suc n) = grind arith in omega (arith, h, k)

@@ -1,6 +1,6 @@
 //! Polynomials with coefficients of 64 bits.
-ghost use Rattle.std.specs.Prelude.{◌≡◌, ◌+◌, ◌*◌, ◌≤◌, ◌^◌, ◌↔◌, if◌then◌else◌, nat_le, [], ◌∷◌, Some, None, slice_index};
-ghost use Rattle.std.specs.Prelude.{IfOk, IfSome, IsNone};
+ghost use Rattle.std.specs.Prelude.{◌≡◌, ◌+◌, ◌*◌, ◌≤◌, ◌^◌, ◌↔◌, if◌then◌else◌};
+ghost use Rattle.std.specs.Prelude.{nat_le, [], ◌∷◌, Some, None, slice_index, IfOk, IfSome, IsNone};
 ghost use Rattle.std.specs.Option.{option_map};
 ghost use Rattle.code_rules.specs.Polynomial.{constant, plus, times, times_size, fits, value, as_printed};
 ghost use Rattle.code_rules.specs.Costs.{is_empty};

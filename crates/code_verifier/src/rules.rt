@@ -1,8 +1,10 @@
 //! The rules up to V12, judged at one instruction from what is known of its stack, of the loops round it and of the
 //! jumps before it.
-ghost use Rattle.std.specs.Prelude.{◌≡◌, suc, ◌<◌, nat_eq, nat_lt, not, ◌&&◌, false, [], ◌∷◌, length, drop};
+ghost use Rattle.std.specs.Prelude.{◌≡◌, suc, ◌<◌, nat_eq, nat_lt, not, ◌&&◌, false, [], ◌∷◌};
+ghost use Rattle.std.specs.Prelude.{length, drop};
 ghost use Rattle.helper_set.specs.Helpers.{parameter_kinds};
-ghost use Rattle.template_code.specs.Instructions.{flow, target_of, is_misplaced, loop_named, pops, pushes, slots_after};
+ghost use Rattle.template_code.specs.Instructions.{flow, target_of, is_misplaced, loop_named, pops, pushes};
+ghost use Rattle.template_code.specs.Instructions.{slots_after};
 ghost use Rattle.template_code.specs.declared.limits.TheConstants.{MAX_SLOTS, MAX_LOOPS};
 ghost use Rattle.code_rules.specs.Costs.{is_empty};
 ghost use Rattle.code_rules.specs.Rules.{has_invalid_target, kinds_fit, lacks_slots, leaves_slots, closes_wrongly};

@@ -1,6 +1,6 @@
 -- What is written piece by piece.
-use Rattle.std.proofs.Common.{◌≡◌, ℕ, ◌-◌, List, [], ◌∷◌, ◌++◌, Option, refl, sym, ap, ◌∙◌, length, take, drop}
-use Rattle.std.proofs.Common.{append_assoc, take-append-drop}
+use Rattle.std.proofs.Common.{◌≡◌, ℕ, ◌-◌, List, [], ◌∷◌, ◌++◌, Option, refl, sym, ap, ◌∙◌}
+use Rattle.std.proofs.Common.{length, take, drop, append_assoc, take-append-drop}
 use Rattle.std.proofs.lemmas.List.{take_rest}
 use Rattle.std.specs.Io.KnownBytes.{Appends}
 use Rattle.std.proofs.KnownBytes.{Appends-trans}
@@ -18,8 +18,8 @@ front_is_empty [] ys e = refl
 front_is_empty (x ∷ xs) ys e = cc
 
 -- some was written, then a part of what comes next: that is a part of the whole
-pub part_after : (a b c : Option (List ℕ)) (all done bytes more : List ℕ) → Appends a b done → AppendsPart b c bytes
-    → all ≡ done ++ (bytes ++ more) → AppendsPart a c all
+pub part_after : (a b c : Option (List ℕ)) (all done bytes more : List ℕ) → Appends a b done
+    → AppendsPart b c bytes → all ≡ done ++ (bytes ++ more) → AppendsPart a c all
 part_after a b c all done bytes more p q e = record {
   front = done ++ q.front;
   rest = q.rest ++ more;

@@ -1,5 +1,5 @@
--- What a command knows of a file: its bytes, or nothing, where it isn't known what the file has. And the line of an error
--- in reading it.
+-- What a command knows of a file: its bytes, or nothing, where it isn't known what the file has. And the line of an
+-- error in reading it.
 use Rattle.std.specs.Prelude.{◌≡◌, ◌<◌, ◌≤◌, ℕ, List, length, Option, IfSome, ⊤}
 use Rattle.command_output.specs.Lines.{error_line, out_of_memory, unreadable_line}
 use Rattle.command_output.specs.declared.files.FileError.{FileError}

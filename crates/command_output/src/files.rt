@@ -23,7 +23,8 @@ pub trait FileReader {
 
     /// The first bytes of the file at the path, at most so many.
     fn read_at_most(&self, alloc: Global, path: &str, limit: u64) -> io::Result<Vec<u8>>
-        ensures front { IfOk result (λ front. IfSome (content self.now path.now) (λ all. front.items ≡ take limit all)) }
+        ensures front { IfOk result
+            (λ front. IfSome (content self.now path.now) (λ all. front.items ≡ take limit all)) }
         ensures error { IfErr result (λ error. IfSome (content self.now path.now)
             (λ _. error_kind error ≡ ErrorKind.OutOfMemory)) };
 }

@@ -1,6 +1,7 @@
 -- Two values with one JSON print alike: what a value prints as is read back from its JSON.
-use Rattle.std.proofs.Common.{◌≡◌, ℕ, zero, suc, ◌/◌, ◌%◌, ◌<◌, ◌≤◌, ℤ, pos, negsuc, Bool, true, false}
-use Rattle.std.proofs.Common.{if◌then◌else◌, ◌==◌, List, [], ◌∷◌, refl, sym, ap, ◌∙◌, arith, decimal}
+use Rattle.std.proofs.Common.{◌≡◌, ℕ, zero, suc, ◌/◌, ◌%◌, ◌<◌, ◌≤◌, ℤ, pos, negsuc, Bool}
+use Rattle.std.proofs.Common.{true, false, if◌then◌else◌, ◌==◌, List, [], ◌∷◌, refl, sym, ap, ◌∙◌}
+use Rattle.std.proofs.Common.{arith, decimal}
 use Rattle.std.specs.Fmt.{digit_glyph, digits_onto, digits, signed_decimal}
 use Rattle.std.proofs.lemmas.Bool.{ne_eqb}
 use Rattle.std.specs.Option.{unwrap_or}
@@ -26,7 +27,8 @@ BeginsNumber (b ∷ bs) = (45 ≤ b) × (b < 58)
 glyph : (d : ℕ) → d < 10 → (45 ≤ digit_glyph false d) × (digit_glyph false d < 58)
 glyph d small = (grind arith, grind arith)
 
-either_begins : (b : Bool) (xs ys : List ℕ) → BeginsNumber xs → BeginsNumber ys → BeginsNumber (if b then xs else ys)
+either_begins : (b : Bool) (xs ys : List ℕ) → BeginsNumber xs → BeginsNumber ys
+    → BeginsNumber (if b then xs else ys)
 either_begins true xs ys x y = x
 either_begins false xs ys x y = y
 
@@ -66,7 +68,8 @@ shown_json (list ts) h = refl
 shown_json (fields ms) h = refl
 shown_json (named s ts ms) h = absurd (cc h)
 
-plain_alike : (t u : Tree) → is_named t ≡ false → is_named u ≡ false → json t ≡ json u → print t ≡ print u
+plain_alike : (t u : Tree) → is_named t ≡ false → is_named u ≡ false → json t ≡ json u
+    → print t ≡ print u
 plain_alike t u p q same = sym (shown_json t p) ∙ ap shown same ∙ shown_json u q
 
 -- two values with one JSON print alike, where both are named texts or neither is

@@ -1,5 +1,6 @@
 -- Values, texts and paths that the definitions compute as the standards and the documents say.
-use Rattle.std.proofs.Common.{◌≡◌, ◌-◌, ◌^◌, pos, negsuc, false, [], ◌∷◌, length, refl, codes, sum_by}
+use Rattle.std.proofs.Common.{◌≡◌, ◌-◌, ◌^◌, pos, negsuc, false, [], ◌∷◌, length, refl, codes}
+use Rattle.std.proofs.Common.{sum_by}
 use Rattle.json.specs.Print.{escape_byte, quoted}
 use Rattle.std.specs.Fmt.{digits}
 use Rattle.std.specs.Int.Signed.{le_z_yes, lt_z_yes, clash_ℤ}
@@ -223,7 +224,8 @@ one_name_twice h = absurd (cc (h.0.0))
 named_item : IsWellFormed (named [] (item (number (pos (2 ^ 64))) no_items) no_members) → ⊥
 named_item h = clash_ℤ (lt_z_yes tt) h.0.0.1
 
-named_names : IsWellFormed (named [] no_items (member (codes "a") nothing (member (codes "a") nothing no_members))) → ⊥
+named_names : IsWellFormed
+    (named [] no_items (member (codes "a") nothing (member (codes "a") nothing no_members))) → ⊥
 named_names h = absurd (cc (h.1.0))
 
 named_value : IsWellFormed (named [] no_items (member (codes "a") (number (pos (2 ^ 64))) no_members)) → ⊥

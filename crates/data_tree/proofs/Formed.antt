@@ -1,6 +1,7 @@
 -- What is found in a well-formed value is well formed.
-use Rattle.std.proofs.Common.{◌≡◌, ℕ, zero, suc, Bool, true, false, if◌then◌else◌, List, [], ◌∷◌, Vec, String, Global}
-use Rattle.std.proofs.Common.{bytes_eq, decimal, slice_get, Option, None, Some, IfSome, option_map, Bor, ap, ◌∙◌, sym, subst, inl, inr}
+use Rattle.std.proofs.Common.{◌≡◌, ℕ, zero, suc, Bool, true, false, if◌then◌else◌, List, [], ◌∷◌}
+use Rattle.std.proofs.Common.{Vec, String, Global, bytes_eq, decimal, slice_get, Option, None, Some, IfSome, option_map}
+use Rattle.std.proofs.Common.{Bor, ap, ◌∙◌, sym, subst, inl, inr}
 use Rattle.std.specs.Option.{option_map_or}
 use Rattle.data_tree.specs.Tree.{Tree, nothing, truth, number, text, list, fields, named, Items, no_items, item}
 use Rattle.data_tree.specs.Tree.{Members, no_members, member, view, members_view}
@@ -12,7 +13,8 @@ use Rattle.data_tree.specs.declared.step.Step.{Step}
 use Rattle.data_tree.specs.declared.step.Step.TheVariants.{Name, Index}
 use Rattle.data_tree.proofs.Views.{HasMembers, view-Fields, view-Named}
 
-either_formed : (first : Bool) (t u : Tree) → IsWellFormed t → IsWellFormed u → IsWellFormed (if first then t else u)
+either_formed : (first : Bool) (t u : Tree) → IsWellFormed t → IsWellFormed u
+    → IsWellFormed (if first then t else u)
 either_formed true t u h i = h
 either_formed false t u h i = i
 
@@ -54,19 +56,21 @@ some_formed t u e h = subst IsWellFormed (some_inj t u e) h
     some_inj : (a b : Tree) → Some a ≡ Some b → a ≡ b
     some_inj a b e = cc
 
-one_of_trees : (ts : Items) (i : ℕ) (u : Tree) → slice_get (trees_of ts) i ≡ Some u → AreWellFormed ts → IsWellFormed u
+one_of_trees : (ts : Items) (i : ℕ) (u : Tree) → slice_get (trees_of ts) i ≡ Some u → AreWellFormed ts
+    → IsWellFormed u
 one_of_trees no_items i u found h = absurd cc
 one_of_trees (item t ts) zero u found h = some_formed t u found h.0
 one_of_trees (item t ts) (suc i) u found h = one_of_trees ts i u found h.1
 
-one_of_values : (ms : Members) (i : ℕ) (u : Tree) → slice_get (values_of ms) i ≡ Some u → HaveWellFormedValues ms
-    → IsWellFormed u
+one_of_values : (ms : Members) (i : ℕ) (u : Tree) → slice_get (values_of ms) i ≡ Some u
+    → HaveWellFormedValues ms → IsWellFormed u
 one_of_values no_members i u found h = absurd cc
 one_of_values (member k t ms) zero u found h = some_formed t u found h.0
 one_of_values (member k t ms) (suc i) u found h = one_of_values ms i u found h.1
 
 -- an item
-pub formed_item : (t : Tree) (i : ℕ) (u : Tree) → slice_get (items t) i ≡ Some u → IsWellFormed t → IsWellFormed u
+pub formed_item : (t : Tree) (i : ℕ) (u : Tree) → slice_get (items t) i ≡ Some u → IsWellFormed t
+    → IsWellFormed u
 formed_item nothing i u found h = absurd cc
 formed_item (truth b) i u found h = absurd cc
 formed_item (number n) i u found h = absurd cc
@@ -92,7 +96,8 @@ formed_step (Some x) s t e h = subst IsWellFormed (sym e) (formed_after s t h)
 
 -- so is the item of an index, where there is one
 pub formed_element
-    : (r : Option (Bor Data)) (i : ℕ) (t : Tree) → option_map (λ (x : Bor Data). view x.now) r ≡ slice_get (items t) i
+    : (r : Option (Bor Data)) (i : ℕ) (t : Tree)
+    → option_map (λ (x : Bor Data). view x.now) r ≡ slice_get (items t) i
     → IsWellFormed t → IfSome r (λ x. IsWellFormed (view x.now))
 formed_element None i t e h = tt
 formed_element (Some x) i t e h = formed_item t i (view x.now) (sym e) h

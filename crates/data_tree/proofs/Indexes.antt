@@ -1,8 +1,8 @@
 -- Which texts are indexes: those that `decimal` writes of a number below 10 ^ 9; and what the code's own test makes
 -- of them.
-use Rattle.std.proofs.Common.{◌≡◌, ℕ, zero, suc, ◌+◌, ◌/◌, ◌%◌, ◌^◌, ◌<◌, ◌≤◌, ◌==◌, nat_lt, nat_le, List, [], ◌∷◌}
-use Rattle.std.proofs.Common.{◌++◌, length, slice_index, get_or, Some, Result, Ok, Bool, true}
-use Rattle.std.proofs.Common.{false, not, ◌&&◌, ◌||◌, decimal, refl, ap, arith}
+use Rattle.std.proofs.Common.{◌≡◌, ℕ, zero, suc, ◌+◌, ◌/◌, ◌%◌, ◌^◌, ◌<◌, ◌≤◌}
+use Rattle.std.proofs.Common.{◌==◌, nat_lt, nat_le, List, [], ◌∷◌, ◌++◌, length, slice_index, get_or}
+use Rattle.std.proofs.Common.{Some, Result, Ok, Bool, true, false, not, ◌&&◌, ◌||◌, decimal, refl, ap, arith}
 use Rattle.std.proofs.lemmas.Bool.{eqb-true, eqb-false, ne_eqb, and_parts, and_from, leb-true, ltb-true, lt-ltb}
 use Rattle.std.proofs.lemmas.Bool.{le-leb, false≢true}
 use Rattle.std.proofs.lemmas.Fmt.{decimal_is_IsNumeral, decimal-digits_value, decimal_by_steps_wide, length-decimal-le}
@@ -29,8 +29,8 @@ pub record IsIndexText (s : List ℕ) : Type 0 where
   pub digits : all_ascii_digits s ≡ true
   pub no_zero : slice_index s 0 ≡ 48 → length s ≡ 1
 
-first_zero : (t u : Bool) (s : List ℕ) → (length s == 1) ≡ t → (slice_index s 0 == 48) ≡ u → (t || not u) ≡ true
-    → slice_index s 0 ≡ 48 → length s ≡ 1
+first_zero : (t u : Bool) (s : List ℕ) → (length s == 1) ≡ t → (slice_index s 0 == 48) ≡ u
+    → (t || not u) ≡ true → slice_index s 0 ≡ 48 → length s ≡ 1
 first_zero true u s one is_zero h is = eqb-true (length s) 1 one
 first_zero false true s one is_zero h is = absurd (false≢true h)
 first_zero false false s one is_zero h is = absurd (eqb-false (slice_index s 0) 48 is_zero is)
@@ -72,7 +72,8 @@ begins_one_more n (d ∷ ds) h before = λ some. before (omega arith)
 pub begins_above_zero : (n : ℕ) → n < 10 ^ 64 → 0 < n → 48 < get_or (decimal n) 0 0
 begins_above_zero = decimal_by_steps_wide BeginsAboveZero (λ n h some. omega arith) begins_one_more
 
-no_leading_zero : (n : ℕ) → n < 10 ^ 9 → ((length (decimal n) == 1) || not (slice_index (decimal n) 0 == 48)) ≡ true
+no_leading_zero : (n : ℕ) → n < 10 ^ 9
+    → ((length (decimal n) == 1) || not (slice_index (decimal n) 0 == 48)) ≡ true
 unfolding digits
 no_leading_zero zero h = refl
 no_leading_zero (suc n) h =

@@ -1,7 +1,7 @@
 -- The text at the end of a named text's JSON is read back: the last `:"` outside the text's own bytes begins it.
-use Rattle.std.proofs.Common.{◌≡◌, ◌⊎◌, inl, inr, ℕ, ◌/◌, ◌%◌, Bool, true, false, cond, nat_lt, ◌==◌, ◌&&◌, ◌||◌}
-use Rattle.std.proofs.Common.{List, [], ◌∷◌, ◌++◌, refl, sym, ap, subst, ◌∙◌, arith, append_assoc, length}
-use Rattle.std.proofs.Common.{length-append, codes}
+use Rattle.std.proofs.Common.{◌≡◌, ◌⊎◌, inl, inr, ℕ, ◌/◌, ◌%◌, Bool, true, false, cond, nat_lt}
+use Rattle.std.proofs.Common.{◌==◌, ◌&&◌, ◌||◌, List, [], ◌∷◌, ◌++◌, refl, sym, ap, subst}
+use Rattle.std.proofs.Common.{◌∙◌, arith, append_assoc, length, length-append, codes}
 use Rattle.std.proofs.lemmas.Bool.{ne_eqb, cases_eq}
 use Rattle.std.specs.Char.{digit_char}
 use Rattle.std.specs.Option.{unwrap_or}
@@ -106,7 +106,8 @@ closed_step y s = append_assoc (escape_byte y) (escape s) (34 ∷ 125 ∷ [])
 
 follows_closed : (s : List ℕ) → follows (closed s) ≡ false
 follows_closed [] = refl
-follows_closed (y ∷ s) = ap follows (closed_step y s) ∙ follows_past (escape_byte y) (closed s) (escape_begins_plain y)
+follows_closed (y ∷ s) =
+    ap follows (closed_step y s) ∙ follows_past (escape_byte y) (closed s) (escape_begins_plain y)
 
 spot_colon : (r : List ℕ) → follows r ≡ false → spot (escape_byte 58 ++ r) ≡ spot r
 unfolding escape_byte
@@ -142,12 +143,15 @@ heads a b x y same = cc
 
 -- of two ends of one list, each after a colon and a quote, they are equal or one is an end of the other
 ends : (x y p q : List ℕ) → x ++ 58 ∷ 34 ∷ p ≡ y ++ 58 ∷ 34 ∷ q
-    → (p ≡ q) ⊎ (((z : List ℕ) × (p ≡ z ++ 58 ∷ 34 ∷ q)) ⊎ ((z : List ℕ) × (q ≡ z ++ 58 ∷ 34 ∷ p)))
+    → (p ≡ q) ⊎ (((z : List ℕ) × (p ≡ z ++ 58 ∷ 34 ∷ q))
+    ⊎ ((z : List ℕ) × (q ≡ z ++ 58 ∷ 34 ∷ p)))
 ends [] [] p q same = inl (tails 34 34 p q (tails 58 58 (34 ∷ p) (34 ∷ q) same))
-ends [] (b ∷ []) p q same = absurd (omega (arith, heads 34 58 p (34 ∷ q) (tails 58 b (34 ∷ p) (58 ∷ 34 ∷ q) same)))
+ends [] (b ∷ []) p q same =
+    absurd (omega (arith, heads 34 58 p (34 ∷ q) (tails 58 b (34 ∷ p) (58 ∷ 34 ∷ q) same)))
 ends [] (b ∷ c ∷ y) p q same =
     inr (inl (y, tails 34 c p (y ++ 58 ∷ 34 ∷ q) (tails 58 b (34 ∷ p) (c ∷ (y ++ 58 ∷ 34 ∷ q)) same)))
-ends (a ∷ []) [] p q same = absurd (omega (arith, heads 58 34 (34 ∷ p) q (tails a 58 (58 ∷ 34 ∷ p) (34 ∷ q) same)))
+ends (a ∷ []) [] p q same =
+    absurd (omega (arith, heads 58 34 (34 ∷ p) q (tails a 58 (58 ∷ 34 ∷ p) (34 ∷ q) same)))
 ends (a ∷ b ∷ x) [] p q same =
     inr (inr (x, sym (tails b 34 (x ++ 58 ∷ 34 ∷ p) q (tails a 58 (b ∷ (x ++ 58 ∷ 34 ∷ p)) (34 ∷ q) same))))
 ends (a ∷ x) (b ∷ y) p q same = ends x y p q (tails a b (x ++ 58 ∷ 34 ∷ p) (y ++ 58 ∷ 34 ∷ q) same)
@@ -171,7 +175,8 @@ before_text ts ms =
     codes "{\"fields\":{" ++
     (members_json false ms ++ (codes "},\"items\":[" ++ (items_json false ts ++ codes "],\"text\"")))
 
-named_ends : (s : List ℕ) (ts : Items) (ms : Members) → json (named s ts ms) ≡ before_text ts ms ++ 58 ∷ 34 ∷ closed s
+named_ends : (s : List ℕ) (ts : Items) (ms : Members)
+    → json (named s ts ms) ≡ before_text ts ms ++ 58 ∷ 34 ∷ closed s
 named_ends s ts ms =
     ap (λ r. codes "{\"fields\":{" ++
     (members_json false ms ++ (codes "},\"items\":[" ++ (items_json false ts ++ (codes "],\"text\":\"" ++ r)))))

@@ -1,6 +1,6 @@
 -- Lengths of JSON texts, piece by piece, as counts that stop at the greatest number.
-use Rattle.std.proofs.Common.{◌≡◌, ℕ, ◌+◌, List, [], ◌∷◌, ◌++◌, true, false, length, nat_eq, if◌then◌else◌, refl}
-use Rattle.std.proofs.Common.{arith, length-append}
+use Rattle.std.proofs.Common.{◌≡◌, ℕ, ◌+◌, List, [], ◌∷◌, ◌++◌, true, false, length, nat_eq}
+use Rattle.std.proofs.Common.{if◌then◌else◌, refl, arith, length-append}
 use Rattle.json.specs.Print.{quoted}
 use Rattle.data_tree.specs.Tree.{list, fields, named, Items, Members, view, items_view, members_view}
 use Rattle.data_tree.specs.Json.{json, items_json, members_json}

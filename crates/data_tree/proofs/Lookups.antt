@@ -1,7 +1,8 @@
 -- What a path finds: nothing, or a part that is no larger; and how paths go together.
-use Rattle.std.proofs.Common.{◌≡◌, ℕ, zero, suc, ◌+◌, ◌≤◌, Bool, true, false, IsTrue, if◌then◌else◌, List, [], ◌∷◌}
-use Rattle.std.proofs.Common.{◌++◌, length, ap, ◌∙◌, refl, inl, inr, arith, length-append, codes, decimal, bytes_eq}
-use Rattle.std.proofs.Common.{◌<◌, max, sum_by, slice_get, get_or, drop, Some, sym}
+use Rattle.std.proofs.Common.{◌≡◌, ℕ, zero, suc, ◌+◌, ◌≤◌, Bool, true, false, IsTrue}
+use Rattle.std.proofs.Common.{if◌then◌else◌, List, [], ◌∷◌, ◌++◌, length, ap, ◌∙◌, refl, inl, inr}
+use Rattle.std.proofs.Common.{arith, length-append, codes, decimal, bytes_eq, ◌<◌, max, sum_by, slice_get, get_or}
+use Rattle.std.proofs.Common.{drop, Some, sym}
 use Rattle.std.proofs.lemmas.List.{at_drop_more}
 use Rattle.json.specs.Print.{quoted}
 use Rattle.data_tree.specs.Tree.{Tree, nothing, truth, number, text, list, fields, named, Items, no_items, item}
@@ -109,7 +110,8 @@ size_after (Index n) (named s ts ms) =
     within_more _ _ (nth n ts) (nth_within false n ts) (omega (arith, length_named s ts ms))
 
 -- a step keeps a limit
-pub within_after : (limit : ℕ) (s : Step) (t : Tree) → IsNothingOrWithin limit t → IsNothingOrWithin limit (after s t)
+pub within_after : (limit : ℕ) (s : Step) (t : Tree) → IsNothingOrWithin limit t
+    → IsNothingOrWithin limit (after s t)
 within_after limit s t (inl e) = inl (ap (after s) e ∙ after_nothing s)
 within_after limit s t (inr le) = within_more _ _ (after s t) (size_after s t) le
 
@@ -173,8 +175,8 @@ pub size_sum_at : (steps : List Step) (t : Tree) → sum_by size (items (at step
 size_sum_at steps t = within_sum (size t) (at steps t) (size_at steps t)
 
 -- the names of the items of what a path finds are no longer than the value's size
-pub length_key_at : (steps : List Step) (t : Tree) (i : ℕ) (k : List ℕ) → slice_get (keys (at steps t)) i ≡ Some k
-    → length k ≤ size t
+pub length_key_at : (steps : List Step) (t : Tree) (i : ℕ) (k : List ℕ)
+    → slice_get (keys (at steps t)) i ≡ Some k → length k ≤ size t
 length_key_at steps t i k found = within_key (size t) (at steps t) i k found (size_at steps t)
 
 -- ---- the empty name
@@ -193,5 +195,6 @@ pub at_empty_name : (t : Tree) → EmptyNameFindsNothing t → at (Name [] ∷ [
 at_empty_name t h = is_nothing_sound (at (Name [] ∷ []) t) h
 
 -- so does each path that begins with it
-pub at_empty_name_first : (steps : List Step) (t : Tree) → EmptyNameFindsNothing t → at (Name [] ∷ steps) t ≡ nothing
+pub at_empty_name_first : (steps : List Step) (t : Tree) → EmptyNameFindsNothing t
+    → at (Name [] ∷ steps) t ≡ nothing
 at_empty_name_first steps t h = ap (at steps) (at_empty_name t h) ∙ at_nothing steps

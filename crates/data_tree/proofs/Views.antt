@@ -1,7 +1,7 @@
 -- A value, level by level, beside its tree and its parts.
-use Rattle.std.proofs.Common.{◌≡◌, ◌⊎◌, inl, inr, ℕ, zero, suc, List, [], ◌∷◌, length, map, Vec, String, Global}
-use Rattle.std.proofs.Common.{string_bytes, Option, None, Some, option_map, Bor, not, nat_eq, false, arith, refl}
-use Rattle.std.proofs.Common.{sym, ap, ◌∙◌, rules}
+use Rattle.std.proofs.Common.{◌≡◌, ◌⊎◌, inl, inr, ℕ, zero, suc, List, [], ◌∷◌, length, map, Vec}
+use Rattle.std.proofs.Common.{String, Global, string_bytes, Option, None, Some, option_map, Bor, not, nat_eq, false}
+use Rattle.std.proofs.Common.{arith, refl, sym, ap, ◌∙◌, rules}
 use Rattle.std.specs.Option.{option_copied, option_map_or}
 use Rattle.std.specs.List.{slice_get}
 use Rattle.std.proofs.lemmas.Option.{slice_get-map}
@@ -59,10 +59,12 @@ pub items-Fields
 items-Fields v = ap items (view-Fields v) ∙ values_of-members_view v.items
 
 pub keys-Fields
-    : (v : Vec (String Global × Data) Global) → keys (view (Fields v)) ≡ map (λ (f : Field). string_bytes f.0) v.items
+    : (v : Vec (String Global × Data) Global)
+    → keys (view (Fields v)) ≡ map (λ (f : Field). string_bytes f.0) v.items
 keys-Fields v = ap keys (view-Fields v) ∙ names_of-members_view v.items
 
-view-copied : (r : Option (Bor Data)) → option_map (λ (x : Bor Data). view x.now) r ≡ option_map view (option_copied r)
+view-copied : (r : Option (Bor Data))
+    → option_map (λ (x : Bor Data). view x.now) r ≡ option_map view (option_copied r)
 view-copied None = refl
 view-copied (Some x) = refl
 
@@ -75,7 +77,8 @@ view_of_element r xs k e = view-copied r ∙ ap (option_map view) e ∙ sym (sli
 -- ---- a step
 
 pub after-HasItems
-    : (k : ℕ) (d : Data) (v : Vec Data Global) → HasItems d v → after (Index k) (view d) ≡ nth k (items_view v.items)
+    : (k : ℕ) (d : Data) (v : Vec Data Global) → HasItems d v
+    → after (Index k) (view d) ≡ nth k (items_view v.items)
 after-HasItems k d v (inl e) = ap (after (Index k)) (ap view e ∙ view-List v)
 after-HasItems k d v (inr n) = ap (after (Index k)) (ap view n.2 ∙ view-Named n.0 v n.1)
 
@@ -111,6 +114,7 @@ nth_of_element r xs k e =
 pub suc_is_not_zero : (n : ℕ) → nat_eq (suc n) 0 ≡ false
 suc_is_not_zero n = grind (arith, nat_tests)
 
-pub not_empty-items : (xs : List Data) (n : ℕ) → n ≡ length xs → not (nat_eq n 0) ≡ is_true (list (items_view xs))
+pub not_empty-items : (xs : List Data) (n : ℕ) → n ≡ length xs
+    → not (nat_eq n 0) ≡ is_true (list (items_view xs))
 not_empty-items [] n e = rw e refl
 not_empty-items (x ∷ xs) n e = rw e (ap not (suc_is_not_zero (length xs)))

@@ -19,7 +19,8 @@ impl Model for Draft {
 
     ghost view = { λ d. (take d.start (string_bytes d.text), drop d.start (string_bytes d.text)) };
 
-    ghost invariant = { λ d. (d.start ≤ length (string_bytes d.text)) × IsUtf8 (take d.start (string_bytes d.text)) };
+    ghost invariant = { λ d.
+        (d.start ≤ length (string_bytes d.text)) × IsUtf8 (take d.start (string_bytes d.text)) };
 }
 
 impl Draft {

@@ -58,7 +58,11 @@ request_plain_by
     ≡ false
 unfolding received_members
 request_plain_by target request url mime [] =
-    rw (pairs_plain (query_pairs request.url), pairs_plain (header_pairs request.headers), pairs_plain (cookie_pairs request.headers)) refl
+    rw (
+      pairs_plain (query_pairs request.url),
+      pairs_plain (header_pairs request.headers),
+      pairs_plain (cookie_pairs request.headers),
+    ) refl
 request_plain_by target request url mime (b ∷ bs) =
     rw (
       pairs_plain (query_pairs request.url),
@@ -71,7 +75,8 @@ request_plain : (target : List ℕ) (request : Request) → has_float (json_of_r
 unfolding json_of_request
 request_plain target request = request_plain_by target request _ _ request.body
 
-entry_plain : (target started : List ℕ) (exchange : Exchange) → has_float (json_of_entry target started exchange) ≡ false
+entry_plain : (target started : List ℕ) (exchange : Exchange)
+    → has_float (json_of_entry target started exchange) ≡ false
 unfolding json_of_entry
 entry_plain target started exchange =
     rw (request_plain target exchange.request, reply_plain exchange.reply) refl
@@ -85,5 +90,6 @@ entries_plain target (e ∷ es) no_items are = absurd are
 entries_plain target (e ∷ es) (item d ds) are =
     rw (are.0.same, entry_plain target are.0.started e, entries_plain target es ds are.1) refl
 
-pub har_plain : (target : List ℕ) (exchanges : List Exchange) (har : Data) → IsHar target exchanges har → has_float har ≡ false
+pub har_plain : (target : List ℕ) (exchanges : List Exchange) (har : Data) → IsHar target exchanges har
+    → has_float har ≡ false
 har_plain target exchanges har is = rw (is.2, entries_plain target exchanges is.0 is.1) refl

@@ -1,5 +1,5 @@
--- The HAR 1.2 document of exchanges (W3C Web Performance, "HTTP Archive (HAR) format"): a log with an entry for each, in
--- their order.
+-- The HAR 1.2 document of exchanges (W3C Web Performance, "HTTP Archive (HAR) format"): a log with an entry for each,
+-- in their order.
 use Rattle.std.specs.Prelude.{◌≡◌, ℕ, List, [], ◌∷◌, All, codes}
 use Rattle.recorder.specs.declared.exchange.Exchange.{Exchange}
 use Rattle.serde_json.specs.Data.{Data, number, unsigned, string, array, object, Items, no_items, item, no_members, put}

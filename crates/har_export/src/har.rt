@@ -1,6 +1,7 @@
 // The document.
 ghost use Rattle.std.specs.Prelude.{◌≡◌, ◌↔◌, ℕ, List, IfOk, IsErrOf, IsTrue, string_bytes};
-ghost use Rattle.har_export.specs.Document.{AreEntries, AreInRange, IsEntry, IsHar, IsHarText, creator, json_of_entry, json_of_har, json_of_log, json_of_timings};
+ghost use Rattle.har_export.specs.Document.{AreEntries, AreInRange, IsEntry, IsHar, IsHarText, creator, json_of_entry};
+ghost use Rattle.har_export.specs.Document.{json_of_har, json_of_log, json_of_timings};
 ghost use Rattle.har_export.specs.Moment.{IsInRange};
 ghost use Rattle.serde_json.specs.Data.{string};
 ghost use Rattle.serde_json.specs.View.{items_view, view};

@@ -1,6 +1,7 @@
 // Names with values.
 ghost use Rattle.std.specs.Prelude.{◌≡◌, ◌∷◌, [], ◌++◌, map, option_map, string_bytes, IfOk, OnOk};
-ghost use Rattle.har_export.specs.Pairs.{json_of_pair, json_of_pairs, first_named, reply_pairs, cookie_set, cookies_set};
+ghost use Rattle.har_export.specs.Pairs.{json_of_pair, json_of_pairs, first_named, reply_pairs, cookie_set};
+ghost use Rattle.har_export.specs.Pairs.{cookies_set};
 ghost use Rattle.mock_request.specs.Cookies.{cookie_in, is_semicolon, without_spaces_around};
 ghost use Rattle.std.specs.List.{before_first};
 ghost use Rattle.std.specs.Str.{str_eq_ignore_ascii_case};

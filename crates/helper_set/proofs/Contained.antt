@@ -1,5 +1,6 @@
 -- A text contains a part exactly where it splits into something, the part, and something.
-use Rattle.std.proofs.Common.{◌≡◌, ℕ, Bool, true, nat_eq, List, [], ◌∷◌, ◌++◌, length, drop, IsTrue, ◌↔◌, refl, ap, ◌⊎◌, inl, inr}
+use Rattle.std.proofs.Common.{◌≡◌, ℕ, Bool, true, nat_eq, List, [], ◌∷◌, ◌++◌, length, drop, IsTrue}
+use Rattle.std.proofs.Common.{◌↔◌, refl, ap, ◌⊎◌, inl, inr}
 use Rattle.std.specs.Bool.{Decides}
 use Rattle.std.specs.List.{starts_with}
 use Rattle.std.specs.Str.Iter.{HasSubslice}

@@ -1,5 +1,6 @@
 -- The bytes that are escaped are all but the unreserved ones.
-use Rattle.std.proofs.Common.{◌≡◌, ℕ, ◌<◌, ◌≤◌, Bool, true, false, not, List, [], ◌∷◌, refl, ap, ◌∙◌, ⊎_elim, if◌then◌else◌, arith}
+use Rattle.std.proofs.Common.{◌≡◌, ℕ, ◌<◌, ◌≤◌, Bool, true, false, not, List, [], ◌∷◌, refl, ap}
+use Rattle.std.proofs.Common.{◌∙◌, ⊎_elim, if◌then◌else◌, arith}
 use Rattle.std.proofs.lemmas.Bool.{agree_below, agree_below_at}
 use Rattle.std.proofs.lemmas.Bool.Decides.{nat_tests, leb_tells}
 use Rattle.std.specs.List.{flat_map}
@@ -14,7 +15,8 @@ reserved = refl
 
 escaped_low : (b : ℕ) → b < 128 → should_percent_encode RESERVED b ≡ not (is_unreserved b)
 unfolding should_percent_encode
-escaped_low b low = let e = agree_below_at (contains RESERVED) (λ b. not (is_unreserved b)) 128 b reserved low in grind (arith, nat_tests, e)
+escaped_low b low = let e = agree_below_at (contains RESERVED) (λ b. not (is_unreserved b)) 128 b reserved low in
+    grind (arith, nat_tests, e)
 
 escaped_high : (b : ℕ) → 128 ≤ b → should_percent_encode RESERVED b ≡ not (is_unreserved b)
 unfolding should_percent_encode

@@ -1,13 +1,14 @@
 -- When a helper has a result, and of which kind.
-use Rattle.std.proofs.Common.{◌≡◌, ℕ, Bool, true, false, ◌⊎◌, inl, inr, ⊎_elim, List, [], ◌∷◌, map, length, Some, is_some, suc, refl, ap, ◌∙◌}
+use Rattle.std.proofs.Common.{◌≡◌, ℕ, Bool, true, false, ◌⊎◌, inl, inr, ⊎_elim, List, [], ◌∷◌}
+use Rattle.std.proofs.Common.{map, length, Some, is_some, suc, refl, ap, ◌∙◌}
 use Rattle.std.proofs.lemmas.Bool.{and_parts}
 use Rattle.helper_set.specs.Values.{Value, a_datum, a_text, a_number, a_truth, kind_of, count_of}
 use Rattle.helper_set.specs.Helpers.{applied, argument_kinds, fit, is_looked_up, result_kind}
 use Rattle.helper_set.specs.Helpers.{on_text, on_texts, on_data_or_text, on_truth, counted}
 use Rattle.helper_set.specs.declared.kind.Kind.{Kind}
 use Rattle.helper_set.specs.declared.helper.Helper.{Helper}
-use Rattle.helper_set.specs.declared.helper.Helper.TheVariants.{Upper, Lower, Trim, Size, Eq, Neq, Contains, Not, Base64}
-use Rattle.helper_set.specs.declared.helper.Helper.TheVariants.{UrlEncode, DefaultIfEmpty, JsonPath}
+use Rattle.helper_set.specs.declared.helper.Helper.TheVariants.{Upper, Lower, Trim, Size, Eq, Neq, Contains, Not}
+use Rattle.helper_set.specs.declared.helper.Helper.TheVariants.{Base64, UrlEncode, DefaultIfEmpty, JsonPath}
 
 abbrev pub size_result : Value → Value
 size_result v = counted (count_of v)
@@ -15,7 +16,8 @@ size_result v = counted (count_of v)
 abbrev text_kinds : List Kind
 text_kinds = Kind.Text ∷ []
 
-has_text : (f : List ℕ → Value) (vs : List Value) → fit (text_kinds ∷ []) (map kind_of vs) ≡ true → is_some (on_text f vs) ≡ true
+has_text : (f : List ℕ → Value) (vs : List Value) → fit (text_kinds ∷ []) (map kind_of vs) ≡ true
+    → is_some (on_text f vs) ≡ true
 has_text f [] e = cc
 has_text f (a_text s ∷ []) e = refl
 has_text f (a_datum t ∷ vs) e = cc
@@ -23,7 +25,8 @@ has_text f (a_number n ∷ vs) e = cc
 has_text f (a_truth b ∷ vs) e = cc
 has_text f (a_text s ∷ v ∷ vs) e = cc
 
-has_truth : (f : Bool → Value) (vs : List Value) → fit ((Kind.Truth ∷ []) ∷ []) (map kind_of vs) ≡ true → is_some (on_truth f vs) ≡ true
+has_truth : (f : Bool → Value) (vs : List Value) → fit ((Kind.Truth ∷ []) ∷ []) (map kind_of vs) ≡ true
+    → is_some (on_truth f vs) ≡ true
 has_truth f [] e = cc
 has_truth f (a_truth b ∷ []) e = refl
 has_truth f (a_datum t ∷ vs) e = cc
@@ -31,7 +34,9 @@ has_truth f (a_number n ∷ vs) e = cc
 has_truth f (a_text s ∷ vs) e = cc
 has_truth f (a_truth b ∷ v ∷ vs) e = cc
 
-has_data_or_text : (f : Value → Value) (vs : List Value) → fit ((Kind.Data ∷ Kind.Text ∷ []) ∷ []) (map kind_of vs) ≡ true → is_some (on_data_or_text f vs) ≡ true
+has_data_or_text : (f : Value → Value) (vs : List Value)
+    → fit ((Kind.Data ∷ Kind.Text ∷ []) ∷ []) (map kind_of vs) ≡ true
+    → is_some (on_data_or_text f vs) ≡ true
 has_data_or_text f [] e = cc
 has_data_or_text f (a_text s ∷ []) e = refl
 has_data_or_text f (a_datum t ∷ []) e = refl
@@ -40,7 +45,8 @@ has_data_or_text f (a_truth b ∷ vs) e = cc
 has_data_or_text f (a_text s ∷ v ∷ vs) e = cc
 has_data_or_text f (a_datum t ∷ v ∷ vs) e = cc
 
-has_texts : (f : List ℕ → List ℕ → Value) (vs : List Value) → fit (text_kinds ∷ text_kinds ∷ []) (map kind_of vs) ≡ true → is_some (on_texts f vs) ≡ true
+has_texts : (f : List ℕ → List ℕ → Value) (vs : List Value)
+    → fit (text_kinds ∷ text_kinds ∷ []) (map kind_of vs) ≡ true → is_some (on_texts f vs) ≡ true
 has_texts f [] e = cc
 has_texts f (a_datum t ∷ vs) e = cc
 has_texts f (a_number n ∷ vs) e = cc
@@ -52,7 +58,8 @@ has_texts f (a_text s ∷ a_truth b ∷ vs) e = cc
 has_texts f (a_text s ∷ a_text t ∷ []) e = refl
 has_texts f (a_text s ∷ a_text t ∷ v ∷ vs) e = cc
 
-pub is_some_applied : (h : Helper) (vs : List Value) → is_looked_up h ≡ false → fit (argument_kinds h) (map kind_of vs) ≡ true → is_some (applied h vs) ≡ true
+pub is_some_applied : (h : Helper) (vs : List Value) → is_looked_up h ≡ false
+    → fit (argument_kinds h) (map kind_of vs) ≡ true → is_some (applied h vs) ≡ true
 is_some_applied Upper vs l e = has_text _ vs e
 is_some_applied Lower vs l e = has_text _ vs e
 is_some_applied Trim vs l e = has_text _ vs e
@@ -72,7 +79,8 @@ pub record IsOfText (f : List ℕ → Value) (vs : List Value) (made : Value) : 
   pub given : vs ≡ a_text text ∷ []
   pub result : made ≡ f text
 
-pub of_text : (f : List ℕ → Value) (vs : List Value) (made : Value) → on_text f vs ≡ Some made → IsOfText f vs made
+pub of_text : (f : List ℕ → Value) (vs : List Value) (made : Value) → on_text f vs ≡ Some made
+    → IsOfText f vs made
 of_text f [] made e = cc
 of_text f (a_text s ∷ []) made e = record { text = s; given = refl; result = cc }
 of_text f (a_datum t ∷ vs) made e = cc
@@ -85,7 +93,8 @@ pub record IsOfTruth (f : Bool → Value) (vs : List Value) (made : Value) : Typ
   pub given : vs ≡ a_truth truth ∷ []
   pub result : made ≡ f truth
 
-pub of_truth : (f : Bool → Value) (vs : List Value) (made : Value) → on_truth f vs ≡ Some made → IsOfTruth f vs made
+pub of_truth : (f : Bool → Value) (vs : List Value) (made : Value) → on_truth f vs ≡ Some made
+    → IsOfTruth f vs made
 of_truth f [] made e = cc
 of_truth f (a_truth b ∷ []) made e = record { truth = b; given = refl; result = cc }
 of_truth f (a_datum t ∷ vs) made e = cc
@@ -98,7 +107,8 @@ pub record IsOfOne (f : Value → Value) (vs : List Value) (made : Value) : Type
   pub given : vs ≡ value ∷ []
   pub result : made ≡ f value
 
-pub of_one : (f : Value → Value) (vs : List Value) (made : Value) → on_data_or_text f vs ≡ Some made → IsOfOne f vs made
+pub of_one : (f : Value → Value) (vs : List Value) (made : Value) → on_data_or_text f vs ≡ Some made
+    → IsOfOne f vs made
 of_one f [] made e = cc
 of_one f (a_text s ∷ []) made e = record { value = a_text s; given = refl; result = cc }
 of_one f (a_datum t ∷ []) made e = record { value = a_datum t; given = refl; result = cc }
@@ -113,7 +123,8 @@ pub record IsOfTexts (f : List ℕ → List ℕ → Value) (vs : List Value) (ma
   pub given : vs ≡ a_text first ∷ a_text second ∷ []
   pub result : made ≡ f first second
 
-pub of_texts : (f : List ℕ → List ℕ → Value) (vs : List Value) (made : Value) → on_texts f vs ≡ Some made → IsOfTexts f vs made
+pub of_texts : (f : List ℕ → List ℕ → Value) (vs : List Value) (made : Value) → on_texts f vs ≡ Some made
+    → IsOfTexts f vs made
 of_texts f [] made e = cc
 of_texts f (a_datum t ∷ vs) made e = cc
 of_texts f (a_number n ∷ vs) made e = cc
@@ -125,7 +136,8 @@ of_texts f (a_text s ∷ a_truth b ∷ vs) made e = cc
 of_texts f (a_text s ∷ a_text t ∷ []) made e = record { first = s; second = t; given = refl; result = cc }
 of_texts f (a_text s ∷ a_text t ∷ v ∷ vs) made e = cc
 
-pub kind_of_applied : (h : Helper) (vs : List Value) (made : Value) → applied h vs ≡ Some made → kind_of made ≡ result_kind h
+pub kind_of_applied : (h : Helper) (vs : List Value) (made : Value) → applied h vs ≡ Some made
+    → kind_of made ≡ result_kind h
 kind_of_applied Upper vs made e = ap kind_of (of_text _ vs made e).result
 kind_of_applied Lower vs made e = ap kind_of (of_text _ vs made e).result
 kind_of_applied Trim vs made e = ap kind_of (of_text _ vs made e).result
@@ -154,7 +166,8 @@ parameters UrlEncode = inl refl
 parameters DefaultIfEmpty = inr refl
 parameters JsonPath = inr refl
 
-rest_fits : (p : List Kind) (k : Kind) (ps : List (List Kind)) (ks : List Kind) → fit (p ∷ ps) (k ∷ ks) ≡ true → fit ps ks ≡ true
+rest_fits : (p : List Kind) (k : Kind) (ps : List (List Kind)) (ks : List Kind) → fit (p ∷ ps) (k ∷ ks) ≡ true
+    → fit ps ks ≡ true
 rest_fits p k ps ks e = (and_parts _ _ e).1
 
 length_fit : (ps : List (List Kind)) (ks : List Kind) → fit ps ks ≡ true → length ks ≡ length ps
@@ -164,5 +177,7 @@ length_fit (p ∷ ps) [] e = cc
 length_fit (p ∷ ps) (k ∷ ks) e = ap suc (length_fit ps ks (rest_fits p k ps ks e))
 
 -- so it has one argument or two
-pub arguments_are_few : (h : Helper) (ks : List Kind) → fit (argument_kinds h) ks ≡ true → (length ks ≡ 1) ⊎ (length ks ≡ 2)
-arguments_are_few h ks e = let l = length_fit (argument_kinds h) ks e in ⊎_elim (λ one. inl (l ∙ one)) (λ two. inr (l ∙ two)) (parameters h)
+pub arguments_are_few : (h : Helper) (ks : List Kind) → fit (argument_kinds h) ks ≡ true
+    → (length ks ≡ 1) ⊎ (length ks ≡ 2)
+arguments_are_few h ks e = let l = length_fit (argument_kinds h) ks e in
+    ⊎_elim (λ one. inl (l ∙ one)) (λ two. inr (l ∙ two)) (parameters h)

@@ -1,7 +1,7 @@
 -- What each helper is called, takes and gives (Handlebars and WireMock, "Response Templating"): a function of its
 -- arguments, in the order in which they are written.
-use Rattle.std.specs.Prelude.{ℕ, ◌+◌, ◌*◌, pos, min, Bool, true, false, not, ◌&&◌, List, [], ◌∷◌, map, length, sum_by}
-use Rattle.std.specs.Prelude.{Option, Some, None, codes}
+use Rattle.std.specs.Prelude.{ℕ, ◌+◌, ◌*◌, pos, min, Bool, true, false, not, ◌&&◌, List, [], ◌∷◌}
+use Rattle.std.specs.Prelude.{map, length, sum_by, Option, Some, None, codes}
 use Rattle.std.specs.Char.{to_ascii_uppercase, to_ascii_lowercase}
 use Rattle.std.specs.List.{list_any}
 use Rattle.std.specs.Str.{bytes_eq}
@@ -11,8 +11,8 @@ use Rattle.helper_set.specs.Values.{Value, a_datum, a_text, a_number, a_truth, t
 use Rattle.helper_set.specs.Texts.{trimmed, url_encoded, contains, or_default}
 use Rattle.helper_set.specs.declared.kind.Kind.{Kind}
 use Rattle.helper_set.specs.declared.helper.Helper.{Helper}
-use Rattle.helper_set.specs.declared.helper.Helper.TheVariants.{Upper, Lower, Trim, Size, Eq, Neq, Contains, Not, Base64}
-use Rattle.helper_set.specs.declared.helper.Helper.TheVariants.{UrlEncode, DefaultIfEmpty, JsonPath}
+use Rattle.helper_set.specs.declared.helper.Helper.TheVariants.{Upper, Lower, Trim, Size, Eq, Neq, Contains, Not}
+use Rattle.helper_set.specs.declared.helper.Helper.TheVariants.{Base64, UrlEncode, DefaultIfEmpty, JsonPath}
 use Rattle.helper_set.specs.declared.signature.Growth.{Growth}
 use Rattle.helper_set.specs.declared.signature.Parameter.{Parameter}
 use Rattle.helper_set.specs.declared.signature.Parameter.TheVariants.{Any, NoText, DataOrText, Of}

@@ -1,17 +1,20 @@
 //! What holds of all results. These are laws over the definitions that the calls of this crate cite, so the functions
 //! do nothing.
-ghost use Rattle.std.specs.Prelude.{◌≡◌, ◌≤◌, ℕ, List, length, Some, true, false, map, is_some, IsTrue, ◌↔◌};
+ghost use Rattle.std.specs.Prelude.{◌≡◌, ◌≤◌, ℕ, List, length, Some, true, false, map, is_some, IsTrue};
+ghost use Rattle.std.specs.Prelude.{◌↔◌};
 ghost use Rattle.std.specs.Str.Iter.{HasSubslice};
 ghost use Rattle.helper_set.specs.Values.{Value, kind_of, text_of};
 ghost use Rattle.helper_set.specs.Texts.{contains};
-ghost use Rattle.helper_set.specs.Helpers.{applied, argument_kinds, fit, grown, is_looked_up, result_kind, signature_of};
+ghost use Rattle.helper_set.specs.Helpers.{applied, argument_kinds, fit, grown, is_looked_up, result_kind};
+ghost use Rattle.helper_set.specs.Helpers.{signature_of};
 ghost use Rattle.helper_set.specs.declared.helper.Helper.{Helper};
 
 /// A result prints as a text that is at most as long as the helper's signature says.
 #[tactic(auto, using(crate::proofs::Lengths::length_applied))]
 pub fn law_results_are_within_growth()
     ensures { (helper : Helper) (arguments : List Value) (made : Value) →
-        applied helper arguments ≡ Some made → length (text_of made) ≤ grown (signature_of helper).growth arguments }
+        applied helper arguments ≡ Some made →
+        length (text_of made) ≤ grown (signature_of helper).growth arguments }
 {}
 
 /// Arguments of the kinds of a helper's signature have a result, but for `jsonPath`.

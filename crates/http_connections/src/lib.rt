@@ -1,6 +1,6 @@
-//! The server's connections: requests of HTTP/1.1 over any reader and writer of `tokio`, and over the sockets of a listener.
-//! It knows how a request is gathered, which seat answers it, and where the seat is kept; what the answer is, says who
-//! implements `Answers`.
+//! The server's connections: requests of HTTP/1.1 over any reader and writer of `tokio`, and over the sockets of a
+//! listener. It knows how a request is gathered, which seat answers it, and where the seat is kept; what the answer is,
+//! says who implements `Answers`.
 #![tactic(auto)]
 
 pub mod accepting;

@@ -30,8 +30,8 @@ pub enum End {
     OutOfMemory,
 }
 
-/// Serves the connections of a listener, as many as are wanted, each with a seat of its own that is split off `seat`, all
-/// on the calling thread.
+/// Serves the connections of a listener, as many as are wanted, each with a seat of its own that is split off `seat`,
+/// all on the calling thread.
 pub fn serve_all<R, A>(
     rt: R,
     runtime: &mut LocalRuntime,

@@ -70,7 +70,8 @@ where
     type Future = Answering<R, A, Collect<Limited<Incoming<I>>>>;
 
     ghost calls = { λ _ request future. elim future [
-      | Made made ↦ IfSome made (λ result. IfOk result (IsSentFor A.gives (record { head = head_of request; body = [] })))
+      | Made made ↦ IfSome made
+          (λ result. IfOk result (IsSentFor A.gives (record { head = head_of request; body = [] })))
       | Waiting waiting ↦ head_of waiting.value.request ≡ head_of request
     ] };
 
@@ -100,8 +101,8 @@ where
         self.slot.answer(&self.rt, self.rt.alloc(), &request)
     }
 
-    // What waits for the content of a request. Not inlined: a function clears all its locals when it is entered, and most
-    // requests have no content.
+    // What waits for the content of a request. Not inlined: a function clears all its locals when it is entered, and
+    // most requests have no content.
     #[inline(never)]
     fn waiting<I: Drop>(
         &self,

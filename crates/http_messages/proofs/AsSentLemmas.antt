@@ -1,6 +1,6 @@
 -- Headers of which none is to go, and no value to be trimmed, are those that are sent.
-use Rattle.std.proofs.Common.{◌≡◌, ℕ, suc, ◌<◌, ◌≢◌, false, List, [], ◌∷◌, ◌++◌, map, fold, length, bytes_eq, All}
-use Rattle.std.proofs.Common.{refl, sym, ap, ◌∙◌, arith, inl, inr}
+use Rattle.std.proofs.Common.{◌≡◌, ℕ, suc, ◌<◌, ◌≢◌, false, List, [], ◌∷◌, ◌++◌, map, fold}
+use Rattle.std.proofs.Common.{length, bytes_eq, All, refl, sym, ap, ◌∙◌, arith, inl, inr}
 use Rattle.std.proofs.lemmas.Bool.{cases_Bool}
 use Rattle.std.proofs.lemmas.List.{append-nil, append_assoc}
 use Rattle.std.proofs.lemmas.List.Elements.{All-append, All-from_get_or, All-head, All-map, All-tail}
@@ -38,7 +38,8 @@ more_values : (name : List ℕ) (values more : List FieldValue)
 more_values name values [] = ap (λ vs. (name, vs) ∷ []) (sym (append-nil values))
 more_values name values (value ∷ more) =
     rw ((bytes_eq-Decides name name).1 refl, fold)
-    (more_values name (values ++ value ∷ []) more ∙ ap (λ vs. (name, vs) ∷ []) (append_assoc values (value ∷ []) more))
+    (more_values name (values ++ value ∷ []) more
+    ∙ ap (λ vs. (name, vs) ∷ []) (append_assoc values (value ∷ []) more))
 
 entry_again : (name : List ℕ) (values : List FieldValue) → 0 < length values
     → fold added [] (map (λ value. (name, value)) values) ≡ (name, values) ∷ []
@@ -92,6 +93,7 @@ all_added headers (f ∷ fields) all =
     ap (λ h. fold with_sent h fields) (as_added headers f (All-head IsAsSent f fields all))
     ∙ all_added (added headers f) fields (All-tail IsAsSent f fields all)
 
-pub as_sent : (headers : Headers) → IsHeaderMap headers → All IsAsSent (pairs headers) → sent_headers headers ≡ headers
+pub as_sent : (headers : Headers) → IsHeaderMap headers → All IsAsSent (pairs headers)
+    → sent_headers headers ≡ headers
 as_sent headers valid all =
     all_added [] (pairs headers) all ∙ made_again headers valid.unique valid.filled

@@ -1,6 +1,6 @@
 -- What is left of a value without the blanks at its ends: bytes of the value, and all of it where none is taken away.
-use Rattle.std.proofs.Common.{◌≡◌, ℕ, ◌≤◌, Bool, true, false, if◌then◌else◌, List, [], ◌∷◌, length, reverse, All}
-use Rattle.std.proofs.Common.{refl, sym, ap, subst, ◌∙◌, arith}
+use Rattle.std.proofs.Common.{◌≡◌, ℕ, ◌≤◌, Bool, true, false, if◌then◌else◌, List, [], ◌∷◌}
+use Rattle.std.proofs.Common.{length, reverse, All, refl, sym, ap, subst, ◌∙◌, arith}
 use Rattle.std.proofs.lemmas.List.{reverse-append, reverse-reverse, length-reverse}
 use Rattle.std.proofs.lemmas.List.Elements.{All-head, All-tail, All-push}
 use Rattle.http_messages.specs.Wire.{is_blank, without_blanks, without_end_blanks, without_front_blanks}
@@ -44,8 +44,8 @@ nothing_taken bs e =
 
 -- ---- bytes
 
-all_front_step : (P : ℕ → Type 0) (t : Bool) (b : ℕ) (bs : List ℕ) → All P (b ∷ bs) → All P (without_front_blanks bs)
-    → All P (if t then without_front_blanks bs else b ∷ bs)
+all_front_step : (P : ℕ → Type 0) (t : Bool) (b : ℕ) (bs : List ℕ) → All P (b ∷ bs)
+    → All P (without_front_blanks bs) → All P (if t then without_front_blanks bs else b ∷ bs)
 all_front_step P true b bs all rest = rest
 all_front_step P false b bs all rest = all
 

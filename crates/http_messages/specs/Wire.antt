@@ -1,5 +1,6 @@
 -- What is sent of a response.
-use Rattle.std.specs.Prelude.{◌≡◌, ℕ, Bool, ◌==◌, ◌||◌, List, [], ◌∷◌, codes, fold, reverse, None, if◌then◌else◌, bytes_eq}
+use Rattle.std.specs.Prelude.{◌≡◌, ℕ, Bool, ◌==◌, ◌||◌, List, [], ◌∷◌, codes, fold, reverse, None}
+use Rattle.std.specs.Prelude.{if◌then◌else◌, bytes_eq}
 use Rattle.std.specs.List.{list_any}
 use Rattle.http.specs.Response.{head_of, body_of}
 use Rattle.http.specs.declared.response.Response.{Response}
@@ -8,8 +9,8 @@ use Rattle.http_header.specs.FieldValue.{FieldValue}
 use Rattle.http_header.specs.HeaderMap.{Entries, append, pairs}
 use Rattle.http_header.specs.Token.{space, tab}
 
--- Headers that say how a message is framed (RFC 9112, sections 6 and 9.6; RFC 9110, section 7.6.1): they are those of the
--- connection, and not of who wrote the response.
+-- Headers that say how a message is framed (RFC 9112, sections 6 and 9.6; RFC 9110, section 7.6.1): they are those of
+-- the connection, and not of who wrote the response.
 abbrev pub framing_names : List (List ℕ)
 framing_names =
     codes "content-length" ∷ codes "transfer-encoding" ∷ codes "connection" ∷ codes "keep-alive"
@@ -41,8 +42,8 @@ with_sent headers field =
 abbrev pub sent_headers : Entries FieldValue → Entries FieldValue
 sent_headers headers = fold with_sent [] (pairs headers)
 
--- A response with this status has no content (RFC 9110, sections 15.3.5, 15.3.6 and 15.4.5). Nor has one to HEAD: there the
--- content is left for the connection, which says how long it is and doesn't send it.
+-- A response with this status has no content (RFC 9110, sections 15.3.5, 15.3.6 and 15.4.5). Nor has one to HEAD: there
+-- the content is left for the connection, which says how long it is and doesn't send it.
 abbrev pub has_no_content : ℕ → Bool
 has_no_content status = (status == 204) || ((status == 205) || (status == 304))
 

@@ -34,8 +34,8 @@ pub fn snapshot_of(
     snapshot_at_target(alloc, message, last)
 }
 
-// The request of the message, whose target is written as a text first. Not inlined: a function clears all its locals when
-// it is entered, and a target that is a path alone needs none of these.
+// The request of the message, whose target is written as a text first. Not inlined: a function clears all its locals
+// when it is entered, and a target that is a path alone needs none of these.
 #[inline(never)]
 fn snapshot_at_target(
     alloc: Global,

@@ -12,7 +12,8 @@ use http::{HeaderMap, HeaderName, HeaderValue, Response, StatusCode};
 use http_body_util::Full;
 use std::alloc::{AllocError, Global};
 
-/// Whether a response is sent as it is: most are, and nothing of them is made anew. `sent` makes what is sent of the others.
+/// Whether a response is sent as it is: most are, and nothing of them is made anew. `sent` makes what is sent
+/// of the others.
 pub fn is_as_sent(response: &Response<Full<Bytes>>) -> bool
     ensures { IsTrue result → IsSent response.now response.now }
 {
@@ -21,7 +22,8 @@ pub fn is_as_sent(response: &Response<Full<Bytes>>) -> bool
 
 /// What is sent of a response: without headers that say how a message is framed, without blanks at the ends of values,
 /// and without content where its status allows none. The connection frames it.
-// Not inlined: a function clears all its locals when it is entered, and a response that is sent as it is needs none of these.
+// Not inlined: a function clears all its locals when it is entered, and a response that is sent as it is needs
+// none of these.
 #[inline(never)]
 pub fn sent(
     alloc: Global,

@@ -17,18 +17,19 @@ refusal_line refusal.SeatsMissing = codes "error: seats missing\n"
 refusal_line (refusal.Mismatch number kept) = codes "error: history mismatch\n"
 refusal_line refusal.OutOfMemory = error_line out_of_memory
 
--- Why no more connections were accepted is reported, as far as standard error takes the line (1), unless as many as were
--- wanted were served (0).
+-- Why no more connections were accepted is reported, as far as standard error takes the line (1), unless as many as
+-- were wanted were served (0).
 abbrev pub ReportsEnd : {E : Type 0} → (E → Option (List ℕ)) → End → E → E → ℕ → Type 0
 ReportsEnd holds end.AllServed err err' status = (status ≡ 0) × (err' ≡ err)
 ReportsEnd holds end.AcceptFailed err err' status =
     (status ≡ 1) × AppendsFront (holds err) (holds err') (codes "error: accept failed\n")
-ReportsEnd holds end.OutOfMemory err err' status = (status ≡ 1) × AppendsFront (holds err) (holds err') (error_line out_of_memory)
+ReportsEnd holds end.OutOfMemory err err' status =
+    (status ≡ 1) × AppendsFront (holds err) (holds err') (error_line out_of_memory)
 
 -- The number of events is on standard output, and then the end is reported; or standard output took a part of that line
 -- alone (1); or, where the seats aren't settled, standard error says why (1). The other stream is as it was.
-abbrev pub Reports : {O E : Type 0} → (O → Option (List ℕ)) → (E → Option (List ℕ)) → Result ℕ SettleRefusal → End
-    → O → O → E → E → ℕ → Type 0
+abbrev pub Reports : {O E : Type 0} → (O → Option (List ℕ)) → (E → Option (List ℕ))
+    → Result ℕ SettleRefusal → End → O → O → E → E → ℕ → Type 0
 Reports out_holds err_holds (Ok events) why out out' err err' status =
     (Appends (out_holds out) (out_holds out') (settled_line events) × ReportsEnd err_holds why err err' status)
     ⊎ ((status ≡ 1) × AppendsPart (out_holds out) (out_holds out') (settled_line events) × (err' ≡ err))

@@ -1,7 +1,7 @@
 -- The JSON text of a tree reads back as the tree, where no named text is in it and it nests at most 127 deep.
-use Rattle.std.proofs.Common.{◌≡◌, ℕ, ◌-◌, ◌^◌, ◌<◌, ◌≤◌, nat_lt, ℤ, pos, negsuc, List, [], ◌∷◌, ◌++◌, Option, Some}
-use Rattle.std.proofs.Common.{None, option_map, option_and_then, T, Bool, true, false, cond, Less, Greater, nat_cmp}
-use Rattle.std.proofs.Common.{refl, sym, ap, ◌∙◌, arith, append-nil}
+use Rattle.std.proofs.Common.{◌≡◌, ℕ, ◌-◌, ◌^◌, ◌<◌, ◌≤◌, nat_lt, ℤ, pos, negsuc, List, []}
+use Rattle.std.proofs.Common.{◌∷◌, ◌++◌, Option, Some, None, option_map, option_and_then, T, Bool, true}
+use Rattle.std.proofs.Common.{false, cond, Less, Greater, nat_cmp, refl, sym, ap, ◌∙◌, arith, append-nil}
 use Rattle.std.proofs.lemmas.Bool.{or_parts, leb-true, true≢false}
 use Rattle.std.proofs.lemmas.Cmp.{nat_list_cmp_total}
 use Rattle.std.specs.Cmp.Lexicographic.{slice_cmp}
@@ -207,7 +207,8 @@ above_first k d found (tree.member l t ms) h above = (
       (without_next k l (names_of ms) h) above.1,
 )
   where
-    without_next : (a b : List ℕ) (names : List (List ℕ)) → IsAscending (a ∷ b ∷ names) → IsAscending (a ∷ names)
+    without_next : (a b : List ℕ) (names : List (List ℕ)) → IsAscending (a ∷ b ∷ names)
+        → IsAscending (a ∷ names)
     without_next a b [] h = tt
     without_next a b (c ∷ names) h = (nat_list_cmp_total.trans a b c h.0 h.1.0, h.1.1)
 
@@ -277,7 +278,8 @@ mutual
       let p = or_parts (has_named t) (items_have_named ts) plain in
       rw (tree_again t p.0, items_again ts p.1) refl
 
-  members_again : (ms : tree.Members) → members_have_named ms ≡ false → spec.members_of (value_members ms) ≡ Some ms
+  members_again : (ms : tree.Members) → members_have_named ms ≡ false
+      → spec.members_of (value_members ms) ≡ Some ms
   members_again tree.no_members plain = refl
   members_again (tree.member k t ms) plain =
       let p = or_parts (has_named t) (members_have_named ms) plain in

@@ -1,7 +1,7 @@
 -- What is before a byte and after it, and a name and what follows it.
-use Rattle.std.proofs.Common.{◌≡◌, ℕ, zero, suc, ◌+◌, ◌<◌, ◌==◌, List, [], ◌∷◌, ◌++◌, length, take, drop, get_or}
-use Rattle.std.proofs.Common.{Option, Some, None, option_map, Bool, true, false, cond, not, refl, sym, ap, subst}
-use Rattle.std.proofs.Common.{◌∙◌, arith, IsUtf8, IsCharBoundary}
+use Rattle.std.proofs.Common.{◌≡◌, ℕ, zero, suc, ◌+◌, ◌<◌, ◌==◌, List, [], ◌∷◌, ◌++◌}
+use Rattle.std.proofs.Common.{length, take, drop, get_or, Option, Some, None, option_map, Bool, true, false, cond, not}
+use Rattle.std.proofs.Common.{refl, sym, ap, subst, ◌∙◌, arith, IsUtf8, IsCharBoundary}
 use Rattle.std.proofs.lemmas.Bool.{eqb-true, eq-eqb, and_parts, and_from}
 use Rattle.std.proofs.lemmas.Bool.Decides.{nat_tests}
 use Rattle.std.proofs.lemmas.Str.{IsCharBoundary-start, IsCharBoundary-after_ascii}
@@ -17,7 +17,8 @@ not_true false e = refl
 abbrev pub lacks : ℕ → List ℕ → Bool
 lacks c = list_all (λ b. not (b == c))
 
-pub cut_at_own : (c : ℕ) (name rest : List ℕ) → lacks c name ≡ true → cut_at c (name ++ c ∷ rest) ≡ Some (name, rest)
+pub cut_at_own : (c : ℕ) (name rest : List ℕ) → lacks c name ≡ true
+    → cut_at c (name ++ c ∷ rest) ≡ Some (name, rest)
 cut_at_own c [] rest h = rw (eq-eqb c c refl) refl
 cut_at_own c (b ∷ name) rest h =
     let p = and_parts (not (b == c)) (lacks c name) h in
@@ -36,10 +37,10 @@ none_some a e = cc
 abbrev IsCut : ℕ → List ℕ → List ℕ → List ℕ → Type 0
 IsCut c s a rest = (s ≡ a ++ c ∷ rest) × (lacks c a ≡ true)
 
-cut_here : (t : Bool) (b c : ℕ) (bs : List ℕ) (o : Option (List ℕ × List ℕ)) (a rest : List ℕ) → (b == c) ≡ t
-    → ((x y : List ℕ) → o ≡ Some (x, y) → IsCut c bs x y)
-    → cond {A = Option (List ℕ × List ℕ)} t (Some ([], bs)) (option_map (λ p. (b ∷ p.0, p.1)) o) ≡ Some (a, rest)
-    → IsCut c (b ∷ bs) a rest
+cut_here : (t : Bool) (b c : ℕ) (bs : List ℕ) (o : Option (List ℕ × List ℕ)) (a rest : List ℕ)
+    → (b == c) ≡ t → ((x y : List ℕ) → o ≡ Some (x, y) → IsCut c bs x y)
+    → cond {A = Option (List ℕ × List ℕ)} t (Some ([], bs)) (option_map (λ p. (b ∷ p.0, p.1)) o)
+    ≡ Some (a, rest) → IsCut c (b ∷ bs) a rest
 cut_here true b c bs o a rest is later e =
     let p = some_pair [] a bs rest e in
     (ap (λ x. x ∷ bs) (eqb-true b c is) ∙ (λ i. p.0 i ++ c ∷ p.1 i), ap (lacks c) (sym p.0))

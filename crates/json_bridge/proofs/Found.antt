@@ -1,6 +1,6 @@
 -- The steps that are found are those that the text spells.
-use Rattle.std.proofs.Common.{◌≡◌, ℕ, zero, suc, ◌≤◌, List, [], ◌∷◌, length, Option, Some, None, refl, sym}
-use Rattle.std.proofs.Common.{ap, subst, ◌∙◌, arith, ◌↔◌}
+use Rattle.std.proofs.Common.{◌≡◌, ℕ, zero, suc, ◌≤◌, List, [], ◌∷◌, length, Option, Some, None}
+use Rattle.std.proofs.Common.{refl, sym, ap, subst, ◌∙◌, arith, ◌↔◌}
 use Rattle.std.specs.Prelude.{option_map, option_and_then}
 use Rattle.data_tree.specs.declared.step.Step.{Step}
 use Rattle.json_bridge.specs.Inner.NextStep.{next_step, after_byte}
@@ -13,7 +13,8 @@ use Rattle.json_bridge.proofs.Unique.{found_shorter}
 abbrev more : ℕ → Option (Step × List ℕ) → Option (List Step)
 more n o = option_and_then (λ p. option_map (λ steps. p.0 ∷ steps) (steps_within n p.1)) o
 
-cons_found : (step : Step) (o : Option (List Step)) (steps : List Step) → option_map (λ later. step ∷ later) o ≡ Some steps
+cons_found : (step : Step) (o : Option (List Step)) (steps : List Step)
+    → option_map (λ later. step ∷ later) o ≡ Some steps
     → (later : List Step) × (o ≡ Some later) × (steps ≡ step ∷ later)
 cons_found step None steps e = absurd (none_some steps e)
 cons_found step (Some later) steps e = (later, refl, sym (some_same (step ∷ later) steps e))
@@ -28,7 +29,8 @@ spelled_next n s (Some (step, rest)) steps each at e =
     let P : List Step → Type 0 = λ all. SpellsSteps s all in
     subst P (sym found.2) (front.0, rest, front.1, front.2, each rest found.0 found.1)
 
-spelled_within : (n : ℕ) (s : List ℕ) (steps : List Step) → steps_within n s ≡ Some steps → SpellsSteps s steps
+spelled_within : (n : ℕ) (s : List ℕ) (steps : List Step) → steps_within n s ≡ Some steps
+    → SpellsSteps s steps
 spelled_within n [] [] e = refl
 spelled_within n [] (x ∷ steps) e = cc
 spelled_within zero (b ∷ bs) steps e = absurd (none_some steps e)

@@ -1,6 +1,6 @@
 -- Lists and objects that grow at their end, an item or a member at a time.
-use Rattle.std.proofs.Common.{◌≡◌, ℕ, List, [], ◌∷◌, ◌++◌, Option, Some, None, option_map, String, Global}
-use Rattle.std.proofs.Common.{string_bytes, length, refl, sym, ap, ◌∙◌, arith}
+use Rattle.std.proofs.Common.{◌≡◌, ℕ, List, [], ◌∷◌, ◌++◌, Option, Some, None, option_map, String}
+use Rattle.std.proofs.Common.{Global, string_bytes, length, refl, sym, ap, ◌∙◌, arith}
 use Rattle.data_tree.specs.declared.data.Data.{Data}
 use Rattle.data_tree.specs.Tree.{Tree, Items, no_items, item, Members, no_members, member, view, items_view}
 use Rattle.data_tree.specs.Tree.{members_view}
@@ -24,7 +24,8 @@ items_before-none [] = refl
 items_before-none (d ∷ found) = ap (item (view d)) (items_before-none found)
 
 pub one_more : (found : List Data) (d : Data) (o : Option Items)
-    → option_map (items_before found) (option_map (item (view d)) o) ≡ option_map (items_before (found ++ d ∷ [])) o
+    → option_map (items_before found) (option_map (item (view d)) o)
+    ≡ option_map (items_before (found ++ d ∷ [])) o
 one_more found d None = refl
 one_more found d (Some rest) = ap Some (sym (items_before-last found d rest))
 
@@ -32,12 +33,14 @@ pub item_taken : (d : value.Data) (ds : value.Items) (t : Tree) → Some t ≡ t
     → items_of (value.item d ds) ≡ option_map (item t) (items_of ds)
 item_taken d ds t e = rw (sym e) refl
 
-pub item_refused : (d : value.Data) (ds : value.Items) → None ≡ tree_of_value d → items_of (value.item d ds) ≡ None
+pub item_refused : (d : value.Data) (ds : value.Items) → None ≡ tree_of_value d
+    → items_of (value.item d ds) ≡ None
 item_refused d ds e = rw (sym e) refl
 
 -- the tree of what is found
 pub found_tree
-    : (o : Option Data) (d : Data) (t : Option Tree) → o ≡ Some d → option_map view o ≡ t → Some (view d) ≡ t
+    : (o : Option Data) (d : Data) (t : Option Tree) → o ≡ Some d → option_map view o ≡ t
+    → Some (view d) ≡ t
 found_tree o d t is e = ap (option_map view) (sym is) ∙ e
 
 -- an item that is read goes from what is left to the end of what is found

@@ -1,7 +1,7 @@
 -- What `strip_prefix` and `split_once` give for one ASCII character.
-use Rattle.std.proofs.Common.{◌≡◌, ◌≢◌, ℕ, suc, ◌+◌, ◌<◌, ◌==◌, List, [], ◌∷◌, ◌++◌, length, take, drop, Option}
-use Rattle.std.proofs.Common.{Some, None, MatchOption, option_map, Bool, true, false, cond, not, refl, sym, ap, ◌∙◌}
-use Rattle.std.proofs.Common.{arith}
+use Rattle.std.proofs.Common.{◌≡◌, ◌≢◌, ℕ, suc, ◌+◌, ◌<◌, ◌==◌, List, [], ◌∷◌, ◌++◌}
+use Rattle.std.proofs.Common.{length, take, drop, Option, Some, None, MatchOption, option_map, Bool, true, false, cond}
+use Rattle.std.proofs.Common.{not, refl, sym, ap, ◌∙◌, arith}
 use Rattle.std.proofs.lemmas.Bool.{eqb-true, eq-eqb}
 use Rattle.std.proofs.lemmas.Str.{encode_ascii}
 use Rattle.std.specs.List.{position_or_len, before_first, after_first}
@@ -9,8 +9,8 @@ use Rattle.std.specs.Str.Pattern.{FindsCharPrefix, StripsPrefix}
 use denote.Ref.{Bor}
 use Rattle.json_bridge.specs.Inner.NextStep.{after_byte, cut_at, part_view, parts_view}
 
-first_byte : (t : Bool) (c b : ℕ) (bs : List ℕ) → (b == c) ≡ t → ((rest : List ℕ) → b ∷ bs ≢ c ∷ rest)
-    → after_byte c (b ∷ bs) ≡ None
+first_byte : (t : Bool) (c b : ℕ) (bs : List ℕ) → (b == c) ≡ t
+    → ((rest : List ℕ) → b ∷ bs ≢ c ∷ rest) → after_byte c (b ∷ bs) ≡ None
 first_byte true c b bs e lack = absurd (lack bs (ap (λ x. x ∷ bs) (eqb-true b c e)))
 first_byte false c b bs e lack = rw e refl
 
@@ -33,8 +33,8 @@ strip_is c s (Some x) ascii h =
 abbrev Cut : Type 0
 Cut = Option (List ℕ × List ℕ)
 
-no_cut : (t : Bool) (b n len : ℕ) (bs : List ℕ) (o : Cut) → cond (not t) (1 + n) 0 ≡ suc len → (n ≡ len → o ≡ None)
-    → cond {A = Cut} t (Some ([], bs)) (option_map (λ p. (b ∷ p.0, p.1)) o) ≡ None
+no_cut : (t : Bool) (b n len : ℕ) (bs : List ℕ) (o : Cut) → cond (not t) (1 + n) 0 ≡ suc len
+    → (n ≡ len → o ≡ None) → cond {A = Cut} t (Some ([], bs)) (option_map (λ p. (b ∷ p.0, p.1)) o) ≡ None
 no_cut true b n len bs o e later = absurd (omega (arith, e))
 no_cut false b n len bs o e later = ap (option_map (λ p. (b ∷ p.0, p.1))) (later (omega (arith, e)))
 

@@ -1,8 +1,8 @@
 -- The step at the front of a text is the one that the pass over the text finds. Of the bytes, 39 is `'`, 46 is `.`,
 -- 91 is `[` and 93 is `]`.
-use Rattle.std.proofs.Common.{◌≡◌, ℕ, ◌<◌, ◌^◌, nat_lt, List, [], ◌∷◌, ◌++◌, length, Option, Some, None, option_map}
-use Rattle.std.proofs.Common.{option_and_then, Bool, true, false, cond, inl, inr, decimal, refl, sym, ap, subst}
-use Rattle.std.proofs.Common.{◌∙◌, arith, append_assoc}
+use Rattle.std.proofs.Common.{◌≡◌, ℕ, ◌<◌, ◌^◌, nat_lt, List, [], ◌∷◌, ◌++◌, length, Option}
+use Rattle.std.proofs.Common.{Some, None, option_map, option_and_then, Bool, true, false, cond, inl, inr, decimal, refl}
+use Rattle.std.proofs.Common.{sym, ap, subst, ◌∙◌, arith, append_assoc}
 use Rattle.std.proofs.lemmas.Bool.{ltb-true, lt-ltb}
 use Rattle.std.specs.List.{list_all}
 use Rattle.std.specs.Option.{option_map_or}
@@ -52,7 +52,8 @@ closed_at (Some r) y name after rest step cut is e =
     let p = same_found (Name name, r) (step, rest) e in
     let closed : after ≡ 93 ∷ rest = after_byte_split 93 after r is ∙ ap (λ z. 93 ∷ z) p.1 in (
       91 ∷ 39 ∷ (name ++ 39 ∷ 93 ∷ []),
-      ap (λ z. 91 ∷ 39 ∷ z) (cut.0 ∙ ap (λ z. name ++ 39 ∷ z) closed ∙ sym (append_assoc name (39 ∷ 93 ∷ []) rest)),
+      ap (λ z. 91 ∷ 39 ∷ z)
+          (cut.0 ∙ ap (λ z. name ++ 39 ∷ z) closed ∙ sym (append_assoc name (39 ∷ 93 ∷ []) rest)),
       subst (SpellsStep (91 ∷ 39 ∷ (name ++ 39 ∷ 93 ∷ []))) p.0 (inr (refl, cut.1)),
       omega arith,
     )
@@ -64,7 +65,8 @@ quoted_at None y rest step is e = absurd (none_some (step, rest) e)
 quoted_at (Some p) y rest step is e =
     closed_at (after_byte 93 p.1) y p.0 p.1 rest step (cut_at_split 39 y p.0 p.1 is) refl e
 
-number_at : (t : Bool) (x digits after rest : List ℕ) (step : Step) → x ≡ digits ++ 93 ∷ after → is_index digits ≡ t
+number_at : (t : Bool) (x digits after rest : List ℕ) (step : Step) → x ≡ digits ++ 93 ∷ after
+    → is_index digits ≡ t
     → option_map {U = Step × List ℕ} (λ n. (Index n, after)) (cond t (Some (digits_value 10 digits)) None)
     ≡ Some (step, rest) → IsAtFront (91 ∷ x) step rest
 number_at false x digits after rest step cut is e = absurd (none_some (step, rest) e)
@@ -90,7 +92,8 @@ bracketed_at (Some y) x rest step is e =
     let P : List ℕ → Type 0 = λ z. IsAtFront (91 ∷ z) step rest in
     subst P (sym (after_byte_split 39 x y is)) (quoted_at (cut_at 39 y) y rest step refl e)
 
-marked_at : (o u : Option (List ℕ)) (s rest : List ℕ) (step : Step) → after_byte 46 s ≡ o → after_byte 91 s ≡ u
+marked_at : (o u : Option (List ℕ)) (s rest : List ℕ) (step : Step) → after_byte 46 s ≡ o
+    → after_byte 91 s ≡ u
     → option_map_or dotted o (option_map_or bracketed u None) ≡ Some (step, rest) → IsAtFront s step rest
 marked_at (Some x) u s rest step dot bracket e =
     let P : List ℕ → Type 0 = λ z. IsAtFront z step rest in
@@ -114,12 +117,13 @@ stops (Name name ∷ steps) s h = elim h.3 [
 ]
 stops (Index n ∷ steps) s h = ap name_at (h.2 ∙ ap (λ x. x ++ h.1) h.3.0)
 
-dotted_found : (name rest : List ℕ) → 0 < length name → list_all is_name_byte name ≡ true → name_at rest ≡ []
-    → dotted (name ++ rest) ≡ Some (Name name, rest)
+dotted_found : (name rest : List ℕ) → 0 < length name → list_all is_name_byte name ≡ true
+    → name_at rest ≡ [] → dotted (name ++ rest) ≡ Some (Name name, rest)
 dotted_found name rest some all stop =
     rw (name_at-append name rest all stop, after_name-append name rest all stop, lt-ltb 0 (length name) some) refl
 
-quoted_found : (name rest : List ℕ) → lacks 39 name ≡ true → quoted (name ++ 39 ∷ 93 ∷ rest) ≡ Some (Name name, rest)
+quoted_found : (name rest : List ℕ) → lacks 39 name ≡ true
+    → quoted (name ++ 39 ∷ 93 ∷ rest) ≡ Some (Name name, rest)
 quoted_found name rest none = rw (cut_at_own 39 name (93 ∷ rest) none) refl
 
 index_found : (n : ℕ) (rest : List ℕ) → n < 10 ^ 9 → indexed (decimal n ++ 93 ∷ rest) ≡ Some (Index n, rest)
@@ -131,13 +135,14 @@ index_found n rest below =
       decimal_value n below,
     ) refl
 
-number_found : (n : ℕ) (rest : List ℕ) → n < 10 ^ 9 → bracketed (decimal n ++ 93 ∷ rest) ≡ Some (Index n, rest)
+number_found : (n : ℕ) (rest : List ℕ) → n < 10 ^ 9
+    → bracketed (decimal n ++ 93 ∷ rest) ≡ Some (Index n, rest)
 number_found n rest below =
     rw (no_quote_first (decimal n) (93 ∷ rest) (decimal_digits n below) (decimal_some n below))
     (index_found n rest below)
 
-step_found : (step : Step) (s first rest : List ℕ) → s ≡ first ++ rest → SpellsStep first step → name_at rest ≡ []
-    → next_step s ≡ Some (step, rest)
+step_found : (step : Step) (s first rest : List ℕ) → s ≡ first ++ rest → SpellsStep first step
+    → name_at rest ≡ [] → next_step s ≡ Some (step, rest)
 step_found (Name name) s first rest e spelled stop = elim spelled [
   | inl d ↦ ap next_step (e ∙ ap (λ x. x ++ rest) d.0) ∙ dotted_found name rest d.1 d.2 stop
   | inr d ↦ ap next_step
@@ -145,7 +150,8 @@ step_found (Name name) s first rest e spelled stop = elim spelled [
       ∙ quoted_found name rest d.1
 ]
 step_found (Index n) s first rest e spelled stop =
-    ap next_step (e ∙ ap (λ x. x ++ rest) spelled.0 ∙ ap (λ x. 91 ∷ x) (append_assoc (decimal n) (93 ∷ []) rest))
+    ap next_step (e ∙ ap (λ x. x ++ rest) spelled.0
+    ∙ ap (λ x. 91 ∷ x) (append_assoc (decimal n) (93 ∷ []) rest))
     ∙ number_found n rest spelled.1
 
 pub spelled_found : (s : List ℕ) (step : Step) (steps : List Step) → SpellsSteps s (step ∷ steps)

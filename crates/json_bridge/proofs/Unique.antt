@@ -1,14 +1,14 @@
 -- A text spells one list of steps at most, and the pass over the text finds it.
-use Rattle.std.proofs.Common.{◌≡◌, ℕ, ◌<◌, List, [], ◌∷◌, ◌++◌, length, Some, None, refl, sym, ap, subst, ◌∙◌}
-use Rattle.std.proofs.Common.{arith, append_assoc, append-nil, length-append}
+use Rattle.std.proofs.Common.{◌≡◌, ℕ, ◌<◌, List, [], ◌∷◌, ◌++◌, length, Some, None, refl, sym, ap}
+use Rattle.std.proofs.Common.{subst, ◌∙◌, arith, append_assoc, append-nil, length-append}
 use Rattle.data_tree.specs.declared.step.Step.{Step}
 use Rattle.json_bridge.specs.Inner.NextStep.{next_step, after_byte, IsSteps, HasOnlySteps}
 use Rattle.json_bridge.specs.Path.{dollar, SpellsSteps, SpellsPath, IsPath}
 use Rattle.json_bridge.proofs.Cuts.{some_same, none_some}
 use Rattle.json_bridge.proofs.Next.{found_at_front, spelled_found}
 
-found_twice : (s rest more : List ℕ) (a b : Step) → next_step s ≡ Some (a, rest) → next_step s ≡ Some (b, more)
-    → (a ≡ b) × (rest ≡ more)
+found_twice : (s rest more : List ℕ) (a b : Step) → next_step s ≡ Some (a, rest)
+    → next_step s ≡ Some (b, more) → (a ≡ b) × (rest ≡ more)
 found_twice s rest more a b p q =
     let same = some_same (a, rest) (b, more) (sym p ∙ q) in
     (ap (λ x. x.0) same, ap (λ x. x.1) same)
@@ -52,13 +52,14 @@ no_more s [] some none h = absurd (omega (arith, some, ap length h))
 no_more s (x ∷ more) some none h = let f = spelled_found s x more h in none_some (x, f.0) (sym none ∙ f.1)
 
 -- steps of the rest are steps of the whole, with the first one before them
-pub steps_onward : (s rest : List ℕ) (step : Step) → next_step s ≡ Some (step, rest) → IsSteps rest → IsSteps s
+pub steps_onward : (s rest : List ℕ) (step : Step) → next_step s ≡ Some (step, rest)
+    → IsSteps rest → IsSteps s
 steps_onward s rest step found h =
     let at = found_at_front s rest step found in
     (step ∷ h.0, (at.0, rest, at.1, at.2, h.1))
 
-later_steps : (s rest : List ℕ) (step : Step) (all : List Step) → next_step s ≡ Some (step, rest) → SpellsSteps s all
-    → (more : List Step) × (all ≡ step ∷ more) × SpellsSteps rest more
+later_steps : (s rest : List ℕ) (step : Step) (all : List Step) → next_step s ≡ Some (step, rest)
+    → SpellsSteps s all → (more : List Step) × (all ≡ step ∷ more) × SpellsSteps rest more
 later_steps s rest step [] found h = absurd (none_some (step, rest) (sym (ap next_step h) ∙ found))
 later_steps s rest step (x ∷ more) found h =
     let f = spelled_found s x more h in
@@ -81,7 +82,8 @@ steps_end (b ∷ s) e = absurd (omega (arith, e))
 -- where the whole is steps, they begin with these, and the rest has the others
 abbrev pub BeginsWith : List ℕ → List ℕ → List Step → Type 0
 BeginsWith whole rest steps =
-    (all : List Step) → SpellsSteps whole all → (more : List Step) × (all ≡ steps ++ more) × SpellsSteps rest more
+    (all : List Step) → SpellsSteps whole all
+    → (more : List Step) × (all ≡ steps ++ more) × SpellsSteps rest more
 
 pub begins_here : (s : List ℕ) → BeginsWith s s []
 begins_here s = λ all h. (all, refl, h)
@@ -95,7 +97,8 @@ begins_onward whole s rest steps step h found = λ all spelled.
 
 pub begins_pushed
     : (whole s rest : List ℕ) (steps pushed : List Step) (step copied : Step) → BeginsWith whole s steps
-    → next_step s ≡ Some (step, rest) → copied ≡ step → pushed ≡ steps ++ copied ∷ [] → BeginsWith whole rest pushed
+    → next_step s ≡ Some (step, rest) → copied ≡ step → pushed ≡ steps ++ copied ∷ []
+    → BeginsWith whole rest pushed
 begins_pushed whole s rest steps pushed step copied h found same is =
     subst (BeginsWith whole rest) (sym (is ∙ ap (λ x. steps ++ x ∷ []) same))
     (begins_onward whole s rest steps step h found)
@@ -106,8 +109,8 @@ ends_here s (x ∷ more) none h =
     let f = spelled_found s x more h in absurd (none_some (x, f.0) (sym none ∙ f.1))
 
 pub only_these
-    : (whole s : List ℕ) (steps made : List Step) → BeginsWith whole s steps → next_step s ≡ None → made ≡ steps
-    → HasOnlySteps whole made
+    : (whole s : List ℕ) (steps made : List Step) → BeginsWith whole s steps → next_step s ≡ None
+    → made ≡ steps → HasOnlySteps whole made
 only_these whole s steps made h none is = λ all spelled.
     let b = h all spelled in
     b.1 ∙ ap (λ y. steps ++ y) (ends_here s b.0 none b.2) ∙ append-nil steps ∙ sym is
@@ -125,14 +128,14 @@ steps_of_path s rest e h =
 pub path_begins : (s : List ℕ) → IsPath s → after_byte dollar s ≡ None → ⊥
 path_begins s h none = none_some h.1.0 (sym none ∙ ap (after_byte dollar) h.1.1)
 
-pub path_found : (s rest : List ℕ) (steps : List Step) → s ≡ dollar ∷ rest → IsPath s → HasOnlySteps rest steps
-    → SpellsPath s steps
+pub path_found : (s rest : List ℕ) (steps : List Step) → s ≡ dollar ∷ rest → IsPath s
+    → HasOnlySteps rest steps → SpellsPath s steps
 path_found s rest steps e h only =
     let all = steps_of_path s rest e h in
     (rest, e, subst (SpellsSteps rest) (only all.0 all.1) all.1)
 
-pub path_refused : (s rest : List ℕ) → s ≡ dollar ∷ rest → ((all : List Step) → SpellsSteps rest all → ⊥)
-    → (steps : List Step) → SpellsPath s steps → ⊥
+pub path_refused : (s rest : List ℕ) → s ≡ dollar ∷ rest
+    → ((all : List Step) → SpellsSteps rest all → ⊥) → (steps : List Step) → SpellsPath s steps → ⊥
 path_refused s rest e none steps h =
     let P : List ℕ → Type 0 = λ z. SpellsSteps z steps in
     none steps (subst P (cons_same dollar h.0 rest (sym h.1 ∙ e)) h.2)

@@ -1,6 +1,7 @@
 -- The examples, computed.
-use Rattle.std.proofs.Common.{◌≡◌, ℕ, zero, suc, List, [], ◌∷◌, get_or, length, Option, Some, None, option_map}
-use Rattle.std.proofs.Common.{option_and_then, Bool, true, false, codes, refl, sym, ap, subst, ◌∙◌, arith}
+use Rattle.std.proofs.Common.{◌≡◌, ℕ, zero, suc, List, [], ◌∷◌, get_or, length, Option, Some, None}
+use Rattle.std.proofs.Common.{option_map, option_and_then, Bool, true, false, codes, refl, sym, ap, subst, ◌∙◌}
+use Rattle.std.proofs.Common.{arith}
 use Rattle.std.proofs.lemmas.Bool.{false≢true}
 use Rattle.std.specs.Option.{option_map_or}
 use Rattle.data_tree.specs.declared.step.Step.{Step}
@@ -58,7 +59,8 @@ more_in (Some more) s rest step steps found later e =
 
 first_in : (o : Option (Step × List ℕ)) (n : ℕ) (s : List ℕ) (steps : List Step) → next_step s ≡ o
     → ((rest : List ℕ) (more : List Step) → steps_in n rest ≡ Some more → SpellsSteps rest more)
-    → option_and_then (λ p. option_map (λ more. p.0 ∷ more) (steps_in n p.1)) o ≡ Some steps → SpellsSteps s steps
+    → option_and_then (λ p. option_map (λ more. p.0 ∷ more) (steps_in n p.1)) o ≡ Some steps
+    → SpellsSteps s steps
 first_in None n s steps found later e = absurd (none_some steps e)
 first_in (Some p) n s steps found later e = more_in (steps_in n p.1) s p.1 p.0 steps found (later p.1) e
 
@@ -73,7 +75,8 @@ fails zero s = false
 fails (suc n) [] = false
 fails (suc n) (b ∷ bs) = option_map_or (λ p. fails n p.1) (next_step (b ∷ bs)) true
 
-fails_first : (o : Option (Step × List ℕ)) (n : ℕ) (s : List ℕ) (step : Step) (steps : List Step) → next_step s ≡ o
+fails_first : (o : Option (Step × List ℕ)) (n : ℕ) (s : List ℕ) (step : Step) (steps : List Step)
+    → next_step s ≡ o
     → ((rest : List ℕ) (more : List Step) → fails n rest ≡ true → SpellsSteps rest more → ⊥)
     → option_map_or (λ p. fails n p.1) o true ≡ true → SpellsSteps s (step ∷ steps) → ⊥
 fails_first None n s step steps found later e h =

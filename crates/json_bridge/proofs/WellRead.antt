@@ -1,8 +1,8 @@
 -- What `serde_json` reads is well formed: its whole numbers fit, and an object's names are in byte order, each once.
-use Rattle.std.proofs.Common.{◌≡◌, ℕ, zero, suc, ◌-◌, ◌^◌, ◌<◌, ◌≤◌, ◌==◌, ◌&&◌, nat_lt, nat_le, ℤ, pos, negsuc}
-use Rattle.std.proofs.Common.{List, [], ◌∷◌, drop, slice_index, Option, Some, None, option_map, option_and_then, T}
-use Rattle.std.proofs.Common.{Bool, true, false, cond, IfSome, Ordering, Less, Equal}
-use Rattle.std.proofs.Common.{Greater, Float, nat_cmp, refl, sym, ap, subst, ◌∙◌, arith}
+use Rattle.std.proofs.Common.{◌≡◌, ℕ, zero, suc, ◌-◌, ◌^◌, ◌<◌, ◌≤◌, ◌==◌, ◌&&◌}
+use Rattle.std.proofs.Common.{nat_lt, nat_le, ℤ, pos, negsuc, List, [], ◌∷◌, drop, slice_index, Option, Some}
+use Rattle.std.proofs.Common.{None, option_map, option_and_then, T, Bool, true, false, cond, IfSome, Ordering, Less}
+use Rattle.std.proofs.Common.{Equal, Greater, Float, nat_cmp, refl, sym, ap, subst, ◌∙◌, arith}
 use Rattle.std.proofs.lemmas.Bool.{and_parts, ltb-true, leb-true, le-leb}
 use Rattle.std.proofs.lemmas.Cmp.{nat_list_cmp_total}
 use Rattle.std.specs.Cmp.Lexicographic.{slice_cmp}
@@ -70,7 +70,8 @@ number_from_fits true p =
     (and_parts (is_integer p && nat_lt 0 (digits_of p)) (nat_le (digits_of p) (2 ^ 63)) e).1)
     (float_fits (float_is_finite (nearest binary64 true p)) (nearest binary64 true p))
 
-either_sign : (t : Bool) (a b : Option value.Num) → IfSome a NumFits → IfSome b NumFits → IfSome (cond t a b) NumFits
+either_sign : (t : Bool) (a b : Option value.Num) → IfSome a NumFits → IfSome b NumFits
+    → IfSome (cond t a b) NumFits
 either_sign true a b p q = p
 either_sign false a b p q = q
 
@@ -99,7 +100,8 @@ after_first_put Equal l k m d e ms below next h = (next, h)
 after_first_put Greater l k m d e ms below next h = (next, h)
 
 before_put : (l k : List ℕ) (d : value.Data) (ms : value.Members) → slice_cmp nat_cmp l k ≡ Less
-    → IsAscending (l ∷ keys ms) → IsAscending (keys (value.put k d ms)) → IsAscending (l ∷ keys (value.put k d ms))
+    → IsAscending (l ∷ keys ms) → IsAscending (keys (value.put k d ms))
+    → IsAscending (l ∷ keys (value.put k d ms))
 before_put l k d value.no_members below h done = (below, done)
 before_put l k d (value.member m e ms) below h done =
     after_first_put (slice_cmp nat_cmp k m) l k m d e ms below h.0 done
@@ -157,13 +159,13 @@ have_read_put k d (value.member l e ms) p h =
     (value.member l e (value.put k d ms))
     (p, h) (p, h.1) (h.0, have_read_put k d ms p h.1)
 
-some_map : {A B : Type 0} (P : A → Type 0) (Q : B → Type 0) (f : A → B) → ((a : A) → P a → Q (f a)) → (o : Option A)
-    → IfSome o P → IfSome (option_map f o) Q
+some_map : {A B : Type 0} (P : A → Type 0) (Q : B → Type 0) (f : A → B) → ((a : A) → P a → Q (f a))
+    → (o : Option A) → IfSome o P → IfSome (option_map f o) Q
 some_map P Q f k None h = tt
 some_map P Q f k (Some a) h = k a h
 
-some_then : {A B : Type 0} (P : A → Type 0) (Q : B → Type 0) (f : A → Option B) → ((a : A) → P a → IfSome (f a) Q)
-    → (o : Option A) → IfSome o P → IfSome (option_and_then f o) Q
+some_then : {A B : Type 0} (P : A → Type 0) (Q : B → Type 0) (f : A → Option B)
+    → ((a : A) → P a → IfSome (f a) Q) → (o : Option A) → IfSome o P → IfSome (option_and_then f o) Q
 some_then P Q f k None h = tt
 some_then P Q f k (Some a) h = k a h
 

@@ -1,5 +1,6 @@
 -- JSON texts with their trees, and texts with the paths that they spell.
-use Rattle.std.specs.Prelude.{◌≡◌, ℕ, ◌-◌, ◌^◌, pos, negsuc, true, List, [], ◌∷◌, Some, None, codes}
+use Rattle.std.specs.Prelude.{◌≡◌, ℕ, ◌-◌, ◌^◌, pos, negsuc, true, List, [], ◌∷◌, Some, None}
+use Rattle.std.specs.Prelude.{codes}
 use Rattle.data_tree.specs.Tree.{nothing, truth, number, text, list, fields, no_items, item, no_members, member}
 use Rattle.data_tree.specs.declared.step.Step.{Step}
 use Rattle.data_tree.specs.declared.step.Step.TheVariants.{Name, Index}
@@ -8,7 +9,8 @@ use Rattle.json_bridge.specs.Reading.{tree_of_text}
 
 pub record AreTexts : Type 0 where
   pub null : tree_of_text (codes "null") ≡ Some nothing
-  pub one_a : tree_of_text (codes "[1,\"a\"]") ≡ Some (list (item (number (pos 1)) (item (text (codes "a")) no_items)))
+  pub one_a : tree_of_text (codes "[1,\"a\"]")
+      ≡ Some (list (item (number (pos 1)) (item (text (codes "a")) no_items)))
   pub blanks : tree_of_text (codes " [ true , { } ] ")
       ≡ Some (list (item (truth true) (item (fields no_members) no_items)))
   pub byte_order : tree_of_text (codes "{\"b\":1,\"B\":null}")

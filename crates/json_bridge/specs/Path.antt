@@ -2,8 +2,8 @@
 -- (RFC 9535, sections 2.2 and 2.3), but `['text']` has no escapes: in `$['a\b']` both bytes `\` and `b` are of the
 -- name, where the RFC reads a backspace. Which names may follow a dot is this product's own: `$.0` and `$.b-c` are
 -- paths here, and not in the RFC's notation.
-use Rattle.std.specs.Prelude.{◌≡◌, ◌⊎◌, ℕ, ◌^◌, ◌<◌, ◌==◌, ◌||◌, not, Bool, IsTrue, List, [], ◌∷◌, ◌++◌, length}
-use Rattle.std.specs.Prelude.{decimal}
+use Rattle.std.specs.Prelude.{◌≡◌, ◌⊎◌, ℕ, ◌^◌, ◌<◌, ◌==◌, ◌||◌, not, Bool, IsTrue, List}
+use Rattle.std.specs.Prelude.{[], ◌∷◌, ◌++◌, length, decimal}
 use Rattle.std.specs.Char.{is_ascii_alphanumeric}
 use Rattle.std.specs.List.{list_all}
 use Rattle.data_tree.specs.declared.digits.TheConstants.{INDEX_DIGITS}
@@ -49,7 +49,8 @@ IsDotted name s = (s ≡ dot ∷ name) × (0 < length name) × IsTrue (list_all 
 -- `['text']`, with any text that has no `'`
 abbrev pub IsQuoted : List ℕ → List ℕ → Type 0
 IsQuoted name s =
-    (s ≡ open_bracket ∷ quote ∷ (name ++ quote ∷ close_bracket ∷ [])) × IsTrue (list_all (λ b. not (b == quote)) name)
+    (s ≡ open_bracket ∷ quote ∷ (name ++ quote ∷ close_bracket ∷ []))
+    × IsTrue (list_all (λ b. not (b == quote)) name)
 
 -- `[n]`, with a number of nine digits at most, in decimal: no `0` is before another digit
 abbrev pub IsIndexed : ℕ → List ℕ → Type 0

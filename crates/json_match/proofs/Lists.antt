@@ -1,6 +1,7 @@
 -- Lists of values, item by item.
-use Rattle.std.proofs.Common.{◌≡◌, ℕ, suc, ◌≤◌, ◌&&◌, ◌||◌, ◌⊎◌, inl, inr, not, Bool, true, false, nat_eq, List, []}
-use Rattle.std.proofs.Common.{◌∷◌, length, drop, None, Some, String, Global, refl, sym, ap, ◌∙◌, arith}
+use Rattle.std.proofs.Common.{◌≡◌, ℕ, suc, ◌≤◌, ◌&&◌, ◌||◌, ◌⊎◌, inl, inr, not, Bool, true}
+use Rattle.std.proofs.Common.{false, nat_eq, List, [], ◌∷◌, length, drop, None, Some, String, Global, refl, sym}
+use Rattle.std.proofs.Common.{ap, ◌∙◌, arith}
 use Rattle.std.proofs.lemmas.Bool.{eq-eqb}
 use Rattle.std.proofs.lemmas.Bool.Decides.{nat_tests}
 use Rattle.std.proofs.lemmas.List.{drop_all}
@@ -9,7 +10,8 @@ use Rattle.data_tree.specs.Parts.{trees_of}
 use Rattle.data_tree.proofs.Views.{suc_is_not_zero}
 use Rattle.data_tree.specs.Tree.{list, fields, Items, view, items_view, members_view}
 use Rattle.data_tree.specs.declared.data.Data.{Data}
-use Rattle.json_match.specs.Inner.Walk.{is_equal, are_equal, each_takes_one, are_equal_in_any_order, have_equal, is_empty}
+use Rattle.json_match.specs.Inner.Walk.{is_equal, are_equal, each_takes_one, are_equal_in_any_order, have_equal}
+use Rattle.json_match.specs.Inner.Walk.{is_empty}
 use Rattle.json_match.specs.Matching.{without_first, have_one_length, is_something}
 use Rattle.json_match.specs.declared.compare.Flags.{Flags}
 
@@ -19,14 +21,15 @@ heads : (f : Flags) (es ts later others : List Data) (e t : Data) → es ≡ e �
     ≡ (is_equal f (view e) (view t) && are_equal f (items_view later) (items_view others))
 heads f es ts later others e t he ht = λ i. are_equal f (items_view (he i)) (items_view (ht i))
 
-pub equal_heads : (f : Flags) (es ts later others : List Data) (e t : Data) → es ≡ e ∷ later → ts ≡ t ∷ others
-    → true ≡ is_equal f (view e) (view t)
+pub equal_heads : (f : Flags) (es ts later others : List Data) (e t : Data) → es ≡ e ∷ later
+    → ts ≡ t ∷ others → true ≡ is_equal f (view e) (view t)
     → are_equal f (items_view es) (items_view ts) ≡ are_equal f (items_view later) (items_view others)
 equal_heads f es ts later others e t he ht same =
     heads f es ts later others e t he ht
     ∙ ap (λ b. b && are_equal f (items_view later) (items_view others)) (sym same)
 
-pub unequal_heads : (f : Flags) (es ts later others : List Data) (e t : Data) → es ≡ e ∷ later → ts ≡ t ∷ others
+pub unequal_heads : (f : Flags) (es ts later others : List Data) (e t : Data) → es ≡ e ∷ later
+    → ts ≡ t ∷ others
     → false ≡ is_equal f (view e) (view t) → are_equal f (items_view es) (items_view ts) ≡ false
 unequal_heads f es ts later others e t he ht differ =
     heads f es ts later others e t he ht
@@ -55,13 +58,14 @@ not_false false h = sym h
 
 -- ---- in any order
 
-one_length : (es ts : List Data) → length es ≡ length ts → have_one_length (items_view es) (items_view ts) ≡ true
+one_length : (es ts : List Data) → length es ≡ length ts
+    → have_one_length (items_view es) (items_view ts) ≡ true
 one_length es ts same =
     eq-eqb (length (trees_of (items_view es))) (length (trees_of (items_view ts)))
     (length-items_view es ∙ same ∙ sym (length-items_view ts))
 
-pub other_lengths : (f : Flags) (es ts : List Data) → f.ignore_extra_elements ≡ false → (length es ≡ length ts → ⊥)
-    → are_equal_in_any_order f (items_view es) (items_view ts) ≡ false
+pub other_lengths : (f : Flags) (es ts : List Data) → f.ignore_extra_elements ≡ false
+    → (length es ≡ length ts → ⊥) → are_equal_in_any_order f (items_view es) (items_view ts) ≡ false
 other_lengths f es ts none differ =
     ap (λ b. (b || have_one_length (items_view es) (items_view ts))
     && each_takes_one f (items_view es) (items_view ts)) none
@@ -78,7 +82,8 @@ as_they_take f es ts b (inl extra) takes =
     ap (λ c. (c || have_one_length (items_view es) (items_view ts))
     && each_takes_one f (items_view es) (items_view ts)) extra ∙ takes
 as_they_take f es ts b (inr same) takes =
-    ap (λ c. (f.ignore_extra_elements || c) && each_takes_one f (items_view es) (items_view ts)) (one_length es ts same)
+    ap (λ c. (f.ignore_extra_elements || c)
+    && each_takes_one f (items_view es) (items_view ts)) (one_length es ts same)
     ∙ ap (λ c. c && each_takes_one f (items_view es) (items_view ts)) (or-true f.ignore_extra_elements) ∙ takes
 
 pub none_takes : (f : Flags) (es ts : List Data) → each_takes_one f (items_view es) (items_view ts) ≡ false
@@ -102,7 +107,8 @@ all_taken f es n left le = rw (drop_all n es le) refl
 
 -- ---- empty lists
 
-pub something_list : (n : ℕ) (xs : List Data) → n ≡ length xs → not (nat_eq n 0) ≡ is_something (list (items_view xs))
+pub something_list : (n : ℕ) (xs : List Data) → n ≡ length xs
+    → not (nat_eq n 0) ≡ is_something (list (items_view xs))
 something_list n [] e = rw e refl
 something_list n (x ∷ xs) e = rw e (ap not (suc_is_not_zero (length xs)))
 

@@ -1,6 +1,6 @@
 -- Names in byte order, each once: a name that comes before others isn't one of them.
-use Rattle.std.proofs.Common.{◌≡◌, ◌&&◌, false, List, [], ◌∷◌, ℕ, Some, None, if◌then◌else◌, is_some}
-use Rattle.std.proofs.Common.{refl, sym, ap, ◌∙◌, nat_cmp, Less}
+use Rattle.std.proofs.Common.{◌≡◌, ◌&&◌, false, List, [], ◌∷◌, ℕ, Some, None, if◌then◌else◌}
+use Rattle.std.proofs.Common.{is_some, refl, sym, ap, ◌∙◌, nat_cmp, Less}
 use Rattle.std.proofs.lemmas.Cmp.{nat_list_cmp_total}
 use Rattle.std.proofs.lemmas.Map.Text.{is_eq-slice_cmp}
 use Rattle.std.specs.Cmp.Lexicographic.{slice_cmp}
@@ -25,8 +25,8 @@ tail_ascends k [] a = tt
 tail_ascends k (name ∷ names) a = a.1
 
 -- before a name that comes before the others, all come later
-pub comes_before : (k l : List ℕ) (names : List (List ℕ)) → slice_cmp nat_cmp k l ≡ Less → IsAscending (l ∷ names)
-    → IsAscending (k ∷ names)
+pub comes_before : (k l : List ℕ) (names : List (List ℕ)) → slice_cmp nat_cmp k l ≡ Less
+    → IsAscending (l ∷ names) → IsAscending (k ∷ names)
 comes_before k l [] less a = tt
 comes_before k l (name ∷ names) less a = (nat_list_cmp_total.trans k l name less a.0, a.1)
 

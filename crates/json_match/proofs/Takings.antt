@@ -1,6 +1,7 @@
 -- The first item that passes a test, among those that aren't taken.
-use Rattle.std.proofs.Common.{◌≡◌, ℕ, zero, suc, ◌+◌, ◌<◌, Bool, true, false, List, [], ◌∷◌, length, set, Option, Some, None}
-use Rattle.std.proofs.Common.{option_map, MatchOption, replicate, if◌then◌else◌, refl, sym, ap, subst, ◌∙◌, arith}
+use Rattle.std.proofs.Common.{◌≡◌, ℕ, zero, suc, ◌+◌, ◌<◌, Bool, true, false, List, [], ◌∷◌}
+use Rattle.std.proofs.Common.{length, set, Option, Some, None, option_map, MatchOption, replicate, if◌then◌else◌}
+use Rattle.std.proofs.Common.{refl, sym, ap, subst, ◌∙◌, arith}
 use Rattle.data_tree.specs.Parts.{trees_of}
 use Rattle.data_tree.specs.Tree.{Tree, Items, no_items, item}
 use Rattle.json_match.specs.Inner.Taken.{left_of, first_left}
@@ -34,9 +35,11 @@ past_taken passes n t taken ts None h = h
 past_taken passes n t taken ts (Some k) h = (suc h.0, omega (arith, h.1), omega (arith, h.2), h.3)
 
 past_left : (passes : Tree → Bool) (n : ℕ) (t : Tree) (taken : List Bool) (ts : Items) (found : Option ℕ)
-    → passes t ≡ false → Tells passes (n + 1) taken ts found → Tells passes n (false ∷ taken) (item t ts) found
+    → passes t ≡ false → Tells passes (n + 1) taken ts found
+    → Tells passes n (false ∷ taken) (item t ts) found
 past_left passes n t taken ts None fails h =
-    ap (λ c. if c then Some (left_of taken ts) else option_map (item t) (without_first passes (left_of taken ts))) fails
+    ap (λ c. if c then Some (left_of taken ts)
+    else option_map (item t) (without_first passes (left_of taken ts))) fails
     ∙ ap (option_map (item t)) h
 past_left passes n t taken ts (Some k) fails h = (
   suc h.0,
@@ -61,8 +64,8 @@ by_test passes n t taken ts false fails later =
     subst (Tells passes n (false ∷ taken) (item t ts)) (sym (gone_past passes n false t taken ts (λ e. fails)))
     (past_left passes n t taken ts (first_left passes (n + 1) taken ts) fails later)
 
-takes_from : (passes : Tree → Bool) (n : ℕ) (taken : List Bool) (ts : Items) → length taken ≡ length (trees_of ts)
-    → Tells passes n taken ts (first_left passes n taken ts)
+takes_from : (passes : Tree → Bool) (n : ℕ) (taken : List Bool) (ts : Items)
+    → length taken ≡ length (trees_of ts) → Tells passes n taken ts (first_left passes n taken ts)
 takes_from passes n [] no_items same = refl
 takes_from passes n [] (item t ts) same = absurd (omega (arith, same))
 takes_from passes n (b ∷ taken) no_items same = absurd (omega (arith, same))

@@ -1,6 +1,7 @@
 -- Going once over the members of two well formed objects compares them as `is_equal` does.
-use Rattle.std.proofs.Common.{◌≡◌, ◌&&◌, ◌||◌, Bool, true, false, List, ◌∷◌, ℕ, Option, Some, None, option_map, IfSome}
-use Rattle.std.proofs.Common.{if◌then◌else◌, refl, sym, ap, subst, ◌∙◌, nat_cmp, Less, Equal, Greater, Ordering}
+use Rattle.std.proofs.Common.{◌≡◌, ◌&&◌, ◌||◌, Bool, true, false, List, ◌∷◌, ℕ, Option, Some}
+use Rattle.std.proofs.Common.{None, option_map, IfSome, if◌then◌else◌, refl, sym, ap, subst, ◌∙◌, nat_cmp}
+use Rattle.std.proofs.Common.{Less, Equal, Greater, Ordering}
 use Rattle.std.proofs.Math.Bool.{and-false, and_assoc}
 use Rattle.std.proofs.lemmas.Cmp.{nat_list_cmp_total}
 use Rattle.std.proofs.lemmas.Map.Text.{is_eq-slice_cmp}
@@ -84,8 +85,8 @@ looked f more q k e es (member l t ms) a b =
 
 -- ---- items
 
-without_same : (p q : Tree → Bool) (ts : Items) → AreWellFormed ts → ((t : Tree) → IsWellFormed t → p t ≡ q t)
-    → without_first p ts ≡ without_first q ts
+without_same : (p q : Tree → Bool) (ts : Items) → AreWellFormed ts
+    → ((t : Tree) → IsWellFormed t → p t ≡ q t) → without_first p ts ≡ without_first q ts
 without_same p q no_items w h = refl
 without_same p q (item t ts) w h =
     let here = h t w.0 in
@@ -123,12 +124,15 @@ found_same : (f : Flags) (p q : Tree → Bool) (g h : Members → Bool) (more : 
     ≡ option_map_or (λ x. q x.0 && h x.1) (member_at more k ms) false
 found_same f p q g h more k no_members a w same_value same_rest = refl
 found_same f p q g h more k (member l t ms) a w same_value same_rest =
-    by_name (bytes_eq l k) more (found_same f p q g h more k ms (tail_ascends l (names_of ms) a) w.1 same_value same_rest)
+    by_name (bytes_eq l k) more
+    (found_same f p q g h more k ms (tail_ascends l (names_of ms) a) w.1 same_value same_rest)
   where
     by_name : (b c : Bool) → option_map_or (λ x. p x.0 && g x.1) (member_at more k ms) false
         ≡ option_map_or (λ x. q x.0 && h x.1) (member_at more k ms) false
-        → option_map_or (λ x. p x.0 && g x.1) (if b then Some (t, ms) else (if c then member_at more k ms else None)) false
-        ≡ option_map_or (λ x. q x.0 && h x.1) (if b then Some (t, ms) else (if c then member_at more k ms else None)) false
+        → option_map_or (λ x. p x.0 && g x.1)
+        (if b then Some (t, ms) else (if c then member_at more k ms else None)) false
+        ≡ option_map_or (λ x. q x.0 && h x.1)
+        (if b then Some (t, ms) else (if c then member_at more k ms else None)) false
     by_name true c later =
         let here = same_value t w.0 in
         let after = same_rest ms (tail_ascends l (names_of ms) a) w.1 in
@@ -137,7 +141,8 @@ found_same f p q g h more k (member l t ms) a w same_value same_rest =
     by_name false false later = refl
 
 mutual
-  pub same_tree : (f : Flags) (e t : Tree) → IsWellFormed e → IsWellFormed t → walk.is_equal f e t ≡ spec.is_equal f e t
+  pub same_tree : (f : Flags) (e t : Tree) → IsWellFormed e → IsWellFormed t
+      → walk.is_equal f e t ≡ spec.is_equal f e t
   same_tree f (list es) (list ts) we wt =
       let pairs = same_items f es ts we wt in
       let takes = same_takes f es ts we wt in

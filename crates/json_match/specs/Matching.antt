@@ -1,7 +1,7 @@
 -- When a JSON value meets a JSON matcher (WireMock, "Request Matching", on JSON equality and on JSON paths). How lists
 -- compare under the two flags is this product's own.
-use Rattle.std.specs.Prelude.{ℕ, Bool, true, false, ◌==◌, ◌&&◌, ◌||◌, IsTrue, IsSomeAnd, List, length, Option, Some}
-use Rattle.std.specs.Prelude.{None, is_some, option_map, if◌then◌else◌}
+use Rattle.std.specs.Prelude.{ℕ, Bool, true, false, ◌==◌, ◌&&◌, ◌||◌, IsTrue, IsSomeAnd, List, length}
+use Rattle.std.specs.Prelude.{Option, Some, None, is_some, option_map, if◌then◌else◌}
 use Rattle.std.specs.List.{list_all}
 use Rattle.std.specs.Option.{option_map_or}
 use Rattle.std.specs.Ordering.{int_eq}

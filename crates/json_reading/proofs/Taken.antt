@@ -1,6 +1,6 @@
 -- A value that is taken has no float.
-use Rattle.std.proofs.Common.{◌≡◌, Bool, true, false, true≢false, ◌||◌, Option, Some, None, option_map, option_and_then}
-use Rattle.std.proofs.Common.{is_some, refl, sym}
+use Rattle.std.proofs.Common.{◌≡◌, Bool, true, false, true≢false, ◌||◌, Option, Some, None, option_map}
+use Rattle.std.proofs.Common.{option_and_then, is_some, refl, sym}
 use Rattle.data_tree.specs.Tree as tree
 use Rattle.json_bridge.specs.Reading.{tree_of_value, items_of, members_of}
 use Rattle.serde_json.specs.Data as value

@@ -1,6 +1,7 @@
 -- What one more key changes in the maps and lists of `specs/Inner/Maps.antt`.
-use Rattle.std.proofs.Common.{◌≡◌, ℕ, suc, ◌+◌, ◌<◌, ◌≤◌, Bool, true, false, cond, List, [], ◌∷◌, ◌++◌, length, get_or, take, Bor}
-use Rattle.std.proofs.Common.{Option, None, Some, refl, sym, ap, ◌∙◌, ⊎_elim, arith}
+use Rattle.std.proofs.Common.{◌≡◌, ℕ, suc, ◌+◌, ◌<◌, ◌≤◌, Bool, true, false, cond, List, []}
+use Rattle.std.proofs.Common.{◌∷◌, ◌++◌, length, get_or, take, Bor, Option, None, Some, refl, sym, ap}
+use Rattle.std.proofs.Common.{◌∙◌, ⊎_elim, arith}
 use Rattle.std.specs.Prelude.{count_by, unwrap_or}
 use Rattle.std.specs.Cmp.{IsEquivalence}
 use Rattle.std.specs.List.{position_from}
@@ -14,18 +15,22 @@ use Rattle.key_groups.specs.Inner.Maps.{value_at, Counts, Numbers, PositionsBelo
 
 -- ---- options
 
-first_or : (b : Bool) (n : ℕ) (r m t : Option ℕ) → m ≡ option_or r t → cond b (Some n) m ≡ option_or (cond b (Some n) r) t
+first_or : (b : Bool) (n : ℕ) (r m t : Option ℕ) → m ≡ option_or r t
+    → cond b (Some n) m ≡ option_or (cond b (Some n) r) t
 first_or true n r m t e = refl
 first_or false n r m t e = e
 
 -- the first that passes, after one more at the end
-position_from-push : {A : Type 0} (p : A → Bool) (n : ℕ) (xs : List A) (y : A) → position_from p n (xs ++ y ∷ []) ≡ option_or (position_from p n xs) (cond (p y) (Some (n + length xs)) None)
+position_from-push : {A : Type 0} (p : A → Bool) (n : ℕ) (xs : List A) (y : A)
+    → position_from p n (xs ++ y ∷ []) ≡ option_or (position_from p n xs) (cond (p y) (Some (n + length xs)) None)
 position_from-push p n [] y =
     let e : n ≡ n + 0 = omega arith in ap (λ v. cond (p y) (Some v) None) e
 position_from-push p n (x ∷ xs) y =
     let e : n + 1 + length xs ≡ n + suc (length xs) = omega arith in
-    first_or (p x) n (position_from p (n + 1) xs) (position_from p (n + 1) (xs ++ y ∷ [])) (cond (p y) (Some (n + suc (length xs))) None)
-    (position_from-push p (n + 1) xs y ∙ ap (λ v. option_or (position_from p (n + 1) xs) (cond (p y) (Some v) None)) e)
+    first_or (p x) n (position_from p (n + 1) xs) (position_from p (n + 1) (xs ++ y ∷ []))
+    (cond (p y) (Some (n + suc (length xs))) None)
+    (position_from-push p (n + 1) xs y
+    ∙ ap (λ v. option_or (position_from p (n + 1) xs) (cond (p y) (Some v) None)) e)
 
 module _ {K : Type 0} (same : K → K → Bool) (laws : IsEquivalence same) where
   -- ---- equal keys
@@ -38,9 +43,12 @@ module _ {K : Type 0} (same : K → K → Bool) (laws : IsEquivalence same) wher
 
   -- ---- one more key
 
-  pub Counts-push : {S : Type 0} (keys : List K) (m n : HashMap (Bor K) ℕ S) (k : K) (w : ℕ) → ((q : Bor K) → value_at same n q ≡ cond (same k q.now) (Some w) (value_at same m q)) → w ≡ times same k keys + 1 → Counts same keys m → Counts same (keys ++ k ∷ []) n
+  pub Counts-push : {S : Type 0} (keys : List K) (m n : HashMap (Bor K) ℕ S) (k : K) (w : ℕ)
+      → ((q : Bor K) → value_at same n q ≡ cond (same k q.now) (Some w) (value_at same m q))
+      → w ≡ times same k keys + 1 → Counts same keys m → Counts same (keys ++ k ∷ []) n
   Counts-push keys m n k w puts counted before = λ q.
-      let more : times same q.now (keys ++ k ∷ []) ≡ times same q.now keys + cond (same k q.now) 1 0 = sum_by_push (λ o. cond (same o q.now) 1 0) keys k in
+      let more : times same q.now (keys ++ k ∷ []) ≡ times same q.now keys + cond (same k q.now) 1 0 =
+      sum_by_push (λ o. cond (same o q.now) 1 0) keys k in
       ⊎_elim
       (λ yes.
       ap (λ o. unwrap_or o 0) (puts q ∙ cond-true (same k q.now) (Some w) (value_at same m q) yes)
@@ -49,17 +57,21 @@ module _ {K : Type 0} (same : K → K → Bool) (laws : IsEquivalence same) wher
       (λ no.
       ap (λ o. unwrap_or o 0) (puts q ∙ cond-false (same k q.now) (Some w) (value_at same m q) no)
       ∙ before q
-      ∙ (let e : times same q.now (keys ++ k ∷ []) ≡ times same q.now keys + 0 = more ∙ ap (λ b. times same q.now keys + cond b 1 0) no in omega arith))
+      ∙ (let e : times same q.now (keys ++ k ∷ []) ≡ times same q.now keys + 0 =
+      more ∙ ap (λ b. times same q.now keys + cond b 1 0) no in omega arith))
       (cases_Bool (same k q.now))
 
-  pub Numbers-push : {S : Type 0} (keys : List K) (m n : HashMap (Bor K) ℕ S) (k : K) (w : ℕ) → PutsNew same m n k w → w ≡ 1 + length keys → Numbers same keys m → Numbers same (keys ++ k ∷ []) n
+  pub Numbers-push : {S : Type 0} (keys : List K) (m n : HashMap (Bor K) ℕ S) (k : K) (w : ℕ)
+      → PutsNew same m n k w → w ≡ 1 + length keys → Numbers same keys m → Numbers same (keys ++ k ∷ []) n
   Numbers-push keys m n k w puts number before = λ q.
       puts q
       ∙ ap (λ o. option_or o (cond (same k q.now) (Some w) None)) (before q)
       ∙ ap (λ v. option_or (position_from (λ o. same o q.now) 1 keys) (cond (same k q.now) (Some v) None)) number
       ∙ sym (position_from-push (λ o. same o q.now) 1 keys k)
 
-  pub PositionsBelow-push : (keys : List K) (n : ℕ) (ps : List ℕ) (w : ℕ) → length ps ≡ n → ((d : K) → w ≡ times same (get_or keys n d) (take n keys) + 1) → PositionsBelow same keys n ps → PositionsBelow same keys (n + 1) (ps ++ w ∷ [])
+  pub PositionsBelow-push : (keys : List K) (n : ℕ) (ps : List ℕ) (w : ℕ) → length ps ≡ n
+      → ((d : K) → w ≡ times same (get_or keys n d) (take n keys) + 1) → PositionsBelow same keys n ps
+      → PositionsBelow same keys (n + 1) (ps ++ w ∷ [])
   PositionsBelow-push keys n ps w len here before = λ i d below.
       ⊎_elim
       (λ (earlier : i < n). get_or_append_left ps (w ∷ []) 0 i (omega arith) ∙ before i d earlier)

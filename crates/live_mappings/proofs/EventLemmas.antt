@@ -1,13 +1,15 @@
 -- Mappings that one event adds one after the other, as the entries are changed.
-use Rattle.std.proofs.Common.{◌≡◌, ℕ, zero, suc, ◌+◌, ◌<◌, Bool, true, false, not, ◌||◌, cond, List, [], ◌∷◌, ◌++◌, length, map}
-use Rattle.std.proofs.Common.{refl, sym, ap, subst, ◌∙◌, arith, append-nil, append_assoc, get_or, drop}
+use Rattle.std.proofs.Common.{◌≡◌, ℕ, zero, suc, ◌+◌, ◌<◌, Bool, true, false, not, ◌||◌, cond, List}
+use Rattle.std.proofs.Common.{[], ◌∷◌, ◌++◌, length, map, refl, sym, ap, subst, ◌∙◌, arith, append-nil}
+use Rattle.std.proofs.Common.{append_assoc, get_or, drop}
 use Rattle.std.specs.List.{All, filter}
 use Rattle.std.specs.List.Sorted.{IsPermutation}
 use Rattle.std.specs.Str.{bytes_eq}
 use Rattle.std.proofs.lemmas.List.{at_drop_more, map-append}
 use Rattle.std.proofs.lemmas.List.Elements.{All-cons, All-filter, filter-append}
-use Rattle.std.proofs.lemmas.List.Sorted.{IsPermutation-refl, IsPermutation-cons, IsPermutation-sym, IsPermutation-trans}
-use Rattle.std.proofs.lemmas.List.Sorted.{IsPermutation-to_front, IsPermutation-map, All-permutation}
+use Rattle.std.proofs.lemmas.List.Sorted.{IsPermutation-refl, IsPermutation-cons, IsPermutation-sym}
+use Rattle.std.proofs.lemmas.List.Sorted.{IsPermutation-trans, IsPermutation-to_front, IsPermutation-map}
+use Rattle.std.proofs.lemmas.List.Sorted.{All-permutation}
 use Rattle.request_journal.specs.Past.{Placed, has_id, placed_from}
 use Rattle.request_journal.specs.declared.mapping.Mapping.{Mapping}
 use Rattle.live_mappings.specs.Kept.{Adds, Fits, lasts_of, placed_of, without}
@@ -32,10 +34,12 @@ or_false : (b : Bool) → (b || false) ≡ b
 or_false true = refl
 or_false false = refl
 
-has_id_push : (ms : List Mapping) (m : Mapping) (id : List ℕ) → has_id (ms ++ m ∷ []) id ≡ (has_id ms id || bytes_eq m.id id)
+has_id_push : (ms : List Mapping) (m : Mapping) (id : List ℕ)
+    → has_id (ms ++ m ∷ []) id ≡ (has_id ms id || bytes_eq m.id id)
 has_id_push [] m id = or_false (bytes_eq m.id id)
 has_id_push (n ∷ ms) m id =
-    ap (λ b. bytes_eq n.id id || b) (has_id_push ms m id) ∙ sym (not_or (bytes_eq n.id id) (has_id ms id) (bytes_eq m.id id))
+    ap (λ b. bytes_eq n.id id || b) (has_id_push ms m id)
+    ∙ sym (not_or (bytes_eq n.id id) (has_id ms id) (bytes_eq m.id id))
 
 placed_push : (number index : ℕ) (ms : List Mapping) (m : Mapping)
     → placed_from number index (ms ++ m ∷ [])
@@ -67,9 +71,11 @@ others_push : (ms : List Mapping) (m : Mapping) (ps : List Placed)
 others_push ms m [] = refl
 others_push ms m (p ∷ ps) =
     let kept : List Placed = filter (λ q. not (has_id ms q.mapping.id)) ps in
-    let more : filter (λ q. not (has_id (ms ++ m ∷ []) q.mapping.id)) ps ≡ others m.id kept = others_push ms m ps in
+    let more : filter (λ q. not (has_id (ms ++ m ∷ []) q.mapping.id)) ps ≡ others m.id kept =
+    others_push ms m ps in
     (λ i. cond (not (has_id_push ms m p.mapping.id i)) (p ∷ more i) (more i))
-    ∙ elim (has_id ms p.mapping.id) as (λ b. cond (not (b || bytes_eq m.id p.mapping.id)) (p ∷ others m.id kept) (others m.id kept)
+    ∙ elim (has_id ms p.mapping.id) as
+    (λ b. cond (not (b || bytes_eq m.id p.mapping.id)) (p ∷ others m.id kept) (others m.id kept)
     ≡ others m.id (cond (not b) (p ∷ kept) kept)) [
       | true ↦ refl
       | false ↦ refl
@@ -95,11 +101,13 @@ adds_more number old ms m live new added put =
     (λ i. others_push ms m old i ++ placed_push number 0 ms m i)
     ∙ ap (λ k. others m.id kept ++ (others m.id placed ++ at number k m ∷ [])) (omega arith)
     ∙ sym (append_assoc (others m.id kept) (others m.id placed) (last ∷ []))
-    ∙ ap (λ l. l ++ last ∷ []) (sym (filter-append (λ (p : Placed). not (bytes_eq m.id p.mapping.id)) kept placed)) in
+    ∙ ap (λ l. l ++ last ∷ [])
+    (sym (filter-append (λ (p : Placed). not (bytes_eq m.id p.mapping.id)) kept placed)) in
     subst (λ l. IsPermutation l new) (sym whole)
     (IsPermutation-trans _ _ _ (IsPermutation-to_front (others m.id (kept ++ placed)) last)
     (IsPermutation-trans _ _ _
-    (IsPermutation-cons last _ _ (IsPermutation-filter (λ (p : Placed). not (bytes_eq m.id p.mapping.id)) (kept ++ placed) live added))
+    (IsPermutation-cons last
+    _ _ (IsPermutation-filter (λ (p : Placed). not (bytes_eq m.id p.mapping.id)) (kept ++ placed) live added))
     put))
 
 -- ---- the entries
@@ -110,7 +118,8 @@ fit_put defaults e old new put fits all =
     All-permutation (Fits defaults) (e ∷ old) new put (All-cons (Fits defaults) e old fits all)
 
 pub fit_replaced : (defaults : List Mapping) (e : Entry) (old new : List Entry)
-    → IsPermutation (e ∷ without e.id old) new → Fits defaults e → All (Fits defaults) old → All (Fits defaults) new
+    → IsPermutation (e ∷ without e.id old) new → Fits defaults e → All (Fits defaults) old
+    → All (Fits defaults) new
 fit_replaced defaults e old new put fits all =
     fit_put defaults e (without e.id old) new put fits
     (All-filter (λ (x : Entry). not (bytes_eq e.id x.id)) (Fits defaults) old all)
@@ -123,7 +132,8 @@ replaced e old new put =
     (sym (filter-map (λ (p : Placed). not (bytes_eq e.id p.mapping.id)) placed_of old))
     (IsPermutation-map placed_of (e ∷ without e.id old) new put)
 
-pub adds_entry : (number : ℕ) (olds : List Placed) (ms : List Mapping) (m : Mapping) (e : Entry) (old new : List Entry)
+pub adds_entry : (number : ℕ) (olds : List Placed) (ms : List Mapping) (m : Mapping)
+    (e : Entry) (old new : List Entry)
     → placed_of e ≡ at number (length ms) m → Adds number olds ms (map placed_of old)
     → IsPermutation (e ∷ without e.id old) new → Adds number olds (ms ++ m ∷ []) (map placed_of new)
 adds_entry number olds ms m e old new is added put =
@@ -179,7 +189,8 @@ placed_pushed es e p rest whole is h =
 pub fit_pushed : (defaults : List Mapping) (es : List Entry) (e : Entry) (b : Bool) → Fits defaults e
     → All (Fits defaults) es → All (Fits defaults) (es ++ cond b (e ∷ []) [])
 fit_pushed defaults es e true fits all =
-    fit_put defaults e es (es ++ e ∷ []) (IsPermutation-sym (es ++ e ∷ []) (e ∷ es) (IsPermutation-to_front es e)) fits all
+    fit_put defaults e es (es ++ e ∷ [])
+    (IsPermutation-sym (es ++ e ∷ []) (e ∷ es) (IsPermutation-to_front es e)) fits all
 fit_pushed defaults es e false fits all = subst (All (Fits defaults)) (sym (append-nil es)) all
 
 pub default_pushed : (number index : ℕ) (ms : List Mapping) (m : Mapping) (es : List Entry) (e : Entry) (b : Bool)

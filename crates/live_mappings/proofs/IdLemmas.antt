@@ -1,6 +1,6 @@
 -- What is left of a list without an id.
-use Rattle.std.proofs.Common.{◌≡◌, ◌≢◌, ℕ, zero, suc, ◌<◌, ◌≤◌, Bool, true, false, not, cond, List, [], ◌∷◌, map}
-use Rattle.std.proofs.Common.{length, get_or, refl, sym, ap, ◌∙◌, arith, inl, inr}
+use Rattle.std.proofs.Common.{◌≡◌, ◌≢◌, ℕ, zero, suc, ◌<◌, ◌≤◌, Bool, true, false, not, cond}
+use Rattle.std.proofs.Common.{List, [], ◌∷◌, map, length, get_or, refl, sym, ap, ◌∙◌, arith, inl, inr}
 use Rattle.std.specs.List.{All, AllByRecursion, AllPairs, IsDistinct, filter, remove}
 use Rattle.std.specs.List.Sorted.{IsPermutation}
 use Rattle.std.specs.Str.{bytes_eq}
@@ -33,16 +33,19 @@ module _ {X : Type 0} (p : X → Bool) where
 
   -- the one element that fails the test is at the index
   pub remove_is_filter : (xs : List X) (i : ℕ) → i < length xs → ((d : X) → p (get_or xs i d) ≡ false)
-      → ((k : ℕ) (d : X) → k < length xs → (k ≡ i → ⊥) → p (get_or xs k d) ≡ true) → remove xs i ≡ filter p xs
+      → ((k : ℕ) (d : X) → k < length xs → (k ≡ i → ⊥) → p (get_or xs k d) ≡ true)
+      → remove xs i ≡ filter p xs
   remove_is_filter [] i l one others = absurd (omega arith)
   remove_is_filter (x ∷ xs) zero l one others =
       sym ((λ i. cond (one x i) (x ∷ filter p xs) (filter p xs))
       ∙ filter_all xs (λ k d lt. others (suc k) d (omega arith) (λ e. omega arith)))
   remove_is_filter (x ∷ xs) (suc i) l one others =
-      ap (λ l. x ∷ l) (remove_is_filter xs i (omega arith) one (λ k d lt ne. others (suc k) d (omega arith) (λ e. ne (omega arith))))
+      ap (λ l. x ∷ l) (remove_is_filter xs i (omega arith) one
+      (λ k d lt ne. others (suc k) d (omega arith) (λ e. ne (omega arith))))
       ∙ sym (λ i. cond (others zero x (omega arith) (λ e. omega arith) i) (x ∷ filter p xs) (filter p xs))
 
-  pub filter-map : {Y : Type 0} (f : Y → X) (ys : List Y) → filter p (map f ys) ≡ map f (filter (λ y. p (f y)) ys)
+  pub filter-map : {Y : Type 0} (f : Y → X) (ys : List Y)
+      → filter p (map f ys) ≡ map f (filter (λ y. p (f y)) ys)
   filter-map f [] = refl
   filter-map f (y ∷ ys) =
       elim (p (f y)) as (λ b. cond b (f y ∷ filter p (map f ys)) (filter p (map f ys))
@@ -73,7 +76,8 @@ distinct_pairs : (xs : List Entry) → IsDistinct have_one_id xs → AllPairs (�
 unfolding IsDistinct
 distinct_pairs [] h = λ i j d l within. absurd (omega arith)
 distinct_pairs (x ∷ xs) h =
-    AllPairs-cons (λ (a b : Entry). have_one_id a b ≡ false) x xs (all_of (λ (y : Entry). have_one_id x y ≡ false) xs h.0)
+    AllPairs-cons (λ (a b : Entry). have_one_id a b ≡ false) x xs
+    (all_of (λ (y : Entry). have_one_id x y ≡ false) xs h.0)
     (distinct_pairs xs h.1)
 
 same_back : (a b : Entry) → have_one_id a b ≡ have_one_id b a
@@ -84,13 +88,16 @@ same_back a b =
           (λ g. false≢true (sym h ∙ same_id a.id b.id (sym ((bytes_eq-Decides b.id a.id).0 g)))))
     ] refl
 
-pub distinct_alike : (xs ys : List Entry) → IsPermutation xs ys → IsDistinct have_one_id xs → IsDistinct have_one_id ys
+pub distinct_alike : (xs ys : List Entry) → IsPermutation xs ys → IsDistinct have_one_id xs
+    → IsDistinct have_one_id ys
 distinct_alike xs ys same h = IsDistinct-IsPermutation have_one_id same_back xs ys same h
 
-each_kept : (P : Entry → Type 0) (p : Entry → Bool) (xs : List Entry) → AllByRecursion P xs → AllByRecursion P (filter p xs)
+each_kept : (P : Entry → Type 0) (p : Entry → Bool) (xs : List Entry) → AllByRecursion P xs
+    → AllByRecursion P (filter p xs)
 each_kept P p xs h = each_of P (filter p xs) (All-filter p P xs (all_of P xs h))
 
-pub distinct_without : (id : List ℕ) (xs : List Entry) → IsDistinct have_one_id xs → IsDistinct have_one_id (without id xs)
+pub distinct_without : (id : List ℕ) (xs : List Entry) → IsDistinct have_one_id xs
+    → IsDistinct have_one_id (without id xs)
 unfolding IsDistinct
 distinct_without id [] h = tt
 distinct_without id (x ∷ xs) h =
@@ -153,7 +160,8 @@ unfolding IsDistinct
 distinct_placed [] h = tt
 distinct_placed (e ∷ es) h = (no_other es h.0, distinct_placed es h.1)
   where
-    no_other : (xs : List Entry) → is_held (map placed_of xs) e.id ≡ false → AllByRecursion (λ y. have_one_id e y ≡ false) xs
+    no_other : (xs : List Entry) → is_held (map placed_of xs) e.id ≡ false
+        → AllByRecursion (λ y. have_one_id e y ≡ false) xs
     no_other [] g = tt
     no_other (x ∷ xs) g =
         let both : (bytes_eq x.id e.id ≡ false) × (is_held (map placed_of xs) e.id ≡ false) =

@@ -1,10 +1,11 @@
 -- Lists in other orders, and inserts into lists whose elements are in an order.
-use Rattle.std.proofs.Common.{◌≡◌, ◌⊎◌, inl, inr, ℕ, zero, suc, ◌+◌, ◌<◌, ◌≤◌, Bool, true, false, cond, List, [], ◌∷◌}
-use Rattle.std.proofs.Common.{length, get_or, set, sym, ap, subst, ◌∙◌, arith}
+use Rattle.std.proofs.Common.{◌≡◌, ◌⊎◌, inl, inr, ℕ, zero, suc, ◌+◌, ◌<◌, ◌≤◌, Bool, true}
+use Rattle.std.proofs.Common.{false, cond, List, [], ◌∷◌, length, get_or, set, sym, ap, subst, ◌∙◌, arith}
 use Rattle.std.specs.List.{AllPairs, filter, insert, swap}
 use Rattle.std.specs.List.Sorted.{IsPermutation}
 use Rattle.std.proofs.lemmas.Bool.{cases_order}
-use Rattle.std.proofs.lemmas.List.Edits.{get_or-insert_below, get_or-insert_at, get_or-insert_above, length-insert, swap_is}
+use Rattle.std.proofs.lemmas.List.Edits.{get_or-insert_below, get_or-insert_at, get_or-insert_above, length-insert}
+use Rattle.std.proofs.lemmas.List.Edits.{swap_is}
 use Rattle.std.proofs.lemmas.List.Sorted.{IsPermutation-refl, IsPermutation-cons, IsPermutation-trans}
 use Rattle.std.proofs.lemmas.List.Sorted.{IsPermutation-middle, IsPermutation-keeps}
 
@@ -16,7 +17,8 @@ module _ {X : Type 0} (p : X → Bool) where
 
   kept_cons : (x : X) (xs ys : List X) → SameKept xs ys → SameKept (x ∷ xs) (x ∷ ys)
   kept_cons x xs ys h =
-      elim (p x) as (λ b. IsPermutation (cond b (x ∷ filter p xs) (filter p xs)) (cond b (x ∷ filter p ys) (filter p ys))) [
+      elim (p x) as (λ b. IsPermutation (cond b (x ∷ filter p xs) (filter p xs))
+      (cond b (x ∷ filter p ys) (filter p ys))) [
         | true ↦ IsPermutation-cons x (filter p xs) (filter p ys) h
         | false ↦ h
       ]
@@ -35,12 +37,14 @@ module _ {X : Type 0} (p : X → Bool) where
       ]
 
   -- the head and the element at an index are exchanged
-  kept_exchange : (xs : List X) (i : ℕ) (x : X) → i < length xs → SameKept (x ∷ xs) (get_or xs i x ∷ set xs i x)
+  kept_exchange : (xs : List X) (i : ℕ) (x : X) → i < length xs
+      → SameKept (x ∷ xs) (get_or xs i x ∷ set xs i x)
   kept_exchange [] i x l = absurd (omega arith)
   kept_exchange (y ∷ ys) zero x l = kept_heads x y ys
   kept_exchange (y ∷ ys) (suc i) x l =
       IsPermutation-trans _ _ _ (kept_heads x y ys)
-      (IsPermutation-trans _ _ _ (kept_cons y (x ∷ ys) (get_or ys i x ∷ set ys i x) (kept_exchange ys i x (omega arith)))
+      (IsPermutation-trans
+      _ _ _ (kept_cons y (x ∷ ys) (get_or ys i x ∷ set ys i x) (kept_exchange ys i x (omega arith)))
       (kept_heads y (get_or ys i x) (set ys i x)))
 
   kept_swap : (xs : List X) (i j : ℕ) → i < length xs → j < length xs → SameKept xs (swap xs i j)
@@ -87,8 +91,8 @@ left_at xs i y k d l =
       ]
     ]
 
-pub AllPairs-insert : {X : Type 0} (R : X → X → Type 0) (xs : List X) (i : ℕ) (y : X) → i ≤ length xs → AllPairs R xs
-    → ((k : ℕ) (d : X) → k < i → R (get_or xs k d) y)
+pub AllPairs-insert : {X : Type 0} (R : X → X → Type 0) (xs : List X) (i : ℕ) (y : X)
+    → i ≤ length xs → AllPairs R xs → ((k : ℕ) (d : X) → k < i → R (get_or xs k d) y)
     → ((k : ℕ) (d : X) → i ≤ k → k < length xs → R y (get_or xs k d))
     → AllPairs R (insert xs i y)
 AllPairs-insert {X} R xs i y l pairs before after a b d lt lb =

@@ -1,6 +1,6 @@
 -- The order of choice among entries, and what comes before what.
-use Rattle.std.proofs.Common.{◌≡◌, ℕ, ◌<◌, ◌≤◌, true, false, List, length, get_or, sym, ap, subst, arith}
-use Rattle.std.proofs.Common.{◌⊎◌, inl, inr, ℤ, ◌<ℤ◌}
+use Rattle.std.proofs.Common.{◌≡◌, ℕ, ◌<◌, ◌≤◌, true, false, List, length, get_or, sym, ap, subst}
+use Rattle.std.proofs.Common.{arith, ◌⊎◌, inl, inr, ℤ, ◌<ℤ◌}
 use Rattle.mapping_model.specs.Priority.{priority_of}
 use Rattle.std.specs.Cmp.{IsTotalOrder}
 use Rattle.std.specs.List.{AllPairs, insert}
@@ -45,8 +45,8 @@ abbrev Wins : Entry → Entry → ℤ → ℤ → Type 0
 Wins a b p r = (p <ℤ r) ⊎ ((p ≡ r) × Newer a.event a.index b.event b.index)
 
 -- an entry that isn't beaten by another isn't won over by it
-pub not_won : (defaults : List Mapping) (a b : Entry) → Fits defaults a → Fits defaults b → is_gt (order a b) ≡ false
-    → ¬ (WinsOver (placed_of b) (placed_of a))
+pub not_won : (defaults : List Mapping) (a b : Entry) → Fits defaults a → Fits defaults b
+    → is_gt (order a b) ≡ false → ¬ (WinsOver (placed_of b) (placed_of a))
 not_won defaults a b f g h wins =
     not_over a.priority b.priority a.event b.event a.index b.index h
     (subst (λ p. Wins b a p a.priority) (sym g.priority)

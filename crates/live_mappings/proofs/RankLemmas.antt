@@ -1,5 +1,6 @@
 -- The order of choice on numbers.
-use Rattle.std.proofs.Common.{◌≡◌, ◌⊎◌, inl, inr, ℕ, ◌<◌, ℤ, ◌<ℤ◌, Bool, true, false, List, get_or, refl, sym, ap, ◌∙◌, arith}
+use Rattle.std.proofs.Common.{◌≡◌, ◌⊎◌, inl, inr, ℕ, ◌<◌, ℤ, ◌<ℤ◌, Bool, true, false, List}
+use Rattle.std.proofs.Common.{get_or, refl, sym, ap, ◌∙◌, arith}
 use denote.Ref.{Bor}
 use Rattle.std.specs.Cmp.{IsTotalOrder, IsStrictWeakOrder}
 use Rattle.std.specs.Fn.{Called, ComparesAs}
@@ -67,8 +68,8 @@ module _ {K : Type 0} {R : K → K → Ordering} (o : IsTotalOrder R) where
 abbrev pub Newer : ℕ → ℕ → ℕ → ℕ → Type 0
 Newer e i f j = (f < e) ⊎ ((e ≡ f) × (j < i))
 
-no_newer : (o q : Ordering) (e f i j : ℕ) → MatchOrdering o (f < e) (f ≡ e) (e < f) → MatchOrdering q (j < i) (j ≡ i) (i < j)
-    → is_gt (ordering_then o q) ≡ false → Newer f j e i → ⊥
+no_newer : (o q : Ordering) (e f i j : ℕ) → MatchOrdering o (f < e) (f ≡ e) (e < f)
+    → MatchOrdering q (j < i) (j ≡ i) (i < j) → is_gt (ordering_then o q) ≡ false → Newer f j e i → ⊥
 no_newer Less q e f i j s t h (inl w) = omega arith
 no_newer Less q e f i j s t h (inr w) = omega arith
 no_newer Equal Less e f i j s t h (inl w) = omega arith
@@ -79,7 +80,8 @@ no_newer Equal Greater e f i j s t h w = true≢false h
 no_newer Greater q e f i j s t h w = true≢false h
 
 no_win : (o q : Ordering) (p r : ℤ) (W : Type 0) → MatchOrdering o (p <ℤ r) (p ≡ r) (r <ℤ p)
-    → is_gt (ordering_then o q) ≡ false → (is_gt q ≡ false → W → ⊥) → (r <ℤ p) ⊎ ((r ≡ p) × W) → ⊥
+    → is_gt (ordering_then o q) ≡ false → (is_gt q ≡ false → W → ⊥)
+    → (r <ℤ p) ⊎ ((r ≡ p) × W) → ⊥
 no_win Less q p r W s h f (inl w) = omega (arith, ints)
 no_win Less q p r W s h f (inr w) = omega (arith, ints, w.0)
 no_win Equal q p r W s h f (inl w) = omega (arith, ints)
@@ -91,10 +93,12 @@ pub not_over : (p r : ℤ) (e f i j : ℕ)
     → is_gt (ordering_then (int_cmp p r) (ordering_then (nat_cmp f e) (nat_cmp j i))) ≡ false
     → (r <ℤ p) ⊎ ((r ≡ p) × Newer f j e i) → ⊥
 not_over p r e f i j h =
-    no_win (int_cmp p r) (ordering_then (nat_cmp f e) (nat_cmp j i)) p r (Newer f j e i) (int_ranked p r (int_cmp p r) refl) h
+    no_win (int_cmp p r) (ordering_then (nat_cmp f e) (nat_cmp j i)) p r (Newer f j e i)
+    (int_ranked p r (int_cmp p r) refl) h
     (no_newer (nat_cmp f e) (nat_cmp j i) e f i j (ranked f e (nat_cmp f e) refl) (ranked j i (nat_cmp j i) refl))
 
 -- the first isn't less, so the second isn't newer
-pub not_newer : (e f i j : ℕ) → is_gt (ordering_then (nat_cmp f e) (nat_cmp j i)) ≡ false → Newer f j e i → ⊥
+pub not_newer : (e f i j : ℕ) → is_gt (ordering_then (nat_cmp f e) (nat_cmp j i)) ≡ false
+    → Newer f j e i → ⊥
 not_newer e f i j =
     no_newer (nat_cmp f e) (nat_cmp j i) e f i j (ranked f e (nat_cmp f e) refl) (ranked j i (nat_cmp j i) refl)

@@ -1,6 +1,6 @@
 -- Live mappings as they are kept: in the order of choice, each under an id of its own.
-use Rattle.std.specs.Prelude.{◌≡◌, ℕ, ◌<◌, Bool, false, not, List, [], ◌∷◌, ◌++◌, length, All, AllPairs, IsPermutation}
-use Rattle.std.specs.Prelude.{filter, slice_index_or}
+use Rattle.std.specs.Prelude.{◌≡◌, ℕ, ◌<◌, Bool, false, not, List, [], ◌∷◌, ◌++◌, length, All}
+use Rattle.std.specs.Prelude.{AllPairs, IsPermutation, filter, slice_index_or}
 use Rattle.std.specs.List.{IsDistinct}
 use Rattle.std.specs.Ordering.{nat_cmp, int_cmp, ordering_then, is_gt}
 use Rattle.std.specs.Str.{bytes_eq}

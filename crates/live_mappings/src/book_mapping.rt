@@ -63,7 +63,8 @@ impl BookMapping {
     /// What its literal URL is known by.
     pub fn key(&self) -> UrlKey
         ensures value { result ≡ key_of self.now.spec.request.url }
-        ensures only { (request : Request) → MeetsRequest self.now.spec.request request → MayHave result request.url }
+        ensures only { (request : Request) → MeetsRequest self.now.spec.request request
+            → MayHave result request.url }
     {
         self.ready.matcher().key()
     }

@@ -1,5 +1,6 @@
 // The mappings that a book is opened with, which a reset makes live again.
-ghost use Rattle.std.specs.Prelude.{◌≡◌, ◌+◌, ◌<◌, ◌≤◌, [], ◌∷◌, ◌++◌, cond, length, map, All, IfOk, IsPermutation, vec_len};
+ghost use Rattle.std.specs.Prelude.{◌≡◌, ◌+◌, ◌<◌, ◌≤◌, [], ◌∷◌, ◌++◌, cond, length, map};
+ghost use Rattle.std.specs.Prelude.{All, IfOk, IsPermutation, vec_len};
 ghost use Rattle.std.specs.Vec.{vec_capacity};
 ghost use Rattle.request_journal.specs.Past.{defaults_from, has_id, placed_from};
 ghost use Rattle.live_mappings.specs.Kept.{AreKept, Fits, lasts_of, placed_of};

@@ -1,5 +1,6 @@
 // The entries of a store.
-ghost use Rattle.std.specs.Prelude.{◌≡◌, ◌≢◌, ◌+◌, ◌<◌, ◌≤◌, ◌∷◌, length, All, AllPairs, MatchOption, IsPermutation, slice_index_or};
+ghost use Rattle.std.specs.Prelude.{◌≡◌, ◌≢◌, ◌+◌, ◌<◌, ◌≤◌, ◌∷◌, length, All};
+ghost use Rattle.std.specs.Prelude.{AllPairs, MatchOption, IsPermutation, slice_index_or};
 ghost use Rattle.std.specs.List.{IsDistinct};
 ghost use Rattle.std.specs.Prelude.{vec_len};
 ghost use Rattle.std.specs.Vec.{vec_capacity};

@@ -26,8 +26,8 @@ pub struct Entry {
     pub index: u64,
     pub id: MappingId,
     pub priority: i32,
-    /// What the literal URL of the mapping is known by, so that most requests for another one are told without a look at
-    /// its matcher.
+    /// What the literal URL of the mapping is known by, so that most requests for another one are told without a look
+    /// at its matcher.
     pub key: UrlKey,
     pub source: Source,
     /// For contracts alone.

@@ -15,7 +15,8 @@ pub fn put_all(entries: &mut Vec<Entry>, number: u64, mappings: Vec<BookMapping>
     requires room { vec_len entries.old + vec_len mappings ≤ vec_capacity entries.old }
     ensures in_order { AllPairs IsBefore entries.new.items }
     ensures ids { IsDistinct have_one_id entries.new.items }
-    ensures fit { (defaults : List Mapping) → All (Fits defaults) entries.old.items → All (Fits defaults) entries.new.items }
+    ensures fit { (defaults : List Mapping) → All (Fits defaults) entries.old.items
+        → All (Fits defaults) entries.new.items }
     ensures added { Adds number (map placed_of entries.old.items) mappings.items (map placed_of entries.new.items) }
     ensures capacity { vec_capacity entries.old ≤ vec_capacity entries.new }
 {
@@ -28,7 +29,8 @@ fn replace_all(entries: &mut Vec<Entry>, number: u64, mappings: Vec<BookMapping>
     requires ids { IsDistinct have_one_id entries.old.items }
     requires room { vec_len entries.old + vec_len mappings ≤ vec_capacity entries.old }
     ensures ids { IsDistinct have_one_id entries.new.items }
-    ensures fit { (defaults : List Mapping) → All (Fits defaults) entries.old.items → All (Fits defaults) entries.new.items }
+    ensures fit { (defaults : List Mapping) → All (Fits defaults) entries.old.items
+        → All (Fits defaults) entries.new.items }
     ensures added { Adds number (map placed_of entries.old.items) mappings.items (map placed_of entries.new.items) }
     ensures capacity { vec_capacity entries.old ≤ vec_capacity entries.new }
 {

@@ -1,8 +1,9 @@
 -- What is due in a state: what is left of the innermost region at its item, and for each open loop what its turns to
 -- come cost and what is left of the region round it at the item there. No move makes it fall by less than its place
 -- costs.
-use Rattle.std.proofs.Common.{◌≡◌, ℕ, zero, suc, ◌+◌, ◌-◌, ◌*◌, ◌<◌, ◌≤◌, Bool, true, false, true≢false, List, []}
-use Rattle.std.proofs.Common.{◌∷◌, length, drop, refl, sym, ap, ◌∙◌, subst, ⊎_elim, arith}
+use Rattle.std.proofs.Common.{◌≡◌, ℕ, zero, suc, ◌+◌, ◌-◌, ◌*◌, ◌<◌, ◌≤◌, Bool, true}
+use Rattle.std.proofs.Common.{false, true≢false, List, [], ◌∷◌, length, drop, refl, sym, ap, ◌∙◌, subst}
+use Rattle.std.proofs.Common.{⊎_elim, arith}
 use Rattle.std.specs.Prelude.{if◌then◌else◌}
 use Rattle.loop_law.specs.Course.{Cost, nothing, plus, value, Bracket, level, opens_over_part, opens_over_data, ends}
 use Rattle.loop_law.specs.Course.{Course, nest_after, nest, of_turns, share, region, budget}
@@ -64,7 +65,8 @@ by-size a p l s size h k =
     omega (x, y, e, f, g, arith)
 
 -- all turns of a loop whose items fit
-fit-items : (k : Cost) (size : ℕ) (l : Loop) → Fit size l → of_items k (l.item ∷ l.to_come) ≤ (k.alone + k.per) * size
+fit-items : (k : Cost) (size : ℕ) (l : Loop) → Fit size l
+    → of_items k (l.item ∷ l.to_come) ≤ (k.alone + k.per) * size
 fit-items k size l f =
     let e = sum-items k (l.item ∷ l.to_come) in
     let h = by-size k.alone k.per (length (l.item ∷ l.to_come)) (sum_of (l.item ∷ l.to_come)) size f.number f.sum in
@@ -127,9 +129,10 @@ paid-ahead c x y ls lt later same =
     let round = round-later c x y ns ls (omega (arith, later)) in
     omega (there, here, fewer, round, arith)
 
-paid-enter : (c : Course) (x size : ℕ) (l : Loop) (ls : List Loop) → x < c.places → nest c (suc x) ≡ x ∷ nest c x →
-    ((k : Cost) → value (of_turns c.size (c.bracket x) k) (item_size ls) ≡ (k.alone + k.per) * size) → Fit size l →
-    value (c.cost x) (item_size ls) + due c (suc x) (l ∷ ls) ≤ due c x ls
+paid-enter : (c : Course) (x size : ℕ) (l : Loop) (ls : List Loop) → x < c.places →
+    nest c (suc x) ≡ x ∷ nest c x →
+    ((k : Cost) → value (of_turns c.size (c.bracket x) k) (item_size ls) ≡ (k.alone + k.per) * size) →
+    Fit size l → value (c.cost x) (item_size ls) + due c (suc x) (l ∷ ls) ≤ due c x ls
 paid-enter c x size l ls lt opens turns fit =
     let ns = nest c x in
     let m = item_size ls in
@@ -138,7 +141,8 @@ paid-enter c x size l ls lt opens turns fit =
     let there = due-as c (suc x) (l ∷ ls) (x ∷ ns) opens in
     let here = value-here c x m lt in
     let split =
-    from-split (share_at c ns) (share_at c (x ∷ ns)) (share_round c ns (x ∷ ns)) c.size (c.bracket x) c.places (suc x)
+    from-split (share_at c ns) (share_at c (x ∷ ns)) (share_round c ns (x ∷ ns)) c.size
+    (c.bracket x) c.places (suc x)
     (λ y. share-split c x ns (nest c y) (c.cost y)) in
     let whole = value-le (plus (of_turns c.size (c.bracket x) body) outer) (left c ns (suc x)) m split in
     let parts = value-plus (of_turns c.size (c.bracket x) body) outer m in
@@ -173,8 +177,8 @@ kept true k e = absurd (true≢false e)
 kept false k e = le-of k k refl
 
 -- after its end no place lies in the loop
-outside-after : (c : Course) (x opener : ℕ) (outer : List ℕ) → nest c x ≡ opener ∷ outer → nest c (suc x) ≡ outer →
-    (y : ℕ) → suc x ≤ y → inside (opener ∷ outer) (nest c y) ≡ false
+outside-after : (c : Course) (x opener : ℕ) (outer : List ℕ) → nest c x ≡ opener ∷ outer →
+    nest c (suc x) ≡ outer → (y : ℕ) → suc x ≤ y → inside (opener ∷ outer) (nest c y) ≡ false
 outside-after c x opener outer at next y le = by (inside (opener ∷ outer) (nest c y)) refl
   where
     by : (b : Bool) → inside (opener ∷ outer) (nest c y) ≡ b → b ≡ false
@@ -193,7 +197,8 @@ paid-leave c x opener outer l ls lt at next =
     let m = item_size ls in
     let there = due-as c (suc x) ls outer next in
     let here = due-as c x (l ∷ ls) ns at in
-    let cost = subst (λ ms. value (c.cost x) l.item + value (left c ms (suc x)) l.item ≤ value (left c ms x) l.item) at
+    let cost = subst (λ ms.
+    value (c.cost x) l.item + value (left c ms (suc x)) l.item ≤ value (left c ms x) l.item) at
     (value-here c x l.item lt) in
     let out = from-le (share_at c outer) (share_round c outer ns) c.places (suc x)
     (λ y le. kept (inside ns (nest c y)) (share_at c outer y) (outside-after c x opener outer at next y le)) in
@@ -223,7 +228,8 @@ pays-repeat : (c : Course) (s next : State) → s.place < c.places → Repeats c
 pays-repeat c s next lt g =
     subst (λ ls. cost_at c s + due c next.place ls ≤ due c s.place s.loops) (sym g.loops)
     (subst (λ y. cost_at c s + due c y (g.loop ∷ g.rest) ≤ due c s.place s.loops) (sym g.place)
-    (subst (λ ls. value (c.cost s.place) (item_size ls) + due c (suc g.opener) (g.loop ∷ g.rest) ≤ due c s.place ls)
+    (subst (λ ls. value (c.cost s.place) (item_size ls) + due c (suc g.opener) (g.loop ∷ g.rest)
+    ≤ due c s.place ls)
     (sym g.before)
     (paid-repeat c s.place g.opener g.done g.outer g.loop g.rest lt g.nest)))
 
@@ -280,8 +286,8 @@ regions-add c outer x (suc k) e =
 pub due-first : (c : Course) → due c 0 [] ≤ (budget c).alone
 due-first c = let h = regions-add c [] 0 (c.places - 0) (omega arith) in grind (arith, h)
 
-pub run-paid : (c : Course) (moves spent : ℕ) (s last : State) → Runs c moves s last spent → last.place < c.places →
-    spent + cost_at c last ≤ due c s.place s.loops
+pub run-paid : (c : Course) (moves spent : ℕ) (s last : State) → Runs c moves s last spent →
+    last.place < c.places → spent + cost_at c last ≤ due c s.place s.loops
 run-paid c zero spent s last r lt =
     let same : cost_at c last ≤ due c s.place s.loops =
     subst (λ t. cost_at c last ≤ due c t.place t.loops) (sym r.0) (paid-last c last lt) in

@@ -1,6 +1,7 @@
 -- Nests, and which of them lie in which.
-use Rattle.std.proofs.Common.{◌≡◌, ℕ, zero, suc, ◌+◌, ◌-◌, ◌<◌, ◌≤◌, Bool, true, false, true≢false, nat_eq, List, []}
-use Rattle.std.proofs.Common.{◌∷◌, length, drop, refl, sym, ap, ◌∙◌, subst, ⊎_elim, arith}
+use Rattle.std.proofs.Common.{◌≡◌, ℕ, zero, suc, ◌+◌, ◌-◌, ◌<◌, ◌≤◌, Bool, true, false}
+use Rattle.std.proofs.Common.{true≢false, nat_eq, List, [], ◌∷◌, length, drop, refl, sym, ap, ◌∙◌, subst}
+use Rattle.std.proofs.Common.{⊎_elim, arith}
 use Rattle.std.specs.Prelude.{◌||◌}
 use Rattle.std.specs.Cmp.Lexicographic.{same_text}
 use Rattle.std.proofs.lemmas.Bool.{cases_lt}
@@ -61,7 +62,8 @@ inside-length outer ns h =
     (cases_lt (length ns) (length outer))
 
 -- what lies in a loop lies in the loops round it
-pub inside-outer : (opener : ℕ) (outer ns : List ℕ) → inside (opener ∷ outer) ns ≡ true → inside outer ns ≡ true
+pub inside-outer : (opener : ℕ) (outer ns : List ℕ) → inside (opener ∷ outer) ns ≡ true
+    → inside outer ns ≡ true
 inside-outer opener outer [] h = absurd (true≢false (sym h))
 inside-outer opener outer (n ∷ ns) h =
     by (λ k. inside-outer opener outer ns k) (same_nest (opener ∷ outer) (n ∷ ns)) refl
@@ -134,7 +136,8 @@ apart-below x place ms (n ∷ ns) h le =
     rw (differ-first place n ms ns (λ e. omega (arith, h.0, le, e)), apart-below x place ms ns h.1 le) refl
 
 -- a loop isn't open at the places up to where it opens
-pub below-outside : (c : Course) (place y : ℕ) (ms : List ℕ) → y ≤ place → inside (place ∷ ms) (nest c y) ≡ false
+pub below-outside : (c : Course) (place y : ℕ) (ms : List ℕ) → y ≤ place
+    → inside (place ∷ ms) (nest c y) ≡ false
 below-outside c place y ms le = apart-below y place ms (nest c y) (nest-below c y) le
 
 -- each loop of a nest: at its first place the nest is what it is from that loop on
@@ -142,8 +145,8 @@ abbrev Opened : Course → List ℕ → Type 0
 Opened c [] = Unit {0}
 Opened c (n ∷ ns) = (nest c (suc n) ≡ n ∷ ns) × Opened c ns
 
-opened-by : (c : Course) (x : ℕ) (b : Bracket) (ns : List ℕ) → nest c (suc x) ≡ nest_after b x ns → Opened c ns →
-    Opened c (nest_after b x ns)
+opened-by : (c : Course) (x : ℕ) (b : Bracket) (ns : List ℕ) →
+    nest c (suc x) ≡ nest_after b x ns → Opened c ns → Opened c (nest_after b x ns)
 opened-by c x level ns e h = h
 opened-by c x opens_over_part ns e h = (e, h)
 opened-by c x opens_over_data ns e h = (e, h)
@@ -169,7 +172,8 @@ opened-back ends x opener outer (n ∷ ns) h le e =
     absurd (let k = subst (λ ms. Below x ms) e h.1 in omega (arith, k.0, le))
 
 -- where a loop opens the loops round it are open
-pub opened-from : (c : Course) (x opener : ℕ) (outer : List ℕ) → nest c x ≡ opener ∷ outer → nest c opener ≡ outer
+pub opened-from : (c : Course) (x opener : ℕ) (outer : List ℕ) → nest c x ≡ opener ∷ outer
+    → nest c opener ≡ outer
 opened-from c x opener outer e =
     opened-back (c.bracket opener) opener opener outer (nest c opener) (nest-below c opener) (omega arith)
     (first-place c x opener outer e)

@@ -1,6 +1,6 @@
 -- Shares of places, seen from nests that lie in one another.
-use Rattle.std.proofs.Common.{◌≡◌, ℕ, Bool, true, false, true≢false, List, [], ◌∷◌, length, drop, refl, sym, ap}
-use Rattle.std.proofs.Common.{◌∙◌, subst, arith}
+use Rattle.std.proofs.Common.{◌≡◌, ℕ, Bool, true, false, true≢false, List, [], ◌∷◌, length, drop, refl}
+use Rattle.std.proofs.Common.{sym, ap, ◌∙◌, subst, arith}
 use Rattle.std.specs.Prelude.{if◌then◌else◌, ◌||◌}
 use Rattle.loop_law.specs.Course.{Cost, nothing, plus, of_turns, Course, same_nest, share}
 use Rattle.loop_law.proofs.Sums.{Le, turns-nothing}
@@ -29,7 +29,8 @@ share-outside c outer (n ∷ ns) k h =
     (neither-right (same_nest outer (n ∷ ns)) (inside outer ns) h)
 
 -- a place in a loop, seen from round it
-share-inside : (c : Course) (opener : ℕ) (outer ns : List ℕ) (k : Cost) → inside (opener ∷ outer) ns ≡ true →
+share-inside : (c : Course) (opener : ℕ) (outer ns : List ℕ) (k : Cost) →
+    inside (opener ∷ outer) ns ≡ true →
     share c outer ns k ≡ of_turns c.size (c.bracket opener) (share c (opener ∷ outer) ns k)
 share-inside c opener outer [] k h = absurd (true≢false (sym h))
 share-inside c opener outer (n ∷ ns) k h =
@@ -52,14 +53,16 @@ share-inside c opener outer (n ∷ ns) k h =
         ∙ (ap (λ o. share c o ns turned) rest
         ∙ (share-self c ns turned
         ∙ (sym (ap (λ o. of_turns c.size (c.bracket o) k) opens)
-        ∙ sym (ap (λ b. of_turns c.size (c.bracket opener) (if b then k else share c (opener ∷ outer) ns turned)) e))))
+        ∙ sym (ap (λ b. of_turns c.size (c.bracket opener)
+        (if b then k else share c (opener ∷ outer) ns turned)) e))))
     by further false e =
         let inner = or-false (same_nest (opener ∷ outer) (n ∷ ns)) (inside (opener ∷ outer) ns) e h in
         let long = inside-length (opener ∷ outer) ns inner in
         let apart = differ-length outer (n ∷ ns) (λ l. omega (arith, l, long)) in
         ap (λ b. if b then k else share c outer ns turned) apart
         ∙ (further inner
-        ∙ sym (ap (λ b. of_turns c.size (c.bracket opener) (if b then k else share c (opener ∷ outer) ns turned)) e))
+        ∙ sym (ap (λ b. of_turns c.size (c.bracket opener)
+        (if b then k else share c (opener ∷ outer) ns turned)) e))
 
 -- a share seen from round a loop is that of the loop's turns, or what isn't in the loop
 pub share-split : (c : Course) (opener : ℕ) (outer ns : List ℕ) (k : Cost) →

@@ -1,5 +1,6 @@
 -- Sums of costs over places.
-use Rattle.std.proofs.Common.{◌≡◌, ℕ, zero, suc, ◌+◌, ◌-◌, ◌*◌, ◌<◌, ◌≤◌, sym, ap, subst, ⊎_elim, arith}
+use Rattle.std.proofs.Common.{◌≡◌, ℕ, zero, suc, ◌+◌, ◌-◌, ◌*◌, ◌<◌, ◌≤◌, sym, ap, subst}
+use Rattle.std.proofs.Common.{⊎_elim, arith}
 use Rattle.std.proofs.lemmas.Bool.{cases_lt}
 use Rattle.loop_law.specs.Course.{Cost, nothing, plus, value, Bracket, level, opens_over_part, opens_over_data, ends}
 use Rattle.loop_law.specs.Course.{of_turns}
@@ -61,14 +62,16 @@ from-later_by f e x y (suc k) h =
 pub from-later : (f : ℕ → Cost) (e x y : ℕ) → x ≤ y → Le (from f e y) (from f e x)
 from-later f e x y h = from-later_by f e x y (y - x) (omega (arith, h))
 
-total-le : (f g : ℕ → Cost) (x k : ℕ) → ((y : ℕ) → x ≤ y → Le (f y) (g y)) → Le (total f x k) (total g x k)
+total-le : (f g : ℕ → Cost) (x k : ℕ) → ((y : ℕ) → x ≤ y → Le (f y) (g y))
+    → Le (total f x k) (total g x k)
 total-le f g x zero h = le-nothing nothing
 total-le f g x (suc k) h =
     let here = h x (omega arith) in
     let rest = total-le f g (suc x) k (λ y le. h y (omega (arith, le))) in
     record { alone = omega (arith, here.alone, rest.alone); per = omega (arith, here.per, rest.per) }
 
-pub from-le : (f g : ℕ → Cost) (e x : ℕ) → ((y : ℕ) → x ≤ y → Le (f y) (g y)) → Le (from f e x) (from g e x)
+pub from-le : (f g : ℕ → Cost) (e x : ℕ) → ((y : ℕ) → x ≤ y → Le (f y) (g y))
+    → Le (from f e x) (from g e x)
 from-le f g e x h = total-le f g x (e - x) h
 
 from-skip_one : (f : ℕ → Cost) (e x : ℕ) → Le (f x) nothing → Le (from f e x) (from f e (suc x))
@@ -79,16 +82,16 @@ from-skip_one f e x n =
     (λ h. subst (λ c. Le c (from f e (suc x))) (sym (from-past f e x h)) (le-nothing (from f e (suc x))))
     (cases_lt x e)
 
-from-skip_by : (f : ℕ → Cost) (e x y k : ℕ) → x + k ≡ y → ((z : ℕ) → x ≤ z → z < y → Le (f z) nothing) →
-    Le (from f e x) (from f e y)
+from-skip_by : (f : ℕ → Cost) (e x y k : ℕ) → x + k ≡ y →
+    ((z : ℕ) → x ≤ z → z < y → Le (f z) nothing) → Le (from f e x) (from f e y)
 from-skip_by f e x y zero h n = let same : x ≡ y = omega (arith, h) in le-of _ _ (ap (from f e) same)
 from-skip_by f e x y (suc k) h n =
     le-trans (from f e x) (from f e (suc x)) (from f e y) (from-skip_one f e x (n x (omega arith) (omega (arith, h))))
     (from-skip_by f e (suc x) y k (omega (arith, h)) (λ z le lt. n z (omega (arith, le)) lt))
 
 -- places that cost nothing may be left out
-pub from-skip : (f : ℕ → Cost) (e x y : ℕ) → x ≤ y → ((z : ℕ) → x ≤ z → z < y → Le (f z) nothing) →
-    Le (from f e x) (from f e y)
+pub from-skip : (f : ℕ → Cost) (e x y : ℕ) → x ≤ y →
+    ((z : ℕ) → x ≤ z → z < y → Le (f z) nothing) → Le (from f e x) (from f e y)
 from-skip f e x y h n = from-skip_by f e x y (y - x) (omega (arith, h)) n
 
 pub turns-nothing : (size : ℕ) (b : Bracket) → Le (of_turns size b nothing) nothing

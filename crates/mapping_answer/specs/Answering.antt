@@ -1,6 +1,7 @@
 -- What `mock answer` prints for a document, a method and a target: the reply of a book that was just opened with the
 -- document's mappings. And which errors it reports, and how it ends.
-use Rattle.std.specs.Prelude.{◌≡◌, ◌⊎◌, ◌<◌, ◌≤◌, ℕ, List, [], ◌++◌, length, codes, decimal, flat_map, Option, None}
+use Rattle.std.specs.Prelude.{◌≡◌, ◌⊎◌, ◌<◌, ◌≤◌, ℕ, List, [], ◌++◌, length, codes, decimal}
+use Rattle.std.specs.Prelude.{flat_map, Option, None}
 use Rattle.std.specs.Io.KnownBytes.{Appends}
 use Rattle.command_output.specs.Files.{IsFile, IsFileError, file_error_line}
 use Rattle.command_output.specs.Lines.{error_line, out_of_memory}
@@ -83,18 +84,21 @@ IsReplyText escape bytes method target text =
 -- the document is no list of mappings, or one of them is none: this is the first error
 abbrev pub RefusesDocument : Escape → List ℕ → CommandError → Type 0
 RefusesDocument escape bytes error =
-    (e : MappingsError) × IsMappingsError escape bytes e × (error ≡ record { code = error_code_of e.error; at = None })
+    (e : MappingsError) × IsMappingsError escape bytes e
+    × (error ≡ record { code = error_code_of e.error; at = None })
 
 -- its mappings are more than may be live
 abbrev pub RefusesBook : Escape → List ℕ → CommandError → Type 0
 RefusesBook escape bytes error =
-    ((mappings : List MappingSpec) × SpellMappings escape bytes mappings × (LIVE_LIMIT < length (live (opened 0 mappings))))
+    ((mappings : List MappingSpec) × SpellMappings escape bytes mappings
+    × (LIVE_LIMIT < length (live (opened 0 mappings))))
     × (error ≡ record { code = ErrorCode.TooManyMappings; at = None })
 
 -- a book can be opened with the document's mappings
 abbrev pub HasBook : Escape → List ℕ → Type 0
 HasBook escape bytes =
-    (mappings : List MappingSpec) × SpellMappings escape bytes mappings × (length (live (opened 0 mappings)) ≤ LIVE_LIMIT)
+    (mappings : List MappingSpec) × SpellMappings escape bytes mappings
+    × (length (live (opened 0 mappings)) ≤ LIVE_LIMIT)
 
 -- the target asks for no URL
 abbrev pub RefusesUrl : List ℕ → CommandError → Type 0
@@ -111,12 +115,14 @@ IsRefusal escape bytes target error =
 -- ---- the whole
 
 -- the whole reply was written
-abbrev pub ShowsReply : Escape → List ℕ → List ℕ → List ℕ → Option (List ℕ) → Option (List ℕ) → Type 0
+abbrev pub ShowsReply : Escape → List ℕ → List ℕ → List ℕ → Option (List ℕ)
+    → Option (List ℕ) → Type 0
 ShowsReply escape bytes method target old new =
     (text : List ℕ) × IsReplyText escape bytes method target text × Appends old new text
 
 -- the reply was begun, and the writer refused the rest
-abbrev pub BreaksReplyOff : Escape → List ℕ → List ℕ → List ℕ → Option (List ℕ) → Option (List ℕ) → Type 0
+abbrev pub BreaksReplyOff : Escape → List ℕ → List ℕ → List ℕ → Option (List ℕ)
+    → Option (List ℕ) → Type 0
 BreaksReplyOff escape bytes method target old new =
     (text : List ℕ) × IsReplyText escape bytes method target text × AppendsPart old new text
 
@@ -125,20 +131,20 @@ abbrev pub ReportsRefusal : Escape → List ℕ → List ℕ → Option (List �
 ReportsRefusal escape bytes target old new =
     (error : CommandError) × IsRefusal escape bytes target error × AppendsFront old new (error_line error)
 
--- How an answer ends, by what standard output and standard error hold before and after it, and the exit status: the reply
--- is on standard output (0), an error is on standard error (1), or standard output took a part of the reply (1). Each time
--- the other of both is as it was.
-abbrev pub Answers : {O E : Type 0} → (O → Option (List ℕ)) → (E → Option (List ℕ)) → Escape → List ℕ → List ℕ
-    → List ℕ → O → O → E → E → ℕ → Type 0
+-- How an answer ends, by what standard output and standard error hold before and after it, and the exit status: the
+-- reply is on standard output (0), an error is on standard error (1), or standard output took a part of the reply (1).
+-- Each time the other of both is as it was.
+abbrev pub Answers : {O E : Type 0} → (O → Option (List ℕ)) → (E → Option (List ℕ)) → Escape
+    → List ℕ → List ℕ → List ℕ → O → O → E → E → ℕ → Type 0
 Answers out_holds err_holds escape bytes method target out out' err err' status =
     ((status ≡ 0) × ShowsReply escape bytes method target (out_holds out) (out_holds out') × (err' ≡ err))
     ⊎ ((status ≡ 1) × ReportsRefusal escape bytes target (err_holds err) (err_holds err') × (out' ≡ out))
     ⊎ ((status ≡ 1) × BreaksReplyOff escape bytes method target (out_holds out) (out_holds out') × (err' ≡ err))
 
--- How `mock answer` ends: the file is read and the request answered, or an error in reading it is on standard error (1),
--- as far as the writer took its line, and standard output is as it was. The file is known, or it isn't.
-abbrev pub AnswersFile : {O E : Type 0} → (O → Option (List ℕ)) → (E → Option (List ℕ)) → Escape → Option (List ℕ)
-    → List ℕ → List ℕ → List ℕ → O → O → E → E → ℕ → Type 0
+-- How `mock answer` ends: the file is read and the request answered, or an error in reading it is on standard error
+-- (1), as far as the writer took its line, and standard output is as it was. The file is known, or it isn't.
+abbrev pub AnswersFile : {O E : Type 0} → (O → Option (List ℕ)) → (E → Option (List ℕ)) → Escape
+    → Option (List ℕ) → List ℕ → List ℕ → List ℕ → O → O → E → E → ℕ → Type 0
 AnswersFile out_holds err_holds escape known path method target out out' err err' status =
     ((bytes : List ℕ) × IsFile known bytes
     × Answers out_holds err_holds escape bytes method target out out' err err' status)

@@ -12,8 +12,8 @@ use std::alloc::Global;
 use std::io::Write;
 use template_tree::escape::Escape;
 
-/// What `mock answer` prints for a request of that method and target, without headers and body: the reply of a book that
-/// was just opened with the document's mappings, whose templates' prints are escaped so.
+/// What `mock answer` prints for a request of that method and target, without headers and body: the reply of a book
+/// that was just opened with the document's mappings, whose templates' prints are escaped so.
 pub fn answer_request(
     alloc: Global,
     bytes: &[u8],
@@ -31,8 +31,8 @@ pub fn answer_request(
     Ok(reply_text(alloc, &reply)?)
 }
 
-/// Writes what `answer_request` gives to `out`, or its error to `err`, and gives the exit status: 0, or 1 for an error or
-/// for output that can't be written. All memory is taken before the first byte is written.
+/// Writes what `answer_request` gives to `out`, or its error to `err`, and gives the exit status: 0, or 1 for an error
+/// or for output that can't be written. All memory is taken before the first byte is written.
 pub fn answer_to<O: Write, E: Write>(
     alloc: Global,
     bytes: &[u8],
@@ -42,7 +42,8 @@ pub fn answer_to<O: Write, E: Write>(
     err: &mut E,
     escape: Escape,
 ) -> u8
-    ensures { Answers O.contents E.contents escape bytes.now method.now target.now out.old out.new err.old err.new result }
+    ensures { Answers O.contents E.contents escape bytes.now method.now target.now out.old out.new
+        err.old err.new result }
 {
     match answer_request(alloc, bytes, method, target, escape) {
         Ok(printed) => match put(out, printed.as_slice()) {
@@ -56,8 +57,8 @@ pub fn answer_to<O: Write, E: Write>(
     }
 }
 
-/// Reads the file and does with its bytes what `answer_to` does. Where it can't be read, that is written to `err`, and the
-/// exit status is 1.
+/// Reads the file and does with its bytes what `answer_to` does. Where it can't be read, that is written to `err`, and
+/// the exit status is 1.
 pub fn answer_file<F: FileReader, O: Write, E: Write>(
     alloc: Global,
     files: &F,

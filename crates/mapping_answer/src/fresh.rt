@@ -1,7 +1,8 @@
 // A book that was just opened with the mappings of a document, and what it answers a request with.
 ghost use Rattle.std.specs.Prelude.{◌≡◌, ◌⊎◌, ◌<◌, ◌≤◌, IfErr, IfOk, OnOk, length};
 ghost use Rattle.command_output.specs.Lines.{out_of_memory};
-ghost use Rattle.mapping_answer.specs.Answering.{HasBook, IsReplyBy, IsRequest, RefusesBook, RefusesDocument, RefusesUrl};
+ghost use Rattle.mapping_answer.specs.Answering.{HasBook, IsReplyBy, IsRequest, RefusesBook, RefusesDocument};
+ghost use Rattle.mapping_answer.specs.Answering.{RefusesUrl};
 ghost use Rattle.mapping_answer.specs.Inner.Fresh.{IsFresh, IsOwn};
 ghost use Rattle.mapping_json.specs.Documents.{SpellMappings};
 ghost use Rattle.request_journal.specs.Choice.{IsChoice};
@@ -25,7 +26,8 @@ use template_tree::escape::Escape;
 pub(crate) fn fresh_book(alloc: Global, bytes: &[u8], escape: Escape) -> Result<Book, CommandError>
     ensures ok { IfOk result (IsFresh escape bytes.now) }
     ensures opens { OnOk result (HasBook escape bytes.now) }
-    ensures refusal { IfErr result (λ error. RefusesDocument escape bytes.now error ⊎ RefusesBook escape bytes.now error
+    ensures refusal { IfErr result
+        (λ error. RefusesDocument escape bytes.now error ⊎ RefusesBook escape bytes.now error
         ⊎ (error ≡ out_of_memory)) }
 {
     let mappings = mappings_of(alloc, bytes, escape)?;

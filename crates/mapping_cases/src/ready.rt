@@ -12,8 +12,8 @@ use request_match::ready_mapping::ReadyMapping;
 use request_match::shared_spec::SharedSpec;
 use std::alloc::{AllocError, Global};
 
-/// Whether the request meets the mapping, the name of the mapping, whether a copy of it is the same, and the literal URL of
-/// its matcher; or the code of the document's error.
+/// Whether the request meets the mapping, the name of the mapping, whether a copy of it is the same, and the literal
+/// URL of its matcher; or the code of the document's error.
 pub fn answer(alloc: Global, row: &Row) -> Result<String, AllocError> {
     match read(alloc, row.cell(0).as_bytes()) {
         Ok(mut mapping) => answered(alloc, &mut mapping, row),

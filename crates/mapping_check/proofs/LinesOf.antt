@@ -1,6 +1,7 @@
 -- The lines of results, one more at their end.
-use Rattle.std.proofs.Common.{◌≡◌, ◌≢◌, ℕ, suc, ◌+◌, List, [], ◌∷◌, ◌++◌, Bool, true, false, ◌||◌, length, Some, Result, Ok, Err, refl, sym, ap, ap₂, subst}
-use Rattle.std.proofs.Common.{◌∙◌, append_assoc, arith}
+use Rattle.std.proofs.Common.{◌≡◌, ◌≢◌, ℕ, suc, ◌+◌, List, [], ◌∷◌, ◌++◌, Bool, true, false}
+use Rattle.std.proofs.Common.{◌||◌, length, Some, Result, Ok, Err, refl, sym, ap, ap₂, subst, ◌∙◌}
+use Rattle.std.proofs.Common.{append_assoc, arith}
 use Rattle.std.proofs.lemmas.List.{append-nil}
 use Rattle.std.proofs.lemmas.List.Folds.{list_any-append}
 use Rattle.std.proofs.lemmas.Slice.Zip.{AllZip-long}
@@ -39,7 +40,8 @@ or_false true = refl
 or_false false = refl
 
 -- the first values, and the one after them
-pub one_more : (escape : Escape) (ds : List Data) (text : List ℕ) (refused : Bool) (d : Data) (new : List ℕ) (more : Bool)
+pub one_more : (escape : Escape) (ds : List Data) (text : List ℕ) (refused : Bool) (d : Data)
+    (new : List ℕ) (more : Bool)
     → AreReported escape ds text refused → Reports escape (length ds + 1) d text new more
     → AreReported escape (ds ++ d ∷ []) new (refused || more)
 one_more escape ds text refused d new more so_far next =
@@ -70,8 +72,8 @@ taken escape number d old new response (mapping, spells, same) (line, is, text) 
 }
 
 pub refused : (escape : Escape) (number : ℕ) (d : Data) (old new : List ℕ) (error : MappingError)
-    → IsValueError escape d error → error ≢ OutOfMemory → new ≡ old ++ refused_line number (error_code_of error)
-    → Reports escape number d old new true
+    → IsValueError escape d error → error ≢ OutOfMemory
+    → new ≡ old ++ refused_line number (error_code_of error) → Reports escape number d old new true
 refused escape number d old new error is other text = record {
   result = Err error;
   line = refused_line number (error_code_of error);

@@ -1,5 +1,6 @@
 -- Budgets that are added up, as they are printed.
-use Rattle.std.proofs.Common.{◌≡◌, ℕ, zero, suc, ◌+◌, ◌^◌, ◌<◌, ◌≤◌, List, [], ◌∷◌, ◌++◌, get_or, map, refl, sym, ap, ap₂, subst, ◌∙◌, arith, codes}
+use Rattle.std.proofs.Common.{◌≡◌, ℕ, zero, suc, ◌+◌, ◌^◌, ◌<◌, ◌≤◌, List, [], ◌∷◌}
+use Rattle.std.proofs.Common.{◌++◌, get_or, map, refl, sym, ap, ap₂, subst, ◌∙◌, arith, codes}
 use Rattle.std.specs.Prelude.{decimal}
 use Rattle.std.proofs.lemmas.List.{append-nil, map-append}
 use Rattle.mapping_json.proofs.Zips.{zip_push}
@@ -55,8 +56,8 @@ pub no_more : (templates : List Source) (steps bytes : List ℕ) → AreTotals t
 no_more templates steps bytes totals = subst (λ ts. AreTotals ts steps bytes) (sym (append-nil templates)) totals
 
 -- the line with the totals
-pub line_of : (number : ℕ) (templates : List Source) (steps bytes s b line : List ℕ) → AreTotals templates steps bytes
-    → s ≡ numbers_text steps → b ≡ numbers_text bytes
+pub line_of : (number : ℕ) (templates : List Source) (steps bytes s b line : List ℕ)
+    → AreTotals templates steps bytes → s ≡ numbers_text steps → b ≡ numbers_text bytes
     → line ≡ decimal number ++ (codes " steps " ++ (s ++ (codes " bytes " ++ (b ++ codes "\n"))))
     → IsBudgetLine number templates line
 line_of number templates steps bytes s b line totals s_is b_is line_is = (

@@ -1,6 +1,6 @@
 -- What `mock check` prints for a document: a line for each of its mappings.
-use Rattle.std.specs.Prelude.{◌≡◌, ◌⊎◌, ℕ, suc, List, [], ◌∷◌, ◌++◌, Bool, map, is_err, if◌then◌else◌}
-use Rattle.std.specs.Prelude.{Option, None, Result, Ok, Err, codes, decimal}
+use Rattle.std.specs.Prelude.{◌≡◌, ◌⊎◌, ℕ, suc, List, [], ◌∷◌, ◌++◌, Bool, map, is_err}
+use Rattle.std.specs.Prelude.{if◌then◌else◌, Option, None, Result, Ok, Err, codes, decimal}
 use Rattle.std.specs.Io.KnownBytes.{Appends}
 use Rattle.std.specs.List.{AllZip, list_any}
 use Rattle.mapping_json.specs.Documents.{AreResults, IsOuterError}
@@ -79,8 +79,8 @@ AreLines number (result ∷ results) text =
 
 -- ---- the whole
 
--- the lines of a document's mappings, whose templates' prints are escaped so, numbered from 1, and whether one of them is
--- refused
+-- the lines of a document's mappings, whose templates' prints are escaped so, numbered from 1, and whether one of them
+-- is refused
 abbrev pub IsReportOf : Escape → List ℕ → List ℕ → Bool → Type 0
 IsReportOf escape bytes text refused =
     (results : List (Result MappingSpec MappingError)) × AreResults escape bytes results × AreLines 1 results text
@@ -107,8 +107,8 @@ abbrev pub ReportsDocument : List ℕ → Option (List ℕ) → Option (List ℕ
 ReportsDocument bytes old new =
     (error : CommandError) × IsCheckError bytes error × AppendsFront old new (error_line error)
 
--- How a check ends: the report is on standard output (0, or 1 where a mapping is refused), an error is on standard error
--- (1), or standard output took a part of the report (1). Each time the other of both is as it was.
+-- How a check ends: the report is on standard output (0, or 1 where a mapping is refused), an error is on standard
+-- error (1), or standard output took a part of the report (1). Each time the other of both is as it was.
 abbrev pub Checks : {O E : Type 0} → (O → Option (List ℕ)) → (E → Option (List ℕ)) → Escape → List ℕ
     → O → O → E → E → ℕ → Type 0
 Checks out_holds err_holds escape bytes out out' err err' status =
@@ -116,10 +116,10 @@ Checks out_holds err_holds escape bytes out out' err err' status =
     ⊎ ((status ≡ 1) × ReportsDocument bytes (err_holds err) (err_holds err') × (out' ≡ out))
     ⊎ ((status ≡ 1) × BreaksLinesOff escape bytes (out_holds out) (out_holds out') × (err' ≡ err))
 
--- How `mock check` ends: the file is read and checked, or an error in reading it is on standard error (1), as far as the
--- writer took its line, and standard output is as it was. The file is known, or it isn't.
-abbrev pub ChecksFile : {O E : Type 0} → (O → Option (List ℕ)) → (E → Option (List ℕ)) → Escape → Option (List ℕ)
-    → List ℕ → O → O → E → E → ℕ → Type 0
+-- How `mock check` ends: the file is read and checked, or an error in reading it is on standard error (1), as far as
+-- the writer took its line, and standard output is as it was. The file is known, or it isn't.
+abbrev pub ChecksFile : {O E : Type 0} → (O → Option (List ℕ)) → (E → Option (List ℕ)) → Escape
+    → Option (List ℕ) → List ℕ → O → O → E → E → ℕ → Type 0
 ChecksFile out_holds err_holds escape known path out out' err err' status =
     ((bytes : List ℕ) × IsFile known bytes × Checks out_holds err_holds escape bytes out out' err err' status)
     ⊎ ((error : FileError) × IsFileError known error × (status ≡ 1)

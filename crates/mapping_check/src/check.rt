@@ -1,5 +1,6 @@
 //! `mock check`: which mappings of a document are taken, and the budgets of their templates.
-ghost use Rattle.std.specs.Prelude.{◌≡◌, ◌+◌, ◌++◌, List, ℕ, map, decimal, IfOk, IfErr, OnOk, if◌then◌else◌, string_bytes};
+ghost use Rattle.std.specs.Prelude.{◌≡◌, ◌+◌, ◌++◌, List, ℕ, map, decimal, IfOk, IfErr, OnOk};
+ghost use Rattle.std.specs.Prelude.{if◌then◌else◌, string_bytes};
 ghost use Rattle.mapping_check.specs.Checking.{IsContentLine, IsBudgetLine, IsReportOf};
 ghost use Rattle.mapping_check.specs.Checking.{Checks, ChecksFile, plain_line, refused_line};
 ghost use Rattle.mapping_check.specs.Inner.Reports.{AreReported, Reports};
@@ -41,7 +42,8 @@ pub struct Checked {
 /// document that has no mappings.
 #[tactic(auto, using(crate::proofs::LinesOf::whole))]
 pub fn check_document(alloc: Global, bytes: &[u8], escape: Escape) -> Result<Checked, MappingError>
-    ensures report { IfOk result (λ checked. IsReportOf escape bytes.now (string_bytes checked.text) checked.is_refused) }
+    ensures report { IfOk result
+        (λ checked. IsReportOf escape bytes.now (string_bytes checked.text) checked.is_refused) }
     ensures error { IfErr result (IsOuterError bytes.now) }
 {
     let Some(document) = document_of(alloc, bytes)? else {
@@ -93,8 +95,9 @@ fn push_line(
     }
 }
 
-/// Writes what `check_document` gives to `out`, or its error to `err`, and gives the exit status: 0, or 1 where a mapping
-/// is refused, for an error, or for output that can't be written. All memory is taken before the first byte is written.
+/// Writes what `check_document` gives to `out`, or its error to `err`, and gives the exit status: 0, or 1 where a
+/// mapping is refused, for an error, or for output that can't be written. All memory is taken before the first
+/// byte is written.
 pub fn check_to<O: Write, E: Write>(
     alloc: Global,
     bytes: &[u8],
@@ -122,8 +125,8 @@ fn status_of(is_refused: bool) -> u8
     if is_refused { FAILURE } else { SUCCESS }
 }
 
-/// Reads the file and does with its bytes what `check_to` does. Where it can't be read, that is written to `err`, and the
-/// exit status is 1.
+/// Reads the file and does with its bytes what `check_to` does. Where it can't be read, that is written to `err`, and
+/// the exit status is 1.
 pub fn check_file<F: FileReader, O: Write, E: Write>(
     alloc: Global,
     files: &F,

@@ -17,12 +17,13 @@ use Rattle.template_tree.specs.declared.escape.Escape.{Escape}
 use Rattle.template_machine.specs.declared.error.ProgramError.{ProgramError}
 use Rattle.template_machine.specs.declared.error.ProgramError.TheVariants as template
 
-pub err_is : {T E : Type 0} (r : Result T E) (x : E) (P : E → Type 0) → IsErrAnd r (λ e. e ≡ x) → P x → IfErr r P
+pub err_is : {T E : Type 0} (r : Result T E) (x : E) (P : E → Type 0) → IsErrAnd r (λ e. e ≡ x)
+    → P x → IfErr r P
 err_is (Ok v) x P h p = absurd h
 err_is (Err e) x P h p = subst P (sym h) p
 
-pub request_error : (escape : Escape) (draft : MappingDraft) (error : RequestMatchError) → IsRefusal draft.request error
-    → IsDraftError escape draft (error_of_request error)
+pub request_error : (escape : Escape) (draft : MappingDraft) (error : RequestMatchError)
+    → IsRefusal draft.request error → IsDraftError escape draft (error_of_request error)
 request_error escape draft matcher.BadUrl f = f
 request_error escape draft matcher.BadPattern f = f
 request_error escape draft matcher.NotJson f = f
@@ -38,8 +39,8 @@ template_error escape draft (template.CodeRefused index rule) built f = (built, 
 template_error escape draft template.OutOfMemory built f = tt
 
 -- what is wrong with the draft that is read is an error of the value
-pub draft_error : (escape : Escape) (d : Data) (draft : MappingDraft) (error : MappingError) → reading_of_mapping d ≡ Read draft
-    → IsDraftError escape draft error → IsValueError escape d error
+pub draft_error : (escape : Escape) (d : Data) (draft : MappingDraft) (error : MappingError)
+    → reading_of_mapping d ≡ Read draft → IsDraftError escape draft error → IsValueError escape d error
 draft_error escape d draft error read f = inl (draft, read, f)
 
 pub wrong_value : (escape : Escape) (d : Data) (kind : Kind) → reading_of_mapping d ≡ Wrong kind

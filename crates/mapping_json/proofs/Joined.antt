@@ -11,7 +11,8 @@ use Rattle.mapping_model.specs.declared.mapping_spec.MappingSpec.{MappingSpec}
 use Rattle.template_tree.specs.declared.escape.Escape.{Escape}
 
 -- the mappings of all results
-spell : (escape : Escape) (bytes : List ℕ) (results : List (Result MappingSpec MappingError)) (mappings : List MappingSpec)
+spell : (escape : Escape) (bytes : List ℕ) (results : List (Result MappingSpec MappingError))
+    (mappings : List MappingSpec)
     → AreResults escape bytes results → results ≡ map Ok mappings → SpellMappings escape bytes mappings
 spell escape bytes results mappings (d, values, document, listed, read) same =
     (d, values, document, listed, all_read escape values mappings (subst (AllZip (IsResultOf escape) values) same read))
@@ -28,7 +29,8 @@ at_index : (escape : Escape) (bytes : List ℕ) (results : List (Result MappingS
     → AreResults escape bytes results → IsErrAt results e → IsMappingsError escape bytes e
 at_index escape bytes results e (d, values, document, listed, read) found =
     let split =
-    split_at escape values found.before e.error found.after (subst (AllZip (IsResultOf escape) values) found.split read) in
+    split_at escape values found.before e.error found.after
+    (subst (AllZip (IsResultOf escape) values) found.split read) in
     subst (λ index. IsErrorAt escape bytes index e.error) (sym found.index) (record {
       d = d;
       before = split.before;
@@ -45,7 +47,8 @@ at_index escape bytes results e (d, values, document, listed, read) found =
 pub first_refused : (escape : Escape) (bytes : List ℕ) (results : List (Result MappingSpec MappingError))
     (e : MappingsError) → AreResults escape bytes results → IsFirstErr results e → IsMappingsError escape bytes e
 first_refused escape bytes results e read (inl found) = at_index escape bytes results e read found
-first_refused escape bytes results e read (inr memory) = subst (IsMappingsError escape bytes) (sym memory) (inr (inr refl))
+first_refused escape bytes results e read (inr memory) =
+    subst (IsMappingsError escape bytes) (sym memory) (inr (inr refl))
 
 pub refused_all : {V : Type 0} (escape : Escape) (bytes : List ℕ) (results : List (Result MappingSpec MappingError))
     (r : Result V MappingsError) → AreResults escape bytes results → IfErr r (IsFirstErr results)

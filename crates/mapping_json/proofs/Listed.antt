@@ -1,6 +1,6 @@
 -- The values of a document, by what its fields are.
-use Rattle.std.proofs.Common.{◌≡◌, ◌≤◌, List, [], ◌∷◌, length, map, arith, true, false, Some, None, option_map, is_some, codes, refl, ap, ◌∙◌}
-use Rattle.std.proofs.Common.{if◌then◌else◌}
+use Rattle.std.proofs.Common.{◌≡◌, ◌≤◌, List, [], ◌∷◌, length, map, arith, true, false, Some, None}
+use Rattle.std.proofs.Common.{option_map, is_some, codes, refl, ap, ◌∙◌, if◌then◌else◌}
 use Rattle.mapping_json.specs.Documents.{mappings_in, listed, list_of}
 use Rattle.mapping_json.specs.Reading.{has_no_items}
 use Rattle.serde_json.specs.Data.{Data, Items}
@@ -26,12 +26,13 @@ pub many_values : (d x : Data) (ds : Items) → is_some (as_object d) ≡ true �
 many_values d x ds e found values =
     of_object d e ∙ ap (listed d) found ∙ ap (option_map list_of) values
 
-pub many_listed : (d x : Data) (values : List Value) → is_some (as_object d) ≡ true → get (codes "mappings") d ≡ Some x
+pub many_listed : (d x : Data) (values : List Value) → is_some (as_object d) ≡ true
+    → get (codes "mappings") d ≡ Some x
     → as_array x ≡ Some (items_view values) → mappings_in d ≡ Some (map view values)
 many_listed d x values e found list = many_values d x (items_view values) e found list ∙ ap Some (list_of-view values)
 
-pub no_list : (d x : Data) → is_some (as_object d) ≡ true → get (codes "mappings") d ≡ Some x → as_array x ≡ None
-    → mappings_in d ≡ None
+pub no_list : (d x : Data) → is_some (as_object d) ≡ true → get (codes "mappings") d ≡ Some x
+    → as_array x ≡ None → mappings_in d ≡ None
 no_list d x e found none = of_object d e ∙ ap (listed d) found ∙ ap (option_map list_of) none
 
 pub some_items : (values : List Value) → 1 ≤ length values → has_no_items (items_view values) ≡ false

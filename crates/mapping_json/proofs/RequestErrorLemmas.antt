@@ -17,6 +17,7 @@ refused text request refusal.NumberNotWhole spelled is = (request, spelled, is)
 refused text request refusal.BadPath spelled is = (request, spelled, is)
 refused text request refusal.OutOfMemory spelled is = tt
 
-pub err_is : {T E : Type 0} (r : Result T E) (x : E) (P : E → Type 0) → IsErrAnd r (λ e. e ≡ x) → P x → IfErr r P
+pub err_is : {T E : Type 0} (r : Result T E) (x : E) (P : E → Type 0) → IsErrAnd r (λ e. e ≡ x)
+    → P x → IfErr r P
 err_is (Ok v) x P h p = absurd h
 err_is (Err e) x P h p = subst P (sym h) p

@@ -1,6 +1,6 @@
 -- In which way a value is wrong, and what it spells where it isn't.
-use Rattle.std.proofs.Common.{◌≡◌, ℕ, List, Bool, true, false, Option, Some, None, codes, refl, sym, ap, ap₂, subst, ◌∙◌}
-use Rattle.std.proofs.Common.{if◌then◌else◌, is_some, All}
+use Rattle.std.proofs.Common.{◌≡◌, ℕ, List, Bool, true, false, Option, Some, None, codes, refl, sym, ap, ap₂}
+use Rattle.std.proofs.Common.{subst, ◌∙◌, if◌then◌else◌, is_some, All}
 use Rattle.std.proofs.lemmas.List.Elements.{All-nil}
 use Rattle.std.proofs.lemmas.Option.{none-some}
 use Rattle.json_reading.proofs.Lists.{first_assoc}
@@ -98,7 +98,8 @@ scenario_wrong d =
     ∙ wrong_both name (both required next)
     ∙ ap₂ joined (text_wrong (get (codes "scenarioName") d))
     (wrong_both required next
-    ∙ ap₂ joined (text_wrong (get (codes "requiredScenarioState") d)) (text_wrong (get (codes "newScenarioState") d)))
+    ∙ ap₂ joined (text_wrong (get (codes "requiredScenarioState") d))
+    (text_wrong (get (codes "newScenarioState") d)))
 
 place_wrong : (d : Data)
     → wrong_of (place_in d) ≡ joined (wrong_field priority_of (get (codes "priority") d)) (wrong_scenario d)
@@ -157,7 +158,8 @@ of_object d e = ap (λ b. if b then mapping_in d else taken d (Wrong Misshapen))
 -- what is no object is misshapen, if it has no number that isn't whole
 of_other : (d : Data) → is_some (as_object d) ≡ false → reading_of_mapping d ≡ Wrong (misshapen_kind d)
 unfolding reading_of_mapping
-of_other d e = ap (λ b. if b then mapping_in d else taken d (Wrong Misshapen)) e ∙ kinds (is_taken d) (Wrong Misshapen) refl
+of_other d e = ap (λ b. if b then mapping_in d else taken d (Wrong Misshapen)) e
+    ∙ kinds (is_taken d) (Wrong Misshapen) refl
   where
     kinds : (b : Bool) (r : Reading MappingDraft) → r ≡ Wrong Misshapen
         → (if b then r else wrong_also NumberNotWhole r) ≡ Wrong (if b then Misshapen else NumberNotWhole)
@@ -190,7 +192,8 @@ right_unless true k part h = refl
 right_unless false k (Read a) h = absurd (none-some k (sym h))
 right_unless false k (Wrong j) h = absurd (none-some (first k j) (sym h))
 
-right_beside : {A : Type 0} (o : Option Data) (part : Reading A) → wrong_of (beside o part) ≡ None → beside o part ≡ part
+right_beside : {A : Type 0} (o : Option Data) (part : Reading A) → wrong_of (beside o part) ≡ None
+    → beside o part ≡ part
 right_beside None part h = refl
 right_beside (Some d) part h = right_unless (is_empty_list d) (unsupported_kind d) part h
 
@@ -215,14 +218,16 @@ object_right d parts request response read right known =
     let fields = read_map draft_of (both (names_in d) rest) in
     let none : wrong_of (mapping_in d) ≡ None =
     wrong_mapping d ∙ ap (λ r. joined (wrong_fields d) (wrong_of r)) (sym read) ∙ right in
-    let outer : beside post (beside serve fields) ≡ beside serve fields = right_beside post (beside serve fields) none in
+    let outer : beside post (beside serve fields) ≡ beside serve fields =
+    right_beside post (beside serve fields) none in
     let none_inner : wrong_of (beside serve fields) ≡ None = ap wrong_of (sym outer) ∙ none in
     let inner : beside serve fields ≡ fields = right_beside serve fields none_inner in
     let none_fields : wrong_of (both (names_in d) rest) ≡ None =
     sym (wrong_map draft_of (both (names_in d) rest)) ∙ ap wrong_of (sym inner) ∙ none_inner in
     let names = right_both (names_in d) rest none_fields in
     let place = right_both (place_in d) (parts_in d) (ap wrong_of names.1.is) in
-    let all : fields ≡ read_map draft_of (both (Read names.0.value) (both (Read place.0.value) (Read (request, response)))) =
+    let all : fields ≡ read_map draft_of
+    (both (Read names.0.value) (both (Read place.0.value) (Read (request, response)))) =
     ap₂ (λ n r. read_map draft_of (both n r)) names.0.is (ap₂ both place.0.is (sym read ∙ known)) in
     record {
       draft = draft_of (names.0.value, (place.0.value, (request, response)));
@@ -232,8 +237,8 @@ object_right d parts request response read right known =
     }
 
 pub spelled : (escape : Escape) (d : Data) (request : RequestSpec) (response : ResponseDraft) (out : ResponseSpec)
-    → is_some (as_object d) ≡ true → IsDraftWith d request response → IsResponseOf escape (alone request response) out
-    → SpellsResponse escape d out
+    → is_some (as_object d) ≡ true → IsDraftWith d request response
+    → IsResponseOf escape (alone request response) out → SpellsResponse escape d out
 spelled escape d request response out e with_parts (mapping, is, same) =
     let draft = with_parts.draft in (
       mapping_of escape draft,
@@ -250,8 +255,8 @@ spelled escape d request response out e with_parts (mapping, is, same) =
     )
 
 -- an error is one of the request and the response alone
-error_with : (escape : Escape) (a b : MappingDraft) (error : MappingError) → a.request ≡ b.request → a.response ≡ b.response
-    → IsDraftError escape a error → IsDraftError escape b error
+error_with : (escape : Escape) (a b : MappingDraft) (error : MappingError) → a.request ≡ b.request
+    → a.response ≡ b.response → IsDraftError escape a error → IsDraftError escape b error
 error_with escape a b (Document kind) r s f = absurd f
 error_with escape a b (Request matcher.OutOfMemory) r s f = absurd f
 error_with escape a b (Request matcher.BadUrl) r s f = subst (λ x. IsRefusal x matcher.BadUrl) r f
@@ -269,8 +274,8 @@ error_with escape a b (Template (template.CodeRefused index rule)) r s f =
 error_with escape a b OutOfMemory r s f = tt
 
 pub not_built : (escape : Escape) (d : Data) (request : RequestSpec) (response : ResponseDraft) (error : MappingError)
-    → is_some (as_object d) ≡ true → IsDraftWith d request response → IsDraftError escape (alone request response) error
-    → IsValueError escape d error
+    → is_some (as_object d) ≡ true → IsDraftWith d request response
+    → IsDraftError escape (alone request response) error → IsValueError escape d error
 not_built escape d request response error e with_parts f =
     draft_error escape d with_parts.draft error (of_object d e ∙ with_parts.read)
     (error_with escape (alone request response) with_parts.draft error with_parts.request_is with_parts.response_is f)
@@ -287,12 +292,13 @@ any_built = record {
   paths = All-nil _;
 }
 
-pub no_request : (d : Data) (response : Reading ResponseDraft) → get (codes "request") d ≡ None → response ≡ response_in d
-    → both (Read any_request) response ≡ parts_in d
+pub no_request : (d : Data) (response : Reading ResponseDraft) → get (codes "request") d ≡ None
+    → response ≡ response_in d → both (Read any_request) response ≡ parts_in d
 unfolding parts_in
 no_request d response absent read =
     sym (ap₂ both (ap (field_or any_request taken_request) absent) (sym read))
 
-pub wrong_response : (response : Reading ResponseDraft) → wrong_of (both (Read any_request) response) ≡ wrong_of response
+pub wrong_response : (response : Reading ResponseDraft)
+    → wrong_of (both (Read any_request) response) ≡ wrong_of response
 wrong_response (Read r) = refl
 wrong_response (Wrong k) = refl

@@ -38,7 +38,8 @@ all_read escape (d ∷ ds) [] h = absurd h
 all_read escape (d ∷ ds) (m ∷ ms) h = (h.0, all_read escape ds ms h.1)
 
 -- the values before one that is refused, that one, and those after it
-pub record IsSplit (escape : Escape) (values : List Data) (mappings : List MappingSpec) (error : MappingError) : Type 0 where
+pub record IsSplit (escape : Escape) (values : List Data) (mappings : List MappingSpec)
+    (error : MappingError) : Type 0 where
   pub before : List Data
   pub value : Data
   pub after : List Data
@@ -49,7 +50,8 @@ pub record IsSplit (escape : Escape) (values : List Data) (mappings : List Mappi
 
 pub split_at : (escape : Escape) (values : List Data) (mappings : List MappingSpec) (error : MappingError)
     (after : List (Result MappingSpec MappingError))
-    → AllZip (IsResultOf escape) values (map Ok mappings ++ Err error ∷ after) → IsSplit escape values mappings error
+    → AllZip (IsResultOf escape) values (map Ok mappings ++ Err error ∷ after)
+    → IsSplit escape values mappings error
 split_at escape [] [] error after h = absurd h
 split_at escape [] (m ∷ ms) error after h = absurd h
 split_at escape (d ∷ ds) [] error after h = record {

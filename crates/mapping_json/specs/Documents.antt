@@ -1,7 +1,7 @@
--- Documents of several mappings: an object with a list `mappings`, whose other fields are ignored; any other object is one
--- mapping.
-use Rattle.std.specs.Prelude.{◌≡◌, ◌≢◌, ◌⊎◌, ℕ, List, [], ◌∷◌, ◌++◌, length, Option, Some, None, Result, MatchResult, codes}
-use Rattle.std.specs.Prelude.{is_some, option_map, if◌then◌else◌}
+-- Documents of several mappings: an object with a list `mappings`, whose other fields are ignored; any other object is
+-- one mapping.
+use Rattle.std.specs.Prelude.{◌≡◌, ◌≢◌, ◌⊎◌, ℕ, List, [], ◌∷◌, ◌++◌, length, Option, Some}
+use Rattle.std.specs.Prelude.{None, Result, MatchResult, codes, is_some, option_map, if◌then◌else◌}
 use Rattle.std.specs.List.{AllZip}
 use Rattle.json_reading.specs.Document.{IsDocument}
 use Rattle.json_reading.specs.declared.kind.Kind.TheVariants.{NotJson, Misshapen}

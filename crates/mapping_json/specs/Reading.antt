@@ -1,5 +1,5 @@
--- The mapping that a JSON value spells (WireMock's documentation, "Stubbing"), its patterns, paths and templates not yet
--- judged. Other fields than these are ignored.
+-- The mapping that a JSON value spells (WireMock's documentation, "Stubbing"), its patterns, paths and templates not
+-- yet judged. Other fields than these are ignored.
 use Rattle.std.specs.Prelude.{ℕ, ℤ, pos, negsuc, List, [], Bool, true, false, ◌&&◌, int_le, Option, Some, None}
 use Rattle.std.specs.Prelude.{option_map, option_and_then, is_some, codes, if◌then◌else◌}
 use Rattle.std.specs.Option.{option_or}
@@ -116,7 +116,8 @@ unfoldable pub parts_in : Data → Reading (RequestSpec × ResponseDraft)
 parts_in d = both (request_in d) (response_in d)
 
 abbrev pub draft_of
-    : (Option (List ℕ) × Option (List ℕ)) × ((Option ℤ × Option ScenarioSpec) × (RequestSpec × ResponseDraft))
+    : (Option (List ℕ) × Option (List ℕ))
+    × ((Option ℤ × Option ScenarioSpec) × (RequestSpec × ResponseDraft))
     → MappingDraft
 draft_of p = record {
   id = p.0.0;

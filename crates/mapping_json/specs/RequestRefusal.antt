@@ -19,7 +19,8 @@ Spells text reading = (d : Data) × IsDocument text d × (taken d (reading_of_re
 
 -- memory may run out at any moment, and that is no error of the matcher
 abbrev pub IsRefused : List ℕ → RequestDocumentError → Type 0
-IsRefused text (Document kind) = ((kind ≡ NotJson) × ((d : Data) → ¬ (IsDocument text d))) ⊎ Spells text (Wrong kind)
+IsRefused text (Document kind) =
+    ((kind ≡ NotJson) × ((d : Data) → ¬ (IsDocument text d))) ⊎ Spells text (Wrong kind)
 IsRefused text (Matcher refusal.OutOfMemory) = ⊥
 IsRefused text (Matcher error) = (request : RequestSpec) × Spells text (Read request) × IsRefusal request error
 IsRefused text OutOfMemory = Unit {0}

@@ -39,14 +39,15 @@ abbrev pub IsResponseOf : Escape → MappingDraft → ResponseSpec → Type 0
 IsResponseOf escape draft response =
     (mapping : MappingSpec) × IsMappingOf escape draft mapping × (mapping.response ≡ response)
 
--- why it is no mapping: its matcher can't be built, or else a template is none. Out of memory is an error of its own, and
--- never one of a part
+-- why it is no mapping: its matcher can't be built, or else a template is none. Out of memory is an error of its own,
+-- and never one of a part
 abbrev pub IsDraftError : Escape → MappingDraft → MappingError → Type 0
 IsDraftError escape draft (Document kind) = ⊥
 IsDraftError escape draft (Request matcher.OutOfMemory) = ⊥
 IsDraftError escape draft (Request error) = IsRefusal draft.request error
 IsDraftError escape draft (Template template.OutOfMemory) = ⊥
-IsDraftError escape draft (Template error) = CanBeBuilt draft.request × IsFirstError (templates_of escape draft.response) error
+IsDraftError escape draft (Template error) =
+    CanBeBuilt draft.request × IsFirstError (templates_of escape draft.response) error
 IsDraftError escape draft OutOfMemory = Unit {0}
 
 -- the value spells the mapping
@@ -70,7 +71,8 @@ IsWrong d OutOfMemory = Unit {0}
 -- mapping that is read; memory may run out at any moment
 abbrev pub IsValueError : Escape → Data → MappingError → Type 0
 IsValueError escape d error =
-    ((draft : MappingDraft) × (reading_of_mapping d ≡ Read draft) × IsDraftError escape draft error) ⊎ IsWrong d error
+    ((draft : MappingDraft) × (reading_of_mapping d ≡ Read draft) × IsDraftError escape draft error)
+    ⊎ IsWrong d error
 
 -- the bytes are no document
 abbrev pub IsNoDocument : List ℕ → Type 0

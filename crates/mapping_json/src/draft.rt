@@ -27,8 +27,8 @@ pub struct MappingDraft {
 }
 
 impl MappingDraft {
-    /// The mapping, with its matcher built and its templates, whose prints are escaped so, compiled. What is wrong with the matcher is reported before
-    /// what is wrong with a template.
+    /// The mapping, with its matcher built and its templates, whose prints are escaped so, compiled. What is wrong with
+    /// the matcher is reported before what is wrong with a template.
     #[tactic(auto, using(crate::proofs::ErrorLemmas::request_error, crate::proofs::ErrorLemmas::template_error))]
     pub fn build(self, alloc: Global, escape: Escape) -> Result<ReadyMapping, MappingError>
         ensures ok { IfOk result (IsMappingOf escape self) }

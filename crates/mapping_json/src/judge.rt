@@ -38,8 +38,8 @@ pub fn response_of(
     }
 }
 
-// Not inlined, as none below that is marked so: a function clears all its locals when it is entered, and a value that is no
-// object, or has no such field, needs none of these.
+// Not inlined, as none below that is marked so: a function clears all its locals when it is entered, and a value that
+// is no object, or has no such field, needs none of these.
 #[inline(never)]
 fn response_in_object(
     alloc: Global,

@@ -1,7 +1,8 @@
 // From a document to mappings.
 ghost use Rattle.std.specs.Prelude.{◌≡◌, ◌∷◌, ◌++◌, [], Ok, map, option_map, IfOk, IfErr, OnOk};
 ghost use Rattle.std.specs.List.{AllZip};
-ghost use Rattle.mapping_json.specs.Documents.{AreResults, IsOuterError, SpellMappings, IsMappingsError, IsResultOf, mappings_in};
+ghost use Rattle.mapping_json.specs.Documents.{AreResults, IsOuterError, SpellMappings, IsMappingsError, IsResultOf};
+ghost use Rattle.mapping_json.specs.Documents.{mappings_in};
 ghost use Rattle.mapping_json.specs.Inner.Lists.{AreResultsOf, IsListError, IsFirstErr};
 ghost use Rattle.mapping_json.specs.Spelling.{SpellsDocument, IsDocumentError};
 ghost use Rattle.mapping_json.specs.declared.error.MappingError.TheVariants.{OutOfMemory};

@@ -40,7 +40,8 @@ impl TemplateText {
     ) -> Result<TemplateText, ProgramError>
         ensures source { IfOk result (λ template. template ≡ with_escape escape text.now) }
         ensures ok { OnOk result (IsProgramText (with_escape escape text.now)) }
-        ensures exactly { IsProgramText (with_escape escape text.now) → IfErr result (λ error. error ≡ OutOfMemory) }
+        ensures exactly { IsProgramText (with_escape escape text.now)
+            → IfErr result (λ error. error ≡ OutOfMemory) }
         ensures reported { IfErr result (λ error. IsErrorOf (with_escape escape text.now) error) }
         ensures never_refused { (index : ℕ) (rule : Rule) → IsErrOf result (CodeRefused index rule) → ⊥ }
     {

@@ -1,5 +1,6 @@
 -- The first eligible entry is the mapping that is chosen.
-use Rattle.std.proofs.Common.{◌≡◌, ℕ, ◌<◌, false, List, ◌++◌, length, map, get_or, take, drop, sym, ap, subst, ◌∙◌, arith, inl, inr}
+use Rattle.std.proofs.Common.{◌≡◌, ℕ, ◌<◌, false, List, ◌++◌, length, map, get_or, take, drop, sym, ap}
+use Rattle.std.proofs.Common.{subst, ◌∙◌, arith, inl, inr}
 use Rattle.std.specs.List.{All, AllWithin}
 use Rattle.std.specs.Ordering.{is_gt}
 use Rattle.std.proofs.lemmas.Bool.{cases_order}
@@ -63,6 +64,7 @@ module _ (state_of : List ℕ → List ℕ) (request : Request) (xs : List Entry
       }
 
 -- what is left of a Vec after its slice was lent and given back as it was
-pub same_items : (n : ℕ) (xs ys : List Entry) → ys ≡ xs → n ≡ length xs → take n (ys ++ drop (length ys) xs) ≡ xs
+pub same_items : (n : ℕ) (xs ys : List Entry) → ys ≡ xs → n ≡ length xs
+    → take n (ys ++ drop (length ys) xs) ≡ xs
 same_items n xs ys same is =
     ap (λ zs. take n (zs ++ drop (length zs) xs)) same ∙ take_at xs (drop (length xs) xs) n (sym is)

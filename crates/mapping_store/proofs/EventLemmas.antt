@@ -1,6 +1,6 @@
 -- What the events that change mappings leave.
-use Rattle.std.proofs.Common.{◌≡◌, ◌≢◌, ℕ, Bool, true, false, not, ◌||◌, cond, List, [], ◌∷◌, map, Some, None, refl, sym}
-use Rattle.std.proofs.Common.{unwrap_or}
+use Rattle.std.proofs.Common.{◌≡◌, ◌≢◌, ℕ, Bool, true, false, not, ◌||◌, cond, List, [], ◌∷◌}
+use Rattle.std.proofs.Common.{map, Some, None, refl, sym, unwrap_or}
 use Rattle.std.specs.List.{All, filter}
 use Rattle.std.specs.List.Sorted.{IsPermutation}
 use Rattle.std.specs.Option.{option_or}
@@ -67,6 +67,7 @@ left_edited id spec p ps is h =
     } ∷ left_others id spec ps h i
 
 -- lists in other orders are left alike
-pub left_alike : (es : List Event) (ps qs : List Placed) → IsPermutation ps qs → IsPermutation (left_by es ps) (left_by es qs)
+pub left_alike : (es : List Event) (ps qs : List Placed) → IsPermutation ps qs
+    → IsPermutation (left_by es ps) (left_by es qs)
 left_alike es ps qs h =
     IsPermutation-map (edited es) _ _ (IsPermutation-filter (λ (p : Placed). not (is_removed es p.mapping.id)) ps qs h)

@@ -1,8 +1,8 @@
 -- What the store's contracts say of a past with the same defaults, live mappings and states of scenarios.
 use Rattle.std.proofs.Common.{◌≡◌, ◌+◌, ℕ, List, [], ◌∷◌, sym, ap, subst}
 use Rattle.std.specs.List.Sorted.{IsPermutation}
-use Rattle.std.proofs.lemmas.List.Sorted.{IsPermutation-refl, IsPermutation-sym, IsPermutation-trans, IsPermutation-append}
-use Rattle.std.proofs.lemmas.List.Sorted.{Contains-permutation}
+use Rattle.std.proofs.lemmas.List.Sorted.{IsPermutation-refl, IsPermutation-sym, IsPermutation-trans}
+use Rattle.std.proofs.lemmas.List.Sorted.{IsPermutation-append, Contains-permutation}
 use Rattle.mock_request.specs.Request.{Request}
 use Rattle.request_journal.specs.Choice.{IsMissed, IsChosen}
 use Rattle.request_journal.specs.Live.{live, adds}
@@ -25,7 +25,8 @@ live_follows past e old new defaults same follows =
     subst (λ l. IsPermutation l new.live) (sym (live_after past e))
     (IsPermutation-trans _ _ _
     (IsPermutation-append _ _ _ _ (left_alike (e ∷ []) (live past) old.live same)
-    (subst (λ l. IsPermutation l (adds old.defaults number e)) added (IsPermutation-refl (adds old.defaults number e))))
+    (subst (λ l. IsPermutation l (adds old.defaults number e)) added
+    (IsPermutation-refl (adds old.defaults number e))))
     follows.live)
 
 -- a listing
@@ -41,7 +42,8 @@ listed_in_past past placed listed same h = record {
 -- ---- the choice
 
 -- lists in another order give the same choice
-module _ (state_of : List ℕ → List ℕ) (one other : List Placed) (request : Request) (same : IsPermutation one other) where
+module _ (state_of : List ℕ → List ℕ) (one other : List Placed) (request : Request)
+    (same : IsPermutation one other) where
   back : IsPermutation other one
   back = IsPermutation-sym one other same
 
@@ -59,7 +61,8 @@ module _ (state_of : List ℕ → List ℕ) (one other : List Placed) (request :
 
 -- a past with the same live mappings and states
 module _ (past : Past) (states : States) (placed : List Placed) (request : Request)
-    (same_live : IsPermutation (live past) placed) (same_states : (name : List ℕ) → state_of states name ≡ state past name)
+    (same_live : IsPermutation (live past) placed)
+    (same_states : (name : List ℕ) → state_of states name ≡ state past name)
   where
     in_past : IsPermutation placed (live past)
     in_past = IsPermutation-sym (live past) placed same_live

@@ -1,7 +1,7 @@
 -- What the store's calls do to its entries, as contracts see it.
-use Rattle.std.proofs.Common.{◌≡◌, ◌≢◌, ℕ, zero, suc, ◌+◌, ◌<◌, not, List, [], ◌∷◌, ◌++◌, length, map, get_or, Any}
-use Rattle.std.proofs.Common.{true, refl, sym, ap, subst, ◌∙◌, arith, append-nil, Contains}
-use Rattle.std.proofs.Common.{◌↔◌, Option, Some, None, is_some, IsTrue, MatchOption}
+use Rattle.std.proofs.Common.{◌≡◌, ◌≢◌, ℕ, zero, suc, ◌+◌, ◌<◌, not, List, [], ◌∷◌}
+use Rattle.std.proofs.Common.{◌++◌, length, map, get_or, Any, true, refl, sym, ap, subst, ◌∙◌, arith}
+use Rattle.std.proofs.Common.{append-nil, Contains, ◌↔◌, Option, Some, None, is_some, IsTrue, MatchOption}
 use Rattle.std.specs.List.{All, AllPairs, IsDistinct, filter}
 use Rattle.std.proofs.lemmas.Bool.{false≢true}
 use Rattle.std.proofs.lemmas.List.Kept.{AllPairs-filter}
@@ -18,7 +18,8 @@ use Rattle.request_journal.specs.declared.mapping.Mapping.{Mapping}
 use Rattle.live_mappings.specs.declared.entry.Entry.{Entry}
 use Rattle.live_mappings.specs.Kept.{Adds, AreKept, Fits, IsBefore, placed_of, without}
 use Rattle.live_mappings.proofs.EventLemmas.{others, at, replaced, fit_replaced}
-use Rattle.live_mappings.proofs.IdLemmas.{distinct_replaced, distinct_without, filter-map, filter_none, ids_without, without_none}
+use Rattle.live_mappings.proofs.IdLemmas.{distinct_replaced, distinct_without, filter-map, filter_none, ids_without}
+use Rattle.live_mappings.proofs.IdLemmas.{without_none}
 use Rattle.mapping_store.proofs.EventLemmas.{left_plain, left_others, left_edited, left_alike}
 
 -- ---- entries and live mappings
@@ -40,11 +41,12 @@ any_at P xs i e l read p = (
 )
 
 -- the id at an index is that of a live mapping
-pub any_with_id : (id : List ℕ) (xs : List Entry) (i : ℕ) → i < length xs → ((d : Entry) → (get_or xs i d).id ≡ id)
-    → Any (λ p. p.mapping.id ≡ id) (map placed_of xs)
+pub any_with_id : (id : List ℕ) (xs : List Entry) (i : ℕ) → i < length xs
+    → ((d : Entry) → (get_or xs i d).id ≡ id) → Any (λ p. p.mapping.id ≡ id) (map placed_of xs)
 any_with_id id xs i l is =
     let found = element xs i l in
-    any_at (λ (p : Placed). p.mapping.id ≡ id) xs i found.0 l found.1 (ap (λ (e : Entry). e.id) found.1 ∙ is found.0)
+    any_at (λ (p : Placed). p.mapping.id ≡ id) xs i found.0 l found.1
+    (ap (λ (e : Entry). e.id) found.1 ∙ is found.0)
 
 pub any_taken : (id : List ℕ) (e : Entry) (old rest : List Entry) → e.id ≡ id → IsPermutation old (e ∷ rest)
     → Any (λ p. p.mapping.id ≡ id) (map placed_of old)
@@ -54,7 +56,8 @@ any_taken id e old rest is perm =
     any_at (λ (p : Placed). p.mapping.id ≡ id) old in_old.0 e in_old.1 (sym in_old.2) is
 
 -- the entry of a live mapping
-pub entry_of : (xs : List Entry) (k : ℕ) (p : Placed) → k < length (map placed_of xs) → get_or (map placed_of xs) k p ≡ p
+pub entry_of : (xs : List Entry) (k : ℕ) (p : Placed) → k < length (map placed_of xs)
+    → get_or (map placed_of xs) k p ≡ p
     → (e : Entry) × (k < length xs) × (e ≡ get_or xs k e) × (placed_of e ≡ p)
 entry_of xs k p l read =
     let within : k < length xs = subst (λ n. k < n) (length-map xs placed_of) l in
@@ -85,7 +88,8 @@ after_add number m e old new is put =
     subst (λ l. IsPermutation (l ++ at number 0 m ∷ []) (map placed_of new))
     (sym (left_plain (event.Add m) (λ p. refl) live))
     (IsPermutation-trans _ _ _ (IsPermutation-to_front (others m.id live) (at number 0 m))
-    (subst (λ (p : Placed). IsPermutation (p ∷ others p.mapping.id live) (map placed_of new)) is (replaced e old new put)))
+    (subst (λ (p : Placed). IsPermutation (p ∷ others p.mapping.id live) (map placed_of new)) is
+    (replaced e old new put)))
 
 pub after_add_all : (number skipped : ℕ) (ms : List Mapping) (old new : List Placed) → Adds number old ms new
     → IsPermutation (left_by (event.StopRecording ms skipped ∷ []) old ++ placed_from number 0 ms) new
@@ -108,7 +112,8 @@ nothing_left old = filter_none (λ (p : Placed). not true) old (λ p. refl)
 pub after_clear : (old : List Placed) → IsPermutation (left_by (event.DeleteAll ∷ []) old ++ []) []
 after_clear old =
     same_members _ _
-    (append-nil (left_by (event.DeleteAll ∷ []) old) ∙ left_plain event.DeleteAll (λ p. refl) old ∙ nothing_left old)
+    (append-nil (left_by (event.DeleteAll ∷ []) old) ∙ left_plain event.DeleteAll (λ p. refl) old
+    ∙ nothing_left old)
 
 pub after_reset : (number : ℕ) (defaults : List Mapping) (old new : List Placed)
     → IsPermutation (placed_from number 0 defaults) new
@@ -118,7 +123,8 @@ after_reset number defaults old new added =
     (sym (left_plain event.ResetMappings (λ p. refl) old ∙ nothing_left old)) added
 
 -- ids that differ among entries differ among live mappings
-other_ids : (id : List ℕ) (xs : List Entry) → All (λ e. e.id ≢ id) xs → All (λ p. p.mapping.id ≢ id) (map placed_of xs)
+other_ids : (id : List ℕ) (xs : List Entry) → All (λ e. e.id ≢ id) xs
+    → All (λ p. p.mapping.id ≢ id) (map placed_of xs)
 other_ids id xs all = All-map (λ (p : Placed). p.mapping.id ≢ id) placed_of xs all
 
 pub after_edit : (m : Mapping) (was e : Entry) (old rest new : List Entry) → was.id ≡ m.id
@@ -155,7 +161,8 @@ found_taken id old rest None all = (λ t. absurd (false≢true t), λ any. absur
 found_taken id old rest (Some e) h = (λ t. any_taken id e old rest h.0 h.1, λ any. refl)
 
 pub found_index : (id : List ℕ) (xs : List Entry) (r : Option ℕ)
-    → MatchOption r (All (λ e. e.id ≢ id) xs) (λ i. (i < length xs) × ((d : Entry) → (get_or xs i d).id ≡ id))
+    → MatchOption r (All (λ e. e.id ≢ id) xs)
+    (λ i. (i < length xs) × ((d : Entry) → (get_or xs i d).id ≡ id))
     → IsTrue (is_some r) ↔ Any (λ p. p.mapping.id ≡ id) (map placed_of xs)
 found_index id xs None all = (λ t. absurd (false≢true t), λ any. absurd (none_with_id id xs all any))
 found_index id xs (Some i) h = (λ t. any_with_id id xs i h.0 h.1, λ any. refl)
@@ -180,7 +187,8 @@ kept_nothing defaults xs is = subst (AreKept defaults) (sym is) (record {
 
 -- an entry in place of the one with its id
 pub kept_replaced : (defaults : List Mapping) (e : Entry) (old new : List Entry) → AreKept defaults old
-    → Fits defaults e → IsPermutation (e ∷ without e.id old) new → AllPairs IsBefore new → AreKept defaults new
+    → Fits defaults e → IsPermutation (e ∷ without e.id old) new → AllPairs IsBefore new
+    → AreKept defaults new
 kept_replaced defaults e old new kept fits put in_order = record {
   fit = fit_replaced defaults e old new put fits kept.fit;
   ids = distinct_replaced e old new put kept.ids;
@@ -188,15 +196,18 @@ kept_replaced defaults e old new kept fits put in_order = record {
 }
 
 -- the same where that one was taken out first
-pub kept_put : (defaults : List Mapping) (id : List ℕ) (e : Entry) (old rest new : List Entry) → AreKept defaults old
-    → rest ≡ without id old → id ≡ e.id → Fits defaults e → IsPermutation (e ∷ rest) new → AllPairs IsBefore new
-    → AreKept defaults new
+pub kept_put : (defaults : List Mapping) (id : List ℕ) (e : Entry) (old rest new : List Entry)
+    → AreKept defaults old
+    → rest ≡ without id old → id ≡ e.id → Fits defaults e → IsPermutation (e ∷ rest) new
+    → AllPairs IsBefore new → AreKept defaults new
 kept_put defaults id e old rest new kept left same fits put in_order =
     kept_replaced defaults e old new kept fits
-    (subst (λ i. IsPermutation (e ∷ without i old) new) same (subst (λ l. IsPermutation (e ∷ l) new) left put)) in_order
+    (subst (λ i. IsPermutation (e ∷ without i old) new) same
+    (subst (λ l. IsPermutation (e ∷ l) new) left put)) in_order
 
 -- no live mapping has a property that no entry's has
-pub none_among : (P : Placed → Type 0) (xs : List Entry) → All (λ e. ¬ (P (placed_of e))) xs → Any P (map placed_of xs) → ⊥
+pub none_among : (P : Placed → Type 0) (xs : List Entry) → All (λ e. ¬ (P (placed_of e))) xs
+    → Any P (map placed_of xs) → ⊥
 none_among P xs all any =
     let found = entry_of xs any.0 any.1 any.2 any.3 in
     all any.0 found.0 found.1 (subst (λ e. P (placed_of e)) found.2 (subst P (sym found.3) any.4))

@@ -38,7 +38,8 @@ pub(crate) fn first_eligible(
         (All (λ e. ¬ (IsEligible (state_of scenarios.now) request.old (placed_of e).mapping)) entries.old)
         (λ at. (at < length entries.old)
         × HoldsAt (λ e. IsEligible (state_of scenarios.now) request.old (placed_of e).mapping) entries.old at
-        × AllWithin (λ e. ¬ (IsEligible (state_of scenarios.now) request.old (placed_of e).mapping)) entries.old 0 at)) }
+        × AllWithin (λ e. ¬ (IsEligible (state_of scenarios.now) request.old (placed_of e).mapping))
+        entries.old 0 at)) }
     ensures same_entries { entries.new ≡ entries.old }
     ensures same_defaults { defaults.new ≡ defaults.old }
     ensures same_request { request.new ≡ request.old }

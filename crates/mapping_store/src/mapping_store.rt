@@ -1,5 +1,7 @@
 // The live mappings of a book.
-ghost use Rattle.std.specs.Prelude.{◌≡◌, ◌↔◌, ◌<◌, ◌≤◌, ◌+◌, ◌∷◌, [], ◌++◌, ℕ, Any, IfOk, IfSome, IsSome, IsTrue, IsPermutation, MatchOption, OnErr, OnOk, length, vec_len};
+ghost use Rattle.std.specs.Prelude.{◌≡◌, ◌↔◌, ◌<◌, ◌≤◌, ◌+◌, ◌∷◌, [], ◌++◌, ℕ};
+ghost use Rattle.std.specs.Prelude.{Any, IfOk, IfSome, IsSome, IsTrue, IsPermutation, MatchOption, OnErr, OnOk, length};
+ghost use Rattle.std.specs.Prelude.{vec_len};
 ghost use Rattle.request_journal.specs.Choice.{IsChosen, IsMissed};
 ghost use Rattle.request_journal.specs.Live.{left_by};
 ghost use Rattle.request_journal.specs.Past.{defaults_from, placed_from};
@@ -146,7 +148,8 @@ impl MappingStore {
     /// The live mapping with this id, as it was written.
     pub fn get(&self, id: MappingId) -> Option<&SharedSpec>
         ensures live { IsSome result ↔ Any (λ p. p.mapping.id ≡ id) self.now.live }
-        ensures found { IfSome result (λ spec. Any (λ p. (p.mapping.id ≡ id) × (p.mapping.spec ≡ spec.now)) self.now.live) }
+        ensures found { IfSome result
+            (λ spec. Any (λ p. (p.mapping.id ≡ id) × (p.mapping.spec ≡ spec.now)) self.now.live) }
     {
         let at = index_of(self.live.as_slice(), id)?;
         Some(spec_of(&self.live[at], self.defaults.as_slice()))

@@ -3,4 +3,5 @@ use Rattle.std.specs.Prelude.{◌≡◌, ℕ, List, ◌∷◌, codes}
 
 -- `PROGRAM serve ..`
 abbrev pub AskToServe : List (List ℕ) → Type 0
-AskToServe arguments = (program : List ℕ) × (rest : List (List ℕ)) × (arguments ≡ program ∷ codes "serve" ∷ rest)
+AskToServe arguments =
+    (program : List ℕ) × (rest : List (List ℕ)) × (arguments ≡ program ∷ codes "serve" ∷ rest)

@@ -8,8 +8,8 @@ use std::io::Write;
 use stub_book::book::Book;
 use template_tree::escape::Escape;
 
-/// A book with the mappings of the file, whose templates' prints are escaped so, or with none. What is wrong is told on `err`: first the file, then its mappings,
-/// then that they are too many.
+/// A book with the mappings of the file, whose templates' prints are escaped so, or with none. What is wrong is told on
+/// `err`: first the file, then its mappings, then that they are too many.
 pub(crate) fn book_of<F: FileReader, E: Write>(
     alloc: Global,
     files: &F,

@@ -1,5 +1,6 @@
 -- A command leaves one of both writers as it was.
-use Rattle.std.proofs.Common.{◌≡◌, ◌⊎◌, ℕ, List, Option, inl, inr, arith, Bool, true, false, if◌then◌else◌}
+use Rattle.std.proofs.Common.{◌≡◌, ◌⊎◌, ℕ, List, Option, inl, inr, arith, Bool, true, false}
+use Rattle.std.proofs.Common.{if◌then◌else◌}
 use Rattle.mapping_answer.specs.Answering.{Answers, AnswersFile}
 use Rattle.mapping_check.specs.Checking.{Checks, ChecksFile}
 use Rattle.mock_program.specs.CommandLine.{Asked, render, check, answer}
@@ -38,7 +39,8 @@ module _ {O E : Type 0} (out_holds : O → Option (List ℕ)) (err_holds : E →
   of_rendering template method target out out' err err' status (inr (inr (one, begun, same))) =
       of_output out out' err err' status (inr one) same
 
-  zero_or_one : (refused : Bool) (status : ℕ) → status ≡ (if refused then 1 else 0) → status ≡ 0 ⊎ status ≡ 1
+  zero_or_one : (refused : Bool) (status : ℕ) → status ≡ (if refused then 1 else 0)
+      → status ≡ 0 ⊎ status ≡ 1
   zero_or_one true status is = inr is
   zero_or_one false status is = inl is
 
@@ -70,7 +72,8 @@ module _ {O E : Type 0} (out_holds : O → Option (List ℕ)) (err_holds : E →
   of_answering escape bytes method target out out' err err' status (inr (inr (one, begun, same))) =
       of_output out out' err err' status (inr one) same
 
-  of_mappings : (escape : Escape) (known : Option (List ℕ)) (path method target : List ℕ) (out out' : O) (err err' : E) (status : ℕ)
+  of_mappings : (escape : Escape) (known : Option (List ℕ)) (path method target : List ℕ) (out out' : O)
+      (err err' : E) (status : ℕ)
       → AnswersFile out_holds err_holds escape known path method target out out' err err' status
       → WritesOneStream out out' err err' status
   of_mappings escape known path method target out out' err err' status (inl (bytes, file, answered)) =
@@ -78,8 +81,8 @@ module _ {O E : Type 0} (out_holds : O → Option (List ℕ)) (err_holds : E →
   of_mappings escape known path method target out out' err err' status (inr (error, is, one, as_reported, same)) =
       of_error out out' err err' status one same
 
-  pub of_command : (files : List ℕ → Option (List ℕ)) (escape : Escape) (asked : Asked) (out out' : O) (err err' : E) (status : ℕ)
-      → Does out_holds err_holds files escape asked out out' err err' status
+  pub of_command : (files : List ℕ → Option (List ℕ)) (escape : Escape) (asked : Asked) (out out' : O)
+      (err err' : E) (status : ℕ) → Does out_holds err_holds files escape asked out out' err err' status
       → WritesOneStream out out' err err' status
   of_command files escape (render template method target) out out' err err' status done =
       of_rendering (with_escape escape template) method target out out' err err' status done

@@ -1,6 +1,7 @@
 -- What the parser makes of arguments that ask for no command.
-use Rattle.std.proofs.Common.{◌≡◌, ◌≢◌, ◌⊎◌, ◌==◌, ℕ, Bool, true, false, List, [], ◌∷◌, length, codes, Option, Some}
-use Rattle.std.proofs.Common.{None, ◌||◌, if◌then◌else◌, refl, sym, ap, ap₂, ◌∙◌, inl, inr, is_some}
+use Rattle.std.proofs.Common.{◌≡◌, ◌≢◌, ◌⊎◌, ◌==◌, ℕ, Bool, true, false, List, [], ◌∷◌}
+use Rattle.std.proofs.Common.{length, codes, Option, Some, None, ◌||◌, if◌then◌else◌, refl, sym, ap, ap₂}
+use Rattle.std.proofs.Common.{◌∙◌, inl, inr, is_some}
 use Rattle.std.specs.Prelude.{◌&&◌, option_and_then, option_map}
 use Rattle.std.specs.Option.{option_map_or}
 use Rattle.std.specs.Str.{bytes_eq}
@@ -102,7 +103,8 @@ is_stray : (c : ℕ) (cs : List ℕ) → c == 45 ≡ false
     → first_fault (c ∷ cs) None ≡ kind.UnknownArgument ∷ kind.InvalidSubcommand ∷ []
 unfolding clap_on_literals
 is_stray c cs dash =
-    let dashes : bytes_eq (c ∷ cs) (45 ∷ 45 ∷ []) ≡ false = ap (λ (t : Bool). t && bytes_eq cs (45 ∷ [])) dash in
+    let dashes : bytes_eq (c ∷ cs) (45 ∷ 45 ∷ []) ≡ false =
+    ap (λ (t : Bool). t && bytes_eq cs (45 ∷ [])) dash in
     let long : long_of (c ∷ cs) ≡ None =
     ap (λ (t : Bool). option_and_then long_of_rest
     (option_and_then (strip_byte 45) (if t then Some cs else None))) dash in
@@ -111,8 +113,10 @@ is_stray c cs dash =
     ap₂ (flag_fault (c ∷ cs)) dashes long ∙ ap (bundle_fault_of (c ∷ cs)) short
 
 pub other_command : (c : ℕ) (cs : List ℕ) (rest : List Text) → bytes_eq (codes "render") (c ∷ cs) ≡ false
-    → bytes_eq (codes "check") (c ∷ cs) ≡ false → bytes_eq (codes "answer") (c ∷ cs) ≡ false → c == 45 ≡ false
-    → fault_of mock_app (codes "mock" ∷ (c ∷ cs) ∷ rest) ≡ kind.UnknownArgument ∷ kind.InvalidSubcommand ∷ []
+    → bytes_eq (codes "check") (c ∷ cs) ≡ false → bytes_eq (codes "answer") (c ∷ cs) ≡ false
+    → c == 45 ≡ false
+    → fault_of mock_app (codes "mock" ∷ (c ∷ cs) ∷ rest)
+    ≡ kind.UnknownArgument ∷ kind.InvalidSubcommand ∷ []
 unfolding clap_on_literals
 other_command c cs rest no_render no_check no_answer dash =
     ap (λ (k : Kinds). or_else
@@ -177,7 +181,8 @@ pub short_help_of_answer : (rest : List Text)
 unfolding clap_on_literals
 short_help_of_answer rest = of_answer (codes "-h" ∷ rest)
 
-pub nothing_to_render : fault_of mock_app (codes "mock" ∷ codes "render" ∷ []) ≡ kind.MissingRequiredArgument ∷ []
+pub nothing_to_render : fault_of mock_app (codes "mock" ∷ codes "render" ∷ [])
+    ≡ kind.MissingRequiredArgument ∷ []
 unfolding clap_on_literals
 nothing_to_render = refl
 
@@ -185,7 +190,8 @@ pub nothing_to_check : fault_of mock_app (codes "mock" ∷ codes "check" ∷ [])
 unfolding clap_on_literals
 nothing_to_check = refl
 
-pub nothing_to_answer : fault_of mock_app (codes "mock" ∷ codes "answer" ∷ []) ≡ kind.MissingRequiredArgument ∷ []
+pub nothing_to_answer : fault_of mock_app (codes "mock" ∷ codes "answer" ∷ [])
+    ≡ kind.MissingRequiredArgument ∷ []
 unfolding clap_on_literals
 nothing_to_answer = refl
 

@@ -28,7 +28,8 @@ pub mock_is_simple : (a : App) → a ≡ mock_app → is_simple a ≡ true
 mock_is_simple a e = ap is_simple e ∙ refl
 
 -- the same of another form of the program's commands
-pub taken_by : (a : App) (arguments : List Text) → a ≡ mock_app → is_taken arguments ≡ true → takes a arguments ≡ true
+pub taken_by : (a : App) (arguments : List Text) → a ≡ mock_app → is_taken arguments ≡ true
+    → takes a arguments ≡ true
 unfolding is_taken
 taken_by a arguments e taken = ap (λ (m : App). takes m arguments) e ∙ taken
 

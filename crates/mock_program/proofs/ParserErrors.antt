@@ -1,6 +1,6 @@
 -- Arguments that call for help are answered by help alone, and invalid ones by mistakes alone.
-use Rattle.std.proofs.Common.{◌≡◌, ◌≢◌, ◌<◌, ◌==◌, ℕ, false, List, [], ◌∷◌, ◌++◌, length, codes, refl, sym, ap, ◌∙◌}
-use Rattle.std.proofs.Common.{inl, inr, subst, arith}
+use Rattle.std.proofs.Common.{◌≡◌, ◌≢◌, ◌<◌, ◌==◌, ℕ, false, List, [], ◌∷◌, ◌++◌}
+use Rattle.std.proofs.Common.{length, codes, refl, sym, ap, ◌∙◌, inl, inr, subst, arith}
 use Rattle.std.proofs.lemmas.Bool.Decides.{eqb_tells}
 use Rattle.std.specs.Str.{bytes_eq}
 use Rattle.clap.specs.Words.{IsAmong, Kinds, Text, fault_of}
@@ -15,8 +15,9 @@ use Rattle.mock_program.proofs.CommandArguments.{differs, parser_arguments-given
 use Rattle.mock_program.proofs.ParserAnswers.{IsMiscounted, answers_are, empty_command, help_of_answer, help_of_check}
 use Rattle.mock_program.proofs.ParserAnswers.{help_of_mock, help_of_render, miscounted_answer, miscounted_check}
 use Rattle.mock_program.proofs.ParserAnswers.{miscounted_render, no_command, nothing_to_answer, nothing_to_check}
-use Rattle.mock_program.proofs.ParserAnswers.{nothing_to_render, other_command, short_help_of_answer, short_help_of_check}
-use Rattle.mock_program.proofs.ParserAnswers.{short_help_of_mock, short_help_of_render, version_of_mock}
+use Rattle.mock_program.proofs.ParserAnswers.{nothing_to_render, other_command, short_help_of_answer}
+use Rattle.mock_program.proofs.ParserAnswers.{short_help_of_check, short_help_of_mock, short_help_of_render}
+use Rattle.mock_program.proofs.ParserAnswers.{version_of_mock}
 
 -- what the parser makes of the arguments that it is given for these
 abbrev fault : List Text → Kinds
@@ -36,9 +37,11 @@ FailsByMistake kinds = (kinds ≢ []) × ((k : ErrorKind) → IsAmong k kinds �
 help_of : (flag : Text) (rest : List Text) → IsHelpFlag flag
     → fault (codes "mock" ∷ flag ∷ rest) ≡ kind.DisplayHelp ∷ []
 help_of flag rest (inl short) =
-    ap (λ (f : Text). fault (codes "mock" ∷ f ∷ rest)) short ∙ short_help_of_mock (delimiter (unflagged rest) ++ unflagged rest)
+    ap (λ (f : Text). fault (codes "mock" ∷ f ∷ rest)) short
+    ∙ short_help_of_mock (delimiter (unflagged rest) ++ unflagged rest)
 help_of flag rest (inr long) =
-    ap (λ (f : Text). fault (codes "mock" ∷ f ∷ rest)) long ∙ help_of_mock (delimiter (unflagged rest) ++ unflagged rest)
+    ap (λ (f : Text). fault (codes "mock" ∷ f ∷ rest)) long
+    ∙ help_of_mock (delimiter (unflagged rest) ++ unflagged rest)
 
 -- help of a command, where its two flags give it
 command_help_of : (name flag : Text) (rest : List Text) → IsHelpFlag flag
@@ -64,7 +67,8 @@ help_at name flag count rest (inr (inr answer)) help =
 
 -- a call for help after the flag for escapes
 unflagged_help : (program name flag : Text) (rest : List Text) → IsHelpFlag flag
-    → fault (program ∷ name ∷ codes "--html-escape" ∷ flag ∷ rest) ≡ fault (codes "mock" ∷ name ∷ flag ∷ rest)
+    → fault (program ∷ name ∷ codes "--html-escape" ∷ flag ∷ rest)
+    ≡ fault (codes "mock" ∷ name ∷ flag ∷ rest)
 unflagged_help program name flag rest (inl short) =
     ap (λ (f : Text). fault (program ∷ name ∷ codes "--html-escape" ∷ f ∷ rest)) short
     ∙ sym (ap (λ (f : Text). fault (codes "mock" ∷ name ∷ f ∷ rest)) short)
@@ -104,7 +108,8 @@ missing_command : FailsByMistake (kind.DisplayHelpOnMissingArgumentOrSubcommand 
 missing_command = (
   λ e. cc,
   λ k among. elim among [
-    | inl same ↦ no_help k kind.DisplayHelpOnMissingArgumentOrSubcommand same (λ h. elim h [ inl e ↦ cc | inr e ↦ cc ])
+    | inl same ↦ no_help k kind.DisplayHelpOnMissingArgumentOrSubcommand same
+        (λ h. elim h [ inl e ↦ cc | inr e ↦ cc ])
     | inr none ↦ absurd none
   ],
 )
@@ -191,7 +196,8 @@ command_fails arguments name escape (argument ∷ given) gives miscounted nothin
     (by_count _ miscounted)
 
 miscounted_at : (arguments : List Text) (name : Text) (count : ℕ) (escape : Escape) (given : List Text)
-    → IsCommand name count → Gives arguments name escape given → length given ≢ count → FailsByMistake (fault arguments)
+    → IsCommand name count → Gives arguments name escape given → length given ≢ count
+    → FailsByMistake (fault arguments)
 miscounted_at arguments name count escape given (inl (render, three)) gives wrong =
     command_fails arguments (codes "render") escape given (subst (λ n. Gives arguments n escape given) render gives)
     (miscounted_render given (λ e. wrong (e ∙ sym three))) nothing_to_render

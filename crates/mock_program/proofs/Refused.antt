@@ -8,10 +8,12 @@ use Rattle.command_output.specs.Output.{AppendsFront}
 use Rattle.command_output.specs.declared.files.FileError.TheVariants as file
 
 pub without_memory : {O E : Type 0} (out_holds : O → Option (List ℕ)) (err_holds : E → Option (List ℕ))
-    (files : List ℕ → Option (List ℕ)) (escape : Escape) (asked : Asked) (out out' : O) (err err' : E) (status : ℕ) → status ≡ 1
+    (files : List ℕ → Option (List ℕ)) (escape : Escape) (asked : Asked) (out out' : O) (err err' : E)
+    (status : ℕ) → status ≡ 1
     → AppendsFront (err_holds err) (err_holds err') (error_line out_of_memory) → out' ≡ out
     → Does out_holds err_holds files escape asked out out' err err' status
-without_memory out_holds err_holds files escape (render template method target) out out' err err' status one shown same =
+without_memory out_holds err_holds files escape (render template method target) out out' err err'
+    status one shown same =
     inr (inl (one, (out_of_memory, inr (inr refl), shown), same))
 without_memory out_holds err_holds files escape (check path) out out' err err' status one shown same =
     inr (file.OutOfMemory, tt, one, shown, same)

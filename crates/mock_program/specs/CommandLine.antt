@@ -1,6 +1,7 @@
--- Which arguments of the command line ask for which command, which call for help and which are invalid. The first of them
--- is the program's name.
-use Rattle.std.specs.Prelude.{◌≡◌, ◌≢◌, ◌⊎◌, ◌<◌, ⊤, ℕ, List, [], ◌∷◌, ◌++◌, length, codes}
+-- Which arguments of the command line ask for which command, which call for help and which are invalid. The first of
+-- them is the program's name.
+use Rattle.std.specs.Prelude.{◌≡◌, ◌≢◌, ◌⊎◌, ◌<◌, ⊤, ℕ, List, [], ◌∷◌, ◌++◌, length}
+use Rattle.std.specs.Prelude.{codes}
 use Rattle.template_tree.specs.declared.escape.Escape.{Escape}
 use Rattle.template_tree.specs.declared.escape.Escape.TheVariants.{Off, Html}
 
@@ -29,11 +30,12 @@ IsCommand name count =
     ((name ≡ codes "render") × (count ≡ 3)) ⊎ ((name ≡ codes "check") × (count ≡ 1))
     ⊎ ((name ≡ codes "answer") × (count ≡ 3))
 
--- an argument that is taken as it is where a command's first one is expected: no call for help, not the flag for escapes,
--- and not the end of the flags
+-- an argument that is taken as it is where a command's first one is expected: no call for help, not the flag for
+-- escapes, and not the end of the flags
 abbrev pub IsPlainArgument : List ℕ → Type 0
 IsPlainArgument argument =
-    (argument ≢ codes "-h") × (argument ≢ codes "--help") × (argument ≢ codes "--") × (argument ≢ codes "--html-escape")
+    (argument ≢ codes "-h") × (argument ≢ codes "--help") × (argument ≢ codes "--")
+    × (argument ≢ codes "--html-escape")
 
 -- there is no first argument, or it is plain
 abbrev pub BeginsPlain : List (List ℕ) → Type 0
@@ -71,7 +73,8 @@ BeginsWithDash argument = (rest : List ℕ) × (argument ≡ codes "-" ++ rest)
 -- the argument after the program's name is neither a command nor a flag
 abbrev pub NamesNoCommand : List (List ℕ) → Type 0
 NamesNoCommand arguments = (program name : List ℕ) × (rest : List (List ℕ))
-    × (arguments ≡ program ∷ name ∷ rest) × ((count : ℕ) → ¬ (IsCommand name count)) × (¬ (BeginsWithDash name))
+    × (arguments ≡ program ∷ name ∷ rest) × ((count : ℕ) → ¬ (IsCommand name count))
+    × (¬ (BeginsWithDash name))
 
 -- a command with too few or too many arguments
 abbrev pub HasWrongCount : List (List ℕ) → Type 0

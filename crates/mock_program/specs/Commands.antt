@@ -8,8 +8,8 @@ use Rattle.template_tree.specs.Source.{with_escape}
 use Rattle.template_tree.specs.declared.escape.Escape.{Escape}
 
 -- what the command does, where the prints of templates are escaped so and the files are known by their paths, or aren't
-abbrev pub Does : {O E : Type 0} → (O → Option (List ℕ)) → (E → Option (List ℕ)) → (List ℕ → Option (List ℕ)) → Escape
-    → Asked → O → O → E → E → ℕ → Type 0
+abbrev pub Does : {O E : Type 0} → (O → Option (List ℕ)) → (E → Option (List ℕ))
+    → (List ℕ → Option (List ℕ)) → Escape → Asked → O → O → E → E → ℕ → Type 0
 Does out_holds err_holds files escape (render template method target) =
     Renders out_holds err_holds (with_escape escape template) method target
 Does out_holds err_holds files escape (check path) = ChecksFile out_holds err_holds escape (files path) path

@@ -104,8 +104,8 @@ ReportsError template method target old new =
 -- How a rendering ends, by what standard output and standard error hold before and after it, and the exit status: the
 -- report is on standard output (0), an error is on standard error (1), or standard output took a part of the report
 -- (1). Each time the other of both is as it was.
-abbrev pub Renders : {O E : Type 0} → (O → Option (List ℕ)) → (E → Option (List ℕ)) → Source → List ℕ → List ℕ
-    → O → O → E → E → ℕ → Type 0
+abbrev pub Renders : {O E : Type 0} → (O → Option (List ℕ)) → (E → Option (List ℕ)) → Source
+    → List ℕ → List ℕ → O → O → E → E → ℕ → Type 0
 Renders out_holds err_holds template method target out out' err err' status =
     ((status ≡ 0) × ShowsReport template method target (out_holds out) (out_holds out') × (err' ≡ err))
     ⊎ ((status ≡ 1) × ReportsError template method target (err_holds err) (err_holds err') × (out' ≡ out))

@@ -20,8 +20,8 @@ use template_machine::program::{Program, render};
 use template_tree::escape::Escape;
 
 /// What `mock render` prints for a request of that method and target, without headers and body: the steps and the
-/// bytes of the run, each with its budget, then the rendered text, in which values are escaped so. The template is judged
-/// first, then the target, then the size of the request's data.
+/// bytes of the run, each with its budget, then the rendered text, in which values are escaped so. The template is
+/// judged first, then the target, then the size of the request's data.
 pub fn render_request(
     alloc: Global,
     template: &str,

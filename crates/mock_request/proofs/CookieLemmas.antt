@@ -1,7 +1,7 @@
 -- How the code's trimming and its cuts meet the definition of cookies.
-use Rattle.std.proofs.Common.{eqb, ◌≡◌, ◌≢◌, ℕ, ◌-◌, true, false, List, [], ◌∷◌, ◌++◌, ◌⊎◌, None, Some}
-use Rattle.std.proofs.Common.{Bor, map, reverse, String, string_bytes, length, take, drop, sym, refl, ap, ◌∙◌}
-use Rattle.std.proofs.Common.{inl, inr, append_assoc, append-nil, arith}
+use Rattle.std.proofs.Common.{eqb, ◌≡◌, ◌≢◌, ℕ, ◌-◌, true, false, List, [], ◌∷◌, ◌++◌}
+use Rattle.std.proofs.Common.{◌⊎◌, None, Some, Bor, map, reverse, String, string_bytes, length, take, drop, sym}
+use Rattle.std.proofs.Common.{refl, ap, ◌∙◌, inl, inr, append_assoc, append-nil, arith}
 use Rattle.std.proofs.Math.Utf8.{encode}
 use Rattle.std.specs.declared.alloc.Global.{Global}
 use Rattle.std.specs.List.{filter_map, cons_option}
@@ -41,7 +41,8 @@ unfolding encode
 front_trimmed r (None, none, end) = stays r none
 front_trimmed r (Some n, at, end) = absurd (omega (arith, at.ends, end))
 
-pub spaces_cut_at_start : (s r : List ℕ) → IsTrimStartMatches (FindsCharPrefix space) s r → without_leading_spaces s ≡ r
+pub spaces_cut_at_start : (s r : List ℕ) → IsTrimStartMatches (FindsCharPrefix space) s r
+    → without_leading_spaces s ≡ r
 spaces_cut_at_start s r (cut, end) = front_cut s r cut.0 cut.1 ∙ front_trimmed r end
 
 -- ---- spaces at the end
@@ -55,12 +56,14 @@ back_cut s r (n ∷ ns) (m, before, at, left) =
     drop_at_char space m (length m - n) (length m) at.1 (omega arith) in
     let none : drop (length m) m ≡ [] = drop_all (length m) m (omega arith) in
     let whole : m ≡ r ++ space ∷ [] =
-    sym (take-append-drop (length m - n) m) ∙ ap (λ bs. take (length m - n) m ++ bs) (last ∙ ap (λ bs. space ∷ bs) none)
+    sym (take-append-drop (length m - n) m)
+    ∙ ap (λ bs. take (length m - n) m ++ bs) (last ∙ ap (λ bs. space ∷ bs) none)
     ∙ ap (λ bs. bs ++ space ∷ []) (sym left) in
     let turned : reverse m ≡ space ∷ reverse r = ap reverse whole ∙ reverse-append r (space ∷ []) in
     back_cut s m ns before ∙ ap without_leading_spaces turned
 
-back_trimmed : (r : List ℕ) → IsFullyTrimmed (FindsCharSuffix space) r → without_leading_spaces (reverse r) ≡ reverse r
+back_trimmed : (r : List ℕ) → IsFullyTrimmed (FindsCharSuffix space) r
+    → without_leading_spaces (reverse r) ≡ reverse r
 unfolding encode
 back_trimmed r (None, none, end) =
     stays (reverse r)
@@ -68,12 +71,13 @@ back_trimmed r (None, none, end) =
 back_trimmed r (Some n, at, end) = absurd (omega (arith, at.0, end))
 
 pub spaces_cut_at_end
-    : (s r : List ℕ) → IsTrimEndMatches (FindsCharSuffix space) s r → reverse (without_leading_spaces (reverse s)) ≡ r
+    : (s r : List ℕ) → IsTrimEndMatches (FindsCharSuffix space) s r
+    → reverse (without_leading_spaces (reverse s)) ≡ r
 spaces_cut_at_end s r (cut, end) = ap reverse (back_cut s r cut.0 cut.1 ∙ back_trimmed r end) ∙ reverse-reverse r
 
 pub spaces_cut
-    : (s m r : List ℕ) → IsTrimStartMatches (FindsCharPrefix space) s m → IsTrimEndMatches (FindsCharSuffix space) m r
-    → r ≡ without_spaces_around s
+    : (s m r : List ℕ) → IsTrimStartMatches (FindsCharPrefix space) s m
+    → IsTrimEndMatches (FindsCharSuffix space) m r → r ≡ without_spaces_around s
 spaces_cut s m r front back =
     sym (spaces_cut_at_end m r back)
     ∙ ap (λ bs. reverse (without_leading_spaces (reverse bs))) (sym (spaces_cut_at_start s m front))
@@ -96,12 +100,14 @@ cookies_of_more pieces piece =
 
 pub cookie_pushed
     : (old new : List (String Global × String Global)) (start : List (List ℕ × List ℕ))
-    (pieces : List (Bor (List ℕ))) (piece : Bor (List ℕ)) (pair : String Global × String Global) (name value : List ℕ)
+    (pieces : List (Bor (List ℕ))) (piece : Bor (List ℕ))
+    (pair : String Global × String Global) (name value : List ℕ)
     → pairs_of old ≡ start ++ cookies_of pieces → new ≡ old ++ pair ∷ [] → string_bytes pair.0 ≡ name
     → string_bytes pair.1 ≡ value → Some (name, value) ≡ cookie_in (without_spaces_around piece.now)
     → pairs_of new ≡ start ++ cookies_of (pieces ++ piece ∷ [])
 cookie_pushed old new start pieces piece pair name value so_far pushed named valued is =
-    let this : pair_of pair ≡ (name, value) = ap (λ n. (n, string_bytes pair.1)) named ∙ ap (λ v. (name, v)) valued in
+    let this : pair_of pair ≡ (name, value) =
+    ap (λ n. (n, string_bytes pair.1)) named ∙ ap (λ v. (name, v)) valued in
     ap pairs_of pushed
     ∙ map-append pair_of old (pair ∷ [])
     ∙ ap (λ p. pairs_of old ++ p ∷ []) this

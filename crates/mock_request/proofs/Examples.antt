@@ -54,9 +54,11 @@ cookie_cut = refl
 abbrev host_and_cookies : List Header
 host_and_cookies =
     record { name = codes "cookie"; value = codes "a=1" } ∷ record { name = codes "host"; value = codes "h:81" }
-    ∷ record { name = codes "cookie"; value = codes "b=2;a=3" } ∷ record { name = codes "host"; value = codes "i" } ∷ []
+    ∷ record { name = codes "cookie"; value = codes "b=2;a=3" }
+    ∷ record { name = codes "host"; value = codes "i" } ∷ []
 
 cookies_of_all_headers
-    : cookie_pairs host_and_cookies ≡ (codes "a", codes "1") ∷ (codes "b", codes "2") ∷ (codes "a", codes "3") ∷ []
+    : cookie_pairs host_and_cookies
+    ≡ (codes "a", codes "1") ∷ (codes "b", codes "2") ∷ (codes "a", codes "3") ∷ []
 unfolding utf8_lossy utf8_valid_len is_utf8 chars encode
 cookies_of_all_headers = refl

@@ -63,7 +63,8 @@ text_at headers i header all here =
 
 pub more_text
     : (headers : List Header) (i : ℕ) → i < length headers → All (λ h. IsUtf8 h.value) (take i headers)
-    → MatchOption (slice_get headers i) ⊥ (λ h. IsUtf8 h.value) → All (λ h. IsUtf8 h.value) (take (i + 1) headers)
+    → MatchOption (slice_get headers i) ⊥ (λ h. IsUtf8 h.value)
+    → All (λ h. IsUtf8 h.value) (take (i + 1) headers)
 more_text headers i within all here =
     let empty : Header = record { name = []; value = [] } in
     All-more (λ h. IsUtf8 h.value) headers i empty within all
@@ -71,7 +72,8 @@ more_text headers i within all here =
 
 -- the code asks whether the name is the literal, the definition whether the literal is the name
 pub other_way_round
-    : (literal name read : List ℕ) (b : Bool) → read ≡ name → b ≡ bytes_eq read literal → bytes_eq literal name ≡ b
+    : (literal name read : List ℕ) (b : Bool) → read ≡ name → b ≡ bytes_eq read literal
+    → bytes_eq literal name ≡ b
 other_way_round literal name read b same asked =
     nat_list_eq_equiv.symm literal name ∙ ap (λ n. bytes_eq n literal) (sym same) ∙ sym asked
 

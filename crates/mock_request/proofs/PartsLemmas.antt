@@ -1,6 +1,6 @@
 -- Where the names and the values of headers are in a block.
-use Rattle.std.proofs.Common.{◌≡◌, ℕ, zero, suc, ◌+◌, ◌*◌, ◌<◌, refl, sym, ap, subst, ◌∙◌, arith}
-use Rattle.std.proofs.Common.{List, [], ◌∷◌, ◌++◌, length, get_or, take, All}
+use Rattle.std.proofs.Common.{◌≡◌, ℕ, zero, suc, ◌+◌, ◌*◌, ◌<◌, refl, sym, ap, subst, ◌∙◌}
+use Rattle.std.proofs.Common.{arith, List, [], ◌∷◌, ◌++◌, length, get_or, take, All}
 use Rattle.std.specs.Prelude.{slice_get, Some, IsUtf8}
 use Rattle.std.proofs.lemmas.List.{map-append, take_more, append_assoc}
 use Rattle.http_header.specs.FieldValue.{FieldValue}
@@ -24,28 +24,32 @@ fields_of-append (header ∷ before) after =
     ap (λ fields. header.name ∷ header.value ∷ fields) (fields_of-append before after)
 
 -- one more header
-pub more_headers : (headers : List (List ℕ × FieldValue)) (i : ℕ) (field : List ℕ × FieldValue) → i < length headers
-    → field ≡ get_or headers i field
+pub more_headers : (headers : List (List ℕ × FieldValue)) (i : ℕ) (field : List ℕ × FieldValue)
+    → i < length headers → field ≡ get_or headers i field
     → headers_of (take (i + 1) headers) ≡ headers_of (take i headers) ++ header_of field ∷ []
 more_headers headers i field within is =
     ap headers_of (take_more headers i field within ∙ ap (λ h. take i headers ++ h ∷ []) (sym is))
     ∙ map-append header_of (take i headers) (field ∷ [])
 
-pub more_fields : (old parts named whole : List (List ℕ)) (before : List Header) (header : Header) (name value : List ℕ)
+pub more_fields : (old parts named whole : List (List ℕ)) (before : List Header)
+    (header : Header) (name value : List ℕ)
     → parts ≡ old ++ fields_of before → named ≡ parts ++ name ∷ [] → whole ≡ named ++ value ∷ []
     → name ≡ header.name → value ≡ header.value → whole ≡ old ++ fields_of (before ++ header ∷ [])
 more_fields old parts named whole before header name value p n w is_name is_value =
     rw (w, n, p, is_name, is_value, fields_of-append before (header ∷ [])) (simp append_assoc)
 
 -- one header fewer is left to append
-pub moved_fields : (total parts named whole : List (List ℕ)) (left rest : List Header) (header : Header) (name value : List ℕ)
-    → parts ++ fields_of left ≡ total → left ≡ header ∷ rest → named ≡ parts ++ name ∷ [] → whole ≡ named ++ value ∷ []
+pub moved_fields : (total parts named whole : List (List ℕ)) (left rest : List Header)
+    (header : Header) (name value : List ℕ)
+    → parts ++ fields_of left ≡ total → left ≡ header ∷ rest → named ≡ parts ++ name ∷ []
+    → whole ≡ named ++ value ∷ []
     → name ≡ header.name → value ≡ header.value → whole ++ fields_of rest ≡ total
 moved_fields total parts named whole left rest header name value p l n w is_name is_value =
     rw (w, n, is_name, is_value, sym p, l) (simp append_assoc)
 
 -- the byte strings of headers
-pub are_fields : (headers : List Header) → All (λ header. IsHeaderName header.name) headers → AreFields (fields_of headers)
+pub are_fields : (headers : List Header) → All (λ header. IsHeaderName header.name) headers
+    → AreFields (fields_of headers)
 are_fields headers names = record {
   whole = ap fields_of (sym (headers_in-fields headers));
   names = rw (headers_in-fields headers) names;
@@ -54,7 +58,8 @@ are_fields headers names = record {
 -- the two parts of the header at an index
 pub record At (headers : List Header) (index at : ℕ) (fields : List (List ℕ)) : Type 0 where
   pub within : suc at < length fields
-  pub found : slice_get headers index ≡ Some (record { name = get_or fields at []; value = get_or fields (suc at) [] })
+  pub found : slice_get headers index
+      ≡ Some (record { name = get_or fields at []; value = get_or fields (suc at) [] })
   pub name : IsHeaderName (get_or fields at [])
   pub text : IsUtf8 (get_or fields at [])
 

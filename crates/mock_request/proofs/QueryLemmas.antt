@@ -1,6 +1,6 @@
 -- What one more pair of a query adds.
-use Rattle.std.proofs.Common.{◌≡◌, ℕ, List, [], ◌∷◌, ◌++◌, map, String, string_bytes, append_assoc, append-nil, sym}
-use Rattle.std.proofs.Common.{refl, ap, ◌∙◌}
+use Rattle.std.proofs.Common.{◌≡◌, ℕ, List, [], ◌∷◌, ◌++◌, map, String, string_bytes, append_assoc}
+use Rattle.std.proofs.Common.{append-nil, sym, refl, ap, ◌∙◌}
 use Rattle.std.specs.declared.alloc.Global.{Global}
 use Rattle.std.specs.Str.Lossy.{utf8_lossy}
 use Rattle.std.proofs.lemmas.List.{map-append}
@@ -24,8 +24,8 @@ texts_of_form form = decoded (raw_pairs form)
 pub pair_more
     : (was : List (String Global × String Global)) (pair : String Global × String Global) (name value : List ℕ)
     (left rest whole : List (List ℕ × List ℕ))
-    → pairs_of was ++ texts_left left ≡ whole → left ≡ (name, value) ∷ rest → DecodesTo name (string_bytes pair.0)
-    → DecodesTo value (string_bytes pair.1)
+    → pairs_of was ++ texts_left left ≡ whole → left ≡ (name, value) ∷ rest
+    → DecodesTo name (string_bytes pair.0) → DecodesTo value (string_bytes pair.1)
     → pairs_of (was ++ pair ∷ []) ++ texts_left rest ≡ whole
 pair_more was pair name value left rest whole so_far next named valued =
     let this : pair_of pair ≡ text_pair (decode name, decode value) =

@@ -1,7 +1,7 @@
 -- What follows from the definition of targets, and how the code's cuts meet it.
-use Rattle.std.proofs.Common.{◌≡◌, ◌≢◌, ℕ, ◌≤◌, Bool, true, false, List, [], ◌∷◌, ◌++◌, ◌⊎◌, Option, None, Some}
-use Rattle.std.proofs.Common.{MatchOption, length, take, drop, get_or, codes, All, unwrap_or, sym, refl, ap, ◌∙◌}
-use Rattle.std.proofs.Common.{subst, inl, inr, arith}
+use Rattle.std.proofs.Common.{◌≡◌, ◌≢◌, ℕ, ◌≤◌, Bool, true, false, List, [], ◌∷◌, ◌++◌}
+use Rattle.std.proofs.Common.{◌⊎◌, Option, None, Some, MatchOption, length, take, drop, get_or, codes, All}
+use Rattle.std.proofs.Common.{unwrap_or, sym, refl, ap, ◌∙◌, subst, inl, inr, arith}
 use Rattle.std.proofs.lemmas.Bool.{false≢true}
 use Rattle.std.proofs.lemmas.Bool.Decides.{nat_tests, eqb_tells}
 use Rattle.std.proofs.lemmas.List.{take_all, drop_all, get_or_default, append_cancel_left}
@@ -20,8 +20,8 @@ use Rattle.mock_request.specs.Target.{HasUrl}
 -- ---- a target has one URL
 
 rest_same
-    : (a b r t : List ℕ) → AllByRecursion IsAuthorityByte a → AllByRecursion IsAuthorityByte b → MayFollowAuthority r
-    → MayFollowAuthority t → a ++ r ≡ b ++ t → r ≡ t
+    : (a b r t : List ℕ) → AllByRecursion IsAuthorityByte a → AllByRecursion IsAuthorityByte b
+    → MayFollowAuthority r → MayFollowAuthority t → a ++ r ≡ b ++ t → r ≡ t
 rest_same [] [] r t pa pb fr ft e = e
 rest_same [] (y ∷ b) [] t pa pb fr ft e = cc
 rest_same [] (y ∷ b) (z ∷ r) t pa pb (inl s) ft e = absurd (pb.0.0 (cc))
@@ -42,7 +42,8 @@ not_both target url other o a =
     let rooted : IsRooted (codes "http://" ++ (a.authority ++ a.rest)) = subst IsRooted a.spelled o.rooted in
     omega (arith, rooted)
 
-absolute_same : (target one other : List ℕ) → IsAbsoluteForm target one → IsAbsoluteForm target other → one ≡ other
+absolute_same : (target one other : List ℕ) → IsAbsoluteForm target one
+    → IsAbsoluteForm target other → one ≡ other
 absolute_same target one other p q =
     let joined : p.authority ++ p.rest ≡ q.authority ++ q.rest =
     append_cancel_left (codes "http://") _ _ (sym p.spelled ∙ q.spelled) in
@@ -73,14 +74,17 @@ authority_bytes s none k d here =
     let same = get_or_default s k d 0 here in (
       λ e. let at : get_or s k 0 ≡ slash = sym same ∙ e in
           absurd
-          (false≢true (sym (rw at at (NoCharPasses-byte (char_set_contains delimiters) s k none here (omega arith))))),
+          (false≢true (sym (rw at at
+          (NoCharPasses-byte (char_set_contains delimiters) s k none here (omega arith))))),
       λ e. let at : get_or s k 0 ≡ question_mark = sym same ∙ e in
           absurd
-          (false≢true (sym (rw at at (NoCharPasses-byte (char_set_contains delimiters) s k none here (omega arith))))),
+          (false≢true (sym (rw at at
+          (NoCharPasses-byte (char_set_contains delimiters) s k none here (omega arith))))),
     )
 
 -- a delimiter, and what follows it
-follows : (s rest : List ℕ) (c : ℕ) → (c ≡ slash) ⊎ (c ≡ question_mark) → s ≡ encode c ++ rest → MayFollowAuthority s
+follows : (s rest : List ℕ) (c : ℕ) → (c ≡ slash) ⊎ (c ≡ question_mark) → s ≡ encode c ++ rest
+    → MayFollowAuthority s
 unfolding encode
 follows s rest c (inl e) at = subst MayFollowAuthority (sym (at ∙ ap (λ b. encode b ++ rest) e)) (inl refl)
 follows s rest c (inr e) at = subst MayFollowAuthority (sym (at ∙ ap (λ b. encode b ++ rest) e)) (inr refl)
@@ -115,8 +119,8 @@ rooted_form [] = (slash ∷ [], inr ((λ h. h), refl))
 rooted_form (b ∷ bs) = first_form (b ∷ bs) (eqb_tells b slash)
   where
     first_form
-        : (bytes : List ℕ) → ((eqb b slash ≡ true) × (b ≡ slash)) ⊎ ((eqb b slash ≡ false) × (b ≢ slash))
-        → (url : List ℕ) × IsRootedForm (b ∷ bs) url
+        : (bytes : List ℕ) → ((eqb b slash ≡ true) × (b ≡ slash))
+        ⊎ ((eqb b slash ≡ false) × (b ≢ slash)) → (url : List ℕ) × IsRootedForm (b ∷ bs) url
     first_form bytes (inl e) = (b ∷ bs, inl (e.1, refl))
     first_form bytes (inr e) = (slash ∷ b ∷ bs, inr (e.1, refl))
 
@@ -136,8 +140,8 @@ has_no_authority target rest spelled ends (url, inr a) =
     (append_cancel_left (codes "http://") _ _ (sym a.spelled ∙ spelled))
   where
     nothing_before
-        : (authority rest text : List ℕ) → IsAuthority authority → MayFollowAuthority text → authority ++ rest ≡ text
-        → ⊥
+        : (authority rest text : List ℕ) → IsAuthority authority → MayFollowAuthority text
+        → authority ++ rest ≡ text → ⊥
     nothing_before [] rest text named follows e = named.0 refl
     nothing_before (x ∷ xs) rest [] named follows e = cc
     nothing_before (x ∷ xs) rest (y ∷ ys) named (inl s) e = (named.1 0 0 (omega arith)).0 (cc)

@@ -1,7 +1,7 @@
 -- What follows from the definition of a URL's parts.
-use Rattle.std.proofs.Common.{◌≡◌, ℕ, ◌+◌, ◌<◌, Bool, true, false, not, ◌||◌, cond, if◌then◌else◌, ◌++◌, List, []}
-use Rattle.std.proofs.Common.{◌∷◌, MatchOption, length, get_or, None, Some, All}
-use Rattle.std.proofs.Common.{eqb, sym, refl, ap, ◌∙◌, arith}
+use Rattle.std.proofs.Common.{◌≡◌, ℕ, ◌+◌, ◌<◌, Bool, true, false, not, ◌||◌, cond}
+use Rattle.std.proofs.Common.{if◌then◌else◌, ◌++◌, List, [], ◌∷◌, MatchOption, length, get_or, None}
+use Rattle.std.proofs.Common.{Some, All, eqb, sym, refl, ap, ◌∙◌, arith}
 use Rattle.std.proofs.lemmas.Bool.{eqb-true, false≢true}
 use Rattle.std.proofs.lemmas.Bool.Decides.{nat_tests}
 use Rattle.std.proofs.lemmas.List.{get_or_default, take_all}
@@ -18,7 +18,8 @@ use Rattle.mock_request.specs.Url.{is_slash, is_question_mark, path_of, query_of
 use Rattle.mock_request.specs.Target.{slash, question_mark, IsRooted}
 
 -- a text without a character has none of its bytes
-pub lacks_char : (c : ℕ) (bs : List ℕ) → NoCharPasses (λ d. eqb d c) bs → c < 128 → list_any (λ b. eqb b c) bs ≡ false
+pub lacks_char : (c : ℕ) (bs : List ℕ) → NoCharPasses (λ d. eqb d c) bs → c < 128
+    → list_any (λ b. eqb b c) bs ≡ false
 lacks_char c bs none ascii = list_any_none (λ b. eqb b c) bs all_other
   where
     all_other : All (λ b. eqb b c ≡ false) bs
@@ -36,7 +37,8 @@ query_of_none url none = rw (lacks_char question_mark url none (omega arith)) re
 any_below : (p : ℕ → Bool) (xs : List ℕ) → list_any p xs ≡ true → position_or_len p xs < length xs
 any_below p [] any = absurd (false≢true any)
 any_below p (x ∷ xs) any =
-    (elim (p x) as (λ b. (b || list_any p xs) ≡ true → cond (not b) (1 + position_or_len p xs) 0 < length (x ∷ xs)) [
+    (elim (p x) as (λ b. (b || list_any p xs) ≡ true
+    → cond (not b) (1 + position_or_len p xs) 0 < length (x ∷ xs)) [
       | true ↦ λ _. omega arith
       | false ↦ λ later. omega (arith, any_below p xs later)
     ]) any
@@ -44,7 +46,8 @@ any_below p (x ∷ xs) any =
 none_below : (p : ℕ → Bool) (xs : List ℕ) → list_any p xs ≡ false → position_or_len p xs ≡ length xs
 none_below p [] none = refl
 none_below p (x ∷ xs) none =
-    (elim (p x) as (λ b. (b || list_any p xs) ≡ false → cond (not b) (1 + position_or_len p xs) 0 ≡ length (x ∷ xs)) [
+    (elim (p x) as (λ b. (b || list_any p xs) ≡ false
+    → cond (not b) (1 + position_or_len p xs) 0 ≡ length (x ∷ xs)) [
       | true ↦ λ here. absurd (false≢true (sym here))
       | false ↦ λ later. omega (arith, none_below p xs later)
     ]) none
@@ -63,7 +66,8 @@ joined_parts url = by (list_any is_question_mark url) refl
         let below = any_below is_question_mark url any in
         let mark : get_or url (position_or_len is_question_mark url) 0 ≡ question_mark =
         eqb-true _ _ (passes_at_first is_question_mark url 0 below) in
-        split_at_first is_question_mark url 0 below ∙ ap (λ m. path_of url ++ m ∷ after_first is_question_mark url) mark
+        split_at_first is_question_mark url 0 below
+        ∙ ap (λ m. path_of url ++ m ∷ after_first is_question_mark url) mark
     by false none =
         sym (take_all (position_or_len is_question_mark url) url (omega (arith, none_below is_question_mark url none)))
 
@@ -72,7 +76,8 @@ pub joined_segments : (path : List ℕ) → IsRooted path → path ≡ slash ∷
 joined_segments [] rooted = absurd rooted
 joined_segments (b ∷ []) rooted = ap (λ d. d ∷ []) rooted
 joined_segments (b ∷ c ∷ cs) rooted =
-    ap (λ d. d ∷ c ∷ cs) rooted ∙ ap (λ rest. slash ∷ rest) (sym (join_with_byte-slice_split slash (c ∷ cs)))
+    ap (λ d. d ∷ c ∷ cs) rooted
+    ∙ ap (λ rest. slash ∷ rest) (sym (join_with_byte-slice_split slash (c ∷ cs)))
 
 -- ---- what the parts don't have
 
@@ -92,7 +97,8 @@ module _ (p : ℕ → Bool) where
   onto_first_lacks
       : (x : ℕ) (parts : List (List ℕ)) → p x ≡ false → All Lacks parts → All Lacks (onto_first x parts)
   onto_first_lacks x [] fails each =
-      All-cons Lacks (x ∷ []) [] (All-cons (λ y. p y ≡ false) x [] fails (All-nil (λ y. p y ≡ false))) (All-nil Lacks)
+      All-cons Lacks (x ∷ []) []
+      (All-cons (λ y. p y ≡ false) x [] fails (All-nil (λ y. p y ≡ false))) (All-nil Lacks)
   onto_first_lacks x (part ∷ parts) fails each =
       All-cons Lacks (x ∷ part) parts
       (All-cons (λ y. p y ≡ false) x part fails (All-head Lacks part parts each))

@@ -1,7 +1,7 @@
 -- The cookies that the `cookie` headers of a request bring (RFC 6265, section 4.2.1, read leniently: any piece with
 -- a name and an equals sign is a cookie).
-use Rattle.std.specs.Prelude.{ℕ, Bool, ◌&&◌, List, [], ◌∷◌, reverse, length, Option, None, Some, ◌==◌, nat_lt}
-use Rattle.std.specs.Prelude.{if◌then◌else◌, codes}
+use Rattle.std.specs.Prelude.{ℕ, Bool, ◌&&◌, List, [], ◌∷◌, reverse, length, Option, None, Some, ◌==◌}
+use Rattle.std.specs.Prelude.{nat_lt, if◌then◌else◌, codes}
 use Rattle.std.specs.List.{before_first, after_first, slice_split, list_any, filter_map, flat_map}
 use Rattle.mock_request.specs.Request.{Header}
 use Rattle.mock_request.specs.HeaderFields.{texts_of}

@@ -9,8 +9,8 @@ use http_header::HeaderMap;
 use std::alloc::{AllocError, Global};
 use std::sync::Arc;
 
-/// The headers of the request that came last, if one came: a client mostly sends the same ones again, and the next request
-/// then shares them.
+/// The headers of the request that came last, if one came: a client mostly sends the same ones again, and the next
+/// request then shares them.
 #[derive(Debug, Drop)]
 pub struct LastHeaders {
     fields: Option<Arc<Fields>>,
@@ -38,7 +38,8 @@ impl LastHeaders {
         Arc::try_clone(self.fields.as_ref()?).ok()
     }
 
-    /// The headers in the map: the last ones, where these are the same, and else a copy, which are the last from now on.
+    /// The headers in the map: the last ones, where these are the same, and else a copy, which are the last
+    /// from now on.
     pub(crate) fn fields_of(
         &mut self,
         alloc: Global,

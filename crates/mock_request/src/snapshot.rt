@@ -1,5 +1,6 @@
 // A request as it was received.
-ghost use Rattle.std.specs.Prelude.{ℕ, List, ◌≡◌, ◌++◌, ◌≤◌, ◌<◌, ◌↔◌, length, slice_get, All, IfSome, IfOk, IsTrue, OnOk, IsErrOf};
+ghost use Rattle.std.specs.Prelude.{ℕ, List, ◌≡◌, ◌++◌, ◌≤◌, ◌<◌, ◌↔◌, length, slice_get};
+ghost use Rattle.std.specs.Prelude.{All, IfSome, IfOk, IsTrue, OnOk, IsErrOf};
 ghost use Rattle.std.specs.Option.{option_copied, option_map};
 ghost use Rattle.http_header.specs.FieldName.{IsHeaderName};
 ghost use Rattle.http_header.specs.HeaderMap.{pairs};
@@ -22,8 +23,8 @@ use std::sync::Arc;
 pub const BODY_LIMIT: usize = 1_048_576;
 
 /// A request as it was received: its method, its URL (path and query as they were received), its headers in their
-/// order, and its body. It owns its method, URL and body, in one allocation. Its headers are shared with its copies, and
-/// with a later request that has the same.
+/// order, and its body. It owns its method, URL and body, in one allocation. Its headers are shared with its copies,
+/// and with a later request that has the same.
 #[derive(Debug)]
 pub struct Snapshot {
     bare: BareRequest,
@@ -80,8 +81,8 @@ impl Snapshot {
         Ok(Snapshot::of_text(alloc, method, text, headers, body)?)
     }
 
-    /// The same of headers in a map: all values of a name are where its first one was. They are shared where they are the
-    /// last ones, and else are these from now on.
+    /// The same of headers in a map: all values of a name are where its first one was. They are shared where they are
+    /// the last ones, and else are these from now on.
     pub fn received(
         alloc: Global,
         method: &str,

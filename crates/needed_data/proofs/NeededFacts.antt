@@ -1,6 +1,6 @@
 -- What is needed after a step was added, and what roots that are alike have in common.
-use Rattle.std.proofs.Common.{◌≡◌, ℕ, Bool, false, true, List, [], ◌∷◌, ◌++◌, map, refl, ap, ◌∙◌, Bor}
-use Rattle.std.proofs.Common.{◌+◌, ◌<◌, length, take, get_or, sym}
+use Rattle.std.proofs.Common.{◌≡◌, ℕ, Bool, false, true, List, [], ◌∷◌, ◌++◌, map, refl, ap}
+use Rattle.std.proofs.Common.{◌∙◌, Bor, ◌+◌, ◌<◌, length, take, get_or, sym}
 use Rattle.std.specs.Prelude.{IsTrue, ◌||◌}
 use Rattle.std.specs.List.{list_any}
 use Rattle.std.specs.Str.{bytes_eq}

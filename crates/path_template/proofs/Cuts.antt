@@ -1,6 +1,6 @@
 -- The first segment of a path, and the others.
-use Rattle.std.proofs.Common.{◌≡◌, ◌≢◌, ℕ, ◌<◌, false, List, [], ◌∷◌, Bor, Option, None, Some, MatchOption, All}
-use Rattle.std.proofs.Common.{length, get_or, refl, ap, ◌∙◌, arith, lit<}
+use Rattle.std.proofs.Common.{◌≡◌, ◌≢◌, ℕ, ◌<◌, false, List, [], ◌∷◌, Bor, Option, None, Some}
+use Rattle.std.proofs.Common.{MatchOption, All, length, get_or, refl, ap, ◌∙◌, arith, lit<}
 use Rattle.std.specs.List.{slice_split}
 use Rattle.std.proofs.lemmas.Bool.Decides.{nat_tests}
 use Rattle.std.proofs.lemmas.List.{get_or_default}
@@ -9,7 +9,8 @@ use Rattle.std.proofs.lemmas.Str.Pattern.{IsSplitOnceResult, split_parts}
 use Rattle.mock_request.specs.Target.{slash, IsRooted}
 use Rattle.mock_request.specs.Url.{is_slash}
 
-no_slash : (text : List ℕ) → ((i : ℕ) → i < length text → get_or text i 0 ≢ slash) → All (λ b. is_slash b ≡ false) text
+no_slash : (text : List ℕ) → ((i : ℕ) → i < length text → get_or text i 0 ≢ slash)
+    → All (λ b. is_slash b ≡ false) text
 no_slash text none k d within =
     let same = get_or_default text k d 0 within in let other = none k within in grind (arith, nat_tests)
 

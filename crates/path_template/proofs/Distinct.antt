@@ -1,6 +1,7 @@
 -- Names so far, and one more: are they distinct?
-use Rattle.std.proofs.Common.{◌≡◌, ◌≢◌, ℕ, zero, suc, ◌<◌, Bool, true, false, ◌||◌, cond, List, [], ◌∷◌, ◌++◌, Bor}
-use Rattle.std.proofs.Common.{map, length, get_or, take, drop, refl, sym, ap, ◌∙◌, arith}
+use Rattle.std.proofs.Common.{◌≡◌, ◌≢◌, ℕ, zero, suc, ◌<◌, Bool, true, false, ◌||◌, cond, List}
+use Rattle.std.proofs.Common.{[], ◌∷◌, ◌++◌, Bor, map, length, get_or, take, drop, refl, sym, ap, ◌∙◌}
+use Rattle.std.proofs.Common.{arith}
 use Rattle.std.specs.List.{list_any, AllPairs}
 use Rattle.std.specs.Cmp.Lexicographic.{slice_cmp}
 use Rattle.std.specs.Ordering.{nat_cmp, is_eq}
@@ -87,7 +88,8 @@ twice (n ∷ before) name rest here distinct =
     by (bytes_eq name n) refl here
     (λ h. twice before name rest h (λ i j d lower within. distinct (suc i) (suc j) d (omega arith) (omega arith)))
   where
-    by : (b : Bool) → bytes_eq name n ≡ b → (b || has name before) ≡ true → (has name before ≡ true → ⊥) → ⊥
+    by : (b : Bool) → bytes_eq name n ≡ b → (b || has name before) ≡ true
+        → (has name before ≡ true → ⊥) → ⊥
     by true e h later =
         distinct 0 (suc (length before)) [] (omega arith) (omega (arith, within_whole before name rest))
         (sym ((bytes_eq-Decides name n).0 e) ∙ sym (at_end before name rest []))

@@ -1,6 +1,7 @@
 -- Which segments have a name.
-use Rattle.std.proofs.Common.{◌≡◌, ◌≢◌, ℕ, ◌-◌, Bool, true, false, ◌&&◌, IsTrue, if◌then◌else◌, List, [], ◌∷◌, ◌++◌}
-use Rattle.std.proofs.Common.{length, take, Option, None, Some, refl, sym, ap, ◌∙◌, arith, length-append}
+use Rattle.std.proofs.Common.{◌≡◌, ◌≢◌, ℕ, ◌-◌, Bool, true, false, ◌&&◌, IsTrue}
+use Rattle.std.proofs.Common.{if◌then◌else◌, List, [], ◌∷◌, ◌++◌, length, take, Option, None, Some}
+use Rattle.std.proofs.Common.{refl, sym, ap, ◌∙◌, arith, length-append}
 use Rattle.std.specs.Str.{bytes_eq}
 use Rattle.std.proofs.lemmas.Slice.Eq.{bytes_eq-Decides}
 use Rattle.path_template.specs.Template.{opening_brace, closing_brace, braced, inner, is_name, name_in}
@@ -14,7 +15,8 @@ inner_of_braced name =
     let long : length (braced name) - 2 ≡ length name = simp length-append (omega arith) in
     ap (λ n. take n (name ++ closing_brace ∷ [])) long ∙ take_front name (closing_brace ∷ [])
 
-pub with_name : (segment name : List ℕ) → IsTrue (is_name name) → segment ≡ braced name → name_in segment ≡ Some name
+pub with_name : (segment name : List ℕ) → IsTrue (is_name name) → segment ≡ braced name
+    → name_in segment ≡ Some name
 with_name segment name named is =
     let within : inner segment ≡ name = ap inner is ∙ inner_of_braced name in
     let same : bytes_eq segment (braced name) ≡ true = (bytes_eq-Decides segment (braced name)).1 is in
@@ -26,7 +28,8 @@ has_name segment name = by (is_name (inner segment)) (bytes_eq segment (braced (
   where
     by
         : (x y : Bool) → is_name (inner segment) ≡ x → bytes_eq segment (braced (inner segment)) ≡ y
-        → (if x && y then Some (inner segment) else None) ≡ Some name → IsTrue (is_name name) × (segment ≡ braced name)
+        → (if x && y then Some (inner segment) else None) ≡ Some name
+        → IsTrue (is_name name) × (segment ≡ braced name)
     by true true a b e =
         let within : inner segment ≡ name = cc in
         (ap is_name (sym within) ∙ a, (bytes_eq-Decides segment (braced (inner segment))).0 b ∙ ap braced within)
@@ -35,7 +38,8 @@ has_name segment name = by (is_name (inner segment)) (bytes_eq segment (braced (
 
 -- a segment that is no name in braces
 pub without_name
-    : (segment : List ℕ) → ((name : List ℕ) → IsTrue (is_name name) → segment ≢ braced name) → name_in segment ≡ None
+    : (segment : List ℕ) → ((name : List ℕ) → IsTrue (is_name name) → segment ≢ braced name)
+    → name_in segment ≡ None
 without_name segment other = by (name_in segment) refl
   where
     by : (o : Option (List ℕ)) → name_in segment ≡ o → name_in segment ≡ None
@@ -58,7 +62,8 @@ module _ (segment rest : List ℕ) (opened : segment ≡ opening_brace ∷ rest)
     no_name other =
         without_name segment
         (λ name named is.
-        let same : name ≡ text = sym (inner_of_braced name) ∙ ap inner (sym is ∙ between) ∙ inner_of_braced text in
+        let same : name ≡ text =
+        sym (inner_of_braced name) ∙ ap inner (sym is ∙ between) ∙ inner_of_braced text in
         let no : is_name name ≡ false = ap is_name same ∙ other in
         absurd (cc))
 

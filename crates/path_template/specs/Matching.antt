@@ -18,7 +18,8 @@ bound [] (segment ∷ segments) = None
 bound (piece ∷ pieces) [] = None
 bound (Literal bytes ∷ pieces) (segment ∷ segments) = if bytes_eq segment bytes then bound pieces segments else None
 bound (Named name ∷ pieces) (segment ∷ segments) =
-    if is_not_empty segment then option_map (λ bindings. (name, segment) ∷ bindings) (bound pieces segments) else None
+    if is_not_empty segment then option_map (λ bindings. (name, segment) ∷ bindings) (bound pieces segments)
+    else None
 
 -- what the template binds in the path, in the template's order, where the path matches; a text that doesn't begin
 -- with a slash is no path

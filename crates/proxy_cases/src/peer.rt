@@ -6,15 +6,20 @@ use std::alloc::{AllocError, Global};
 
 /// What is to be sent.
 pub const SENT: &str =
-    "POST /api/things?x=1&y HTTP/1.1\r\nhost: 127.0.0.1:9000\r\nx-b: 2\r\naccept: text/plain\r\nx-a: 1\r\ncontent-length: 15\r\n\r\nhello, upstream";
+    "POST /api/things?x=1&y HTTP/1.1\r\nhost: 127.0.0.1:9000\r\nx-b: 2\r\naccept: text/plain\r\n\
+    x-a: 1\r\ncontent-length: 15\r\n\r\nhello, upstream";
 
 /// A reply whose length is said.
 pub const REPLY: &str =
-    "HTTP/1.1 200 OK\r\nDate: Thu, 26 Nov 2026 18:00:00 GMT\r\nX-B: 2\r\nConnection: close\r\nContent-Type: text/plain\r\nSet-Cookie: b=1\r\nX-A: 1\r\nSet-Cookie: a=2\r\nContent-Length: 12\r\n\r\nhello, there";
+    "HTTP/1.1 200 OK\r\nDate: Thu, 26 Nov 2026 18:00:00 GMT\r\nX-B: 2\r\nConnection: close\r\n\
+    Content-Type: text/plain\r\nSet-Cookie: b=1\r\nX-A: 1\r\nSet-Cookie: a=2\r\nContent-Length: 12\r\n\r\n\
+    hello, there";
 
 /// The same in chunks.
 pub const CHUNKS: &str =
-    "HTTP/1.1 200 OK\r\nX-B: 2\r\nTransfer-Encoding: chunked\r\nContent-Type: text/plain\r\nSet-Cookie: b=1\r\nX-A: 1\r\nSet-Cookie: a=2\r\n\r\n5\r\nhello\r\n1;x=y\r\n,\r\n6\r\n there\r\n0\r\nX-T: 1\r\n\r\n";
+    "HTTP/1.1 200 OK\r\nX-B: 2\r\nTransfer-Encoding: chunked\r\nContent-Type: text/plain\r\n\
+    Set-Cookie: b=1\r\nX-A: 1\r\nSet-Cookie: a=2\r\n\r\n5\r\nhello\r\n1;x=y\r\n,\r\n6\r\n there\r\n0\r\n\
+    X-T: 1\r\n\r\n";
 
 /// What both are: the lines of the headers, then the content.
 pub const RELAYED: &str =

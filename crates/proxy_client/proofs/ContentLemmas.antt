@@ -8,7 +8,8 @@ use Rattle.proxy_client.specs.Content.{Gathers}
 use Rattle.proxy_client.specs.declared.content.TheConstants.{CONTENT_LIMIT}
 
 module _ {D E : Type 0} (converts : D → List ℕ → Type 0) (old : Runs (Result (Frame D) E)) where
-  pub gathered : {F : Type 0} (held : List ℕ) (result : Result (List ℕ) F) → IfOk result (λ content. content ≡ held)
+  pub gathered : {F : Type 0} (held : List ℕ) (result : Result (List ℕ) F)
+      → IfOk result (λ content. content ≡ held)
       → IfOk result (λ content. length content ≤ CONTENT_LIMIT) → old [] None
       → IfOk result (Gathers converts old held)
   gathered held (Ok content) is within came = record {
@@ -22,7 +23,8 @@ module _ {D E : Type 0} (converts : D → List ℕ → Type 0) (old : Runs (Resu
   gathered held (Err error) is within came = tt
 
   module _ (new : Runs (Result (Frame D) E)) where
-    after_frame : (frame : Frame D) (made : Frame (List ℕ)) → After old (Ok frame) new → MapsData converts frame made
+    after_frame : (frame : Frame D) (made : Frame (List ℕ)) → After old (Ok frame) new
+        → MapsData converts frame made
         → (held next : List ℕ) → next ≡ held ++ bytes_in made.kind → (content : List ℕ)
         → Gathers converts new next content → Gathers converts old held content
     after_frame frame made after as_bytes held next pushed content more = record {

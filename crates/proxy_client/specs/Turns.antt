@@ -17,7 +17,8 @@ costs_nothing passes nothing c = record {
   counted = λ some. absurd (some refl);
 }
 
-fewer : (xs ys : List ℕ) (a b c : ℕ) → b ≤ a → (xs ≢ [] → b < a) → c ≤ b → (ys ≢ [] → c < b) → xs ++ ys ≢ [] → c < a
+fewer : (xs ys : List ℕ) (a b c : ℕ) → b ≤ a → (xs ≢ [] → b < a) → c ≤ b → (ys ≢ [] → c < b)
+    → xs ++ ys ≢ [] → c < a
 fewer [] ys a b c first _ _ second some = lt_of_lt_of_le (second some) first
 fewer (x ∷ xs) ys a b c _ first second _ _ = lt_of_le_of_lt second (first (λ e. cc))
 

@@ -1,6 +1,6 @@
 //! A request forwarded to the target of a recording, over a connection of its own: the message that is sent (`sent`),
-//! the reply (`reply`), and the exchange between them as a future (`client`), which `forward` runs. A server forwards by a
-//! `forwarder`.
+//! the reply (`reply`), and the exchange between them as a future (`client`), which `forward` runs. A server forwards
+//! by a `forwarder`.
 #![tactic(auto)]
 
 pub mod address;

@@ -1,6 +1,7 @@
 -- The exchanges that are kept, and the mappings of those that are left.
-use Rattle.std.proofs.Common.{◌≡◌, ℕ, suc, ◌+◌, ◌-◌, ◌<◌, ◌≤◌, Bool, true, false, List, [], ◌∷◌, ◌++◌, Bor, Option}
-use Rattle.std.proofs.Common.{length, get_or, take, drop, append_assoc, append-nil, cond, refl, sym, ap, ◌∙◌, arith}
+use Rattle.std.proofs.Common.{◌≡◌, ℕ, suc, ◌+◌, ◌-◌, ◌<◌, ◌≤◌, Bool, true, false, List, []}
+use Rattle.std.proofs.Common.{◌∷◌, ◌++◌, Bor, Option, length, get_or, take, drop, append_assoc, append-nil}
+use Rattle.std.proofs.Common.{cond, refl, sym, ap, ◌∙◌, arith}
 use Rattle.std.specs.Prelude.{nat_le, not}
 use Rattle.std.specs.List.{filter, list_all}
 use Rattle.std.proofs.lemmas.Bool.{and_from, and_parts}
@@ -22,7 +23,8 @@ use Rattle.recorded_stubs.proofs.HeaderLemmas.{is_text}
 
 -- ---- one element more of a filter
 
-module _ {X : Type 0} (p : X → Bool) (xs : List X) (i : ℕ) (x : X) (within : i < length xs) (here : x ≡ get_or xs i x) where
+module _ {X : Type 0} (p : X → Bool) (xs : List X) (i : ℕ) (x : X) (within : i < length xs)
+    (here : x ≡ get_or xs i x) where
   more : filter p (take (i + 1) xs) ≡ filter p (take i xs) ++ cond (p x) (x ∷ []) []
   more =
       filter_more p xs i x within
@@ -53,7 +55,8 @@ module _ (captured : List (List ℕ)) (exchanges : List Exchange) (kept : List (
   pub skipped_is : length exchanges - length kept ≡ skipped_of captured exchanges
   skipped_is = omega (arith, both)
 
-  module _ (i : ℕ) (exchange : Bor Exchange) (within : i < length kept) (here : exchange ≡ get_or kept i exchange) where
+  module _ (i : ℕ) (exchange : Bor Exchange) (within : i < length kept)
+      (here : exchange ≡ get_or kept i exchange) where
     pub lent_read : exchange.now ≡ get_or (lent kept) i exchange.now
     lent_read =
         ap (λ (e : Bor Exchange). e.now) here

@@ -53,7 +53,8 @@ cut_at_colon text host digits (i, j, found, front, back, _, _, _) =
     let whole : take i text ++ (colon ∷ drop j text) ≡ text =
     ap (λ bs. take i text ++ bs) (sym after) ∙ take-append-drop i text in
     record {
-      there = subst (λ bs. list_any is_colon bs ≡ true) whole (any_at is_colon (take i text) colon (drop j text) refl);
+      there = subst (λ bs. list_any is_colon bs ≡ true) whole
+          (any_at is_colon (take i text) colon (drop j text) refl);
       before =
           subst (λ bs. before_last is_colon bs ≡ take i text) whole
           (before_last_at is_colon (take i text) colon (drop j text) refl none)
@@ -68,7 +69,8 @@ pub record Names (text host : List ℕ) (port : ℕ) : Type 0 where
   pub host_is : host ≡ host_of text
   pub port_is : port ≡ port_of text
 
-some_is : (port value : ℕ) (b : Bool) → Some port ≡ (if b then Some value else None) → (b ≡ true) × (port ≡ value)
+some_is : (port value : ℕ) (b : Bool) → Some port ≡ (if b then Some value else None)
+    → (b ≡ true) × (port ≡ value)
 some_is port value true e = (refl, cc)
 some_is port value false e = cc
 

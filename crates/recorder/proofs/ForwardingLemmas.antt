@@ -1,6 +1,7 @@
 -- What one more header adds to a map, and what a sort by name leaves.
-use Rattle.std.proofs.Common.{◌≡◌, ℕ, ◌+◌, ◌<◌, List, [], ◌∷◌, ◌++◌, Bor, Some, take, length, map, Bool}
-use Rattle.std.proofs.Common.{append_assoc, append-nil, refl, sym, ap, ◌∙◌, inl, inr, All, IsPermutation, subst, if◌then◌else◌}
+use Rattle.std.proofs.Common.{◌≡◌, ℕ, ◌+◌, ◌<◌, List, [], ◌∷◌, ◌++◌, Bor, Some, take, length}
+use Rattle.std.proofs.Common.{map, Bool, append_assoc, append-nil, refl, sym, ap, ◌∙◌, inl, inr, All}
+use Rattle.std.proofs.Common.{IsPermutation, subst, if◌then◌else◌}
 use Rattle.std.specs.Cmp.{IsStrictWeakOrder}
 use Rattle.std.specs.Cmp.Lexicographic.{slice_cmp}
 use Rattle.std.specs.Fn.{Called, ComparesAs}
@@ -36,7 +37,8 @@ map_of_more front header =
 
 -- a map that had the headers before this one has it after the next step of the loop
 pub map_with_next
-    : (front headers : List Header) (i : ℕ) (header : Header) → i < length headers → Some header ≡ slice_get headers i
+    : (front headers : List Header) (i : ℕ) (header : Header) → i < length headers
+    → Some header ≡ slice_get headers i
     → (old new : Entries FieldValue) → old ≡ map_of (front ++ passed_on (take i headers))
     → new ≡ (if is_left_out_of_request header.name then old else append old header.name (plain_value header.value))
     → new ≡ map_of (front ++ passed_on (take (i + 1) headers))
@@ -74,12 +76,14 @@ module _ {F : Type 0} {g : Mut F (Bor ReplyHeader × (Bor ReplyHeader × Unit {0
       (λ a r f' call. (ap is_lt (calls a r f' call).0, (calls a r f' call).1))
 
   pub sorted_by_name : (xs : List ReplyHeader)
-      → ((lt : ReplyHeader → ReplyHeader → Bool) → IsStrictWeakOrder lt → ComparesAs g lt f → IsSortedBy lt xs)
+      → ((lt : ReplyHeader → ReplyHeader → Bool) → IsStrictWeakOrder lt → ComparesAs g lt f
+      → IsSortedBy lt xs)
       → IsSortedByKey (λ (header : ReplyHeader). header.name) (slice_cmp nat_cmp) xs
   sorted_by_name xs sorted = sorted is_before is_weak compares
 
   pub stable_by_name : (xs ys : List ReplyHeader)
-      → ((lt : ReplyHeader → ReplyHeader → Bool) → IsStrictWeakOrder lt → ComparesAs g lt f → IsStableBy lt xs ys)
+      → ((lt : ReplyHeader → ReplyHeader → Bool) → IsStrictWeakOrder lt → ComparesAs g lt f
+      → IsStableBy lt xs ys)
       → IsStableByKey (λ (header : ReplyHeader). header.name) (slice_cmp nat_cmp) xs ys
   stable_by_name xs ys stable = stable is_before is_weak compares
 
@@ -93,6 +97,7 @@ pub relayed_by : (received : List Header) (unsorted sorted : List ReplyHeader) �
 relayed_by received unsorted sorted is fields same in_order stable = record {
   same = subst (λ xs. IsPermutation xs sorted) is same;
   in_order = in_order;
-  stable = subst (λ xs. IsStableByKey (λ (header : ReplyHeader). header.name) (slice_cmp nat_cmp) xs sorted) is stable;
+  stable =
+      subst (λ xs. IsStableByKey (λ (header : ReplyHeader). header.name) (slice_cmp nat_cmp) xs sorted) is stable;
   fields = All-permutation IsField unsorted sorted same fields;
 }

@@ -1,5 +1,6 @@
 -- What one more header adds to the hash of a key.
-use Rattle.std.proofs.Common.{◌≡◌, ℕ, ◌+◌, ◌<◌, List, [], ◌∷◌, ◌++◌, Bor, length, get_or, take, append-nil, sym, ap, ◌∙◌}
+use Rattle.std.proofs.Common.{◌≡◌, ℕ, ◌+◌, ◌<◌, List, [], ◌∷◌, ◌++◌, Bor, length, get_or}
+use Rattle.std.proofs.Common.{take, append-nil, sym, ap, ◌∙◌}
 use Rattle.std.specs.Prelude.{fold}
 use Rattle.std.specs.List.{flat_map}
 use Rattle.std.proofs.lemmas.Grind.{flat_map-append}
@@ -16,8 +17,8 @@ abbrev field_header : Field → Header
 field_header field = record { name = field.0.now; value = field.1.now }
 
 pub header_written
-    : {S : Type 0} (write : S → List ℕ → S) (start before named after : S) (fields : List Field) (i : ℕ) (field : Field)
-    → i < length fields → field ≡ get_or fields i field
+    : {S : Type 0} (write : S → List ℕ → S) (start before named after : S) (fields : List Field)
+    (i : ℕ) (field : Field) → i < length fields → field ≡ get_or fields i field
     → before ≡ fold write start (flat_map header_writes (fields_of (take i fields)))
     → named ≡ fold write before (bytes_writes field.0.now)
     → after ≡ fold write named (bytes_writes field.1.now)

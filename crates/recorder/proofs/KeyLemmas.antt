@@ -29,7 +29,8 @@ module _ (name : List ℕ) (headers : List Header) (i : ℕ) (header : Header) (
 
 -- a field that was pushed
 pub field_pushed
-    : (old fields more : List (Bor (List ℕ) × Bor (List ℕ))) (field : Bor (List ℕ) × Bor (List ℕ)) (taken : List Header)
+    : (old fields more : List (Bor (List ℕ) × Bor (List ℕ)))
+    (field : Bor (List ℕ) × Bor (List ℕ)) (taken : List Header)
     → more ≡ fields ++ field ∷ [] → fields_of fields ≡ fields_of old ++ taken
     → fields_of more ≡ fields_of old ++ (taken ++ record { name = field.0.now; value = field.1.now } ∷ [])
 field_pushed old fields more field taken pushed before =

@@ -1,6 +1,7 @@
 -- Why headers can't be sent: a value that no header may have, or too many of them.
-use Rattle.std.proofs.Common.{◌≡◌, ℕ, ◌+◌, ◌<◌, ◌≤◌, ◌⊎◌, List, [], ◌∷◌, ◌++◌, Some, take, drop, length, map, Bool, false}
-use Rattle.std.proofs.Common.{All, append_assoc, refl, sym, ap, ◌∙◌, inl, inr, arith}
+use Rattle.std.proofs.Common.{◌≡◌, ℕ, ◌+◌, ◌<◌, ◌≤◌, ◌⊎◌, List, [], ◌∷◌, ◌++◌}
+use Rattle.std.proofs.Common.{Some, take, drop, length, map, Bool, false, All, append_assoc, refl, sym, ap, ◌∙◌}
+use Rattle.std.proofs.Common.{inl, inr, arith}
 use Rattle.std.specs.List.{slice_get}
 use Rattle.std.specs.Prelude.{bytes_eq, not}
 use Rattle.std.proofs.lemmas.Bool.{cases_Bool, cond-true, cond-false}
@@ -42,7 +43,8 @@ values_of_append (e ∷ m) name value =
     ]
 
 sizes : (items : List (List ℕ × FieldValue)) (m : Entries FieldValue)
-    → (length (append_all m items) ≤ length m + length items) × (value_count (append_all m items) ≡ value_count m + length items)
+    → (length (append_all m items) ≤ length m + length items)
+    × (value_count (append_all m items) ≡ value_count m + length items)
 sizes [] m = (omega arith, omega arith)
 sizes (item ∷ items) m =
     let rest = sizes items (append m item.0 item.1) in
@@ -51,7 +53,8 @@ sizes (item ∷ items) m =
     (omega (arith, rest.0, names), omega (arith, rest.1, values))
 
 -- a map that refuses one more has as many headers
-pub full_map : (front : List Header) (name : List ℕ) → RefusesAppend (map_of front) name → most_names ≤ length front
+pub full_map : (front : List Header) (name : List ℕ) → RefusesAppend (map_of front) name
+    → most_names ≤ length front
 full_map front name refuses =
     let size = sizes (map field_of front) [] in
     let same : length (map field_of front) ≡ length front = simp length-map in
@@ -88,7 +91,8 @@ pub passed_on_at : (headers : List Header) (i : ℕ) (header : Header) → i < l
     → passed_on headers ≡ passed_on (take i headers) ++ header ∷ passed_on (drop (i + 1) headers)
 passed_on_at headers i header within here other =
     let test : Header → Bool = λ h. not (is_left_out_of_request h.name) in
-    ap passed_on (sym (take-append-drop (i + 1) headers) ∙ ap (λ t. t ++ drop (i + 1) headers) (more_taken headers i header within here))
+    ap passed_on (sym (take-append-drop (i + 1) headers)
+    ∙ ap (λ t. t ++ drop (i + 1) headers) (more_taken headers i header within here))
     ∙ filter-append test (take i headers ++ header ∷ []) (drop (i + 1) headers)
     ∙ ap (λ t. t ++ passed_on (drop (i + 1) headers)) (filter-append test (take i headers) (header ∷ [])
     ∙ ap (λ t. passed_on (take i headers) ++ t) (rw other refl))

@@ -23,7 +23,8 @@ without_slash [] = refl
 without_slash (b ∷ []) = refl
 without_slash (b ∷ c ∷ cs) = ap (λ t. b ∷ t) (without_slash (c ∷ cs))
 
-pub no_last_slash : (bs : List ℕ) → ((front : List ℕ) → bs ≢ front ++ slash ∷ []) → without_last_slash bs ≡ bs
+pub no_last_slash : (bs : List ℕ) → ((front : List ℕ) → bs ≢ front ++ slash ∷ [])
+    → without_last_slash bs ≡ bs
 no_last_slash [] none = refl
 no_last_slash (b ∷ []) none = one (eqb_tells b slash)
   where

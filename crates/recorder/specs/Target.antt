@@ -1,7 +1,7 @@
 -- Which texts are targets of a recording: `http://host[:port][/prefix]` (RFC 9112, section 3.2.2; the host as in RFC
 -- 3986, section 3.2.2, an IP address or the name `localhost`).
-use Rattle.std.specs.Prelude.{◌≡◌, ℕ, Bool, true, not, ◌&&◌, List, [], ◌∷◌, ◌++◌, ◌⊎◌, length, drop}
-use Rattle.std.specs.Prelude.{◌==◌, nat_lt, nat_le, if◌then◌else◌, codes}
+use Rattle.std.specs.Prelude.{◌≡◌, ℕ, Bool, true, not, ◌&&◌, List, [], ◌∷◌, ◌++◌, ◌⊎◌}
+use Rattle.std.specs.Prelude.{length, drop, ◌==◌, nat_lt, nat_le, if◌then◌else◌, codes}
 use Rattle.std.specs.List.{before_first, after_first, before_last, after_last, list_any, list_all}
 use Rattle.std.specs.Str.{all_ascii_digits}
 use Rattle.std.specs.Str.Parse.{digits_value}
@@ -58,7 +58,8 @@ port_of authority = if has_port authority then digits_value 10 (after_last is_co
 
 -- an address in version 6, in brackets
 abbrev pub IsBracketed : List ℕ → Type 0
-IsBracketed host = (inner : List ℕ) × (a : Ipv6Addr) × (host ≡ codes "[" ++ (inner ++ codes "]")) × IsIpv6Text inner a
+IsBracketed host = (inner : List ℕ) × (a : Ipv6Addr) × (host ≡ codes "[" ++ (inner ++ codes "]"))
+    × IsIpv6Text inner a
 
 abbrev pub IsHost : List ℕ → Type 0
 IsHost host = (host ≡ codes "localhost") ⊎ (((a : Ipv4Addr) × IsIpv4Text host a) ⊎ IsBracketed host)

@@ -1,6 +1,6 @@
 // What is sent to a target for a request, and what is relayed of the reply to it.
-ghost use Rattle.std.specs.Prelude.{◌≡◌, ◌≢◌, ◌⊎◌, List, ◌++◌, ◌∷◌, [], All, IsPermutation, IfOk, OnOk, IsErrOf};
-ghost use Rattle.std.specs.Prelude.{false, codes, bytes_eq, if◌then◌else◌, string_bytes};
+ghost use Rattle.std.specs.Prelude.{◌≡◌, ◌≢◌, ◌⊎◌, List, ◌++◌, ◌∷◌, [], All, IsPermutation};
+ghost use Rattle.std.specs.Prelude.{IfOk, OnOk, IsErrOf, false, codes, bytes_eq, if◌then◌else◌, string_bytes};
 ghost use Rattle.std.specs.Cmp.Lexicographic.{slice_cmp};
 ghost use Rattle.std.specs.List.{list_any};
 ghost use Rattle.std.specs.List.Sorted.{IsSortedByKey, IsStableByKey};

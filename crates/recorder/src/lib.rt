@@ -1,7 +1,7 @@
-// What a recording is: its target, the exchanges that it takes, and the key by which they are grouped; and what is sent to
-// a target for a request, and relayed of the reply. Nothing here opens a connection. Its contracts cite
-// `specs/Target.antt` (which texts are targets), `specs/Recording.antt` (what a recording takes), `specs/Key.antt` (keys)
-// and `specs/Forwarding.antt` (what is sent and relayed).
+// What a recording is: its target, the exchanges that it takes, and the key by which they are grouped; and what is sent
+// to a target for a request, and relayed of the reply. Nothing here opens a connection. Its contracts cite
+// `specs/Target.antt` (which texts are targets), `specs/Recording.antt` (what a recording takes), `specs/Key.antt`
+// (keys) and `specs/Forwarding.antt` (what is sent and relayed).
 #![tactic(auto)]
 
 pub mod error;

@@ -1,7 +1,9 @@
 -- How long the JSON text of cookies is at most.
-use Rattle.std.proofs.Common.{◌≡◌, ℕ, ◌*◌, ◌≤◌, Bool, true, false, ◌&&◌, ltb, if◌then◌else◌, List, [], ◌∷◌, ◌++◌, length, reverse}
-use Rattle.std.proofs.Common.{Option, None, Some, refl, arith, eqb, ap, codes}
-use Rattle.std.specs.List.{sum_by, slice_split, position_or_len, before_first, after_first, list_any, filter_map, cons_option}
+use Rattle.std.proofs.Common.{◌≡◌, ℕ, ◌*◌, ◌≤◌, Bool, true, false, ◌&&◌, ltb, if◌then◌else◌}
+use Rattle.std.proofs.Common.{List, [], ◌∷◌, ◌++◌, length, reverse, Option, None, Some, refl, arith, eqb, ap}
+use Rattle.std.proofs.Common.{codes}
+use Rattle.std.specs.List.{sum_by, slice_split, position_or_len, before_first, after_first, list_any, filter_map}
+use Rattle.std.specs.List.{cons_option}
 use Rattle.std.specs.Str.{bytes_eq}
 use Rattle.std.specs.Str.Lossy.{utf8_lossy}
 use Rattle.std.proofs.lemmas.Bool.{cond_both, ltb-true, and_parts}
@@ -51,7 +53,8 @@ cookie_most piece =
 
 pieces_most
     : (pieces : List (List ℕ))
-    → sum_by pair_cost (filter_map (λ piece. cookie_in (without_spaces_around piece)) pieces) ≤ 53 * sum_by length pieces
+    → sum_by pair_cost (filter_map (λ piece. cookie_in (without_spaces_around piece)) pieces)
+    ≤ 53 * sum_by length pieces
 pieces_most [] = omega arith
 pieces_most (piece ∷ pieces) =
     by (cookie_in (without_spaces_around piece)) (cookie_most (without_spaces_around piece)) (pieces_most pieces)

@@ -12,7 +12,8 @@ use Rattle.request_data.specs.Authority.{authority_of, host_of, port_of}
 -- byte order, and not the order of lengths or of the alphabet
 names_in_byte_order
     : names_in
-    ((codes "b", []) ∷ (codes "a", []) ∷ (codes "b", []) ∷ (codes "aa", []) ∷ (codes "B", []) ∷ ([], []) ∷ [])
+    ((codes "b", []) ∷ (codes "a", []) ∷ (codes "b", []) ∷ (codes "aa", []) ∷ (codes "B", [])
+    ∷ ([], []) ∷ [])
     ≡ [] ∷ codes "B" ∷ codes "a" ∷ codes "aa" ∷ codes "b" ∷ []
 names_in_byte_order = refl
 

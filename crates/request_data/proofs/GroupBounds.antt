@@ -1,6 +1,6 @@
 -- How long the JSON text of grouped names and values is at most: each pair counts once, since names are distinct.
-use Rattle.std.proofs.Common.{◌≡◌, ℕ, ◌+◌, ◌*◌, ◌≤◌, Bool, true, false, List, [], ◌∷◌, length, Ordering, sym, refl, ap}
-use Rattle.std.proofs.Common.{◌∙◌, arith}
+use Rattle.std.proofs.Common.{◌≡◌, ℕ, ◌+◌, ◌*◌, ◌≤◌, Bool, true, false, List, [], ◌∷◌}
+use Rattle.std.proofs.Common.{length, Ordering, sym, refl, ap, ◌∙◌, arith}
 use Rattle.std.specs.List.{sum_by, AllByRecursion}
 use Rattle.std.specs.List.Sorted.{IsStrictlySortedBy}
 use Rattle.std.specs.Ordering.{is_eq, match_ordering}
@@ -14,7 +14,8 @@ use Rattle.data_tree.specs.Tree.{Tree, no_members}
 use Rattle.data_tree.specs.Json.{json, members_json}
 use Rattle.data_tree.proofs.Sizes.{length_named, length_fields}
 use Rattle.mock_request.specs.Values.{values_of, first_of}
-use Rattle.request_data.specs.Grouped.{texts, with_name, names_in, members_under, values_tree, grouped, first_text, firsts}
+use Rattle.request_data.specs.Grouped.{texts, with_name, names_in, members_under, values_tree, grouped, first_text}
+use Rattle.request_data.specs.Grouped.{firsts}
 use Rattle.request_data.proofs.GroupLemmas.{byte_order, sorted_names}
 use Rattle.request_data.proofs.TextBounds.{quoted_most, texts_most, text_cost, first_member, member_most}
 
@@ -30,7 +31,8 @@ pair_cost pair = 6 * length pair.0 + 12 * length pair.1 + 41
 
 -- ---- one name's values
 
-first_and_all : (values : List (List ℕ)) → 6 * length (first_of values) + sum_by text_cost values ≤ sum_by value_cost values
+first_and_all : (values : List (List ℕ))
+    → 6 * length (first_of values) + sum_by text_cost values ≤ sum_by value_cost values
 first_and_all [] = omega arith
 first_and_all (v ∷ values) =
     omega (arith, sum_by-cons text_cost v values, sum_by-cons value_cost v values, texts_below values)
@@ -90,12 +92,15 @@ cost_cons : (name : List ℕ) (names : List (List ℕ)) (pairs : List (List ℕ 
 cost_cons name names pairs = sum_by-cons (λ n. sum_by value_cost (values_of n pairs)) name names
 
 value_of_name
-    : (name : List ℕ) (pair : List ℕ × List ℕ) (pairs : List (List ℕ × List ℕ)) → bytes_eq name pair.0 ≡ true
-    → sum_by value_cost (values_of name (pair ∷ pairs)) ≡ value_cost pair.1 + sum_by value_cost (values_of name pairs)
+    : (name : List ℕ) (pair : List ℕ × List ℕ) (pairs : List (List ℕ × List ℕ))
+    → bytes_eq name pair.0 ≡ true
+    → sum_by value_cost (values_of name (pair ∷ pairs))
+    ≡ value_cost pair.1 + sum_by value_cost (values_of name pairs)
 value_of_name name pair pairs named = rw named (sum_by-cons value_cost pair.1 (values_of name pairs))
 
 value_of_other
-    : (name : List ℕ) (pair : List ℕ × List ℕ) (pairs : List (List ℕ × List ℕ)) → bytes_eq name pair.0 ≡ false
+    : (name : List ℕ) (pair : List ℕ × List ℕ) (pairs : List (List ℕ × List ℕ))
+    → bytes_eq name pair.0 ≡ false
     → sum_by value_cost (values_of name (pair ∷ pairs)) ≡ sum_by value_cost (values_of name pairs)
 value_of_other name pair pairs other = rw other refl
 
@@ -212,7 +217,8 @@ module _ (tree_of : List (List ℕ) → Tree)
         pairs_sum pairs,
       )
 
-pub grouped_most : (pairs : List (List ℕ × List ℕ)) → length (json (grouped pairs)) ≤ 2 + sum_by pair_cost pairs
+pub grouped_most : (pairs : List (List ℕ × List ℕ))
+    → length (json (grouped pairs)) ≤ 2 + sum_by pair_cost pairs
 grouped_most pairs =
     omega (
       arith,
@@ -221,5 +227,6 @@ grouped_most pairs =
       members_most values_tree values_most pairs,
     )
 
-pub firsts_most : (pairs : List (List ℕ × List ℕ)) → length (members_json true (firsts pairs)) ≤ sum_by pair_cost pairs
+pub firsts_most : (pairs : List (List ℕ × List ℕ))
+    → length (members_json true (firsts pairs)) ≤ sum_by pair_cost pairs
 firsts_most = members_most first_text first_most

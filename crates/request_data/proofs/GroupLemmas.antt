@@ -20,7 +20,8 @@ use Rattle.data_tree.specs.Tree.{Tree, text, item, items_of, members_of}
 use Rattle.data_tree.specs.Parts.{names_of}
 use Rattle.data_tree.specs.WellFormed.{IsAscending, IsWellFormed, AreWellFormed, HaveWellFormedValues}
 use Rattle.mock_request.specs.Values.{values_of}
-use Rattle.request_data.specs.Grouped.{texts, with_name, names_in, members_under, values_tree, grouped, first_text, firsts}
+use Rattle.request_data.specs.Grouped.{texts, with_name, names_in, members_under, values_tree, grouped, first_text}
+use Rattle.request_data.specs.Grouped.{firsts}
 use Rattle.mock_request.specs.Values.{pairs_of}
 
 abbrev pub byte_order : List ℕ → List ℕ → Ordering
@@ -47,7 +48,8 @@ below_all x y (n ∷ names) less all = (nat_list_cmp_total.trans x y n less all.
 
 -- what is below all names is none of them
 not_among
-    : (x : List ℕ) (names : List (List ℕ)) → AllByRecursion (λ n. byte_order x n ≡ Less) names → has x names ≡ false
+    : (x : List ℕ) (names : List (List ℕ)) → AllByRecursion (λ n. byte_order x n ≡ Less) names
+    → has x names ≡ false
 not_among x [] all = refl
 not_among x (n ∷ names) all =
     let apart : bytes_eq x n ≡ false = sym (is_eq-slice_cmp x n) ∙ ap is_eq all.0 in
@@ -77,7 +79,8 @@ sorted_with_name name (n ∷ names) sorted = by (byte_order name n) refl (sorted
   where
     by
         : (o : Ordering) → byte_order name n ≡ o → IsStrictlySortedBy byte_order (with_name name names)
-        → IsStrictlySortedBy byte_order (match_ordering o (name ∷ n ∷ names) (n ∷ names) (n ∷ with_name name names))
+        → IsStrictlySortedBy byte_order
+        (match_ordering o (name ∷ n ∷ names) (n ∷ names) (n ∷ with_name name names))
     by Less e later = ((e, below_all name n names e sorted.0), sorted)
     by Equal e later = sorted
     by Greater e later = (all_with_name (λ y. byte_order n y ≡ Less) name names (other_way name n e) sorted.0, later)
@@ -98,12 +101,14 @@ or_swap false true c = refl
 or_swap false false c = refl
 
 has_with_name
-    : (x name : List ℕ) (names : List (List ℕ)) → has x (with_name name names) ≡ (bytes_eq x name || has x names)
+    : (x name : List ℕ) (names : List (List ℕ))
+    → has x (with_name name names) ≡ (bytes_eq x name || has x names)
 has_with_name x name [] = refl
 has_with_name x name (n ∷ names) = by (byte_order name n) refl (has_with_name x name names)
   where
     by
-        : (o : Ordering) → byte_order name n ≡ o → has x (with_name name names) ≡ (bytes_eq x name || has x names)
+        : (o : Ordering) → byte_order name n ≡ o
+        → has x (with_name name names) ≡ (bytes_eq x name || has x names)
         → has x (match_ordering o (name ∷ n ∷ names) (n ∷ names) (n ∷ with_name name names))
         ≡ (bytes_eq x name || (bytes_eq x n || has x names))
     by Less e later = refl
@@ -143,12 +148,15 @@ one_order (x ∷ xs) (y ∷ ys) s t h = by (byte_order x y) refl (one_order xs y
             let right : has z (y ∷ ys) ≡ has z ys = rw (sym e, apart) refl in
             sym left ∙ h z ∙ right
 
-    by : (o : Ordering) → byte_order x y ≡ o → (((z : List ℕ) → has z xs ≡ has z ys) → xs ≡ ys) → x ∷ xs ≡ y ∷ ys
+    by : (o : Ordering) → byte_order x y ≡ o → (((z : List ℕ) → has z xs ≡ has z ys) → xs ≡ ys)
+        → x ∷ xs ≡ y ∷ ys
     by Less e later =
-        absurd (false≢true (sym (not_among x (y ∷ ys) (e, below_all x y ys e t.0)) ∙ sym (h x) ∙ has_first x xs))
+        absurd (false≢true (sym (not_among x (y ∷ ys) (e, below_all x y ys e t.0)) ∙ sym (h x)
+        ∙ has_first x xs))
     by Greater e later =
         let less = other_way x y e in
-        absurd (false≢true (sym (not_among y (x ∷ xs) (less, below_all y x xs less s.0)) ∙ h y ∙ has_first y ys))
+        absurd (false≢true (sym (not_among y (x ∷ xs) (less, below_all y x xs less s.0)) ∙ h y
+        ∙ has_first y ys))
     by Equal e later = let at = tied x y e in ap (λ z. z ∷ xs) at ∙ ap (λ zs. y ∷ zs) (later (others at))
 
 -- ---- the pairs that a loop went over
@@ -248,7 +256,8 @@ module _ {X : Type 0} (tree_of : List (List ℕ) → Tree) (values : X → List 
               → option_map_or values (found name entries) [] ≡ values_of name pairs
           by true e =
               let at : name ≡ name_of entry = (bytes_eq-Decides name (name_of entry)).0 e in
-              absurd (false≢true (sym (not_among (name_of entry) (map name_of entries) sorted.0) ∙ (rw at at among)))
+              absurd (false≢true (sym (not_among (name_of entry) (map name_of entries) sorted.0)
+              ∙ (rw at at among)))
           by false e =
               let more : has name (map name_of (entry ∷ entries)) ≡ true = rw e among in
               rw (is_eq-slice_cmp name (name_of entry), e) at (each name more)
@@ -281,7 +290,8 @@ ascending (name ∷ next ∷ names) sorted = (sorted.0.0, ascending (next ∷ na
 
 module _ (tree_of : List (List ℕ) → Tree) where
   names_under
-      : (names : List (List ℕ)) (pairs : List (List ℕ × List ℕ)) → names_of (members_under tree_of names pairs) ≡ names
+      : (names : List (List ℕ)) (pairs : List (List ℕ × List ℕ))
+      → names_of (members_under tree_of names pairs) ≡ names
   names_under [] pairs = refl
   names_under (name ∷ names) pairs = ap (λ ns. name ∷ ns) (names_under names pairs)
 

@@ -1,6 +1,6 @@
 -- The first header of a name.
-use Rattle.std.proofs.Common.{◌≡◌, ℕ, ◌+◌, ◌<◌, true, false, List, [], ◌∷◌, ◌++◌, length, take, drop, Some, sym, ap, ◌∙◌}
-use Rattle.std.proofs.Common.{take-append-drop, append_assoc, refl}
+use Rattle.std.proofs.Common.{◌≡◌, ℕ, ◌+◌, ◌<◌, true, false, List, [], ◌∷◌, ◌++◌, length}
+use Rattle.std.proofs.Common.{take, drop, Some, sym, ap, ◌∙◌, take-append-drop, append_assoc, refl}
 use Rattle.std.specs.Prelude.{slice_get}
 use Rattle.std.specs.Str.{bytes_eq}
 use Rattle.std.specs.Str.Lossy.{utf8_lossy}
@@ -22,8 +22,8 @@ texts_of_other name header headers other = rw other refl
 -- the headers up to one that has the name have none
 pub first_found
     : (name : List ℕ) (headers : List Header) (i : ℕ) (header : Header) → i < length headers
-    → Some header ≡ slice_get headers i → texts_of name (take i headers) ≡ [] → bytes_eq name header.name ≡ true
-    → first_of (texts_of name headers) ≡ utf8_lossy header.value
+    → Some header ≡ slice_get headers i → texts_of name (take i headers) ≡ []
+    → bytes_eq name header.name ≡ true → first_of (texts_of name headers) ≡ utf8_lossy header.value
 first_found name headers i header within is none named =
     let rest = drop (i + 1) headers in
     let whole : headers ≡ take i headers ++ header ∷ rest =
@@ -37,8 +37,8 @@ first_found name headers i header within is none named =
 
 pub none_more
     : (name : List ℕ) (headers : List Header) (i : ℕ) (header : Header) → i < length headers
-    → Some header ≡ slice_get headers i → texts_of name (take i headers) ≡ [] → bytes_eq name header.name ≡ false
-    → texts_of name (take (i + 1) headers) ≡ []
+    → Some header ≡ slice_get headers i → texts_of name (take i headers) ≡ []
+    → bytes_eq name header.name ≡ false → texts_of name (take (i + 1) headers) ≡ []
 none_more name headers i header within is none other =
     ap (texts_of name) (more_taken headers i header within is)
     ∙ texts_of-append name (take i headers) (header ∷ [])

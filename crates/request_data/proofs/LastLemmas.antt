@@ -1,7 +1,7 @@
 -- What is before and after the last of some elements in a list.
-use Rattle.std.proofs.Common.{◌≡◌, ◌+◌, ◌-◌, Bool, true, false, not, ◌||◌, List, [], ◌∷◌, ◌++◌, reverse, length}
-use Rattle.std.proofs.Common.{drop, All, sym, ap, subst, refl, ◌∙◌, append_assoc, length-append}
-use Rattle.std.proofs.Common.{zero-add, take_at, drop_at, arith}
+use Rattle.std.proofs.Common.{◌≡◌, ◌+◌, ◌-◌, Bool, true, false, not, ◌||◌, List, [], ◌∷◌}
+use Rattle.std.proofs.Common.{◌++◌, reverse, length, drop, All, sym, ap, subst, refl, ◌∙◌, append_assoc}
+use Rattle.std.proofs.Common.{length-append, zero-add, take_at, drop_at, arith}
 use Rattle.std.specs.List.{prefix_len, suffix_len, before_last, after_last, list_any}
 use Rattle.std.proofs.lemmas.Bool.{cond-true, cond-false, not_from_true}
 use Rattle.std.proofs.lemmas.List.{length_push, length-reverse, reverse-append}

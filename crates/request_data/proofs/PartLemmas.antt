@@ -1,6 +1,6 @@
 -- What the part of a request's data that is needed keeps.
-use Rattle.std.proofs.Common.{◌≡◌, ℕ, ◌+◌, ◌≤◌, Bool, true, false, cond, List, [], ◌∷◌, ◌++◌, length, refl, ap, ◌∙◌, sym}
-use Rattle.std.proofs.Common.{Option, arith, length-append, codes}
+use Rattle.std.proofs.Common.{◌≡◌, ℕ, ◌+◌, ◌≤◌, Bool, true, false, cond, List, [], ◌∷◌}
+use Rattle.std.proofs.Common.{◌++◌, length, refl, ap, ◌∙◌, sym, Option, arith, length-append, codes}
 use Rattle.std.specs.List.{AllByRecursion}
 use Rattle.std.specs.List.Sorted.{IsStrictlySortedBy}
 use Rattle.std.specs.Str.{bytes_eq}
@@ -116,7 +116,8 @@ part_alike needed request template =
           ∙ ap (root_with true value) (kept_all needed ms all);
       json = λ asked. ap (λ b. at json_path (root_with b value (kept needed ms))) asked;
       fields =
-          λ name asked. found_under (is_json_needed needed) value (kept needed ms) name ∙ under_kept needed name ms asked;
+          λ name asked. found_under (is_json_needed needed) value (kept needed ms) name
+          ∙ under_kept needed name ms asked;
     }
 
 pub with_json
@@ -124,13 +125,15 @@ pub with_json
     → fields (member (codes "json") (json_tree (utf8_lossy request.body)) (request_part needed request template))
     ≡ part_tree needed request template
 with_json needed request template asked =
-    sym (ap (λ b. root_with b (json_tree (utf8_lossy request.body)) (kept needed (request_fields request template))) asked)
+    sym (ap (λ b. root_with b (json_tree (utf8_lossy request.body))
+    (kept needed (request_fields request template))) asked)
 
 pub without_json
     : (needed : NeededData) (request : Request) (template : Option (List ℕ)) → is_json_needed needed ≡ false
     → fields (request_part needed request template) ≡ part_tree needed request template
 without_json needed request template none =
-    sym (ap (λ b. root_with b (json_tree (utf8_lossy request.body)) (kept needed (request_fields request template))) none)
+    sym (ap (λ b. root_with b (json_tree (utf8_lossy request.body))
+    (kept needed (request_fields request template))) none)
 
 -- ---- the part is well formed
 
@@ -149,7 +152,8 @@ unfolding kept
 all_kept P needed no_members all = tt
 all_kept P needed (member k t ms) all =
     let later = all_kept P needed ms all.1 in
-    cond_both (is_needed needed k) (member k t (kept needed ms)) (kept needed ms) (λ ms. AllByRecursion P (names_of ms))
+    cond_both (is_needed needed k) (member k t (kept needed ms)) (kept needed ms)
+    (λ ms. AllByRecursion P (names_of ms))
     (λ _. (all.0, later)) (λ _. later)
 
 sorted_kept

@@ -1,6 +1,6 @@
 -- How long the JSON text of a path is at most, with its segments and what a path template binds in it.
-use Rattle.std.proofs.Common.{◌≡◌, ℕ, ◌+◌, ◌*◌, ◌≤◌, Bool, true, false, eqb, List, [], ◌∷◌, map, length, drop}
-use Rattle.std.proofs.Common.{◌-◌, ◌&&◌, Option, None, Some, arith, length-drop}
+use Rattle.std.proofs.Common.{◌≡◌, ℕ, ◌+◌, ◌*◌, ◌≤◌, Bool, true, false, eqb, List, [], ◌∷◌}
+use Rattle.std.proofs.Common.{map, length, drop, ◌-◌, ◌&&◌, Option, None, Some, arith, length-drop}
 use Rattle.std.specs.List.{sum_by, slice_split, onto_first}
 use Rattle.std.specs.Option.{option_map, option_map_or}
 use Rattle.std.specs.Str.{bytes_eq}
@@ -24,7 +24,8 @@ use Rattle.request_data.proofs.GroupBounds.{pair_cost, firsts_most}
 -- ---- segments
 
 onto_first_cost
-    : (p : ℕ → Bool) (b : ℕ) (bs : List ℕ) (pieces : List (List ℕ)) → sum_by text_cost pieces ≤ 6 * length bs + 3
+    : (p : ℕ → Bool) (b : ℕ) (bs : List ℕ) (pieces : List (List ℕ))
+    → sum_by text_cost pieces ≤ 6 * length bs + 3
     → sum_by text_cost (onto_first b pieces) ≤ 6 * length (b ∷ bs) + 3
 onto_first_cost p b bs [] within = omega (arith, sum_by-cons text_cost (b ∷ []) [])
 onto_first_cost p b bs (piece ∷ pieces) within =
@@ -130,14 +131,16 @@ bound_most (Literal bytes ∷ pieces) (segment ∷ segments) =
     ))
     (λ _. omega arith)
 bound_most (Named name ∷ pieces) (segment ∷ segments) =
-    cond_both (is_not_empty segment) (option_map (λ bindings. (name, segment) ∷ bindings) (bound pieces segments)) None
+    cond_both (is_not_empty segment)
+    (option_map (λ bindings. (name, segment) ∷ bindings) (bound pieces segments)) None
     (λ found. bindings_cost found
     ≤ 6 * sum_by piece_len (Named name ∷ pieces) + 53 * sum_by length (segment ∷ segments))
     (one_more name segment (bound pieces segments) pieces segments (bound_most pieces segments))
     (λ _. omega arith)
 
 bindings_most
-    : (template path : List ℕ) → bindings_cost (bindings_of template path) ≤ 6 * length template + 53 * length path
+    : (template path : List ℕ)
+    → bindings_cost (bindings_of template path) ≤ 6 * length template + 53 * length path
 bindings_most template [] = omega arith
 bindings_most template (b ∷ bs) =
     cond_both (eqb b slash) (bound (pieces_of template) (segments_of (b ∷ bs))) None

@@ -1,5 +1,6 @@
 -- The pieces of a path as items of the data.
-use Rattle.std.proofs.Common.{◌≡◌, ◌≢◌, ℕ, List, [], ◌∷◌, map, Bor, Option, None, Some, unwrap_or, MatchOption, refl, ap}
+use Rattle.std.proofs.Common.{◌≡◌, ◌≢◌, ℕ, List, [], ◌∷◌, map, Bor, Option, None, Some, unwrap_or}
+use Rattle.std.proofs.Common.{MatchOption, refl, ap}
 use Rattle.data_tree.specs.Tree.{text, item, items_of}
 use Rattle.mock_request.specs.Target.{slash, IsRooted}
 use Rattle.request_data.specs.Grouped.{texts}

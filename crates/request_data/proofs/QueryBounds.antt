@@ -1,6 +1,6 @@
 -- How long the JSON text of a query's names and values is at most.
-use Rattle.std.proofs.Common.{◌≡◌, ℕ, ◌+◌, ◌*◌, ◌<◌, ◌≤◌, Bool, true, false, eqb, List, [], ◌∷◌, map, length, take, drop}
-use Rattle.std.proofs.Common.{Option, None, Some, refl, arith, length-drop}
+use Rattle.std.proofs.Common.{◌≡◌, ℕ, ◌+◌, ◌*◌, ◌<◌, ◌≤◌, Bool, true, false, eqb, List, []}
+use Rattle.std.proofs.Common.{◌∷◌, map, length, take, drop, Option, None, Some, refl, arith, length-drop}
 use Rattle.std.specs.List.{sum_by, filter, position_or_len}
 use Rattle.std.specs.Str.Lossy.{utf8_lossy}
 use Rattle.std.proofs.lemmas.Bool.{cond_both, ltb-true}
@@ -43,14 +43,16 @@ abbrev pairs_at : List (List ℕ) → List (List ℕ × List ℕ)
 pairs_at pieces = map text_pair (map (λ (name, value). (decode name, decode value)) (map split_pair pieces))
 
 pieces_most
-    : (pieces : List (List ℕ)) → sum_by pair_cost (pairs_at (filter is_nonempty pieces)) ≤ 77 * sum_by length pieces
+    : (pieces : List (List ℕ))
+    → sum_by pair_cost (pairs_at (filter is_nonempty pieces)) ≤ 77 * sum_by length pieces
 pieces_most [] = omega arith
 pieces_most (piece ∷ pieces) = by (is_nonempty piece) refl (pieces_most pieces)
   where
     by
         : (b : Bool) → is_nonempty piece ≡ b
         → sum_by pair_cost (pairs_at (filter is_nonempty pieces)) ≤ 77 * sum_by length pieces
-        → sum_by pair_cost (pairs_at (filter is_nonempty (piece ∷ pieces))) ≤ 77 * sum_by length (piece ∷ pieces)
+        → sum_by pair_cost (pairs_at (filter is_nonempty (piece ∷ pieces)))
+        ≤ 77 * sum_by length (piece ∷ pieces)
     by true e later =
         rw e (omega (
           arith,
@@ -70,7 +72,8 @@ split_length : (s : ℕ) (bs : List ℕ) → sum_by length (split s bs) ≤ leng
 unfolding split
 split_length s [] = omega arith
 split_length s (b ∷ bs) =
-    cond_both (eqb b s) ([] ∷ split s bs) (onto_first b (split s bs)) (λ pieces. sum_by length pieces ≤ length (b ∷ bs))
+    cond_both (eqb b s) ([] ∷ split s bs) (onto_first b (split s bs))
+    (λ pieces. sum_by length pieces ≤ length (b ∷ bs))
     (λ _. omega (arith, sum_by-cons length [] (split s bs), split_length s bs))
     (λ _. omega (arith, onto_first_length b (split s bs), split_length s bs))
 

@@ -1,6 +1,7 @@
 -- How long the JSON text of a text, of a list of texts and of an object is at most.
-use Rattle.std.proofs.Common.{◌≡◌, ℕ, zero, suc, ◌+◌, ◌*◌, ◌≤◌, Bool, true, false, cond, List, [], ◌∷◌, ◌++◌, length, take}
-use Rattle.std.proofs.Common.{◌<◌, Option, None, Some, arith, length-append, length-drop, drop, eqb, ltb, codes}
+use Rattle.std.proofs.Common.{◌≡◌, ℕ, zero, suc, ◌+◌, ◌*◌, ◌≤◌, Bool, true, false, cond, List, []}
+use Rattle.std.proofs.Common.{◌∷◌, ◌++◌, length, take, ◌<◌, Option, None, Some, arith, length-append}
+use Rattle.std.proofs.Common.{length-drop, drop, eqb, ltb, codes}
 use Rattle.std.specs.List.{sum_by}
 use Rattle.std.specs.Str.Lossy.{utf8_valid_len, utf8_invalid_len, after_first_chunk, utf8_lossy_within, utf8_lossy}
 use Rattle.std.specs.Str.Lossy.{replacement_bytes, second_byte_min, second_byte_max, error_len_after_two}
@@ -19,7 +20,8 @@ use Rattle.request_data.specs.Grouped.{texts}
 -- ---- texts between quotes
 
 escape_byte_by : (short control : Bool) (x letter high low : ℕ)
-    → length (cond short (92 ∷ letter ∷ []) (cond control (92 ∷ 117 ∷ 48 ∷ 48 ∷ high ∷ low ∷ []) (x ∷ []))) ≤ 6
+    → length (cond short (92 ∷ letter ∷ [])
+    (cond control (92 ∷ 117 ∷ 48 ∷ 48 ∷ high ∷ low ∷ []) (x ∷ []))) ≤ 6
 escape_byte_by true control x letter high low = omega arith
 escape_byte_by false true x letter high low = omega arith
 escape_byte_by false false x letter high low = omega arith
@@ -65,7 +67,8 @@ first_member no_members = omega arith
 first_member (member k t ms) = omega arith
 
 pub member_most : (k : List ℕ) (t : Tree) (ms : Members)
-    → length (members_json true (member k t ms)) ≤ 6 * length k + 4 + length (json t) + length (members_json true ms)
+    → length (members_json true (member k t ms))
+    ≤ 6 * length k + 4 + length (json t) + length (members_json true ms)
 member_most k t ms =
     omega (
       arith,

@@ -1,6 +1,7 @@
 -- How large the data of a request with no body is at most.
-use Rattle.std.proofs.Common.{◌≡◌, ℕ, ◌+◌, ◌-◌, ◌*◌, ◌≤◌, Bool, true, false, List, [], ◌∷◌, ◌++◌, length, refl, ap, ◌∙◌, arith}
-use Rattle.std.proofs.Common.{Option, None, Some, pos, drop, not, codes}
+use Rattle.std.proofs.Common.{◌≡◌, ℕ, ◌+◌, ◌-◌, ◌*◌, ◌≤◌, Bool, true, false, List, []}
+use Rattle.std.proofs.Common.{◌∷◌, ◌++◌, length, refl, ap, ◌∙◌, arith, Option, None, Some, pos, drop}
+use Rattle.std.proofs.Common.{not, codes}
 use Rattle.std.specs.Prelude.{unwrap_or}
 use Rattle.std.specs.List.{sum_by, list_any, position_or_len, suffix_len, before_last}
 use Rattle.std.specs.Str.{bytes_eq}
@@ -52,7 +53,8 @@ weights_sum (header ∷ headers) = by (bytes_eq header.name (codes "cookie")) re
         ≡ sum_by header_len (header ∷ headers) + 2 * sum_by cookie_len (header ∷ headers)
     by true e later =
         let weight : header_weight header ≡ length header.name + 3 * length header.value = rw e refl in
-        let len : cookie_len header ≡ length header.value = rw (nat_list_eq_equiv.symm (codes "cookie") header.name, e) refl in
+        let len : cookie_len header ≡ length header.value =
+        rw (nat_list_eq_equiv.symm (codes "cookie") header.name, e) refl in
         omega (
           arith,
           weight,
@@ -104,7 +106,8 @@ authority_most headers = first_text_most (codes "host") headers
 
 host_most : (authority : List ℕ) → length (host_of authority) ≤ length authority
 host_most authority =
-    cond_both (has_port authority) (before_last is_colon authority) authority (λ host. length host ≤ length authority)
+    cond_both (has_port authority) (before_last is_colon authority) authority
+    (λ host. length host ≤ length authority)
     (λ _. omega (arith, length-take (length authority - suffix_len (λ b. not (is_colon b)) authority - 1) authority))
     (λ _. omega arith)
 
@@ -128,7 +131,8 @@ abbrev entry_cost : List ℕ × Tree → ℕ
 entry_cost entry = 6 * length entry.0 + 4 + length (json entry.1)
 
 entries_most
-    : (entries : List (List ℕ × Tree)) → length (members_json true (members_from entries)) ≤ sum_by entry_cost entries
+    : (entries : List (List ℕ × Tree))
+    → length (members_json true (members_from entries)) ≤ sum_by entry_cost entries
 entries_most [] = omega arith
 entries_most (entry ∷ entries) =
     omega (
@@ -139,7 +143,8 @@ entries_most (entry ∷ entries) =
     )
 
 object_most
-    : (entries : List (List ℕ × Tree)) → length (json (fields (members_from entries))) ≤ 2 + sum_by entry_cost entries
+    : (entries : List (List ℕ × Tree))
+    → length (json (fields (members_from entries))) ≤ 2 + sum_by entry_cost entries
 object_most entries =
     omega (arith, length_fields (members_from entries), first_member (members_from entries), entries_most entries)
 
@@ -167,7 +172,8 @@ fields_most base body cookies headers host method path segments port query schem
       arith,
       object_most (
           (codes "baseUrl", base) ∷ (codes "body", body) ∷ (codes "cookies", cookies) ∷ (codes "headers", headers)
-          ∷ (codes "host", host) ∷ (codes "method", method) ∷ (codes "path", path) ∷ (codes "pathSegments", segments)
+          ∷ (codes "host", host) ∷ (codes "method", method) ∷ (codes "path", path)
+          ∷ (codes "pathSegments", segments)
           ∷ (codes "port", port) ∷ (codes "query", query) ∷ (codes "scheme", scheme) ∷ (codes "url", url) ∷ []
           ),
     )
@@ -192,7 +198,8 @@ tree_most request template no_body =
     let path = path_of request.url in
     let none = utf8_lossy_empty request.body no_body in
     let json_len : length (json (json_tree (utf8_lossy request.body))) ≡ 4 =
-    ap (λ bs. length (json (json_tree bs))) none ∙ ap (λ found. length (json (unwrap_or found nothing))) are_texts.no_text in
+    ap (λ bs. length (json (json_tree bs))) none
+    ∙ ap (λ found. length (json (unwrap_or found nothing))) are_texts.no_text in
     let body_len : length (json (text (utf8_lossy request.body))) ≡ 2 = ap (λ bs. length (json (text bs))) none in
     omega (
       arith,

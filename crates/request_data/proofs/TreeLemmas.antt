@@ -1,5 +1,6 @@
 -- What a request's tree keeps.
-use Rattle.std.proofs.Common.{◌≡◌, ℕ, List, [], ◌∷◌, ◌++◌, String, string_bytes, Option, None, Some, refl, ap, ◌∙◌, rules}
+use Rattle.std.proofs.Common.{◌≡◌, ℕ, List, [], ◌∷◌, ◌++◌, String, string_bytes, Option, None, Some}
+use Rattle.std.proofs.Common.{refl, ap, ◌∙◌, rules}
 use Rattle.std.specs.Option.{option_map_or}
 use Rattle.std.specs.declared.alloc.Global.{Global}
 use Rattle.data_tree.specs.declared.data.Data.{Data, Nothing, the_lemmas}
@@ -63,6 +64,7 @@ members_of_entries (field ∷ others) = ap (member (string_bytes field.0) (view 
 -- one more field, whose value has that tree
 pub entry_more
     : (name : List ℕ) {value tree : Tree} {old new before : List (List ℕ × Tree)}
-    → new ≡ old ++ (name, value) ∷ [] → old ≡ before → value ≡ tree → new ≡ before ++ (name, tree) ∷ []
+    → new ≡ old ++ (name, value) ∷ [] → old ≡ before → value ≡ tree
+    → new ≡ before ++ (name, tree) ∷ []
 entry_more name {value} {tree} {old} {new} {before} pushed so_far same =
     pushed ∙ ap (λ es. es ++ (name, value) ∷ []) so_far ∙ ap (λ t. before ++ (name, t) ∷ []) same

@@ -26,8 +26,8 @@ use std::alloc::{AllocError, Global};
 // Templates seldom look at more fields of a request. Room for more is made as they come.
 const USUAL_FIELDS: usize = 2;
 
-/// The part of a request's data that is needed, where the whole is within `RequestData`'s limit. What isn't needed isn't
-/// made. A path template that the path matches names segments of it, in the fields of `request.path`.
+/// The part of a request's data that is needed, where the whole is within `RequestData`'s limit. What isn't needed
+/// isn't made. A path template that the path matches names segments of it, in the fields of `request.path`.
 pub fn part_of_data(
     alloc: Global,
     snapshot: &Snapshot,

@@ -1,6 +1,6 @@
 -- The event that makes a checkpoint keeps a past legal.
-use Rattle.std.proofs.Common.{◌≡◌, inl, inr, ℕ, ◌+◌, ◌≤◌, ◌<◌, Bool, true, false, [], ◌∷◌, ◌++◌, length}
-use Rattle.std.proofs.Common.{sym, ap, subst, ◌∙◌, arith}
+use Rattle.std.proofs.Common.{◌≡◌, inl, inr, ℕ, ◌+◌, ◌≤◌, ◌<◌, Bool, true, false, [], ◌∷◌}
+use Rattle.std.proofs.Common.{◌++◌, length, sym, ap, subst, ◌∙◌, arith}
 use Rattle.request_journal.specs.Journal.{clears}
 use Rattle.request_journal.specs.Legal.{IsLegal, IsNext, IsAnswer, IsCheckpoint}
 use Rattle.request_journal.specs.Live.{live, adds, left_by}
@@ -61,7 +61,8 @@ pub legal_at_clear : (old new : Past) (e : Event) → IsCheckpoint old new → c
     → IsNext old e → length (live old) ≤ LIVE_LIMIT → IsLegal (with_event new e)
 legal_at_clear old new e c h next few = record {
   begins = inr (e, [], ap (λ es. es ++ e ∷ []) c.no_events, h);
-  has_room = subst (λ n. n ≤ NUMBER_LIMIT) (sym c.same_number) (le_of_lt (last_number old) NUMBER_LIMIT next.has_room);
+  has_room = subst (λ n. n ≤ NUMBER_LIMIT) (sym c.same_number)
+      (le_of_lt (last_number old) NUMBER_LIMIT next.has_room);
   few_live = subst (λ l. length l ≤ LIVE_LIMIT) (sym c.same_live) few;
   answers = λ earlier later item g.
       elim (split_last new.events e earlier item later g)

@@ -1,6 +1,7 @@
 -- Small pasts that the definitions read as they should: ids are short texts, and the mappings are any.
-use Rattle.std.proofs.Common.{◌≡◌, inl, inr, ℕ, zero, suc, ◌+◌, ◌<◌, ◌≤◌, ◌==◌, true, List, [], ◌∷◌, ◌++◌, Contains, Some, None}
-use Rattle.std.proofs.Common.{option_map, refl, sym, ap, subst, ◌∙◌, codes, arith}
+use Rattle.std.proofs.Common.{◌≡◌, inl, inr, ℕ, zero, suc, ◌+◌, ◌<◌, ◌≤◌, ◌==◌, true, List}
+use Rattle.std.proofs.Common.{[], ◌∷◌, ◌++◌, Contains, Some, None, option_map, refl, sym, ap, subst}
+use Rattle.std.proofs.Common.{◌∙◌, codes, arith}
 use Rattle.std.specs.Prelude.{◌<ℤ◌, find}
 use Rattle.std.proofs.lemmas.Int.{ints}
 use Rattle.mapping_model.specs.Priority.{priority_of}
@@ -44,7 +45,8 @@ b = codes "b"
 -- ---- live mappings
 
 module _ (s t u : MappingSpec) where
-  added_in_order : live (book [] (event.Add (named a s) ∷ event.Add (named b t) ∷ [])) ≡ at 1 0 a s ∷ at 2 0 b t ∷ []
+  added_in_order : live (book [] (event.Add (named a s) ∷ event.Add (named b t) ∷ []))
+      ≡ at 1 0 a s ∷ at 2 0 b t ∷ []
   added_in_order = refl
 
   edit_keeps_the_place
@@ -67,7 +69,8 @@ module _ (s t u : MappingSpec) where
   default_is_deleted = refl
 
   reset_brings_the_defaults_back
-      : live (book (named a s ∷ []) (event.Edit a t ∷ event.Add (named b u) ∷ event.Delete a ∷ event.ResetMappings ∷ []))
+      : live (book (named a s ∷ [])
+      (event.Edit a t ∷ event.Add (named b u) ∷ event.Delete a ∷ event.ResetMappings ∷ []))
       ≡ at 4 0 a s ∷ []
   reset_brings_the_defaults_back = refl
 
@@ -93,11 +96,13 @@ module _ (s : MappingSpec) (r : Request) where
   abbrev serve_moving : List ℕ → Event
   serve_moving next = event.Serve r (Stub (record { mapping = named b (moving s next) }))
 
-  last_move : state (book [] (serve_moving (codes "2") ∷ serve_moving (codes "3") ∷ event.DeleteAll ∷ [])) a ≡ codes "3"
+  last_move : state (book [] (serve_moving (codes "2") ∷ serve_moving (codes "3") ∷ event.DeleteAll ∷ [])) a
+      ≡ codes "3"
   last_move = refl
 
   set_after_move
-      : state (book [] (serve_moving (codes "2") ∷ event.SetScenario a (codes "4") ∷ event.SetScenario b (codes "5") ∷ [])) a
+      : state (book [] (serve_moving (codes "2") ∷ event.SetScenario a (codes "4")
+      ∷ event.SetScenario b (codes "5") ∷ [])) a
       ≡ codes "4"
   set_after_move = refl
 
@@ -157,11 +162,13 @@ module _ (s : MappingSpec) (q r : Request) (new : Past) where
 
     third_is_dropped : event_at after_clear 3 ≡ None
     third_is_dropped =
-        ap (λ n. option_map (λ x. x.event) (find (λ x. x.number == 3) (numbered (n + 1) after_clear.events))) c.same_number
+        ap (λ n. option_map (λ x. x.event)
+        (find (λ x. x.number == 3) (numbered (n + 1) after_clear.events))) c.same_number
 
     fourth_is_the_clear : event_at after_clear 4 ≡ Some event.ClearJournal
     fourth_is_the_clear =
-        ap (λ n. option_map (λ x. x.event) (find (λ x. x.number == 4) (numbered (n + 1) after_clear.events))) c.same_number
+        ap (λ n. option_map (λ x. x.event)
+        (find (λ x. x.number == 4) (numbered (n + 1) after_clear.events))) c.same_number
 
     last_request_alone : requests after_clear ≡ record { number = 5; request = r } ∷ []
     last_request_alone = ap (λ n. record { number = n + 1 + 1; request = r } ∷ []) c.same_number
@@ -206,7 +213,8 @@ module _ (target : List ℕ) (captured : List (List ℕ)) (x y : Exchange) where
       record { start = number; target = target; captured = captured; repeats = true; exchanges = exchanges }
 
   started_and_stopped
-      : recording (book [] (event.ClearJournal ∷ start ∷ event.Record 3 x ∷ event.Record 4 y ∷ event.StopRecording [] 2 ∷ []))
+      : recording (book [] (event.ClearJournal ∷ start ∷ event.Record 3 x ∷ event.Record 4 y
+      ∷ event.StopRecording [] 2 ∷ []))
       ≡ Stopped (session 2 (x ∷ y ∷ []))
   started_and_stopped = refl
 
@@ -218,7 +226,8 @@ module _ (target : List ℕ) (captured : List (List ℕ)) (x y : Exchange) where
 
   -- a second start forgets the first recording's exchanges
   started_again
-      : recording (book [] (start ∷ event.Record 1 x ∷ event.StopRecording [] 1 ∷ start ∷ event.Record 4 y ∷ []))
+      : recording (book [] (start ∷ event.Record 1 x ∷ event.StopRecording [] 1 ∷ start
+      ∷ event.Record 4 y ∷ []))
       ≡ On (session 4 (y ∷ []))
   started_again = refl
 

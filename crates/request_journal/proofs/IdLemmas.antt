@@ -1,6 +1,6 @@
 -- No two live mappings have one id.
-use Rattle.std.proofs.Common.{◌≡◌, ℕ, ◌+◌, Bool, true, false, cond, List, [], ◌∷◌, ◌++◌, refl, sym, ap}
-use Rattle.std.proofs.Common.{subst, ◌∙◌, append-nil}
+use Rattle.std.proofs.Common.{◌≡◌, ℕ, ◌+◌, Bool, true, false, cond, List, [], ◌∷◌, ◌++◌, refl}
+use Rattle.std.proofs.Common.{sym, ap, subst, ◌∙◌, append-nil}
 use Rattle.std.proofs.lemmas.Bool.{or_parts, or_from}
 use Rattle.std.specs.List.{list_any}
 use Rattle.std.specs.Str.{bytes_eq}
@@ -33,7 +33,8 @@ placed_held : (number index : ℕ) (ms : List Mapping) (id : List ℕ) → has_i
     → is_held (placed_from number index ms) id ≡ false
 placed_held number index [] id h = refl
 placed_held number index (m ∷ ms) id h =
-    let both : (bytes_eq m.id id ≡ false) × (has_id ms id ≡ false) = or_parts (bytes_eq m.id id) (has_id ms id) h in
+    let both : (bytes_eq m.id id ≡ false) × (has_id ms id ≡ false) =
+    or_parts (bytes_eq m.id id) (has_id ms id) h in
     elim (has_id ms m.id)
     as (λ b. is_held (cond b (placed_from number (index + 1) ms)
     (record { place = record { event = number; index = index }; mapping = m } ∷ placed_from number (index + 1) ms)) id
@@ -71,7 +72,8 @@ left_held es (p ∷ ps) id h =
 left_differ : (es : List Event) (ps : List Placed) → IdsDiffer ps → IdsDiffer (left_by es ps)
 left_differ es [] d = tt
 left_differ es (p ∷ ps) d =
-    elim (is_removed es p.mapping.id) as (λ r. is_removed es p.mapping.id ≡ r → IdsDiffer (left_by es (p ∷ ps))) [
+    elim (is_removed es p.mapping.id) as
+    (λ r. is_removed es p.mapping.id ≡ r → IdsDiffer (left_by es (p ∷ ps))) [
       | true ↦ λ r. subst IdsDiffer (sym (gone es p ps r)) (left_differ es ps d.1)
       | false ↦ λ r. subst IdsDiffer (sym (kept es p ps r)) (left_held es ps p.mapping.id d.0, left_differ es ps d.1)
     ] refl
@@ -106,7 +108,8 @@ one_differ : (defaults : List Mapping) (number : ℕ) (e : Event) (ps : List Pla
 one_differ defaults number e [] d = placed_differ number 0 (added_mappings defaults e)
 one_differ defaults number e (p ∷ ps) d =
     elim (is_removed (e ∷ []) p.mapping.id)
-    as (λ r. is_removed (e ∷ []) p.mapping.id ≡ r → IdsDiffer (left_by (e ∷ []) (p ∷ ps) ++ adds defaults number e)) [
+    as (λ r. is_removed (e ∷ []) p.mapping.id ≡ r
+    → IdsDiffer (left_by (e ∷ []) (p ∷ ps) ++ adds defaults number e)) [
       | true ↦ λ r. subst (λ l. IdsDiffer (l ++ adds defaults number e)) (sym (gone (e ∷ []) p ps r))
           (one_differ defaults number e ps d.1)
       | false ↦ λ r. subst (λ l. IdsDiffer (l ++ adds defaults number e)) (sym (kept (e ∷ []) p ps r)) (
@@ -136,5 +139,6 @@ pub ids_differ_after : (past : Past) (e : Event) → IdsDiffer (live past) → I
 ids_differ_after past e d =
     subst IdsDiffer (sym (live_after past e)) (one_differ past.defaults (last_number past + 1) e (live past) d)
 
-pub ids_differ_at_checkpoint : (old new : Past) → IsCheckpoint old new → IdsDiffer (live old) → IdsDiffer (live new)
+pub ids_differ_at_checkpoint : (old new : Past) → IsCheckpoint old new → IdsDiffer (live old)
+    → IdsDiffer (live new)
 ids_differ_at_checkpoint old new c d = subst IdsDiffer (sym (live_at_checkpoint old new c)) d

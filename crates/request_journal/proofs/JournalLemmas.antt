@@ -1,6 +1,6 @@
 -- What one more event does to what the journal shows.
-use Rattle.std.proofs.Common.{◌≡◌, ℕ, ◌+◌, Bool, true, false, ◌||◌, cond, List, [], ◌∷◌, ◌++◌, length, Option, Some, None}
-use Rattle.std.proofs.Common.{refl, ap, ◌∙◌, arith, reverse, option_map}
+use Rattle.std.proofs.Common.{◌≡◌, ℕ, ◌+◌, Bool, true, false, ◌||◌, cond, List, [], ◌∷◌, ◌++◌}
+use Rattle.std.proofs.Common.{length, Option, Some, None, refl, ap, ◌∙◌, arith, reverse, option_map}
 use Rattle.std.specs.List.{list_any, filter_map, cons_option}
 use Rattle.mock_request.specs.Request.{Request}
 use Rattle.request_journal.specs.Events.{Numbered, numbered, after_last}
@@ -11,7 +11,8 @@ use Rattle.request_journal.specs.declared.event.Event.{Event}
 use Rattle.request_journal.proofs.LiveLemmas.{any_one}
 
 pub numbered_one : (number : ℕ) (es : List Event) (e : Event)
-    → numbered number (es ++ e ∷ []) ≡ numbered number es ++ record { number = number + length es; event = e } ∷ []
+    → numbered number (es ++ e ∷ [])
+    ≡ numbered number es ++ record { number = number + length es; event = e } ∷ []
 numbered_one number [] e = ap (λ n. record { number = n; event = e } ∷ []) (omega arith)
 numbered_one number (y ∷ ys) e =
     ap (λ l. record { number = number; event = y } ∷ l)
@@ -35,7 +36,8 @@ or_is_false false = refl
 
 -- nothing is after the last item that passes, where it is the last of all
 pub after_passing
-    : {X : Type 0} (test : X → Bool) (xs : List X) (x : X) → test x ≡ true → after_last test (xs ++ x ∷ []) ≡ []
+    : {X : Type 0} (test : X → Bool) (xs : List X) (x : X) → test x ≡ true
+    → after_last test (xs ++ x ∷ []) ≡ []
 after_passing test [] x h = ap (λ b. cond (b || false) [] (x ∷ [])) h
 after_passing test (y ∷ ys) x h =
     ap (λ b. cond (test y || b) (after_last test (ys ++ x ∷ [])) (y ∷ (ys ++ x ∷ [])))
@@ -76,7 +78,8 @@ pub visible_after_clear : (found : Event → Option Request) (past : Past) (e : 
 visible_after_clear found past e h =
     ap (λ l. reverse (filter_map (entry_of found) (after_last (λ n. clears n.event) l))) (numbered_after past e)
     ∙ ap (λ l. reverse (filter_map (entry_of found) l))
-    (after_passing (λ n. clears n.event) (numbered_events past) (record { number = last_number past + 1; event = e }) h)
+    (after_passing (λ n. clears n.event) (numbered_events past)
+    (record { number = last_number past + 1; event = e }) h)
 
 -- another event adds what is found in it, as the newest
 pub visible_after : (found : Event → Option Request) (past : Past) (e : Event) → clears e ≡ false
@@ -86,5 +89,6 @@ pub visible_after : (found : Event → Option Request) (past : Past) (e : Event)
 visible_after found past e h =
     let last : Numbered = record { number = last_number past + 1; event = e } in
     ap (λ l. reverse (filter_map (entry_of found) (after_last (λ n. clears n.event) l))) (numbered_after past e)
-    ∙ ap (λ l. reverse (filter_map (entry_of found) l)) (after_other (λ n. clears n.event) (numbered_events past) last h)
+    ∙ ap (λ l. reverse (filter_map (entry_of found) l))
+    (after_other (λ n. clears n.event) (numbered_events past) last h)
     ∙ ap reverse (found_one (entry_of found) (after_last (λ n. clears n.event) (numbered_events past)) last)

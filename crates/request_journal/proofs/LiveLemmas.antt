@@ -1,7 +1,8 @@
 -- What one more event does to the live mappings and to the states of scenarios, and that a checkpoint changes
 -- neither.
-use Rattle.std.proofs.Common.{◌≡◌, ℕ, ◌+◌, Bool, true, false, not, ◌||◌, cond, List, [], ◌∷◌, ◌++◌, length, map, Option}
-use Rattle.std.proofs.Common.{Some, None, refl, sym, ap, ◌∙◌, arith, append-nil, append_assoc}
+use Rattle.std.proofs.Common.{◌≡◌, ℕ, ◌+◌, Bool, true, false, not, ◌||◌, cond, List, [], ◌∷◌}
+use Rattle.std.proofs.Common.{◌++◌, length, map, Option, Some, None, refl, sym, ap, ◌∙◌, arith, append-nil}
+use Rattle.std.proofs.Common.{append_assoc}
 use Rattle.std.specs.List.{list_any, filter}
 use Rattle.std.specs.Option.{option_or, unwrap_or}
 use Rattle.scenario_core.specs.Scenarios.{state_of}
@@ -23,7 +24,8 @@ or_more : (p q r s : Bool) → q ≡ (r || s) → (p || q) ≡ ((p || r) || s)
 or_more true q r s e = refl
 or_more false q r s e = e
 
-pub any_one : {X : Type 0} (test : X → Bool) (xs : List X) (x : X) → list_any test (xs ++ x ∷ []) ≡ (list_any test xs || test x)
+pub any_one : {X : Type 0} (test : X → Bool) (xs : List X) (x : X)
+    → list_any test (xs ++ x ∷ []) ≡ (list_any test xs || test x)
 any_one test [] x = or_false (test x)
 any_one test (y ∷ ys) x = or_more (test y) _ (list_any test ys) (test x) (any_one test ys x)
 
@@ -41,7 +43,8 @@ last_one says [] x = or_none (says x)
 last_one says (y ∷ ys) x =
     ap (λ o. option_or o (says y)) (last_one says ys x) ∙ or_assoc (says x) (last_of says ys) (says y)
 
-pub unwrap_or_more : {X : Type 0} (o p : Option X) (d : X) → unwrap_or (option_or o p) d ≡ unwrap_or o (unwrap_or p d)
+pub unwrap_or_more : {X : Type 0} (o p : Option X) (d : X)
+    → unwrap_or (option_or o p) d ≡ unwrap_or o (unwrap_or p d)
 unwrap_or_more None p d = refl
 unwrap_or_more (Some x) p d = refl
 
@@ -67,13 +70,16 @@ left_by_append : (es : List Event) (ps qs : List Placed) → left_by es (ps ++ q
 left_by_append es [] qs = refl
 left_by_append es (p ∷ ps) qs =
     elim (is_removed es p.mapping.id)
-    as (λ r. is_removed es p.mapping.id ≡ r → left_by es (p ∷ (ps ++ qs)) ≡ left_by es (p ∷ ps) ++ left_by es qs) [
-      | true ↦ λ h. gone es p (ps ++ qs) h ∙ left_by_append es ps qs ∙ sym (ap (λ l. l ++ left_by es qs) (gone es p ps h))
+    as (λ r. is_removed es p.mapping.id ≡ r
+    → left_by es (p ∷ (ps ++ qs)) ≡ left_by es (p ∷ ps) ++ left_by es qs) [
+      | true ↦ λ h. gone es p (ps ++ qs) h ∙ left_by_append es ps qs
+          ∙ sym (ap (λ l. l ++ left_by es qs) (gone es p ps h))
       | false ↦ λ h. kept es p (ps ++ qs) h ∙ ap (λ l. edited es p ∷ l) (left_by_append es ps qs)
           ∙ sym (ap (λ l. l ++ left_by es qs) (kept es p ps h))
     ] refl
 
-edited_one : (es : List Event) (e : Event) (p : Placed) → edited (es ++ e ∷ []) p ≡ edited (e ∷ []) (edited es p)
+edited_one : (es : List Event) (e : Event) (p : Placed)
+    → edited (es ++ e ∷ []) p ≡ edited (e ∷ []) (edited es p)
 edited_one es e p =
     ap (λ spec. record { place = p.place; mapping = record { id = p.mapping.id; spec = spec } })
     (ap (λ o. unwrap_or o p.mapping.spec) (last_one (edit_of p.mapping.id) es e)
@@ -84,7 +90,8 @@ removed_one : (es : List Event) (e : Event) (id : List ℕ) (r : Bool) → is_re
 removed_one es e id r h = any_one (λ x. removes x id) es e ∙ ap (λ b. b || removes e id) h
 
 left_by_one
-    : (es : List Event) (e : Event) (ps : List Placed) → left_by (es ++ e ∷ []) ps ≡ left_by (e ∷ []) (left_by es ps)
+    : (es : List Event) (e : Event) (ps : List Placed)
+    → left_by (es ++ e ∷ []) ps ≡ left_by (e ∷ []) (left_by es ps)
 left_by_one es e [] = refl
 left_by_one es e (p ∷ ps) =
     let id : List ℕ = p.mapping.id in
@@ -150,6 +157,7 @@ live_at_checkpoint old new c =
     (λ i. left_by (c.no_events i) (c.same_live i) ++ added_by new.defaults (new.base.number + 1) (c.no_events i))
     ∙ append-nil (left_by [] (live old)) ∙ left_by_none (live old)
 
-pub state_at_checkpoint : (old new : Past) → IsCheckpoint old new → (name : List ℕ) → state new name ≡ state old name
+pub state_at_checkpoint : (old new : Past) → IsCheckpoint old new → (name : List ℕ)
+    → state new name ≡ state old name
 state_at_checkpoint old new c name =
     (λ i. unwrap_or (last_of (touch name) (c.no_events i)) (state_of new.base.states name)) ∙ c.same_states name

@@ -1,6 +1,6 @@
 -- Live mappings are in order of their places, each of another place, so a past allows one choice for a request.
-use Rattle.std.proofs.Common.{◌≡◌, ◌⊎◌, inl, inr, ℕ, zero, suc, ◌+◌, ◌<◌, true, false, cond, List, [], ◌∷◌, ◌++◌}
-use Rattle.std.proofs.Common.{refl, sym, ap, subst, ◌∙◌, arith, append-nil}
+use Rattle.std.proofs.Common.{◌≡◌, ◌⊎◌, inl, inr, ℕ, zero, suc, ◌+◌, ◌<◌, true, false, cond, List}
+use Rattle.std.proofs.Common.{[], ◌∷◌, ◌++◌, refl, sym, ap, subst, ◌∙◌, arith, append-nil}
 use Rattle.std.proofs.lemmas.Bool.{cases_order}
 use Rattle.std.proofs.lemmas.Int.{by_lt_z, ints}
 use Rattle.std.specs.List.{Contains}
@@ -21,7 +21,8 @@ use Rattle.request_journal.specs.declared.event.ServeAnswer.{ServeAnswer}
 use Rattle.request_journal.specs.declared.event.ServeAnswer.TheVariants.{Stub, Proxy, Unmatched}
 use Rattle.request_journal.specs.declared.mapping.Mapping.{Mapping}
 use Rattle.request_journal.proofs.LiveLemmas.{live_after, live_at_checkpoint, left_by_none, gone, kept}
-use Rattle.request_journal.proofs.PlaceLemmas.{AreWithin, same_le, both_within, wider, left_within, placed_within, live_within}
+use Rattle.request_journal.proofs.PlaceLemmas.{AreWithin, same_le, both_within, wider, left_within, placed_within}
+use Rattle.request_journal.proofs.PlaceLemmas.{live_within}
 use Rattle.request_journal.proofs.CheckpointLemmas.{number_at_checkpoint}
 use Rattle.request_journal.proofs.SameLemmas.{number_after}
 
@@ -59,10 +60,12 @@ placed_in_order number index (m ∷ ms) =
 
 -- ---- what is left by events
 
-left_newer : (es : List Event) (place : Place) (ps : List Placed) → AreNewer place ps → AreNewer place (left_by es ps)
+left_newer : (es : List Event) (place : Place) (ps : List Placed) → AreNewer place ps
+    → AreNewer place (left_by es ps)
 left_newer es place [] h = tt
 left_newer es place (p ∷ ps) h =
-    elim (is_removed es p.mapping.id) as (λ r. is_removed es p.mapping.id ≡ r → AreNewer place (left_by es (p ∷ ps))) [
+    elim (is_removed es p.mapping.id) as
+    (λ r. is_removed es p.mapping.id ≡ r → AreNewer place (left_by es (p ∷ ps))) [
       | true ↦ λ r. subst (AreNewer place) (sym (gone es p ps r)) (left_newer es place ps h.1)
       | false ↦ λ r. subst (AreNewer place) (sym (kept es p ps r)) (h.0, left_newer es place ps h.1)
     ] refl
@@ -70,7 +73,8 @@ left_newer es place (p ∷ ps) h =
 left_in_order : (es : List Event) (ps : List Placed) → AreInOrder ps → AreInOrder (left_by es ps)
 left_in_order es [] h = tt
 left_in_order es (p ∷ ps) h =
-    elim (is_removed es p.mapping.id) as (λ r. is_removed es p.mapping.id ≡ r → AreInOrder (left_by es (p ∷ ps))) [
+    elim (is_removed es p.mapping.id) as
+    (λ r. is_removed es p.mapping.id ≡ r → AreInOrder (left_by es (p ∷ ps))) [
       | true ↦ λ r. subst AreInOrder (sym (gone es p ps r)) (left_in_order es ps h.1)
       | false ↦ λ r. subst AreInOrder (sym (kept es p ps r)) (left_newer es p.place ps h.0, left_in_order es ps h.1)
     ] refl
@@ -82,12 +86,14 @@ newer_than : (low high : ℕ) (place : Place) (qs : List Placed) → place.event
 newer_than low high place [] l w = tt
 newer_than low high place (q ∷ qs) l w = (inl (omega (arith, w.0)), newer_than low high place qs l w.2)
 
-both_newer : (place : Place) (ps qs : List Placed) → AreNewer place ps → AreNewer place qs → AreNewer place (ps ++ qs)
+both_newer : (place : Place) (ps qs : List Placed) → AreNewer place ps → AreNewer place qs
+    → AreNewer place (ps ++ qs)
 both_newer place [] qs h g = g
 both_newer place (p ∷ ps) qs h g = (h.0, both_newer place ps qs h.1 g)
 
 both_in_order : (low middle above high : ℕ) (ps qs : List Placed) → middle < above
-    → AreWithin low middle ps → AreWithin above high qs → AreInOrder ps → AreInOrder qs → AreInOrder (ps ++ qs)
+    → AreWithin low middle ps → AreWithin above high qs → AreInOrder ps → AreInOrder qs
+    → AreInOrder (ps ++ qs)
 both_in_order low middle above high [] qs l w v h g = g
 both_in_order low middle above high (p ∷ ps) qs l w v h g = (
   both_newer p.place ps qs h.0 (newer_than above high p.place qs (omega (arith, w.1)) v),
@@ -121,7 +127,8 @@ in_order_after low past e w h =
     (left_in_order (e ∷ []) (live past) h)
     (placed_in_order number 0 (added_mappings past.defaults e)))
 
-pub in_order_at_checkpoint : (old new : Past) → IsCheckpoint old new → AreInOrder (live old) → AreInOrder (live new)
+pub in_order_at_checkpoint : (old new : Past) → IsCheckpoint old new → AreInOrder (live old)
+    → AreInOrder (live new)
 in_order_at_checkpoint old new c h = subst AreInOrder (sym (live_at_checkpoint old new c)) h
 
 -- ---- both laws at once, for whoever keeps a past
@@ -184,14 +191,16 @@ first_or_later : (p : Placed) (ps : List Placed) (q : Placed) → Contains (p �
 first_or_later p ps q (zero, l, e) = inl e
 first_or_later p ps q (suc k, l, e) = inr (k, omega (arith, l), e)
 
-newer_one : (place : Place) (ps : List Placed) (q : Placed) → AreNewer place ps → Contains ps q → IsNewer q.place place
+newer_one : (place : Place) (ps : List Placed) (q : Placed) → AreNewer place ps → Contains ps q
+    → IsNewer q.place place
 newer_one place [] q h c = absurd (omega (arith, c.1))
 newer_one place (p ∷ ps) q h c = elim (first_or_later p ps q c) as (λ _. IsNewer q.place place) [
   | inl e ↦ subst (λ (x : Placed). IsNewer x.place place) e h.0
   | inr later ↦ newer_one place ps q h.1 later
 ]
 
-apart : (place : Place) (ps : List Placed) (q : Placed) → AreNewer place ps → Contains ps q → place ≡ q.place → ⊥
+apart : (place : Place) (ps : List Placed) (q : Placed) → AreNewer place ps → Contains ps q
+    → place ≡ q.place → ⊥
 apart place ps q h c e =
     not_itself place (subst (λ (x : Place). IsNewer x place) (sym e) (newer_one place ps q h c))
 

@@ -1,5 +1,6 @@
 -- What events add has places of these events alone. So no event of another number gives the same place.
-use Rattle.std.proofs.Common.{ℕ, ◌+◌, ◌-◌, ◌≤◌, true, false, not, cond, List, [], ◌∷◌, ◌++◌, length, map, arith}
+use Rattle.std.proofs.Common.{ℕ, ◌+◌, ◌-◌, ◌≤◌, true, false, not, cond, List, [], ◌∷◌, ◌++◌}
+use Rattle.std.proofs.Common.{length, map, arith}
 use Rattle.std.specs.List.{filter}
 use Rattle.request_journal.specs.Live.{live, adds, added_by, added_mappings, edited, is_removed, left_by}
 use Rattle.request_journal.specs.Past.{Past, Placed, has_id, placed_from, last_number}
@@ -18,7 +19,8 @@ less : (a b c : ℕ) → a ≤ b → b ≤ c → a ≤ c
 less a b c l r = omega arith
 
 pub both_within
-    : (low high : ℕ) (ps qs : List Placed) → AreWithin low high ps → AreWithin low high qs → AreWithin low high (ps ++ qs)
+    : (low high : ℕ) (ps qs : List Placed) → AreWithin low high ps → AreWithin low high qs
+    → AreWithin low high (ps ++ qs)
 both_within low high [] qs h g = g
 both_within low high (p ∷ ps) qs h g = (h.0, h.1, both_within low high ps qs h.2 g)
 
@@ -29,7 +31,8 @@ wider low lower high higher (p ∷ ps) l r h =
     (less lower low p.place.event l h.0, less p.place.event high higher h.1 r, wider low lower high higher ps l r h.2)
 
 pub left_within
-    : (low high : ℕ) (es : List Event) (ps : List Placed) → AreWithin low high ps → AreWithin low high (left_by es ps)
+    : (low high : ℕ) (es : List Event) (ps : List Placed) → AreWithin low high ps
+    → AreWithin low high (left_by es ps)
 left_within low high es [] h = tt
 left_within low high es (p ∷ ps) h =
     elim (is_removed es p.mapping.id)
@@ -64,11 +67,12 @@ added_within defaults number (e ∷ es) =
     (omega arith) (omega arith) (added_within defaults (number + 1) es))
 
 -- no live mapping is newer than the last event, so the next one gives new places
-pub live_within : (low : ℕ) (past : Past) → low ≤ past.base.number → AreWithin low past.base.number past.base.live
-    → AreWithin low (last_number past) (live past)
+pub live_within : (low : ℕ) (past : Past) → low ≤ past.base.number
+    → AreWithin low past.base.number past.base.live → AreWithin low (last_number past) (live past)
 live_within low past l h =
     let number : ℕ = past.base.number in
-    both_within low (last_number past) (left_by past.events past.base.live) (added_by past.defaults (number + 1) past.events)
+    both_within low (last_number past) (left_by past.events past.base.live)
+    (added_by past.defaults (number + 1) past.events)
     (wider low low number (last_number past) (left_by past.events past.base.live) (same_le low) (omega arith)
     (left_within low number past.events past.base.live h))
     (wider (number + 1) low (number + 1 + length past.events - 1) (last_number past)

@@ -1,6 +1,6 @@
 -- What one more event does to the recording, and that a checkpoint changes none.
-use Rattle.std.proofs.Common.{◌≡◌, ℕ, suc, ◌+◌, Bool, true, false, not, ◌||◌, cond, List, [], ◌∷◌, ◌++◌, take, Option, None}
-use Rattle.std.proofs.Common.{refl, sym, ap, ◌∙◌, arith, append-nil, append_assoc}
+use Rattle.std.proofs.Common.{◌≡◌, ℕ, suc, ◌+◌, Bool, true, false, not, ◌||◌, cond, List, [], ◌∷◌}
+use Rattle.std.proofs.Common.{◌++◌, take, Option, None, refl, sym, ap, ◌∙◌, arith, append-nil, append_assoc}
 use Rattle.std.proofs.lemmas.Bool.{false≢true, or_parts}
 use Rattle.std.proofs.lemmas.List.Elements.{filter_map-append}
 use Rattle.std.specs.List.{before_first, list_any, filter_map, cons_option, prefix_len}
@@ -53,12 +53,14 @@ module _ {X : Type 0} (test : X → Bool) where
   none_before : (x : X) (xs : List X) → test x ≡ true → before_first test (x ∷ xs) ≡ []
   none_before x xs h = ap (λ b. taken b x xs) h
 
-  one_before : (x : X) (xs : List X) → test x ≡ false → before_first test (x ∷ xs) ≡ x ∷ before_first test xs
+  one_before : (x : X) (xs : List X) → test x ≡ false
+      → before_first test (x ∷ xs) ≡ x ∷ before_first test xs
   one_before x xs h =
       ap (λ b. taken b x xs) h
       ∙ ap (λ n. take n (x ∷ xs)) (one_more (prefix_len (λ y. not (test y)) xs))
 
-  before_passing : (xs ys : List X) → list_any test xs ≡ true → before_first test (xs ++ ys) ≡ before_first test xs
+  before_passing : (xs ys : List X) → list_any test xs ≡ true
+      → before_first test (xs ++ ys) ≡ before_first test xs
   before_passing [] ys h = absurd (false≢true h)
   before_passing (x ∷ xs) ys h =
       elim (test x) as (λ b. test x ≡ b → (b || list_any test xs) ≡ true
@@ -86,7 +88,8 @@ switched stopped session = cond stopped (Stopped session) (On session)
 -- ---- one more event
 
 -- an event that has to do with no recording leaves it as it is
-continued_other : (e : Event) (r : Recording) → exchange_of e ≡ None → stops e ≡ false → continued (e ∷ []) r ≡ r
+continued_other : (e : Event) (r : Recording) → exchange_of e ≡ None → stops e ≡ false
+    → continued (e ∷ []) r ≡ r
 continued_other e NeverStarted x s = refl
 continued_other e (On session) x s =
     (λ i. switched (s i || false) (with_exchanges session (filter_map exchange_of (one_before stops e [] s i))))
@@ -116,13 +119,17 @@ continued_one es e (On session) =
     let stopped : (b : Bool) → list_any stops es ≡ b → list_any stops (es ++ last) ≡ (b || stops e) =
     λ b h. any_one stops es e ∙ ap (λ c. c || stops e) h in
     elim (list_any stops es)
-    as (λ b. list_any stops es ≡ b → continued (es ++ last) (On session) ≡ continued last (continued es (On session))) [
+    as (λ b. list_any stops es ≡ b
+    → continued (es ++ last) (On session) ≡ continued last (continued es (On session))) [
       | true ↦ λ h.
-          (λ i. switched (stopped true h i) (with_exchanges session (filter_map exchange_of (before_passing stops es last h i))))
+          (λ i. switched (stopped true h i)
+          (with_exchanges session (filter_map exchange_of (before_passing stops es last h i))))
           ∙ sym (ap (λ b. continued last (switched b (with_exchanges session (recorded es)))) h)
       | false ↦ λ h.
-          (λ i. switched (stopped false h i) (with_exchanges session (filter_map exchange_of (before_failing stops es last h i))))
-          ∙ (λ i. switched (or_false (stops e) i) (with_exchanges session (filter_map-append exchange_of es (before_first stops last) i)))
+          (λ i. switched (stopped false h i)
+          (with_exchanges session (filter_map exchange_of (before_failing stops es last h i))))
+          ∙ (λ i. switched (or_false (stops e) i)
+          (with_exchanges session (filter_map-append exchange_of es (before_first stops last) i)))
           ∙ ap (switched (stops e || false)) (more_exchanges session (filter_map exchange_of es) (recorded last))
           ∙ sym (λ i. continued last
           (switched (h i) (with_exchanges session (filter_map exchange_of (before_none stops es h i)))))
@@ -148,7 +155,8 @@ recording_on : (past : Past) (e : Event) → starts e ≡ false → started_by (
     → recording (with_event past e) ≡ continued (e ∷ []) (recording past)
 recording_on past e s n =
     (λ i. continued (after_other starts past.events e s i)
-    (unwrap_or ((last_begun past e ∙ ap (λ o. option_or o (last_of begun (numbered_events past))) n) i) past.base.recording))
+    (unwrap_or ((last_begun past e ∙ ap (λ o. option_or o (last_of begun (numbered_events past))) n)
+    i) past.base.recording))
     ∙ continued_one (after_last starts past.events) e
     (unwrap_or (last_of begun (numbered_events past)) past.base.recording)
 
@@ -175,7 +183,8 @@ recording_after past event.DeleteAll = recording_same past event.DeleteAll refl 
 recording_after past event.ResetMappings = recording_same past event.ResetMappings refl refl refl refl
 recording_after past event.ResetAll = recording_same past event.ResetAll refl refl refl refl
 recording_after past event.ResetScenarios = recording_same past event.ResetScenarios refl refl refl refl
-recording_after past (event.SetScenario name state) = recording_same past (event.SetScenario name state) refl refl refl refl
+recording_after past (event.SetScenario name state) =
+    recording_same past (event.SetScenario name state) refl refl refl refl
 recording_after past event.ClearJournal = recording_same past event.ClearJournal refl refl refl refl
 
 -- a checkpoint changes no recording

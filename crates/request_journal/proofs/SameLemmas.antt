@@ -1,7 +1,7 @@
 -- Two pasts that agree on the live mappings agree on them after the same events, whatever each has dropped; so
 -- with states and the recording.
-use Rattle.std.proofs.Common.{◌≡◌, ℕ, ◌+◌, List, [], ◌∷◌, ◌++◌, length, sym, ap, ◌∙◌, arith, append-nil, append_assoc}
-use Rattle.std.proofs.Common.{length-append}
+use Rattle.std.proofs.Common.{◌≡◌, ℕ, ◌+◌, List, [], ◌∷◌, ◌++◌, length, sym, ap, ◌∙◌, arith}
+use Rattle.std.proofs.Common.{append-nil, append_assoc, length-append}
 use Rattle.std.specs.Option.{unwrap_or}
 use Rattle.request_journal.specs.Legal.{IsCheckpoint}
 use Rattle.request_journal.specs.Live.{live, adds, left_by}
@@ -18,7 +18,8 @@ sum_with_one a b = omega arith
 
 pub number_after : (past : Past) (e : Event) → last_number (with_event past e) ≡ last_number past + 1
 number_after past e =
-    ap (λ k. past.base.number + k) (length-append past.events (e ∷ [])) ∙ sum_with_one past.base.number (length past.events)
+    ap (λ k. past.base.number + k) (length-append past.events (e ∷ []))
+    ∙ sum_with_one past.base.number (length past.events)
 
 -- the past after these events
 abbrev pub then : Past → List Event → Past

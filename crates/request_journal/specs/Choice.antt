@@ -1,7 +1,8 @@
 -- Which mapping is chosen for a request (WireMock's documentation, "Stubbing", on priority, and "Stateful
 -- Behaviour"): of the eligible live ones that of the least priority number, and of these the newest. It is said of any
 -- list of live mappings and any states of scenarios, and then of those of a past.
-use Rattle.std.specs.Prelude.{◌≡◌, ◌⊎◌, ◌<◌, ◌<ℤ◌, ℕ, List, Contains, Option, Some, None, IfSome}
+use Rattle.std.specs.Prelude.{◌≡◌, ◌⊎◌, ◌<◌, ◌<ℤ◌, ℕ, List, Contains, Option, Some, None}
+use Rattle.std.specs.Prelude.{IfSome}
 use Rattle.mapping_model.specs.Priority.{priority_of}
 use Rattle.mapping_model.specs.declared.scenario_spec.ScenarioSpec.{ScenarioSpec}
 use Rattle.mock_request.specs.Request.{Request}
@@ -41,7 +42,8 @@ IsMissed state_of live request =
     (placed : Placed) → Contains live placed → ¬ (IsEligible state_of request placed.mapping)
 
 -- the mapping is live and eligible, and no other one that is wins over it
-pub record IsChosen (state_of : List ℕ → List ℕ) (live : List Placed) (request : Request) (mapping : Mapping) : Type 0 where
+pub record IsChosen (state_of : List ℕ → List ℕ) (live : List Placed) (request : Request)
+    (mapping : Mapping) : Type 0 where
   pub placed : Placed
   pub same : placed.mapping ≡ mapping
   pub is_live : Contains live placed

@@ -19,7 +19,8 @@ IsAsked input.ResetScenarios event.ResetScenarios = Unit {0}
 IsAsked (input.SetScenario asked_name asked_state) (event.SetScenario name state) =
     (name ≡ asked_name) × (state ≡ asked_state)
 IsAsked input.ClearJournal event.ClearJournal = Unit {0}
-IsAsked (input.StartRecording asked_target asked_captured asked_repeats) (event.StartRecording target captured repeats) =
+IsAsked (input.StartRecording asked_target asked_captured asked_repeats)
+    (event.StartRecording target captured repeats) =
     (target ≡ asked_target) × (captured ≡ asked_captured) × (repeats ≡ asked_repeats)
 IsAsked (input.Record asked_serve asked_exchange) (event.Record serve exchange) =
     (serve ≡ asked_serve) × (exchange ≡ asked_exchange)

@@ -1,6 +1,6 @@
 -- What the journal shows: the requests served since it was last cleared.
-use Rattle.std.specs.Prelude.{◌≡◌, ◌⊎◌, ℕ, ◌==◌, Bool, true, false, List, [], ◌∷◌, length, filter_map, reverse, Option}
-use Rattle.std.specs.Prelude.{Some, None, option_map, find}
+use Rattle.std.specs.Prelude.{◌≡◌, ◌⊎◌, ℕ, ◌==◌, Bool, true, false, List, [], ◌∷◌, length}
+use Rattle.std.specs.Prelude.{filter_map, reverse, Option, Some, None, option_map, find}
 use Rattle.mock_request.specs.Request.{Request}
 use Rattle.request_journal.specs.Events.{after_last}
 use Rattle.request_journal.specs.Past.{Past, numbered_events}

@@ -1,6 +1,6 @@
 -- Which pasts are legal: each event is the answer to what was asked for, in the past before it.
-use Rattle.std.specs.Prelude.{◌≡◌, ◌⊎◌, ℕ, ◌+◌, ◌<◌, ◌≤◌, List, [], ◌∷◌, ◌++◌, length, Any, true}
-use Rattle.std.specs.Prelude.{filter_map, option_map, unwrap_or}
+use Rattle.std.specs.Prelude.{◌≡◌, ◌⊎◌, ℕ, ◌+◌, ◌<◌, ◌≤◌, List, [], ◌∷◌, ◌++◌}
+use Rattle.std.specs.Prelude.{length, Any, true, filter_map, option_map, unwrap_or}
 use Rattle.mapping_model.specs.MappingId.{event_id}
 use Rattle.mapping_model.specs.declared.mapping_spec.MappingSpec.{MappingSpec}
 use Rattle.recorder.specs.Recording.{IsOn, IsOnAnd, TakesFrom, IsFull}
@@ -43,7 +43,8 @@ IsAnswer past (event.StartRecording target captured repeats) = ¬ (IsOn (recordi
 IsAnswer past (event.Record serve exchange) = IsTaken past serve
 IsAnswer past (event.StopRecording mappings skipped) =
     IsOnAnd (recording past) (λ session.
-    (mappings ≡ identified (recorded_mappings session (last_number past + 1))) × (skipped ≡ recorded_skipped session))
+    (mappings ≡ identified (recorded_mappings session (last_number past + 1)))
+    × (skipped ≡ recorded_skipped session))
 IsAnswer past other = Unit {0}
 
 -- one more event is the right answer, and leaves no more mappings live, and no greater number, than there may be

@@ -53,7 +53,8 @@ placed_from number index (m ∷ ms) =
 -- mappings that a book is opened with, from an index on: those without an id get that of their index
 abbrev pub defaults_from : ℕ → List MappingSpec → List Mapping
 defaults_from index [] = []
-defaults_from index (s ∷ ss) = record { id = unwrap_or s.id (default_id index); spec = s } ∷ defaults_from (index + 1) ss
+defaults_from index (s ∷ ss) =
+    record { id = unwrap_or s.id (default_id index); spec = s } ∷ defaults_from (index + 1) ss
 
 -- nothing has happened but the opening
 abbrev pub opening_base : ℕ → List Mapping → Base

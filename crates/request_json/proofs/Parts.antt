@@ -1,5 +1,6 @@
 -- Parts that are put together, and lists that aren't left out.
-use Rattle.std.proofs.Common.{◌≡◌, List, [], ◌∷◌, length, false, true≢false, ◌==◌, Some, None, Option, option_map, is_some, ℕ, refl, ap, ◌∙◌}
+use Rattle.std.proofs.Common.{◌≡◌, List, [], ◌∷◌, length, false, true≢false, ◌==◌, Some, None, Option}
+use Rattle.std.proofs.Common.{option_map, is_some, ℕ, refl, ap, ◌∙◌}
 use Rattle.json_reading.specs.Fields.{bytes_of, optional, text_of}
 use Rattle.json_reading.specs.Reading.{both, either, read_map}
 use Rattle.json_reading.specs.Written.{unless_empty}
@@ -12,7 +13,8 @@ use Rattle.request_json.specs.ValueReading.{word}
 use Rattle.serde_json.specs.Data.{Data, null, boolean, number, string, array, object}
 use Rattle.serde_json.specs.Find.{as_object, get}
 
-pub both_are : {A B : Type 0} {a a' : Reading A} {b b' : Reading B} → a ≡ a' → b ≡ b' → both a b ≡ both a' b'
+pub both_are : {A B : Type 0} {a a' : Reading A} {b b' : Reading B} → a ≡ a' → b ≡ b'
+    → both a b ≡ both a' b'
 both_are p q = λ i. both (p i) (q i)
 
 pub not_left_out : {A : Type 0} (xs : List A) (d : Data) → (length xs == 0) ≡ false → unless_empty xs d ≡ Some d
@@ -33,12 +35,14 @@ none_either : {A : Type 0} (kind : Kind) (found : Reading (Option A)) → either
 none_either kind (Read o) = refl
 none_either kind (Wrong k) = refl
 
-pub no_word : {A : Type 0} (kind : Kind) (name : List ℕ) (matcher : List ℕ → A) (d : Data) (found : Reading (Option A))
-    → get name d ≡ None → either kind (word name matcher d) found ≡ found
+pub no_word : {A : Type 0} (kind : Kind) (name : List ℕ) (matcher : List ℕ → A) (d : Data)
+    (found : Reading (Option A)) → get name d ≡ None → either kind (word name matcher d) found ≡ found
 no_word kind name matcher d found absent =
     ap (λ o. either kind (read_map (option_map matcher) (optional text_of o)) found) absent ∙ none_either kind found
 
-pub no_bytes : {A : Type 0} (kind : Kind) (name : List ℕ) (matcher : List ℕ → A) (d : Data) (found : Reading (Option A))
-    → get name d ≡ None → either kind (read_map (option_map matcher) (optional bytes_of (get name d))) found ≡ found
+pub no_bytes : {A : Type 0} (kind : Kind) (name : List ℕ) (matcher : List ℕ → A) (d : Data)
+    (found : Reading (Option A))
+    → get name d ≡ None → either kind (read_map (option_map matcher) (optional bytes_of (get name d))) found
+    ≡ found
 no_bytes kind name matcher d found absent =
     ap (λ o. either kind (read_map (option_map matcher) (optional bytes_of o)) found) absent ∙ none_either kind found

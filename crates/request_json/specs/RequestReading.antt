@@ -58,7 +58,8 @@ abbrev pub url_of : Data → Reading UrlSpec
 url_of d = read_map (λ o. unwrap_or o url.Any) (url_in d)
 
 abbrev pub request_with :
-    ((Option (List ℕ) × UrlSpec) × ((List NamedMatcher × List NamedMatcher) × (List NamedMatcher × List BodyPattern)))
+    ((Option (List ℕ) × UrlSpec)
+    × ((List NamedMatcher × List NamedMatcher) × (List NamedMatcher × List BodyPattern)))
     → RequestSpec
 request_with p = record {
   method = p.0.0;

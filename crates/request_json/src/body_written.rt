@@ -1,6 +1,7 @@
 // The object that is written for a body matcher.
 ghost use Rattle.std.specs.Prelude.{◌≡◌, IfOk, OnOk, codes};
-ghost use Rattle.request_json.specs.BodyWritten.{with_expected, with_json, with_pattern, json_of_pattern, written_expected};
+ghost use Rattle.request_json.specs.BodyWritten.{with_expected, with_json, with_pattern, json_of_pattern};
+ghost use Rattle.request_json.specs.BodyWritten.{written_expected};
 ghost use Rattle.request_json.specs.ValueWritten.{with_value};
 ghost use Rattle.serde_json.specs.Data.{object, put, string, no_members};
 ghost use Rattle.serde_json.specs.View.{view, members_view};

@@ -84,7 +84,8 @@ fn pattern_or(
     value: &Value,
     found: Reading<Option<UrlSpec>>,
 ) -> Result<Reading<Option<UrlSpec>>, AllocError>
-    ensures { IfOk result (λ all. all ≡ either TwoUrls (word (codes "urlPattern") url.UrlPattern (view value.now)) found) }
+    ensures { IfOk result (λ all.
+        all ≡ either TwoUrls (word (codes "urlPattern") url.UrlPattern (view value.now)) found) }
 {
     match value.get("urlPattern") {
         Some(_text) => Ok(either(Kind::TwoUrls, pattern_in(alloc, value)?, found)),
@@ -112,7 +113,8 @@ fn path_pattern_or(
     value: &Value,
     found: Reading<Option<UrlSpec>>,
 ) -> Result<Reading<Option<UrlSpec>>, AllocError>
-    ensures { IfOk result (λ all. all ≡ either TwoUrls (word (codes "urlPathPattern") url.UrlPathPattern (view value.now)) found) }
+    ensures { IfOk result (λ all.
+        all ≡ either TwoUrls (word (codes "urlPathPattern") url.UrlPathPattern (view value.now)) found) }
 {
     match value.get("urlPathPattern") {
         Some(_text) => Ok(either(Kind::TwoUrls, path_pattern_in(alloc, value)?, found)),

@@ -79,7 +79,8 @@ fn does_not_contain_or(
     value: &Value,
     found: Reading<Option<ValueSpec>>,
 ) -> Result<Reading<Option<ValueSpec>>, AllocError>
-    ensures { IfOk result (λ all. all ≡ either Misshapen (word (codes "doesNotContain") DoesNotContain (view value.now)) found) }
+    ensures { IfOk result (λ all.
+        all ≡ either Misshapen (word (codes "doesNotContain") DoesNotContain (view value.now)) found) }
 {
     match value.get("doesNotContain") {
         Some(_text) => Ok(either(Kind::Misshapen, does_not_contain_in(alloc, value)?, found)),
@@ -107,7 +108,8 @@ fn does_not_match_or(
     value: &Value,
     found: Reading<Option<ValueSpec>>,
 ) -> Result<Reading<Option<ValueSpec>>, AllocError>
-    ensures { IfOk result (λ all. all ≡ either Misshapen (word (codes "doesNotMatch") DoesNotMatch (view value.now)) found) }
+    ensures { IfOk result (λ all.
+        all ≡ either Misshapen (word (codes "doesNotMatch") DoesNotMatch (view value.now)) found) }
 {
     match value.get("doesNotMatch") {
         Some(_text) => Ok(either(Kind::Misshapen, does_not_match_in(alloc, value)?, found)),

@@ -1,9 +1,10 @@
--- Which matchers may be refused, and with which error: the errors in the order in which they are reported, each over the
--- whole matcher. All but two come only where the matcher has what they say. Out of memory may come at any time, and a bad
--- pattern where there is a pattern at all: no contract of `regex` says which are too big.
+-- Which matchers may be refused, and with which error: the errors in the order in which they are reported, each over
+-- the whole matcher. All but two come only where the matcher has what they say. Out of memory may come at any time, and
+-- a bad pattern where there is a pattern at all: no contract of `regex` says which are too big.
 use Rattle.std.specs.Prelude.{◌⊎◌, List, ◌++◌, All, Any}
 use Rattle.mapping_model.specs.declared.request_spec.RequestSpec.{RequestSpec}
-use Rattle.request_parts.specs.Refusal.{HasTemplate, url_matchers, matchers_of, IsBodyRefusal, HavePatterns, HaveTrees, HavePaths}
+use Rattle.request_parts.specs.Refusal.{HasTemplate, url_matchers, matchers_of, IsBodyRefusal, HavePatterns, HaveTrees}
+use Rattle.request_parts.specs.Refusal.{HavePaths}
 use Rattle.request_parts.specs.declared.error.RequestMatchError.{RequestMatchError}
 use Rattle.request_parts.specs.declared.error.RequestMatchError.TheVariants.{BadUrl, BadPattern, NotJson}
 use Rattle.request_parts.specs.declared.error.RequestMatchError.TheVariants.{NumberNotWhole, BadPath, OutOfMemory}

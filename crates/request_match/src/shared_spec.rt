@@ -9,8 +9,8 @@ use std::marker::Model;
 use std::sync::Arc;
 use stub_response::prepared::Prepared;
 
-/// A mapping as it was written, which contracts see as it is: a copy shares it. What its responses have in common is made
-/// once with it.
+/// A mapping as it was written, which contracts see as it is: a copy shares it. What its responses have in common is
+/// made once with it.
 pub struct SharedSpec {
     kept: Arc<Kept>,
 }

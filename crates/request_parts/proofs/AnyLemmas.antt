@@ -1,5 +1,6 @@
 -- `Any` of a list with one more element in front, and of lists put together.
-use Rattle.std.proofs.Common.{◌≡◌, ◌⊎◌, ℕ, zero, suc, ◌<◌, get_or, length, List, [], ◌∷◌, ◌++◌, Any, arith, refl, sym, subst, ⊎_elim, inl, inr}
+use Rattle.std.proofs.Common.{◌≡◌, ◌⊎◌, ℕ, zero, suc, ◌<◌, get_or, length, List, [], ◌∷◌}
+use Rattle.std.proofs.Common.{◌++◌, Any, arith, refl, sym, subst, ⊎_elim, inl, inr}
 
 module _ {X : Type 0} (P : X → Type 0) where
   pub any_here : (v : X) (vs : List X) → P v → Any P (v ∷ vs)
@@ -8,8 +9,8 @@ module _ {X : Type 0} (P : X → Type 0) where
   pub any_there : (v : X) (vs : List X) → Any P vs → Any P (v ∷ vs)
   any_there v vs a = let within = a.2 in (suc a.0, a.1, omega arith, a.3, a.4)
 
-  at_index : (v : X) (vs : List X) (k : ℕ) (x : X) → k < length (v ∷ vs) → get_or (v ∷ vs) k x ≡ x → P x →
-      P v ⊎ Any P vs
+  at_index : (v : X) (vs : List X) (k : ℕ) (x : X) → k < length (v ∷ vs) →
+      get_or (v ∷ vs) k x ≡ x → P x → P v ⊎ Any P vs
   at_index v vs zero x within is p = inl (subst P (sym is) p)
   at_index v vs (suc k) x within is p = inr (k, x, omega arith, is, p)
 

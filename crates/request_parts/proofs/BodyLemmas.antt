@@ -1,5 +1,6 @@
 -- Which error of a body matcher the error of one of its parts is.
-use Rattle.std.proofs.Common.{◌≡◌, ℕ, List, [], ◌∷◌, None, Some, Result, Ok, Err, IfErr, arith, refl, sym, subst}
+use Rattle.std.proofs.Common.{◌≡◌, ℕ, List, [], ◌∷◌, None, Some, Result, Ok, Err, IfErr, arith, refl, sym}
+use Rattle.std.proofs.Common.{subst}
 use Rattle.std.specs.Result.{IsErrAnd}
 use Rattle.std.proofs.lemmas.List.Elements.{All-cons, All-nil}
 use Rattle.json_bridge.specs.Path.{IsPath}
@@ -20,7 +21,8 @@ use Rattle.value_match.specs.Refusal.{HasPattern}
 use Rattle.value_match.specs.declared.value_spec.ValueSpec.{ValueSpec}
 
 -- what a `?` returned
-pub err_is : {T E : Type 0} (r : Result T E) (x : E) (P : E → Type 0) → IsErrAnd r (λ e. e ≡ x) → P x → IfErr r P
+pub err_is : {T E : Type 0} (r : Result T E) (x : E) (P : E → Type 0) → IsErrAnd r (λ e. e ≡ x)
+    → P x → IfErr r P
 err_is (Ok v) x P h p = absurd h
 err_is (Err e) x P h p = subst P (sym h) p
 

@@ -1,5 +1,6 @@
 -- The first error of body matchers: what one more adds, and what it says of the whole matcher.
-use Rattle.std.proofs.Common.{◌≡◌, ℕ, ◌≤◌, List, ◌++◌, All, Any, Option, None, Some, arith, length, sym, subst, take}
+use Rattle.std.proofs.Common.{◌≡◌, ℕ, ◌≤◌, List, ◌++◌, All, Any, Option, None, Some, arith, length}
+use Rattle.std.proofs.Common.{sym, subst, take}
 use Rattle.std.proofs.lemmas.List.{take_all}
 use Rattle.std.specs.List.{filter_map}
 use Rattle.std.proofs.lemmas.List.Elements.{All-append, filter_map-append}
@@ -27,7 +28,8 @@ module _ {X : Type 0} (P : X → Type 0) (part : BodyPattern → Option X) (ps q
 pub passed_both : (k n m : ℕ) (ps qs : List BodyPattern) → k ≤ n → k ≤ m → Passed n ps → Passed m qs →
     Passed k (ps ++ qs)
 passed_both k n m ps qs kn km p q = record {
-  patterns_are = λ lt. all_joined HasPattern matcher_in ps qs (p.patterns_are (omega arith)) (q.patterns_are (omega arith));
+  patterns_are =
+      λ lt. all_joined HasPattern matcher_in ps qs (p.patterns_are (omega arith)) (q.patterns_are (omega arith));
   json = λ lt. all_joined IsJson text_in ps qs (p.json (omega arith)) (q.json (omega arith));
   trees = λ lt. all_joined HasTree text_in ps qs (p.trees (omega arith)) (q.trees (omega arith));
   paths = λ lt. all_joined IsPath path_in ps qs (p.paths (omega arith)) (q.paths (omega arith));
@@ -84,17 +86,19 @@ at_most_six (Some BadPath) = omega arith
 pub none_added : (known : Option RequestMatchError) (ps qs : List BodyPattern) → IsFirstError known ps →
     IsFirstError None qs → IsFirstError known (ps ++ qs)
 none_added known ps qs p q = record {
-  passed = passed_both (known_rank known) (known_rank known) 6 ps qs (omega arith) (at_most_six known) p.passed q.passed;
+  passed = passed_both (known_rank known) (known_rank known) 6 ps qs (omega arith) (at_most_six known)
+      p.passed q.passed;
   failed = failed_still known ps qs p.failed;
 }
 
 -- what holds of the first ones holds of all, once these are all
-pub of_all : (first known : Option RequestMatchError) (i : ℕ) (ps : List BodyPattern) → length ps ≤ i → first ≡ known →
-    IsFirstError first (take i ps) → IsFirstError known ps
+pub of_all : (first known : Option RequestMatchError) (i : ℕ) (ps : List BodyPattern) → length ps ≤ i →
+    first ≡ known → IsFirstError first (take i ps) → IsFirstError known ps
 of_all first known i ps all is f =
     subst (λ k. IsFirstError k ps) is (subst (IsFirstError first) (take_all i ps all) f)
 
-pub body_error : (error : RequestMatchError) (ps : List BodyPattern) → IsFirstError (Some error) ps → IsBodyRefusal ps error
+pub body_error : (error : RequestMatchError) (ps : List BodyPattern) → IsFirstError (Some error) ps
+    → IsBodyRefusal ps error
 body_error OutOfMemory ps f = f.failed
 body_error BadUrl ps f = f.failed
 body_error BadPattern ps f = f.failed

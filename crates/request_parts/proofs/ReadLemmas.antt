@@ -1,5 +1,6 @@
 -- The values of a request and the JSON of its body as they are kept, and what a path finds in it.
-use Rattle.std.proofs.Common.{◌≡◌, ◌↔◌, ℕ, Bool, List, Option, None, Some, Result, IfOk, IfSome, IsTrue, subst}
+use Rattle.std.proofs.Common.{◌≡◌, ◌↔◌, ℕ, Bool, List, Option, None, Some, Result, IfOk, IfSome, IsTrue}
+use Rattle.std.proofs.Common.{subst}
 use Rattle.std.specs.Global.{Box}
 use Rattle.std.specs.Option.{IsSomeAnd, option_map}
 use Rattle.std.specs.Str.Lossy.{utf8_lossy}
@@ -34,15 +35,17 @@ was_read P body kept found r read is h =
     subst (λ t. IfOk r (λ b. IsTrue b ↔ IsSomeAnd t P)) there.tree h
 
 -- a text spells one path only
-pub at_path : (expression : List ℕ) (steps : List Step) (m : ValueSpec) (tree : Tree) → SpellsPath expression steps →
-    Matches m (found_text (at steps tree)) ↔ MeetsAtPath expression m tree
+pub at_path : (expression : List ℕ) (steps : List Step) (m : ValueSpec) (tree : Tree) →
+    SpellsPath expression steps → Matches m (found_text (at steps tree)) ↔ MeetsAtPath expression m tree
 at_path expression steps m tree spelled = (
   λ h. record { steps = steps; spelled = spelled; meets = h },
-  λ there. subst (λ s. Matches m (found_text (at s tree))) (one_path expression there.steps steps there.spelled spelled)
+  λ there. subst (λ s. Matches m (found_text (at s tree)))
+      (one_path expression there.steps steps there.spelled spelled)
       there.meets,
 )
 
-if_some : {X : Type 0} (P Q : X → Type 0) (o : Option X) → ((x : X) → P x ↔ Q x) → IsSomeAnd o P ↔ IsSomeAnd o Q
+if_some : {X : Type 0} (P Q : X → Type 0) (o : Option X) → ((x : X) → P x ↔ Q x)
+    → IsSomeAnd o P ↔ IsSomeAnd o Q
 if_some P Q None f = (λ h. h, λ h. h)
 if_some P Q (Some x) f = f x
 

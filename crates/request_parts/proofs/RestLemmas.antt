@@ -1,7 +1,7 @@
 -- The values of a name that are left, one after the other.
-use Rattle.std.proofs.Common.{◌≡◌, ◌↔◌, ℕ, suc, ◌+◌, ◌<◌, Bool, true, false, List, [], ◌∷◌, Any, ap, refl, sym, subst, ◌∙◌}
-use Rattle.std.proofs.Common.{arith, ⊎_elim, length, get_or, drop, add-one, Some, Result, Ok, Err, IfOk, IsTrue, String}
-use Rattle.std.proofs.Common.{◌⊎◌, inr, None}
+use Rattle.std.proofs.Common.{◌≡◌, ◌↔◌, ℕ, suc, ◌+◌, ◌<◌, Bool, true, false, List, [], ◌∷◌}
+use Rattle.std.proofs.Common.{Any, ap, refl, sym, subst, ◌∙◌, arith, ⊎_elim, length, get_or, drop, add-one}
+use Rattle.std.proofs.Common.{Some, Result, Ok, Err, IfOk, IsTrue, String, ◌⊎◌, inr, None}
 use Rattle.std.specs.List.{slice_get}
 use Rattle.std.specs.Bool.{◌==◌}
 use Rattle.std.specs.Option.{option_map}
@@ -54,13 +54,13 @@ pub answered : {A B : Type 0} (r : Result Bool AllocError) → IfOk r (λ b. IsT
 answered (Ok b) h e = both h e
 answered (Err error) h e = h
 
-pub matched : (m kept : ValueSpec) (value read : List ℕ) → kept ≡ m → read ≡ value → Matches kept (Some read) →
-    MatchesValue m value
+pub matched : (m kept : ValueSpec) (value read : List ℕ) → kept ≡ m → read ≡ value →
+    Matches kept (Some read) → MatchesValue m value
 matched m kept value read a b h =
     subst (λ k. MatchesValue k value) a (subst (λ v. Matches kept (Some v)) b h)
 
-pub matches_read : (m kept : ValueSpec) (value read : List ℕ) → kept ≡ m → read ≡ value → MatchesValue m value →
-    Matches kept (Some read)
+pub matches_read : (m kept : ValueSpec) (value read : List ℕ) → kept ≡ m → read ≡ value →
+    MatchesValue m value → Matches kept (Some read)
 matches_read m kept value read a b h =
     subst (λ v. Matches kept (Some v)) (sym b) (subst (λ k. MatchesValue k value) (sym a) h)
 
@@ -68,14 +68,16 @@ matches_read m kept value read a b h =
 pub pair_at : (items : List (String Global × String Global)) (i : ℕ) (item : String Global × String Global) →
     i < length items → item ≡ get_or items i item → slice_get (pairs_of items) i ≡ Some (pair_of item)
 pair_at items i item within is =
-    slice_get-map pair_of items i ∙ ap (option_map pair_of) (slice_get_read items (length items) i item refl within is)
+    slice_get-map pair_of items i
+    ∙ ap (option_map pair_of) (slice_get_read items (length items) i item refl within is)
 
 module _ (m : ValueSpec) (name : List ℕ) (pairs : List (List ℕ × List ℕ)) (i : ℕ) (pair : List ℕ × List ℕ)
     (here : slice_get pairs i ≡ Some pair) where
   next : drop i pairs ≡ pair ∷ drop (i + 1) pairs
   next =
       let within = slice_get_within pairs i pair here in
-      rw (add-one, drop-cons pairs i pair within) (ap (λ p. p ∷ drop (suc i) pairs) (get_or_from_slice_get pairs i pair pair here))
+      rw (add-one, drop-cons pairs i pair within)
+      (ap (λ p. p ∷ drop (suc i) pairs) (get_or_from_slice_get pairs i pair pair here))
 
   pub next_named : bytes_eq name pair.0 ≡ true →
       values_of name (drop i pairs) ≡ pair.1 ∷ values_of name (drop (i + 1) pairs)
@@ -84,7 +86,8 @@ module _ (m : ValueSpec) (name : List ℕ) (pairs : List (List ℕ × List ℕ))
   pub step_found : (found : Bool) → bytes_eq name pair.0 ≡ true → MatchesValue m pair.1 →
       MeetsRest found m (values_of name (drop i pairs))
   step_found found named h =
-      subst (MeetsRest found m) (sym (next_named named)) (next_meets found m pair.1 (values_of name (drop (i + 1) pairs)) h)
+      subst (MeetsRest found m) (sym (next_named named))
+      (next_meets found m pair.1 (values_of name (drop (i + 1) pairs)) h)
 
   pub step_unmet : (found : Bool) → bytes_eq name pair.0 ≡ true → ¬ (MatchesValue m pair.1) →
       MeetsRest found m (values_of name (drop i pairs)) ↔ MeetsRest true m (values_of name (drop (i + 1) pairs))
@@ -98,8 +101,10 @@ module _ (m : ValueSpec) (name : List ℕ) (pairs : List (List ℕ × List ℕ))
       let same = ap (values_of name) next ∙ of_other name pair (drop (i + 1) pairs) other in
       (subst (MeetsRest found m) same, subst (MeetsRest found m) (sym same))
 
-pub at_end : {B : Type 0} (m kept : ValueSpec) (name : List ℕ) (pairs : List (List ℕ × List ℕ)) (i : ℕ) (found : Bool) →
-    kept ≡ m → drop i pairs ≡ [] → B ↔ MeetsRest found m (values_of name (drop i pairs)) → MeetsRest found kept [] ↔ B
+pub at_end : {B : Type 0} (m kept : ValueSpec) (name : List ℕ) (pairs : List (List ℕ × List ℕ)) (i : ℕ)
+    (found : Bool) →
+    kept ≡ m → drop i pairs ≡ [] → B ↔ MeetsRest found m (values_of name (drop i pairs)) →
+    MeetsRest found kept [] ↔ B
 at_end m kept name pairs i found same none left =
     let to = subst (λ ps. MeetsRest found m (values_of name ps)) none in
     let from = subst (λ ps. MeetsRest found m (values_of name ps)) (sym none) in (

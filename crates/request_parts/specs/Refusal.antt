@@ -1,6 +1,6 @@
 -- Which tests of parts may be refused, and with which error. For body matchers these are in the order in which they are
--- reported, each over all of them. Out of memory may come at any time, and a bad pattern where there is a pattern at all:
--- no contract of `regex` says which are too big.
+-- reported, each over all of them. Out of memory may come at any time, and a bad pattern where there is a pattern at
+-- all: no contract of `regex` says which are too big.
 use Rattle.std.specs.Prelude.{◌≡◌, ℕ, List, [], ◌∷◌, All, Any, map, Option, None, Some, IsSome}
 use Rattle.std.specs.List.{filter_map}
 use Rattle.json_bridge.specs.Path.{IsPath}
@@ -93,7 +93,8 @@ IsBodyRefusal patterns BadUrl = ⊥
 IsBodyRefusal patterns BadPattern = Any MayBeRefused (filter_map matcher_in patterns)
 IsBodyRefusal patterns NotJson = HavePatterns patterns × Any (λ text. ¬ (IsJson text)) (filter_map text_in patterns)
 IsBodyRefusal patterns NumberNotWhole =
-    HavePatterns patterns × HaveJson patterns × Any (λ text. tree_of_text text ≡ None) (filter_map text_in patterns)
+    HavePatterns patterns × HaveJson patterns
+    × Any (λ text. tree_of_text text ≡ None) (filter_map text_in patterns)
 IsBodyRefusal patterns BadPath =
     HavePatterns patterns × HaveTrees patterns × Any (λ path. ¬ (IsPath path)) (filter_map path_in patterns)
 IsBodyRefusal patterns OutOfMemory = Unit {0}

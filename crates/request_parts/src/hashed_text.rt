@@ -1,5 +1,5 @@
-// Texts that are compared by their hashes first. Thousands of matchers are tried in turn, most of them for another URL: a
-// hash is in the matcher itself, and the bytes of its text are elsewhere.
+// Texts that are compared by their hashes first. Thousands of matchers are tried in turn, most of them for another URL:
+// a hash is in the matcher itself, and the bytes of its text are elsewhere.
 ghost use Rattle.std.specs.Prelude.{◌≡◌, ◌↔◌, IfOk, IsTrue};
 ghost use Rattle.request_parts.specs.Key.{hash_of};
 

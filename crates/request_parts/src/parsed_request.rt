@@ -32,9 +32,9 @@ use value_match::value_matcher::ValueMatcher;
 // One is made for each request, and moved.
 const _: () = prove!(size_of::<ParsedRequest<'static>>() <= 208);
 
-/// A request with the hashes of its URL and of its path, and what matchers ask for beside: its values by name and the text
-/// of its body, and the JSON of that. Each is read once for all mappings that the request is compared with, when the first
-/// matcher asks for it. Contracts see the request alone.
+/// A request with the hashes of its URL and of its path, and what matchers ask for beside: its values by name and the
+/// text of its body, and the JSON of that. Each is read once for all mappings that the request is compared with, when
+/// the first matcher asks for it. Contracts see the request alone.
 pub struct ParsedRequest<'a> {
     snapshot: &'a Snapshot,
     method: &'a str,

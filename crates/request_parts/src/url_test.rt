@@ -1,6 +1,6 @@
 // Does the URL of a request meet a URL matcher?
-ghost use Rattle.std.specs.Prelude.{◌≡◌, ◌↔◌, ◌∷◌, [], ℕ, List, IfOk, IfErr, IfSome, IsErrOf, IsSomeAnd, IsTrue, OnOk};
-ghost use Rattle.std.specs.Prelude.{All, Any, option_map};
+ghost use Rattle.std.specs.Prelude.{◌≡◌, ◌↔◌, ◌∷◌, [], ℕ, List, IfOk, IfErr, IfSome, IsErrOf};
+ghost use Rattle.std.specs.Prelude.{IsSomeAnd, IsTrue, OnOk, All, Any, option_map};
 ghost use Rattle.path_template.specs.Matching.{bindings_of};
 ghost use Rattle.request_parts.specs.Key.{MayHave, key_of};
 ghost use Rattle.request_parts.specs.Literal.{literal_url, text_of};
@@ -172,7 +172,8 @@ fn template_kind(
 fn pattern_of(alloc: Global, text: &Text) -> Result<ValueMatcher, ValueError>
     ensures ok { IfOk result (λ matcher. matcher ≡ ValueSpec.Matches text.now) }
     ensures patterns { OnOk result (All HasPattern (ValueSpec.Matches text.now ∷ [])) }
-    ensures bad_pattern { IsErrOf result ValueError.BadPattern → Any MayBeRefused (ValueSpec.Matches text.now ∷ []) }
+    ensures bad_pattern { IsErrOf result ValueError.BadPattern
+        → Any MayBeRefused (ValueSpec.Matches text.now ∷ []) }
 {
     let pattern = ValueSpec::Matches(text.try_clone()?);
     ValueMatcher::build(alloc, &pattern)

@@ -1,6 +1,6 @@
 -- The lines of members are as many as are counted, and where a line is wrong, it has another shape.
-use Rattle.std.proofs.Common.{◌≡◌, ℕ, ◌+◌, ◌<◌, List, [], ◌∷◌, length, Option, Some, None, refl, ap, ◌∙◌, arith}
-use Rattle.std.proofs.Common.{if◌then◌else◌, length-append}
+use Rattle.std.proofs.Common.{◌≡◌, ℕ, ◌+◌, ◌<◌, List, [], ◌∷◌, length, Option, Some, None, refl}
+use Rattle.std.proofs.Common.{ap, ◌∙◌, arith, if◌then◌else◌, length-append}
 use Rattle.std.proofs.lemmas.Bool.{lt-leb}
 use Rattle.json_reading.specs.Fields.{each_item}
 use Rattle.json_reading.specs.Reading.{both, first, read_map}
@@ -57,7 +57,8 @@ under_counted : (name : Option (List ℕ)) (d : Data) → IsCounted (lines_under
 under_counted None d = refl
 under_counted (Some name) d = lines_counted name d
 
-joined_counted : (a b : Reading (List Line)) (m n : ℕ) → IsCounted a m → IsCounted b n → IsCounted (joined a b) (m + n)
+joined_counted : (a b : Reading (List Line)) (m n : ℕ) → IsCounted a m → IsCounted b n
+    → IsCounted (joined a b) (m + n)
 joined_counted (Read xs) (Read ys) m n a b = length-append xs ys ∙ omega (arith, a, b)
 joined_counted (Read xs) (Wrong k) m n a b = b
 joined_counted (Wrong j) (Read ys) m n a b = a
@@ -69,7 +70,8 @@ all_counted (member name d ms) =
     joined_counted (lines_under (name_of name) d) (lines_in ms) (line_count d) (count_in ms)
     (under_counted (name_of name) d) (all_counted ms)
 
-over : (lines : Reading (List Line)) (n : ℕ) → IsCounted lines n → HEADER_LIMIT < n → within lines ≡ Wrong Misshapen
+over : (lines : Reading (List Line)) (n : ℕ) → IsCounted lines n → HEADER_LIMIT < n
+    → within lines ≡ Wrong Misshapen
 over (Read lines) n c h =
     ap (λ b. if b then Read lines else Wrong Misshapen) (lt-leb (length lines) HEADER_LIMIT (omega (arith, c, h)))
 over (Wrong k) n c h = ap Wrong c

@@ -1,6 +1,7 @@
 -- The first error of a list of templates.
-use Rattle.std.proofs.Common.{◌≡◌, inl, inr, ℕ, List, [], ◌∷◌, ◌++◌, All, append_assoc, refl, sym, ap, subst, ◌∙◌}
-use Rattle.std.proofs.Common.{take, drop, set, get_or, suc, ◌<◌, ◌+◌, length, Result, Ok, Err, IsErrAnd, IfErr}
+use Rattle.std.proofs.Common.{◌≡◌, inl, inr, ℕ, List, [], ◌∷◌, ◌++◌, All, append_assoc, refl, sym, ap}
+use Rattle.std.proofs.Common.{subst, ◌∙◌, take, drop, set, get_or, suc, ◌<◌, ◌+◌, length, Result, Ok, Err}
+use Rattle.std.proofs.Common.{IsErrAnd, IfErr}
 use Rattle.std.proofs.lemmas.List.{take_more, map-append, set_split, set-get_or}
 use Rattle.std.proofs.lemmas.List.Elements.{All-append, All-cons, All-nil}
 use Rattle.mapping_model.specs.declared.header_lines.HeaderLine.{HeaderLine}
@@ -11,7 +12,8 @@ use Rattle.template_machine.specs.declared.error.ProgramError.{ProgramError}
 use Rattle.template_tree.specs.Source.{Source, with_escape}
 use Rattle.template_tree.specs.declared.escape.Escape.{Escape}
 
-pub err_is : {T E : Type 0} (r : Result T E) (x : E) (P : E → Type 0) → IsErrAnd r (λ e. e ≡ x) → P x → IfErr r P
+pub err_is : {T E : Type 0} (r : Result T E) (x : E) (P : E → Type 0) → IsErrAnd r (λ e. e ≡ x)
+    → P x → IfErr r P
 err_is (Ok v) x P h p = absurd h
 err_is (Err e) x P h p = subst P (sym h) p
 

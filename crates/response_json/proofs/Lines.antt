@@ -1,6 +1,7 @@
 -- Header lines read one member after the other.
-use Rattle.std.proofs.Common.{◌≡◌, ℕ, List, [], ◌∷◌, ◌++◌, append_assoc, refl, sym, ap, ◌∙◌, Bool, true, false}
-use Rattle.std.proofs.Common.{Option, Some, None, IsSome, IfSome, ◌↔◌, true≢false, arith, if◌then◌else◌}
+use Rattle.std.proofs.Common.{◌≡◌, ℕ, List, [], ◌∷◌, ◌++◌, append_assoc, refl, sym, ap, ◌∙◌}
+use Rattle.std.proofs.Common.{Bool, true, false, Option, Some, None, IsSome, IfSome, ◌↔◌, true≢false, arith}
+use Rattle.std.proofs.Common.{if◌then◌else◌}
 use Rattle.std.proofs.lemmas.List.Sums.{AllPass-from_list_all, list_all-from_AllPass}
 use Rattle.http_header.specs.Token.{IsToken, is_token_byte}
 use Rattle.json_reading.specs.declared.reading.Reading.{Reading}
@@ -48,6 +49,6 @@ named (Some found) name true e some value = ap Some value
 named (Some found) name false e some value =
     absurd (true≢false (sym (test_from_token name (some.0 refl)) ∙ e))
 
-pub named_is : (r : Option (List ℕ)) (name : List ℕ) → (IsSome r ↔ IsToken name) → IfSome r (λ found. found ≡ name)
-    → r ≡ name_of name
+pub named_is : (r : Option (List ℕ)) (name : List ℕ) → (IsSome r ↔ IsToken name)
+    → IfSome r (λ found. found ≡ name) → r ≡ name_of name
 named_is r name some value = named r name (is_name name) refl some value

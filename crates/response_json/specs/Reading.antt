@@ -1,7 +1,7 @@
--- The response that a JSON value spells (WireMock's documentation, "Stubbing"). Absent fields are a status 200, no headers,
--- no body and no templates; `statusMessage` is ignored.
-use Rattle.std.specs.Prelude.{ℕ, List, [], ◌∷◌, ◌++◌, length, Bool, true, false, ◌&&◌, ◌||◌, nat_lt, nat_le}
-use Rattle.std.specs.Prelude.{Option, Some, None, unwrap_or, option_and_then, codes, if◌then◌else◌}
+-- The response that a JSON value spells (WireMock's documentation, "Stubbing"). Absent fields are a status 200, no
+-- headers, no body and no templates; `statusMessage` is ignored.
+use Rattle.std.specs.Prelude.{ℕ, List, [], ◌∷◌, ◌++◌, length, Bool, true, false, ◌&&◌, ◌||◌, nat_lt}
+use Rattle.std.specs.Prelude.{nat_le, Option, Some, None, unwrap_or, option_and_then, codes, if◌then◌else◌}
 use Rattle.std.specs.List.{list_all}
 use Rattle.std.specs.Str.{bytes_eq}
 use Rattle.http_header.specs.Token.{is_token_byte}
@@ -139,7 +139,8 @@ are_taken d = is_taken d
 
 abbrev pub response_names : List (List ℕ)
 response_names =
-    codes "status" ∷ codes "statusMessage" ∷ codes "headers" ∷ codes "body" ∷ codes "jsonBody" ∷ codes "base64Body"
+    codes "status" ∷ codes "statusMessage" ∷ codes "headers" ∷ codes "body" ∷ codes "jsonBody"
+    ∷ codes "base64Body"
     ∷ codes "transformers" ∷ []
 
 abbrev pub draft_of : (ℕ × List Line) × (Body (List ℕ) × Bool) → ResponseDraft

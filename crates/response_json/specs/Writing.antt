@@ -1,5 +1,5 @@
--- The JSON of a response, with names in byte order: `status` always; no headers, no body, an empty text and no transformers
--- are left out.
+-- The JSON of a response, with names in byte order: `status` always; no headers, no body, an empty text and no
+-- transformers are left out.
 use Rattle.std.specs.Prelude.{ℕ, List, [], ◌∷◌, map, Option, Some, None, unwrap_or, codes, if◌then◌else◌}
 use Rattle.std.specs.Str.{bytes_eq}
 use Rattle.base64.specs.Engines.{standard}

@@ -2,7 +2,8 @@
 ghost use Rattle.std.specs.Prelude.{◌≡◌, ◌≤◌, ◌↔◌, IfOk, IsTrue};
 ghost use Rattle.json_reading.specs.Fields.{each_item};
 ghost use Rattle.response_json.specs.Inner.Counts.{line_count, count_in};
-ghost use Rattle.response_json.specs.Reading.{headers_of, lines_in, lines_at, lines_of, line_of, joined, within, name_of};
+ghost use Rattle.response_json.specs.Reading.{headers_of, lines_in, lines_at, lines_of, line_of, joined, within};
+ghost use Rattle.response_json.specs.Reading.{name_of};
 ghost use Rattle.serde_json.specs.View.{view, items_view, members_view};
 
 use json_reading::fields::text_of;
@@ -15,8 +16,8 @@ use plain_text::text::Text;
 use serde_json::{Map, Value};
 use std::alloc::{AllocError, Global};
 
-/// The lines of an object whose members are a header each. Each line has a copy of its name, so lines are counted before
-/// any is read.
+/// The lines of an object whose members are a header each. Each line has a copy of its name, so lines are counted
+/// before any is read.
 pub fn headers_of(alloc: Global, value: &Value) -> Result<Reading<HeaderLines<Text>>, AllocError>
     ensures { IfOk result (λ headers. headers ≡ headers_of (view value.now)) }
 {

@@ -1,6 +1,6 @@
 -- The values of bounds, and of the polynomials in them.
-use Rattle.std.proofs.Common.{◌≡◌, ℕ, zero, suc, ◌+◌, ◌*◌, ◌≤◌, ◌<◌, ◌^◌, Bool, true, false, List, [], ◌∷◌, length}
-use Rattle.std.proofs.Common.{pos, negsuc, ℤ, Some, ap, ◌∙◌, arith}
+use Rattle.std.proofs.Common.{◌≡◌, ℕ, zero, suc, ◌+◌, ◌*◌, ◌≤◌, ◌<◌, ◌^◌, Bool, true}
+use Rattle.std.proofs.Common.{false, List, [], ◌∷◌, length, pos, negsuc, ℤ, Some, ap, ◌∙◌, arith}
 use Rattle.std.specs.Prelude.{slice_get, unwrap_or, FitsSigned, decimal}
 use Rattle.std.specs.Fmt.{signed_decimal}
 use Rattle.std.specs.Int.{w64}
@@ -40,8 +40,8 @@ bound-times k b n m = rw (value-times k b.alone n, value-times k b.per n) (grind
 
 -- what is printed keeps to the bounds of literals
 
-pub text-within : (code : StackCode) (t : ℕ) (text : List ℕ) (n m : ℕ) → slice_get code.texts t ≡ Some text →
-    bound_value (text_bound code t) n m ≡ length text
+pub text-within : (code : StackCode) (t : ℕ) (text : List ℕ) (n m : ℕ) →
+    slice_get code.texts t ≡ Some text → bound_value (text_bound code t) n m ≡ length text
 text-within code t text n m h = bound-at_most (length (unwrap_or (slice_get code.texts t) [])) n m
     ∙ ap (λ o. length (unwrap_or o [])) h
 
@@ -52,7 +52,8 @@ signed-short : (z : ℤ) → FitsSigned w64 z → length (signed_decimal z) ≤ 
 signed-short (pos m) h = let fits = h.sfits in omega (arith, decimal-short m (omega arith))
 signed-short (negsuc m) h = let fits = h.sfits in omega (arith, decimal-short (suc m) (omega arith))
 
-pub number-within : (z : ℤ) (n m : ℕ) → FitsSigned w64 z → length (signed_decimal z) ≤ bound_value (at_most 20) n m
+pub number-within : (z : ℤ) (n m : ℕ) → FitsSigned w64 z
+    → length (signed_decimal z) ≤ bound_value (at_most 20) n m
 number-within z n m h = omega (arith, signed-short z h, bound-at_most 20 n m)
 
 -- an index below 2^64 has at most 20 digits

@@ -1,6 +1,6 @@
 -- What the slots print as, and what an instruction writes, keeps to the bounds.
-use Rattle.std.proofs.Common.{◌≡◌, ℕ, zero, suc, ◌<◌, ◌≤◌, ◌^◌, List, [], ◌∷◌, ◌++◌, length, drop, Some}
-use Rattle.std.proofs.Common.{sym, subst, arith, pos, nat_eq}
+use Rattle.std.proofs.Common.{◌≡◌, ℕ, zero, suc, ◌<◌, ◌≤◌, ◌^◌, List, [], ◌∷◌, ◌++◌}
+use Rattle.std.proofs.Common.{length, drop, Some, sym, subst, arith, pos, nat_eq}
 use Rattle.std.specs.Prelude.{slice_get, not}
 use Rattle.std.proofs.lemmas.Option.{none-some}
 use Rattle.data_tree.specs.Tree.{Tree}
@@ -48,8 +48,8 @@ fit-popped n m stack bounds rest = record { stack = rest; written = omega arith 
 -- a value is pushed that is read off a loop
 fit-loop : (n m : ℕ) (f : Loop → Value) (k : ℕ) (loops : List Loop) (stack : List Value) (b : Bound)
     (bounds : List Bound) (e : Effect) →
-    ((l : Loop) → slice_get loops k ≡ Some l → length (text_of (f l)) ≤ bound_value b n m) → AllTexts n m stack bounds →
-    of_loop f k loops stack ≡ Some e → TextsFit n m (b ∷ bounds) (at_most 0) e
+    ((l : Loop) → slice_get loops k ≡ Some l → length (text_of (f l)) ≤ bound_value b n m) →
+    AllTexts n m stack bounds → of_loop f k loops stack ≡ Some e → TextsFit n m (b ∷ bounds) (at_most 0) e
 fit-loop n m f k loops stack b bounds e here rest h =
     map-holds (TextsFit n m (b ∷ bounds) (at_most 0)) (λ l. with_stack (f l ∷ stack)) (slice_get loops k) e
     (λ l is. fit-push n m (f l) stack b bounds (here l is) rest) h
@@ -120,7 +120,8 @@ texts-fit code root n (Truth b) loops stack bounds e small le typed held fit h =
     (fit-push n m (a_truth b) stack (at_most 5) bounds (truth-within b n m) fit) h
 texts-fit code root n Show loops [] bounds e small le typed held fit h = absurd (none-some e h)
 texts-fit code root n Show loops (v ∷ stack) [] e small le typed held fit h = absurd fit
-texts-fit code root n Show loops (a_text s ∷ stack) (b ∷ bounds) e small le typed held fit h = absurd (none-some e h)
+texts-fit code root n Show loops (a_text s ∷ stack) (b ∷ bounds) e small le typed held fit h =
+    absurd (none-some e h)
 texts-fit code root n Show loops (a_datum t ∷ stack) (b ∷ bounds) e small le typed held fit h =
     let m = innermost loops in
     some-holds (TextsFit n m (b ∷ bounds) (at_most 0)) _ e

@@ -13,13 +13,15 @@ module _ (entries : List Entry) (in_order : AreInOrder (pairs_of entries)) (name
   state_of_entry e is_at read =
       rw (← state_read entries at e read) (sym (state_at (pairs_of entries) in_order name at is_at (pair_of e)))
 
-  pub move_by_set : (e : Entry) (state : List ℕ) → IsAt (pairs_of entries) name at → string_bytes e.name ≡ name →
+  pub move_by_set : (e : Entry) (state : List ℕ) → IsAt (pairs_of entries) name at →
+      string_bytes e.name ≡ name →
       string_bytes e.state ≡ state → IsMove (pairs_of entries) (pairs_of (set entries at e)) name state
   move_by_set e state is_at same_name same_state =
       rw (pairs-set entries at e, same_name, same_state)
       (set_moves (pairs_of entries) in_order name at state is_at (pair_of e))
 
-  pub move_by_insert : (e : Entry) (state : List ℕ) → IsGapFor (pairs_of entries) name at → string_bytes e.name ≡ name →
+  pub move_by_insert : (e : Entry) (state : List ℕ) → IsGapFor (pairs_of entries) name at →
+      string_bytes e.name ≡ name →
       string_bytes e.state ≡ state → IsMove (pairs_of entries) (pairs_of (insert entries at e)) name state
   move_by_insert e state gap same_name same_state =
       rw (pairs-insert entries at e, same_name, same_state) (insert_moves (pairs_of entries) in_order name at state gap)

@@ -1,5 +1,6 @@
 -- Pairs in the order of their keys: what a search finds among them, and what an edit does.
-use Rattle.std.proofs.Common.{◌≡◌, ℕ, zero, suc, ◌<◌, ◌≤◌, Bool, true, false, not, ◌&&◌, T, List, [], ◌∷◌, length, get_or, set, Some, None, refl, ap, subst, ◌∙◌, arith}
+use Rattle.std.proofs.Common.{◌≡◌, ℕ, zero, suc, ◌<◌, ◌≤◌, Bool, true, false, not, ◌&&◌, T, List}
+use Rattle.std.proofs.Common.{[], ◌∷◌, length, get_or, set, Some, None, refl, ap, subst, ◌∙◌, arith}
 use Rattle.std.specs.declared.cmp.Ordering.{Ordering}
 use Rattle.std.specs.declared.cmp.Ordering.TheVariants.{Less, Equal, Greater}
 use Rattle.std.specs.Cmp.{IsTotalOrder, tied_itself}
@@ -51,8 +52,8 @@ module _ {K X : Type 0} {R : K → K → Ordering} (o : IsTotalOrder R) where
       rw (above_first e es k at d s (omega arith) is) (find_at es k at d (second_so _ _ s) (omega arith) is)
 
   -- a new value at the index of the key
-  pub put_at : (es : List (K × X)) (k : K) (v : X) (at : ℕ) (d : K × X) → T (is_sorted R es) → at < length es →
-      (get_or es at d).0 ≡ k → set es at (k, v) ≡ put R k v es
+  pub put_at : (es : List (K × X)) (k : K) (v : X) (at : ℕ) (d : K × X) → T (is_sorted R es) →
+      at < length es → (get_or es at d).0 ≡ k → set es at (k, v) ≡ put R k v es
   put_at [] k v at d s lt e = absurd (omega arith)
   put_at (e ∷ es) k v zero d s lt is = rw (is, tied_itself o k) refl
   put_at (e ∷ es) k v (suc at) d s lt is =
@@ -62,7 +63,8 @@ module _ {K X : Type 0} {R : K → K → Ordering} (o : IsTotalOrder R) where
   -- no key is the one for which there is a gap
   pub find_in_gap : (es : List (K × X)) (k : K) (at : ℕ) →
       ((i : ℕ) (d : K × X) → i < at → R (get_or es i d).0 k ≡ Less) →
-      ((i : ℕ) (d : K × X) → at ≤ i → i < length es → R (get_or es i d).0 k ≡ Greater) → find R k es ≡ None
+      ((i : ℕ) (d : K × X) → at ≤ i → i < length es → R (get_or es i d).0 k ≡ Greater) →
+      find R k es ≡ None
   find_in_gap [] k at lower higher = refl
   find_in_gap (e ∷ es) k zero lower higher =
       rw (turned o e.0 k Greater (higher 0 e (omega arith) (omega arith)))
@@ -76,8 +78,8 @@ module _ {K X : Type 0} {R : K → K → Ordering} (o : IsTotalOrder R) where
   -- a new pair in the gap for its key
   pub put_in_gap : (es : List (K × X)) (k : K) (v : X) (at : ℕ) →
       ((i : ℕ) (d : K × X) → i < at → R (get_or es i d).0 k ≡ Less) →
-      ((i : ℕ) (d : K × X) → at ≤ i → i < length es → R (get_or es i d).0 k ≡ Greater) → at ≤ length es →
-      insert es at (k, v) ≡ put R k v es
+      ((i : ℕ) (d : K × X) → at ≤ i → i < length es → R (get_or es i d).0 k ≡ Greater) →
+      at ≤ length es → insert es at (k, v) ≡ put R k v es
   put_in_gap [] k v zero lower higher le = refl
   put_in_gap [] k v (suc at) lower higher le = absurd (omega arith)
   put_in_gap (e ∷ es) k v zero lower higher le =

@@ -1,12 +1,14 @@
 -- What an edit of the kept pairs does to the states.
-use Rattle.std.proofs.Common.{◌≡◌, ◌≢◌, ℕ, true, false, List, [], length, get_or, set, refl, sym, ap, ◌∙◌}
+use Rattle.std.proofs.Common.{◌≡◌, ◌≢◌, ℕ, true, false, List, [], length, get_or, set, refl, sym, ap}
+use Rattle.std.proofs.Common.{◌∙◌}
 use Rattle.std.specs.Option.{unwrap_or}
 use Rattle.std.specs.Cmp.{tied_itself, Equal-is}
 use Rattle.std.specs.Cmp.Lexicographic.{slice_cmp, nat_list_cmp_total}
 use Rattle.std.specs.declared.cmp.Ordering.{Ordering}
 use Rattle.std.specs.declared.cmp.Ordering.TheVariants.{Equal}
 use Rattle.std.specs.FinMap as fin_map
-use Rattle.std.specs.FinMap.{empty_of_len, len-entries, entries-from_sorted, get-from_sorted, get-empty, slice_cmp-IsAntisymmetric, nat_cmp-IsAntisymmetric}
+use Rattle.std.specs.FinMap.{empty_of_len, len-entries, entries-from_sorted, get-from_sorted, get-empty}
+use Rattle.std.specs.FinMap.{slice_cmp-IsAntisymmetric, nat_cmp-IsAntisymmetric}
 use Rattle.std.specs.FinMap.Entries.{find, put, where_key, is_sorted-put, is_sorted-where_key, find-put, find-where_key}
 use Rattle.std.specs.List.{insert, remove}
 use Rattle.std.specs.Ordering.{nat_cmp, is_eq, eq_by_cmp}
@@ -62,7 +64,8 @@ module _ (pairs : List Pair) (in_order : AreInOrder pairs) where
 
     pub state_in_gap : IsGapFor pairs name at → state_of (states_of pairs) name ≡ started
     state_in_gap gap =
-        found name ∙ ap (λ o. unwrap_or o started) (find_in_gap nat_list_cmp_total pairs name at gap.lower gap.higher)
+        found name ∙ ap (λ o. unwrap_or o started)
+        (find_in_gap nat_list_cmp_total pairs name at gap.lower gap.higher)
 
     put_moves : (state : List ℕ) → IsMove pairs (put by_name name state pairs) name state
     put_moves state =
@@ -89,7 +92,8 @@ module _ (pairs : List Pair) (in_order : AreInOrder pairs) where
     insert_moves state gap =
         rw (put_in_gap nat_list_cmp_total pairs name state at gap.lower gap.higher gap.in_range) (put_moves state)
 
-    alike : (x : List ℕ) (q : List ℕ) → by_name q x ≡ Equal → is_other by_name name x ≡ is_other by_name name q
+    alike : (x : List ℕ) (q : List ℕ) → by_name q x ≡ Equal
+        → is_other by_name name x ≡ is_other by_name name q
     alike x q e = ap (is_other by_name name) (sym (same_name q x e))
 
     pub remove_moves : IsAt pairs name at → (d : Pair) → IsMove pairs (remove pairs at) name started

@@ -1,5 +1,7 @@
 -- How many receipts have a number, in a list in order of the numbers.
-use Rattle.std.proofs.Common.{◌≡◌, ◌≢◌, ℕ, zero, suc, ◌+◌, ◌*◌, ◌<◌, ◌≤◌, ◌⊎◌, inl, inr, List, [], ◌∷◌, ◌++◌, length, get_or, take, cond, true, false, ◌==◌, refl, sym, ap, ◌∙◌, arith}
+use Rattle.std.proofs.Common.{◌≡◌, ◌≢◌, ℕ, zero, suc, ◌+◌, ◌*◌, ◌<◌, ◌≤◌, ◌⊎◌}
+use Rattle.std.proofs.Common.{inl, inr, List, [], ◌∷◌, ◌++◌, length, get_or, take, cond, true, false}
+use Rattle.std.proofs.Common.{◌==◌, refl, sym, ap, ◌∙◌, arith}
 use Rattle.std.proofs.lemmas.Bool.Decides.{nat_tests}
 use Rattle.std.proofs.lemmas.List.{map-append, take_more, take_all, get_or-take, length-take-le}
 use Rattle.std.proofs.lemmas.List.FromFn.{get_or-range_with_len}
@@ -32,8 +34,8 @@ none_of : (n : ℕ) (r : Receipt) → (r.number < n) ⊎ (n < r.number) → one_
 none_of n r (inl l) = let e : one_if n r ≡ 0 = ap (λ b. cond b 1 0) (below_test r.number n l) in omega (arith, e)
 none_of n r (inr l) = let e : one_if n r ≡ 0 = ap (λ b. cond b 1 0) (above_test r.number n l) in omega (arith, e)
 
-pub count_some : (n : ℕ) (xs : List Receipt) (i : ℕ) (d : Receipt) → i < length xs → (get_or xs i d).number ≡ n
-    → 1 ≤ count_of n xs
+pub count_some : (n : ℕ) (xs : List Receipt) (i : ℕ) (d : Receipt) → i < length xs
+    → (get_or xs i d).number ≡ n → 1 ≤ count_of n xs
 count_some n xs i d l e =
     let le = get_or-le-sum_by (one_if n) xs i d l in
     let one = one_of n (get_or xs i d) e in
@@ -101,7 +103,8 @@ too_low start xs zero d l up e low =
       (let some = count_some (get_or xs 0 d).number xs 0 d l refl in omega (arith, some)),
     )
 too_low start xs (suc i) d l up e low =
-    let before : (get_or xs i d).number ≡ start + 1 + i = number_before (start + 1) xs (suc i) i d (omega arith) (omega arith) e in
+    let before : (get_or xs i d).number ≡ start + 1 + i =
+    number_before (start + 1) xs (suc i) i d (omega arith) (omega arith) e in
     let le : (get_or xs i d).number ≤ (get_or xs (suc i) d).number = up i (suc i) d (omega arith) l in
     let same : (get_or xs i d).number ≡ (get_or xs (suc i) d).number = omega (arith, before, le, low) in
     let two = count_two (get_or xs (suc i) d).number xs i (suc i) d (omega arith) l same refl in
@@ -116,7 +119,8 @@ apart_from : (start : ℕ) (xs : List Receipt) (i : ℕ) (d : Receipt) → i < l
     → start + 1 + i < (get_or xs i d).number → (j : ℕ) (x : Receipt) → j < length xs
     → ((get_or xs j x).number < start + 1 + i) ⊎ (start + 1 + i < (get_or xs j x).number)
 apart_from start xs i d l up e high j x k =
-    elim (less_or_not j i) as (λ _. ((get_or xs j x).number < start + 1 + i) ⊎ (start + 1 + i < (get_or xs j x).number)) [
+    elim (less_or_not j i) as
+    (λ _. ((get_or xs j x).number < start + 1 + i) ⊎ (start + 1 + i < (get_or xs j x).number)) [
       | inl below ↦ inl (let n = number_before (start + 1) xs i j x (omega arith) below e in omega (arith, n, below))
       | inr above ↦ inr
           (let le = up i j x above k in

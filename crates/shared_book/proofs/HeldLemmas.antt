@@ -1,5 +1,6 @@
 -- Lists of receipts, one after the other.
-use Rattle.std.proofs.Common.{◌≡◌, ℕ, ◌+◌, List, [], ◌∷◌, ◌++◌, map, length, refl, sym, ap, ◌∙◌, append_assoc, append-nil, length-append, ◌<◌, ◌≤◌, arith}
+use Rattle.std.proofs.Common.{◌≡◌, ℕ, ◌+◌, List, [], ◌∷◌, ◌++◌, map, length, refl, sym, ap}
+use Rattle.std.proofs.Common.{◌∙◌, append_assoc, append-nil, length-append, ◌<◌, ◌≤◌, arith}
 use Rattle.shared_book.specs.Held.{Held, all_parts, filled, receipts_of}
 use Rattle.shared_book.specs.declared.receipt.Receipt.{Receipt}
 
@@ -10,7 +11,8 @@ filled-append ((r ∷ rs) ∷ xs) ys = ap (λ l. (r ∷ rs) ∷ l) (filled-appen
 
 pub receipts_of-append : (xs ys : List (List Receipt)) → receipts_of (xs ++ ys) ≡ receipts_of xs ++ receipts_of ys
 receipts_of-append [] ys = refl
-receipts_of-append (l ∷ xs) ys = ap (λ rest. l ++ rest) (receipts_of-append xs ys) ∙ sym (append_assoc l (receipts_of xs) (receipts_of ys))
+receipts_of-append (l ∷ xs) ys =
+    ap (λ rest. l ++ rest) (receipts_of-append xs ys) ∙ sym (append_assoc l (receipts_of xs) (receipts_of ys))
 
 pub receipts_of-filled : (xs : List (List Receipt)) → receipts_of (filled xs) ≡ receipts_of xs
 receipts_of-filled [] = refl

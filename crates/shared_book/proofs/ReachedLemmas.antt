@@ -1,5 +1,6 @@
 -- One more accepted call leads on.
-use Rattle.std.proofs.Common.{◌≡◌, ℕ, ◌+◌, Bool, true, false, List, [], ◌∷◌, ◌++◌, refl, sym, ap, subst, ◌∙◌}
+use Rattle.std.proofs.Common.{◌≡◌, ℕ, ◌+◌, Bool, true, false, List, [], ◌∷◌, ◌++◌, refl, sym, ap}
+use Rattle.std.proofs.Common.{subst, ◌∙◌}
 use Rattle.std.specs.Prelude.{MatchBool}
 use Rattle.request_journal.specs.Journal.{clears}
 use Rattle.request_journal.specs.Legal.{IsCheckpoint}
@@ -27,10 +28,11 @@ reached_next origin old new event reached grows = record {
 }
 
 number_by : (old new : Past) (event : Event) (b : Bool)
-    → MatchBool b ((base : Past) × IsCheckpoint old base × (new ≡ with_event base event)) (new ≡ with_event old event)
-    → last_number new ≡ last_number old + 1
+    → MatchBool b ((base : Past) × IsCheckpoint old base × (new ≡ with_event base event))
+    (new ≡ with_event old event) → last_number new ≡ last_number old + 1
 number_by old new event true after =
-    ap last_number after.2 ∙ number_after after.0 event ∙ ap (λ n. n + 1) (number_at_checkpoint old after.0 after.1)
+    ap last_number after.2 ∙ number_after after.0 event
+    ∙ ap (λ n. n + 1) (number_at_checkpoint old after.0 after.1)
 number_by old new event false after = ap last_number after ∙ number_after old event
 
 pub number_grown : (old new : Past) (event : Event) → Grows old new event → last_number new ≡ last_number old + 1

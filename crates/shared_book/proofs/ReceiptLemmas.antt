@@ -1,5 +1,7 @@
 -- Receipts by their places in a list.
-use Rattle.std.proofs.Common.{◌≡◌, ◌≢◌, ℕ, zero, suc, ◌+◌, ◌-◌, ◌<◌, ◌≤◌, ◌⊎◌, inl, inr, List, [], ◌∷◌, ◌++◌, map, length, get_or, take, All, refl, sym, ap, ◌∙◌, subst, arith}
+use Rattle.std.proofs.Common.{◌≡◌, ◌≢◌, ℕ, zero, suc, ◌+◌, ◌-◌, ◌<◌, ◌≤◌, ◌⊎◌}
+use Rattle.std.proofs.Common.{inl, inr, List, [], ◌∷◌, ◌++◌, map, length, get_or, take, All, refl, sym, ap}
+use Rattle.std.proofs.Common.{◌∙◌, subst, arith}
 use Rattle.std.proofs.lemmas.List.{get_or-map, map-append, take_more, take_all}
 use Rattle.std.proofs.lemmas.List.Concat.{get_or-flat_map, flat_map-append}
 use Rattle.std.proofs.lemmas.List.Elements.{All-append, All-cons, All-push}
@@ -61,7 +63,8 @@ append-nil' [] = refl
 append-nil' (x ∷ xs) = ap (λ l. x ∷ l) (append-nil' xs)
 
 -- one more list of a joined list
-pub all_flat_more : {X Y : Type 0} (P : Y → Type 0) (f : X → List Y) (xs : List X) (i : ℕ) (d : X) → i < length xs
+pub all_flat_more : {X Y : Type 0} (P : Y → Type 0) (f : X → List Y) (xs : List X) (i : ℕ) (d : X)
+    → i < length xs
     → All P (flat_map f (take i xs)) → All P (f (get_or xs i d)) → All P (flat_map f (take (i + 1) xs))
 all_flat_more P f xs i d l all p =
     subst (All P)
@@ -80,7 +83,8 @@ any_flat P f xs i d l any =
       any.4,
     )
 
-pub all_taken : {X : Type 0} (P : List X → Type 0) (xs : List X) (i : ℕ) → length xs ≤ i → P (take i xs) → P xs
+pub all_taken : {X : Type 0} (P : List X → Type 0) (xs : List X) (i : ℕ) → length xs ≤ i
+    → P (take i xs) → P xs
 all_taken P xs i l p = subst P (take_all i xs l) p
 
 -- a seat's own list before those that it took over

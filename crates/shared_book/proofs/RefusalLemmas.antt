@@ -1,5 +1,6 @@
 -- A number that shows a mismatch of sorted copies shows one of the seats' lists.
-use Rattle.std.proofs.Common.{◌≡◌, ◌≢◌, ◌⊎◌, inl, inr, ℕ, ◌+◌, ◌<◌, ◌≤◌, List, length, Option, None, Some, sym, ap, ◌∙◌, subst}
+use Rattle.std.proofs.Common.{◌≡◌, ◌≢◌, ◌⊎◌, inl, inr, ℕ, ◌+◌, ◌<◌, ◌≤◌, List, length}
+use Rattle.std.proofs.Common.{Option, None, Some, sym, ap, ◌∙◌, subst}
 use Rattle.std.proofs.lemmas.List.Sorted.{length_permutation, Contains-permutation, IsPermutation-sym}
 use Rattle.std.specs.List.Sorted.{IsPermutation}
 use Rattle.std.specs.Prelude.{Any, Contains, IsSomeAnd}
@@ -47,7 +48,8 @@ any_moved P xs ys p any =
     Contains-permutation ys xs any.1 (IsPermutation-sym xs ys p) (any.0, any.2, any.3) in
     (found.0, any.1, found.1, found.2, any.4)
 
-some_and : (o : Option Event) (P Q : Event → Type 0) → ((e : Event) → P e → Q e) → IsSomeAnd o P → IsSomeAnd o Q
+some_and : (o : Option Event) (P Q : Event → Type 0) → ((e : Event) → P e → Q e)
+    → IsSomeAnd o P → IsSomeAnd o Q
 some_and None P Q f p = p
 some_and (Some e) P Q f p = f e p
 
@@ -79,7 +81,8 @@ module _
         subst (λ (x : Past). IsSomeAnd (event_at x n) (Differs n shown)) e wrong in
         unsettled_at origin parts past seats n reason whole
         (inr (inl (some_and (event_at past n) (Differs n shown) (Differs n (receipts_of (all_lists seats)))
-        (λ event any. any_moved (λ r. (r.number ≡ n) × (r.event ≢ event)) (receipts_of (all_lists seats)) moved permuted
+        (λ event any. any_moved (λ r. (r.number ≡ n) × (r.event ≢ event))
+        (receipts_of (all_lists seats)) moved permuted
         (subst (λ (l : List Receipt). Differs n l event) same any))
         here)))
         refused

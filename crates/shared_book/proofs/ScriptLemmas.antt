@@ -1,5 +1,6 @@
 -- A script, call by call.
-use Rattle.std.proofs.Common.{◌≡◌, ◌⊎◌, ◌-◌, ℕ, inl, inr, List, [], ◌∷◌, ◌++◌, refl, sym, ap, ◌∙◌, subst, append_assoc, append-nil, arith, Option, None, Ok, Err, IfOk, IfErr}
+use Rattle.std.proofs.Common.{◌≡◌, ◌⊎◌, ◌-◌, ℕ, inl, inr, List, [], ◌∷◌, ◌++◌, refl, sym}
+use Rattle.std.proofs.Common.{ap, ◌∙◌, subst, append_assoc, append-nil, arith, Option, None, Ok, Err, IfOk, IfErr}
 use Rattle.std.specs.Borrow.{Bor}
 use Rattle.std.specs.Prelude.{Result}
 use Rattle.request_journal.specs.Past.{Past}
@@ -38,12 +39,14 @@ plays_on origin a b c calls call one two = (
       ∙ ap (λ (l : List Receipt). record a { own = l }) (append_assoc a.own one.0 two.0),
 )
 
-pub plays_accepted : (origin : Past) (old new : Held) (call : Call) (receipt : Receipt) → new ≡ with_receipt old receipt
+pub plays_accepted : (origin : Past) (old new : Held) (call : Call) (receipt : Receipt)
+    → new ≡ with_receipt old receipt
     → IsOf call receipt.event → IsReceipt origin receipt → Plays origin old new (call ∷ [])
 plays_accepted origin old new call receipt kept of genuine =
     (receipt ∷ [], inl (receipt, [], refl, of, genuine, refl), kept)
 
-pub plays_refused : (origin : Past) (old new : Held) (call : Call) → new ≡ old → Plays origin old new (call ∷ [])
+pub plays_refused : (origin : Past) (old new : Held) (call : Call) → new ≡ old
+    → Plays origin old new (call ∷ [])
 plays_refused origin old new call same =
     ([], inr refl, same ∙ ap (λ (l : List Receipt). record old { own = l }) (sym (append-nil old.own)))
 
@@ -54,8 +57,8 @@ plays_applied origin old new asked (Ok lent) told =
 plays_applied origin old new asked (Err error) told = plays_refused origin old new (Apply asked) told
 
 -- two seats that had made no call before their scripts, beside one that made its calls before
-played : (origin past : Past) (seat left a b : Held) (cs ds : List Call) (settled : Settled) → lists left ≡ lists seat
-    → Plays origin (new_seat 1) a cs → Plays origin (new_seat 1) b ds
+played : (origin past : Past) (seat left a b : Held) (cs ds : List Call) (settled : Settled)
+    → lists left ≡ lists seat → Plays origin (new_seat 1) a cs → Plays origin (new_seat 1) b ds
     → IsSettled origin past (all_lists (left ∷ a ∷ b ∷ [])) settled → IsPlayed origin seat cs ds settled
 played origin past seat left a b cs ds settled same one two all = record {
   one = one.0;
@@ -97,8 +100,8 @@ stopped origin parts seat left a b cs ds seats back reason alone fewer one two a
 })
 
 -- what holds of an error by two things that do
-pub err_by : {X E : Type 0} {P Q R : E → Type 0} (result : Result X E) → ((e : E) → P e → Q e → R e) → IfErr result P
-    → IfErr result Q → IfErr result R
+pub err_by : {X E : Type 0} {P Q R : E → Type 0} (result : Result X E) → ((e : E) → P e → Q e → R e)
+    → IfErr result P → IfErr result Q → IfErr result R
 err_by (Ok x) f p q = p
 err_by (Err e) f p q = f e p q
 
@@ -106,4 +109,5 @@ pub two_fewer : (seat middle left : Held) → middle ≡ record seat { parts = s
     → left ≡ record middle { parts = middle.parts - 1 } → left ≡ record seat { parts = seat.parts - 2 }
 two_fewer seat middle left one two =
     let fewer : seat.parts - 1 - 1 ≡ seat.parts - 2 = omega arith in
-    two ∙ ap (λ (s : Held). record s { parts = s.parts - 1 }) one ∙ ap (λ (n : ℕ). record seat { parts = n }) fewer
+    two ∙ ap (λ (s : Held). record s { parts = s.parts - 1 }) one
+    ∙ ap (λ (n : ℕ). record seat { parts = n }) fewer

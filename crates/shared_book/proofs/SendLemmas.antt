@@ -80,7 +80,15 @@ named_test_send = search (named_test_inside_send, sendable) depth 60
 url_kind_send : IsSend url_kind.the_row
 url_kind_send =
     variants_send url_kind.enum
-    (search (crosses, text.the_send, hashed_text.the_send, path_template.the_send, value_matcher.the_send, named_test_send, sendable) depth 60)
+    (search (
+      crosses,
+      text.the_send,
+      hashed_text.the_send,
+      path_template.the_send,
+      value_matcher.the_send,
+      named_test_send,
+      sendable,
+    ) depth 60)
 
 url_test_inside_send : IsSend url_test_inside.the_row
 url_test_inside_send = declared_send url_test_inside.the_type (url_kind_send, tt)
@@ -91,7 +99,15 @@ url_test_send = search (url_test_inside_send, sendable) depth 60
 body_kind_send : IsSend body_kind.the_row
 body_kind_send =
     variants_send body_kind.enum
-    (search (crosses, text.the_send, octets.the_send, json_path.the_send, value_matcher.the_send, json_matcher_send, sendable) depth 60)
+    (search (
+      crosses,
+      text.the_send,
+      octets.the_send,
+      json_path.the_send,
+      value_matcher.the_send,
+      json_matcher_send,
+      sendable,
+    ) depth 60)
 
 body_test_inside_send : IsSend body_test_inside.the_row
 body_test_inside_send = declared_send body_test_inside.the_type (body_kind_send, tt)
@@ -108,7 +124,8 @@ pub request_matcher_send : IsSend request_matcher.the_row
 request_matcher_send = search (request_matcher_inside_send, sendable) depth 60
 
 ready_mapping_inside_send : IsSend ready_mapping_inside.the_row
-ready_mapping_inside_send = declared_send ready_mapping_inside.the_type (shared_spec.the_send, (request_matcher_send, tt))
+ready_mapping_inside_send =
+    declared_send ready_mapping_inside.the_type (shared_spec.the_send, (request_matcher_send, tt))
 
 pub ready_mapping_send : IsSend ready_mapping.the_row
 ready_mapping_send = search (ready_mapping_inside_send, sendable) depth 60
@@ -116,7 +133,8 @@ ready_mapping_send = search (ready_mapping_inside_send, sendable) depth 60
 -- ---- the book
 book_mapping_inside_send : IsSend book_mapping_inside.the_row
 book_mapping_inside_send =
-    declared_send book_mapping_inside.the_type (mapping_id.the_send, (search (crosses, ready_mapping_send, sendable) depth 60, tt))
+    declared_send book_mapping_inside.the_type
+    (mapping_id.the_send, (search (crosses, ready_mapping_send, sendable) depth 60, tt))
 
 book_mapping_send : IsSend book_mapping.the_row
 book_mapping_send = search (book_mapping_inside_send, sendable) depth 60
@@ -174,7 +192,15 @@ module _ (L : RattleType) (o : origin.Ghosts L.Denot) (l : ledger.Ghosts L.Denot
 pub book_input_send : IsSend book_input.the_row
 book_input_send =
     variants_send book_input.enum
-    (search (ready_mapping_send, mapping_id.the_send, text.the_send, items.the_send, shared_exchange.the_send, crosses, sendable) depth 60)
+    (search (
+      ready_mapping_send,
+      mapping_id.the_send,
+      text.the_send,
+      items.the_send,
+      shared_exchange.the_send,
+      crosses,
+      sendable,
+    ) depth 60)
 
 call_send : IsSend call.the_row
 call_send = variants_send call.enum ((snapshot.the_send, tt), ((book_input_send, tt), tt))

@@ -1,5 +1,6 @@
 -- What is told of a call that was made under the lock, where its past isn't named.
-use Rattle.std.proofs.Common.{◌≡◌, ◌+◌, ◌⊎◌, inl, inr, ℕ, List, [], ◌∷◌, ◌++◌, refl, sym, ap, ◌∙◌, subst, Ok, Err, IfOk, IfErr}
+use Rattle.std.proofs.Common.{◌≡◌, ◌+◌, ◌⊎◌, inl, inr, ℕ, List, [], ◌∷◌, ◌++◌, refl, sym}
+use Rattle.std.proofs.Common.{ap, ◌∙◌, subst, Ok, Err, IfOk, IfErr}
 use Rattle.std.specs.Prelude.{Result}
 use Rattle.std.specs.declared.alloc.AllocError.{AllocError}
 use Rattle.error_code.specs.declared.error_code.ErrorCode.{ErrorCode}
@@ -22,7 +23,8 @@ use Rattle.stub_book.specs.Refusals.{IsRefusal, IsServeRefusal}
 use Rattle.stub_book.specs.declared.error.BookError.{BookError}
 
 -- a receipt of an accepted call
-pub genuine : (origin old new : Past) (P : Event → Type 0) (result : Result Receipt BookError) → IsReached origin old
+pub genuine : (origin old new : Past) (P : Event → Type 0) (result : Result Receipt BookError)
+    → IsReached origin old
     → IfOk result (λ r. P r.event × Grows old new r.event × (r.number ≡ last_number old + 1))
     → IfOk result (λ r. P r.event × IsReceipt origin r)
 genuine origin old new P (Ok receipt) reached told =
@@ -35,7 +37,8 @@ pub refused_serve : (origin old : Past) (result : Result Receipt BookError) → 
 refused_serve origin old (Ok receipt) reached why = why
 refused_serve origin old (Err error) reached why = inr (old, reached, why)
 
-pub refused_change : (origin old : Past) (asked : BookInput) (result : Result Receipt BookError) → IsReached origin old
+pub refused_change : (origin old : Past) (asked : BookInput) (result : Result Receipt BookError)
+    → IsReached origin old
     → IfErr result (λ e. IsRefusal old asked e.code) → IfErr result (λ e. IsRefused origin asked e.code)
 refused_change origin old asked (Ok receipt) reached why = why
 refused_change origin old asked (Err error) reached why = inr (old, reached, why)
@@ -47,13 +50,15 @@ told_at P past (Ok x) told = (past, told)
 told_at P past (Err error) told = told
 
 pub refused_at : {X E : Type 0} (origin : Past) (P : Past → E → Type 0) (past : Past) (result : Result X E)
-    → IsReached origin past → IfErr result (P past) → IfErr result (λ e. (p : Past) × IsReached origin p × P p e)
+    → IsReached origin past → IfErr result (P past)
+    → IfErr result (λ e. (p : Past) × IsReached origin p × P p e)
 refused_at origin P past (Ok x) reached why = why
 refused_at origin P past (Err error) reached why = (past, reached, why)
 
 pub read_at : (origin past : Past) (asked : BookRead) (result : Result Reading AllocError) → IsReached origin past
     → IfOk result (λ r. r.number ≡ last_number past) → IfOk result (λ r. IsLooked past asked r.answer)
-    → IfOk result (λ r. (p : Past) × IsReached origin p × (r.number ≡ last_number p) × IsLooked p asked r.answer)
+    → IfOk result (λ r. (p : Past) × IsReached origin p × (r.number ≡ last_number p)
+    × IsLooked p asked r.answer)
 read_at origin past asked (Ok reading) reached number answer = (past, reached, number, answer)
 read_at origin past asked (Err error) reached number answer = number
 
@@ -71,11 +76,13 @@ last_of_more d (x ∷ xs) a = last_of_more x xs a
 one_last : (xs ys : List Receipt) (a b : Receipt) → xs ++ a ∷ [] ≡ ys ++ b ∷ [] → a ≡ b
 one_last xs ys a b e = sym (last_of_more a xs a) ∙ ap (last_or a) e ∙ last_of_more a ys b
 
-added_last : (old new : Held) (added last : Receipt) → new ≡ with_receipt old added → IsLast last new.own → added ≡ last
+added_last : (old new : Held) (added last : Receipt) → new ≡ with_receipt old added → IsLast last new.own
+    → added ≡ last
 added_last old new added last kept is_last =
     one_last old.own is_last.0 added last (sym (ap (λ (h : Held). h.own) kept) ∙ is_last.1)
 
-pub lends_served : (origin : Past) (old new : Held) (request : Request) (last : Receipt) → Serves origin old new request
+pub lends_served : (origin : Past) (old new : Held) (request : Request) (last : Receipt)
+    → Serves origin old new request
     → IsLast last new.own → (new ≡ with_receipt old last) × IsServed request last.event × IsReceipt origin last
 lends_served origin old new request last made is_last =
     let same : made.receipt ≡ last = added_last old new made.receipt last made.kept is_last in (
@@ -84,7 +91,8 @@ lends_served origin old new request last made is_last =
       subst (λ (r : Receipt). IsReceipt origin r) same made.genuine,
     )
 
-pub lends_applied : (origin : Past) (old new : Held) (asked : BookInput) (last : Receipt) → Applies origin old new asked
+pub lends_applied : (origin : Past) (old new : Held) (asked : BookInput) (last : Receipt)
+    → Applies origin old new asked
     → IsLast last new.own → (new ≡ with_receipt old last) × IsAsked asked last.event × IsReceipt origin last
 lends_applied origin old new asked last made is_last =
     let same : made.receipt ≡ last = added_last old new made.receipt last made.kept is_last in (

@@ -1,5 +1,5 @@
--- What a call lends, and what it leaves of the seat: the receipt, which is then the last of the seat's own; or, where it
--- was refused, the seat as it was.
+-- What a call lends, and what it leaves of the seat: the receipt, which is then the last of the seat's own; or, where
+-- it was refused, the seat as it was.
 use Rattle.std.specs.Prelude.{◌≡◌, MatchResult, Result}
 use Rattle.std.specs.Borrow.{Bor}
 use Rattle.mock_request.specs.Request.{Request}

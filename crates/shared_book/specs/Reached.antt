@@ -1,4 +1,5 @@
--- The one history of a shared book: the accepted calls since the book was shared, one after the other, whoever made them.
+-- The one history of a shared book: the accepted calls since the book was shared, one after the other,
+-- whoever made them.
 use Rattle.std.specs.Prelude.{◌≡◌, List, [], ◌∷◌}
 use Rattle.request_journal.specs.Past.{Past}
 use Rattle.request_journal.specs.declared.event.Event.{Event}

@@ -1,5 +1,6 @@
 -- Receipts: what one says of its call, and how the numbers in a list of them go on.
-use Rattle.std.specs.Prelude.{◌≡◌, ◌+◌, ◌==◌, ◌≤◌, ◌<◌, ℕ, List, [], ◌∷◌, ◌++◌, map, count_by, length, slice_index}
+use Rattle.std.specs.Prelude.{◌≡◌, ◌+◌, ◌==◌, ◌≤◌, ◌<◌, ℕ, List, [], ◌∷◌, ◌++◌, map}
+use Rattle.std.specs.Prelude.{count_by, length, slice_index}
 use Rattle.std.specs.List.Sorted.{IsStrictlyIncreasing}
 use Rattle.request_journal.specs.Legal.{IsNext}
 use Rattle.request_journal.specs.Past.{Past, last_number}

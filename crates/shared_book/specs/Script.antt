@@ -31,7 +31,8 @@ AreReceiptsOf origin (call ∷ calls) receipts =
 -- a seat has made the calls: the receipts of those that were accepted are at the end of its own list
 abbrev pub Plays : Past → Held → Held → List Call → Type 0
 Plays origin old new calls =
-    (receipts : List Receipt) × AreReceiptsOf origin calls receipts × (new ≡ record old { own = old.own ++ receipts })
+    (receipts : List Receipt) × AreReceiptsOf origin calls receipts
+    × (new ≡ record old { own = old.own ++ receipts })
 
 -- two scripts were played beside a seat's earlier calls: each script's accepted calls have their receipts in a list of
 -- their own, in its order, and all lists together are settled, so that the numbers rise in each

@@ -1,5 +1,6 @@
 -- What is said of all seats of a book together, once each of them is there.
-use Rattle.std.specs.Prelude.{◌≡◌, ◌≢◌, ◌⊎◌, ◌+◌, ◌<◌, ◌≤◌, ℕ, List, length, Option, All, Any, IfSome, IsSomeAnd, IsPermutation}
+use Rattle.std.specs.Prelude.{◌≡◌, ◌≢◌, ◌⊎◌, ◌+◌, ◌<◌, ◌≤◌, ℕ, List, length, Option}
+use Rattle.std.specs.Prelude.{All, Any, IfSome, IsSomeAnd, IsPermutation}
 use Rattle.std.specs.List.{range_with_len}
 use Rattle.request_journal.specs.Journal.{event_at}
 use Rattle.request_journal.specs.Legal.{IsLegal}

@@ -1,5 +1,6 @@
 // Receipts beside a history.
-ghost use Rattle.std.specs.Prelude.{◌≡◌, ◌≢◌, ◌+◌, ◌<◌, ◌^◌, length, All, Any, IfErr, IfOk, IfSome, IsPermutation, IsSomeAnd, MatchOption};
+ghost use Rattle.std.specs.Prelude.{◌≡◌, ◌≢◌, ◌+◌, ◌<◌, ◌^◌, length, All, Any, IfErr, IfOk};
+ghost use Rattle.std.specs.Prelude.{IfSome, IsPermutation, IsSomeAnd, MatchOption};
 ghost use Rattle.std.specs.List.{range_with_len};
 ghost use Rattle.std.specs.List.Sorted.{IsNonDecreasingBy};
 ghost use Rattle.request_journal.specs.Journal.{event_at};

@@ -103,7 +103,8 @@ impl<L: Origin> Locked<L> {
         ensures err { OnErr result (self.new ≡ self.old) }
         ensures why { IfErr result (λ error. IsServeRefusal self.old error.code) }
         ensures parts { share.new.parts ≡ share.old.parts }
-        ensures entered { OnOk result ((share.new.amount ≡ share.old.amount + 1) × (share.new.amount ≤ NUMBER_LIMIT)) }
+        ensures entered { OnOk result
+            ((share.new.amount ≡ share.old.amount + 1) × (share.new.amount ≤ NUMBER_LIMIT)) }
         ensures not_entered { OnErr result (share.new.amount ≡ share.old.amount) }
     {
         let event = self.book.serve_read(request, parsed, memory)?;
@@ -129,7 +130,8 @@ impl<L: Origin> Locked<L> {
         ensures err { OnErr result (self.new ≡ self.old) }
         ensures why { IfErr result (λ error. IsRefusal self.old input error.code) }
         ensures parts { share.new.parts ≡ share.old.parts }
-        ensures entered { OnOk result ((share.new.amount ≡ share.old.amount + 1) × (share.new.amount ≤ NUMBER_LIMIT)) }
+        ensures entered { OnOk result
+            ((share.new.amount ≡ share.old.amount + 1) × (share.new.amount ≤ NUMBER_LIMIT)) }
         ensures not_entered { OnErr result (share.new.amount ≡ share.old.amount) }
     {
         let event = self.book.apply_shared(input)?;

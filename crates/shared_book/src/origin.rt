@@ -9,8 +9,8 @@ pub trait Origin: Ledger {
     ghost origin: { Past };
 }
 
-// What stands here is never used: where a function over `L` is called with `Brand`, its caller's proof picks the origin, any
-// past, with `ghosts-F-L-Origin` in `proofs/../Invariants.antt`.
+// What stands here is never used: where a function over `L` is called with `Brand`, its caller's proof picks the
+// origin, any past, with `ghosts-F-L-Origin` in `proofs/../Invariants.antt`.
 impl Origin for Brand {
     ghost use Rattle.std.specs.Prelude.{[]};
     ghost use Rattle.request_journal.specs.Past.{opened};

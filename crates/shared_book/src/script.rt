@@ -1,5 +1,6 @@
 // Two scripts of calls on a shared book, each in a thread of its own.
-ghost use Rattle.std.specs.Prelude.{◌≡◌, ◌⊎◌, ◌<◌, ◌≤◌, ◌∷◌, ◌++◌, [], IfErr, IfOk, vec_capacity, vec_len};
+ghost use Rattle.std.specs.Prelude.{◌≡◌, ◌⊎◌, ◌<◌, ◌≤◌, ◌∷◌, ◌++◌, [], IfErr, IfOk};
+ghost use Rattle.std.specs.Prelude.{vec_capacity, vec_len};
 ghost use Rattle.shared_book.specs.Script.{IsPlayed, IsStopped, IsUnplayed, Plays};
 
 use crate::gate::Gate;
@@ -42,7 +43,8 @@ pub fn run_scripts<L: Origin + Send + Sync, R: Threads + Wait + Sync, G: Gate + 
     requires { 3 ≤ seat.parts }
     ensures played { IfOk result (IsPlayed L.origin seat first.calls.items second.calls.items) }
     ensures stopped { IfErr result (λ error. IsUnplayed seat error.reason error.alone error.seats.items
-        ⊎ IsStopped L.origin L.parts seat first.calls.items second.calls.items error.reason error.alone error.seats.items) }
+        ⊎ IsStopped L.origin L.parts seat first.calls.items second.calls.items error.reason error.alone
+        error.seats.items) }
 {
     let mut seat = seat;
     let mut seats = Vec::new(alloc);

@@ -1,5 +1,6 @@
 // A seat, by which calls are made on a shared book.
-ghost use Rattle.std.specs.Prelude.{◌≡◌, ◌+◌, ◌-◌, ◌^◌, ◌<◌, ◌≤◌, ◌∷◌, ◌++◌, [], length, IfErr, IfOk, OnErr, OnOk, ⊤, map, vec_len, vec_capacity};
+ghost use Rattle.std.specs.Prelude.{◌≡◌, ◌+◌, ◌-◌, ◌^◌, ◌<◌, ◌≤◌, ◌∷◌, ◌++◌, []};
+ghost use Rattle.std.specs.Prelude.{length, IfErr, IfOk, OnErr, OnOk, ⊤, map, vec_len, vec_capacity};
 ghost use Rattle.request_journal.specs.Input.{IsAsked};
 ghost use Rattle.shared_book.specs.Held.{new_seat, filled, with_seat};
 ghost use Rattle.shared_book.specs.Inner.Gains.{Serves, Applies};
@@ -64,7 +65,11 @@ impl<L: Origin> Model for Seat<L> {
 
     ghost Value = { Held };
 
-    ghost view = { λ s. record { parts = s.parts; own = s.own.items; joined = map (λ list. list.items) s.joined.items } };
+    ghost view = { λ s. record {
+      parts = s.parts;
+      own = s.own.items;
+      joined = map (λ list. list.items) s.joined.items;
+    } };
 
     ghost invariant = { λ s. IsSeat L.parts s.share.parts s.share.amount s.parts s.count
         (s.own.items ∷ map (λ list. list.items) s.joined.items) };
@@ -183,7 +188,8 @@ impl<L: Origin> Seat<L> {
         }
     }
 
-    /// Reads the book at one point. Requests are matched after the lock was let go. Adds no event, and keeps no receipt.
+    /// Reads the book at one point. Requests are matched after the lock was let go. Adds no event, and
+    /// keeps no receipt.
     pub fn read<R: Wait>(
         &self,
         rt: &R,
@@ -234,8 +240,8 @@ impl<L: Origin> Seat<L> {
         Ok(())
     }
 
-    // Serves a request, and keeps the receipt as the last. What its event needs of memory is taken before the lock, so that
-    // nobody waits there for the system to give some.
+    // Serves a request, and keeps the receipt as the last. What its event needs of memory is taken before the lock, so
+    // that nobody waits there for the system to give some.
     fn keep_served<R: Wait>(
         &mut self,
         rt: &R,
@@ -295,7 +301,8 @@ fn keep_later(headers: &mut LastHeaders, later: LastHeaders) {
 // Adds a list to these, unless it is empty. Takes no memory.
 fn add_list(lists: &mut Vec<Vec<Receipt>>, list: Vec<Receipt>)
     requires { vec_len lists.old < vec_capacity lists.old }
-    ensures items { map (λ l. l.items) lists.new.items ≡ map (λ l. l.items) lists.old.items ++ filled (list.items ∷ []) }
+    ensures items { map (λ l. l.items) lists.new.items
+        ≡ map (λ l. l.items) lists.old.items ++ filled (list.items ∷ []) }
     ensures room { vec_capacity lists.old ≤ vec_capacity lists.new }
     ensures length { vec_len lists.new ≤ vec_len lists.old + 1 }
 {

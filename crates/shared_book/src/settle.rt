@@ -1,5 +1,6 @@
 // Comparing the receipts of all seats with the book's history.
-ghost use Rattle.std.specs.Prelude.{◌≡◌, ◌≢◌, ◌+◌, ◌^◌, ◌<◌, ◌↔◌, IfErr, IfOk, MatchOption, None, length};
+ghost use Rattle.std.specs.Prelude.{◌≡◌, ◌≢◌, ◌+◌, ◌^◌, ◌<◌, ◌↔◌, IfErr, IfOk};
+ghost use Rattle.std.specs.Prelude.{MatchOption, None, length};
 ghost use Rattle.request_journal.specs.Past.{Past};
 ghost use Rattle.shared_book.specs.Held.{all_lists, all_parts, receipts_of};
 ghost use Rattle.shared_book.specs.Reached.{IsReached};
@@ -30,7 +31,8 @@ pub fn settle<L: Origin, R: Wait>(
     shared: SharedBook<L>,
     seats: Vec<Seat<L>>,
 ) -> Result<Settled, SettleError<L>>
-    ensures settled { IfOk result (λ settled. (past : Past) × IsSettled L.origin past (all_lists seats.items) settled) }
+    ensures settled { IfOk result
+        (λ settled. (past : Past) × IsSettled L.origin past (all_lists seats.items) settled) }
     ensures handed_back { IfErr result (λ error. (error.seats.items ≡ seats.items) × (error.alone ≡ None)) }
     ensures why { IfErr result (λ error. (past : Past) × IsReached L.origin past
         × IsUnsettled L.origin L.parts past seats.items error.reason) }

@@ -95,7 +95,8 @@ impl<L: Origin> SharedBook<L> {
         ensures ok { IfOk result (λ receipt. IsServed request receipt.event × IsReceipt L.origin receipt) }
         ensures why { IfErr result (λ error. IsServeRefused L.origin error.code) }
         ensures parts { share.new.parts ≡ share.old.parts }
-        ensures entered { OnOk result ((share.new.amount ≡ share.old.amount + 1) × (share.new.amount ≤ NUMBER_LIMIT)) }
+        ensures entered { OnOk result
+            ((share.new.amount ≡ share.old.amount + 1) × (share.new.amount ≤ NUMBER_LIMIT)) }
         ensures not_entered { OnErr result (share.new.amount ≡ share.old.amount) }
     {
         self.lock(rt).serve(share, request, parsed, memory)
@@ -112,7 +113,8 @@ impl<L: Origin> SharedBook<L> {
         ensures ok { IfOk result (λ receipt. IsAsked input receipt.event × IsReceipt L.origin receipt) }
         ensures why { IfErr result (λ error. IsRefused L.origin input error.code) }
         ensures parts { share.new.parts ≡ share.old.parts }
-        ensures entered { OnOk result ((share.new.amount ≡ share.old.amount + 1) × (share.new.amount ≤ NUMBER_LIMIT)) }
+        ensures entered { OnOk result
+            ((share.new.amount ≡ share.old.amount + 1) × (share.new.amount ≤ NUMBER_LIMIT)) }
         ensures not_entered { OnErr result (share.new.amount ≡ share.old.amount) }
     {
         self.lock(rt).apply(share, input)
@@ -139,7 +141,8 @@ impl<L: Origin> SharedBook<L> {
         seats: &mut [Seat<L>],
     ) -> Result<Settled, SettleRefusal>
         ensures same { seats.new ≡ seats.old }
-        ensures settled { IfOk result (λ settled. (past : Past) × IsSettled L.origin past (all_lists seats.old) settled) }
+        ensures settled { IfOk result
+            (λ settled. (past : Past) × IsSettled L.origin past (all_lists seats.old) settled) }
         ensures why { IfErr result (λ reason. (past : Past) × IsReached L.origin past
             × IsUnsettled L.origin L.parts past seats.old reason) }
     {

@@ -11,8 +11,8 @@ use Rattle.stub_book.specs.Inner.Kept.{IsPrepared}
 
 -- what was prepared and then added
 pub accepts :
-    (old new : Past) (asked : BookInput) (given added : Event) (made : Prepared) → IsPrepared given made → given ≡ added
-    → IsAsked asked added → Grows old new added → IsAccepted old new asked made.accepted
+    (old new : Past) (asked : BookInput) (given added : Event) (made : Prepared) → IsPrepared given made
+    → given ≡ added → IsAsked asked added → Grows old new added → IsAccepted old new asked made.accepted
 accepts old new asked given added made prepared same asked_for grows =
     let is = prepared.shared ∙ same in
     record {

@@ -20,13 +20,14 @@ module _ (past : Past) (stored : Stored) (states : States) (kept : Recording) (f
   where
     pub is_chosen : (mapping : Mapping) → IsChosen (state_of states) stored.live request mapping
         → IsChoice past request (Stub (record { mapping = mapping }))
-    is_chosen mapping chosen = chosen_in_past past states stored.live request fits.same_live fits.same_states mapping chosen
+    is_chosen mapping chosen =
+        chosen_in_past past states stored.live request fits.same_live fits.same_states mapping chosen
 
     missed : IsMissed (state_of states) stored.live request → IsMissed (state past) (live past) request
     missed none = missed_in_past past states stored.live request fits.same_live fits.same_states none
 
-    pub is_unchosen : (answer : ServeAnswer) → IsMissed (state_of states) stored.live request → IsUnchosen kept answer
-        → IsChoice past request answer
+    pub is_unchosen : (answer : ServeAnswer) → IsMissed (state_of states) stored.live request
+        → IsUnchosen kept answer → IsChoice past request answer
     is_unchosen (Stub captured) none h = absurd h
     is_unchosen (Proxy target) none h =
         (missed none, subst (λ r. IsOnAnd r (λ session. session.target ≡ target)) fits.same_recording h)

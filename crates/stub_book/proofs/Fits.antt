@@ -1,5 +1,6 @@
 -- What a book keeps agrees with its past after one more event with the right answer.
-use Rattle.std.proofs.Common.{◌≡◌, ◌≤◌, ◌<◌, ◌+◌, ℕ, true, false, [], ◌∷◌, ◌++◌, length, refl, sym, ap, ◌∙◌, subst, arith, append-nil}
+use Rattle.std.proofs.Common.{◌≡◌, ◌≤◌, ◌<◌, ◌+◌, ℕ, true, false, [], ◌∷◌, ◌++◌, length}
+use Rattle.std.proofs.Common.{refl, sym, ap, ◌∙◌, subst, arith, append-nil}
 use Rattle.std.specs.Bool.{MatchBool}
 use Rattle.std.specs.List.Sorted.{IsPermutation}
 use Rattle.std.specs.Option.{unwrap_or}
@@ -26,7 +27,8 @@ use Rattle.stub_book.specs.Growth.{Grows}
 use Rattle.stub_book.specs.Inner.Kept.{Agrees, StatesFollow}
 
 -- a number that has room leaves room for itself
-room_after : (past : Past) (event : Event) → last_number past < NUMBER_LIMIT → last_number (with_event past event) ≤ NUMBER_LIMIT
+room_after : (past : Past) (event : Event) → last_number past < NUMBER_LIMIT
+    → last_number (with_event past event) ≤ NUMBER_LIMIT
 room_after past event room = let e = number_after past event in omega (arith, e, room)
 
 module _
@@ -40,9 +42,11 @@ module _
     fits_after = record {
       same_defaults = follows.same_defaults ∙ fits.same_defaults;
       same_live = live_follows past event stored stored' fits.same_defaults fits.same_live follows;
-      same_states = λ name. moves name ∙ ap (unwrap_or (touch name event)) (fits.same_states name) ∙ sym (state_after past event name);
+      same_states = λ name. moves name ∙ ap (unwrap_or (touch name event)) (fits.same_states name)
+          ∙ sym (state_after past event name);
       same_recording =
-          records ∙ ap (recording_by (last_number past + 1) event) fits.same_recording ∙ sym (recording_after past event);
+          records ∙ ap (recording_by (last_number past + 1) event) fits.same_recording
+          ∙ sym (recording_after past event);
       legal = legal_after past event fits.legal next;
       few_live = next.few_live;
       few_defaults = fits.few_defaults;
@@ -62,7 +66,8 @@ module _
               (subst (λ l. IsPermutation l stored.live) (sym (live_at_checkpoint past base checkpoint)) fits.same_live)
               (subst (λ n. Follows stored stored' (n + 1) event) (sym number) follows);
           same_states = λ name. moves name
-              ∙ ap (unwrap_or (touch name event)) (fits.same_states name ∙ sym (state_at_checkpoint past base checkpoint name))
+              ∙ ap (unwrap_or (touch name event))
+              (fits.same_states name ∙ sym (state_at_checkpoint past base checkpoint name))
               ∙ sym (state_after base event name);
           same_recording =
               records
@@ -72,7 +77,8 @@ module _
               ∙ sym (recording_after base event);
           legal = legal_at_clear past base event checkpoint clear next fits.few_live;
           few_live = let most = next.few_live in omega (arith, few, most);
-          few_defaults = subst (λ ds. length (placed_from 0 0 ds) ≤ LIVE_LIMIT) (sym checkpoint.same_defaults) fits.few_defaults;
+          few_defaults = subst (λ ds. length (placed_from 0 0 ds) ≤ LIVE_LIMIT)
+              (sym checkpoint.same_defaults) fits.few_defaults;
           has_room = room_after base event (let room = next.has_room in omega (arith, number, room));
         }
 
@@ -84,7 +90,8 @@ fits_same new past stored states kept same fits = subst (λ p. Agrees p stored s
 
 -- with more room in the store
 pub fits_roomier :
-    (past : Past) (stored stored' : Stored) (states : States) (kept : Recording) → stored'.defaults ≡ stored.defaults
+    (past : Past) (stored stored' : Stored) (states : States) (kept : Recording)
+    → stored'.defaults ≡ stored.defaults
     → stored'.live ≡ stored.live → Agrees past stored states kept → Agrees past stored' states kept
 fits_roomier past stored stored' states kept same_defaults same_live fits = record {
   same_defaults = same_defaults ∙ fits.same_defaults;
@@ -104,7 +111,8 @@ pub follows_same :
 follows_same stored number event left none = record {
   same_defaults = refl;
   live = subst (λ l. IsPermutation l stored.live)
-      (sym (ap (λ l. left_by (event ∷ []) stored.live ++ l) none ∙ append-nil (left_by (event ∷ []) stored.live) ∙ left))
+      (sym (ap (λ l. left_by (event ∷ []) stored.live ++ l) none
+      ∙ append-nil (left_by (event ∷ []) stored.live) ∙ left))
       (IsPermutation-refl stored.live);
 }
 
@@ -116,7 +124,8 @@ pub fits_added :
     → Agrees past stored states recorded → IsNext past event
     → Follows stored stored' (last_number past + 1) event → StatesFollow states states' event
     → recorded' ≡ recording_by (last_number past + 1) event recorded → Agrees new stored' states' recorded'
-fits_added past kept new event shared stored stored' states states' recorded recorded' same is grown fits next follows moves records =
+fits_added past kept new event shared stored stored' states states' recorded recorded' same is grown fits next
+    follows moves records =
     let whole : new ≡ with_event past event = grown ∙ (λ i. with_event (same i) (is i)) in
     subst (λ p. Agrees p stored' states' recorded') (sym whole)
     (fits_after past event stored stored' states states' recorded recorded' fits next follows moves records)
@@ -127,7 +136,9 @@ pub grew :
     → new ≡ with_event kept shared → clears event ≡ false → IsNext past event → Grows old new event
 grew old past kept new event shared seen same is grown plain next = record {
   next = subst (λ p. IsNext p event) seen next;
-  after = subst (λ b. MatchBool b ((base : Past) × IsCheckpoint old base × (new ≡ with_event base event)) (new ≡ with_event old event))
+  after =
+      subst (λ b. MatchBool b ((base : Past) × IsCheckpoint old base × (new ≡ with_event base event))
+      (new ≡ with_event old event))
       (sym plain) (grown ∙ (λ i. with_event ((same ∙ seen) i) (is i)));
 }
 
@@ -135,11 +146,12 @@ grew old past kept new event shared seen same is grown plain next = record {
 pub fits_reset :
     (past kept base new : Past) (event shared : Event) (stored stored' : Stored) (states states' : States)
     (recorded : Recording)
-    → kept ≡ past → shared ≡ event → IsCheckpoint kept base → new ≡ with_event base shared → clears event ≡ true
-    → Agrees past stored states recorded → IsNext past event
+    → kept ≡ past → shared ≡ event → IsCheckpoint kept base → new ≡ with_event base shared
+    → clears event ≡ true → Agrees past stored states recorded → IsNext past event
     → Follows stored stored' (last_number past + 1) event → StatesFollow states states' event
     → recorded ≡ recording_by (last_number past + 1) event recorded → Agrees new stored' states' recorded
-fits_reset past kept base new event shared stored stored' states states' recorded same is checkpoint grown clear fits next follows moves records =
+fits_reset past kept base new event shared stored stored' states states' recorded same is checkpoint grown clear fits
+    next follows moves records =
     let whole : new ≡ with_event base event = grown ∙ (λ i. with_event base (is i)) in
     subst (λ p. Agrees p stored' states' recorded) (sym whole)
     (fits_cleared past event stored stored' states states' recorded recorded fits next follows moves records base
@@ -147,17 +159,26 @@ fits_reset past kept base new event shared stored stored' states states' recorde
 
 pub grew_cleared :
     (old past kept base new : Past) (event shared : Event) → past ≡ old → kept ≡ past → shared ≡ event
-    → IsCheckpoint kept base → new ≡ with_event base shared → clears event ≡ true → IsNext past event → Grows old new event
+    → IsCheckpoint kept base → new ≡ with_event base shared → clears event ≡ true → IsNext past event
+    → Grows old new event
 grew_cleared old past kept base new event shared seen same is checkpoint grown clear next = record {
   next = subst (λ p. IsNext p event) seen next;
-  after = subst (λ b. MatchBool b ((base : Past) × IsCheckpoint old base × (new ≡ with_event base event)) (new ≡ with_event old event))
-      (sym clear) (base, subst (λ p. IsCheckpoint p base) (same ∙ seen) checkpoint, grown ∙ (λ i. with_event base (is i)));
+  after =
+      subst (λ b. MatchBool b ((base : Past) × IsCheckpoint old base × (new ≡ with_event base event))
+      (new ≡ with_event old event))
+      (sym clear) (
+        base,
+        subst (λ p. IsCheckpoint p base) (same ∙ seen) checkpoint,
+        grown ∙ (λ i. with_event base (is i)),
+      );
 }
 
 -- the number of the next event, where a call reads that of the last
-pub number_of_next : (past kept : Past) (n : ℕ) → kept ≡ past → n ≡ last_number kept → n + 1 ≡ last_number past + 1
+pub number_of_next : (past kept : Past) (n : ℕ) → kept ≡ past → n ≡ last_number kept
+    → n + 1 ≡ last_number past + 1
 number_of_next past kept n same is = ap (λ k. k + 1) (is ∙ ap (λ p. last_number p) same)
 
 -- a reset of all leaves the mappings that a reset of them leaves
-pub follows_reset : (old new : Stored) (number : ℕ) → Follows old new number event.ResetMappings → Follows old new number event.ResetAll
+pub follows_reset : (old new : Stored) (number : ℕ) → Follows old new number event.ResetMappings
+    → Follows old new number event.ResetAll
 follows_reset old new number h = record { same_defaults = h.same_defaults; live = h.live }

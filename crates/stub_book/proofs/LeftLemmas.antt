@@ -1,6 +1,6 @@
 -- What single events leave of the live mappings.
-use Rattle.std.proofs.Common.{◌≡◌, ◌≤◌, ◌<◌, ◌+◌, ℕ, zero, suc, true, false, not, ◌||◌, cond, List, [], ◌∷◌, length, get_or, map}
-use Rattle.std.proofs.Common.{refl, sym, ap, ◌∙◌, arith, length-append}
+use Rattle.std.proofs.Common.{◌≡◌, ◌≤◌, ◌<◌, ◌+◌, ℕ, zero, suc, true, false, not, ◌||◌, cond}
+use Rattle.std.proofs.Common.{List, [], ◌∷◌, length, get_or, map, refl, sym, ap, ◌∙◌, arith, length-append}
 use Rattle.std.specs.List.{Any, Contains, filter}
 use Rattle.std.specs.List.Sorted.{IsPermutation}
 use Rattle.std.specs.Str.{bytes_eq}
@@ -89,7 +89,8 @@ pub length-added :
     → length (live (with_event past (event.Add m))) ≡ length (left_by (event.Add m ∷ []) (live past)) + 1
 length-added past m =
     ap length (live_after past (event.Add m))
-    ∙ length-append (left_by (event.Add m ∷ []) (live past)) (adds past.defaults (last_number past + 1) (event.Add m))
+    ∙ length-append (left_by (event.Add m ∷ []) (live past))
+    (adds past.defaults (last_number past + 1) (event.Add m))
 
 pub held_few :
     (past : Past) (m : Mapping) → Any (λ p. p.mapping.id ≡ m.id) (live past)

@@ -1,5 +1,6 @@
 -- Which events are the next ones of a past, and what becomes of the parts of a book.
-use Rattle.std.proofs.Common.{◌≡◌, ◌≤◌, ◌<◌, ◌+◌, ℕ, true, List, [], ◌∷◌, ◌++◌, length, sym, ap, ◌∙◌, subst, arith, append-nil}
+use Rattle.std.proofs.Common.{◌≡◌, ◌≤◌, ◌<◌, ◌+◌, ℕ, true, List, [], ◌∷◌, ◌++◌, length}
+use Rattle.std.proofs.Common.{sym, ap, ◌∙◌, subst, arith, append-nil}
 use Rattle.mapping_store.proofs.CountLemmas.{length-placed}
 use Rattle.request_journal.specs.Legal.{IsNext, IsAnswer}
 use Rattle.request_journal.specs.Live.{live, adds, left_by, removes}

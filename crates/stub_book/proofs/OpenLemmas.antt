@@ -1,5 +1,6 @@
 -- What a book is opened with agrees with the past that was just opened.
-use Rattle.std.proofs.Common.{◌≡◌, ◌≤◌, ℕ, inl, List, [], ◌∷◌, ◌++◌, length, refl, sym, ap, ◌∙◌, subst, arith, append-nil}
+use Rattle.std.proofs.Common.{◌≡◌, ◌≤◌, ℕ, inl, List, [], ◌∷◌, ◌++◌, length, refl, sym, ap}
+use Rattle.std.proofs.Common.{◌∙◌, subst, arith, append-nil}
 use Rattle.std.specs.FinMap as map
 use Rattle.std.specs.List.Sorted.{IsPermutation}
 use Rattle.std.proofs.lemmas.List.Sorted.{length_permutation}
@@ -27,7 +28,8 @@ past_of opening defaults = record {
   events = [];
 }
 
-pub live_opened : (opening : ℕ) (defaults : List Mapping) → live (past_of opening defaults) ≡ placed_from opening 0 defaults
+pub live_opened : (opening : ℕ) (defaults : List Mapping)
+    → live (past_of opening defaults) ≡ placed_from opening 0 defaults
 live_opened opening defaults = append-nil _ ∙ left_by_none (placed_from opening 0 defaults)
 
 no_split : (earlier later : List Event) (event : Event) → [] ≡ earlier ++ event ∷ later → ⊥

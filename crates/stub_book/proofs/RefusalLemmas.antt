@@ -24,5 +24,6 @@ module _ (past : Past) (asked : BookInput) (reason : ErrorCode) where
   refused_own room own = inr (room, inl own)
 
   -- too many mappings
-  pub refused_many : ¬ (IsFull past) → reason ≡ code.TooManyMappings → IsTooMany past asked → IsRefusal past asked reason
+  pub refused_many : ¬ (IsFull past) → reason ≡ code.TooManyMappings → IsTooMany past asked
+      → IsRefusal past asked reason
   refused_many room is many = inr (room, inr (is, many))

@@ -1,5 +1,6 @@
 -- What a move leaves of the states of scenarios, and what a call leaves of a recording.
-use Rattle.std.proofs.Common.{◌≡◌, inl, inr, ◌<◌, ℕ, true, false, cond, List, Some, None, refl, sym, ap, ◌∙◌, arith, append-nil}
+use Rattle.std.proofs.Common.{◌≡◌, inl, inr, ◌<◌, ℕ, true, false, cond, List, Some, None, refl, sym, ap}
+use Rattle.std.proofs.Common.{◌∙◌, arith, append-nil}
 use Rattle.std.specs.Option.{unwrap_or}
 use Rattle.std.specs.Str.{bytes_eq}
 use Rattle.std.proofs.lemmas.Bool.{both_ways, cases_order}
@@ -20,9 +21,11 @@ pub moved :
     → state_of new other ≡ unwrap_or (cond (bytes_eq name other) (Some state) None) (state_of old other)
 moved old new name state moves other =
     elim (bytes_eq name other)
-    as (λ b. bytes_eq name other ≡ b → state_of new other ≡ unwrap_or (cond b (Some state) None) (state_of old other)) [
+    as (λ b. bytes_eq name other ≡ b
+    → state_of new other ≡ unwrap_or (cond b (Some state) None) (state_of old other)) [
       | true ↦ λ e. ap (state_of new) (sym ((bytes_eq-Decides name other).0 e)) ∙ moves.moved
-      | false ↦ λ e. moves.others other (λ same. both_ways (bytes_eq name other) e ((bytes_eq-Decides name other).1 (sym same)))
+      | false ↦ λ e. moves.others other
+          (λ same. both_ways (bytes_eq name other) e ((bytes_eq-Decides name other).1 (sym same)))
     ] refl
 
 -- the recording after a record
@@ -35,8 +38,8 @@ after_record number serve exchange (Stopped session) new h = absurd h
 
 -- what a recording takes that took one
 pub did_take :
-    (serve : ℕ) (exchange : Exchange) (old new : Recording) → HasTaken old new exchange → ¬ ¬ (TakesFrom old serve)
-    → TakesFrom old serve
+    (serve : ℕ) (exchange : Exchange) (old new : Recording) → HasTaken old new exchange
+    → ¬ ¬ (TakesFrom old serve) → TakesFrom old serve
 did_take serve exchange NeverStarted new h not = absurd h
 did_take serve exchange (On session) new h not = later session.start serve not
   where

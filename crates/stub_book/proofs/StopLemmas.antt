@@ -13,7 +13,8 @@ use Rattle.request_journal.specs.declared.mapping.Mapping.{Mapping}
 pub many_stopped :
     (past : Past) (stored : Stored) (mappings : List Mapping) (skipped : ℕ) → stored.defaults ≡ past.defaults
     → IsPermutation (live past) stored.live
-    → length (left_by (event.StopRecording mappings skipped ∷ []) stored.live ++ placed_from (last_number past + 1) 0 mappings)
+    → length (left_by (event.StopRecording mappings skipped ∷ []) stored.live
+    ++ placed_from (last_number past + 1) 0 mappings)
     ≡ length (live (with_event past (event.StopRecording mappings skipped)))
 many_stopped past stored mappings skipped defaults same =
     let e : Event = event.StopRecording mappings skipped in

@@ -64,8 +64,8 @@ impl Model for Book {
 }
 
 impl Book {
-    /// A book with these mappings, whose first event has the number after `opening`. A default with the id of an earlier
-    /// one replaces it.
+    /// A book with these mappings, whose first event has the number after `opening`. A default with the id of an
+    /// earlier one replaces it.
     pub fn new(alloc: Global, defaults: Vec<ReadyMapping>, opening: u64) -> Result<Book, BookError>
         ensures ok { IfOk result (λ book. book ≡ opened opening defaults.items) }
         ensures why { IfErr result (λ error. IsOpenRefusal opening defaults.items error.code) }

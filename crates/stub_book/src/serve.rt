@@ -75,7 +75,8 @@ impl Book {
         memory: EventMemory,
     ) -> Result<SharedEvent, BookError>
         requires { IsChoice self.old request answer }
-        ensures ok { IfOk result (λ served. (served ≡ event.Serve request answer) × Grows self.old self.new served) }
+        ensures ok { IfOk result
+            (λ served. (served ≡ event.Serve request answer) × Grows self.old self.new served) }
         ensures err { OnErr result (self.new ≡ self.old) }
         ensures why { IfErr result (λ error. IsServeRefusal self.old error.code) }
     {

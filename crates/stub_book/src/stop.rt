@@ -41,8 +41,8 @@ pub(crate) struct Additions {
 }
 
 impl Book {
-    /// Stops the recording that is on, and adds the mappings of its exchanges by the same event. Where too many would be
-    /// live it stays on, and keeps its exchanges.
+    /// Stops the recording that is on, and adds the mappings of its exchanges by the same event. Where too many would
+    /// be live it stays on, and keeps its exchanges.
     pub fn stop_recording(&mut self) -> Result<Accepted, BookError>
         ensures ok { IfOk result (IsAccepted self.old self.new input.StopRecording) }
         ensures err { OnErr result (self.new ≡ self.old) }
@@ -84,9 +84,11 @@ impl Book {
     fn has_places(&self, stubs: &Additions) -> Result<(), BookError>
         requires { stubs.now.added.items ≡ stubs.now.mappings }
         ensures ok { OnOk result
-            (length (live (with_event self.now (event.StopRecording stubs.now.mappings stubs.now.skipped))) ≤ LIVE_LIMIT) }
+            (length (live (with_event self.now (event.StopRecording stubs.now.mappings stubs.now.skipped)))
+            ≤ LIVE_LIMIT) }
         ensures why { IfErr result (λ error. (error.code ≡ code.TooManyMappings)
-            × (LIVE_LIMIT < length (live (with_event self.now (event.StopRecording stubs.now.mappings stubs.now.skipped))))) }
+            × (LIVE_LIMIT < length
+            (live (with_event self.now (event.StopRecording stubs.now.mappings stubs.now.skipped))))) }
     {
         if self.store.len_with(stubs.added.as_slice()) > limits::LIVE_LIMIT {
             return Err(BookError::from(ErrorCode::TooManyMappings));

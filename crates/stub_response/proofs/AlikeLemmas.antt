@@ -48,7 +48,8 @@ module _ (r r' : Tree) (clean : EmptyNameFindsNothing r') where
     value = h.value;
   }
 
-  pub alike_body : (content : Body Source) (bytes : List ℕ) → All (λ t. FindsSame t r r') (body_templates content) →
+  pub alike_body : (content : Body Source) (bytes : List ℕ) →
+      All (λ t. FindsSame t r r') (body_templates content) →
       IsBody (Rendered r) content bytes → IsBody (Rendered r') content bytes
   alike_body Empty bytes finds h = h
   alike_body (Text text) bytes finds h = alike_rendered text bytes (All-head (λ t. FindsSame t r r') text [] finds) h
@@ -57,7 +58,8 @@ module _ (r r' : Tree) (clean : EmptyNameFindsNothing r') where
 
   -- the lines, and what is left to say of the templates of the body
   alike_lines : (lines : List (HeaderLine Source)) (headers : List ReplyHeader) (more : List Source) →
-      All (λ t. FindsSame t r r') (map (λ line. line.value) lines ++ more) → AllZip (IsLine (Rendered r)) lines headers →
+      All (λ t. FindsSame t r r') (map (λ line. line.value) lines ++ more) →
+      AllZip (IsLine (Rendered r)) lines headers →
       AllZip (IsLine (Rendered r')) lines headers × All (λ t. FindsSame t r r') more
   alike_lines [] [] more finds h = (tt, finds)
   alike_lines [] (header ∷ headers) more finds h = absurd h
@@ -100,9 +102,10 @@ nothing_alike r r' = record {
 }
 
 -- lines whose templates look at nothing give over each request what they give over any data
-pub lines_everywhere : (needed : NeededData) (r : Tree) (lines : List (HeaderLine Source)) (headers : List ReplyHeader) →
-    needed ≡ nothing → IsNeededBy needed (map (λ line. line.value) lines) → AllZip (IsLine (Rendered r)) lines headers →
-    (request : Request) (template : Option (List ℕ)) →
+pub lines_everywhere : (needed : NeededData) (r : Tree) (lines : List (HeaderLine Source))
+    (headers : List ReplyHeader) →
+    needed ≡ nothing → IsNeededBy needed (map (λ line. line.value) lines) →
+    AllZip (IsLine (Rendered r)) lines headers → (request : Request) (template : Option (List ℕ)) →
     AllZip (IsLine (Rendered (request_tree request template))) lines headers
 lines_everywhere needed r lines headers none looks h request template =
     let whole = request_tree request template in

@@ -10,13 +10,15 @@ use Rattle.stub_response.specs.Limits.{KeepTo}
 use Rattle.stub_response.specs.declared.limits.Limits.{Limits}
 
 sum-grows :
-    (f g : Budget → ℕ) → ((c : Budget) → f c ≤ g c) → (costs : List Budget) → sum_by f costs ≤ sum_by g costs
+    (f g : Budget → ℕ) → ((c : Budget) → f c ≤ g c) → (costs : List Budget)
+    → sum_by f costs ≤ sum_by g costs
 sum-grows f g le [] = omega arith
 sum-grows f g le (c ∷ costs) =
     omega (arith, sum_by-cons f c costs, sum_by-cons g c costs, le c, sum-grows f g le costs)
 
 pub keep-smaller :
-    (limits : Limits) (templates : List Source) (m n : ℕ) → m ≤ n → KeepTo limits templates n → KeepTo limits templates m
+    (limits : Limits) (templates : List Source) (m n : ℕ) → m ≤ n → KeepTo limits templates n
+    → KeepTo limits templates m
 keep-smaller limits templates m n le k = record {
   costs = k.costs;
   budgets = k.budgets;

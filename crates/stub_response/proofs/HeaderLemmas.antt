@@ -1,5 +1,6 @@
 -- A header that `http` took is one that it can hold.
-use Rattle.std.proofs.Common.{◌≡◌, ℕ, ◌≤◌, ◌<◌, Bool, true, false, List, length, refl, sym, ◌∙◌, arith, inl, inr, ◌⊎◌}
+use Rattle.std.proofs.Common.{◌≡◌, ℕ, ◌≤◌, ◌<◌, Bool, true, false, List, length, refl, sym, ◌∙◌}
+use Rattle.std.proofs.Common.{arith, inl, inr, ◌⊎◌}
 use Rattle.std.specs.Prelude.{nat_le}
 use Rattle.std.specs.List.{list_all}
 use Rattle.std.proofs.lemmas.Bool.{false≢true}
@@ -15,7 +16,8 @@ use Rattle.stub_response.specs.Headers.{with_header}
 short : (n : ℕ) → ¬ (65535 < n) → nat_le n 65535 ≡ true
 short n not_long = by (leb_tells n 65535)
   where
-    by : ((nat_le n 65535 ≡ true) × (n ≤ 65535)) ⊎ ((nat_le n 65535 ≡ false) × (65535 < n)) → nat_le n 65535 ≡ true
+    by : ((nat_le n 65535 ≡ true) × (n ≤ 65535)) ⊎ ((nat_le n 65535 ≡ false) × (65535 < n))
+        → nat_le n 65535 ≡ true
     by (inl e) = e.0
     by (inr e) = absurd (not_long e.1)
 

@@ -1,5 +1,6 @@
 -- One template more.
-use Rattle.std.proofs.Common.{◌≡◌, ◌≤◌, ◌<◌, ◌+◌, ◌⊎◌, inl, inr, ℕ, Bool, List, [], ◌∷◌, Option, None, Some, refl, sym, ap, ◌∙◌, subst, arith}
+use Rattle.std.proofs.Common.{◌≡◌, ◌≤◌, ◌<◌, ◌+◌, ◌⊎◌, inl, inr, ℕ, Bool, List, []}
+use Rattle.std.proofs.Common.{◌∷◌, Option, None, Some, refl, sym, ap, ◌∙◌, subst, arith}
 use Rattle.std.specs.Prelude.{◌↔◌, IsTrue, IfNone, IfSome}
 use Rattle.std.specs.List.{AllZip, sum_by}
 use Rattle.std.specs.Option.{is_some}
@@ -45,17 +46,19 @@ keep_one_more limits rest text more n cost b s t k = record {
   costs = cost ∷ k.costs;
   budgets = (b, k.budgets);
   steps =
-      let e : sum_by (λ (c : Budget). value c.steps n) (cost ∷ k.costs) ≡ value cost.steps n + sum_by (λ (c : Budget). value c.steps n) k.costs =
+      let e : sum_by (λ (c : Budget). value c.steps n) (cost ∷ k.costs)
+      ≡ value cost.steps n + sum_by (λ (c : Budget). value c.steps n) k.costs =
       sum_by-cons (λ (c : Budget). value c.steps n) cost k.costs in omega (arith, e, s, k.steps);
   bytes =
-      let e : sum_by (λ (c : Budget). value c.bytes n) (cost ∷ k.costs) ≡ value cost.bytes n + sum_by (λ (c : Budget). value c.bytes n) k.costs =
+      let e : sum_by (λ (c : Budget). value c.bytes n) (cost ∷ k.costs)
+      ≡ value cost.bytes n + sum_by (λ (c : Budget). value c.bytes n) k.costs =
       sum_by-cons (λ (c : Budget). value c.bytes n) cost k.costs in omega (arith, e, t, k.bytes);
 }
 
 -- the sum's first part, where the first cost is known
 first_part :
-    (at : Budget → ℕ) (c cost : Budget) (costs : List Budget) (limit : ℕ) → c ≡ cost → sum_by at (c ∷ costs) ≤ limit
-    → at cost + sum_by at costs ≤ limit
+    (at : Budget → ℕ) (c cost : Budget) (costs : List Budget) (limit : ℕ) → c ≡ cost
+    → sum_by at (c ∷ costs) ≤ limit → at cost + sum_by at costs ≤ limit
 first_part at c cost costs limit same within =
     let e : sum_by at (c ∷ costs) ≡ at c + sum_by at costs = sum_by-cons at c costs in
     let f : at c ≡ at cost = ap at same in omega (arith, e, f, within)

@@ -1,5 +1,6 @@
 -- Two lists, item by item.
-use Rattle.std.proofs.Common.{◌≡◌, ℕ, ◌+◌, List, [], ◌∷◌, ◌++◌, drop, get_or, sym, ap, ◌∙◌, arith}
+use Rattle.std.proofs.Common.{◌≡◌, ℕ, ◌+◌, List, [], ◌∷◌, ◌++◌, drop, get_or, sym, ap, ◌∙◌}
+use Rattle.std.proofs.Common.{arith}
 use Rattle.std.proofs.lemmas.List.{get_or-drop}
 use Rattle.std.specs.List.{AllZip}
 
@@ -20,7 +21,8 @@ all_zip_weaker R S f (a ∷ xs) [] h = absurd h
 all_zip_weaker R S f (a ∷ xs) (b ∷ ys) h = (f a b h.0, all_zip_weaker R S f xs ys h.1)
 
 -- lists that are the same from an item on have the same item there
-pub same_item : {A : Type 0} (xs ys : List A) (i : ℕ) (d : A) → drop i xs ≡ drop i ys → get_or xs i d ≡ get_or ys i d
+pub same_item : {A : Type 0} (xs ys : List A) (i : ℕ) (d : A) → drop i xs ≡ drop i ys
+    → get_or xs i d ≡ get_or ys i d
 same_item xs ys i d e =
     let f : i + 0 ≡ i = omega arith in
     sym (get_or-drop i xs 0 d ∙ ap (λ n. get_or xs n d) f) ∙ ap (λ l. get_or l 0 d) e

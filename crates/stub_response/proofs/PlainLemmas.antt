@@ -9,7 +9,8 @@ use Rattle.stub_response.specs.Headers.{headers_of, with_header}
 use Rattle.stub_response.specs.Response.{IsLine, Itself}
 
 pub headers_push : (lines : List (HeaderLine (List ℕ))) (line : HeaderLine (List ℕ))
-    → headers_of (map plain_header (lines ++ line ∷ [])) ≡ with_header (headers_of (map plain_header lines)) (plain_header line)
+    → headers_of (map plain_header (lines ++ line ∷ []))
+    ≡ with_header (headers_of (map plain_header lines)) (plain_header line)
 headers_push lines line =
     ap headers_of (map-append plain_header lines (line ∷ []))
     ∙ fold-append with_header [] (map plain_header lines) (plain_header line ∷ [])

@@ -66,6 +66,7 @@ module _ (limits : Limits) (mapping : MappingSpec) (request : Request) where
     where
       by : (content : Content) → IsPreparedOf mapping.response.status content (prepared.Headers headers) →
           IsBodyOf Rendered limits mapping.request.url content request None →
-          IsReplyOf Meant limits mapping.request.url mapping.response.status content request (error_reply 500 OverBudget)
+          IsReplyOf Meant limits mapping.request.url mapping.response.status content request
+          (error_reply 500 OverBudget)
       by (Plain lines body) holds made = absurd holds
       by (Templated lines body) holds (root, asked, over) = (root, asked, inr (over, refl))

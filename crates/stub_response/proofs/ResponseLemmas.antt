@@ -17,7 +17,8 @@ use Rattle.request_data.specs.RequestTree.{request_tree}
 use Rattle.stub_response.proofs.ListLemmas.{all_zip_weaker}
 use Rattle.template_tree.specs.Source.{Source}
 use Rattle.stub_response.specs.ErrorReply.{error_reply}
-use Rattle.stub_response.specs.Response.{Giving, IsBody, IsBodyOf, IsBodyOver, IsLine, IsMade, IsPathTemplate, IsReplyOf, IsReplyOver, Meant, Rendered}
+use Rattle.stub_response.specs.Response.{Giving, IsBody, IsBodyOf, IsBodyOver, IsLine, IsMade, IsPathTemplate}
+use Rattle.stub_response.specs.Response.{IsReplyOf, IsReplyOver, Meant, Rendered}
 use Rattle.stub_response.specs.declared.limits.Limits.{Limits}
 
 meant_line :

@@ -15,4 +15,5 @@ pub record HoldsReply (reply : Reply) (made : PlainResponse) : Type 0 where
 
 -- it holds the reply with this status, these lines and this body
 abbrev pub HoldsLines : ℕ → List (HeaderLine (List ℕ)) → Body (List ℕ) → PlainResponse → Type 0
-HoldsLines status lines content made = (reply : Reply) × IsMade Itself status lines content reply × HoldsReply reply made
+HoldsLines status lines content made =
+    (reply : Reply) × IsMade Itself status lines content reply × HoldsReply reply made

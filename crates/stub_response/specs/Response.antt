@@ -1,5 +1,6 @@
 -- The response of a mapping for a request (WireMock's documentation, "Response Templating", for templates).
-use Rattle.std.specs.Prelude.{◌≡◌, ◌≤◌, ◌⊎◌, ℕ, List, [], ◌∷◌, ◌++◌, map, Option, None, Some}
+use Rattle.std.specs.Prelude.{◌≡◌, ◌≤◌, ◌⊎◌, ℕ, List, [], ◌∷◌, ◌++◌, map, Option, None}
+use Rattle.std.specs.Prelude.{Some}
 use Rattle.std.specs.List.{AllZip}
 use Rattle.data_tree.specs.Json.{size}
 use Rattle.data_tree.specs.Tree.{Tree}
@@ -85,26 +86,30 @@ abbrev pub IsWithin : Limits → List Source → Tree → Type 0
 IsWithin limits templates root = (size root ≤ SIZE_LIMIT) × KeepTo limits templates (size root)
 
 -- the reply of templates over a request's data: an error where they could exceed a limit
-abbrev pub IsReplyOver : Giving Source → Limits → ℕ → List (HeaderLine Source) → Body Source → Tree → Reply → Type 0
+abbrev pub IsReplyOver : Giving Source → Limits → ℕ → List (HeaderLine Source) → Body Source → Tree
+    → Reply → Type 0
 IsReplyOver Gives limits status lines content root reply =
     (IsWithin limits (templates_of lines content) root × IsMade Gives status lines content reply)
     ⊎ (¬ (IsWithin limits (templates_of lines content) root) × (reply ≡ error_reply 500 OverBudget))
 
 -- the reply to a request: texts as they are, or what templates give over the request's data
-abbrev pub IsReplyOf : (Tree → Giving Source) → Limits → UrlSpec → ℕ → Content → Request → Reply → Type 0
+abbrev pub IsReplyOf : (Tree → Giving Source) → Limits → UrlSpec → ℕ → Content → Request
+    → Reply → Type 0
 IsReplyOf Gives limits matcher status (Plain lines content) request reply =
     IsMade Itself status lines content reply
 IsReplyOf Gives limits matcher status (Templated lines content) request reply =
     (root : Tree) × IsDataFor matcher request root × IsReplyOver (Gives root) limits status lines content root reply
 
 -- the body of that reply alone, and none where it is an error
-abbrev pub IsBodyOver : Giving Source → Limits → List (HeaderLine Source) → Body Source → Tree → Option (List ℕ) → Type 0
+abbrev pub IsBodyOver : Giving Source → Limits → List (HeaderLine Source) → Body Source → Tree
+    → Option (List ℕ) → Type 0
 IsBodyOver Gives limits lines content root (Some bytes) =
     IsWithin limits (templates_of lines content) root × IsBody Gives content bytes
 IsBodyOver Gives limits lines content root None = ¬ (IsWithin limits (templates_of lines content) root)
 
 -- the body of the reply to a request: a text as it is, or what a template gives over the request's data
-abbrev pub IsBodyOf : (Tree → Giving Source) → Limits → UrlSpec → Content → Request → Option (List ℕ) → Type 0
+abbrev pub IsBodyOf : (Tree → Giving Source) → Limits → UrlSpec → Content → Request
+    → Option (List ℕ) → Type 0
 IsBodyOf Gives limits matcher (Plain lines content) request (Some bytes) = IsBody Itself content bytes
 IsBodyOf Gives limits matcher (Plain lines content) request None = ⊥
 IsBodyOf Gives limits matcher (Templated lines content) request made =

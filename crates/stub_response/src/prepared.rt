@@ -52,8 +52,8 @@ impl Prepared {
     }
 }
 
-// The headers that templates give over each request, if none of them looks at it, and if they are no longer than what is
-// kept.
+// The headers that templates give over each request, if none of them looks at it, and if they are no longer than what
+// is kept.
 fn headers_of_all(
     alloc: Global,
     headers: &[HeaderLine<TemplateText>],

@@ -1,6 +1,7 @@
 // The response of a mapping for a request.
 ghost use Rattle.std.specs.Prelude.{IfOk};
-ghost use Rattle.stub_response.specs.Response.{IsBodyOf, IsPathTemplate, IsRenderedBody, IsReplyOf, IsResponse, IsRendering, Rendered};
+ghost use Rattle.stub_response.specs.Response.{IsBodyOf, IsPathTemplate, IsRenderedBody, IsReplyOf, IsResponse};
+ghost use Rattle.stub_response.specs.Response.{IsRendering, Rendered};
 
 use crate::limits::Limits;
 use crate::plain::{plain_body, plain_reply};
@@ -18,7 +19,8 @@ use std::alloc::{AllocError, Global};
 /// The response of a mapping for a request. Where its templates could exceed a limit, it reports that they are over
 /// budget, with status 500, and none of them is run.
 ///
-/// The request's data is made only for templates, and of it what they look at. A path template is read for each templated response.
+/// The request's data is made only for templates, and of it what they look at. A path template is read for
+/// each templated response.
 pub fn respond(
     alloc: Global,
     mapping: &MappingSpec,

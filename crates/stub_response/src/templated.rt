@@ -27,8 +27,8 @@ use request_data::size_bound::size_bound;
 use request_data::tree::request_data;
 use std::alloc::{AllocError, Global};
 
-/// The reply of templates over the data of a request, in which a path template names segments of the path: an error where
-/// they or the data could exceed a limit.
+/// The reply of templates over the data of a request, in which a path template names segments of the path: an error
+/// where they or the data could exceed a limit.
 // Not inlined: a function clears all its locals when it is entered, and a plain response needs none of these.
 #[inline(never)]
 pub(crate) fn templated_reply(
@@ -86,8 +86,8 @@ fn is_within(
     }
 }
 
-// The data to render over; none where the request's data or the templates exceed a limit. Where a bound on the data's size
-// shows that they don't, only what is needed of it is made, and else all of it.
+// The data to render over; none where the request's data or the templates exceed a limit. Where a bound on the data's
+// size shows that they don't, only what is needed of it is made, and else all of it.
 fn data_for(
     alloc: Global,
     headers: &[HeaderLine<TemplateText>],
@@ -120,7 +120,8 @@ fn data_within_limit(
     template: Option<&PathTemplate>,
 ) -> Result<Option<RequestData>, AllocError>
     ensures some { IfOk result (λ kept. IfSome kept (λ made.
-        (root_of made ≡ request_tree request.now (option_copied template.entry)) × (size (root_of made) ≤ SIZE_LIMIT))) }
+        (root_of made ≡ request_tree request.now (option_copied template.entry))
+        × (size (root_of made) ≤ SIZE_LIMIT))) }
     ensures none { IfOk result (λ kept. IfNone kept
         (SIZE_LIMIT < size (request_tree request.now (option_copied template.entry)))) }
 {

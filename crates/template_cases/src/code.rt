@@ -1,6 +1,6 @@
-//! Stack code: its listing, the verifier's verdict on it and its runs. A row gives instructions, with a `;` between two,
-//! and texts and paths, with a `|` between two. The steps of a path have a dot between two: a number is an index, a name
-//! may stand between apostrophes, and `this` is a path without steps.
+//! Stack code: its listing, the verifier's verdict on it and its runs. A row gives instructions, with a `;` between
+//! two, and texts and paths, with a `|` between two. The steps of a path have a dot between two: a number is an index,
+//! a name may stand between apostrophes, and `this` is a path without steps.
 
 use crate::templates::{add_path, add_text};
 use case_snapshots::numbers::{index, number};

@@ -8,8 +8,8 @@ use template_machine::error::ProgramError;
 use template_machine::program::{Program, render};
 use template_tree::escape::Escape;
 
-/// The budgets of the template's program, the steps of its run and the text that it writes; or the template's error, and the
-/// byte at which its tag begins.
+/// The budgets of the template's program, the steps of its run and the text that it writes; or the template's error,
+/// and the byte at which its tag begins.
 pub fn rendered(alloc: Global, row: &Row, escape: Escape) -> Result<String, AllocError> {
     match Program::from_text_with(alloc, row.cell(4), escape) {
         Ok(program) => written(alloc, row, &program),

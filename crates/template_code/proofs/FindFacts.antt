@@ -1,6 +1,6 @@
 -- Over two roots in which code finds the same, it has the same runs.
-use Rattle.std.proofs.Common.{◌≡◌, ℕ, zero, suc, List, [], ◌∷◌, length, Option, Some, None, Bool, true, false}
-use Rattle.std.proofs.Common.{refl, sym, ap, ◌∙◌}
+use Rattle.std.proofs.Common.{◌≡◌, ℕ, zero, suc, List, [], ◌∷◌, length, Option, Some, None, Bool, true}
+use Rattle.std.proofs.Common.{false, refl, sym, ap, ◌∙◌}
 use Rattle.std.specs.Prelude.{slice_get, option_map, option_and_then, if◌then◌else◌, take, drop, reverse}
 use Rattle.std.specs.Option.{option_map_or}
 use Rattle.data_tree.specs.Tree.{Tree, nothing}
@@ -43,7 +43,8 @@ same_choice true x y other h = h refl
 same_choice false x y other h = refl
 
 same_result : (r r' : Tree) (h : Helper) (arguments : List Value)
-    → (is_looked_up h ≡ true → at json_path r ≡ at json_path r') → result_of r h arguments ≡ result_of r' h arguments
+    → (is_looked_up h ≡ true → at json_path r ≡ at json_path r')
+    → result_of r h arguments ≡ result_of r' h arguments
 same_result r r' h arguments same =
     same_choice (is_looked_up h) (looked_up r arguments) (looked_up r' arguments) (applied h arguments)
     (λ e. same_looked_up r r' arguments (same e))
@@ -51,7 +52,8 @@ same_result r r' h arguments same =
 pub same_effect : (code : StackCode) (r r' : Tree) (i : Instr) (loops : List Loop) (stack : List Value)
     → FindsSameBy code r r' i → effect code r i loops stack ≡ effect code r' i loops stack
 same_effect code r r' (Root p) loops stack h =
-    same_map (λ path. with_stack (a_datum (at path r) ∷ stack)) (λ path. with_stack (a_datum (at path r') ∷ stack))
+    same_map (λ path. with_stack (a_datum (at path r) ∷ stack))
+    (λ path. with_stack (a_datum (at path r') ∷ stack))
     (slice_get code.paths p) (λ path e. ap (λ t. with_stack (a_datum t ∷ stack)) (h path e))
 same_effect code r r' (Call h) loops stack same =
     let count = length (argument_kinds h) in

@@ -1,6 +1,6 @@
 -- Runs of some number of steps, and what each flow makes of a state.
-use Rattle.std.proofs.Common.{◌≡◌, ℕ, suc, ◌+◌, ◌<◌, ◌≤◌, List, [], ◌∷◌, ◌++◌, length, Some, refl, ap, ◌∙◌}
-use Rattle.std.proofs.Common.{Bool, arith, subst, append-nil}
+use Rattle.std.proofs.Common.{◌≡◌, ℕ, suc, ◌+◌, ◌<◌, ◌≤◌, List, [], ◌∷◌, ◌++◌, length}
+use Rattle.std.proofs.Common.{Some, refl, ap, ◌∙◌, Bool, arith, subst, append-nil}
 use Rattle.std.specs.Prelude.{slice_get, option_map, option_and_then, if◌then◌else◌}
 use Rattle.std.proofs.lemmas.Bool.{lt-ltb, le-ltb}
 use Rattle.data_tree.specs.Tree.{Tree}
@@ -44,7 +44,8 @@ module _ (code : StackCode) (root : Tree) where
       (subst (λ n. Comes code root s (state n stack loops output)) e h)
 
   -- what comes from the first state to `Halt` is a whole run
-  pub comes-runs : (t : State) → Comes code root first t → IsAtHalt code t → (steps : ℕ) × Runs code root steps t.output
+  pub comes-runs : (t : State) → Comes code root first t → IsAtHalt code t
+      → (steps : ℕ) × Runs code root steps t.output
   comes-runs t h halt = (suc h.steps, (t, (h.steps, refl, h.leads, halt), refl))
 
   comes-acting : (i : Instr) (s t : State) → slice_get code.instrs s.index ≡ Some i → act code root i s ≡ Some t
@@ -72,8 +73,10 @@ module _ (code : StackCode) (root : Tree) where
       (append-nil output) (comes-by i (state index stack loops output) (with_stack rest) w h does goes)
 
   -- an instruction that goes straight on has its effect, and the next one is the one after it
-  pub comes-straight : (i : Instr) (index : ℕ) (stack : List Value) (loops : List Loop) (output : List ℕ) (e : Effect)
-      → slice_get code.instrs index ≡ Some i → flow i ≡ Flow.Straight → effect code root i loops stack ≡ Some e
+  pub comes-straight : (i : Instr) (index : ℕ) (stack : List Value) (loops : List Loop)
+      (output : List ℕ) (e : Effect)
+      → slice_get code.instrs index ≡ Some i → flow i ≡ Flow.Straight
+      → effect code root i loops stack ≡ Some e
       → Comes code root (state index stack loops output) (state (suc index) e.stack loops (output ++ e.written))
   comes-straight i index stack loops output e h f does =
       comes-by i (state index stack loops output) e (record { index = suc index; loops = loops }) h does
@@ -146,7 +149,8 @@ module _ (code : StackCode) (root : Tree) where
   -- after the last it goes on, out of the loop
   pub comes-out : (over : Tree) (turn start index : ℕ) (stack : List Value) (loops : List Loop) (output : List ℕ)
       → slice_get code.instrs index ≡ Some (Next start) → length (items over) ≤ suc turn
-      → Comes code root (state index stack (at_turn over turn ∷ loops) output) (state (suc index) stack loops output)
+      → Comes code root (state index stack (at_turn over turn ∷ loops) output)
+      (state (suc index) stack loops output)
   comes-out over turn start index stack loops output h last =
       comes-quietly (Next start) index stack stack (at_turn over turn ∷ loops) output
       (record { index = suc index; loops = loops }) h refl

@@ -1,6 +1,6 @@
 -- A loop is open only while it is at an item.
-use Rattle.std.proofs.Common.{◌≡◌, ℕ, zero, suc, ◌<◌, List, [], ◌∷◌, length, Option, Some, None, Bool, true, false}
-use Rattle.std.proofs.Common.{refl}
+use Rattle.std.proofs.Common.{◌≡◌, ℕ, zero, suc, ◌<◌, List, [], ◌∷◌, length, Option, Some, None, Bool}
+use Rattle.std.proofs.Common.{true, false, refl}
 use Rattle.std.proofs.Common.{ap, subst, arith}
 use Rattle.std.specs.Prelude.{slice_get, option_map, if◌then◌else◌}
 use Rattle.std.proofs.lemmas.Bool.{ltb-true}
@@ -69,8 +69,8 @@ act-open code root i s next g h =
     came-open s next e (way (flow i) s.index s.loops s.stack) goes
     (λ w is. way-open (flow i) s.index s.loops s.stack w is h))
 
-run-open : (code : StackCode) (root : Tree) (moves : ℕ) (s last : State) → advance code root moves s ≡ Some last →
-    HaveItems s.loops → HaveItems last.loops
+run-open : (code : StackCode) (root : Tree) (moves : ℕ) (s last : State) →
+    advance code root moves s ≡ Some last → HaveItems s.loops → HaveItems last.loops
 run-open code root zero s last g h = subst (λ (t : State). HaveItems t.loops) (same_Some s last g) h
 run-open code root (suc moves) s last g h =
     option_and_then_some (advance code root moves) (step code root s) last g (λ next is rest.

@@ -1,6 +1,6 @@
 -- A run through a loop, turn by turn.
-use Rattle.std.proofs.Common.{◌≡◌, ℕ, suc, ◌+◌, ◌<◌, List, [], ◌∷◌, ◌++◌, length, Some, refl, sym, ap}
-use Rattle.std.proofs.Common.{arith, subst, append-nil, append_assoc}
+use Rattle.std.proofs.Common.{◌≡◌, ℕ, suc, ◌+◌, ◌<◌, List, [], ◌∷◌, ◌++◌, length, Some, refl}
+use Rattle.std.proofs.Common.{sym, ap, arith, subst, append-nil, append_assoc}
 use Rattle.std.specs.List.{flat_map}
 use Rattle.std.specs.Prelude.{slice_get}
 use Rattle.data_tree.specs.Tree.{Tree}
@@ -19,7 +19,8 @@ pub record HasLoop (code : StackCode) (index size target : ℕ) : Type 0 where
 
 -- in that turn of a loop over a value, the loop's body leads from its start to its end, and writes that text
 abbrev pub TurnWrites :
-    StackCode → Tree → (index size : ℕ) → List Value → List Loop → (over : Tree) → (turn : ℕ) → List ℕ → Type 0
+    StackCode → Tree → (index size : ℕ) → List Value → List Loop → (over : Tree) → (turn : ℕ)
+    → List ℕ → Type 0
 TurnWrites code root index size stack loops over turn text =
     (output : List ℕ) →
     Comes code root (state (suc index) stack (at_turn over turn ∷ loops) output)

@@ -11,7 +11,8 @@ use Rattle.template_code.specs.declared.instr.Instr.TheVariants.{Root, Call}
 
 -- what the instruction reads of a root is the same in both
 abbrev pub FindsSameBy : StackCode → Tree → Tree → Instr → Type 0
-FindsSameBy code r r' (Root p) = (path : List Step) → slice_get code.paths p ≡ Some path → at path r ≡ at path r'
+FindsSameBy code r r' (Root p) =
+    (path : List Step) → slice_get code.paths p ≡ Some path → at path r ≡ at path r'
 FindsSameBy code r r' (Call h) = is_looked_up h ≡ true → at json_path r ≡ at json_path r'
 FindsSameBy code r r' i = Unit {0}
 

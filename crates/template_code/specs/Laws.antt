@@ -21,5 +21,5 @@ EachLoopHasItem =
 -- a run over one root is one over each other root in which the code finds the same
 abbrev pub RunsReadWhatIsFound : Type 0
 RunsReadWhatIsFound =
-    (code : StackCode) (r r' : Tree) (steps : ℕ) (text : List ℕ) → FindSame code r r' → Runs code r steps text →
-    Runs code r' steps text
+    (code : StackCode) (r r' : Tree) (steps : ℕ) (text : List ℕ) → FindSame code r r' →
+    Runs code r steps text → Runs code r' steps text

@@ -1,6 +1,6 @@
 -- Blocks keep the rules: their jumps go to later instructions in the same loops, where there is no slot.
-use Rattle.std.proofs.Common.{◌≡◌, ℕ, suc, ◌+◌, ◌-◌, ◌<◌, ◌≤◌, List, [], ◌∷◌, length, Some, refl, sym, ap, ◌∙◌, false}
-use Rattle.std.proofs.Common.{nat_eq, subst, arith}
+use Rattle.std.proofs.Common.{◌≡◌, ℕ, suc, ◌+◌, ◌-◌, ◌<◌, ◌≤◌, List, [], ◌∷◌, length}
+use Rattle.std.proofs.Common.{Some, refl, sym, ap, ◌∙◌, false, nat_eq, subst, arith}
 use Rattle.std.specs.Prelude.{not, slice_get}
 use Rattle.std.proofs.lemmas.Bool.{lt-ltb, ne_eqb, eq-eqb}
 use Rattle.std.proofs.lemmas.Option.{none-some, same_Some}
@@ -70,7 +70,8 @@ module _ (code : StackCode) where
 
   laid-jump :
       (index target : ℕ) (nest : List ℕ)
-      → length nest ≤ MAX_LOOPS → suc index < length code.instrs → slice_get code.instrs index ≡ Some (Jump target)
+      → length nest ≤ MAX_LOOPS → suc index < length code.instrs
+      → slice_get code.instrs index ≡ Some (Jump target)
       → Stands code index nest [] → Lands code index target → LaidTo code index (suc index) nest []
   laid-jump index target nest shallow lt h s l =
       laid-one code index (Jump target) nest nest [] [] h s
@@ -89,7 +90,8 @@ module _ (code : StackCode) where
 
   laid-branch :
       (index target most : ℕ) (nest : List ℕ)
-      → length nest ≤ MAX_LOOPS → suc index < length code.instrs → slice_get code.instrs index ≡ Some (Branch target)
+      → length nest ≤ MAX_LOOPS → suc index < length code.instrs
+      → slice_get code.instrs index ≡ Some (Branch target)
       → Stands code index nest (slot Kind.Truth most ∷ []) → Lands code index target
       → LaidTo code index (suc index) nest []
   laid-branch index target most nest shallow lt h s l =
@@ -131,8 +133,8 @@ module _ (code : StackCode) where
   laid-next :
       (index start opener : ℕ) (nest : List ℕ)
       → suc (length nest) ≤ MAX_LOOPS → suc index < length code.instrs
-      → slice_get code.instrs index ≡ Some (Next start) → start ≡ suc opener → Stands code index (opener ∷ nest) []
-      → LaidTo code index (suc index) nest []
+      → slice_get code.instrs index ≡ Some (Next start) → start ≡ suc opener
+      → Stands code index (opener ∷ nest) [] → LaidTo code index (suc index) nest []
   laid-next index start opener nest shallow lt h e s =
       laid-one code index (Next start) (opener ∷ nest) nest [] [] h s
       (record {
@@ -183,7 +185,8 @@ module _ (code : StackCode) where
   -- a part that is jumped over, from nothing before it
   laid-rest :
       (n : ℕ) (g : Gen) (nest : List ℕ) (offsets : Offsets)
-      → length nest ≤ MAX_LOOPS → HasLength g n → Lays code g nest [] [] → HasPart code offsets (jump_over n ▸ g)
+      → length nest ≤ MAX_LOOPS → HasLength g n → Lays code g nest [] []
+      → HasPart code offsets (jump_over n ▸ g)
       → (after_part offsets (jump_over n ▸ g)).index < length code.instrs → Stands code offsets.index nest []
       → LaidTo code offsets.index (after_part offsets (jump_over n ▸ g)).index nest []
       × Stands code (after_part offsets (jump_over n)).index nest []
@@ -215,7 +218,8 @@ module _ (code : StackCode) where
   -- one part where a truth holds, else another
   pub lays-if_else :
       (m n most : ℕ) (f g : Gen) (nest : List ℕ)
-      → length nest ≤ MAX_LOOPS → HasLength f m → HasLength g n → Lays code f nest [] [] → Lays code g nest [] []
+      → length nest ≤ MAX_LOOPS → HasLength f m → HasLength g n → Lays code f nest [] []
+      → Lays code g nest [] []
       → Lays code (branch_over (m + 1) ▸ f ▸ jump_over n ▸ g) nest (slot Kind.Truth most ∷ []) []
   lays-if_else m n most f g nest shallow long also h k offsets has lt s =
       let rest = jump_over n ▸ g in

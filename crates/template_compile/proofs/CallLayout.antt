@@ -51,7 +51,8 @@ wants-one Base64 one = tt
 wants-one UrlEncode one = tt
 wants-one h one = absurd (true≢false (sym one))
 
-pub wants-two : (h : Helper) → IsTrue (takes_two h) → IsWanted (signature_of h).first × IsWanted (second_parameter h)
+pub wants-two : (h : Helper) → IsTrue (takes_two h)
+    → IsWanted (signature_of h).first × IsWanted (second_parameter h)
 wants-two Eq two = (tt, tt)
 wants-two Neq two = (tt, tt)
 wants-two Contains two = (tt, tt)
@@ -109,7 +110,8 @@ pops-two h two = absurd (true≢false (sym two))
 module _ (code : StackCode) (nest : List ℕ) (shallow : length nest ≤ MAX_LOOPS) where
   lays-show :
       (kind : Kind) (most : ℕ) (below : List Slot)
-      → kinds_fit (pops Show) (kind ∷ kinds_of below) ≡ true → most ≤ heaviest → suc (length below) ≤ MAX_SLOTS
+      → kinds_fit (pops Show) (kind ∷ kinds_of below) ≡ true → most ≤ heaviest
+      → suc (length below) ≤ MAX_SLOTS
       → Lays code (instructions (Show ∷ [])) nest (slot kind most ∷ below) (slot Kind.Text most ∷ below)
   lays-show kind most below fit le room =
       lays-straight code Show nest (slot kind most ∷ below) (slot Kind.Text most ∷ below)
@@ -156,7 +158,8 @@ module _ (code : StackCode) (nest : List ℕ) (shallow : length nest ≤ MAX_LOO
   pub lays-conversion :
       (p : Parameter) (kind : Kind) (most : ℕ) (below : List Slot)
       → IsWanted p → 65536 ≤ most → most ≤ heaviest → suc (length below) ≤ MAX_SLOTS
-      → Lays code (instructions (conversion p kind)) nest (slot kind most ∷ below) (slot (kind_for p kind) most ∷ below)
+      → Lays code (instructions (conversion p kind)) nest (slot kind most ∷ below)
+      (slot (kind_for p kind) most ∷ below)
   lays-conversion (Of Kind.Text) Kind.Text most below w some le room =
       lays-nothing code nest (slot Kind.Text most ∷ below)
   lays-conversion (Of Kind.Text) Kind.Data most below w some le room = lays-show Kind.Data most below refl le room
@@ -184,7 +187,8 @@ module _ (code : StackCode) (nest : List ℕ) (shallow : length nest ≤ MAX_LOO
   pub lays-call :
       (h : Helper) (depth : ℕ) (kind : Kind) (below : List Slot)
       → IsTrue (takes_one h) → suc depth ≤ 9 → suc (length below) ≤ MAX_SLOTS
-      → Lays code (instructions (Call h ∷ [])) nest (slot (kind_for (signature_of h).first kind) (cap depth) ∷ below)
+      → Lays code (instructions (Call h ∷ [])) nest
+      (slot (kind_for (signature_of h).first kind) (cap depth) ∷ below)
       (slot (result_kind h) (cap (suc depth)) ∷ below)
   lays-call h depth kind below one deep room =
       let s = slot (kind_for (signature_of h).first kind) (cap depth) in
@@ -201,7 +205,8 @@ module _ (code : StackCode) (nest : List ℕ) (shallow : length nest ≤ MAX_LOO
         light = light;
       }) shallow (omega (arith, room))
     where
-      light : (bounds : List Bound) → Weigh (slot (kind_for (signature_of h).first kind) (cap depth) ∷ below) bounds →
+      light : (bounds : List Bound) →
+          Weigh (slot (kind_for (signature_of h).first kind) (cap depth) ∷ below) bounds →
           IsLight code heaviest (Call h) bounds
           × Weigh (slot (result_kind h) (cap (suc depth)) ∷ below) (bounds_after code (Call h) bounds)
       light [] w = absurd w
@@ -215,7 +220,8 @@ module _ (code : StackCode) (nest : List ℕ) (shallow : length nest ≤ MAX_LOO
       (h : Helper) (m n : ℕ) (kind other : Kind) (below : List Slot)
       → IsTrue (takes_two h) → suc (max m n) ≤ 9 → suc (length below) ≤ MAX_SLOTS
       → Lays code (instructions (Call h ∷ [])) nest
-      (slot (kind_for (second_parameter h) other) (cap n) ∷ slot (kind_for (signature_of h).first kind) (cap m) ∷ below)
+      (slot (kind_for (second_parameter h) other) (cap n)
+      ∷ slot (kind_for (signature_of h).first kind) (cap m) ∷ below)
       (slot (result_kind h) (cap (suc (max m n))) ∷ below)
   lays-call_two h m n kind other below two deep room =
       let s = slot (kind_for (second_parameter h) other) (cap n) in

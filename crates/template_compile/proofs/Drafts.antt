@@ -38,11 +38,13 @@ pub node-steps :
     → b ≡ extended_by a (node_code node) → extended_by a (nodes_code (first_node node nodes)) ≡ whole
     → extended_by b (nodes_code nodes) ≡ whole
 node-steps node nodes a b whole h k =
-    ap (λ d. extended_by d (nodes_code nodes)) h ∙ (sym (extended_by-join a (node_code node) (nodes_code nodes)) ∙ k)
+    ap (λ d. extended_by d (nodes_code nodes)) h
+    ∙ (sym (extended_by-join a (node_code node) (nodes_code nodes)) ∙ k)
 
 pub call_two-steps :
     (h : Helper) (e f : Expression) (p q : Parameter) (m n : Kind) (a b c d k l : StackCode)
-    → p ≡ (signature_of h).first → q ≡ second_parameter h → m ≡ expression_kind e → n ≡ expression_kind f
+    → p ≡ (signature_of h).first → q ≡ second_parameter h → m ≡ expression_kind e
+    → n ≡ expression_kind f
     → b ≡ extended_by a (expression_code e) → c ≡ extended_by b (instructions (conversion p m))
     → d ≡ extended_by c (expression_code f) → k ≡ extended_by d (instructions (conversion q n))
     → l ≡ extended_by k (instructions (Call h ∷ [])) → l ≡ extended_by a (expression_code (call_two h e f))
@@ -97,7 +99,8 @@ each-steps over body n a b c d e is one two three four =
 pub each_else-steps :
     (over : Datum) (body otherwise : Nodes) (m n : ℕ) (a b c d e f g : StackCode)
     → m ≡ nodes_length body → n ≡ nodes_length otherwise → b ≡ extended_by a (datum_code over)
-    → c ≡ extended_by b (each_over (m + 2)) → d ≡ extended_by c (nodes_code body) → e ≡ extended_by d (again m)
+    → c ≡ extended_by b (each_over (m + 2)) → d ≡ extended_by c (nodes_code body)
+    → e ≡ extended_by d (again m)
     → f ≡ extended_by e (jump_over n) → g ≡ extended_by f (nodes_code otherwise)
     → g ≡ extended_by a (node_code (each_else over body otherwise))
 each_else-steps over body otherwise m n a b c d e f g is also one two three four five six =

@@ -131,7 +131,8 @@ numbered =
 
 code_of_numbered : stack_code numbered ≡ record {
   instrs =
-      Root 0 ∷ Each 15 ∷ AtIndex 0 ∷ Show ∷ Print ∷ Emit 0 ∷ Item 0 1 ∷ Show ∷ Print ∷ Last 0 ∷ Call helpers.Not
+      Root 0 ∷ Each 15 ∷ AtIndex 0 ∷ Show ∷ Print ∷ Emit 0 ∷ Item 0 1 ∷ Show ∷ Print ∷ Last 0
+      ∷ Call helpers.Not
       ∷ Branch 13 ∷ Emit 1 ∷ Next 2 ∷ Jump 16 ∷ Emit 2 ∷ Halt ∷ [];
   texts = codes ":" ∷ codes ";" ∷ codes "none" ∷ [];
   paths = query ∷ [] ∷ [];

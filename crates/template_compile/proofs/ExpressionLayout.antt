@@ -78,19 +78,23 @@ module _ (code : StackCode) (nest : List ℕ) (shallow : length nest ≤ MAX_LOO
   lays-expression index below sound deep room =
       lays-simple (Index 0) (slot Kind.Number (cap 0)) below
       (pushes-slot code nest shallow (Index 0) (slot Kind.Number (cap 0)) (at_most 20) refl refl refl refl
-      (names-loop code nest shallow 0 sound) (λ bounds. refl) (omega arith) (λ bounds. refl)) refl (omega (arith, room))
+      (names-loop code nest shallow 0 sound) (λ bounds. refl) (omega arith) (λ bounds. refl))
+      refl (omega (arith, room))
   lays-expression key below sound deep room =
       lays-simple (Key 0) (slot Kind.Text (cap 0)) below
       (pushes-slot code nest shallow (Key 0) (slot Kind.Text (cap 0)) all_data refl refl refl refl
-      (names-loop code nest shallow 0 sound) (λ bounds. refl) (omega arith) (λ bounds. refl)) refl (omega (arith, room))
+      (names-loop code nest shallow 0 sound) (λ bounds. refl) (omega arith) (λ bounds. refl))
+      refl (omega (arith, room))
   lays-expression first below sound deep room =
       lays-simple (First 0) (slot Kind.Truth (cap 0)) below
       (pushes-slot code nest shallow (First 0) (slot Kind.Truth (cap 0)) (at_most 5) refl refl refl refl
-      (names-loop code nest shallow 0 sound) (λ bounds. refl) (omega arith) (λ bounds. refl)) refl (omega (arith, room))
+      (names-loop code nest shallow 0 sound) (λ bounds. refl) (omega arith) (λ bounds. refl))
+      refl (omega (arith, room))
   lays-expression last below sound deep room =
       lays-simple (Last 0) (slot Kind.Truth (cap 0)) below
       (pushes-slot code nest shallow (Last 0) (slot Kind.Truth (cap 0)) (at_most 5) refl refl refl refl
-      (names-loop code nest shallow 0 sound) (λ bounds. refl) (omega arith) (λ bounds. refl)) refl (omega (arith, room))
+      (names-loop code nest shallow 0 sound) (λ bounds. refl) (omega arith) (λ bounds. refl))
+      refl (omega (arith, room))
   lays-expression (text_literal bytes) below sound deep room =
       lays-text code nest shallow bytes (cap 0) below sound (omega arith) (omega (arith, room))
   lays-expression (number n) below sound deep room =

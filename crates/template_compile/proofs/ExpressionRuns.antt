@@ -1,6 +1,6 @@
 -- Each run of an expression's code pushes the expression's value.
-use Rattle.std.proofs.Common.{◌≡◌, ◌<◌, ℕ, pos, nat_eq, List, [], ◌∷◌, length, Option, Some, None, refl, ap}
-use Rattle.std.proofs.Common.{arith, subst}
+use Rattle.std.proofs.Common.{◌≡◌, ◌<◌, ℕ, pos, nat_eq, List, [], ◌∷◌, length, Option, Some, None}
+use Rattle.std.proofs.Common.{refl, ap, arith, subst}
 use Rattle.std.specs.Option.{option_map_or}
 use Rattle.data_tree.specs.Tree.{Tree, nothing}
 use Rattle.data_tree.specs.LookUp.{at, EmptyNameFindsNothing}
@@ -154,7 +154,8 @@ module _ (code : StackCode) (tree : Tree) (loops : List Loop) where
         of-index (l ∷ ls) (t ∷ ts) f some =
             ap (λ n. Some (with_stack (a_number (pos n) ∷ stack))) f.0.index
     goes-expression key stack sound =
-        goes-instr code tree loops (Key 0) stack (value_of key tree turns ∷ stack) refl (of-key loops turns fits sound)
+        goes-instr code tree loops (Key 0) stack (value_of key tree turns ∷ stack) refl
+        (of-key loops turns fits sound)
       where
         of-key : (ls : List Loop) (ts : List Turn) → LoopsFit ls ts → 0 < length ts →
             effect code tree (Key 0) ls stack ≡ Some (with_stack (value_of key tree ts ∷ stack))
@@ -188,7 +189,8 @@ module _ (code : StackCode) (tree : Tree) (loops : List Loop) where
         let v = value_of e tree turns in
         let p = (signature_of helper).first in
         let made = value_of (call helper e) tree turns ∷ stack in
-        goes-then code tree loops (code_for p e) (instructions (Call helper ∷ [])) stack (converted p v ∷ stack) made []
+        goes-then code tree loops (code_for p e) (instructions (Call helper ∷ [])) stack
+        (converted p v ∷ stack) made []
         (goes-argument p e stack (goes-expression e stack sound.1) sound.1)
         (goes-instr code tree loops (Call helper) (converted p v ∷ stack) made refl
         (call-one code tree loops stack helper v sound.0))

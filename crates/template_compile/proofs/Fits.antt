@@ -1,6 +1,6 @@
 -- The open loops of a run beside the turns that a template's text is read by.
-use Rattle.std.proofs.Common.{◌≡◌, ℕ, zero, suc, ◌+◌, ◌<◌, false, List, [], ◌∷◌, length, Some, nat_lt}
-use Rattle.std.proofs.Common.{refl, ap, ◌∙◌, arith, subst}
+use Rattle.std.proofs.Common.{◌≡◌, ℕ, zero, suc, ◌+◌, ◌<◌, false, List, [], ◌∷◌, length, Some}
+use Rattle.std.proofs.Common.{nat_lt, refl, ap, ◌∙◌, arith, subst}
 use Rattle.std.specs.Prelude.{slice_get, unwrap_or, not}
 use Rattle.std.proofs.lemmas.Bool.{lt-ltb}
 use Rattle.std.proofs.lemmas.Option.{none-some, same_Some}
@@ -78,8 +78,8 @@ from-items start (item u us) (suc k) t h =
       is_last = ap not (later k (length (trees_of us))) ∙ r.is_last;
     }
 
-from-members : (start : ℕ) (ms : Members) (k : ℕ) (t : Turn) → slice_get (named_turns_from start ms) k ≡ Some t →
-    HasParts (values_of ms) (names_of ms) k (start + k) t
+from-members : (start : ℕ) (ms : Members) (k : ℕ) (t : Turn) →
+    slice_get (named_turns_from start ms) k ≡ Some t → HasParts (values_of ms) (names_of ms) k (start + k) t
 from-members start no_members k t h = absurd (none-some t h)
 from-members start (member name u no_members) zero t h =
     subst (λ x. HasParts (u ∷ []) (name ∷ []) 0 (start + 0) x) (same_Some _ t h)

@@ -1,6 +1,6 @@
 -- What runs make of parts of code, wherever they stand: from one stack to another, writing a text.
-use Rattle.std.proofs.Common.{◌≡◌, ℕ, suc, ◌+◌, List, [], ◌∷◌, ◌++◌, Some, refl, sym, ap, ◌∙◌}
-use Rattle.std.proofs.Common.{Bool, true, false, arith, append-nil, append_assoc}
+use Rattle.std.proofs.Common.{◌≡◌, ℕ, suc, ◌+◌, List, [], ◌∷◌, ◌++◌, Some, refl, sym, ap}
+use Rattle.std.proofs.Common.{◌∙◌, Bool, true, false, arith, append-nil, append_assoc}
 use Rattle.std.specs.Prelude.{slice_get, option_map, option_and_then, if◌then◌else◌}
 use Rattle.data_tree.specs.Tree.{Tree}
 use Rattle.data_tree.specs.LookUp.{at}
@@ -75,7 +75,8 @@ module _ (code : StackCode) (root_data : Tree) (loops : List Loop) where
       output (output ++ []) (omega arith) (sym (append-nil output))
       (comes-pushing code root_data i offsets.index stack after loops output has.instrs.0 straight does)
 
-  pub goes-emit : (bytes : List ℕ) (stack : List Value) → Goes code root_data (emit_code bytes) loops stack stack bytes
+  pub goes-emit : (bytes : List ℕ) (stack : List Value)
+      → Goes code root_data (emit_code bytes) loops stack stack bytes
   goes-emit bytes stack offsets output has =
       comes-to code root_data (state offsets.index stack loops output) (suc offsets.index)
       (offsets.index + 1) stack loops
@@ -101,7 +102,8 @@ module _ (code : StackCode) (root_data : Tree) (loops : List Loop) where
 
   pub goes-item :
       (up : ℕ) (path : List Step) (stack : List Value) (found : Tree) (l : Loop) → slice_get loops up ≡ Some l
-      → item_of l ≡ found → Goes code root_data (item_code up path) loops stack (a_datum (at path found) ∷ stack) []
+      → item_of l ≡ found
+      → Goes code root_data (item_code up path) loops stack (a_datum (at path found) ∷ stack) []
   goes-item up path stack found l here is offsets output has =
       goes-instr (Item up offsets.paths) stack (a_datum (at path found) ∷ stack) refl
       (ap (option_and_then (λ p. of_loop (λ m. a_datum (at p (item_of m))) up loops stack)) has.paths.0
@@ -112,7 +114,8 @@ module _ (code : StackCode) (root_data : Tree) (loops : List Loop) where
   -- ---- blocks
 
   -- where a truth holds, a branch goes on
-  goes-on : (n : ℕ) (stack : List Value) → Goes code root_data (branch_over n) loops (a_truth true ∷ stack) stack []
+  goes-on : (n : ℕ) (stack : List Value)
+      → Goes code root_data (branch_over n) loops (a_truth true ∷ stack) stack []
   goes-on n stack offsets output has =
       comes-to code root_data (state offsets.index (a_truth true ∷ stack) loops output) (suc offsets.index)
       (offsets.index + 1) stack loops output (output ++ []) (omega arith) (sym (append-nil output))

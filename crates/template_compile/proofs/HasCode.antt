@@ -1,6 +1,6 @@
 -- Code that is part of other code: each part of a template's code stands in it at the part's offsets.
-use Rattle.std.proofs.Common.{◌≡◌, ℕ, suc, ◌+◌, List, [], ◌∷◌, ◌++◌, length, Some, refl, sym, ap, ◌∙◌, subst, arith}
-use Rattle.std.proofs.Common.{length-append, append_assoc}
+use Rattle.std.proofs.Common.{◌≡◌, ℕ, suc, ◌+◌, List, [], ◌∷◌, ◌++◌, length, Some, refl, sym, ap}
+use Rattle.std.proofs.Common.{◌∙◌, subst, arith, length-append, append_assoc}
 use Rattle.std.specs.Prelude.{slice_get}
 use Rattle.data_tree.specs.declared.step.Step.{Step}
 use Rattle.template_code.specs.Code.{StackCode}
@@ -73,11 +73,13 @@ has_part-back whole offsets f g h =
     }
 
 same_offsets : (i j t u p q : ℕ) → i ≡ j → t ≡ u → p ≡ q
-    → ◌≡◌ {A = Offsets} (record { index = i; texts = t; paths = p }) (record { index = j; texts = u; paths = q })
+    → ◌≡◌ {A = Offsets} (record { index = i; texts = t; paths = p })
+    (record { index = j; texts = u; paths = q })
 same_offsets i j t u p q e f g = rw (e, f, g) refl
 
 same_code : (i j : List Instr) (t u : List (List ℕ)) (p q : List (List Step)) → i ≡ j → t ≡ u → p ≡ q
-    → ◌≡◌ {A = StackCode} (record { instrs = i; texts = t; paths = p }) (record { instrs = j; texts = u; paths = q })
+    → ◌≡◌ {A = StackCode} (record { instrs = i; texts = t; paths = p })
+    (record { instrs = j; texts = u; paths = q })
 same_code i j t u p q e f g = rw (e, f, g) refl
 
 -- two parts end where the second one does

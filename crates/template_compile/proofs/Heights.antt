@@ -1,8 +1,8 @@
 -- How heavy the values of expressions are, by how deep their calls are nested.
 use Rattle.std.specs.Bool.{IsTrue}
 use Rattle.std.proofs.Common.{true≢false}
-use Rattle.std.proofs.Common.{◌≡◌, ℕ, zero, suc, ◌+◌, ◌*◌, ◌-◌, ◌≤◌, List, ◌∷◌, length, take, sym}
-use Rattle.std.proofs.Common.{subst, arith}
+use Rattle.std.proofs.Common.{◌≡◌, ℕ, zero, suc, ◌+◌, ◌*◌, ◌-◌, ◌≤◌, List, ◌∷◌, length}
+use Rattle.std.proofs.Common.{take, sym, subst, arith}
 use Rattle.std.specs.Prelude.{max}
 use Rattle.helper_set.specs.Helpers.{argument_kinds}
 use Rattle.helper_set.specs.declared.helper.Helper.{Helper}
@@ -37,8 +37,8 @@ cap-nine depth le = omega (arith, cap-more depth 9 le)
 
 -- a call's arguments
 
-one-light : (h : Helper) (most : ℕ) (b : Bound) (bounds : List Bound) → IsTrue (takes_one h) → total b ≤ most →
-    AllLight most (take (length (argument_kinds h)) (b ∷ bounds))
+one-light : (h : Helper) (most : ℕ) (b : Bound) (bounds : List Bound) → IsTrue (takes_one h) →
+    total b ≤ most → AllLight most (take (length (argument_kinds h)) (b ∷ bounds))
 one-light Upper most b bounds one le = (le, tt)
 one-light Lower most b bounds one le = (le, tt)
 one-light Trim most b bounds one le = (le, tt)
@@ -48,8 +48,8 @@ one-light Base64 most b bounds one le = (le, tt)
 one-light UrlEncode most b bounds one le = (le, tt)
 one-light h most b bounds one le = absurd (true≢false (sym one))
 
-two-light : (h : Helper) (most : ℕ) (b c : Bound) (bounds : List Bound) → IsTrue (takes_two h) → total b ≤ most →
-    total c ≤ most → AllLight most (take (length (argument_kinds h)) (b ∷ c ∷ bounds))
+two-light : (h : Helper) (most : ℕ) (b c : Bound) (bounds : List Bound) → IsTrue (takes_two h) →
+    total b ≤ most → total c ≤ most → AllLight most (take (length (argument_kinds h)) (b ∷ c ∷ bounds))
 two-light Eq most b c bounds two le also = (le, (also, tt))
 two-light Neq most b c bounds two le also = (le, (also, tt))
 two-light Contains most b c bounds two le also = (le, (also, tt))
@@ -57,13 +57,13 @@ two-light DefaultIfEmpty most b c bounds two le also = (le, (also, tt))
 two-light JsonPath most b c bounds two le also = (le, (also, tt))
 two-light h most b c bounds two le also = absurd (true≢false (sym two))
 
-pub cap-one : (h : Helper) (depth : ℕ) (b : Bound) (bounds : List Bound) → IsTrue (takes_one h) → total b ≤ cap depth →
-    total (helper_bound h (b ∷ bounds)) ≤ cap (suc depth)
+pub cap-one : (h : Helper) (depth : ℕ) (b : Bound) (bounds : List Bound) → IsTrue (takes_one h) →
+    total b ≤ cap depth → total (helper_bound h (b ∷ bounds)) ≤ cap (suc depth)
 cap-one h depth b bounds one le =
     light-call h (cap depth) (b ∷ bounds) (omega (arith, cap-some depth)) (one-light h (cap depth) b bounds one le)
 
-pub cap-two : (h : Helper) (m n : ℕ) (b c : Bound) (bounds : List Bound) → IsTrue (takes_two h) → total b ≤ cap n →
-    total c ≤ cap m → total (helper_bound h (b ∷ c ∷ bounds)) ≤ cap (suc (max m n))
+pub cap-two : (h : Helper) (m n : ℕ) (b c : Bound) (bounds : List Bound) → IsTrue (takes_two h) →
+    total b ≤ cap n → total c ≤ cap m → total (helper_bound h (b ∷ c ∷ bounds)) ≤ cap (suc (max m n))
 cap-two h m n b c bounds two le also =
     let most = cap (max m n) in
     light-call h most (b ∷ c ∷ bounds) (omega (arith, cap-some (max m n)))

@@ -76,7 +76,8 @@ length-expression (expressions.call_two helper e f) = λ offsets.
     length-join (argument_code p (expression_code e) (expression_kind e))
     (argument_code q (expression_code f) (expression_kind f) ▸ instructions (instrs.Call helper ∷ [])) a (b + 1)
     (length-argument p (expression_code e) (expression_length e) (expression_kind e) (length-expression e))
-    (length-join (argument_code q (expression_code f) (expression_kind f)) (instructions (instrs.Call helper ∷ [])) b 1
+    (length-join (argument_code q (expression_code f) (expression_kind f))
+    (instructions (instrs.Call helper ∷ [])) b 1
     (length-argument q (expression_code f) (expression_length f) (expression_kind f) (length-expression f))
     (λ o. refl)) offsets in
     let e : a + (b + 1) ≡ a + b + 1 = omega arith in all ∙ e

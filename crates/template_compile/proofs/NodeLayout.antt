@@ -1,6 +1,6 @@
 -- A template's code is well formed and within all limits.
-use Rattle.std.proofs.Common.{◌≡◌, ℕ, suc, ◌+◌, ◌*◌, ◌≤◌, List, [], ◌∷◌, length, refl, ap, true, false}
-use Rattle.std.proofs.Common.{Bool, subst, arith}
+use Rattle.std.proofs.Common.{◌≡◌, ℕ, suc, ◌+◌, ◌*◌, ◌≤◌, List, [], ◌∷◌, length, refl, ap}
+use Rattle.std.proofs.Common.{true, false, Bool, subst, arith}
 use Rattle.std.specs.Prelude.{not}
 use Rattle.std.proofs.lemmas.Bool.{lt-ltb, eq-eqb}
 use Rattle.std.proofs.lemmas.Option.{none-some, slice_get_within}
@@ -52,7 +52,8 @@ module _ (code : StackCode) (nest : List ℕ) (shallow : length nest ≤ MAX_LOO
         );
       }) shallow (omega arith) offsets (record { instrs = has.instrs; texts = tt; paths = tt }) lt s
 
-  lays-print : (most : ℕ) → most ≤ heaviest → Lays code (instructions (Print ∷ [])) nest (slot Kind.Text most ∷ []) []
+  lays-print : (most : ℕ) → most ≤ heaviest
+      → Lays code (instructions (Print ∷ [])) nest (slot Kind.Text most ∷ []) []
   lays-print most le =
       lays-straight code Print nest (slot Kind.Text most ∷ []) []
       (record {
@@ -105,7 +106,8 @@ module _ (code : StackCode) (nest : List ℕ) (shallow : length nest ≤ MAX_LOO
   lays-escaped Off most le = lays-print most (omega (arith, le))
   lays-escaped Html most le =
       lays-join code (instructions (instrs.TheVariants.Escape ∷ [])) (instructions (Print ∷ [])) nest
-      (slot Kind.Text most ∷ []) (slot Kind.Text (6 * most) ∷ []) [] (lays-escape most le) (lays-print (6 * most) le)
+      (slot Kind.Text most ∷ []) (slot Kind.Text (6 * most) ∷ []) [] (lays-escape most le)
+      (lays-print (6 * most) le)
 
   lays-negated :
       (unless : Bool) (most : ℕ) → 5 ≤ most → most ≤ heaviest
@@ -156,7 +158,8 @@ module _ (code : StackCode) where
     lays-node (if_then unless test body) nest shallow sound =
         let n = nodes_length body in
         let most = cap (depth_of test) in
-        lays-join code (test_code unless test) (branch_over n ▸ nodes_code body) nest [] (slot Kind.Truth most ∷ []) []
+        lays-join code (test_code unless test) (branch_over n ▸ nodes_code body) nest []
+        (slot Kind.Truth most ∷ []) []
         (lays-test code nest shallow unless test sound.0.0 sound.0.1)
         (lays-if code n most (nodes_code body) nest shallow (length-nodes body)
         (lays-nodes body nest shallow sound.1))
@@ -231,7 +234,8 @@ laid-whole nodes sound =
     (covers-join (FollowsAt code) 0 end.index (suc end.index) body.each last.each)
 
 pub stack_code-well_formed :
-    (nodes : Nodes) → SoundNodes 0 nodes → code_length nodes ≤ MAX_INSTRUCTIONS → IsWellFormed (stack_code nodes)
+    (nodes : Nodes) → SoundNodes 0 nodes → code_length nodes ≤ MAX_INSTRUCTIONS
+    → IsWellFormed (stack_code nodes)
 stack_code-well_formed nodes sound short =
     let code = stack_code nodes in
     let long = length-stack_code nodes in
@@ -243,7 +247,8 @@ stack_code-well_formed nodes sound short =
     (laid index (omega arith) (slice_get_within code.instrs index i there) i there).lands target jump)
 
 pub stack_code-within_limits :
-    (nodes : Nodes) → SoundNodes 0 nodes → code_length nodes ≤ MAX_INSTRUCTIONS → IsWithinLimits (stack_code nodes)
+    (nodes : Nodes) → SoundNodes 0 nodes → code_length nodes ≤ MAX_INSTRUCTIONS
+    → IsWithinLimits (stack_code nodes)
 stack_code-within_limits nodes sound short =
     let code = stack_code nodes in
     let laid = laid-whole nodes sound in

@@ -1,6 +1,6 @@
 -- Each run of a template's code writes the template's text.
-use Rattle.std.proofs.Common.{◌≡◌, ℕ, suc, ◌+◌, List, [], ◌∷◌, ◌++◌, length, refl, Bool, true, false, subst}
-use Rattle.std.proofs.Common.{arith}
+use Rattle.std.proofs.Common.{◌≡◌, ℕ, suc, ◌+◌, List, [], ◌∷◌, ◌++◌, length, refl, Bool, true}
+use Rattle.std.proofs.Common.{false, subst, arith}
 use Rattle.std.specs.List.{flat_map}
 use Rattle.std.specs.Prelude.{not}
 use Rattle.data_tree.specs.Tree.{Tree}
@@ -21,8 +21,8 @@ use Rattle.template_tree.specs.declared.escape.Escape.{Escape}
 use Rattle.template_tree.specs.declared.escape.Escape.TheVariants.{Off, Html}
 use Rattle.template_tree.specs.Tree.{Node, piece, print, if_then, if_else, each, each_else, Nodes, no_nodes, first_node}
 use Rattle.template_tree.specs.Meaning.{Turn, turns_of, datum_at, value_of, escaped, is_taken, node_text, template_text}
-use Rattle.template_compile.specs.Compiled.{◌▸◌, start_offsets, instructions, branch_over, jump_over, each_over, again}
-use Rattle.template_compile.specs.Compiled.{datum_code, code_for, print_instrs, negation, test_code, node_code}
+use Rattle.template_compile.specs.Compiled.{◌▸◌, start_offsets, instructions, branch_over, jump_over, each_over}
+use Rattle.template_compile.specs.Compiled.{again, datum_code, code_for, print_instrs, negation, test_code, node_code}
 use Rattle.template_compile.specs.Compiled.{nodes_code}
 use Rattle.template_compile.specs.Compiled.{stack_code}
 use Rattle.template_compile.specs.Correct.{WritesTextOf}
@@ -125,7 +125,8 @@ module _ (code : StackCode) (root : Tree) (empty : EmptyNameFindsNothing root) w
     goes-node (if_then unless test body) loops turns stack fits sound =
         let b = is_taken unless (truth_of (value_of test root turns)) in
         let n = nodes_length body in
-        goes-then code root loops (test_code unless test) (branch_over n ▸ nodes_code body) stack (a_truth b ∷ stack)
+        goes-then code root loops (test_code unless test) (branch_over n ▸ nodes_code body)
+        stack (a_truth b ∷ stack)
         stack (node_text (if_then unless test body) root turns)
         (goes-test loops turns unless test stack fits sound.0.0)
         (goes-if code root loops b n (nodes_code body) stack (template_text body root turns) (length-nodes body)
@@ -135,7 +136,8 @@ module _ (code : StackCode) (root : Tree) (empty : EmptyNameFindsNothing root) w
         let m = nodes_length body in
         let n = nodes_length otherwise in
         goes-then code root loops (test_code unless test)
-        (branch_over (m + 1) ▸ nodes_code body ▸ jump_over n ▸ nodes_code otherwise) stack (a_truth b ∷ stack) stack
+        (branch_over (m + 1) ▸ nodes_code body ▸ jump_over n ▸ nodes_code otherwise) stack
+        (a_truth b ∷ stack) stack
         (node_text (if_else unless test body otherwise) root turns)
         (goes-test loops turns unless test stack fits sound.0.0)
         (goes-if_else code root loops b m n (nodes_code body) (nodes_code otherwise) stack
@@ -155,16 +157,19 @@ module _ (code : StackCode) (root : Tree) (empty : EmptyNameFindsNothing root) w
         let n = nodes_length body in
         let m = nodes_length otherwise in
         goes-then code root loops (datum_code over)
-        (each_over (n + 2) ▸ nodes_code body ▸ again n ▸ jump_over m ▸ nodes_code otherwise) stack (a_datum t ∷ stack)
+        (each_over (n + 2) ▸ nodes_code body ▸ again n ▸ jump_over m ▸ nodes_code otherwise)
+        stack (a_datum t ∷ stack)
         stack (node_text (each_else over body otherwise) root turns)
         (goes-datum code root loops turns fits empty over stack sound.0)
         (subst
-        (Goes code root (each_over (n + 2) ▸ nodes_code body ▸ again n ▸ jump_over m ▸ nodes_code otherwise) loops
+        (Goes code root (each_over (n + 2) ▸ nodes_code body ▸ again n ▸ jump_over m
+        ▸ nodes_code otherwise) loops
         (a_datum t ∷ stack) stack)
         (each_else-text over body otherwise turns)
         (goes-each_else code root loops (nodes_code body) n stack t
         (turning body t loops turns stack
-        (λ l turn at. goes-nodes body (l ∷ loops) (turn ∷ turns) stack (at, fits) sound.2)) m (nodes_code otherwise)
+        (λ l turn at. goes-nodes body (l ∷ loops) (turn ∷ turns) stack (at, fits) sound.2))
+        m (nodes_code otherwise)
         (template_text otherwise root turns) (length-nodes otherwise)
         (goes-nodes otherwise loops turns stack fits sound.3)))
 

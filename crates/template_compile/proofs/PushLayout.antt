@@ -1,6 +1,6 @@
 -- Instructions that push a value keep the rules.
-use Rattle.std.proofs.Common.{◌≡◌, ℕ, zero, suc, ◌<◌, ◌≤◌, List, [], ◌∷◌, length, Some, refl, ap}
-use Rattle.std.proofs.Common.{true, false, nat_lt, arith}
+use Rattle.std.proofs.Common.{◌≡◌, ℕ, zero, suc, ◌<◌, ◌≤◌, List, [], ◌∷◌, length, Some, refl}
+use Rattle.std.proofs.Common.{ap, true, false, nat_lt, arith}
 use Rattle.std.specs.Prelude.{not, slice_get, unwrap_or}
 use Rattle.std.proofs.lemmas.Bool.{lt-ltb}
 use Rattle.std.proofs.lemmas.Option.{slice_get_within}
@@ -78,19 +78,21 @@ module _ (code : StackCode) (nest : List ℕ) (shallow : length nest ≤ MAX_LOO
   lays-pushing i s below h le room =
       lays-straight code i nest below (s ∷ below) (pushing i s below h le) shallow (omega (arith, room))
 
-  names-it : {A : Type 0} (xs : List A) (n : ℕ) (x : A) → slice_get xs n ≡ Some x → nat_lt n (length xs) ≡ true
+  names-it : {A : Type 0} (xs : List A) (n : ℕ) (x : A) → slice_get xs n ≡ Some x
+      → nat_lt n (length xs) ≡ true
   names-it xs n x h = lt-ltb n (length xs) (slice_get_within xs n x h)
 
   pub names-loop : (k : ℕ) → k < length nest → not (nat_lt k (length nest)) ≡ false
   names-loop k lt = ap not (lt-ltb k (length nest) lt)
 
   pub lays-root :
-      (path : List Step) (most : ℕ) (below : List Slot) → 1 ≤ most → most ≤ heaviest → suc (length below) ≤ MAX_SLOTS
-      → Lays code (root_code path) nest below (slot Kind.Data most ∷ below)
+      (path : List Step) (most : ℕ) (below : List Slot) → 1 ≤ most → most ≤ heaviest
+      → suc (length below) ≤ MAX_SLOTS → Lays code (root_code path) nest below (slot Kind.Data most ∷ below)
   lays-root path most below some le room offsets has lt s =
       lays-pushing (Root offsets.paths) (slot Kind.Data most) below
       (pushes-slot (Root offsets.paths) (slot Kind.Data most) all_data refl refl refl
-      (names-it code.paths offsets.paths path has.paths.0) refl (λ bounds. refl) some (λ bounds. refl)) le room offsets
+      (names-it code.paths offsets.paths path has.paths.0) refl (λ bounds. refl) some (λ bounds. refl))
+      le room offsets
       (record { instrs = has.instrs; texts = tt; paths = tt }) lt s
 
   pub lays-item :

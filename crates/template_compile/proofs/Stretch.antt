@@ -1,7 +1,7 @@
 -- Stretches of code by the rules of code: each instruction keeps them, and after a stretch the stack and the loops are
 -- known.
-use Rattle.std.proofs.Common.{◌≡◌, ℕ, suc, ◌+◌, ◌<◌, ◌≤◌, List, [], ◌∷◌, ◌++◌, length, drop, Some, refl, sym, ap, ◌∙◌}
-use Rattle.std.proofs.Common.{true, false, nat_eq, subst, ⊎_elim, arith}
+use Rattle.std.proofs.Common.{◌≡◌, ℕ, suc, ◌+◌, ◌<◌, ◌≤◌, List, [], ◌∷◌, ◌++◌, length}
+use Rattle.std.proofs.Common.{drop, Some, refl, sym, ap, ◌∙◌, true, false, nat_eq, subst, ⊎_elim, arith}
 use Rattle.std.specs.Prelude.{slice_get}
 use Rattle.std.proofs.lemmas.Bool.{cases_lt, ne_eqb}
 use Rattle.std.proofs.lemmas.Option.{none-some, same_Some}
@@ -37,7 +37,8 @@ pub covers-one : (P : ℕ → Type 0) (n : ℕ) → P n → Covers P n (suc n)
 covers-one P n h index le lt = let e : n ≡ index = omega arith in subst P e h
 
 pub covers-join : (P : ℕ → Type 0) (a b c : ℕ) → Covers P a b → Covers P b c → Covers P a c
-covers-join P a b c h k index le lt = ⊎_elim (λ below. h index le below) (λ above. k index above lt) (cases_lt index b)
+covers-join P a b c h k index le lt =
+    ⊎_elim (λ below. h index le below) (λ above. k index above lt) (cases_lt index b)
 
 -- ---- slots
 

@@ -1,6 +1,7 @@
 -- Which texts are escaped as themselves.
-use Rattle.std.proofs.Common.{◌≡◌, ℕ, ◌≤◌, ◌+◌, ◌/◌, ◌==◌, Bool, true, false, List, [], ◌∷◌, ◌++◌, append_assoc, length, codes}
-use Rattle.std.proofs.Common.{refl, sym, ap, ◌∙◌, cond, arith, if◌then◌else◌}
+use Rattle.std.proofs.Common.{◌≡◌, ℕ, ◌≤◌, ◌+◌, ◌/◌, ◌==◌, Bool, true, false, List, []}
+use Rattle.std.proofs.Common.{◌∷◌, ◌++◌, append_assoc, length, codes, refl, sym, ap, ◌∙◌, cond, arith}
+use Rattle.std.proofs.Common.{if◌then◌else◌}
 use Rattle.std.proofs.lemmas.Bool.{and_parts}
 use Rattle.std.proofs.lemmas.Bool.Decides.{nat_tests}
 use Rattle.std.proofs.lemmas.Grind.{flat_map-append}
@@ -57,22 +58,26 @@ high : (b : ℕ) → 128 ≤ b → html_escaped_byte b ≡ b ∷ []
 high b h = grind (arith, nat_tests)
 
 -- a byte that isn't one of the special characters
-other : (b : ℕ) → ¬ (b ≡ 38) → ¬ (b ≡ 60) → ¬ (b ≡ 62) → ¬ (b ≡ 34) → ¬ (b ≡ 39) → ¬ (b ≡ 96) → ¬ (b ≡ 61)
-    → html_escaped_byte b ≡ b ∷ []
+other : (b : ℕ) → ¬ (b ≡ 38) → ¬ (b ≡ 60) → ¬ (b ≡ 62) → ¬ (b ≡ 34) → ¬ (b ≡ 39)
+    → ¬ (b ≡ 96) → ¬ (b ≡ 61) → html_escaped_byte b ≡ b ∷ []
 other b amp lt gt quot apos tick equals = grind (arith, nat_tests)
 
 high_two : (a b : ℕ) → 128 ≤ a → 128 ≤ b → html_escaped (a ∷ b ∷ []) ≡ a ∷ b ∷ []
 high_two a b h k = rw (high a h, high b k) refl
 
-high_three : (a b c : ℕ) → 128 ≤ a → 128 ≤ b → 128 ≤ c → html_escaped (a ∷ b ∷ c ∷ []) ≡ a ∷ b ∷ c ∷ []
+high_three : (a b c : ℕ) → 128 ≤ a → 128 ≤ b → 128 ≤ c
+    → html_escaped (a ∷ b ∷ c ∷ []) ≡ a ∷ b ∷ c ∷ []
 high_three a b c h k l = rw (high a h, high b k, high c l) refl
 
-high_four : (a b c d : ℕ) → 128 ≤ a → 128 ≤ b → 128 ≤ c → 128 ≤ d → html_escaped (a ∷ b ∷ c ∷ d ∷ []) ≡ a ∷ b ∷ c ∷ d ∷ []
+high_four : (a b c d : ℕ) → 128 ≤ a → 128 ≤ b → 128 ≤ c → 128 ≤ d
+    → html_escaped (a ∷ b ∷ c ∷ d ∷ []) ≡ a ∷ b ∷ c ∷ d ∷ []
 high_four a b c d h k l m = rw (high a h, high b k, high c l, high d m) refl
 
 by_length : (low two three : Bool) (a : List ℕ) (b c d e f g h i j : ℕ)
-    → html_escaped a ≡ a → 128 ≤ b → 128 ≤ c → 128 ≤ d → 128 ≤ e → 128 ≤ f → 128 ≤ g → 128 ≤ h → 128 ≤ i → 128 ≤ j
-    → html_escaped (cond low a (cond two (b ∷ c ∷ []) (cond three (d ∷ e ∷ f ∷ []) (g ∷ h ∷ i ∷ j ∷ []))))
+    → html_escaped a ≡ a → 128 ≤ b → 128 ≤ c → 128 ≤ d → 128 ≤ e → 128 ≤ f → 128 ≤ g
+    → 128 ≤ h → 128 ≤ i → 128 ≤ j
+    → html_escaped (cond low a
+    (cond two (b ∷ c ∷ []) (cond three (d ∷ e ∷ f ∷ []) (g ∷ h ∷ i ∷ j ∷ []))))
     ≡ cond low a (cond two (b ∷ c ∷ []) (cond three (d ∷ e ∷ f ∷ []) (g ∷ h ∷ i ∷ j ∷ [])))
 by_length true two three a b c d e f g h i j p pb pc pd pe pf pg ph pi pj = p
 by_length false true three a b c d e f g h i j p pb pc pd pe pf pg ph pi pj = high_two b c pb pc
@@ -80,17 +85,20 @@ by_length false false true a b c d e f g h i j p pb pc pd pe pf pg ph pi pj = hi
 by_length false false false a b c d e f g h i j p pb pc pd pe pf pg ph pi pj = high_four g h i j pg ph pi pj
 
 -- a character that isn't special is escaped as itself
-pub other_stays : (c : ℕ) → ¬ (c ≡ 38) → ¬ (c ≡ 60) → ¬ (c ≡ 62) → ¬ (c ≡ 34) → ¬ (c ≡ 39) → ¬ (c ≡ 96) → ¬ (c ≡ 61)
-    → html_escaped (encode c) ≡ encode c
+pub other_stays : (c : ℕ) → ¬ (c ≡ 38) → ¬ (c ≡ 60) → ¬ (c ≡ 62) → ¬ (c ≡ 34) → ¬ (c ≡ 39)
+    → ¬ (c ≡ 96) → ¬ (c ≡ 61) → html_escaped (encode c) ≡ encode c
 unfolding encode
 other_stays c amp lt gt quot apos tick equals =
-    by_length (ltb c 128) (ltb c 2048) (ltb c 65536) (c ∷ []) (192 + c / 64) (next c) (224 + c / 4096) (next (c / 64)) (next c)
+    by_length (ltb c 128) (ltb c 2048) (ltb c 65536) (c ∷ []) (192 + c / 64) (next c) (224 + c / 4096)
+    (next (c / 64)) (next c)
     (240 + c / 262144) (next (c / 4096)) (next (c / 64)) (next c)
     (ap (λ bs. bs ++ []) (other c amp lt gt quot apos tick equals))
-    (omega arith) (omega arith) (omega arith) (omega arith) (omega arith) (omega arith) (omega arith) (omega arith) (omega arith)
+    (omega arith) (omega arith) (omega arith) (omega arith) (omega arith) (omega arith) (omega arith)
+    (omega arith) (omega arith)
 
 -- one character more is escaped
-pub escaped-next : (made text rest bytes next whole : List ℕ) → bytes ≡ text ++ rest → next ≡ made ++ html_escaped text
+pub escaped-next : (made text rest bytes next whole : List ℕ) → bytes ≡ text ++ rest
+    → next ≡ made ++ html_escaped text
     → made ++ html_escaped bytes ≡ whole → next ++ html_escaped rest ≡ whole
 escaped-next made text rest bytes next whole parts pushed so_far =
     ap (λ n. n ++ html_escaped rest) pushed

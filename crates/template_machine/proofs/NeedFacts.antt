@@ -1,5 +1,6 @@
 -- What is added instruction by instruction is all that the code finds.
-use Rattle.std.proofs.Common.{◌≡◌, ℕ, ◌+◌, ◌<◌, ◌≤◌, ◌⊎◌, inl, inr, List, length, ap, ◌∙◌, subst, arith, get_or}
+use Rattle.std.proofs.Common.{◌≡◌, ℕ, ◌+◌, ◌<◌, ◌≤◌, ◌⊎◌, inl, inr, List, length, ap}
+use Rattle.std.proofs.Common.{◌∙◌, subst, arith, get_or}
 use Rattle.std.specs.Prelude.{slice_get}
 use Rattle.std.proofs.lemmas.Bool.{cases_lt}
 use Rattle.std.proofs.lemmas.Option.{slice_get_within, get_or_from_slice_get}
@@ -9,7 +10,8 @@ use Rattle.template_code.specs.declared.instr.Instr.{Instr}
 use Rattle.template_code.specs.declared.instr.Instr.TheVariants.{Emit}
 use Rattle.template_machine.specs.Inner.Needs.{CoversInstr, CoversFirst, CoversCode}
 
-pub covers_next : (count : ℕ) (old new : NeededData) (code : StackCode) (instrs : List Instr) → instrs ≡ code.instrs
+pub covers_next : (count : ℕ) (old new : NeededData) (code : StackCode) (instrs : List Instr)
+    → instrs ≡ code.instrs
     → CoversFirst count old code → Includes new old → CoversInstr new code (get_or instrs count (Emit 0))
     → CoversFirst (count + 1) new code
 covers_next count old new code instrs same before more covers index i below found = by (cases_lt index count)

@@ -49,7 +49,8 @@ pub fn result_of_two<'a>(
     second: Slot<'a>,
 ) -> Result<Slot<'a>, AllocError>
     requires well_formed { IsWellFormed (view root.now) }
-    requires arguments { fit (argument_kinds helper) (kind_of (slot_view first) ∷ kind_of (slot_view second) ∷ []) ≡ true }
+    requires arguments { fit (argument_kinds helper) (kind_of (slot_view first) ∷ kind_of (slot_view second) ∷ [])
+        ≡ true }
     ensures { IfOk result
         (λ made. result_of (view root.now) helper (slot_view first.entry ∷ slot_view second.entry ∷ [])
         ≡ Some (slot_view made)) }

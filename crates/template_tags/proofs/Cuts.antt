@@ -1,7 +1,7 @@
 -- The items of a tag are found from break to break.
-use Rattle.std.proofs.Common.{◌≡◌, ℕ, suc, ◌+◌, ◌<◌, ◌==◌, true, false, ◌&&◌, List, [], ◌∷◌, ◌++◌, length}
-use Rattle.std.proofs.Common.{take, drop, get_or, Option, Some, None, IfSome, option_map, inl, inr, refl, sym, ap}
-use Rattle.std.proofs.Common.{◌∙◌, arith, append_assoc, IsUtf8, IsCharBoundary}
+use Rattle.std.proofs.Common.{◌≡◌, ℕ, suc, ◌+◌, ◌<◌, ◌==◌, true, false, ◌&&◌, List, []}
+use Rattle.std.proofs.Common.{◌∷◌, ◌++◌, length, take, drop, get_or, Option, Some, None, IfSome, option_map}
+use Rattle.std.proofs.Common.{inl, inr, refl, sym, ap, ◌∙◌, arith, append_assoc, IsUtf8, IsCharBoundary}
 use Rattle.std.proofs.lemmas.Bool.{cases_Bool, cond_both, and_parts, false≢true}
 use Rattle.std.proofs.lemmas.Bool.Decides.{nat_tests}
 use Rattle.std.proofs.lemmas.List.{get_or-drop, length-drop}
@@ -34,7 +34,8 @@ break_found mode (b ∷ s) =
     (λ n h. (omega (arith, h.0), h.1)) (break_found (mode_after mode b) s))
 
 -- a character begins after an ASCII byte
-pub after_ascii : (s : List ℕ) (n : ℕ) → IsUtf8 s → n < length s → get_or s n 0 < 128 → IsCharBoundary (drop n s) 1
+pub after_ascii : (s : List ℕ) (n : ℕ) → IsUtf8 s → n < length s → get_or s n 0 < 128
+    → IsCharBoundary (drop n s) 1
 after_ascii s n utf8 inside below =
     let back : IsUtf8 (drop n s) = IsUtf8-drop s n utf8 (IsCharBoundary-before_ascii s n inside below) in
     let first : get_or (drop n s) 0 0 ≡ get_or s (n + 0) 0 = get_or-drop n s 0 0 in
@@ -44,7 +45,8 @@ after_ascii s n utf8 inside below =
 
 -- ---- words up to breaks
 
-pub mode_is : (mode : Mode) (b : ℕ) → (is_outside mode && is_break b) ≡ true → mode_after mode b ≡ mode_of_byte b
+pub mode_is : (mode : Mode) (b : ℕ) → (is_outside mode && is_break b) ≡ true
+    → mode_after mode b ≡ mode_of_byte b
 mode_is Start b h = rw (no_quote b h) refl
 mode_is Word b h = refl
 mode_is Bracket b h = absurd (false≢true h)
@@ -98,7 +100,8 @@ break_append b items = elim (cases_Bool (b == 40)) [
 pub pushed : (items : List Item) (w : List ℕ) (b : ℕ) (rest : List Item)
     → items ++ word_before w (break_before b rest) ≡ ((items ++ word_before w []) ++ break_before b []) ++ rest
 pushed items w b rest =
-    ap (λ r. items ++ r) (word_append w (break_before b rest) ∙ ap (λ r. word_before w [] ++ r) (break_append b rest)
+    ap (λ r. items ++ r) (word_append w (break_before b rest)
+    ∙ ap (λ r. word_before w [] ++ r) (break_append b rest)
     ∙ sym (append_assoc (word_before w []) (break_before b []) rest))
     ∙ sym (append_assoc items (word_before w [] ++ break_before b []) rest)
     ∙ ap (λ r. r ++ rest) (sym (append_assoc items (word_before w []) (break_before b [])))

@@ -52,7 +52,8 @@ mutual
   term_nest (single text) items = refl
   term_nest (group ts) items =
       ap (item_before left_parenthesis) (terms_nest ts (right_parenthesis ∷ items))
-      ∙ ap (λ us. grouped us ((nest_of items).terms ∷ (nest_of items).later) (nest_of items).unclosed) (onto_none ts)
+      ∙ ap (λ us. grouped us ((nest_of items).terms ∷ (nest_of items).later) (nest_of items).unclosed)
+      (onto_none ts)
 
   terms_nest : (ts : Terms) (items : List Item) → nest_of (flat ts items) ≡ with_terms ts (nest_of items)
   terms_nest no_terms items = refl

@@ -1,6 +1,6 @@
 -- The helper of a name, and texts that are JSON paths.
-use Rattle.std.proofs.Common.{◌≡◌, ◌≢◌, ℕ, Bool, true, false, List, [], ◌∷◌, Option, Some, None, IfSome, IfNone}
-use Rattle.std.proofs.Common.{◌↔◌, inl, inr, refl, sym, ap, ◌∙◌}
+use Rattle.std.proofs.Common.{◌≡◌, ◌≢◌, ℕ, Bool, true, false, List, [], ◌∷◌, Option, Some, None}
+use Rattle.std.proofs.Common.{IfSome, IfNone, ◌↔◌, inl, inr, refl, sym, ap, ◌∙◌}
 use Rattle.std.specs.Prelude.{is_some, IsTrue}
 use Rattle.std.specs.Str.{bytes_eq}
 use Rattle.std.proofs.lemmas.Bool.{cases_Bool}
@@ -36,7 +36,8 @@ no_name text h other = elim (cases_Bool (bytes_eq text (name_of h))) [
   | inr f ↦ f
 ]
 
-none_among : (text : List ℕ) (hs : List Helper) → ((h : Helper) → text ≢ name_of h) → helper_among hs text ≡ None
+none_among : (text : List ℕ) (hs : List Helper) → ((h : Helper) → text ≢ name_of h)
+    → helper_among hs text ≡ None
 none_among text [] other = refl
 none_among text (h ∷ hs) other = rw (no_name text h (other h)) (none_among text hs other)
 
@@ -45,7 +46,8 @@ pub helper_is : (text : List ℕ) (r : Option Helper) → IfSome r (λ h. text �
 helper_is text None found unknown = sym (none_among text helpers unknown)
 helper_is text (Some h) found unknown = sym (ap helper_named found ∙ named h)
 
-found_or_not : (b : Bool) (s : List ℕ) (o : Option (List Step)) → path_of s ≡ o → IsTrue b ↔ IsPath s → b ≡ is_some o
+found_or_not : (b : Bool) (s : List ℕ) (o : Option (List Step)) → path_of s ≡ o → IsTrue b ↔ IsPath s
+    → b ≡ is_some o
 found_or_not true s None e h =
     let path = h.0 refl in
     absurd (none_some path.0 (sym e ∙ (path_found_is_spelled s path.0).1 path.1))

@@ -59,7 +59,8 @@ joined_none (Some d) = refl
 pub errors_more : (e : Option TagError) (reads : List (Result Expression TagError)) (read : Result Expression TagError)
     → 1 ≤ length reads → read ≡ get_or reads 0 read
     → joined e (errors_in (map read_view reads))
-    ≡ joined (joined e (error_in (read_view read))) (errors_in (map read_view (take (length reads - 1) (drop 1 reads))))
+    ≡ joined (joined e (error_in (read_view read)))
+    (errors_in (map read_view (take (length reads - 1) (drop 1 reads))))
 errors_more e reads read some is =
     ap (λ rs. joined e (errors_in (map read_view rs))) (first_split reads read some is)
     ∙ sym (joined_assoc e (error_in (read_view read))

@@ -1,6 +1,7 @@
 -- Names of items in an `each`.
-use Rattle.std.proofs.Common.{◌≡◌, ℕ, ◌-◌, ◌<◌, ◌≤◌, ◌==◌, false, ◌&&◌, List, [], ◌∷◌, ◌++◌, length, take, drop}
-use Rattle.std.proofs.Common.{get_or, map, Option, Some, None, refl, sym, ap, ◌∙◌, arith}
+use Rattle.std.proofs.Common.{◌≡◌, ℕ, ◌-◌, ◌<◌, ◌≤◌, ◌==◌, false, ◌&&◌, List, []}
+use Rattle.std.proofs.Common.{◌∷◌, ◌++◌, length, take, drop, get_or, map, Option, Some, None, refl, sym, ap}
+use Rattle.std.proofs.Common.{◌∙◌, arith}
 use Rattle.std.proofs.lemmas.Bool.{false≢true}
 use Rattle.std.proofs.lemmas.List.{map-append}
 use Rattle.template_words.specs.Paths.{is_name}
@@ -23,8 +24,8 @@ length-view : (items : List declared.Item) → length (map item_view items) ≡ 
 length-view [] = refl
 length-view (item ∷ items) = omega (arith, length-view items)
 
-pub names_more : (items : List declared.Item) (item : declared.Item) → 1 ≤ length items → item ≡ get_or items 0 item
-    → false ≡ (length (take (length items - 1) (drop 1 items)) == 0)
+pub names_more : (items : List declared.Item) (item : declared.Item) → 1 ≤ length items
+    → item ≡ get_or items 0 item → false ≡ (length (take (length items - 1) (drop 1 items)) == 0)
     → are_last_names (map item_view items)
     ≡ (item_is is_name (item_view item) && are_last_names (map item_view (take (length items - 1) (drop 1 items))))
 names_more items item some is more =
@@ -55,7 +56,8 @@ loop_items_end (x ∷ []) a b =
 loop_items_end (x ∷ y ∷ []) a b =
     ap (loop_item x) (loop_items_end (y ∷ []) a b) ∙ end_onward x (y ∷ []) a b (parameter_in a b)
 loop_items_end (x ∷ y ∷ z ∷ items) a b =
-    ap (loop_item x) (loop_items_end (y ∷ z ∷ items) a b) ∙ end_onward x (y ∷ z ∷ items) a b (parameter_in a b)
+    ap (loop_item x) (loop_items_end (y ∷ z ∷ items) a b)
+    ∙ end_onward x (y ∷ z ∷ items) a b (parameter_in a b)
 
 pub last_two_view : (items : List declared.Item) (a b : declared.Item) → 2 ≤ length items
     → a ≡ get_or items (length items - 2) a → b ≡ get_or items (length items - 1) b

@@ -45,7 +45,8 @@ too_deep h x false e = rw e refl
 
 -- the limit doesn't matter where a group is no helper
 no_helper : (h : ℕ) (read : Result Expression TagError)
-    → beside {A = Helper} (error_in (limited h read)) (Err UnknownHelper) ≡ beside (error_in read) (Err UnknownHelper)
+    → beside {A = Helper} (error_in (limited h read)) (Err UnknownHelper)
+    ≡ beside (error_in read) (Err UnknownHelper)
 no_helper h (Ok x) = too_deep h x (nat_lt CALL_LIMIT h) refl
 no_helper h (Err e) = refl
 
@@ -86,7 +87,8 @@ limited_capped h (Ok x) = elim (cases_Bool (nat_lt CALL_LIMIT h)) [
 ]
 limited_capped h (Err e) = refl
 
-group_is : (levels : List Level) (ts : Terms) → grouped_pieces levels (pieces_of levels ts) ≡ piece_of levels (group ts)
+group_is : (levels : List Level) (ts : Terms)
+    → grouped_pieces levels (pieces_of levels ts) ≡ piece_of levels (group ts)
 group_is levels ts =
     let tall : suc (min (greatest (pieces_of levels ts)) CALL_LIMIT) ≡ capped (suc (greatest_height ts)) =
     omega (arith, greatest_is levels ts) in
@@ -124,7 +126,8 @@ pieces_before-append levels (x ∷ xs) item nest = ap (piece_before levels x) (p
 
 -- ---- what tags take
 
-none_is : (levels : List Level) (later : List Terms) → has_none (map (pieces_of levels) later) ≡ terms.has_none later
+none_is : (levels : List Level) (later : List Terms)
+    → has_none (map (pieces_of levels) later) ≡ terms.has_none later
 none_is levels [] = refl
 none_is levels (ts ∷ later) = refl
 

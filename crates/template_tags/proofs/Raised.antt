@@ -12,7 +12,8 @@ use Rattle.template_tags.specs.declared.level.Level.{Level}
 use Rattle.template_tags.specs.declared.tag.Opening.{Opening}
 use Rattle.template_tags.proofs.TagSounds.{tag_sound}
 
-raised_datum : (n limit loops : ℕ) (d : Datum) → n ≤ limit → IsSoundDatum n loops d → IsSoundDatum limit loops d
+raised_datum : (n limit loops : ℕ) (d : Datum) → n ≤ limit → IsSoundDatum n loops d
+    → IsSoundDatum limit loops d
 raised_datum n limit loops Nothing le h = tt
 raised_datum n limit loops (Root path) le h = tt
 raised_datum n limit loops (Item up steps) le h = h
@@ -34,7 +35,8 @@ raised_expression n limit loops (call_two helper e f) le h =
     (h.0, raised_expression n limit loops e le h.1, raised_expression n limit loops f le h.2)
 
 raised_tag :
-    (n limit : ℕ) (levels : List Level) (tag : Tag) → n ≤ limit → IsSoundTag n levels tag → IsSoundTag limit levels tag
+    (n limit : ℕ) (levels : List Level) (tag : Tag) → n ≤ limit → IsSoundTag n levels tag
+    → IsSoundTag limit levels tag
 raised_tag n limit levels (print e) le h = (raised_expression n limit (loops_open levels) e le h.0, h.1)
 raised_tag n limit levels (open_if unless test) le h =
     ((raised_expression n limit (loops_open levels) test le h.0.0, h.0.1), h.1)

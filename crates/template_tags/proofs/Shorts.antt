@@ -1,6 +1,6 @@
 -- No word of a tag is longer than the tag's content.
-use Rattle.std.proofs.Common.{ℕ, suc, ◌≤◌, ◌==◌, ◌&&◌, Bool, true, false, List, [], ◌∷◌, length, Option, Some, None}
-use Rattle.std.proofs.Common.{arith}
+use Rattle.std.proofs.Common.{ℕ, suc, ◌≤◌, ◌==◌, ◌&&◌, Bool, true, false, List, [], ◌∷◌, length}
+use Rattle.std.proofs.Common.{Option, Some, None, arith}
 use Rattle.std.proofs.lemmas.Bool.{cond_both}
 use Rattle.template_words.specs.Modes.{mode_after, is_outside}
 use Rattle.template_words.specs.Words.{is_break}

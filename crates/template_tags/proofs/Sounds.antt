@@ -59,8 +59,8 @@ beside_none P e true (Ok x) h = tt
 beside_none P e true (Err d) h = tt
 beside_none P e false read h = h refl
 
-pub bind_ok : {A B : Type 0} (P : A → Type 0) (Q : B → Type 0) (read : Result A TagError) (f : A → Result B TagError)
-    → IfOk read P → ((x : A) → P x → IfOk (f x) Q) → IfOk (read >>= f) Q
+pub bind_ok : {A B : Type 0} (P : A → Type 0) (Q : B → Type 0) (read : Result A TagError)
+    (f : A → Result B TagError) → IfOk read P → ((x : A) → P x → IfOk (f x) Q) → IfOk (read >>= f) Q
 bind_ok P Q (Ok x) f h later = later x h
 bind_ok P Q (Err e) f h later = tt
 
@@ -100,7 +100,8 @@ path_fits limit (Err e) = tt
 other_fits : (limit : ℕ) (text : List ℕ) → FitWord limit (other_word text)
 other_fits limit text =
     cond_both (is_foreign_helper text) foreign_word _ (FitWord limit) (λ t. tt)
-    (λ f. cond_both (begins (codes "@") text) (wrong_word UnsupportedTag) (path_read (reference_of text)) (FitWord limit)
+    (λ f. cond_both (begins (codes "@") text) (wrong_word UnsupportedTag)
+    (path_read (reference_of text)) (FitWord limit)
     (λ t. tt) (λ g. path_fits limit (reference_of text)))
 
 literal_fits : (limit : ℕ) (text : List ℕ) → length text ≤ limit → IfSome (literal_of text) (FitWord limit)
@@ -117,7 +118,8 @@ known_fits : (limit : ℕ) (text : List ℕ) → length text ≤ limit → IfSom
 known_fits limit text short =
     or_some (FitWord limit) _ _ (literal_fits limit text short)
     (or_some (FitWord limit) _ _
-    (map_some (λ w. Unit {0}) (FitWord limit) loop_word (loop_word_of text) (any_some (loop_word_of text)) (λ w h. tt))
+    (map_some (λ w. Unit {0}) (FitWord limit) loop_word (loop_word_of text)
+    (any_some (loop_word_of text)) (λ w h. tt))
     (map_some (λ h. Unit {0}) (FitWord limit) helper_word (helper_named text) (any_some (helper_named text))
     (λ h k. tt)))
 
@@ -140,7 +142,8 @@ loop_at_below true true outer n h = omega arith
 loop_at_below true false None n h = tt
 loop_at_below true false (Some up) n h = omega (arith, h)
 
-named_below : (name : List ℕ) (levels : List Level) → IfSome (loop_named name levels) (λ up. up < loops_open levels)
+named_below : (name : List ℕ) (levels : List Level)
+    → IfSome (loop_named name levels) (λ up. up < loops_open levels)
 named_below name [] = tt
 named_below name (level ∷ levels) =
     loop_at_below (is_loop level) (is_parameter name level.parameter) (loop_named name levels) (loops_open levels)
@@ -288,7 +291,8 @@ module _ (limit : ℕ) (levels : List Level) where
   limited_sound n h (Err e) s = tt
 
   -- a group that isn't too high
-  capped_sound : (h : ℕ) (read : Result Expression TagError) → SoundRead h read → SoundRead CALL_LIMIT (limited h read)
+  capped_sound : (h : ℕ) (read : Result Expression TagError) → SoundRead h read
+      → SoundRead CALL_LIMIT (limited h read)
   capped_sound h (Ok x) s =
       cond_both (nat_lt CALL_LIMIT h) (Err TooDeep) (Ok x) (SoundRead CALL_LIMIT) (λ t. tt)
       (λ f. (s.0, omega (arith, s.1, ltb-false CALL_LIMIT h f)))
@@ -302,7 +306,8 @@ module _ (limit : ℕ) (levels : List Level) where
     term_sound (group ts) short =
         limited_sound (suc (greatest_height ts)) (suc (greatest_height ts)) (call_read levels ts) (group_sound ts short)
 
-    terms_sound : (ts : Terms) (n : ℕ) → greatest_height ts ≤ n → ShortTerms limit ts → SoundReads n (arguments levels ts)
+    terms_sound : (ts : Terms) (n : ℕ) → greatest_height ts ≤ n → ShortTerms limit ts
+        → SoundReads n (arguments levels ts)
     terms_sound no_terms n le short = tt
     terms_sound (first_term t ts) n le short = (
       higher (height t) n (argument levels t) (omega (arith, le)) (term_sound t short.0),
@@ -316,7 +321,8 @@ module _ (limit : ℕ) (levels : List Level) where
         call_sound n (helper_read levels t) (arguments levels ts) (terms_sound ts n (omega arith) short.1)
 
   pub argument_sound : (t : Term) → ShortTerm limit t → SoundRead CALL_LIMIT (argument levels t)
-  argument_sound (single text) short = higher 0 CALL_LIMIT (argument_word levels text) (omega arith) (word_sound text short)
+  argument_sound (single text) short =
+      higher 0 CALL_LIMIT (argument_word levels text) (omega arith) (word_sound text short)
   argument_sound (group ts) short = capped_sound (suc (greatest_height ts)) (call_read levels ts) (group_sound ts short)
 
   pub arguments_sound : (ts : Terms) → ShortTerms limit ts → SoundReads CALL_LIMIT (arguments levels ts)

@@ -49,15 +49,18 @@ module _ (limit : ℕ) (levels : List Level) where
       higher limit levels 0 (suc CALL_LIMIT) (lone_value levels text (word_of text)) (omega arith)
       (lone_sound limit levels text (word_of text) (word_fits limit text short.0))
   print_value balanced (first_term (group ts) no_terms) short =
-      cond_both balanced (Err UnsupportedTag) (argument levels (group ts)) (SoundRead limit levels (suc CALL_LIMIT)) (λ t. tt)
+      cond_both balanced (Err UnsupportedTag) (argument levels (group ts))
+      (SoundRead limit levels (suc CALL_LIMIT)) (λ t. tt)
       (λ f. higher limit levels CALL_LIMIT (suc CALL_LIMIT) (argument levels (group ts)) (omega arith)
       (argument_sound limit levels (group ts) short.0))
-  print_value balanced (first_term t (first_term u ts)) short = own_call_sound limit levels (first_term t (first_term u ts)) short
+  print_value balanced (first_term t (first_term u ts)) short =
+      own_call_sound limit levels (first_term t (first_term u ts)) short
 
   print_sound : (nest : Nest) → ShortNest limit nest → Said (print_said levels nest)
   print_sound nest short =
       bind_ok (Sound limit levels (suc CALL_LIMIT)) (IsSoundTag limit levels) _ _
-      (beside_ok (Sound limit levels (suc CALL_LIMIT)) (nest_error levels nest) (value_said levels (is_balanced nest) nest.terms)
+      (beside_ok (Sound limit levels (suc CALL_LIMIT)) (nest_error levels nest)
+      (value_said levels (is_balanced nest) nest.terms)
       (print_value (is_balanced nest) nest.terms short))
       (λ x h. h)
 
@@ -68,7 +71,8 @@ module _ (limit : ℕ) (levels : List Level) where
   only_sound (a ∷ b ∷ more) s =
       beside_ok (Sound limit levels CALL_LIMIT) (errors_in (a ∷ b ∷ more)) (Err WrongArguments) tt
 
-  block_sound : (nest : Nest) → ShortNest limit nest → SoundRead limit levels CALL_LIMIT (block_argument levels nest)
+  block_sound : (nest : Nest) → ShortNest limit nest
+      → SoundRead limit levels CALL_LIMIT (block_argument levels nest)
   block_sound nest short =
       beside_ok (Sound limit levels CALL_LIMIT) (nest_error levels nest) (only_one (arguments levels nest.terms))
       (only_sound (arguments levels nest.terms) (arguments_sound limit levels nest.terms short))
@@ -118,7 +122,8 @@ module _ (limit : ℕ) (levels : List Level) where
       neither true b e = absurd (true≢false e)
       neither false b e = (refl, e)
 
-  opening_sound : (name : List ℕ) (items : List Item) → ShortItems limit items → Said (opening_said levels name items)
+  opening_sound : (name : List ℕ) (items : List Item) → ShortItems limit items
+      → Said (opening_said levels name items)
   opening_sound name items short =
       cond_both (bytes_eq name (codes "if")) (test_said levels false items) _ Said (λ t. test_sound false items short)
       (λ f. cond_both (bytes_eq name (codes "unless")) (test_said levels true items) _ Said
@@ -132,7 +137,8 @@ first_else_sound limit (level ∷ levels) =
     cond_both level.in_else (Err UnexpectedClose) _ (λ said. IfOk said (IsSoundTag limit (level ∷ levels)))
     (λ t. tt) (λ f. f)
 
-else_sound : (limit : ℕ) (levels : List Level) (items : List Item) → IfOk (else_said levels items) (IsSoundTag limit levels)
+else_sound : (limit : ℕ) (levels : List Level) (items : List Item)
+    → IfOk (else_said levels items) (IsSoundTag limit levels)
 else_sound limit levels [] = first_else_sound limit levels
 else_sound limit levels (item ∷ items) = tt
 
@@ -174,9 +180,11 @@ items_sound limit opening levels (word text ∷ items) short =
     cond_both (is_marked text) (Err UnsupportedTag) (word_said opening levels text items) (Said limit levels)
     (λ t. tt) (λ f. word_tag_sound limit opening levels text items short)
 items_sound limit opening levels (left_parenthesis ∷ items) short =
-    print_sound limit levels (nest_of (left_parenthesis ∷ items)) (short_nest limit (left_parenthesis ∷ items) short)
+    print_sound limit levels (nest_of (left_parenthesis ∷ items))
+    (short_nest limit (left_parenthesis ∷ items) short)
 items_sound limit opening levels (right_parenthesis ∷ items) short =
-    print_sound limit levels (nest_of (right_parenthesis ∷ items)) (short_nest limit (right_parenthesis ∷ items) short)
+    print_sound limit levels (nest_of (right_parenthesis ∷ items))
+    (short_nest limit (right_parenthesis ∷ items) short)
 
 said_sound : (opening : Opening) (content : List ℕ) (levels : List Level)
     → IfOk (tag_said opening content levels) (IsSoundTag (length content) levels)

@@ -1,6 +1,6 @@
 -- What the tags of blocks say (Handlebars' `if`, `unless` and `each`, their else and their closes).
-use Rattle.std.specs.Prelude.{ℕ, nat_le, Bool, true, false, ◌&&◌, ◌||◌, not, List, [], ◌∷◌, length, Option, Some, None}
-use Rattle.std.specs.Prelude.{is_some, Result, Ok, Err, if◌then◌else◌, codes}
+use Rattle.std.specs.Prelude.{ℕ, nat_le, Bool, true, false, ◌&&◌, ◌||◌, not, List, [], ◌∷◌, length}
+use Rattle.std.specs.Prelude.{Option, Some, None, is_some, Result, Ok, Err, if◌then◌else◌, codes}
 use Rattle.std.specs.Str.{bytes_eq}
 use Rattle.template_words.specs.Errors.{joined, earlier}
 use Rattle.template_words.specs.Names.{name_in_bars, is_name_after_bar, name_before_bar}

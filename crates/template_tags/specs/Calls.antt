@@ -1,7 +1,7 @@
 -- The values that the arguments and the calls of a tag name (Handlebars' helpers and subexpressions), or, of the errors
 -- that they have, the one that is reported.
-use Rattle.std.specs.Prelude.{ℕ, suc, nat_lt, Bool, true, false, ◌&&◌, List, [], ◌∷◌, Option, Some, None, Result, Ok}
-use Rattle.std.specs.Prelude.{Err, is_some, if◌then◌else◌, codes}
+use Rattle.std.specs.Prelude.{ℕ, suc, nat_lt, Bool, true, false, ◌&&◌, List, [], ◌∷◌, Option, Some, None}
+use Rattle.std.specs.Prelude.{Result, Ok, Err, is_some, if◌then◌else◌, codes}
 use Rattle.data_tree.specs.declared.step.Step.{Step}
 use Rattle.helper_set.specs.Helpers.{signature_of}
 use Rattle.helper_set.specs.declared.helper.Helper.{Helper}
@@ -45,7 +45,8 @@ one_value h [] = Err WrongArguments
 one_value h (a ∷ []) = a >>= λ x. Ok (call h x)
 one_value h (a ∷ b ∷ more) = Err WrongArguments
 
-abbrev pub pair_call : Helper → Result Expression TagError → Result Expression TagError → Result Expression TagError
+abbrev pub pair_call : Helper → Result Expression TagError → Result Expression TagError
+    → Result Expression TagError
 pair_call h a b = a >>= λ x. b >>= λ y. Ok (call_two h x y)
 
 abbrev pub two_values : Helper → List (Result Expression TagError) → Result Expression TagError
@@ -55,7 +56,8 @@ two_values h (a ∷ b ∷ []) = pair_call h a b
 two_values h (a ∷ b ∷ c ∷ more) = Err WrongArguments
 
 -- a helper's call on as many values as it takes
-abbrev pub helper_call : Option Parameter → Helper → List (Result Expression TagError) → Result Expression TagError
+abbrev pub helper_call : Option Parameter → Helper → List (Result Expression TagError)
+    → Result Expression TagError
 helper_call None h arguments = one_value h arguments
 helper_call (Some second) h arguments = two_values h arguments
 

@@ -1,6 +1,6 @@
 -- The blocks that are open where a tag is, the innermost first.
-use Rattle.std.specs.Prelude.{ℕ, suc, Bool, true, false, ◌&&◌, not, List, [], ◌∷◌, Option, Some, None, option_map}
-use Rattle.std.specs.Prelude.{codes}
+use Rattle.std.specs.Prelude.{ℕ, suc, Bool, true, false, ◌&&◌, not, List, [], ◌∷◌, Option, Some, None}
+use Rattle.std.specs.Prelude.{option_map, codes}
 use Rattle.std.specs.Str.{bytes_eq}
 use Rattle.template_tags.specs.declared.level.Block.{Block}
 use Rattle.template_tags.specs.declared.level.Block.TheVariants.{If, Unless, Each}
@@ -43,4 +43,5 @@ loop_at true false outer = option_map suc outer
 -- the innermost loop whose items have that name, by the number of loops inside of it
 abbrev pub loop_named : List ℕ → List Level → Option ℕ
 loop_named name [] = None
-loop_named name (level ∷ levels) = loop_at (is_loop level) (is_parameter name level.parameter) (loop_named name levels)
+loop_named name (level ∷ levels) =
+    loop_at (is_loop level) (is_parameter name level.parameter) (loop_named name levels)

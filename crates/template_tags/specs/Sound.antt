@@ -1,6 +1,6 @@
 -- What is always so of what a tag says, where no text in the tag is longer than a limit.
-use Rattle.std.specs.Prelude.{◌≡◌, ℕ, suc, max, ◌<◌, ◌≤◌, not, ◌&&◌, Bool, false, is_some, IsTrue, FitsSigned, List}
-use Rattle.std.specs.Prelude.{[], ◌∷◌, length}
+use Rattle.std.specs.Prelude.{◌≡◌, ℕ, suc, max, ◌<◌, ◌≤◌, not, ◌&&◌, Bool, false, is_some, IsTrue}
+use Rattle.std.specs.Prelude.{FitsSigned, List, [], ◌∷◌, length}
 use Rattle.std.specs.Int.{w64}
 use Rattle.helper_set.specs.Helpers.{signature_of, is_looked_up}
 use Rattle.helper_set.specs.declared.helper.Helper.{Helper}

@@ -1,6 +1,6 @@
 -- What a word of a tag is, and the value that it names.
-use Rattle.std.specs.Prelude.{ℕ, zero, suc, ℤ, nat_lt, Bool, List, [], ◌∷◌, Option, Some, None, option_map, Result}
-use Rattle.std.specs.Prelude.{Ok, Err}
+use Rattle.std.specs.Prelude.{ℕ, zero, suc, ℤ, nat_lt, Bool, List, [], ◌∷◌, Option, Some, None, option_map}
+use Rattle.std.specs.Prelude.{Result, Ok, Err}
 use Rattle.std.specs.Prelude.{if◌then◌else◌, codes}
 use Rattle.std.specs.Option.{option_or, unwrap_or}
 use Rattle.std.specs.Str.{bytes_eq}
@@ -42,7 +42,8 @@ pub data Word : Type 0 where
 
 abbrev pub helpers : List Helper
 helpers =
-    Upper ∷ Lower ∷ Trim ∷ Size ∷ Eq ∷ Neq ∷ Contains ∷ Not ∷ Base64 ∷ UrlEncode ∷ DefaultIfEmpty ∷ JsonPath ∷ []
+    Upper ∷ Lower ∷ Trim ∷ Size ∷ Eq ∷ Neq ∷ Contains ∷ Not ∷ Base64 ∷ UrlEncode ∷ DefaultIfEmpty
+    ∷ JsonPath ∷ []
 
 abbrev pub helper_among : List Helper → List ℕ → Option Helper
 helper_among [] text = None

@@ -143,7 +143,8 @@ fn unused_error(
     pieces: Vec<Piece<'_>>,
 ) -> Result<Option<TagError>, AllocError>
     requires { length levels.now < 2 ^ 32 }
-    ensures { IfOk result (λ e. e ≡ errors_in (piece_arguments (reverse levels.now) (pieces_view pieces.entry.items))) }
+    ensures { IfOk result (λ e.
+        e ≡ errors_in (piece_arguments (reverse levels.now) (pieces_view pieces.entry.items))) }
 {
     Ok(errors_in(arguments(alloc, levels, pieces)?.as_slice()))
 }

@@ -1,5 +1,6 @@
 // Laws over the definitions of tags, each on a function that does nothing.
-ghost use Rattle.std.specs.Prelude.{◌≡◌, ◌≤◌, ◌↔◌, ℕ, true, false, List, [], ◌∷◌, ◌++◌, Ok, length};
+ghost use Rattle.std.specs.Prelude.{◌≡◌, ◌≤◌, ◌↔◌, ℕ, true, false, List, [], ◌∷◌, ◌++◌};
+ghost use Rattle.std.specs.Prelude.{Ok, length};
 ghost use Rattle.template_tags.specs.Examples.{ArePrints, AreBlocks, AreErrors};
 ghost use Rattle.template_tags.specs.Items.{Item, break_before, word_before, items_after};
 ghost use Rattle.template_tags.specs.Said.{tag_said};
@@ -12,7 +13,8 @@ ghost use Rattle.template_words.specs.Modes.{mode_after_bytes, mode_of_byte, is_
 ghost use Rattle.template_words.specs.Words.{is_break, has_break};
 ghost use Rattle.template_words.specs.declared.mode.Mode.{Mode};
 
-/// The words of a tag are what is between breaks: white space and parentheses that are outside of literals and brackets.
+/// The words of a tag are what is between breaks: white space and parentheses that are outside of
+/// literals and brackets.
 pub fn law_words_are_between_breaks()
     ensures between { (mode : Mode) (text rest : List ℕ) (b : ℕ) → has_break mode text ≡ false →
         is_outside (mode_after_bytes mode text) ≡ true → is_break b ≡ true →

@@ -249,7 +249,8 @@ pub fn lone_value(
 ) -> Result<Result<Expression, TagError>, AllocError>
     requires { length levels.now < 2 ^ 32 }
     ensures { IfOk result
-        (λ read. read_view read ≡ lone_value (reverse levels.now) word.entry.text.now (word_of word.entry.text.now)) }
+        (λ read. read_view read
+        ≡ lone_value (reverse levels.now) word.entry.text.now (word_of word.entry.text.now)) }
 {
     match word_of(alloc, word)? {
         Word::Text(_) | Word::Number(_) | Word::Truth(_) => Ok(Err(TagError::UnsupportedTag)),

@@ -19,8 +19,8 @@ record Formed : Type 0 where
 abbrev formed_with : Nodes → Later → Formed
 formed_with here later = record { here = here; later = later }
 
--- a block begins here: its parts end at the first else, if there is one, and at the close; a block that has no close, or
--- more elses, may be any node
+-- a block begins here: its parts end at the first else, if there is one, and at the close; a block that has no close,
+-- or more elses, may be any node
 abbrev if_formed : Bool → Expression → Nodes → Later → Formed
 if_formed unless test here at_end = formed_with here at_end
 if_formed unless test here (after_close outer later) = formed_with (first_node (if_then unless test here) outer) later

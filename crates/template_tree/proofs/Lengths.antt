@@ -32,7 +32,8 @@ around_short close body None some h = tt
 around_short close body (Some n) some h =
     (omega (arith, length-take n body), omega (arith, length-drop (n + length close) body, h.0))
 
-within_comment : (n k : ℕ) (o : Option (List ℕ × List ℕ)) → n ≤ k → Within n o → TagWithin k (comment_tag o)
+within_comment : (n k : ℕ) (o : Option (List ℕ × List ℕ)) → n ≤ k → Within n o
+    → TagWithin k (comment_tag o)
 unfolding Within
 within_comment n k None le h = tt
 within_comment n k (Some x) le h = (omega arith, omega (arith, h.1))
@@ -73,6 +74,7 @@ tag_short s =
     (close_at (codes "}}") Start body_2))))
 
 pub shown_within : (s : List ℕ) (opening : Opening) (content rest : List ℕ)
-    → ◌≡◌ {A = Option (Tag × List ℕ)} (Some (shown opening content, rest)) (tag_of s) → length content ≤ length s
+    → ◌≡◌ {A = Option (Tag × List ℕ)} (Some (shown opening content, rest)) (tag_of s)
+    → length content ≤ length s
 shown_within s opening content rest e =
     let P : Option (Tag × List ℕ) → Type 0 = TagWithin (length s) in (subst P (sym e) (tag_short s)).0

@@ -1,6 +1,6 @@
 -- What a token makes of the blocks that are open: their levels, their parts, and that each level is that of a frame.
-use Rattle.std.proofs.Common.{◌≡◌, ℕ, suc, ◌≤◌, Bool, true, false, true≢false, List, [], ◌∷◌, ◌++◌, length, drop}
-use Rattle.std.proofs.Common.{Option, Some, None, refl, ap, ◌∙◌, arith}
+use Rattle.std.proofs.Common.{◌≡◌, ℕ, suc, ◌≤◌, Bool, true, false, true≢false, List, [], ◌∷◌}
+use Rattle.std.proofs.Common.{◌++◌, length, drop, Option, Some, None, refl, ap, ◌∙◌, arith}
 use Rattle.std.specs.Prelude.{is_some}
 use Rattle.template_tags.specs.declared.level.Level.{Level}
 use Rattle.template_tags.specs.Levels.{is_each}
@@ -33,7 +33,8 @@ levels_with escape left (tag_token opening said.begin_else) nest = refl
 levels_with escape left (tag_token opening said.close) nest = refl
 
 -- a token opens one block at most, which begins at the token
-pub few_after : (left : ℕ) (t : Token) (levels : List Level) → length (token_levels left t levels) ≤ suc (length levels)
+pub few_after : (left : ℕ) (t : Token) (levels : List Level)
+    → length (token_levels left t levels) ≤ suc (length levels)
 few_after left (text_token bytes) levels = omega arith
 few_after left comment_token levels = omega arith
 few_after left (tag_token opening (said.print e)) levels = omega arith
@@ -119,7 +120,8 @@ parts_after escape left (tag_token opening said.begin_else) nest parts allowed h
     by nest.levels nest.frames allowed h
   where
     by : (levels : List Level) (frames : List Frame) → Allows levels said.begin_else → Fit levels frames
-        → parts_in (frames_with_else frames nest.here) no_nodes parts ≡ parts_in frames nest.here (begins_else ∷ parts)
+        → parts_in (frames_with_else frames nest.here) no_nodes parts
+        ≡ parts_in frames nest.here (begins_else ∷ parts)
     by [] frames free h = absurd free
     by (level ∷ levels) [] free h = absurd h
     by (level ∷ levels) (f ∷ fs) free h = with_main f.main h.0
@@ -132,7 +134,8 @@ parts_after escape left (tag_token opening said.begin_else) nest parts allowed h
 parts_after escape left (tag_token opening said.close) nest parts allowed h = by nest.levels nest.frames allowed h
   where
     by : (levels : List Level) (frames : List Frame) → Allows levels said.close → Fit levels frames
-        → parts_in (drop 1 frames) (closed_here frames nest.here) parts ≡ parts_in frames nest.here (closes ∷ parts)
+        → parts_in (drop 1 frames) (closed_here frames nest.here) parts
+        ≡ parts_in frames nest.here (closes ∷ parts)
     by [] frames free h = absurd free
     by (level ∷ levels) [] free h = absurd h
     by (level ∷ levels) (f ∷ fs) free h =

@@ -1,5 +1,6 @@
 -- A short text spells a tree, or has an error.
-use Rattle.std.proofs.Common.{◌≡◌, ℕ, zero, suc, ◌+◌, ◌-◌, ◌≤◌, ◌⊎◌, inl, inr, List, [], ◌∷◌, length, refl, subst, arith}
+use Rattle.std.proofs.Common.{◌≡◌, ℕ, zero, suc, ◌+◌, ◌-◌, ◌≤◌, ◌⊎◌, inl, inr, List, []}
+use Rattle.std.proofs.Common.{◌∷◌, length, refl, subst, arith}
 use Rattle.template_tree.specs.declared.error.TemplateError.{TemplateError}
 use Rattle.template_words.specs.declared.error.TagError.{TagError}
 use Rattle.template_words.specs.declared.error.TagError.TheVariants.{UnclosedTag}
@@ -20,8 +21,8 @@ data Outcome (source : Source) : Type 0 where
   stopped : (nest : Nest) (rest mark : List ℕ) (f : TagError) → Read source nest rest
       → next_of nest.levels rest ≡ tag_error f mark → Outcome source
 
-outcome : (source : Source) (n : ℕ) (nest : Nest) (rest : List ℕ) → length source.text ≤ TEXT_LIMIT → length rest ≤ n
-    → Read source nest rest → Outcome source
+outcome : (source : Source) (n : ℕ) (nest : Nest) (rest : List ℕ) → length source.text ≤ TEXT_LIMIT
+    → length rest ≤ n → Read source nest rest → Outcome source
 outcome source zero nest [] short le r = reached nest r
 outcome source zero nest (b ∷ bs) short le r = absurd (omega arith)
 outcome source (suc n) nest rest short le r =

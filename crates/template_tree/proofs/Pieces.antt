@@ -1,7 +1,7 @@
 -- A piece of text goes up to the next mark, or to the end.
-use Rattle.std.proofs.Common.{◌≡◌, ℕ, zero, suc, ◌<◌, ◌≤◌, ◌==◌, inl, inr, List, [], ◌∷◌, ◌++◌, length, take, drop}
-use Rattle.std.proofs.Common.{codes, Option, Some, None, IfSome, Result, Ok, Err, refl, sym, ap, subst, ◌∙◌, arith}
-use Rattle.std.proofs.Common.{append_assoc, length-append, length-drop}
+use Rattle.std.proofs.Common.{◌≡◌, ℕ, zero, suc, ◌<◌, ◌≤◌, ◌==◌, inl, inr, List, [], ◌∷◌}
+use Rattle.std.proofs.Common.{◌++◌, length, take, drop, codes, Option, Some, None, IfSome, Result, Ok, Err, refl}
+use Rattle.std.proofs.Common.{sym, ap, subst, ◌∙◌, arith, append_assoc, length-append, length-drop}
 use Rattle.std.specs.List.{ends_with}
 use Rattle.std.proofs.lemmas.Bool.{cond_both, both_ways}
 use Rattle.std.proofs.lemmas.List.{append-nil, take-append-drop, drop-append-le, length-take-le}
@@ -47,10 +47,12 @@ no_tag levels text p more None e = cc
 no_tag levels text p more (Some x) e = no_closed levels text p x.1 more x.0 e
 
 -- before the first mark there is none
-before_first : (mark text : List ℕ) (n : ℕ) → 0 < length mark → Marks mark text n → offset_of mark (take n text) ≡ None
+before_first : (mark text : List ℕ) (n : ℕ) → 0 < length mark → Marks mark text n
+    → offset_of mark (take n text) ≡ None
 before_first mark text n some m = offset_none mark (take n text) some none
   where
-    none : (i : ℕ) → i ≤ length (take n text) → (rest : List ℕ) → drop i (take n text) ≡ mark ++ rest → ⊥
+    none : (i : ℕ) → i ≤ length (take n text) → (rest : List ℕ)
+        → drop i (take n text) ≡ mark ++ rest → ⊥
     none i le rest e =
         let long : length (take n text) ≡ n = length-take-le n text (omega (arith, m.inside)) in
         let whole : drop i text ≡ drop i (take n text ++ drop n text) = ap (drop i) (sym (take-append-drop n text)) in
@@ -74,7 +76,8 @@ last_piece (b ∷ bs) p rest none e =
     (record { split = sym (append-nil (b ∷ bs)); some = omega arith; unmarked = none; until = inl refl })
 
 piece_at : (levels : List Level) (text p rest : List ℕ) (o : Option ℕ) → offset_of (codes "{{") text ≡ o
-    → IfSome o (Marks (codes "{{") text) → next_at levels text o ≡ token (text_token p) rest → IsPiece text p rest
+    → IfSome o (Marks (codes "{{") text) → next_at levels text o ≡ token (text_token p) rest
+    → IsPiece text p rest
 piece_at levels text p rest None o h e = last_piece text p rest o e
 piece_at levels text p rest (Some zero) o h e = absurd (no_tag levels text p rest (tag_of text) e)
 piece_at levels text p rest (Some (suc n)) o h e =

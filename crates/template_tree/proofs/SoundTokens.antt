@@ -1,6 +1,6 @@
 -- What a token says is sound where the blocks are open that it is read in.
-use Rattle.std.proofs.Common.{◌≡◌, ℕ, zero, suc, ◌≤◌, ◌==◌, List, [], ◌∷◌, length, take, drop, codes}
-use Rattle.std.proofs.Common.{Option, Some, None, Result, Ok, Err, refl, subst, arith}
+use Rattle.std.proofs.Common.{◌≡◌, ℕ, zero, suc, ◌≤◌, ◌==◌, List, [], ◌∷◌, length, take, drop}
+use Rattle.std.proofs.Common.{codes, Option, Some, None, Result, Ok, Err, refl, subst, arith}
 use Rattle.std.specs.List.{ends_with}
 use Rattle.std.proofs.lemmas.Bool.{cond_both}
 use Rattle.std.proofs.lemmas.List.{length-take}
@@ -30,7 +30,8 @@ SoundNext levels (token t more) = SoundToken levels t
 SoundNext levels (tag_error f mark) = Unit {0}
 SoundNext levels ended = Unit {0}
 
-said-sound : (levels : List Level) (text : List ℕ) (opening : Opening) (r : Result said.Tag TagError) (rest : List ℕ)
+said-sound : (levels : List Level) (text : List ℕ) (opening : Opening)
+    (r : Result said.Tag TagError) (rest : List ℕ)
     → ((tag : said.Tag) → r ≡ Ok tag → IsSoundTag TEXT_LIMIT levels tag)
     → SoundNext levels (said_next text opening r rest)
 said-sound levels text opening (Ok tag) rest h = h tag refl
@@ -51,7 +52,8 @@ within : (n m : ℕ) (o : Option (Tag × List ℕ)) → n ≤ m → TagWithin n 
 within n m None le h = tt
 within n m (Some x) le h = (omega (arith, h.0), omega (arith, h.1))
 
-last-sound : (levels : List Level) (text : List ℕ) → length text ≤ TEXT_LIMIT → SoundNext levels (last_text_next text)
+last-sound : (levels : List Level) (text : List ℕ) → length text ≤ TEXT_LIMIT
+    → SoundNext levels (last_text_next text)
 last-sound levels [] le = tt
 last-sound levels (b ∷ bs) le = le
 
@@ -66,7 +68,8 @@ at-sound levels text (Some (suc n)) le =
     cond_both (ends_with ◌==◌ front (codes "\\")) (tag_error (error_after_backslash (tag_of mark)) mark)
     (token (text_token front) mark) (SoundNext levels) (λ t. tt) (λ f. omega (arith, le, length-take (suc n) text))
 
-next-sound : (levels : List Level) (text : List ℕ) → length text ≤ TEXT_LIMIT → SoundNext levels (next_of levels text)
+next-sound : (levels : List Level) (text : List ℕ) → length text ≤ TEXT_LIMIT
+    → SoundNext levels (next_of levels text)
 unfolding next_of
 next-sound levels text le = at-sound levels text (offset_of (codes "{{") text) le
 

@@ -1,5 +1,6 @@
 -- The tree that a text spells is sound.
-use Rattle.std.proofs.Common.{◌≡◌, ℕ, suc, ◌≤◌, Bool, true, false, List, [], ◌∷◌, map, length, drop, None, refl, subst, arith}
+use Rattle.std.proofs.Common.{◌≡◌, ℕ, suc, ◌≤◌, Bool, true, false, List, [], ◌∷◌, map, length, drop}
+use Rattle.std.proofs.Common.{None, refl, subst, arith}
 use Rattle.template_tags.specs.declared.level.Block.TheVariants.{Each}
 use Rattle.template_tags.specs.declared.level.Level.{Level}
 use Rattle.template_tags.specs.declared.level.TheConstants.{LOOP_LIMIT}
@@ -8,7 +9,8 @@ use Rattle.template_tags.specs.Tags as said
 use Rattle.template_tree.specs.declared.escape.Escape.{Escape}
 use Rattle.template_tree.specs.declared.parser.TheConstants.{TEXT_LIMIT}
 use Rattle.template_tree.specs.Grammar.{test_block, opened, else_begun, token_levels, Leads, Spells}
-use Rattle.template_tree.specs.Parts.{Part, leaf, opens_if, opens_each, begins_else, closes, parts_of, spell_node, spell}
+use Rattle.template_tree.specs.Parts.{Part, leaf, opens_if, opens_each, begins_else, closes, parts_of, spell_node}
+use Rattle.template_tree.specs.Parts.{spell}
 use Rattle.template_tree.specs.Sound.{SoundDatum, SoundValue, SoundNode, SoundNodes}
 use Rattle.template_tree.specs.Source.{Source}
 use Rattle.template_tree.specs.Tokens.{Token, text_token, comment_token, tag_token}

@@ -1,6 +1,6 @@
 -- A text spells one tree at most, has one error at most, and never both.
-use Rattle.std.proofs.Common.{◌≡◌, ℕ, ◌<◌, ◌⊎◌, inl, inr, List, [], ◌∷◌, length, Result, Ok, Err, IfOk, IfErr}
-use Rattle.std.proofs.Common.{MatchResult, refl, sym, ap, subst, ◌∙◌, arith}
+use Rattle.std.proofs.Common.{◌≡◌, ℕ, ◌<◌, ◌⊎◌, inl, inr, List, [], ◌∷◌, length, Result, Ok}
+use Rattle.std.proofs.Common.{Err, IfOk, IfErr, MatchResult, refl, sym, ap, subst, ◌∙◌, arith}
 use Rattle.template_tree.specs.declared.error.ParseError.{ParseError}
 use Rattle.template_tree.specs.declared.error.ParseError.TheVariants as kinds
 use Rattle.template_tree.specs.declared.template.Template.{Template}
@@ -45,7 +45,8 @@ same_token : (n : Next) (t u : Token) (more rest : List ℕ) → n ≡ token t m
     → (t ≡ u) × (more ≡ rest)
 same_token n t u more rest p q = (cc, cc)
 
-same_error : (n : Next) (f g : TagError) (a b : List ℕ) → n ≡ tag_error f a → n ≡ tag_error g b → (f ≡ g) × (a ≡ b)
+same_error : (n : Next) (f g : TagError) (a b : List ℕ) → n ≡ tag_error f a → n ≡ tag_error g b
+    → (f ≡ g) × (a ≡ b)
 same_error n f g a b p q = (cc, cc)
 
 -- the place at which a row of tokens stops
@@ -107,8 +108,8 @@ pub never_both : (source : Source) (a : Nodes) (e : TemplateError) → Spells so
     → IsTemplateError source.text e → ⊥
 never_both source a e p q = never_both_at source a e.kind e.at p q
 
-same_read_error : (text : List ℕ) (f g : TagError) (at by : ℕ) → IsReadErrorAt text f at → IsReadErrorAt text g by
-    → (f ≡ g) × (at ≡ by)
+same_read_error : (text : List ℕ) (f g : TagError) (at by : ℕ) → IsReadErrorAt text f at
+    → IsReadErrorAt text g by → (f ≡ g) × (at ≡ by)
 same_read_error text f g at by p q =
     let r =
     same_row p.tokens q.tokens [] p.levels q.levels text p.rest q.rest p.leads q.leads
@@ -145,7 +146,8 @@ same_tag_error text f g at by (inl p) (inr q) = absurd (read_or_open text f at b
 same_tag_error text f g at by (inr p) (inl q) = absurd (read_or_open text g by at q p.1)
 same_tag_error text f g at by (inr p) (inr q) = (p.0 ∙ sym q.0, same_open text at by p.1 q.1)
 
-short_and_long : (text : List ℕ) (f : TagError) (at : ℕ) → IsTagErrorAt text f at → TEXT_LIMIT < length text → ⊥
+short_and_long : (text : List ℕ) (f : TagError) (at : ℕ) → IsTagErrorAt text f at
+    → TEXT_LIMIT < length text → ⊥
 short_and_long text f at (inl p) h = omega (arith, p.short, h)
 short_and_long text f at (inr p) h = omega (arith, p.1.short, h)
 
@@ -156,7 +158,8 @@ one_error_at text (Tag f) TooLong at by p q = absurd (short_and_long text f at p
 one_error_at text TooLong (Tag g) at by p q = absurd (short_and_long text g by q p.0)
 one_error_at text TooLong TooLong at by p q = (refl, p.1 ∙ sym q.1)
 
-pub one_error : (text : List ℕ) (d e : TemplateError) → IsTemplateError text d → IsTemplateError text e → d ≡ e
+pub one_error : (text : List ℕ) (d e : TemplateError) → IsTemplateError text d
+    → IsTemplateError text e → d ≡ e
 one_error text d e p q =
     let same = one_error_at text d.kind e.kind d.at e.at p q in
     let P : ℕ → TemplateError = λ at. record { kind = e.kind; at = at } in

@@ -1,5 +1,6 @@
 -- The examples, computed.
-use Rattle.std.proofs.Common.{◌≡◌, ℕ, zero, suc, ◌+◌, ◌≤◌, List, [], ◌∷◌, length, drop, None, inl, inr, codes, refl, ap, subst, arith}
+use Rattle.std.proofs.Common.{◌≡◌, ℕ, zero, suc, ◌+◌, ◌≤◌, List, [], ◌∷◌, length, drop, None}
+use Rattle.std.proofs.Common.{inl, inr, codes, refl, ap, subst, arith}
 use Rattle.template_words.specs.declared.error.TagError.{TagError}
 use Rattle.template_words.specs.declared.error.TagError.TheVariants as errors
 use Rattle.template_words.specs.Marks.{offset_of}
@@ -48,14 +49,16 @@ row_leads : (n : ℕ) (levels : List Level) (text : List ℕ) → IsRow levels t
 row_leads zero levels text = (refl, refl)
 row_leads (suc n) levels text = by (row n) (row_leads n) (next_of levels text) refl
   where
-    by : (later : List Level → List ℕ → Row) → ((ls : List Level) (more : List ℕ) → IsRow ls more (later ls more))
+    by : (later : List Level → List ℕ → Row)
+        → ((ls : List Level) (more : List ℕ) → IsRow ls more (later ls more))
         → (next : Next) → next_of levels text ≡ next → IsRow levels text (row_at later levels text next)
     by later h (token t more) e = (more, e, h (token_levels (length text) t levels) more)
     by later h (tag_error f mark) e = (refl, refl)
     by later h ended e = (refl, refl)
 
 spells : (n : ℕ) (escape : Escape) (text : List ℕ) (tree : Nodes) → length text ≤ TEXT_LIMIT
-    → (row n [] text).levels ≡ [] → (row n [] text).rest ≡ [] → parts_of escape (row n [] text).tokens [] ≡ spell tree []
+    → (row n [] text).levels ≡ [] → (row n [] text).rest ≡ []
+    → parts_of escape (row n [] text).tokens [] ≡ spell tree []
     → Spells (with_escape escape text) tree
 spells n escape text tree short e f same = record {
   short = short;

@@ -9,7 +9,8 @@ use Rattle.template_tree.specs.declared.node.Node as kinds
 use Rattle.template_tree.specs.declared.node.Node.{Node}
 use Rattle.template_tree.specs.Tree.{node_view, nodes_view, if_then, if_else, each, each_else}
 
-pub view_call : (h : Helper) (e : Box Expression Global) → expression_view (tags.Call h e) ≡ call h (expression_view e.value)
+pub view_call : (h : Helper) (e : Box Expression Global)
+    → expression_view (tags.Call h e) ≡ call h (expression_view e.value)
 view_call h e = search (rules, tags.the_lemmas)
 
 pub view_call_two :
@@ -34,5 +35,6 @@ view_each over body = search (rules, kinds.the_lemmas)
 
 pub view_each_else :
     (over : Datum) (body otherwise : Vec Node Global)
-    → node_view (kinds.EachElse over body otherwise) ≡ each_else over (nodes_view body.items) (nodes_view otherwise.items)
+    → node_view (kinds.EachElse over body otherwise)
+    ≡ each_else over (nodes_view body.items) (nodes_view otherwise.items)
 view_each_else over body otherwise = search (rules, kinds.the_lemmas)

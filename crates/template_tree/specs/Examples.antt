@@ -39,7 +39,8 @@ item_before up nodes = value_before (datum (Item up [])) nodes
 
 -- `request.url`, escaped so
 abbrev pub url_before : Escape → Nodes → Nodes
-url_before escape nodes = first_node (print escape (datum (Root (Name (codes "request") ∷ Name (codes "url") ∷ [])))) nodes
+url_before escape nodes =
+    first_node (print escape (datum (Root (Name (codes "request") ∷ Name (codes "url") ∷ [])))) nodes
 
 -- `request.query` and the step of that name
 abbrev pub query : List ℕ → Datum
@@ -56,10 +57,12 @@ pub record AreExamples : Type 0 where
   pub empty : Gives [] no_nodes
   pub text_alone : Gives (codes "a } {b") (text_before (codes "a } {b") no_nodes)
   pub path : Gives (codes "Hello {{request.path.[1]}}!") (text_before (codes "Hello ")
-      (root_before (Name (codes "request") ∷ Name (codes "path") ∷ Index 1 ∷ []) (text_before (codes "!") no_nodes)))
+      (root_before (Name (codes "request") ∷ Name (codes "path") ∷ Index 1 ∷ [])
+      (text_before (codes "!") no_nodes)))
   pub three_braces : Gives (codes "{{{ request.[a b] }}}")
       (root_before (Name (codes "request") ∷ Name (codes "a b") ∷ []) no_nodes)
-  pub out_of_loops : Gives (codes "{{../this.x}}{{..}}{{x}}") (nothing_before (nothing_before (nothing_before no_nodes)))
+  pub out_of_loops : Gives (codes "{{../this.x}}{{..}}{{x}}")
+      (nothing_before (nothing_before (nothing_before no_nodes)))
   -- with escapes `{{E}}` is escaped, and neither `{{{E}}}` nor text is
   pub escaped : Spells (with_escape Html (codes "{{request.url}}<{{{request.url}}}"))
       (url_before Html (text_before (codes "<") (url_before Off no_nodes)))
@@ -74,7 +77,8 @@ pub record AreExamples : Type 0 where
   pub hidden_close : IsTagErrorAt (codes "{{\"}}") UnclosedTag 0
   pub literal_alone : IsTagErrorAt (codes "{{\"}}\"}}") UnsupportedTag 0
   pub open_bracket : IsTagErrorAt (codes "{{request.path.[}}") BadPath 0
-  pub leading_zero : Gives (codes "{{request.01}}") (root_before (Name (codes "request") ∷ Name (codes "01") ∷ []) no_nodes)
+  pub leading_zero : Gives (codes "{{request.01}}")
+      (root_before (Name (codes "request") ∷ Name (codes "01") ∷ []) no_nodes)
   -- after a letter of two bytes, an e with an acute accent
   pub slash_in_name : IsTagErrorAt (195 ∷ 169 ∷ codes "{{a/b}}") BadPath 2
   pub partial : IsTagErrorAt (codes "{{> p}}") UnsupportedTag 0
@@ -86,7 +90,8 @@ pub record AreExamples : Type 0 where
   pub helper_alone : IsTagErrorAt (codes "{{upper}}") WrongArguments 0
   pub json_path : IsTagErrorAt (codes "{{jsonPath request.body '$.a['}}") BadPath 0
   -- a text without a mark is one piece, up to the limit
-  pub longest : (b : ℕ) (bs : List ℕ) → length (b ∷ bs) ≡ TEXT_LIMIT → offset_of (codes "{{") (b ∷ bs) ≡ None
+  pub longest : (b : ℕ) (bs : List ℕ) → length (b ∷ bs) ≡ TEXT_LIMIT
+      → offset_of (codes "{{") (b ∷ bs) ≡ None
       → Gives (b ∷ bs) (text_before (b ∷ bs) no_nodes)
   pub longer : (text : List ℕ) → length text ≡ suc TEXT_LIMIT
       → IsTemplateError text (record { kind = TooLong; at = TEXT_LIMIT })

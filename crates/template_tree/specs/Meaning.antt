@@ -1,7 +1,7 @@
 -- What a template means (Handlebars' paths, helpers and blocks): the text that it writes over a request's data, by
 -- recursion on its tree.
-use Rattle.std.specs.Prelude.{ℕ, zero, suc, pos, nat_eq, Bool, true, false, not, List, [], ◌∷◌, ◌++◌, flat_map, codes}
-use Rattle.std.specs.Prelude.{Option, Some, None, unwrap_or, if◌then◌else◌}
+use Rattle.std.specs.Prelude.{ℕ, zero, suc, pos, nat_eq, Bool, true, false, not, List, [], ◌∷◌, ◌++◌}
+use Rattle.std.specs.Prelude.{flat_map, codes, Option, Some, None, unwrap_or, if◌then◌else◌}
 use Rattle.data_tree.specs.Tree.{Tree, nothing, list, fields, named, Items, no_items, item, Members, no_members, member}
 use Rattle.data_tree.specs.LookUp.{at, after}
 use Rattle.data_tree.specs.declared.step.Step.{Step}

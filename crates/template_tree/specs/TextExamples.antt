@@ -41,7 +41,8 @@ no_query = with_query no_members
 abbrev pub query_or_none : Nodes
 query_or_none =
     alone (if_else false (datum (query (codes "q")))
-    (text_before (codes "Q=") (value_before (datum (query (codes "q"))) no_nodes)) (text_before (codes "none") no_nodes))
+    (text_before (codes "Q=") (value_before (datum (query (codes "q"))) no_nodes))
+    (text_before (codes "none") no_nodes))
 
 -- `{{#each request.query.q}}{{this}},{{/each}}`
 abbrev pub listed : Nodes
@@ -106,7 +107,8 @@ pub record AreTexts : Type 0 where
   pub compared : Prints (call_two Eq (datum (query (codes "q"))) (text_literal (codes "a"))) q_a_b (codes "true")
   pub counted_items : value_of (call Size (datum (query (codes "q")))) q_a_b [] ≡ a_number (pos 2)
   pub index_in_loop : value_of index no_query (turn_with nothing 3 [] true ∷ []) ≡ a_number (pos 3)
-  pub default : Prints (call_two DefaultIfEmpty (datum (query (codes "q"))) (text_literal (codes "x"))) no_query (codes "x")
+  pub default : Prints (call_two DefaultIfEmpty (datum (query (codes "q"))) (text_literal (codes "x")))
+      no_query (codes "x")
   pub body : Prints (datum (BodyPath (codes "$.a.b")))
       (with_json (one_field (codes "a") (one_field (codes "b") (text (codes "x"))))) (codes "x")
   pub no_body : Prints (datum (BodyPath (codes "$.a.b"))) no_query []

@@ -8,9 +8,9 @@ use Rattle.template_tree.specs.declared.node.Node.{fold-Node}
 use Rattle.template_tree.specs.declared.node.Node.TheOpen.{Node-F}
 
 mutual
-  -- a piece of text by its bytes; a print, marked by how the text of its value is escaped; an `if`, or an `unless` where
-  -- that is true, with the part that is written where its test holds and maybe its else part; a loop over the items of a
-  -- value, with its body and maybe the else part that is written where there is no item
+  -- a piece of text by its bytes; a print, marked by how the text of its value is escaped; an `if`, or an `unless`
+  -- where that is true, with the part that is written where its test holds and maybe its else part; a loop over the
+  -- items of a value, with its body and maybe the else part that is written where there is no item
   pub data Node : Type 0 where
     piece : List ℕ → Node
     print : Escape → Expression → Node

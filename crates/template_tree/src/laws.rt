@@ -19,7 +19,8 @@ pub fn law_text_spells_one_tree()
 /// A text has one error at most, never an error beside a tree, and, where it isn't too long, it spells a tree
 /// exactly where it has no error.
 pub fn law_text_spells_tree_or_has_error()
-    ensures one { (text : List ℕ) (d e : TemplateError) → IsTemplateError text d → IsTemplateError text e → d ≡ e }
+    ensures one { (text : List ℕ) (d e : TemplateError) → IsTemplateError text d
+        → IsTemplateError text e → d ≡ e }
     ensures apart { (source : Source) (tree : Nodes) (e : TemplateError) →
         Spells source tree → IsTemplateError source.text e → ⊥ }
     ensures exactly { (source : Source) → length source.text ≤ TEXT_LIMIT →

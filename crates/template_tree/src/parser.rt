@@ -1,5 +1,6 @@
 // Reading a text as a template.
-ghost use Rattle.std.specs.Prelude.{◌≡◌, ◌≤◌, ◌<◌, ◌^◌, ◌⊎◌, [], length, reverse, MatchResult, IfOk, IfErr, IsErrOf};
+ghost use Rattle.std.specs.Prelude.{◌≡◌, ◌≤◌, ◌<◌, ◌^◌, ◌⊎◌, [], length, reverse};
+ghost use Rattle.std.specs.Prelude.{MatchResult, IfOk, IfErr, IsErrOf};
 ghost use Rattle.template_tree.specs.Grammar.{Spells, IsTemplateError, IsParseError};
 ghost use Rattle.template_tree.specs.Inner.Frames.{nest_view, Read};
 ghost use Rattle.template_tree.specs.Inner.Views.{token_view, IsNextError};
@@ -115,7 +116,8 @@ pub fn parse(alloc: Global, text: &str) -> Result<Template, ParseError>
     ensures every_tree { (tree : Nodes) → Spells (unescaped text.now) tree →
         MatchResult result (λ template. tree_of template ≡ tree) (λ e. e ≡ ParseError.OutOfMemory) }
     ensures every_error { (error : TemplateError) → IsTemplateError text.now error →
-        MatchResult result (λ template. ⊥) (λ e. (e ≡ ParseError.Template error) ⊎ (e ≡ ParseError.OutOfMemory)) }
+        MatchResult result (λ template. ⊥)
+        (λ e. (e ≡ ParseError.Template error) ⊎ (e ≡ ParseError.OutOfMemory)) }
 {
     parse_with(alloc, text, Escape::Off)
 }
@@ -133,7 +135,8 @@ pub fn parse_with(alloc: Global, text: &str, escape: Escape) -> Result<Template,
     ensures every_tree { (tree : Nodes) → Spells (with_escape escape text.now) tree →
         MatchResult result (λ template. tree_of template ≡ tree) (λ e. e ≡ ParseError.OutOfMemory) }
     ensures every_error { (error : TemplateError) → IsTemplateError text.now error →
-        MatchResult result (λ template. ⊥) (λ e. (e ≡ ParseError.Template error) ⊎ (e ≡ ParseError.OutOfMemory)) }
+        MatchResult result (λ template. ⊥)
+        (λ e. (e ≡ ParseError.Template error) ⊎ (e ≡ ParseError.OutOfMemory)) }
 {
     if text.len() > TEXT_LIMIT {
         return Err(ParseError::Template(TemplateError {

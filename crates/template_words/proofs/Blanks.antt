@@ -1,6 +1,6 @@
 -- White space at the ends of a text.
-use Rattle.std.proofs.Common.{◌≡◌, ℕ, ◌+◌, ◌-◌, ◌<◌, ◌≤◌, true, false, List, [], ◌∷◌, ◌++◌, length, take, get_or}
-use Rattle.std.proofs.Common.{refl, sym, ap, ◌∙◌, arith, IsUtf8, IsCharBoundary}
+use Rattle.std.proofs.Common.{◌≡◌, ℕ, ◌+◌, ◌-◌, ◌<◌, ◌≤◌, true, false, List, [], ◌∷◌}
+use Rattle.std.proofs.Common.{◌++◌, length, take, get_or, refl, sym, ap, ◌∙◌, arith, IsUtf8, IsCharBoundary}
 use Rattle.std.proofs.lemmas.Bool.{and_right, and_left}
 use Rattle.std.proofs.lemmas.Bool.Decides.{nat_tests}
 use Rattle.std.proofs.lemmas.List.{take_all, take_more}
@@ -11,7 +11,8 @@ use Rattle.template_words.specs.Words.{is_nil, without_trailing_blanks}
 pub blank_ascii : (b : ℕ) → is_blank b ≡ true → b < 128
 blank_ascii b h = grind (arith, nat_tests)
 
-pub after_blank : (bs : List ℕ) → IsUtf8 bs → 1 ≤ length bs → is_blank (get_or bs 0 0) ≡ true → IsCharBoundary bs 1
+pub after_blank : (bs : List ℕ) → IsUtf8 bs → 1 ≤ length bs → is_blank (get_or bs 0 0) ≡ true
+    → IsCharBoundary bs 1
 after_blank bs utf8 some h = IsCharBoundary-after_ascii bs 0 utf8 (omega arith) (blank_ascii (get_or bs 0 0) h)
 
 pub before_blank : (bs : List ℕ) → 1 ≤ length bs → is_blank (get_or bs (length bs - 1) 0) ≡ true
@@ -28,7 +29,8 @@ not_nil : (xs : List ℕ) (b : ℕ) → is_nil (xs ++ b ∷ []) ≡ false
 not_nil [] b = refl
 not_nil (x ∷ xs) b = refl
 
-other_last : (xs : List ℕ) (b : ℕ) → is_blank b ≡ false → without_trailing_blanks (xs ++ b ∷ []) ≡ xs ++ b ∷ []
+other_last : (xs : List ℕ) (b : ℕ) → is_blank b ≡ false
+    → without_trailing_blanks (xs ++ b ∷ []) ≡ xs ++ b ∷ []
 other_last [] b h = rw (and_left (is_blank b) true h) refl
 other_last (x ∷ xs) b h =
     rw (other_last xs b h) (rw (and_right (is_blank x) (is_nil (xs ++ b ∷ [])) (not_nil xs b)) refl)

@@ -1,7 +1,7 @@
 -- The first mark, and the first close outside of literals, by splits of the text.
-use Rattle.std.proofs.Common.{◌≡◌, ℕ, zero, suc, ◌+◌, ◌<◌, ◌≤◌, ◌↔◌, inl, inr, true, false, ◌&&◌, not, List, []}
-use Rattle.std.proofs.Common.{◌∷◌, ◌++◌, length, take, drop, Option, Some, None, IfSome, option_map, refl, sym, ap}
-use Rattle.std.proofs.Common.{subst, ◌∙◌, arith, length-append}
+use Rattle.std.proofs.Common.{◌≡◌, ℕ, zero, suc, ◌+◌, ◌<◌, ◌≤◌, ◌↔◌, inl, inr, true, false}
+use Rattle.std.proofs.Common.{◌&&◌, not, List, [], ◌∷◌, ◌++◌, length, take, drop, Option, Some, None}
+use Rattle.std.proofs.Common.{IfSome, option_map, refl, sym, ap, subst, ◌∙◌, arith, length-append}
 use Rattle.std.proofs.lemmas.Bool.{and_parts, and_from, not-true, cond_both, cases_Bool, cases_lt, both_ways}
 use Rattle.std.proofs.lemmas.List.{take-append-drop, drop-drop, take_at, drop_at, length-take-le}
 use Rattle.template_words.specs.declared.mode.Mode.{Mode}
@@ -16,7 +16,8 @@ record Closes (close : List ℕ) (mode : Mode) (s : List ℕ) (n : ℕ) : Type 0
   inside : n < length s
   here : begins close (drop n s) ≡ true
   outside : is_literal (mode_after_bytes mode (take n s)) ≡ false
-  first : (k : ℕ) → k < n → begins close (drop k s) ≡ true → is_literal (mode_after_bytes mode (take k s)) ≡ true
+  first : (k : ℕ) → k < n → begins close (drop k s) ≡ true
+      → is_literal (mode_after_bytes mode (take k s)) ≡ true
 
 closes_now : (close : List ℕ) (mode : Mode) (b : ℕ) (s : List ℕ)
     → (not (is_literal mode) && begins close (b ∷ s)) ≡ true → Closes close mode (b ∷ s) 0
@@ -60,7 +61,8 @@ closes close mode (b ∷ s) =
     (close_from close (mode_after mode b) s) (λ n c. closes_later close mode b s n f c)
     (closes close (mode_after mode b) s))
 
-found : (close : List ℕ) (mode : Mode) (s : List ℕ) (n : ℕ) → Closes close mode s n → close_from close mode s ≡ Some n
+found : (close : List ℕ) (mode : Mode) (s : List ℕ) (n : ℕ) → Closes close mode s n
+    → close_from close mode s ≡ Some n
 found close mode [] n c = absurd (omega (arith, c.inside))
 found close mode (b ∷ s) zero c =
     let t : (not (is_literal mode) && begins close (b ∷ s)) ≡ true =
@@ -138,13 +140,15 @@ closes_from_parts close text content rest some f =
       here = at.0;
       outside = subst P (sym at.1) f.outside;
       first = λ k lt h.
-          let within : k ≤ length text = omega (arith, lt, ap length f.split, length-append content (close ++ rest)) in
+          let within : k ≤ length text =
+          omega (arith, lt, ap length f.split, length-append content (close ++ rest)) in
           f.first (take k text) (drop (k + length close) text) (split_at close text k h)
           (omega (arith, lt, length-take-le k text within));
     }
 
 pub first_close : (close text content rest : List ℕ) → 0 < length close
-    → (around close text (close_from close Start text) ≡ Some (content, rest)) ↔ IsFirstClose close text content rest
+    → (around close text (close_from close Start text) ≡ Some (content, rest))
+    ↔ IsFirstClose close text content rest
 first_close close text content rest some = (
   closed_parts close text content rest (close_from close Start text) (closes close Start text),
   λ f.
@@ -161,8 +165,8 @@ pub record Marks (mark s : List ℕ) (n : ℕ) : Type 0 where
   pub here : begins mark (drop n s) ≡ true
   pub first : (k : ℕ) → k < n → begins mark (drop k s) ≡ false
 
-marks_later : (mark : List ℕ) (b : ℕ) (s : List ℕ) (n : ℕ) → begins mark (b ∷ s) ≡ false → Marks mark s n
-    → Marks mark (b ∷ s) (suc n)
+marks_later : (mark : List ℕ) (b : ℕ) (s : List ℕ) (n : ℕ) → begins mark (b ∷ s) ≡ false
+    → Marks mark s n → Marks mark (b ∷ s) (suc n)
 marks_later mark b s n f c = record { inside = omega (arith, c.inside); here = c.here; first = earlier }
   where
     earlier : (k : ℕ) → k < suc n → begins mark (drop k (b ∷ s)) ≡ false
@@ -172,7 +176,8 @@ marks_later mark b s n f c = record { inside = omega (arith, c.inside); here = c
 pub marks : (mark s : List ℕ) → IfSome (offset_of mark s) (Marks mark s)
 marks mark [] = tt
 marks mark (b ∷ s) =
-    cond_both (begins mark (b ∷ s)) (Some 0) (option_map suc (offset_of mark s)) (λ o. IfSome o (Marks mark (b ∷ s)))
+    cond_both (begins mark (b ∷ s)) (Some 0) (option_map suc (offset_of mark s))
+    (λ o. IfSome o (Marks mark (b ∷ s)))
     (λ t. record { inside = omega arith; here = t; first = λ k lt. absurd (omega arith) })
     (λ f. some_suc (Marks mark s) (Marks mark (b ∷ s)) (offset_of mark s) (λ n c. marks_later mark b s n f c)
     (marks mark s))

@@ -1,7 +1,7 @@
 -- The parts of a text between the dots outside of brackets, found one by one.
-use Rattle.std.proofs.Common.{◌≡◌, ℕ, ◌+◌, ◌-◌, ◌<◌, ◌≤◌, Bool, true, false, List, [], ◌∷◌, ◌++◌, length, take}
-use Rattle.std.proofs.Common.{drop, get_or, slice_index, refl, sym, ap, subst, ◌∙◌, arith, length-append}
-use Rattle.std.proofs.Common.{length-drop, append_assoc, IsUtf8, IsCharBoundary}
+use Rattle.std.proofs.Common.{◌≡◌, ℕ, ◌+◌, ◌-◌, ◌<◌, ◌≤◌, Bool, true, false, List, []}
+use Rattle.std.proofs.Common.{◌∷◌, ◌++◌, length, take, drop, get_or, slice_index, refl, sym, ap, subst}
+use Rattle.std.proofs.Common.{◌∙◌, arith, length-append, length-drop, append_assoc, IsUtf8, IsCharBoundary}
 use Rattle.std.proofs.lemmas.List.{append-nil, take_at, take_all, drop_at, get_or_at, get_or-drop}
 use Rattle.std.proofs.lemmas.Str.{IsUtf8-drop, IsCharBoundary-before_ascii, IsCharBoundary-after_ascii}
 use Rattle.std.proofs.lemmas.Bool.{eqb-true, false≢true}
@@ -35,7 +35,8 @@ pub record Seen (text : List ℕ) (at : ℕ) (inside : Bool) (rest : List ℕ) :
   pub counted : length front ≡ at
   pub ahead : parts_of false text ≡ glue front (parts_of inside rest)
 
-pub seen_more : (text : List ℕ) (at : ℕ) (inside : Bool) (b : ℕ) (after : List ℕ) → Seen text at inside (b ∷ after)
+pub seen_more : (text : List ℕ) (at : ℕ) (inside : Bool) (b : ℕ) (after : List ℕ)
+    → Seen text at inside (b ∷ after)
     → is_separator inside b ≡ false → Seen text (at + 1) (next_in_bracket inside b) after
 seen_more text at inside b after s no_dot =
     let opened : parts_of inside (b ∷ after) ≡ onto_first b (parts_of (next_in_bracket inside b) after) =
@@ -49,14 +50,16 @@ seen_more text at inside b after s no_dot =
           (glue_push s.front b (parts_of (next_in_bracket inside b) after)));
     }
 
-pub seen_end : (text : List ℕ) (at : ℕ) (inside : Bool) → Seen text at inside [] → parts_of false text ≡ text ∷ []
+pub seen_end : (text : List ℕ) (at : ℕ) (inside : Bool) → Seen text at inside []
+    → parts_of false text ≡ text ∷ []
 seen_end text at inside s =
     s.ahead ∙ (glue_head s.front [] [] ∙ ap (λ x. x ∷ []) (sym s.whole))
 
 pub seen_dot : (text : List ℕ) (at : ℕ) (after : List ℕ) → Seen text at false (dot ∷ after) → DotAt text at
 seen_dot text at after s =
     let front : take at text ≡ s.front = ap (take at) s.whole ∙ take_at s.front (dot ∷ after) at s.counted in
-    let regrouped : text ≡ (s.front ++ dot ∷ []) ++ after = s.whole ∙ sym (append_assoc s.front (dot ∷ []) after) in
+    let regrouped : text ≡ (s.front ++ dot ∷ []) ++ after =
+    s.whole ∙ sym (append_assoc s.front (dot ∷ []) after) in
     let back : drop (at + 1) text ≡ after =
     ap (drop (at + 1)) regrouped ∙ drop_at (s.front ++ dot ∷ []) after (at + 1)
     (omega (arith, length-append s.front (dot ∷ []), s.counted)) in
@@ -80,20 +83,21 @@ seen_step text at inside (b ∷ bs) some s no_dot =
     let P : List ℕ → Type 0 = λ r. Seen text (at + 1) (next_in_bracket inside b) r in
     subst P (sym (take_all (length (b ∷ bs) - 1) bs (omega arith))) (seen_more text at inside b bs s no_dot)
 
-pub seen_all : (text : List ℕ) (at : ℕ) (inside : Bool) (rest : List ℕ) → length rest < 1 → Seen text at inside rest
-    → parts_of false text ≡ text ∷ []
+pub seen_all : (text : List ℕ) (at : ℕ) (inside : Bool) (rest : List ℕ) → length rest < 1
+    → Seen text at inside rest → parts_of false text ≡ text ∷ []
 seen_all text at inside [] few s = seen_end text at inside s
 seen_all text at inside (b ∷ bs) few s = absurd (omega arith)
 
-pub seen_cut : (text : List ℕ) (at : ℕ) (inside : Bool) (rest : List ℕ) → 1 ≤ length rest → Seen text at inside rest
-    → is_separator inside (get_or rest 0 0) ≡ true → DotAt text at
+pub seen_cut : (text : List ℕ) (at : ℕ) (inside : Bool) (rest : List ℕ) → 1 ≤ length rest
+    → Seen text at inside rest → is_separator inside (get_or rest 0 0) ≡ true → DotAt text at
 seen_cut text at inside [] some s e = absurd (omega arith)
 seen_cut text at true (b ∷ bs) some s e = absurd (false≢true e)
 seen_cut text at false (b ∷ bs) some s e =
     let P : ℕ → Type 0 = λ x. Seen text at false (x ∷ bs) in
     seen_dot text at bs (subst P (eqb-true b dot e) s)
 
-pub after_dot : (s : List ℕ) (n : ℕ) → IsUtf8 s → n < length s → slice_index s n ≡ dot → IsCharBoundary (drop n s) 1
+pub after_dot : (s : List ℕ) (n : ℕ) → IsUtf8 s → n < length s → slice_index s n ≡ dot
+    → IsCharBoundary (drop n s) 1
 after_dot s n utf8 inside e =
     let back : IsUtf8 (drop n s) = IsUtf8-drop s n utf8 (IsCharBoundary-before_ascii s n inside (omega (arith, e))) in
     let first : get_or (drop n s) 0 0 ≡ get_or s (n + 0) 0 = get_or-drop n s 0 0 in

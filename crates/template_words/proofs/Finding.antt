@@ -1,8 +1,8 @@
 -- Marks in a text: what the searches of std say of `begins` and `offset_of`.
-use Rattle.std.proofs.Common.{◌≡◌, ℕ, zero, suc, ◌+◌, ◌<◌, ◌≤◌, true, false, ◌&&◌, not, ◌==◌, List, [], ◌∷◌, ◌++◌}
-use Rattle.std.proofs.Common.{length, take, drop, get_or, Option, Some, None, Result, Ok, Err, MatchOption, IfSome}
-use Rattle.std.proofs.Common.{option_map, refl, sym, ap, subst, ◌∙◌, arith, IsCharBoundary, length-append}
-use Rattle.std.proofs.Common.{length-drop, inl, inr}
+use Rattle.std.proofs.Common.{◌≡◌, ℕ, zero, suc, ◌+◌, ◌<◌, ◌≤◌, true, false, ◌&&◌, not}
+use Rattle.std.proofs.Common.{◌==◌, List, [], ◌∷◌, ◌++◌, length, take, drop, get_or, Option, Some, None}
+use Rattle.std.proofs.Common.{Result, Ok, Err, MatchOption, IfSome, option_map, refl, sym, ap, subst, ◌∙◌, arith}
+use Rattle.std.proofs.Common.{IsCharBoundary, length-append, length-drop, inl, inr}
 use Rattle.std.specs.Str.Pattern.{FindsText, FindsTextPrefix, LacksTextAt, StripsPrefix, SplitsAroundMatch}
 use Rattle.std.proofs.lemmas.Str.Pattern.{starts_text}
 use Rattle.std.proofs.lemmas.Str.{IsCharBoundary-before_ascii}
@@ -41,7 +41,8 @@ pub lacks : (n s : List ℕ) → LacksTextAt n s 0 → begins n s ≡ false
 lacks n s h =
     elim (cases_Bool (begins n s)) [ inl t ↦ absurd (h (drop (length n) s) (begins_split n s t)) | inr f ↦ f ]
 
-pub offset_none : (n s : List ℕ) → 0 < length n → ((i : ℕ) → i ≤ length s → LacksTextAt n s i) → offset_of n s ≡ None
+pub offset_none : (n s : List ℕ) → 0 < length n → ((i : ℕ) → i ≤ length s → LacksTextAt n s i)
+    → offset_of n s ≡ None
 offset_none n [] some h = refl
 offset_none n (b ∷ s) some h =
     let f : begins n (b ∷ s) ≡ false = lacks n (b ∷ s) (h 0 (omega arith)) in
@@ -91,7 +92,8 @@ offset_at n (b ∷ s) =
     (λ o. IfSome o (λ i. (i < length (b ∷ s)) × (begins n (drop i (b ∷ s)) ≡ true)))
     (λ t. (omega arith, t))
     (λ f. some_suc (λ i. (i < length s) × (begins n (drop i s) ≡ true))
-    (λ i. (i < length (b ∷ s)) × (begins n (drop i (b ∷ s)) ≡ true)) (offset_of n s) (λ i h. (omega arith, h.1))
+    (λ i. (i < length (b ∷ s)) × (begins n (drop i (b ∷ s)) ≡ true)) (offset_of n s)
+    (λ i h. (omega arith, h.1))
     (offset_at n s))
 
 pub close_at : (close : List ℕ) (mode : Mode) (s : List ℕ)
@@ -103,7 +105,8 @@ close_at close mode (b ∷ s) =
     (λ o. IfSome o (λ i. (i < length (b ∷ s)) × (begins close (drop i (b ∷ s)) ≡ true)))
     (λ t. (omega arith, (and_parts (not (is_literal mode)) (begins close (b ∷ s)) t).1))
     (λ f. some_suc (λ i. (i < length s) × (begins close (drop i s) ≡ true))
-    (λ i. (i < length (b ∷ s)) × (begins close (drop i (b ∷ s)) ≡ true)) (close_from close (mode_after mode b) s)
+    (λ i. (i < length (b ∷ s)) × (begins close (drop i (b ∷ s)) ≡ true))
+    (close_from close (mode_after mode b) s)
     (λ i h. (omega arith, h.1)) (close_at close (mode_after mode b) s))
 
 pub if_some : (P : ℕ → Type 0) (o : Option ℕ) (n : ℕ) → o ≡ Some n → IfSome o P → P n
@@ -125,7 +128,8 @@ boundary_at n s i h some ascii =
     let here : get_or s (i + 0) 0 ≡ get_or s i 0 = ap (λ k. get_or s k 0) (omega arith) in
     IsCharBoundary-before_ascii s i h.0 (omega arith)
 
-pub fits_at : (n s : List ℕ) (i : ℕ) → (i < length s) × (begins n (drop i s) ≡ true) → i + length n ≤ length s
+pub fits_at : (n s : List ℕ) (i : ℕ) → (i < length s) × (begins n (drop i s) ≡ true)
+    → i + length n ≤ length s
 fits_at n s i h = omega (arith, begins_fits n (drop i s) h.1, length-drop i s, h.0)
 
 front_of : Option (List ℕ × List ℕ) → List ℕ
@@ -136,7 +140,8 @@ back_of : Option (List ℕ × List ℕ) → List ℕ
 back_of None = []
 back_of (Some x) = x.1
 
-pub some_pair : (a b x y : List ℕ) → ◌≡◌ {A = Option (List ℕ × List ℕ)} (Some (a, b)) (Some (x, y)) → (a ≡ x) × (b ≡ y)
+pub some_pair : (a b x y : List ℕ) → ◌≡◌ {A = Option (List ℕ × List ℕ)} (Some (a, b)) (Some (x, y))
+    → (a ≡ x) × (b ≡ y)
 unfolding front_of back_of
 some_pair a b x y e = (ap front_of e, ap back_of e)
 
@@ -153,7 +158,8 @@ closed_yes close body inner rest (Some n) found e h =
     omega (arith, length-drop (n + length close) body, z, h, fits_at close body n found) in
     rw (eq-eqb (n + length close) (length body) q) (ap Some i)
 
-pub closed_at_end_yes : (close body inner rest : List ℕ) → Some (inner, rest) ≡ around close body (offset_of close body)
+pub closed_at_end_yes : (close body inner rest : List ℕ)
+    → Some (inner, rest) ≡ around close body (offset_of close body)
     → length rest ≡ 0 → Some inner ≡ closed_at_end close body (offset_of close body)
 closed_at_end_yes close body inner rest h e =
     closed_yes close body inner rest (offset_of close body) (offset_at close body) h e

@@ -1,5 +1,6 @@
 -- A text literal is no longer than its word.
-use Rattle.std.proofs.Common.{ℕ, ◌+◌, ◌≤◌, ◌==◌, List, length, take, drop, Option, Some, None, IfSome, codes, arith}
+use Rattle.std.proofs.Common.{ℕ, ◌+◌, ◌≤◌, ◌==◌, List, length, take, drop, Option, Some, None, IfSome}
+use Rattle.std.proofs.Common.{codes, arith}
 use Rattle.std.specs.Option.{option_or}
 use Rattle.std.proofs.lemmas.Bool.{cond_both}
 use Rattle.std.proofs.lemmas.List.{length-take, length-drop}
@@ -14,8 +15,8 @@ closed_short close body (Some n) =
     cond_both (n + length close == length body) (Some (take n body)) None
     (λ o. IfSome o (λ inner. length inner ≤ length body)) (λ t. omega (arith, length-take n body)) (λ f. tt)
 
-shorter : (a b : List ℕ) (o : Option (List ℕ)) → length a ≤ length b → IfSome o (λ inner. length inner ≤ length a)
-    → IfSome o (λ inner. length inner ≤ length b)
+shorter : (a b : List ℕ) (o : Option (List ℕ)) → length a ≤ length b
+    → IfSome o (λ inner. length inner ≤ length a) → IfSome o (λ inner. length inner ≤ length b)
 shorter a b None le h = tt
 shorter a b (Some inner) le h = omega (arith, le, h)
 

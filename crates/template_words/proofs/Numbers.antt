@@ -1,7 +1,7 @@
 -- Whole numbers of at most 18 digits fit into 64 bits.
-use Rattle.std.proofs.Common.{◌≡◌, ℕ, ℤ, zero, suc, pos, ◌<◌, ◌^◌, nat_lt, nat_le, ◌&&◌, true, List, length}
-use Rattle.std.proofs.Common.{drop, Option, Some, None, IfSome, option_map, Result, Ok, FitsSigned, w64, codes, refl}
-use Rattle.std.proofs.Common.{arith}
+use Rattle.std.proofs.Common.{◌≡◌, ℕ, ℤ, zero, suc, pos, ◌<◌, ◌^◌, nat_lt, nat_le, ◌&&◌, true}
+use Rattle.std.proofs.Common.{List, length, drop, Option, Some, None, IfSome, option_map, Result, Ok, FitsSigned, w64}
+use Rattle.std.proofs.Common.{codes, refl, arith}
 use Rattle.std.specs.Str.{all_ascii_digits}
 use Rattle.std.specs.Str.Parse.{digits_value, ParsesSigned}
 use Rattle.std.proofs.lemmas.Bool.{cond_both, and_parts, leb-true, ltb-true}
@@ -13,8 +13,8 @@ use Rattle.template_words.specs.Literals.{short_number, negative, whole_number}
 use Rattle.template_words.specs.Marks.{begins}
 use Rattle.template_words.specs.Words.{is_short_digits}
 
-pub short_parses : {E : Type 0} (s : List ℕ) (r : Result ℤ E) → is_short_digits s ≡ true → ParsesSigned w64 10 s r
-    → r ≡ Ok (pos (digits_value 10 s))
+pub short_parses : {E : Type 0} (s : List ℕ) (r : Result ℤ E) → is_short_digits s ≡ true
+    → ParsesSigned w64 10 s r → r ≡ Ok (pos (digits_value 10 s))
 short_parses s r h parses =
     let p = and_parts (nat_lt 0 (length s) && nat_le (length s) 18) (all_ascii_digits s) h in
     let q = and_parts (nat_lt 0 (length s)) (nat_le (length s) 18) p.0 in
@@ -43,8 +43,8 @@ negative_fits : (n : ℕ) → n < 10 ^ 18 → FitsSigned w64 (negative n)
 negative_fits zero below = fits_signed_from_abs w64 (negative zero) (omega arith)
 negative_fits (suc n) below = fits_signed_from_abs w64 (negative (suc n)) (omega (arith, below))
 
-map_fits : (f : ℕ → ℤ) (o : Option ℕ) → ((n : ℕ) → n < 10 ^ 18 → FitsSigned w64 (f n)) → IfSome o (λ n. n < 10 ^ 18)
-    → IfSome (option_map f o) (FitsSigned w64)
+map_fits : (f : ℕ → ℤ) (o : Option ℕ) → ((n : ℕ) → n < 10 ^ 18 → FitsSigned w64 (f n))
+    → IfSome o (λ n. n < 10 ^ 18) → IfSome (option_map f o) (FitsSigned w64)
 map_fits f None fits h = tt
 map_fits f (Some n) fits h = fits n h
 

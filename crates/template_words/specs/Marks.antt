@@ -1,6 +1,6 @@
 -- Where the marks and the closes of tags are in a text.
-use Rattle.std.specs.Prelude.{ℕ, suc, ◌+◌, ◌==◌, Bool, ◌&&◌, not, List, [], ◌∷◌, length, take, drop, Option, Some}
-use Rattle.std.specs.Prelude.{None, option_map, if◌then◌else◌}
+use Rattle.std.specs.Prelude.{ℕ, suc, ◌+◌, ◌==◌, Bool, ◌&&◌, not, List, [], ◌∷◌, length, take, drop}
+use Rattle.std.specs.Prelude.{Option, Some, None, option_map, if◌then◌else◌}
 use Rattle.std.specs.List.{starts_with}
 use Rattle.template_words.specs.declared.mode.Mode.{Mode}
 use Rattle.template_words.specs.Modes.{mode_after, is_literal}

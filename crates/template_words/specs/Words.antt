@@ -1,6 +1,6 @@
 -- What a word in a tag is, before it is read as a path.
-use Rattle.std.specs.Prelude.{ℕ, ◌+◌, ◌==◌, nat_lt, nat_le, Bool, true, false, ◌&&◌, ◌||◌, List, [], ◌∷◌, length}
-use Rattle.std.specs.Prelude.{take, drop, Option, Some, None, is_some, if◌then◌else◌, codes}
+use Rattle.std.specs.Prelude.{ℕ, ◌+◌, ◌==◌, nat_lt, nat_le, Bool, true, false, ◌&&◌, ◌||◌, List, []}
+use Rattle.std.specs.Prelude.{◌∷◌, length, take, drop, Option, Some, None, is_some, if◌then◌else◌, codes}
 use Rattle.std.specs.List.{list_any}
 use Rattle.std.specs.Str.{bytes_eq, all_ascii_digits}
 use Rattle.template_words.specs.Bytes.{open_parenthesis, close_parenthesis}
@@ -62,7 +62,8 @@ is_literal_word text =
 -- helpers that change a text
 abbrev pub is_text_helper : List ℕ → Bool
 is_text_helper text =
-    list_any (bytes_eq text) (codes "upper" ∷ codes "lower" ∷ codes "trim" ∷ codes "base64" ∷ codes "urlEncode" ∷ [])
+    list_any (bytes_eq text)
+    (codes "upper" ∷ codes "lower" ∷ codes "trim" ∷ codes "base64" ∷ codes "urlEncode" ∷ [])
 
 -- helpers that compare values, or find one
 abbrev pub is_value_helper : List ℕ → Bool

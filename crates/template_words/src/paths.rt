@@ -1,6 +1,6 @@
 // Reading a word as a path.
-ghost use Rattle.std.specs.Prelude.{◌≡◌, ◌+◌, ◌<◌, ◌^◌, false, ◌∷◌, [], length, take, drop, slice_index};
-ghost use Rattle.std.specs.Prelude.{MatchOption, IfSome, IfNone};
+ghost use Rattle.std.specs.Prelude.{◌≡◌, ◌+◌, ◌<◌, ◌^◌, false, ◌∷◌, [], length, take, drop};
+ghost use Rattle.std.specs.Prelude.{slice_index, MatchOption, IfSome, IfNone};
 ghost use Rattle.std.specs.List.{list_all};
 ghost use Rattle.template_words.specs.Bytes.{dot};
 ghost use Rattle.template_words.specs.Paths.{is_name_byte, is_name, step_named, step_of, next_in_bracket, is_separator};

@@ -9,7 +9,8 @@ use Rattle.std.specs.declared.sync.ledger.Ledger as ledger
 use Rattle.stub_response.proofs.limits.Limits.TheSendSync as limits
 use Rattle.template_tree.proofs.escape.Escape.TheSendSync as escape
 
-pub site_sync : (L G : RattleType) (o : origin.Ghosts L.Denot) (l : ledger.Ghosts L.Denot) → IsSync G → IsSync (site.the_row L G o l)
+pub site_sync : (L G : RattleType) (o : origin.Ghosts L.Denot) (l : ledger.Ghosts L.Denot) → IsSync G
+    → IsSync (site.the_row L G o l)
 site_sync L G o l gate =
     declared_sync (site.the_type L G o l) (
       shared_book_sync L o l,

@@ -1,5 +1,5 @@
-//! Calls on a shared book. Each is made once more where it is refused: then memory ran out, and book and seat are as they
-//! were, so that nothing differs after the second call. One that is refused again is missing in what is counted.
+//! Calls on a shared book. Each is made once more where it is refused: then memory ran out, and book and seat are as
+//! they were, so that nothing differs after the second call. One that is refused again is missing in what is counted.
 
 use crate::books;
 use crate::books::Change;

@@ -10,8 +10,8 @@ use stub_response::limits::Limits;
 use world_core::step::Step;
 use world_core::world::World;
 
-/// The status and the body of each reply, and then how many events there are. The steps are made at once, and then one by
-/// one in another world: where the two differ the row does.
+/// The status and the body of each reply, and then how many events there are. The steps are made at once, and then one
+/// by one in another world: where the two differ the row does.
 pub fn replies(alloc: Global, row: &Row) -> Result<String, AllocError> {
     let at_once = cells_at_once(alloc, row)?;
     let one_by_one = cells_one_by_one(alloc, row)?;

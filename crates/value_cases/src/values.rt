@@ -185,7 +185,8 @@ fn step(item: Data) -> Step {
     }
 }
 
-/// The value of a JSON text. An object of `fields`, `items` and `text` is a named text, also in lists and other objects.
+/// The value of a JSON text. An object of `fields`, `items` and `text` is a named text, also in lists
+/// and other objects.
 pub fn value(alloc: Global, text: &str) -> Result<Data, AllocError> {
     with_names(alloc, &read(alloc, text)?)
 }

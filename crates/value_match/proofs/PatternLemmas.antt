@@ -1,5 +1,6 @@
 -- What a compiled pattern finds is what its text means.
-use Rattle.std.proofs.Common.{◌≡◌, ℕ, ◌<◌, ◌≤◌, ◌↔◌, cond, length, true, List, get_or, Option, None, Some, is_some, IsTrue, IsSomeAnd, sym, ap, ◌∙◌}
+use Rattle.std.proofs.Common.{◌≡◌, ℕ, ◌<◌, ◌≤◌, ◌↔◌, cond, length, true, List, get_or, Option}
+use Rattle.std.proofs.Common.{None, Some, is_some, IsTrue, IsSomeAnd, sym, ap, ◌∙◌}
 use Rattle.regex_hir.specs.Find.{find_str}
 use Rattle.regex_hir.specs.Meaning.{meaning}
 use Rattle.regex_hir.specs.Text.{is_boundary}
@@ -35,7 +36,8 @@ pattern_of_read source hir names given = depth_read (meaning hir) names _ given
 
 module _ (value : List ℕ) (bytes : (k : ℕ) → get_or value k 0 < 256) where
   finds_alike : (tree : Re) (names : Names) (o : Option (Nested Re × Names)) → IsReadOf tree names o →
-      IsTrue (is_some (find_str tree value 0)) ↔ IsSomeAnd o (λ (re, _). IsTrue (is_some (find_str re.value value 0)))
+      IsTrue (is_some (find_str tree value 0))
+      ↔ IsSomeAnd o (λ (re, _). IsTrue (is_some (find_str re.value value 0)))
   finds_alike tree names None h = absurd h
   finds_alike tree names (Some x) h =
       let same = is_match_alike h.1 value bytes true 0 in
@@ -45,7 +47,8 @@ module _ (value : List ℕ) (bytes : (k : ℕ) → get_or value k 0 < 256) where
   found_as_meant : (nfa : Nfa) (tree : Re) → Implements nfa tree → found_in nfa value ≡ find_str tree value 0
   unfolding find_str
   found_as_meant nfa tree implements =
-      first_between_cong _ _ 0 (length value) (λ i low high. ap (λ o. cond (is_boundary value i) o None) (implements value i))
+      first_between_cong _ _ 0 (length value)
+      (λ i low high. ap (λ o. cond (is_boundary value i) o None) (implements value i))
 
   pub finds_as_read : (source : List ℕ) (p : Automaton) → IsReadFrom source p →
       IsTrue (is_some (found_in p.dfa.nfa value)) ↔ FindsIn source value

@@ -1,5 +1,6 @@
 -- What the searches at each byte say of a search of the whole text.
-use Rattle.std.proofs.Common.{◌≡◌, ℕ, ◌<◌, ◌≤◌, Bool, true, false, cond, List, length, Option, Some, None, is_some, refl, sym, ap, subst, ◌∙◌, ⊎_elim, arith, inl, inr}
+use Rattle.std.proofs.Common.{◌≡◌, ℕ, ◌<◌, ◌≤◌, Bool, true, false, cond, List, length, Option, Some}
+use Rattle.std.proofs.Common.{None, is_some, refl, sym, ap, subst, ◌∙◌, ⊎_elim, arith, inl, inr}
 use Rattle.std.proofs.Math.Logic.{∥∥₁_elim}
 use Rattle.std.proofs.lemmas.Bool.{cases_lt}
 use Rattle.std.proofs.lemmas.Option.{none-some, same_Some}
@@ -43,18 +44,21 @@ starts_at_zero nfa re implements anchored hay i t le found =
     (subst (Matches hay re i) (ap (λ (u : Trace). u.end) (same_Some _ _ c.gave) ∙ sym c.same_end) c.leads)
 
 module _ (nfa : Nfa) (hay : List ℕ) where
-  pub found_by_run : (i : ℕ) → i ≤ length hay → is_some (run_in_text nfa hay i) ≡ true → is_some (found_in nfa hay) ≡ true
+  pub found_by_run : (i : ℕ) → i ≤ length hay → is_some (run_in_text nfa hay i) ≡ true
+      → is_some (found_in nfa hay) ≡ true
   found_by_run i le some = ⊎_elim
       (λ none.
       absurd cc (ap is_some (none_of_first_between (run_in_text nfa hay) 0 (length hay) none i (omega arith) le)))
       (λ found. ap is_some found.1)
       (option_cases (found_in nfa hay))
 
-  pub not_found : ((i : ℕ) → i ≤ length hay → run_in_text nfa hay i ≡ None) → is_some (found_in nfa hay) ≡ false
+  pub not_found : ((i : ℕ) → i ≤ length hay → run_in_text nfa hay i ≡ None)
+      → is_some (found_in nfa hay) ≡ false
   not_found none = ap is_some (first_between_none (run_in_text nfa hay) 0 (length hay) (λ i low high. none i high))
 
   -- a pattern whose matches start at the first byte has none at a later one
-  none_later : StartsAtZero nfa → run_in_text nfa hay 0 ≡ None → (i : ℕ) → i ≤ length hay → run_in_text nfa hay i ≡ None
+  none_later : StartsAtZero nfa → run_in_text nfa hay 0 ≡ None → (i : ℕ) → i ≤ length hay
+      → run_in_text nfa hay i ≡ None
   none_later starts none i le = ⊎_elim
       (λ here. here)
       (λ some.
@@ -63,8 +67,8 @@ module _ (nfa : Nfa) (hay : List ℕ) where
       (option_cases (run_in_text nfa hay i))
 
   -- the same where the pattern was tested for that
-  pub not_found_anchored : (anchored : Bool) → ∥ (anchored ≡ true → StartsAtZero nfa) ∥₁ → anchored ≡ true →
-      run_in_text nfa hay 0 ≡ None → is_some (found_in nfa hay) ≡ false
+  pub not_found_anchored : (anchored : Bool) → ∥ (anchored ≡ true → StartsAtZero nfa) ∥₁ →
+      anchored ≡ true → run_in_text nfa hay 0 ≡ None → is_some (found_in nfa hay) ≡ false
   not_found_anchored anchored starts is none = false_of_not _
       (λ found. ∥∥₁_elim starts (λ x y. absurd x)
       (λ h. absurd cc (sym found ∙ not_found (λ i le. none_later (h is) none i le))))

@@ -1,5 +1,6 @@
 // Whether values meet a matcher.
-ghost use Rattle.std.specs.Prelude.{◌≡◌, ◌↔◌, ◌⊎◌, ℕ, List, Some, IfOk, OnOk, IsOk, IsTrue, IfErr, IsErrOf, option_copied};
+ghost use Rattle.std.specs.Prelude.{◌≡◌, ◌↔◌, ◌⊎◌, ℕ, List, Some, IfOk, OnOk, IsOk, IsTrue, IfErr};
+ghost use Rattle.std.specs.Prelude.{IsErrOf, option_copied};
 ghost use Rattle.regex.specs.Strings.{IsDefaultFailure};
 ghost use Rattle.std.specs.Str.Iter.{HasSubslice};
 ghost use Rattle.value_match.specs.Matching.{Matches};

@@ -14,8 +14,8 @@ use Rattle.request_journal.specs.declared.event.ServeAnswer.TheVariants.{Stub}
 use Rattle.stub_response.specs.Response.{IsRendering, IsResponse}
 use Rattle.stub_response.specs.declared.limits.Limits.{Limits}
 use Rattle.world_core.specs.Laws.{IsAnswered, IsLastChoice, PassesBy, choosing, giving}
-use Rattle.world_core.specs.Schedule.{Happens, IsAct, IsFinish, IsGiven, IsResponseOf, IsRun, IsStep, Outcome, WorldState}
-use Rattle.world_core.specs.Schedule.{held_by, held_by_others}
+use Rattle.world_core.specs.Schedule.{Happens, IsAct, IsFinish, IsGiven, IsResponseOf, IsRun, IsStep, Outcome}
+use Rattle.world_core.specs.Schedule.{WorldState, held_by, held_by_others}
 use Rattle.world_core.specs.declared.held.Held.{Held}
 use Rattle.world_core.specs.declared.step.Call.{Call}
 use Rattle.world_core.specs.declared.step.Call.TheVariants.{Serve, Apply}
@@ -25,8 +25,8 @@ use Rattle.world_core.proofs.StepLemmas.{no_serve}
 use Rattle.world_core.proofs.HeldLemmas.{own_gone, others_stay, put_others, put_own}
 use Rattle.world_core.proofs.Runs.{run_on, run_split}
 
-zip_on : {X Y : Type 0} (R : X → Y → Type 0) (xs : List X) (ys : List Y) (x : X) (y : Y) → AllZip R xs ys → R x y
-    → AllZip R (xs ++ x ∷ []) (ys ++ y ∷ [])
+zip_on : {X Y : Type 0} (R : X → Y → Type 0) (xs : List X) (ys : List Y) (x : X) (y : Y)
+    → AllZip R xs ys → R x y → AllZip R (xs ++ x ∷ []) (ys ++ y ∷ [])
 zip_on R [] [] x y all more = (more, tt)
 zip_on R [] (w ∷ ys) x y all more = absurd all
 zip_on R (z ∷ xs) [] x y all more = absurd all
@@ -82,8 +82,8 @@ module _ (start : WorldState) where
   module _ (steps : List Step) (outcomes : List Outcome) (old new : WorldState) (run : IsRun start steps outcomes old)
       (known : IsKnown steps outcomes old) where
     -- nothing else is held
-    same_held : (step : Step) (outcome : Outcome) → ((actor : ℕ) → PassesBy actor step outcome) → new.held ≡ old.held
-        → IsKnown (steps ++ step ∷ []) (outcomes ++ outcome ∷ []) new
+    same_held : (step : Step) (outcome : Outcome) → ((actor : ℕ) → PassesBy actor step outcome)
+        → new.held ≡ old.held → IsKnown (steps ++ step ∷ []) (outcomes ++ outcome ∷ []) new
     same_held step outcome passes same actor =
         subst (λ (hs : List Held). IfSome (held_by actor hs)
         (λ h. IsLast (steps ++ step ∷ []) (outcomes ++ outcome ∷ []) actor h.event)) (sym same)
@@ -97,7 +97,8 @@ module _ (start : WorldState) where
         → IsKnown (steps ++ Act other (Serve request) ∷ []) (outcomes ++ choosing request captured ∷ []) new
     chosen_for other request captured held choice actor =
         let put : Held = record { actor = other; event = event.Serve request (Stub captured) } in
-        let Is : Option Held → Type 0 = λ found. IfSome found (λ h. IsLast (steps ++ Act other (Serve request) ∷ [])
+        let Is : Option Held → Type 0 =
+        λ found. IfSome found (λ h. IsLast (steps ++ Act other (Serve request) ∷ [])
         (outcomes ++ choosing request captured ∷ []) actor h.event) in
         let found : held_by actor new.held ≡ held_by actor (held_by_others other old.held ++ put ∷ []) =
         ap (held_by actor) held in
@@ -127,9 +128,11 @@ module _ (start : WorldState) where
         → IsKnown (steps ++ Act other call ∷ []) (outcomes ++ record { event = Some e; reply = None } ∷ []) new
     known_event other (Serve request) (event.Serve served (Stub captured)) happens =
         let is : served ≡ request = happens.asked_for in
-        subst (λ (r : Request). IsKnown (steps ++ Act other (Serve r) ∷ []) (outcomes ++ choosing served captured ∷ []) new) is
+        subst (λ (r : Request).
+        IsKnown (steps ++ Act other (Serve r) ∷ []) (outcomes ++ choosing served captured ∷ []) new) is
         (chosen_for other served captured happens.held happens.grows.next.answer)
-    known_event other (Apply asked) (event.Serve served answer) happens = absurd (no_serve asked served answer happens.asked_for)
+    known_event other (Apply asked) (event.Serve served answer) happens =
+        absurd (no_serve asked served answer happens.asked_for)
     known_event other call e happens =
         same_held (Act other call) (record { event = Some e; reply = None }) (λ actor. inr tt) happens.held
 
@@ -148,7 +151,8 @@ module _ (start : WorldState) where
         (outcomes ++ outcome ∷ []) actor h.event) in
         elim (eqb_tells other actor) [
           | inl same ↦
-              subst Is (sym (ap (held_by actor) finish.held ∙ ap (λ a. held_by actor (held_by_others a old.held)) same.1
+              subst Is (sym (ap (held_by actor) finish.held
+              ∙ ap (λ a. held_by actor (held_by_others a old.held)) same.1
               ∙ own_gone actor old.held)) tt
           | inr differ ↦
               subst Is (sym (ap (held_by actor) finish.held ∙ others_stay actor other old.held differ.1))
@@ -185,8 +189,8 @@ module _ (start : WorldState) where
       (subst (λ (ss : List Step). IsKnown ss ((early ++ outcome ∷ []) ++ outcomes) end)
       (append_assoc before (step ∷ []) steps) more)
 
-limits_of_act : (old new : WorldState) (actor : ℕ) (call : Call) (event : Option Event) → IsAct old actor call event new
-    → new.limits ≡ old.limits
+limits_of_act : (old new : WorldState) (actor : ℕ) (call : Call) (event : Option Event)
+    → IsAct old actor call event new → new.limits ≡ old.limits
 limits_of_act old new actor call None act = ap (λ (w : WorldState). w.limits) act.1
 limits_of_act old new actor call (Some e) act = act.same_limits
 
@@ -195,8 +199,8 @@ limits_of_step : (old new : WorldState) (step : Step) (outcome : Outcome) → Is
 limits_of_step old new (Act actor call) outcome step = limits_of_act old new actor call outcome.event step.0
 limits_of_step old new (Finish actor) outcome step = step.1.same_limits
 
-limits_of_run : (start end : WorldState) (steps : List Step) (outcomes : List Outcome) → IsRun start steps outcomes end
-    → end.limits ≡ start.limits
+limits_of_run : (start end : WorldState) (steps : List Step) (outcomes : List Outcome)
+    → IsRun start steps outcomes end → end.limits ≡ start.limits
 limits_of_run start end [] outcomes (none, same) = ap (λ (w : WorldState). w.limits) same
 limits_of_run start end (step ∷ steps) [] run = absurd run
 limits_of_run start end (step ∷ steps) (outcome ∷ outcomes) (next, first, rest) =
@@ -208,21 +212,25 @@ same_reply a b e = cc
 no_reply : (reply : Reply) → Some reply ≡ None → ⊥
 no_reply reply e = cc
 
-by_event : (start : WorldState) (steps : List Step) (outcomes : List Outcome) (actor : ℕ) (limits : Limits) (reply : Reply)
-    (e : Event) → limits ≡ start.limits → IsLast start steps outcomes actor e → IsResponseOf limits e (Some reply)
-    → IsAnswered start steps outcomes actor reply
-by_event start steps outcomes actor limits reply (event.Serve request (Stub captured)) same known (given, is, response, rendering) = (
-  request,
-  captured,
-  known,
-  subst (λ l. IsResponse l captured.mapping.spec request reply) same
-      (subst (λ r. IsResponse limits captured.mapping.spec request r) (sym (same_reply reply given is)) response),
-  subst (λ l. IsRendering l captured.mapping.spec request reply) same
-      (subst (λ r. IsRendering limits captured.mapping.spec request r) (sym (same_reply reply given is)) rendering),
-)
+by_event : (start : WorldState) (steps : List Step) (outcomes : List Outcome) (actor : ℕ)
+    (limits : Limits) (reply : Reply)
+    (e : Event) → limits ≡ start.limits → IsLast start steps outcomes actor e
+    → IsResponseOf limits e (Some reply) → IsAnswered start steps outcomes actor reply
+by_event start steps outcomes actor limits reply (event.Serve request (Stub captured)) same known
+    (given, is, response, rendering) = (
+      request,
+      captured,
+      known,
+      subst (λ l. IsResponse l captured.mapping.spec request reply) same
+          (subst (λ r. IsResponse limits captured.mapping.spec request r) (sym (same_reply reply given is)) response),
+      subst (λ l. IsRendering l captured.mapping.spec request reply) same
+          (subst (λ r. IsRendering limits captured.mapping.spec request r)
+          (sym (same_reply reply given is)) rendering),
+    )
 by_event start steps outcomes actor limits reply other same known none = absurd (no_reply reply none)
 
-answered : (start : WorldState) (steps : List Step) (outcomes : List Outcome) (actor : ℕ) (limits : Limits) (reply : Reply)
+answered : (start : WorldState) (steps : List Step) (outcomes : List Outcome) (actor : ℕ)
+    (limits : Limits) (reply : Reply)
     (held : Option Held) → limits ≡ start.limits → IfSome held (λ h. IsLast start steps outcomes actor h.event)
     → IsGiven limits held (Some reply) → IsAnswered start steps outcomes actor reply
 answered start steps outcomes actor limits reply None same known given = absurd (no_reply reply given)

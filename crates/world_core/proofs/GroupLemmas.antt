@@ -1,6 +1,7 @@
 -- Equal keys among the keys of a list, where a test tells which keys are equal.
-use Rattle.std.proofs.Common.{◌≡◌, ◌⊎◌, ◌<◌, ◌≤◌, ◌+◌, ℕ, Bool, true, false, cond, List, [], ◌∷◌, ◌++◌, length, map}
-use Rattle.std.proofs.Common.{Some, None, refl, sym, ap, ap₂, ◌∙◌, subst, arith, inl, inr}
+use Rattle.std.proofs.Common.{◌≡◌, ◌⊎◌, ◌<◌, ◌≤◌, ◌+◌, ℕ, Bool, true, false, cond, List, []}
+use Rattle.std.proofs.Common.{◌∷◌, ◌++◌, length, map, Some, None, refl, sym, ap, ap₂, ◌∙◌, subst}
+use Rattle.std.proofs.Common.{arith, inl, inr}
 use Rattle.std.specs.Prelude.{◌&&◌, if◌then◌else◌}
 use Rattle.std.specs.List.{position_from}
 use Rattle.std.proofs.lemmas.Bool.{cases_Bool, cases_lt, eq-eqb, lt-ltb}
@@ -36,7 +37,8 @@ never_none n e = cc
 same_some : (m n : ℕ) → Some m ≡ Some n → m ≡ n
 same_some m n e = cc
 
-pub position_at_least : {A : Type 0} (p : A → Bool) (n g : ℕ) (xs : List A) → position_from p n xs ≡ Some g → n ≤ g
+pub position_at_least : {A : Type 0} (p : A → Bool) (n g : ℕ) (xs : List A)
+    → position_from p n xs ≡ Some g → n ≤ g
 position_at_least p n g [] e = cc
 position_at_least p n g (x ∷ xs) e =
     elim (cases_Bool (p x)) [
@@ -49,7 +51,8 @@ position_at_least p n g (x ∷ xs) e =
           omega (arith, later)
     ]
 
-position_below : {A : Type 0} (p : A → Bool) (n g : ℕ) (xs : List A) → position_from p n xs ≡ Some g → g < n + length xs
+position_below : {A : Type 0} (p : A → Bool) (n g : ℕ) (xs : List A) → position_from p n xs ≡ Some g
+    → g < n + length xs
 position_below p n g [] e = cc
 position_below p n g (x ∷ xs) e =
     elim (cases_Bool (p x)) [
@@ -71,14 +74,16 @@ position_of_both p q n g (x ∷ xs) e f =
       | inl hit ↦ elim (cases_Bool (q x)) [
         | inl also ↦ (x, hit, also)
         | inr miss ↦
-            let is : n ≡ g = same_some n g (sym (ap (λ b. cond b (Some n) (position_from p (n + 1) xs)) hit) ∙ e) in
+            let is : n ≡ g =
+            same_some n g (sym (ap (λ b. cond b (Some n) (position_from p (n + 1) xs)) hit) ∙ e) in
             let later : n + 1 ≤ g = position_at_least q (n + 1) g xs
             (sym (ap (λ b. cond b (Some n) (position_from q (n + 1) xs)) miss) ∙ f) in
             absurd (omega (arith, is, later))
       ]
       | inr not ↦ elim (cases_Bool (q x)) [
         | inl hit ↦
-            let is : n ≡ g = same_some n g (sym (ap (λ b. cond b (Some n) (position_from q (n + 1) xs)) hit) ∙ f) in
+            let is : n ≡ g =
+            same_some n g (sym (ap (λ b. cond b (Some n) (position_from q (n + 1) xs)) hit) ∙ f) in
             let later : n + 1 ≤ g = position_at_least p (n + 1) g xs
             (sym (ap (λ b. cond b (Some n) (position_from p (n + 1) xs)) not) ∙ e) in
             absurd (omega (arith, is, later))
@@ -93,7 +98,8 @@ abbrev pub SomePasses : {A : Type 0} → (A → Bool) → List A → Type 0
 SomePasses p [] = ⊥
 SomePasses p (x ∷ xs) = (p x ≡ true) ⊎ SomePasses p xs
 
-pub has_position : {A : Type 0} (p : A → Bool) (n : ℕ) (xs : List A) → SomePasses p xs → position_from p n xs ≡ None → ⊥
+pub has_position : {A : Type 0} (p : A → Bool) (n : ℕ) (xs : List A) → SomePasses p xs
+    → position_from p n xs ≡ None → ⊥
 has_position p n [] passes e = passes
 has_position p n (x ∷ xs) passes e =
     elim (cases_Bool (p x)) [
@@ -121,7 +127,8 @@ module _ {K : Type 0} (same : K → K → Bool) (equal : (a b : K) → same a b 
   pub times_same : (key : K) (xs : List K) → times same key (key ∷ xs) ≡ 1 + times same key xs
   times_same key xs = times_cons key key xs ∙ ap (λ b. cond b 1 0 + times same key xs) (itself key)
 
-  pub times_other : (key other : K) (xs : List K) → same other key ≡ false → times same key (other ∷ xs) ≡ times same key xs
+  pub times_other : (key other : K) (xs : List K) → same other key ≡ false
+      → times same key (other ∷ xs) ≡ times same key xs
   times_other key other xs miss =
       times_cons key other xs ∙ ap (λ b. cond b 1 0 + times same key xs) miss ∙ omega arith
 
@@ -165,7 +172,8 @@ module _ {K : Type 0} (same : K → K → Bool) (equal : (a b : K) → same a b 
       let more = larger_from same all (before ++ x ∷ []) rest in
       elim (cases_Bool (begins_larger same all before x)) [
         | inl hit ↦
-            let is : length ((if begins_larger same all before x then x ∷ [] else []) ++ more) ≡ length (x ∷ more) =
+            let is : length ((if begins_larger same all before x then x ∷ [] else []) ++ more)
+            ≡ length (x ∷ more) =
             ap (λ b. length ((if b then x ∷ [] else []) ++ more)) hit in
             omega (arith, is, later)
         | inr miss ↦
@@ -187,8 +195,8 @@ module _ {K : Type 0} (same : K → K → Bool) (equal : (a b : K) → same a b 
       let one = times_same key after in omega (arith, both, one)
 
   -- keys of one group are equal
-  pub equal_in_group : (all : List K) (a b : K) (g : ℕ) → group_of same all a ≡ Some g → group_of same all b ≡ Some g
-      → a ≡ b
+  pub equal_in_group : (all : List K) (a b : K) (g : ℕ) → group_of same all a ≡ Some g
+      → group_of same all b ≡ Some g → a ≡ b
   equal_in_group all a b g e f =
       let both = position_of_both (λ o. same o a) (λ o. same o b) 1 g (larger_groups same all) e f in
       sym (equal both.0 a both.1) ∙ equal both.0 b both.2
@@ -202,11 +210,12 @@ module _ {K : Type 0} (same : K → K → Bool) (equal : (a b : K) → same a b 
     one_before : (key : K) (x : X) (xs : List X) → key_of x ≡ key → 1 ≤ before_it key (x ∷ xs)
     one_before key x xs is =
         let e : times same key (key_of x ∷ map key_of xs) ≡ 1 + before_it key xs =
-        subst (λ k. times same key (k ∷ map key_of xs) ≡ 1 + before_it key xs) (sym is) (times_same key (map key_of xs)) in
+        subst (λ k. times same key (k ∷ map key_of xs) ≡ 1 + before_it key xs) (sym is)
+        (times_same key (map key_of xs)) in
         omega (arith, e)
 
-    pub same_split : (b c : List X) (x y : X) (bs cs : List X) → b ++ x ∷ bs ≡ c ++ y ∷ cs → key_of x ≡ key_of y
-        → before_it (key_of y) b ≡ before_it (key_of y) c → (b ≡ c) × (x ≡ y)
+    pub same_split : (b c : List X) (x y : X) (bs cs : List X) → b ++ x ∷ bs ≡ c ++ y ∷ cs
+        → key_of x ≡ key_of y → before_it (key_of y) b ≡ before_it (key_of y) c → (b ≡ c) × (x ≡ y)
     same_split [] [] x y bs cs e k t = (refl, same_head x y bs cs e)
     same_split [] (z ∷ c) x y bs cs e k t =
         let is : key_of z ≡ key_of y = ap key_of (sym (same_head x z bs (c ++ y ∷ cs) e)) ∙ k in

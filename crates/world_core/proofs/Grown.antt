@@ -1,5 +1,6 @@
 -- A past that grew by an event.
-use Rattle.std.proofs.Common.{◌≡◌, ◌⊎◌, ◌≤◌, ℕ, Bool, true, false, List, [], ◌∷◌, ◌++◌, length, refl, ap, subst, sym, ◌∙◌, inl, inr, append-nil}
+use Rattle.std.proofs.Common.{◌≡◌, ◌⊎◌, ◌≤◌, ℕ, Bool, true, false, List, [], ◌∷◌, ◌++◌}
+use Rattle.std.proofs.Common.{length, refl, ap, subst, sym, ◌∙◌, inl, inr, append-nil}
 use Rattle.std.specs.Prelude.{MatchBool, unwrap_or}
 use Rattle.request_journal.specs.Journal.{clears}
 use Rattle.request_journal.specs.Legal.{IsLegal, IsCheckpoint}
@@ -23,8 +24,8 @@ pub added : (old new : Past) (event : Event) → IsAfter old event new → IsAdd
 added old new event after = go (clears event) refl after
   where
     go : (t : Bool) → clears event ≡ t
-        → MatchBool t ((base : Past) × IsCheckpoint old base × (new ≡ with_event base event)) (new ≡ with_event old event)
-        → IsAdded old event new
+        → MatchBool t ((base : Past) × IsCheckpoint old base × (new ≡ with_event base event))
+        (new ≡ with_event old event) → IsAdded old event new
     go true is (base, checkpoint, same) = inr (base, is, checkpoint, same)
     go false is same = inl same
 

@@ -1,5 +1,6 @@
 -- What actors hold after one of them holds something else, or nothing.
-use Rattle.std.proofs.Common.{◌≡◌, ◌≢◌, ◌==◌, ℕ, Bool, true, false, not, cond, List, [], ◌∷◌, ◌++◌, Option, Some, None, refl, sym, ap, ◌∙◌, inl, inr}
+use Rattle.std.proofs.Common.{◌≡◌, ◌≢◌, ◌==◌, ℕ, Bool, true, false, not, cond, List, [], ◌∷◌}
+use Rattle.std.proofs.Common.{◌++◌, Option, Some, None, refl, sym, ap, ◌∙◌, inl, inr}
 use Rattle.std.specs.List.{find}
 use Rattle.std.specs.Option.{option_or}
 use Rattle.std.proofs.lemmas.Bool.{eq-eqb, ne_eqb}
@@ -23,10 +24,12 @@ own_gone actor (h ∷ held) = go (h.actor == actor) refl (own_gone actor held)
     go : (t : Bool) → (h.actor == actor) ≡ t → held_by actor (held_by_others actor held) ≡ None
         → held_by actor (held_by_others actor (h ∷ held)) ≡ None
     go true e rest =
-        ap (λ b. find (λ (x : Held). x.actor == actor) (cond (not b) (h ∷ held_by_others actor held) (held_by_others actor held))) e
+        ap (λ b. find (λ (x : Held). x.actor == actor)
+        (cond (not b) (h ∷ held_by_others actor held) (held_by_others actor held))) e
         ∙ rest
     go false e rest =
-        ap (λ b. find (λ (x : Held). x.actor == actor) (cond (not b) (h ∷ held_by_others actor held) (held_by_others actor held))) e
+        ap (λ b. find (λ (x : Held). x.actor == actor)
+        (cond (not b) (h ∷ held_by_others actor held) (held_by_others actor held))) e
         ∙ ap (λ b. cond b (Some h) (held_by actor (held_by_others actor held))) e
         ∙ rest
 
@@ -44,11 +47,13 @@ others_stay actor other (h ∷ held) differ = go (h.actor == other) refl (others
           | inl same ↦ differ (sym same.1 ∙ is)
           | inr differs ↦ true_is_no (h.actor == other) e differs.0
         ]) in
-        ap (λ b. find (λ (x : Held). x.actor == actor) (cond (not b) (h ∷ held_by_others other held) (held_by_others other held))) e
+        ap (λ b. find (λ (x : Held). x.actor == actor)
+        (cond (not b) (h ∷ held_by_others other held) (held_by_others other held))) e
         ∙ rest
         ∙ sym (ap (λ b. cond b (Some h) (held_by actor held)) not_its)
     go false e rest =
-        ap (λ b. find (λ (x : Held). x.actor == actor) (cond (not b) (h ∷ held_by_others other held) (held_by_others other held))) e
+        ap (λ b. find (λ (x : Held). x.actor == actor)
+        (cond (not b) (h ∷ held_by_others other held) (held_by_others other held))) e
         ∙ ap (λ o. cond (h.actor == actor) (Some h) o) rest
 
 -- what is put last is what its actor holds, and the others hold what they held

@@ -15,8 +15,8 @@ legal_act old new actor call None legal (refused, same) =
     subst (λ (w : WorldState). IsLegal w.past) (sym same) legal
 legal_act old new actor call (Some event) legal happens = legal_grown old.past new.past event legal happens.grows
 
-legal_step : (old new : WorldState) (step : Step) (outcome : Outcome) → IsLegal old.past → IsStep old step outcome new
-    → IsLegal new.past
+legal_step : (old new : WorldState) (step : Step) (outcome : Outcome) → IsLegal old.past
+    → IsStep old step outcome new → IsLegal new.past
 legal_step old new (Act actor call) outcome legal (act, none) = legal_act old new actor call outcome.event legal act
 legal_step old new (Finish actor) outcome legal (none, finish) = subst IsLegal (sym finish.same_past) legal
 

@@ -1,5 +1,6 @@
 -- Lists whose items all have a property, and items of a list.
-use Rattle.std.proofs.Common.{◌≡◌, ◌⊎◌, zero, suc, List, [], ◌∷◌, ◌++◌, All, Contains, refl, ap, inl, inr, arith, subst, append_assoc}
+use Rattle.std.proofs.Common.{◌≡◌, ◌⊎◌, zero, suc, List, [], ◌∷◌, ◌++◌, All, Contains, refl, ap}
+use Rattle.std.proofs.Common.{inl, inr, arith, subst, append_assoc}
 
 pub all_first : {X : Type 0} (P : X → Type 0) (x : X) (xs : List X) → All P (x ∷ xs) → P x
 all_first P x xs all = all 0 x (omega arith)
@@ -40,7 +41,8 @@ pub item_between : {X : Type 0} (before : List X) (x : X) (after : List X) → I
 item_between [] x after = inl refl
 item_between (y ∷ before) x after = inr (item_between before x after)
 
-pub item_after : {X : Type 0} (before : List X) (after : List X) (x : X) → IsItem after x → IsItem (before ++ after) x
+pub item_after : {X : Type 0} (before : List X) (after : List X) (x : X) → IsItem after x
+    → IsItem (before ++ after) x
 item_after [] after x item = item
 item_after (y ∷ before) after x item = inr (item_after before after x item)
 

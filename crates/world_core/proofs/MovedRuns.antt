@@ -20,11 +20,12 @@ use Rattle.world_core.proofs.Grown.{state_grown}
 
 -- ---- one step
 
-moved_by : (old new : WorldState) (actor : ℕ) (call : Call) (e : Event) → Happens old actor call e new → MovesBy old e new
+moved_by : (old new : WorldState) (actor : ℕ) (call : Call) (e : Event) → Happens old actor call e new
+    → MovesBy old e new
 moved_by old new actor call e happens = λ name. state_grown old.past new.past e name happens.grows
 
-is_served : (old new : WorldState) (actor : ℕ) (request : Request) (e : Event) → Happens old actor (Serve request) e new
-    → IsServedOnce old request (Some e) new
+is_served : (old new : WorldState) (actor : ℕ) (request : Request) (e : Event)
+    → Happens old actor (Serve request) e new → IsServedOnce old request (Some e) new
 is_served old new actor request (event.Serve served answer) happens = (
   answer,
   ap (λ r. event.Serve r answer) happens.asked_for,
@@ -65,9 +66,11 @@ moved_step old new (Finish actor) outcome name step =
     subst (λ (e : Option Event). IsMoved name e (state old.past name) (state new.past name)) (sym step.0)
     (ap (λ (p : Past). state p name) step.1.same_past)
 
-then_moved : (name : List ℕ) (event : Option Event) (reply : Option Reply) (outcomes : List Outcome) (before between after : List ℕ)
+then_moved : (name : List ℕ) (event : Option Event) (reply : Option Reply) (outcomes : List Outcome)
+    (before between after : List ℕ)
     → IsMoved name event before between → after ≡ unwrap_or (last_of (touch name) (events_of outcomes)) between
-    → after ≡ unwrap_or (last_of (touch name) (events_of (record { event = event; reply = reply } ∷ outcomes))) before
+    → after ≡ unwrap_or
+    (last_of (touch name) (events_of (record { event = event; reply = reply } ∷ outcomes))) before
 then_moved name None reply outcomes before between after first rest =
     rest ∙ ap (unwrap_or (last_of (touch name) (events_of outcomes))) first
 then_moved name (Some e) reply outcomes before between after first rest =
@@ -78,7 +81,8 @@ pub moved_run : (start end : WorldState) (steps : List Step) (outcomes : List Ou
     → IsRun start steps outcomes end
     → state end.past name ≡ unwrap_or (last_of (touch name) (events_of outcomes)) (state start.past name)
 moved_run start end [] outcomes name (none, same) =
-    subst (λ (os : List Outcome). state end.past name ≡ unwrap_or (last_of (touch name) (events_of os)) (state start.past name))
+    subst (λ (os : List Outcome).
+    state end.past name ≡ unwrap_or (last_of (touch name) (events_of os)) (state start.past name))
     (sym none) (ap (λ (w : WorldState). state w.past name) same)
 moved_run start end (step ∷ steps) [] name run = absurd run
 moved_run start end (step ∷ steps) (outcome ∷ outcomes) name (between, first, rest) =

@@ -1,5 +1,6 @@
 -- The names of scenarios and states differ.
-use Rattle.std.proofs.Common.{◌≡◌, ◌<◌, ◌≤◌, ◌^◌, ℕ, sym, ap, ◌∙◌, inl, inr, arith, codes, subst}
+use Rattle.std.proofs.Common.{◌≡◌, ◌<◌, ◌≤◌, ◌^◌, ℕ, sym, ap, ◌∙◌, inl, inr, arith, codes}
+use Rattle.std.proofs.Common.{subst}
 use Rattle.std.specs.Prelude.{decimal, if◌then◌else◌}
 use Rattle.std.specs.Str.Parse.{IsNumeral}
 use Rattle.std.proofs.lemmas.Bool.{cases_lt, le-leb, lt-leb}
@@ -7,7 +8,8 @@ use Rattle.std.proofs.lemmas.Fmt.{decimal_injective, decimal_is_IsNumeral}
 use Rattle.std.proofs.lemmas.List.{append_cancel_left}
 use Rattle.recorder.specs.Stubs.{scenario_name, state_name}
 
-pub same_scenario : (number g h : ℕ) → g < 2 ^ 64 → h < 2 ^ 64 → scenario_name number g ≡ scenario_name number h → g ≡ h
+pub same_scenario : (number g h : ℕ) → g < 2 ^ 64 → h < 2 ^ 64
+    → scenario_name number g ≡ scenario_name number h → g ≡ h
 same_scenario number g h few also is =
     let rest = append_cancel_left (codes "recording-") _ _ is in
     let last = append_cancel_left (decimal number) _ _ rest in
@@ -25,7 +27,8 @@ no_number k few is =
     let numeral : IsNumeral 10 (codes "Started") = subst (IsNumeral 10) (sym is) (decimal_is_IsNumeral k few).0 in
     absurd (omega (arith, numeral.1.0))
 
-pub same_state : (j k : ℕ) → 1 ≤ j → 1 ≤ k → j < 2 ^ 64 → k < 2 ^ 64 → state_name j ≡ state_name k → j ≡ k
+pub same_state : (j k : ℕ) → 1 ≤ j → 1 ≤ k → j < 2 ^ 64 → k < 2 ^ 64
+    → state_name j ≡ state_name k → j ≡ k
 same_state j k one also few fewer is =
     elim (cases_lt 1 j) [
       | inl many ↦ elim (cases_lt 1 k) [

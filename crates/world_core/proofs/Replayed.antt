@@ -1,6 +1,7 @@
 -- What is recorded is what is replayed.
-use Rattle.std.proofs.Common.{◌≡◌, ◌≢◌, ◌↔◌, ◌<◌, ◌≤◌, ◌+◌, ◌^◌, ℕ, true, false, cond, List, [], ◌∷◌, ◌++◌, length, All}
-use Rattle.std.proofs.Common.{Option, Some, None, refl, sym, ap, ap₂, ◌∙◌, inl, inr, arith, subst, codes, append-nil, option_map}
+use Rattle.std.proofs.Common.{◌≡◌, ◌≢◌, ◌↔◌, ◌<◌, ◌≤◌, ◌+◌, ◌^◌, ℕ, true, false}
+use Rattle.std.proofs.Common.{cond, List, [], ◌∷◌, ◌++◌, length, All, Option, Some, None, refl, sym, ap}
+use Rattle.std.proofs.Common.{ap₂, ◌∙◌, inl, inr, arith, subst, codes, append-nil, option_map}
 use Rattle.std.specs.Prelude.{Any, Contains, IfSome, bytes_eq, decimal, nat_lt, if◌then◌else◌, unwrap_or}
 use Rattle.std.proofs.lemmas.Bool.{cases_Bool, false_from_ne_true, lt-ltb}
 use Rattle.std.proofs.lemmas.List.{length-append, length-map, map-append}
@@ -29,7 +30,8 @@ use Rattle.request_match.specs.Matching.{MeetsRequest}
 use Rattle.scenario_core.specs.Scenarios.{started}
 use Rattle.http_header.specs.FieldName.{IsHeaderName}
 use Rattle.world_core.specs.Replay.{HasRecorded, IsReplayable}
-use Rattle.world_core.proofs.GroupLemmas.{equal_in_group, few_groups, once_at_most, same_split, times_append, times_item, times_other, times_same, true_is_no}
+use Rattle.world_core.proofs.GroupLemmas.{equal_in_group, few_groups, once_at_most, same_split, times_append}
+use Rattle.world_core.proofs.GroupLemmas.{times_item, times_other, times_same, true_is_no}
 use Rattle.world_core.proofs.ListFacts.{IsItem, all_item, contains_item, item_between, item_of, item_split, one_further}
 use Rattle.world_core.proofs.NameLemmas.{number_at, same_scenario, same_state, started_at}
 use Rattle.world_core.proofs.RequestLemmas.{IsLower, equal_key, itself_key, meets_its_key, meets_itself}
@@ -55,7 +57,8 @@ module _ (state_of : List ℕ → List ℕ) (number position size : ℕ) where
   abbrev part : Option ℕ → Option ScenarioSpec
   part group = option_map (λ g. scenario_part (scenario_name number g) position size) group
 
-  ready_where : (group : Option ℕ) → ((g : ℕ) → group ≡ Some g → state_of (scenario_name number g) ≡ state_name position)
+  ready_where : (group : Option ℕ)
+      → ((g : ℕ) → group ≡ Some g → state_of (scenario_name number g) ≡ state_name position)
       → IsReady state_of (part group)
   ready_where None states = tt
   ready_where (Some g) states = states g refl
@@ -64,7 +67,8 @@ module _ (state_of : List ℕ → List ℕ) (number position size : ℕ) where
       → state_of (scenario_name number g) ≡ state_name position
   where_ready group g is ready = subst (λ (o : Option ℕ). IsReady state_of (part o)) is ready
 
-module _ (captured : List (List ℕ)) (number : ℕ) (exchanges : List Exchange) (can : IsReplayable captured exchanges) where
+module _ (captured : List (List ℕ)) (number : ℕ) (exchanges : List Exchange)
+    (can : IsReplayable captured exchanges) where
   abbrev pub key : Exchange → KeyParts
   key e = key_of e.request captured
 
@@ -84,7 +88,9 @@ module _ (captured : List (List ℕ)) (number : ℕ) (exchanges : List Exchange)
   -- ---- one of the exchanges
 
   lower : (e : Exchange) → IsItem exchanges e → All IsLower e.request.headers
-  lower e item = λ k d lt. (all_item (λ x. All (λ (h : Header). IsHeaderName h.name) x.request.headers) exchanges e can.names item k d lt).1
+  lower e item = λ k d lt.
+      (all_item (λ x. All (λ (h : Header). IsHeaderName h.name) x.request.headers) exchanges e
+      can.names item k d lt).1
 
   kept : (e : Exchange) → IsItem exchanges e → is_kept captured e ≡ true
   kept e item = all_item (λ x. is_kept captured x ≡ true) exchanges e can.kept item
@@ -108,9 +114,11 @@ module _ (captured : List (List ℕ)) (number : ℕ) (exchanges : List Exchange)
   few_times : (k : KeyParts) (before : List Exchange) (e : Exchange) (after : List Exchange)
       → exchanges ≡ before ++ e ∷ after → many k before + 1 < 2 ^ 64
   few_times k before e after is =
-      let few : many k before ≤ length (keys_of captured before) = count_by-le-length (λ o. same_key o k) (keys_of captured before) in
+      let few : many k before ≤ length (keys_of captured before) =
+      count_by-le-length (λ o. same_key o k) (keys_of captured before) in
       let l = length-map before key in
-      let whole : length exchanges ≡ length before + length (e ∷ after) = ap length is ∙ length-append before (e ∷ after) in
+      let whole : length exchanges ≡ length before + length (e ∷ after) =
+      ap length is ∙ length-append before (e ∷ after) in
       let f = can.few in omega (arith, few, l, whole, f)
 
   -- how many of all have the key of one of them
@@ -137,7 +145,8 @@ module _ (captured : List (List ℕ)) (number : ℕ) (exchanges : List Exchange)
         → state past (scenario_name number g) ≡ state_name (many (key x) done + 1)
     pub room : last_number past + length left ≤ NUMBER_LIMIT
 
-  module _ (all : List Placed) (live_ones : (spec : MappingSpec) → Any (λ p. p.mapping.spec ≡ spec) all ↔ Contains recorded spec)
+  module _ (all : List Placed)
+      (live_ones : (spec : MappingSpec) → Any (λ p. p.mapping.spec ≡ spec) all ↔ Contains recorded spec)
       (done : List Exchange) (e : Exchange) (left : List Exchange) (past : Past)
       (now : IsBetween all done (e ∷ left) past) where
     here : IsItem exchanges e
@@ -157,7 +166,8 @@ module _ (captured : List (List ℕ)) (number : ℕ) (exchanges : List Exchange)
 
     never_missed : ¬ (IsMissed (state past) (live past) e.request)
     never_missed missed =
-        let (k, p, lt, at, is) = subst (λ ps. Any (λ (p : Placed). p.mapping.spec ≡ own done e) ps) (sym now.same_live) own_live in
+        let (k, p, lt, at, is) =
+        subst (λ ps. Any (λ (p : Placed). p.mapping.spec ≡ own done e) ps) (sym now.same_live) own_live in
         missed p (k, lt, at) (record {
           meets = subst (λ s. MeetsRequest s.request e.request) (sym is) own_eligible.meets;
           ready = subst (λ s. IsReady (state past) s.scenario) (sym is) own_eligible.ready;
@@ -184,7 +194,8 @@ module _ (captured : List (List ℕ)) (number : ℕ) (exchanges : List Exchange)
         same_state (many (key x) before + 1) (many (key e) done + 1) (omega arith) (omega arith)
         (few_times (key x) before x after whole) (few_times (key e) done e left now.whole) (sym its ∙ mine) in
         let as_often : many (key e) before ≡ many (key e) done =
-        let moved : many (key x) before ≡ many (key e) before = ap (λ k. many k before) same in omega (arith, equal, moved) in
+        let moved : many (key x) before ≡ many (key e) before = ap (λ k. many k before) same in
+        omega (arith, equal, moved) in
         same_split same_key equal_key itself_key key before done x e after left (sym whole ∙ now.whole) same as_often
 
     own_chosen : (spec : MappingSpec) → Any (λ (p : Placed). p.mapping.spec ≡ spec) all
@@ -239,8 +250,10 @@ module _ (captured : List (List ℕ)) (number : ℕ) (exchanges : List Exchange)
           ∙ times_append same_key equal_key itself_key k (keys_of captured done) (key e ∷ [])
 
       -- the next of the same group
-      moved_on : (x : Exchange) → IsItem left x → (g : ℕ) → group_of same_key keys (key x) ≡ Some g → key e ≡ key x
-          → state (with_event past served) (scenario_name number g) ≡ state_name (many (key x) (done ++ e ∷ []) + 1)
+      moved_on : (x : Exchange) → IsItem left x → (g : ℕ) → group_of same_key keys (key x) ≡ Some g
+          → key e ≡ key x
+          → state (with_event past served) (scenario_name number g)
+          ≡ state_name (many (key x) (done ++ e ∷ []) + 1)
       moved_on x item g which same =
           let name = scenario_name number g in
           let mine : group_of same_key keys (key e) ≡ Some g = ap (group_of same_key keys) same ∙ which in
@@ -261,13 +274,16 @@ module _ (captured : List (List ℕ)) (number : ℕ) (exchanges : List Exchange)
           let moved : many (key x) done ≡ many (key e) done = ap (λ k. many k done) (sym same) in
           omega (arith, m, one, moved) in
           next_of (Some g) mine name
-          ∙ ap (λ b. unwrap_or (cond b (if nat_lt position size then Some (decimal (position + 1)) else None) None) (state past name)) same_name
-          ∙ ap (λ b. unwrap_or (if b then Some (decimal (position + 1)) else None) (state past name)) (lt-ltb position size below)
+          ∙ ap (λ b. unwrap_or (cond b (if nat_lt position size then Some (decimal (position + 1)) else None) None)
+          (state past name)) same_name
+          ∙ ap (λ b. unwrap_or (if b then Some (decimal (position + 1)) else None) (state past name))
+          (lt-ltb position size below)
           ∙ sym (number_at (position + 1) (omega arith))
           ∙ ap (λ n. state_name (n + 1)) (sym once_more)
 
       -- a scenario of another group
-      stays_there : (x : Exchange) → IsItem left x → (g : ℕ) (group : Option ℕ) → group_of same_key keys (key x) ≡ Some g
+      stays_there : (x : Exchange) → IsItem left x → (g : ℕ) (group : Option ℕ)
+          → group_of same_key keys (key x) ≡ Some g
           → group_of same_key keys (key e) ≡ group → same_key (key e) (key x) ≡ false
           → state (with_event past served) (scenario_name number g) ≡ state past (scenario_name number g)
       stays_there x item g None which none other = next_of None none (scenario_name number g)
@@ -276,14 +292,17 @@ module _ (captured : List (List ℕ)) (number : ℕ) (exchanges : List Exchange)
           false_from_ne_true (bytes_eq (scenario_name number h) (scenario_name number g)) (λ t.
           let same_name = (bytes_eq-Decides (scenario_name number h) (scenario_name number g)).0 t in
           let equal = same_scenario number h g (small_group (key e) h mine) (small_group (key x) g which) same_name in
-          let one = equal_in_group same_key equal_key itself_key keys (key e) (key x) g (mine ∙ ap (λ n. Some n) equal) which in
-          true_is_no (same_key (key e) (key x)) (subst (λ k. same_key (key e) k ≡ true) one (itself_key (key e))) other) in
+          let one = equal_in_group same_key equal_key itself_key keys (key e) (key x) g
+          (mine ∙ ap (λ n. Some n) equal) which in
+          true_is_no (same_key (key e) (key x))
+          (subst (λ k. same_key (key e) k ≡ true) one (itself_key (key e))) other) in
           next_of (Some h) mine (scenario_name number g)
           ∙ ap (λ b. unwrap_or (cond b (if nat_lt position size then Some (decimal (position + 1)) else None) None)
           (state past (scenario_name number g))) differ
 
       states_after : (x : Exchange) → IsItem left x → (g : ℕ) → group_of same_key keys (key x) ≡ Some g
-          → state (with_event past served) (scenario_name number g) ≡ state_name (many (key x) (done ++ e ∷ []) + 1)
+          → state (with_event past served) (scenario_name number g)
+          ≡ state_name (many (key x) (done ++ e ∷ []) + 1)
       states_after x item g which = elim (cases_Bool (same_key (key e) (key x))) [
         | inl hit ↦ moved_on x item g which (equal_key (key e) (key x) hit)
         | inr miss ↦
@@ -304,7 +323,8 @@ module _ (captured : List (List ℕ)) (number : ℕ) (exchanges : List Exchange)
 
   -- ---- before the first
 
-  pub at_first : (past : Past) → HasRecorded captured number exchanges past → IsBetween (live past) [] exchanges past
+  pub at_first : (past : Past) → HasRecorded captured number exchanges past
+      → IsBetween (live past) [] exchanges past
   at_first past has = record {
     whole = refl;
     same_live = refl;
@@ -313,7 +333,8 @@ module _ (captured : List (List ℕ)) (number : ℕ) (exchanges : List Exchange)
         let its = all_item (λ spec. IfSome spec.scenario (λ s. state past s.name ≡ started)) recorded (own before x)
         has.all_started (own_mapping captured number exchanges can.kept before x after whole) in
         let begun : state past (scenario_name number g) ≡ started =
-        subst (λ (o : Option ℕ). IfSome (part (state past) number (many (key x) before + 1) (times same_key (key x) keys) o)
+        subst (λ (o : Option ℕ).
+        IfSome (part (state past) number (many (key x) before + 1) (times same_key (key x) keys) o)
         (λ s. state past s.name ≡ started)) which its in
         begun ∙ sym (started_at (many (key x) [] + 1) (omega arith));
     room = has.room;

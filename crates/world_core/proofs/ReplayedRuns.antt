@@ -1,5 +1,6 @@
 -- Recorded requests that are sent again get the recorded replies.
-use Rattle.std.proofs.Common.{◌≡◌, ℕ, true, List, [], ◌∷◌, ◌++◌, map, All, Option, Some, None, refl, sym, ap, ◌∙◌, subst, arith}
+use Rattle.std.proofs.Common.{◌≡◌, ℕ, true, List, [], ◌∷◌, ◌++◌, map, All, Option, Some, None, refl}
+use Rattle.std.proofs.Common.{sym, ap, ◌∙◌, subst, arith}
 use Rattle.std.specs.Prelude.{Any, Contains, ◌↔◌}
 use Rattle.std.specs.List.{cons_option}
 use Rattle.mapping_model.specs.declared.mapping_spec.MappingSpec.{MappingSpec}
@@ -61,20 +62,24 @@ of_event old new actor request (event.Serve served (Stub c)) chooses happens = (
   },
 )
 of_event old new actor request (event.Serve served (Proxy target)) chooses happens =
-    let never = chooses (Proxy target) (subst (λ r. IsChoice old.past r (Proxy target)) happens.asked_for happens.grows.next.answer) in
+    let never = chooses (Proxy target)
+    (subst (λ r. IsChoice old.past r (Proxy target)) happens.asked_for happens.grows.next.answer) in
     absurd (no_proxy target never.0 never.1)
 of_event old new actor request (event.Serve served Unmatched) chooses happens =
-    let never = chooses Unmatched (subst (λ r. IsChoice old.past r Unmatched) happens.asked_for happens.grows.next.answer) in
+    let never = chooses Unmatched
+    (subst (λ r. IsChoice old.past r Unmatched) happens.asked_for happens.grows.next.answer) in
     absurd (no_miss never.0 never.1)
 of_event old new actor request other chooses happens = absurd happens.asked_for
 
 of_act : (old new : WorldState) (actor : ℕ) (request : Request) (e : Option Event) → ¬ (IsFull old.past)
-    → Chooses old.past request → IsAct old actor (Serve request) e new → (c : Captured) × IsServed old new actor request c
+    → Chooses old.past request → IsAct old actor (Serve request) e new
+    → (c : Captured) × IsServed old new actor request c
 of_act old new actor request None room chooses act = absurd (room act.0)
 of_act old new actor request (Some e) room chooses act = of_event old new actor request e chooses act
 
 -- the reply to what is held
-of_given : (limits : Limits) (actor : ℕ) (request : Request) (c : Captured) (found : Option Held) (reply : Option Reply)
+of_given : (limits : Limits) (actor : ℕ) (request : Request) (c : Captured)
+    (found : Option Held) (reply : Option Reply)
     → found ≡ Some (record { actor = actor; event = event.Serve request (Stub c) }) → IsGiven limits found reply
     → (given : Reply) × (reply ≡ Some given) × IsResponse limits c.mapping.spec request given
 of_given limits actor request c found reply is given =
@@ -82,8 +87,8 @@ of_given limits actor request c found reply is given =
     subst (λ o. IsGiven limits o reply) is given in
     (held.0, held.1, held.2)
 
-two_more : (first second : Outcome) (rest : List Outcome) (reply : Reply) → first.reply ≡ None → second.reply ≡ Some reply
-    → replies_of (first ∷ second ∷ rest) ≡ reply ∷ replies_of rest
+two_more : (first second : Outcome) (rest : List Outcome) (reply : Reply) → first.reply ≡ None
+    → second.reply ≡ Some reply → replies_of (first ∷ second ∷ rest) ≡ reply ∷ replies_of rest
 two_more first second rest reply none some = λ i. cons_option (none i) (cons_option (some i) (replies_of rest))
 
 module _ (captured : List (List ℕ)) (number : ℕ) (exchanges : List Exchange) (can : IsReplayable captured exchanges)
@@ -92,8 +97,8 @@ module _ (captured : List (List ℕ)) (number : ℕ) (exchanges : List Exchange)
     ↔ Contains (mappings_of captured exchanges true number) spec)
     (actor : ℕ) where
   replayed : (done left : List Exchange) (start end : WorldState) (outcomes : List Outcome)
-      → IsBetween captured number exchanges can all done left start.past → IsRun start (sending actor left) outcomes end
-      → replies_of outcomes ≡ map (λ e. e.reply) left
+      → IsBetween captured number exchanges can all done left start.past
+      → IsRun start (sending actor left) outcomes end → replies_of outcomes ≡ map (λ e. e.reply) left
   replayed done [] start end outcomes now run = ap replies_of run.0
   replayed done (e ∷ left) start end [] now run = absurd run
   replayed done (e ∷ left) start end (first ∷ []) now (served, act, rest) = absurd rest
@@ -113,12 +118,14 @@ module _ (captured : List (List ℕ)) (number : ℕ) (exchanges : List Exchange)
       (ap (λ (m : MappingSpec). m.response) is)
       (all_item (λ x. All IsClean x.reply.headers) exchanges e can.values item) response in
       let next = after_one captured number exchanges can all live_ones done e left start.past now c is in
-      let past : finished.past ≡ with_event start.past (event.Serve e.request (Stub c)) = finish.1.same_past ∙ made.past in
+      let past : finished.past ≡ with_event start.past (event.Serve e.request (Stub c)) =
+      finish.1.same_past ∙ made.past in
       two_more first second outcomes reply act.1 gives
       ∙ (λ i. same i ∷ replayed (done ++ e ∷ []) left finished end outcomes
       (subst (λ p. IsBetween captured number exchanges can all (done ++ e ∷ []) left p) (sym past) next) rest i)
 
-pub replayed_run : (captured : List (List ℕ)) (number : ℕ) (exchanges : List Exchange) (actor : ℕ) (start end : WorldState)
+pub replayed_run : (captured : List (List ℕ)) (number : ℕ) (exchanges : List Exchange)
+    (actor : ℕ) (start end : WorldState)
     (outcomes : List Outcome) → IsReplayable captured exchanges → HasRecorded captured number exchanges start.past
     → IsRun start (sending actor exchanges) outcomes end
     → replies_of outcomes ≡ map (λ e. e.reply) exchanges

@@ -30,8 +30,8 @@ same_text (b ∷ bs) all =
 abbrev pub IsClean : ReplyHeader → Type 0
 IsClean header = All (λ b. is_value_byte b ≡ true) header.value
 
-same_lines : (lines headers : List ReplyHeader) → All IsClean lines → AllZip (IsLine Itself) (map header_line lines) headers
-    → headers ≡ lines
+same_lines : (lines headers : List ReplyHeader) → All IsClean lines
+    → AllZip (IsLine Itself) (map header_line lines) headers → headers ≡ lines
 same_lines [] [] clean zip = refl
 same_lines [] (h ∷ headers) clean zip = absurd zip
 same_lines (l ∷ lines) [] clean zip = absurd zip
@@ -49,16 +49,19 @@ text_is (b ∷ bs) given is = is
 same_body : (bytes given : List ℕ) → IsBody Itself (reply_body bytes) given → given ≡ bytes
 same_body bytes given is = elim (cases_Bool (is_utf8 bytes)) [
   | inl hit ↦ text_is bytes given
-      (subst (λ (b : Body (List ℕ)). IsBody Itself b given) (cond-true (is_utf8 bytes) (text_body bytes) (body.Base64 bytes) hit) is)
+      (subst (λ (b : Body (List ℕ)). IsBody Itself b given)
+      (cond-true (is_utf8 bytes) (text_body bytes) (body.Base64 bytes) hit) is)
   | inr miss ↦
-      subst (λ (b : Body (List ℕ)). IsBody Itself b given) (cond-false (is_utf8 bytes) (text_body bytes) (body.Base64 bytes) miss) is
+      subst (λ (b : Body (List ℕ)). IsBody Itself b given)
+      (cond-false (is_utf8 bytes) (text_body bytes) (body.Base64 bytes) miss) is
 ]
 
 pub same_reply : (limits : Limits) (mapping : MappingSpec) (request : Request) (recorded reply : Reply)
-    → mapping.response ≡ response_of recorded → All IsClean recorded.headers → IsResponse limits mapping request reply
-    → reply ≡ recorded
+    → mapping.response ≡ response_of recorded → All IsClean recorded.headers
+    → IsResponse limits mapping request reply → reply ≡ recorded
 same_reply limits mapping request recorded reply is clean response =
-    let Given : ResponseSpec → Type 0 = λ r. IsReplyOf Meant limits mapping.request.url r.status r.content request reply in
+    let Given : ResponseSpec → Type 0 =
+    λ r. IsReplyOf Meant limits mapping.request.url r.status r.content request reply in
     let made : IsMade Itself recorded.status (map header_line recorded.headers) (reply_body recorded.body) reply =
     subst Given is response in
     let status = made.same_status in

@@ -1,6 +1,7 @@
 -- Which requests meet the matcher of a recorded request: it itself, and only those with its key.
-use Rattle.std.proofs.Common.{◌≡◌, ◌≢◌, ◌≤◌, ℕ, zero, suc, true, cond, List, [], ◌∷◌, ◌++◌, length, map}
-use Rattle.std.proofs.Common.{All, refl, sym, ap, ap₂, ◌∙◌, inl, inr, arith, codes, subst}
+use Rattle.std.proofs.Common.{◌≡◌, ◌≢◌, ◌≤◌, ℕ, zero, suc, true, cond, List, [], ◌∷◌}
+use Rattle.std.proofs.Common.{◌++◌, length, map, All, refl, sym, ap, ap₂, ◌∙◌, inl, inr, arith, codes}
+use Rattle.std.proofs.Common.{subst}
 use Rattle.std.specs.Prelude.{◌&&◌, nat_le, bytes_eq}
 use Rattle.std.specs.Char.{to_ascii_lowercase}
 use Rattle.std.specs.Cmp.Lexicographic.{pointwise}
@@ -17,7 +18,8 @@ use Rattle.mock_request.specs.HeaderFields.{texts_of}
 use Rattle.mock_request.specs.Request.{Header, Request}
 use Rattle.recorder.specs.Key.{KeyParts, captured_headers, headers_named, key_of, same_header, same_key}
 use Rattle.recorder.specs.Inner.Keys.{same_key_laws}
-use Rattle.recorder.specs.Stubs.{body_pattern, first_value, header_matcher, is_kept, is_text_once, can_be_response, request_of}
+use Rattle.recorder.specs.Stubs.{body_pattern, first_value, header_matcher, is_kept, is_text_once, can_be_response}
+use Rattle.recorder.specs.Stubs.{request_of}
 use Rattle.recorder.specs.declared.exchange.Exchange.{Exchange}
 use Rattle.request_match.specs.Matching.{MeetsRequest}
 use Rattle.request_parts.specs.Matching.{MeetHeaders, MeetsAny, MeetsBody}
@@ -43,9 +45,11 @@ same_headers (x ∷ xs) (y ∷ ys) is =
 
 pub equal_key : (a b : KeyParts) → same_key a b ≡ true → a ≡ b
 equal_key a b is =
-    let last = and_parts ((bytes_eq a.method b.method && bytes_eq a.url b.url) && pointwise same_header a.headers b.headers)
+    let last = and_parts ((bytes_eq a.method b.method && bytes_eq a.url b.url)
+    && pointwise same_header a.headers b.headers)
     (bytes_eq a.body b.body) is in
-    let middle = and_parts (bytes_eq a.method b.method && bytes_eq a.url b.url) (pointwise same_header a.headers b.headers) last.0 in
+    let middle = and_parts (bytes_eq a.method b.method && bytes_eq a.url b.url)
+    (pointwise same_header a.headers b.headers) last.0 in
     let first = and_parts (bytes_eq a.method b.method) (bytes_eq a.url b.url) middle.0 in
     let method = same_bytes a.method b.method first.0 in
     let url = same_bytes a.url b.url first.1 in
@@ -77,7 +81,8 @@ once (h ∷ []) is =
     (and_parts (nat_le (length (h ∷ [])) 1) (list_all (λ header. is_utf8 header.value) (h ∷ [])) is).1).0
 once (h ∷ i ∷ hs) is =
     let few : length (h ∷ i ∷ hs) ≤ 1 = leb-true (length (h ∷ i ∷ hs)) 1
-    (and_parts (nat_le (length (h ∷ i ∷ hs)) 1) (list_all (λ header. is_utf8 header.value) (h ∷ i ∷ hs)) is).0 in
+    (and_parts (nat_le (length (h ∷ i ∷ hs)) 1)
+    (list_all (λ header. is_utf8 header.value) (h ∷ i ∷ hs)) is).0 in
     absurd (omega (arith, few))
 
 -- their names are this one, in lower case
@@ -92,7 +97,8 @@ are_named name (h ∷ hs) lower =
     elim (cases_Bool (str_eq_ignore_ascii_case name h.name)) [
       | inl hit ↦
           let is : h.name ≡ map to_ascii_lowercase name =
-          sym (same_bytes (map to_ascii_lowercase name) (map to_ascii_lowercase h.name) hit ∙ all_first IsLower h hs lower) in
+          sym (same_bytes (map to_ascii_lowercase name) (map to_ascii_lowercase h.name) hit
+          ∙ all_first IsLower h hs lower) in
           subst (AreNamed name) (sym (cond-true (str_eq_ignore_ascii_case name h.name) (h ∷ headers_named name hs)
           (headers_named name hs) hit)) (is, rest)
       | inr miss ↦
@@ -106,19 +112,24 @@ texts_named : (name : List ℕ) (hs : List Header) → All IsLower hs
 texts_named name [] lower = refl
 texts_named name (h ∷ hs) lower =
     let low : List ℕ = map to_ascii_lowercase name in
-    let rest : texts_of low hs ≡ map text_of (headers_named name hs) = texts_named name hs (all_rest IsLower h hs lower) in
-    let same : str_eq_ignore_ascii_case name h.name ≡ bytes_eq low h.name = ap (bytes_eq low) (all_first IsLower h hs lower) in
+    let rest : texts_of low hs ≡ map text_of (headers_named name hs) =
+    texts_named name hs (all_rest IsLower h hs lower) in
+    let same : str_eq_ignore_ascii_case name h.name ≡ bytes_eq low h.name =
+    ap (bytes_eq low) (all_first IsLower h hs lower) in
     let pairs : List (List ℕ × List ℕ) = filter (λ (pair : List ℕ × List ℕ). bytes_eq low pair.0)
     (map (λ (x : Header). (x.name, utf8_lossy x.value)) hs) in
     elim (cases_Bool (bytes_eq low h.name)) [
       | inl hit ↦
-          ap (λ b. map (λ (pair : List ℕ × List ℕ). pair.1) (cond b ((h.name, utf8_lossy h.value) ∷ pairs) pairs)) hit
+          ap (λ b. map (λ (pair : List ℕ × List ℕ). pair.1)
+          (cond b ((h.name, utf8_lossy h.value) ∷ pairs) pairs)) hit
           ∙ ap (λ t. utf8_lossy h.value ∷ t) rest
           ∙ sym (ap (λ b. map text_of (cond b (h ∷ headers_named name hs) (headers_named name hs))) (same ∙ hit))
       | inr miss ↦
-          ap (λ b. map (λ (pair : List ℕ × List ℕ). pair.1) (cond b ((h.name, utf8_lossy h.value) ∷ pairs) pairs)) miss
+          ap (λ b. map (λ (pair : List ℕ × List ℕ). pair.1)
+          (cond b ((h.name, utf8_lossy h.value) ∷ pairs) pairs)) miss
           ∙ rest
-          ∙ sym (ap (λ b. map text_of (cond b (h ∷ headers_named name hs) (headers_named name hs))) (same ∙ miss))
+          ∙ sym (ap (λ b. map text_of (cond b (h ∷ headers_named name hs) (headers_named name hs))) (same
+          ∙ miss))
     ]
 
 lossless : (bytes : List ℕ) → is_utf8 bytes ≡ true → utf8_lossy bytes ≡ bytes
@@ -129,8 +140,8 @@ own_value [] is = tt
 own_value (h ∷ []) is = (0, utf8_lossy h.value, omega arith, refl, lossless h.value is)
 own_value (h ∷ i ∷ hs) is = absurd is
 
-only_value : (name : List ℕ) (xs ys : List Header) → IsOnce xs → IsOnce ys → AreNamed name xs → AreNamed name ys
-    → MeetsAny (first_value xs) (map text_of ys) → xs ≡ ys
+only_value : (name : List ℕ) (xs ys : List Header) → IsOnce xs → IsOnce ys → AreNamed name xs
+    → AreNamed name ys → MeetsAny (first_value xs) (map text_of ys) → xs ≡ ys
 only_value name [] [] once also named too meets = refl
 only_value name [] (y ∷ ys) once also named too (k, text, lt, is, never) = absurd never
 only_value name (x ∷ []) [] once also named too meets = absurd meets
@@ -149,7 +160,8 @@ AreOnce captured hs = list_all (λ name. is_text_once (headers_named name hs)) c
 
 own_headers : (captured : List (List ℕ)) (request : Request) → AreOnce captured request.headers
     → All IsLower request.headers → MeetHeaders (map (header_matcher request.headers) captured) request
-own_headers [] request once_each lower = all_none (λ m. MeetsAny m.matcher (texts_of (map to_ascii_lowercase m.name) request.headers))
+own_headers [] request once_each lower =
+    all_none (λ m. MeetsAny m.matcher (texts_of (map to_ascii_lowercase m.name) request.headers))
 own_headers (name ∷ names) request once_each lower =
     let parts = and_parts (is_text_once (headers_named name request.headers))
     (list_all (λ n. is_text_once (headers_named n request.headers)) names) once_each in
@@ -165,10 +177,12 @@ only_headers : (captured : List (List ℕ)) (hs : List Header) (request : Reques
     → captured_headers captured hs ≡ captured_headers captured request.headers
 only_headers [] hs request once_each also lower too meet = refl
 only_headers (name ∷ names) hs request once_each also lower too meet =
-    let Meets : NamedMatcher → Type 0 = λ m. MeetsAny m.matcher (texts_of (map to_ascii_lowercase m.name) request.headers) in
+    let Meets : NamedMatcher → Type 0 =
+    λ m. MeetsAny m.matcher (texts_of (map to_ascii_lowercase m.name) request.headers) in
     let first = all_first Meets (header_matcher hs name) (map (header_matcher hs) names) meet in
     let rest = all_rest Meets (header_matcher hs name) (map (header_matcher hs) names) meet in
-    let parts = and_parts (is_text_once (headers_named name hs)) (list_all (λ n. is_text_once (headers_named n hs)) names) once_each in
+    let parts = and_parts (is_text_once (headers_named name hs))
+    (list_all (λ n. is_text_once (headers_named n hs)) names) once_each in
     let others = and_parts (is_text_once (headers_named name request.headers))
     (list_all (λ n. is_text_once (headers_named n request.headers)) names) also in
     let same : headers_named name hs ≡ headers_named name request.headers =
@@ -185,7 +199,8 @@ own_body [] = inr (refl, tt)
 own_body (b ∷ bs) = elim (cases_Bool (is_utf8 (b ∷ bs))) [
   | inl hit ↦ subst (λ (p : BodyPattern). MeetsBody p (b ∷ bs)) (sym (cond-true (is_utf8 (b ∷ bs)) _ _ hit))
       (inl (lossless (b ∷ bs) hit))
-  | inr miss ↦ subst (λ (p : BodyPattern). MeetsBody p (b ∷ bs)) (sym (cond-false (is_utf8 (b ∷ bs)) _ _ miss)) refl
+  | inr miss ↦ subst (λ (p : BodyPattern). MeetsBody p (b ∷ bs))
+      (sym (cond-false (is_utf8 (b ∷ bs)) _ _ miss)) refl
 ]
 
 only_body : (recorded bytes : List ℕ) → (utf8_lossy recorded ≡ utf8_lossy bytes → recorded ≡ bytes)
@@ -209,13 +224,14 @@ only_body (b ∷ bs) bytes tells meets = elim (cases_Bool (is_utf8 (b ∷ bs))) 
 -- ---- whole requests
 
 module _ (captured : List (List ℕ)) where
-  kept_headers : (exchange : Exchange) → is_kept captured exchange ≡ true → AreOnce captured exchange.request.headers
+  kept_headers : (exchange : Exchange) → is_kept captured exchange ≡ true
+      → AreOnce captured exchange.request.headers
   kept_headers exchange is =
       (and_parts (list_all (λ name. is_text_once (headers_named name exchange.request.headers)) captured)
       (can_be_response exchange.reply) is).0
 
-  pub meets_itself : (exchange : Exchange) → is_kept captured exchange ≡ true → All IsLower exchange.request.headers
-      → MeetsRequest (request_of captured exchange) exchange.request
+  pub meets_itself : (exchange : Exchange) → is_kept captured exchange ≡ true
+      → All IsLower exchange.request.headers → MeetsRequest (request_of captured exchange) exchange.request
   meets_itself exchange is_kept lower = record {
     method = inr refl;
     url = refl;
@@ -226,7 +242,8 @@ module _ (captured : List (List ℕ)) where
         (own_body exchange.request.body) (all_none (λ p. MeetsBody p exchange.request.body));
   }
 
-  pub meets_its_key : (recorded exchange : Exchange) → is_kept captured recorded ≡ true → is_kept captured exchange ≡ true
+  pub meets_its_key : (recorded exchange : Exchange) → is_kept captured recorded ≡ true
+      → is_kept captured exchange ≡ true
       → All IsLower recorded.request.headers → All IsLower exchange.request.headers
       → recorded.request.method ≢ codes "ANY"
       → (utf8_lossy recorded.request.body ≡ utf8_lossy exchange.request.body

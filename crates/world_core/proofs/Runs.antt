@@ -1,6 +1,6 @@
 -- Runs, one after the other.
-use Rattle.std.proofs.Common.{◌≡◌, ◌+◌, ℕ, suc, List, [], ◌∷◌, ◌++◌, length, take, Option, refl, sym, ap, ◌∙◌, subst}
-use Rattle.std.proofs.Common.{arith, length-append}
+use Rattle.std.proofs.Common.{◌≡◌, ◌+◌, ℕ, suc, List, [], ◌∷◌, ◌++◌, length, take, Option, refl}
+use Rattle.std.proofs.Common.{sym, ap, ◌∙◌, subst, arith, length-append}
 use Rattle.std.proofs.Math.Seq.{take-append_seam}
 use Rattle.std.proofs.lemmas.List.{length-map, map-append}
 use Rattle.mapping_model.specs.declared.reply.Reply.{Reply}
@@ -23,8 +23,8 @@ run_split start end (step ∷ steps) more (outcome ∷ outcomes) late (next, fir
     (parts.0, (next, first, parts.1), parts.2)
 
 -- one step more
-pub run_on : (start end next : WorldState) (steps : List Step) (outcomes : List Outcome) (step : Step) (outcome : Outcome)
-    → IsRun start steps outcomes end → IsStep end step outcome next
+pub run_on : (start end next : WorldState) (steps : List Step) (outcomes : List Outcome)
+    (step : Step) (outcome : Outcome) → IsRun start steps outcomes end → IsStep end step outcome next
     → IsRun start (steps ++ step ∷ []) (outcomes ++ outcome ∷ []) next
 run_on start end next [] [] step outcome (none, same) more =
     (next, subst (λ (w : WorldState). IsStep w step outcome next) same more, (refl, refl))
@@ -34,8 +34,8 @@ run_on start end next (s ∷ steps) (o ∷ outcomes) step outcome (between, firs
     (between, first, run_on between end next steps outcomes step outcome rest more)
 
 -- as many outcomes as steps
-pub run_length : (start end : WorldState) (steps : List Step) (outcomes : List Outcome) → IsRun start steps outcomes end
-    → length steps ≡ length outcomes
+pub run_length : (start end : WorldState) (steps : List Step) (outcomes : List Outcome)
+    → IsRun start steps outcomes end → length steps ≡ length outcomes
 run_length start end [] outcomes (none, same) = sym (ap length none)
 run_length start end (step ∷ steps) [] run = absurd run
 run_length start end (step ∷ steps) (outcome ∷ outcomes) (between, first, rest) =
@@ -64,10 +64,13 @@ pub stopped : (start end new : WorldState) (steps front rest : List Step) (step 
     → IsStopped start steps (length replies) new
 stopped start end new steps front rest step replies whole (outcomes, run, are) same =
     let made : length replies ≡ length front =
-    ap length are ∙ length-map outcomes (λ (o : Outcome). o.reply) ∙ sym (run_length start end front outcomes run) in
+    ap length are ∙ length-map outcomes (λ (o : Outcome). o.reply)
+    ∙ sym (run_length start end front outcomes run) in
     let taken : take (length replies) steps ≡ front =
-    ap (λ (n : ℕ). take n steps) made ∙ ap (take (length front)) whole ∙ take-append_seam front (step ∷ rest) in
-    let all : length steps ≡ length front + length (step ∷ rest) = ap length whole ∙ length-append front (step ∷ rest) in (
+    ap (λ (n : ℕ). take n steps) made ∙ ap (take (length front)) whole
+    ∙ take-append_seam front (step ∷ rest) in
+    let all : length steps ≡ length front + length (step ∷ rest) =
+    ap length whole ∙ length-append front (step ∷ rest) in (
       omega (arith, made, all),
       (
         outcomes,

@@ -1,5 +1,6 @@
 -- A finish gives no reply only where its actor holds nothing: whatever was chosen at its last act is held until then.
-use Rattle.std.proofs.Common.{◌≡◌, ◌≢◌, ◌⊎◌, ℕ, List, [], ◌∷◌, ◌++◌, length, Option, Some, None, refl, ap, ◌∙◌, subst, inl, inr}
+use Rattle.std.proofs.Common.{◌≡◌, ◌≢◌, ◌⊎◌, ℕ, List, [], ◌∷◌, ◌++◌, length, Option, Some}
+use Rattle.std.proofs.Common.{None, refl, ap, ◌∙◌, subst, inl, inr}
 use Rattle.std.specs.List.{AllZip}
 use Rattle.mapping_model.specs.declared.reply.Reply.{Reply}
 use Rattle.mock_request.specs.Request.{Request}
@@ -53,7 +54,8 @@ abbrev chosen : Request → Captured → ℕ → Held
 chosen request captured actor = record { actor = actor; event = event.Serve request (Stub captured) }
 
 holds : (start end : WorldState) (steps : List Step) (outcomes : List Outcome) (actor : ℕ) (request : Request)
-    (captured : Captured) → IsRun start steps outcomes end → IsLastChoice start steps outcomes actor request captured
+    (captured : Captured) → IsRun start steps outcomes end
+    → IsLastChoice start steps outcomes actor request captured
     → held_by actor end.held ≡ Some (chosen request captured actor)
 holds start end steps outcomes actor request captured run last =
     let by_steps : IsRun start (last.earlier ++ Act actor (Serve request) ∷ last.later) outcomes end =

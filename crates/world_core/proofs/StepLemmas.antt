@@ -1,5 +1,6 @@
 -- What a call of the book is as a step.
-use Rattle.std.proofs.Common.{◌≡◌, ◌≢◌, ℕ, List, Option, Some, None, Ok, Err, IfOk, OnErr, OnOk, refl, sym, subst, ◌∙◌, inl, inr}
+use Rattle.std.proofs.Common.{◌≡◌, ◌≢◌, ℕ, List, Option, Some, None, Ok, Err, IfOk, OnErr, OnOk, refl}
+use Rattle.std.proofs.Common.{sym, subst, ◌∙◌, inl, inr}
 use Rattle.std.specs.Prelude.{Result}
 use Rattle.error_code.specs.declared.error_code.ErrorCode.{ErrorCode}
 use Rattle.error_code.specs.declared.error_code.ErrorCode.TheVariants.{OutOfMemory}
@@ -22,7 +23,8 @@ use Rattle.world_core.specs.declared.step.Step.{Step}
 use Rattle.world_core.specs.declared.step.Step.TheVariants.{Act, Finish}
 
 -- no call but that of a request is answered by one that is served
-pub no_serve : (asked : BookInput) (request : Request) (answer : ServeAnswer) → IsAsked asked (event.Serve request answer) → ⊥
+pub no_serve : (asked : BookInput) (request : Request) (answer : ServeAnswer)
+    → IsAsked asked (event.Serve request answer) → ⊥
 no_serve (input.Add mapping) request answer is = is
 no_serve (input.Edit id mapping) request answer is = is
 no_serve (input.Delete id) request answer is = is
@@ -37,7 +39,8 @@ no_serve (input.Record serve exchange) request answer is = is
 no_serve input.StopRecording request answer is = is
 
 -- a change of the book chooses no mapping
-same_held : (actor : ℕ) (asked : BookInput) (e : Event) (held : List Held) → IsAsked asked e → held_after actor e held ≡ held
+same_held : (actor : ℕ) (asked : BookInput) (e : Event) (held : List Held) → IsAsked asked e
+    → held_after actor e held ≡ held
 same_held actor asked (event.Serve request answer) held is = absurd (no_serve asked request answer is)
 same_held actor asked other held is = refl
 
@@ -58,8 +61,8 @@ module _ (old seen : WorldState) (is : seen ≡ old) where
       } in
       (Some e, subst (λ (w : WorldState). Happens w actor (Serve request) e new) is happens)
 
-  pub applied : (actor : ℕ) (asked : BookInput) (e : Event) (past : Past) → IsAsked asked e → Grows seen.past past e
-      → (event : Option Event)
+  pub applied : (actor : ℕ) (asked : BookInput) (e : Event) (past : Past) → IsAsked asked e
+      → Grows seen.past past e → (event : Option Event)
       × IsAct old actor (Apply asked) event (record { past = past; held = seen.held; limits = seen.limits })
   applied actor asked e past asked_for grows =
       let new : WorldState = record { past = past; held = seen.held; limits = seen.limits } in
@@ -71,9 +74,10 @@ module _ (old seen : WorldState) (is : seen ≡ old) where
       } in
       (Some e, subst (λ (w : WorldState). Happens w actor (Apply asked) e new) is happens)
 
-  pub refused : (actor : ℕ) (call : Call) (past : Past) (held : List Held) → past ≡ seen.past → held ≡ seen.held
-      → IsRefusedBy seen.past call
-      → (event : Option Event) × IsAct old actor call event (record { past = past; held = held; limits = seen.limits })
+  pub refused : (actor : ℕ) (call : Call) (past : Past) (held : List Held) → past ≡ seen.past
+      → held ≡ seen.held → IsRefusedBy seen.past call
+      → (event : Option Event)
+      × IsAct old actor call event (record { past = past; held = held; limits = seen.limits })
   refused actor call past held past_is held_is why = (
     None,
     (

@@ -1,5 +1,6 @@
 -- Which mappings a list of exchanges gives, where none is skipped: one for each exchange, by those before it.
-use Rattle.std.proofs.Common.{◌≡◌, ℕ, suc, true, List, [], ◌∷◌, ◌++◌, length, All, refl, sym, ap, ◌∙◌, inl, inr, arith, subst}
+use Rattle.std.proofs.Common.{◌≡◌, ℕ, suc, true, List, [], ◌∷◌, ◌++◌, length, All, refl, sym, ap}
+use Rattle.std.proofs.Common.{◌∙◌, inl, inr, arith, subst}
 use Rattle.std.proofs.lemmas.Bool.{cond-true}
 use Rattle.std.proofs.lemmas.List.{append-nil, length-append, map-append}
 use Rattle.key_groups.specs.Groups.{place_of, places_from, places_of}
@@ -10,7 +11,8 @@ use Rattle.recorder.specs.declared.exchange.Exchange.{Exchange}
 use Rattle.world_core.proofs.ListFacts.{IsItem, all_first, all_rest, one_further}
 
 module _ (captured : List (List ℕ)) (number : ℕ) where
-  all_kept : (exchanges : List Exchange) → All (λ e. is_kept captured e ≡ true) exchanges → kept_of captured exchanges ≡ exchanges
+  all_kept : (exchanges : List Exchange) → All (λ e. is_kept captured e ≡ true) exchanges
+      → kept_of captured exchanges ≡ exchanges
   all_kept [] all = refl
   all_kept (e ∷ es) all =
       cond-true (is_kept captured e) (e ∷ kept_of captured es) (kept_of captured es)
@@ -33,7 +35,8 @@ module _ (captured : List (List ℕ)) (number : ℕ) where
     one_mapping before e es =
         let more : suc (length before) ≡ length (before ++ e ∷ []) =
         let l = length-append before (e ∷ []) in omega (arith, l) in
-        let keys : keys_of captured before ++ key_of e.request captured ∷ [] ≡ keys_of captured (before ++ e ∷ []) =
+        let keys : keys_of captured before ++ key_of e.request captured ∷ []
+        ≡ keys_of captured (before ++ e ∷ []) =
         sym (map-append (λ (x : Exchange). key_of x.request captured) before (e ∷ [])) in
         λ i. mapping_after before e ∷ numbered captured number (more i)
         (parts_of true number es (places_from same_key all (keys i) (keys_of captured es)))
@@ -54,7 +57,8 @@ module _ (captured : List (List ℕ)) (number : ℕ) where
     IsOneOf before es spec = (middle : List Exchange) × (e : Exchange) × (after : List Exchange)
         × (es ≡ middle ++ e ∷ after) × (spec ≡ mapping_after (before ++ middle) e)
 
-    is_one : (before es : List Exchange) (spec : MappingSpec) → IsItem (mappings_after before es) spec → IsOneOf before es spec
+    is_one : (before es : List Exchange) (spec : MappingSpec) → IsItem (mappings_after before es) spec
+        → IsOneOf before es spec
     is_one before [] spec item = absurd item
     is_one before (e ∷ es) spec item =
         let split : IsItem (mapping_after before e ∷ mappings_after (before ++ e ∷ []) es) spec =
@@ -80,7 +84,8 @@ module _ (captured : List (List ℕ)) (number : ℕ) where
     mappings_are = ap (λ es. numbered captured number 0
         (parts_of true number es (places_of same_key (keys_of captured es)))) (all_kept exchanges all)
 
-    pub own_mapping : (before : List Exchange) (e : Exchange) (after : List Exchange) → exchanges ≡ before ++ e ∷ after
+    pub own_mapping : (before : List Exchange) (e : Exchange) (after : List Exchange)
+        → exchanges ≡ before ++ e ∷ after
         → IsItem (mappings_of captured exchanges true number) (mapping_after keys before e)
     own_mapping before e after is =
         subst (λ (l : List MappingSpec). IsItem l (mapping_after keys before e)) (sym mappings_are)
@@ -88,7 +93,7 @@ module _ (captured : List (List ℕ)) (number : ℕ) where
         (has_mapping keys [] before e after))
 
     pub mapping_is_one : (spec : MappingSpec) → IsItem (mappings_of captured exchanges true number) spec
-        → (before : List Exchange) × (e : Exchange) × (after : List Exchange) × (exchanges ≡ before ++ e ∷ after)
-        × (spec ≡ mapping_after keys before e)
+        → (before : List Exchange) × (e : Exchange) × (after : List Exchange)
+        × (exchanges ≡ before ++ e ∷ after) × (spec ≡ mapping_after keys before e)
     mapping_is_one spec item =
         is_one keys [] exchanges spec (subst (λ (l : List MappingSpec). IsItem l spec) mappings_are item)

@@ -1,5 +1,6 @@
 -- What the laws over every schedule say.
-use Rattle.std.specs.Prelude.{◌≡◌, ◌≢◌, ◌⊎◌, ℕ, List, ◌∷◌, ◌++◌, filter_map, Option, Some, None, MatchOption, unwrap_or}
+use Rattle.std.specs.Prelude.{◌≡◌, ◌≢◌, ◌⊎◌, ℕ, List, ◌∷◌, ◌++◌, filter_map, Option, Some}
+use Rattle.std.specs.Prelude.{None, MatchOption, unwrap_or}
 use Rattle.std.specs.List.{AllZip}
 use Rattle.mapping_model.specs.declared.reply.Reply.{Reply}
 use Rattle.mock_request.specs.Request.{Request}
@@ -38,8 +39,8 @@ giving reply = record { event = None; reply = Some reply }
 abbrev pub silent : Outcome
 silent = record { event = None; reply = None }
 
--- Of these steps this is the last act that chose a mapping for the actor's request: it chose what the past of that moment
--- demands, and the steps since pass the actor by.
+-- Of these steps this is the last act that chose a mapping for the actor's request: it chose what the past of that
+-- moment demands, and the steps since pass the actor by.
 pub record IsLastChoice (start : WorldState) (steps : List Step) (outcomes : List Outcome) (actor : ℕ)
     (request : Request) (captured : Captured) : Type 0 where
   pub earlier : List Step
@@ -76,4 +77,5 @@ MovesBy old event new =
 abbrev pub IsServedOnce : WorldState → Request → Option Event → WorldState → Type 0
 IsServedOnce old request served new =
     MatchOption served (new ≡ old)
-    (λ e. (answer : ServeAnswer) × (e ≡ event.Serve request answer) × IsChoice old.past request answer × MovesBy old e new)
+    (λ e. (answer : ServeAnswer) × (e ≡ event.Serve request answer) × IsChoice old.past request answer
+    × MovesBy old e new)

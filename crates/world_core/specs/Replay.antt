@@ -1,6 +1,7 @@
--- Replay: the mappings of a recording answer the recorded requests, sent again in their order, with the recorded replies.
-use Rattle.std.specs.Prelude.{◌≡◌, ◌≢◌, ◌↔◌, ◌+◌, ◌≤◌, ℕ, true, List, [], ◌∷◌, length, All, Any, Contains, IfSome, codes}
-use Rattle.std.specs.Prelude.{filter_map}
+-- Replay: the mappings of a recording answer the recorded requests, sent again in their order, with
+-- the recorded replies.
+use Rattle.std.specs.Prelude.{◌≡◌, ◌≢◌, ◌↔◌, ◌+◌, ◌≤◌, ℕ, true, List, [], ◌∷◌}
+use Rattle.std.specs.Prelude.{length, All, Any, Contains, IfSome, codes, filter_map}
 use Rattle.std.specs.Str.Lossy.{utf8_lossy}
 use Rattle.http_header.specs.FieldName.{IsHeaderName}
 use Rattle.http_header.specs.Token.{is_value_byte}
@@ -42,7 +43,8 @@ pub record IsReplayable (captured : List (List ℕ)) (exchanges : List Exchange)
   pub values : All (λ e. All (λ h. All (λ b. is_value_byte b ≡ true) h.value) e.reply.headers) exchanges
 
 -- a past that is ready for them
-pub record HasRecorded (captured : List (List ℕ)) (number : ℕ) (exchanges : List Exchange) (past : Past) : Type 0 where
+pub record HasRecorded (captured : List (List ℕ)) (number : ℕ) (exchanges : List Exchange)
+    (past : Past) : Type 0 where
   -- the live mappings are those that the stop with this number gave, equal requests as scenarios, and no others
   pub same_mappings : (spec : MappingSpec) → Any (λ p. p.mapping.spec ≡ spec) (live past)
       ↔ Contains (mappings_of captured exchanges true number) spec

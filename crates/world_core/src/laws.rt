@@ -1,5 +1,5 @@
-// What holds of every schedule. They are laws over the definitions that the calls of this crate cite, so the functions do
-// nothing.
+// What holds of every schedule. They are laws over the definitions that the calls of this crate cite, so the functions
+// do nothing.
 ghost use Rattle.std.specs.Prelude.{◌≡◌, ℕ, List, [], ◌∷◌, ◌++◌, length, map, None, unwrap_or};
 ghost use Rattle.mapping_model.specs.declared.reply.Reply.{Reply};
 ghost use Rattle.mock_request.specs.Request.{Request};
@@ -25,8 +25,8 @@ pub fn law_legal()
 /// Wherever in a schedule a finish gives a reply, it is the response of the version that was chosen at its actor's act,
 /// whatever came between. It gives none only where no mapping was chosen for its actor since that actor's last finish.
 pub fn law_response()
-    ensures given { (start end : WorldState) (steps after : List Step) (outcomes more : List Outcome) (actor : ℕ) (reply : Reply)
-        → start.held ≡ [] → length steps ≡ length outcomes
+    ensures given { (start end : WorldState) (steps after : List Step) (outcomes more : List Outcome)
+        (actor : ℕ) (reply : Reply) → start.held ≡ [] → length steps ≡ length outcomes
         → IsRun start (steps ++ Finish actor ∷ after) (outcomes ++ giving reply ∷ more) end
         → IsAnswered start steps outcomes actor reply }
     ensures silent { (start end : WorldState) (steps after : List Step) (outcomes more : List Outcome) (actor : ℕ)
@@ -47,10 +47,11 @@ pub fn law_once()
         → state end.past name ≡ unwrap_or (last_of (touch name) (events_of outcomes)) (state start.past name) }
 {}
 
-/// Recorded requests that are sent again, in their order, to a book whose live mappings are those of the recording get the
-/// recorded replies.
+/// Recorded requests that are sent again, in their order, to a book whose live mappings are those of the recording get
+/// the recorded replies.
 pub fn law_replay()
-    ensures { (captured : List (List ℕ)) (number : ℕ) (exchanges : List Exchange) (actor : ℕ) (start end : WorldState)
+    ensures { (captured : List (List ℕ)) (number : ℕ) (exchanges : List Exchange)
+        (actor : ℕ) (start end : WorldState)
         (outcomes : List Outcome) → IsReplayable captured exchanges
         → HasRecorded captured number exchanges start.past → IsRun start (sending actor exchanges) outcomes end
         → replies_of outcomes ≡ map (λ e. e.reply) exchanges }

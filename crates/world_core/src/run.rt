@@ -17,8 +17,8 @@ pub struct Stopped {
 }
 
 impl World {
-    /// Makes the steps in their order, and gives for each the reply, where it gave one. Where memory runs out in a step,
-    /// those before it stand.
+    /// Makes the steps in their order, and gives for each the reply, where it gave one. Where memory runs out in a
+    /// step, those before it stand.
     pub fn run(&mut self, steps: Vec<Step>) -> Result<Vec<Option<Reply>>, Stopped>
         ensures ok { IfOk result (λ replies. Runs self.old steps.items replies.items self.new) }
         ensures err { IfErr result (λ stopped. IsStopped self.old steps.items stopped.made self.new) }

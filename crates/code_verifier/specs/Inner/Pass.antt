@@ -1,6 +1,6 @@
 -- What the pass finds at one instruction, and what it keeps after it.
-use Rattle.std.specs.Prelude.{ℕ, suc, nat_eq, nat_lt, Bool, not, ◌&&◌, ◌||◌, if◌then◌else◌, List, [], ◌∷◌, length, drop}
-use Rattle.std.specs.Prelude.{map, Option, Some, None}
+use Rattle.std.specs.Prelude.{ℕ, suc, nat_eq, nat_lt, Bool, not, ◌&&◌, ◌||◌, if◌then◌else◌, List, []}
+use Rattle.std.specs.Prelude.{◌∷◌, length, drop, map, Option, Some, None}
 use Rattle.helper_set.specs.declared.kind.Kind.{Kind}
 use Rattle.template_code.specs.Code.{StackCode}
 use Rattle.template_code.specs.Instructions.{flow, target_of, is_misplaced, names_entries, loop_named, pops, pushes}
@@ -9,7 +9,8 @@ use Rattle.template_code.specs.declared.flow.Flow.{Flow}
 use Rattle.template_code.specs.declared.instr.Instr.{Instr}
 use Rattle.template_code.specs.declared.limits.TheConstants.{MAX_INSTRUCTIONS, MAX_SLOTS, MAX_LOOPS}
 use Rattle.code_rules.specs.Bounds.{bound_fits}
-use Rattle.code_rules.specs.Costs.{Cost, no_cost, plus_cost, cost_fits, cost_of_turns, cost, is_empty, top, pushed_bounds}
+use Rattle.code_rules.specs.Costs.{Cost, no_cost, plus_cost, cost_fits, cost_of_turns, cost, is_empty, top}
+use Rattle.code_rules.specs.Costs.{pushed_bounds}
 use Rattle.code_rules.specs.Rules.{has_invalid_target, lacks_slots, kinds_fit, leaves_slots, closes_wrongly, lacks_loop}
 use Rattle.code_rules.specs.Table.{nest_after}
 use Rattle.code_rules.specs.Verdict.{or_over}
@@ -24,8 +25,8 @@ use Rattle.code_verifier.specs.declared.targets.Mark.{Mark}
 abbrev pub nest_of : List OpenLoop → List ℕ
 nest_of loops = map (λ l. l.opener) loops
 
--- the first rule up to V12 that an instruction with that index breaks, by the nest and the kinds of the slots, by whether
--- all jumps to it are in its loop, and by whether there is a jump
+-- the first rule up to V12 that an instruction with that index breaks, by the nest and the kinds of the slots, by
+-- whether all jumps to it are in its loop, and by whether there is a jump
 abbrev pub broken_parts : StackCode → ℕ → Instr → List ℕ → List Kind → Bool → Bool → Option Rule
 broken_parts code index i nest kinds same_loops marked =
     if nat_eq index MAX_INSTRUCTIONS then Some V1
@@ -45,7 +46,8 @@ broken_parts code index i nest kinds same_loops marked =
 -- the same, by the mark, the open loops and the slots
 abbrev pub broken_seen : StackCode → ℕ → Instr → Mark → List OpenLoop → List Slot → Option Rule
 broken_seen code index i mark loops slots =
-    broken_parts code index i (nest_of loops) (kinds_of slots) (agrees (innermost (nest_of loops)) mark) (is_marked mark)
+    broken_parts code index i (nest_of loops) (kinds_of slots)
+    (agrees (innermost (nest_of loops)) mark) (is_marked mark)
 
 -- a loop that opens at the next instruction goes over a part of an item
 abbrev pub takes_part : List Slot → Bool

@@ -1,6 +1,6 @@
 -- For private clauses: the step that a text begins with, and what follows it, as one pass over the text finds them.
-use Rattle.std.specs.Prelude.{◌≡◌, ℕ, ◌==◌, nat_lt, List, [], ◌∷◌, length, Option, Some, None, option_map}
-use Rattle.std.specs.Prelude.{option_and_then, if◌then◌else◌}
+use Rattle.std.specs.Prelude.{◌≡◌, ℕ, ◌==◌, nat_lt, List, [], ◌∷◌, length, Option, Some, None}
+use Rattle.std.specs.Prelude.{option_map, option_and_then, if◌then◌else◌}
 use Rattle.std.specs.Option.{option_map_or}
 use denote.Ref.{Bor}
 use Rattle.data_tree.specs.Digits.{index_of}
@@ -35,7 +35,8 @@ dotted s = if nat_lt 0 (length (name_at s)) then Some (Name (name_at s), after_n
 
 -- after a `['`
 abbrev pub quoted : List ℕ → Option (Step × List ℕ)
-quoted s = option_and_then (λ p. option_map (λ rest. (Name p.0, rest)) (after_byte close_bracket p.1)) (cut_at quote s)
+quoted s = option_and_then
+    (λ p. option_map (λ rest. (Name p.0, rest)) (after_byte close_bracket p.1)) (cut_at quote s)
 
 abbrev pub index_before : List ℕ × List ℕ → Option (Step × List ℕ)
 index_before p = option_map (λ n. (Index n, p.1)) (index_of p.0)

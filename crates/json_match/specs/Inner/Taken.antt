@@ -1,5 +1,6 @@
 -- For private clauses: items of which some are taken.
-use Rattle.std.specs.Prelude.{ℕ, ◌+◌, Bool, true, false, List, [], ◌∷◌, Option, Some, None, if◌then◌else◌}
+use Rattle.std.specs.Prelude.{ℕ, ◌+◌, Bool, true, false, List, [], ◌∷◌, Option, Some, None}
+use Rattle.std.specs.Prelude.{if◌then◌else◌}
 use Rattle.data_tree.specs.Tree.{Tree, Items, no_items, item}
 
 -- those that aren't taken

@@ -1,6 +1,6 @@
 -- What a tag's parentheses group, as a pass over its items keeps it: groups as what they are read as.
-use Rattle.std.specs.Prelude.{ℕ, suc, min, max, Bool, true, false, not, ◌&&◌, List, [], ◌∷◌, map, Option, None, Result}
-use Rattle.std.specs.Prelude.{Err, if◌then◌else◌}
+use Rattle.std.specs.Prelude.{ℕ, suc, min, max, Bool, true, false, not, ◌&&◌, List, [], ◌∷◌, map, Option}
+use Rattle.std.specs.Prelude.{None, Result, Err, if◌then◌else◌}
 use Rattle.helper_set.specs.declared.helper.Helper.{Helper}
 use Rattle.template_words.specs.Errors.{joined}
 use Rattle.template_words.specs.declared.error.TagError.{TagError}
@@ -104,7 +104,8 @@ pieces_before levels (item ∷ items) nest = piece_before levels item (pieces_be
 
 abbrev pub unused_pieces : List Level → List (List Piece) → Option TagError
 unused_pieces levels [] = None
-unused_pieces levels (pieces ∷ later) = joined (errors_in (piece_arguments levels pieces)) (unused_pieces levels later)
+unused_pieces levels (pieces ∷ later) =
+    joined (errors_in (piece_arguments levels pieces)) (unused_pieces levels later)
 
 abbrev pub pieces_error : List Level → Bool → List (List Piece) → Option TagError
 pieces_error levels balanced later = joined (error_if BadPath (not balanced)) (unused_pieces levels later)

@@ -1,6 +1,6 @@
 -- The items of a tag, as a pass over its bytes finds them.
-use Rattle.std.specs.Prelude.{ℕ, suc, Bool, false, ◌&&◌, List, [], ◌∷◌, map, take, drop, get_or, Option, Some, None}
-use Rattle.std.specs.Prelude.{option_map, if◌then◌else◌}
+use Rattle.std.specs.Prelude.{ℕ, suc, Bool, false, ◌&&◌, List, [], ◌∷◌, map, take, drop, get_or, Option}
+use Rattle.std.specs.Prelude.{Some, None, option_map, if◌then◌else◌}
 use denote.Ref.{Bor}
 use Rattle.template_words.specs.Modes.{mode_after, is_outside}
 use Rattle.template_words.specs.Words.{is_break}

@@ -1,5 +1,6 @@
 -- Blocks that are open while a template is read, and how a token changes them.
-use Rattle.std.specs.Prelude.{◌≡◌, ◌≤◌, ◌+◌, ℕ, Bool, true, false, List, length, [], ◌∷◌, map, reverse, drop, Option, Some, None, is_some}
+use Rattle.std.specs.Prelude.{◌≡◌, ◌≤◌, ◌+◌, ℕ, Bool, true, false, List, length, [], ◌∷◌, map}
+use Rattle.std.specs.Prelude.{reverse, drop, Option, Some, None, is_some}
 use Rattle.std.specs.declared.alloc.Global.{Global}
 use Rattle.std.specs.declared.vec.Vec.{Vec}
 use Rattle.template_tags.specs.declared.expression.Datum.{Datum}

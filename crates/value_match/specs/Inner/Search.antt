@@ -16,4 +16,5 @@ found_in nfa hay = first_between (run_in_text nfa hay) 0 (length hay)
 
 -- each match starts at the first byte
 abbrev pub StartsAtZero : Nfa → Type 0
-StartsAtZero nfa = (hay : List ℕ) (i : ℕ) (t : Trace) → i ≤ length hay → run nfa hay (length hay) nfa.start i ≡ Some t → i ≡ 0
+StartsAtZero nfa = (hay : List ℕ) (i : ℕ) (t : Trace) → i ≤ length hay
+    → run nfa hay (length hay) nfa.start i ≡ Some t → i ≡ 0

@@ -6,5 +6,7 @@ use Rattle.admin_answers.proofs.reads.find_requests.Goals as goal
 
 pub returns : goal.returns
 returns g c =
-    found g.L.Origin.origin c.args.matcher c.in-Requests.entries c.in_ok-reading.reading c.found_reply.result c.in_ok-reading.ensures c.in-Requests.is
-    (subst (λ xs. IfOk c.found_reply.result (IsJsonReply 200 (json_of_found xs))) c.as_slice.ensures.value c.found_reply.ensures)
+    found g.L.Origin.origin c.args.matcher c.in-Requests.entries c.in_ok-reading.reading c.found_reply.result
+    c.in_ok-reading.ensures c.in-Requests.is
+    (subst (λ xs. IfOk c.found_reply.result (IsJsonReply 200 (json_of_found xs)))
+    c.as_slice.ensures.value c.found_reply.ensures)

@@ -6,5 +6,7 @@ use Rattle.admin_answers.proofs.reads.list_mappings.Goals as goal
 
 pub returns : goal.returns
 returns g c =
-    mappings g.L.Origin.origin c.in-Mappings.mappings c.in_ok-reading.reading c.mappings_reply.result c.in_ok-reading.ensures c.in-Mappings.is
-    (subst (λ xs. IfOk c.mappings_reply.result (IsJsonReply 200 (json_of_mappings xs))) c.as_slice.ensures.value c.mappings_reply.ensures)
+    mappings g.L.Origin.origin c.in-Mappings.mappings c.in_ok-reading.reading c.mappings_reply.result
+    c.in_ok-reading.ensures c.in-Mappings.is
+    (subst (λ xs. IfOk c.mappings_reply.result (IsJsonReply 200 (json_of_mappings xs)))
+    c.as_slice.ensures.value c.mappings_reply.ensures)

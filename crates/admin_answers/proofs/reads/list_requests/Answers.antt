@@ -6,5 +6,7 @@ use Rattle.admin_answers.proofs.reads.list_requests.Goals as goal
 
 pub returns : goal.returns
 returns g c =
-    requests g.L.Origin.origin c.in-Requests.entries c.in_ok-reading.reading c.requests_reply.result c.in_ok-reading.ensures c.in-Requests.is
-    (subst (λ xs. IfOk c.requests_reply.result (IsJsonReply 200 (json_of_requests xs))) c.as_slice.ensures.value c.requests_reply.ensures)
+    requests g.L.Origin.origin c.in-Requests.entries c.in_ok-reading.reading c.requests_reply.result
+    c.in_ok-reading.ensures c.in-Requests.is
+    (subst (λ xs. IfOk c.requests_reply.result (IsJsonReply 200 (json_of_requests xs)))
+    c.as_slice.ensures.value c.requests_reply.ensures)

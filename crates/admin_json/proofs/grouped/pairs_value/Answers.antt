@@ -13,7 +13,8 @@ returns c =
     let pairs = pairs_of c.args.pairs.items in
     let same = c.into_iter-name-iterator.ensures.into_iter_gives in
     let groups =
-    groups_of_entries pairs c.in_ok-items.items.entries same.5 c.in_ok-items.ensures.values c.in_ok-items.ensures.names in
+    groups_of_entries pairs c.in_ok-items.items.entries same.5 c.in_ok-items.ensures.values
+    c.in_ok-items.ensures.names in
     let none : c.loop-name.name-iterator ≡ [] = c.in-None.ensures.steps.0 in
     let written =
     sym (ap (λ es. with_groups (groups_in es) (members_view c.loop-name.members.entries)) none)

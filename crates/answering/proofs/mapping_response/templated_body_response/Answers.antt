@@ -14,7 +14,8 @@ returns-in_ok-clone-in-Some c =
     let headers = c.args.headers.now in
     let made = subst (IsRenderedBody c.args.limits c.args.mapping.now c.args.request.now) c.in-Some.is
     c.in_ok-body.ensures in
-    let is = is_response_with c.args.limits c.args.mapping.now c.args.request.now headers c.in-Some.body c.requires made in (
+    let is = is_response_with c.args.limits c.args.mapping.now c.args.request.now headers c.in-Some.body
+    c.requires made in (
       is.0,
       is.1,
       record {

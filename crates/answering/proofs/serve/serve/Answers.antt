@@ -8,7 +8,8 @@ use Rattle.answering.proofs.serve.serve.Goals as goal
 
 pub returns-in-Ok : goal.returns-in-Ok
 returns-in-Ok g c =
-    let lent = subst (λ r. LendsServed g.L.Origin.origin c.args.seat.now c.serve.follows.lender-at-none c.args.request r)
+    let lent =
+    subst (λ r. LendsServed g.L.Origin.origin c.args.seat.now c.serve.follows.lender-at-none c.args.request r)
     c.in-Ok.is c.serve.follows.holds-at-none in
     of_event g.L.Origin.origin c.args.site.now.limits c.args.seat.now c.serve.follows.lender-at-none c.args.request
     c.in-Ok.receipt.now c.event_response.result

@@ -19,7 +19,8 @@ loop-left-preserved-in_ok-push c =
           (omega (arith, c.loop-left-test.true)) c.loop-left.invariant.0 c.loop-left.invariant.1 c.index-events-left.is
           (sym (ap clears c.event-event.ensures) ∙ sym c.clears.ensures ∙ c.if-clears.false)
           c.in_ok-try_clone.field-0
-          (sym (ap (found_by c.args.shown) c.event-event.ensures) ∙ sym c.in-Some.ensures ∙ ap Some (sym c.in_ok-try_clone.ensures))
+          (sym (ap (found_by c.args.shown) c.event-event.ensures) ∙ sym c.in-Some.ensures
+          ∙ ap Some (sym c.in_ok-try_clone.ensures))
           c.push.new.self.items c.in_ok-push.ensures.items,
     )
 

@@ -1,5 +1,5 @@
-use Rattle.std.proofs.Common.{◌≡◌, ℕ, ◌+◌, suc, ◌<◌, true, false, List, [], ◌∷◌, length, get_or, Some, refl, sym}
-use Rattle.std.proofs.Common.{ap, ◌∙◌, arith}
+use Rattle.std.proofs.Common.{◌≡◌, ℕ, ◌+◌, suc, ◌<◌, true, false, List, [], ◌∷◌, length, get_or}
+use Rattle.std.proofs.Common.{Some, refl, sym, ap, ◌∙◌, arith}
 use Rattle.std.specs.Prelude.{min, slice_get, ◌==◌, IsNone}
 use Rattle.std.proofs.lemmas.Option.{slice_get-get_or}
 use Rattle.template_code.specs.declared.instr.Instr.{Instr}
@@ -34,7 +34,8 @@ returns-in-Some c =
     let code = c.args.code.now in
     let index = c.loop-index.index in
     let known = c.loop-index.known in
-    let at = here code.instrs c.instrs-instr-items.result.now index c.instrs-instr-items.ensures c.loop-index-test.true in
+    let at = here code.instrs c.instrs-instr-items.result.now index c.instrs-instr-items.ensures
+    c.loop-index-test.true in
     let inside : index < length code.instrs =
     omega (arith, ap length c.instrs-instr-items.ensures, c.loop-index-test.true) in
     known-violation code index c.in-Some.rule known.stack known.loops known.targets known.cost c.loop-index.invariant
@@ -47,7 +48,8 @@ loop-index-preserved c =
     let index = c.loop-index.index in
     let known = c.loop-index.known in
     let new = c.judge.new.known in
-    let at = here code.instrs c.instrs-instr-items.result.now index c.instrs-instr-items.ensures c.loop-index-test.true in
+    let at = here code.instrs c.instrs-instr-items.result.now index c.instrs-instr-items.ensures
+    c.loop-index-test.true in
     let inside : index < length code.instrs =
     omega (arith, ap length c.instrs-instr-items.ensures, c.loop-index-test.true) in
     let v = judged-verdict code index _ known.stack known.loops known.targets known.cost c.loop-index.invariant at _ _

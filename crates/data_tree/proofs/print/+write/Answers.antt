@@ -1,4 +1,5 @@
-use Rattle.std.proofs.Common.{◌≡◌, ℕ, List, ◌++◌, ap, sym, ◌∙◌, append_assoc, codes, string_bytes, false}
+use Rattle.std.proofs.Common.{◌≡◌, ℕ, List, ◌++◌, ap, sym, ◌∙◌, append_assoc, codes, string_bytes}
+use Rattle.std.proofs.Common.{false}
 use Rattle.std.proofs.lemmas.Result.{on_ok_weaker}
 use Rattle.json.specs.Print.{quoted}
 use Rattle.data_tree.specs.Json.{json, items_json, members_json}
@@ -8,8 +9,8 @@ use Rattle.data_tree.proofs.print.+write.Goals as goal
 
 -- an object of three members, piece by piece
 pieces : (o o1 o2 o3 o4 o5 o6 o7 a m b i d q z c1 c2 c3 c4 : List ℕ)
-    → o1 ≡ o ++ a → o2 ≡ o1 ++ (c1 ++ (m ++ c2)) → o3 ≡ o2 ++ b → o4 ≡ o3 ++ (c3 ++ (i ++ c4)) → o5 ≡ o4 ++ d
-    → o6 ≡ o5 ++ q → o7 ≡ o6 ++ z
+    → o1 ≡ o ++ a → o2 ≡ o1 ++ (c1 ++ (m ++ c2)) → o3 ≡ o2 ++ b → o4 ≡ o3 ++ (c3 ++ (i ++ c4))
+    → o5 ≡ o4 ++ d → o6 ≡ o5 ++ q → o7 ≡ o6 ++ z
     → o7 ≡ o ++ (a ++ (c1 ++ (m ++ (c2 ++ (b ++ (c3 ++ (i ++ (c4 ++ (d ++ (q ++ z))))))))))
 pieces o o1 o2 o3 o4 o5 o6 o7 a m b i d q z c1 c2 c3 c4 e1 e2 e3 e4 e5 e6 e7 =
     rw (e7, e6, e5, e4, e3, e2, e1) (simp append_assoc)
@@ -20,7 +21,8 @@ write_value-returns-in_ok-write_text-in-Named-clause-ok t c =
     let n = c.in-Named in
     let seen = ap view n.is ∙ view-Named n.text n.items n.fields in
     on_ok_weaker c.push-in-Named-4.result (λ w.
-    pieces _ _ _ _ _ _ _ _ (codes "{\"fields\":") (members_json false (members_view n.fields.items)) (codes ",\"items\":")
+    pieces _ _ _ _ _ _ _ _ (codes "{\"fields\":")
+    (members_json false (members_view n.fields.items)) (codes ",\"items\":")
     (items_json false (items_view n.items.items)) (codes ",\"text\":") (quoted (string_bytes n.text)) (codes "}")
     (codes "{") (codes "}") (codes "[") (codes "]")
     c.in_ok-push-in-Named.ensures.ok c.in_ok-write_members-in-Named.ensures.ok c.in_ok-push-in-Named-2.ensures.ok

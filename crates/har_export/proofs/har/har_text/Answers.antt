@@ -7,5 +7,6 @@ returns-clause-text c =
     let is = c.in_ok-document.ensures.document in (
       view c.in_ok-document.document,
       is,
-      c.in_ok-to_string.ensures.text (har_plain c.args.target.now c.args.exchanges.now (view c.in_ok-document.document) is),
+      c.in_ok-to_string.ensures.text
+          (har_plain c.args.target.now c.args.exchanges.now (view c.in_ok-document.document) is),
     )

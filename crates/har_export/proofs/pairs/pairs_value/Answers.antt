@@ -15,4 +15,5 @@ returns c =
     let whole = take_all c.loop-pair.pair-index pairs past in
     view-Array c.loop-pair.values
     ∙ ap (λ ds. array (items_of ds))
-    (c.loop-pair.invariant ∙ ap (map (λ p. json_of_pair (pair_of p))) whole ∙ sym (map-map json_of_pair pair_of pairs))
+    (c.loop-pair.invariant ∙ ap (map (λ p. json_of_pair (pair_of p))) whole
+    ∙ sym (map-map json_of_pair pair_of pairs))

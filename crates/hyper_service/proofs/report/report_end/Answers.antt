@@ -8,5 +8,6 @@ returns-in-OutOfMemory-clause-written g c =
     let holds = g.E.Write.contents in
     rw c.in-OutOfMemory.is (
       refl,
-      subst (λ error. AppendsFront (holds c.args.err.now) (holds c.report.new.err) (error_line error)) c.from.ensures c.report.ensures,
+      subst (λ error. AppendsFront (holds c.args.err.now) (holds c.report.new.err) (error_line error))
+          c.from.ensures c.report.ensures,
     )

@@ -13,5 +13,6 @@ pub returns-in-OutOfMemory : goal.returns-in-OutOfMemory
 returns-in-OutOfMemory g c =
     let holds = g.E.Write.contents in
     rw c.in-OutOfMemory.is (
-    subst (λ error. AppendsFront (holds c.args.err.now) (holds c.report.new.err) (error_line error)) c.from.ensures c.report.ensures
+    subst (λ error. AppendsFront (holds c.args.err.now) (holds c.report.new.err) (error_line error))
+    c.from.ensures c.report.ensures
     )

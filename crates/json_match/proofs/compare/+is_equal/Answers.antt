@@ -1,4 +1,5 @@
-use Rattle.std.proofs.Common.{◌≡◌, ◌+◌, ◌∷◌, inl, inr, true, drop, length, vec_len, ◌<◌, sym, ap, subst, ◌∙◌, arith, rules}
+use Rattle.std.proofs.Common.{◌≡◌, ◌+◌, ◌∷◌, inl, inr, true, drop, length, vec_len, ◌<◌, sym, ap}
+use Rattle.std.proofs.Common.{subst, ◌∙◌, arith, rules}
 use Rattle.std.proofs.lemmas.List.{drop_more}
 use Rattle.data_tree.specs.Tree.{view, items_view}
 use Rattle.json_match.proofs.Lists.{unequal_lengths, other_lengths, as_they_take, none_takes, no_partner, partner}
@@ -7,7 +8,8 @@ use Rattle.json_match.proofs.Takings.{none_taken, no_first, the_first}
 use Rattle.json_match.specs.Inner.Taken.{left_of}
 use Rattle.json_match.specs.Inner.Walk.{is_equal, each_takes_one}
 use Rattle.json_match.proofs.compare.+is_equal.Goals as goal
-use Rattle.json_match.proofs.compare.+is_equal.Goals.{are_equal_in_any_order-else-not-flags-via-then-not-flags+else-len, are_equal_in_any_order-else-not-flags-via-else-not-flags}
+use Rattle.json_match.proofs.compare.+is_equal.Goals.{are_equal_in_any_order-else-not-flags-via-then-not-flags+else-len}
+use Rattle.json_match.proofs.compare.+is_equal.Goals.{are_equal_in_any_order-else-not-flags-via-else-not-flags}
 
 pub are_equal-returns-then-len : goal.are_equal-returns-then-len
 are_equal-returns-then-len t c =
@@ -51,7 +53,8 @@ are_equal_in_any_order-returns-in_default t c =
     let none = no_first (is_equal f (view x)) l.taken.items (items_view ts) c.in_ok-i.field-0
     (sym taken ∙ l.invariant.counted ∙ actual ∙ sym (length-items_view ts)) c.in_ok-i.ensures c.in_default.is in
     sym (none_takes f c.args.expected.now.items ts
-    (l.invariant.left ∙ no_partner f (drop l.item-index es) later x (left_of l.taken.items (items_view ts)) here none))
+    (l.invariant.left ∙ no_partner f (drop l.item-index es) later x
+    (left_of l.taken.items (items_view ts)) here none))
 
 pub are_equal_in_any_order-index_mut-requires : goal.are_equal_in_any_order-index_mut-requires
 are_equal_in_any_order-index_mut-requires t c =
@@ -104,6 +107,7 @@ are_equal_in_any_order-returns t c =
 pub have_equal-returns-else-flags : goal.have_equal-returns-else-flags
 have_equal-returns-else-flags t c =
     c.is_empty.ensures
-    ∙ none_is_left c.args.flags c.deref-name-items.result.now c.loop-name.rest.now c.loop-name.name-index (omega arith)
+    ∙ none_is_left c.args.flags c.deref-name-items.result.now c.loop-name.rest.now
+    c.loop-name.name-index (omega arith)
     c.if-flags.false
     ∙ sym c.loop-name.invariant

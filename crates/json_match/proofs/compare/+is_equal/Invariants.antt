@@ -22,7 +22,8 @@ invariant-are_equal_in_any_order-loop-item l = record {
 abbrev pub invariant-first_left-loop-i : goal.invariant-first_left-loop-i
 invariant-first_left-loop-i l =
     first_left (is_equal l.flags (view l.expected)) 0 l.taken.items (items_view l.fn.actual.items)
-    ≡ first_left (is_equal l.flags (view l.expected)) l.i (drop l.i l.taken.items) (items_view (drop l.i l.item-items))
+    ≡ first_left (is_equal l.flags (view l.expected)) l.i (drop l.i l.taken.items)
+    (items_view (drop l.i l.item-items))
 
 abbrev pub invariant-have_equal-loop-name : goal.invariant-have_equal-loop-name
 invariant-have_equal-loop-name l =

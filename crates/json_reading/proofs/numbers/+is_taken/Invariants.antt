@@ -7,7 +7,8 @@ use Rattle.json_reading.proofs.numbers.+is_taken.Given as goal
 
 abbrev pub invariant-are_taken-loop-item : goal.invariant-are_taken-loop-item
 invariant-are_taken-loop-item l =
-    is_some (items_of (items_view l.fn.items.items)) ≡ is_some (items_of (items_view (drop l.item-index l.item-items)))
+    is_some (items_of (items_view l.fn.items.items))
+    ≡ is_some (items_of (items_view (drop l.item-index l.item-items)))
 
 abbrev pub invariant-have_taken-loop-name : goal.invariant-have_taken-loop-name
 invariant-have_taken-loop-name l =

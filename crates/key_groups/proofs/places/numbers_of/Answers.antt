@@ -1,4 +1,5 @@
-use Rattle.std.proofs.Common.{◌≡◌, ◌+◌, ◌<◌, ◌≤◌, [], ◌∷◌, ◌++◌, length, take, Bor, sym, ap, ◌∙◌, arith}
+use Rattle.std.proofs.Common.{◌≡◌, ◌+◌, ◌<◌, ◌≤◌, [], ◌∷◌, ◌++◌, length, take, Bor, sym}
+use Rattle.std.proofs.Common.{ap, ◌∙◌, arith}
 use Rattle.std.specs.List.{position_from}
 use Rattle.std.proofs.lemmas.List.{map_more, length-map, length-take-le}
 use Rattle.key_groups.specs.Inner.Maps.{values_at}
@@ -15,7 +16,8 @@ loop-index-preserved g c = λ q.
     let inside : i < length keys = omega arith in
     let within : i ≤ length keys = omega arith in
     let number : i + 1 ≡ 1 + length (values_at (take i keys)) =
-    let mapped : length (values_at (take i keys)) ≡ length (take i keys) = length-map (take i keys) (λ (k : Bor g.row.K.Denot). k.now) in
+    let mapped : length (values_at (take i keys)) ≡ length (take i keys) =
+    length-map (take i keys) (λ (k : Bor g.row.K.Denot). k.now) in
     let front : length (take i keys) ≡ i = length-take-le i keys within in
     omega arith in
     let more : values_at (take (i + 1) keys) ≡ values_at (take i keys) ++ key.now ∷ [] =

@@ -8,5 +8,6 @@ abbrev pub invariant-loop-ready : goal.invariant-loop-ready
 invariant-loop-ready l = record {
   counted : into_iter_len l.ready-iterator ≡ length (into_iter_items l.ready-iterator);
   index : l.index ≡ length l.named.items;
-  whole : defaults_from 0 l.fn.mappings.items ≡ l.named.items ++ defaults_from l.index (into_iter_items l.ready-iterator);
+  whole : defaults_from 0 l.fn.mappings.items
+      ≡ l.named.items ++ defaults_from l.index (into_iter_items l.ready-iterator);
 }

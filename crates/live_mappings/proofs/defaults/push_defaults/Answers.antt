@@ -1,4 +1,5 @@
-use Rattle.std.proofs.Common.{◌+◌, ◌<◌, false, List, ◌++◌, All, length, map, drop, get_or, sym, ap, subst, ◌∙◌, arith}
+use Rattle.std.proofs.Common.{◌+◌, ◌<◌, false, List, ◌++◌, All, length, map, drop, get_or, sym, ap, subst}
+use Rattle.std.proofs.Common.{◌∙◌, arith}
 use Rattle.request_journal.specs.Past.{placed_from}
 use Rattle.request_journal.specs.declared.mapping.Mapping.{Mapping}
 use Rattle.live_mappings.specs.Kept.{Fits, placed_of}
@@ -7,7 +8,8 @@ use Rattle.live_mappings.proofs.defaults.push_defaults.Goals as goal
 
 pub bounds-lasts-at : goal.bounds-lasts-at
 bounds-lasts-at c =
-    subst (λ n. c.loop-at.at < n) (sym (ap length c.requires.lasts ∙ length-lasts c.args.defaults.now)) c.loop-at-test.true
+    subst (λ n. c.loop-at.at < n)
+    (sym (ap length c.requires.lasts ∙ length-lasts c.args.defaults.now)) c.loop-at-test.true
 
 pub loop-at-preserved : goal.loop-at-preserved
 loop-at-preserved c =
@@ -18,10 +20,12 @@ loop-at-preserved c =
     let within : l.at < length defaults = c.loop-at-test.true in
     record {
       fit = subst (All (Fits defaults)) (sym c.push_if.ensures.items)
-          (fit_pushed defaults l.entries.items e (get_or c.args.lasts.now l.at false) c.of_default.ensures.fits l.invariant.fit);
+          (fit_pushed defaults l.entries.items e (get_or c.args.lasts.now l.at false)
+          c.of_default.ensures.fits l.invariant.fit);
       added = ap (λ es. map placed_of es ++ placed_from c.args.number (l.at + 1) (drop (l.at + 1) defaults))
           c.push_if.ensures.items
-          ∙ default_pushed c.args.number l.at defaults m l.entries.items e (get_or c.args.lasts.now l.at false) (placed_from c.args.number 0 defaults) within
+          ∙ default_pushed c.args.number l.at defaults m l.entries.items e (get_or c.args.lasts.now l.at false)
+          (placed_from c.args.number 0 defaults) within
           (c.of_default.ensures.placed m)
           (ap (λ bs. get_or bs l.at false) c.requires.lasts ∙ lasts_at defaults l.at false m within)
           l.invariant.added;

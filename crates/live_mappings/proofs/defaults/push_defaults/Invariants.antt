@@ -8,7 +8,8 @@ use Rattle.live_mappings.proofs.defaults.push_defaults.Given as goal
 abbrev pub invariant-loop-at : goal.invariant-loop-at
 invariant-loop-at l = record {
   fit : All (Fits l.defaults) l.entries.items;
-  added : map placed_of l.entries.items ++ placed_from l.number l.at (drop l.at l.defaults) ≡ placed_from l.number 0 l.defaults;
+  added : map placed_of l.entries.items ++ placed_from l.number l.at (drop l.at l.defaults)
+      ≡ placed_from l.number 0 l.defaults;
   few : vec_len l.entries ≤ l.at;
   capacity : vec_capacity l.fn.entries ≤ vec_capacity l.entries;
 }

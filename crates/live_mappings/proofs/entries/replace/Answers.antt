@@ -8,4 +8,5 @@ use Rattle.live_mappings.proofs.entries.replace.Goals as goal
 pub put_in-requires-clause-in_order : goal.put_in-requires-clause-in_order
 put_in-requires-clause-in_order c =
     subst (λ l. AllPairs IsBefore l) (sym c.take_out-replaced.ensures.rest)
-    (AllPairs-filter IsBefore (λ (e : Entry). not (bytes_eq c.args.entry.id e.id)) c.args.entries.now.items c.requires.in_order)
+    (AllPairs-filter IsBefore (λ (e : Entry). not (bytes_eq c.args.entry.id e.id))
+    c.args.entries.now.items c.requires.in_order)

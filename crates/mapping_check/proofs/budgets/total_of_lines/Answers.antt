@@ -21,7 +21,8 @@ loop-line-preserved c =
     ∙ map-append (λ (l : HeaderLine Source). l.value) (take i lines) (line ∷ []) in
     record {
       totals = subst (λ ts. AreTotals ts new.steps.items new.bytes.items) (sym templates)
-          (one_more (values_of (take i lines)) line.value old.steps.items old.bytes.items new.steps.items new.bytes.items
+          (one_more (values_of (take i lines)) line.value old.steps.items old.bytes.items
+          new.steps.items new.bytes.items
           c.program.result.now c.loop-line.invariant.totals c.program.ensures.source c.program.ensures.program
           c.in_ok-total.ensures.steps c.in_ok-total.ensures.bytes);
       steps = c.in_ok-total.ensures.steps_grow i c.loop-line.invariant.steps;

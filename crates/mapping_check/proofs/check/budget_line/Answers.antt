@@ -9,7 +9,8 @@ use Rattle.mapping_check.proofs.check.budget_line.Goals as goal
 pub returns : goal.returns
 returns c =
     let total = c.in_ok-total.total in
-    let totals = subst (λ hs. AreTotals (values_of hs ++ body_templates c.args.body.now) total.steps.items total.bytes.items)
+    let totals = subst (λ hs.
+    AreTotals (values_of hs ++ body_templates c.args.body.now) total.steps.items total.bytes.items)
     c.as_slice.ensures.value c.in_ok-total.ensures in
     IfOk-weaker c.format.result _ _ (λ line is.
     line_of c.args.number (values_of c.args.headers.now ++ body_templates c.args.body.now) total.steps.items

@@ -1,4 +1,5 @@
-use Rattle.std.proofs.Common.{◌≡◌, ◌+◌, ◌∷◌, ◌++◌, [], ◌||◌, length, map, string_bytes, take, sym, ap, subst, arith, ◌∙◌}
+use Rattle.std.proofs.Common.{◌≡◌, ◌+◌, ◌∷◌, ◌++◌, [], ◌||◌, length, map, string_bytes, take}
+use Rattle.std.proofs.Common.{sym, ap, subst, arith, ◌∙◌}
 use Rattle.std.proofs.lemmas.List.{length-map, length-take-le, map-append, take_more}
 use Rattle.mapping_check.proofs.LinesOf.{one_more}
 use Rattle.mapping_check.specs.Inner.Reports.{AreReported, Reports}
@@ -15,7 +16,8 @@ loop-index-preserved c =
     let refused = c.in_ok-is_refused.field-0 in
     let ds = map view (take i items) in
     let more : map view (take (i + 1) items) ≡ map view (take i items) ++ view value ∷ [] =
-    ap (map view) (take_more items i value (omega arith) ∙ ap (λ v. take i items ++ v ∷ []) (sym c.index-values-index.is))
+    ap (map view) (take_more items i value (omega arith)
+    ∙ ap (λ v. take i items ++ v ∷ []) (sym c.index-values-index.is))
     ∙ map-append view (take i items) (value ∷ []) in
     let number : length (map view (take i items)) + 1 ≡ i + 1 =
     ap (λ n. n + 1) (length-map (take i items) view ∙ length-take-le i items (omega arith)) in

@@ -11,7 +11,8 @@ pub returns-in-Some-clause-error : goal.returns-in-Some-clause-error
 returns-in-Some-clause-error c =
     let is_object : is_some (as_object (view c.args.value.now)) ≡ true = search rules in
     let fields : c.args.wrong ≡ wrong_fields (view c.args.value.now) = search rules in
-    object_wrong c.args.escape (view c.args.value.now) c.in_ok-parts.parts c.in-Some.kind is_object c.in_ok-parts.ensures
+    object_wrong c.args.escape (view c.args.value.now) c.in_ok-parts.parts c.in-Some.kind
+    is_object c.in_ok-parts.ensures
     (sym (c.joined.ensures ∙ ap₂ joined fields c.wrong_of.ensures) ∙ c.in-Some.is)
 
 pub returns-in-Read-clause-ok : goal.returns-in-Read-clause-ok

@@ -15,7 +15,8 @@ loop-value-preserved c =
     let more : take (i + 1) items ≡ take i items ++ value ∷ [] =
     take_more items i value (omega arith) ∙ ap (λ v. take i items ++ v ∷ []) (sym c.value-item.is) in
     subst (λ vs. AllZip (λ (v : Value). IsResultOf c.args.escape (view v)) vs c.push.new.self.items) (sym more)
-    (subst (AllZip (λ (v : Value). IsResultOf c.args.escape (view v)) (take i items ++ value ∷ [])) (sym c.in_ok-push.ensures.items)
+    (subst (AllZip (λ (v : Value). IsResultOf c.args.escape (view v)) (take i items ++ value ∷ []))
+    (sym c.in_ok-push.ensures.items)
     (zip_push (λ (v : Value). IsResultOf c.args.escape (view v)) (take i items) c.loop-value.results.items value
     c.in_ok-result_of.field-0 c.loop-value.invariant c.in_ok-result_of.ensures))
 
@@ -24,4 +25,5 @@ returns c =
     let all : take c.loop-value.value-index c.args.values.now ≡ c.args.values.now =
     take_all c.loop-value.value-index c.args.values.now (omega arith) in
     zip_map (IsResultOf c.args.escape) view c.args.values.now c.loop-value.results.items
-    (subst (λ vs. AllZip (λ (v : Value). IsResultOf c.args.escape (view v)) vs c.loop-value.results.items) all c.loop-value.invariant)
+    (subst (λ vs. AllZip (λ (v : Value). IsResultOf c.args.escape (view v)) vs c.loop-value.results.items)
+    all c.loop-value.invariant)

@@ -16,5 +16,6 @@ returns-clause-ok c =
 
 pub returns-clause-error : goal.returns-clause-error
 returns-clause-error c =
-    refused_all c.args.escape c.args.bytes.now c.in_ok-read_each_with.field-0.items c.all_of.result c.in_ok-read_each_with.ensures.ok
+    refused_all c.args.escape c.args.bytes.now c.in_ok-read_each_with.field-0.items
+    c.all_of.result c.in_ok-read_each_with.ensures.ok
     c.all_of.ensures.error

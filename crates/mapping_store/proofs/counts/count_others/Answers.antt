@@ -12,6 +12,7 @@ returns-clause-count c =
     let entries = c.args.entries.now in
     let mappings = c.args.mappings.now in
     c.loop-i.invariant.counted
-    ∙ ap (λ l. length (filter (λ (e : Entry). not (has_id mappings e.id)) l)) (take_all c.loop-i.i entries (omega arith))
+    ∙ ap (λ l. length (filter (λ (e : Entry). not (has_id mappings e.id)) l))
+    (take_all c.loop-i.i entries (omega arith))
     ∙ sym (ap length (filter-map (λ (p : Placed). not (has_id mappings p.mapping.id)) placed_of entries)
     ∙ length-map (filter (λ (e : Entry). not (has_id mappings e.id)) entries) placed_of)

@@ -10,5 +10,6 @@ invariant-loop-i l = record {
   same_entries : l.entries ≡ l.fn.entries;
   same_defaults : l.defaults ≡ l.fn.defaults;
   same_request : l.request ≡ l.fn.request;
-  passed : AllWithin (λ e. ¬ (IsEligible (state_of l.scenarios) l.fn.request (placed_of e).mapping)) l.fn.entries 0 l.i;
+  passed : AllWithin (λ e. ¬ (IsEligible (state_of l.scenarios) l.fn.request (placed_of e).mapping))
+      l.fn.entries 0 l.i;
 }

@@ -18,8 +18,10 @@ returns-then-is_in c =
 
 pub returns : goal.returns
 returns c =
-    let none = subst (λ (l : List Entry). All (λ e. ¬ (IsIn c.args.scenario.now (placed_of e).mapping.spec.scenario)) l)
+    let none = subst (λ (l : List Entry).
+    All (λ e. ¬ (IsIn c.args.scenario.now (placed_of e).mapping.spec.scenario)) l)
     (take_all c.loop-i.i c.args.entries.now (omega arith)) c.loop-i.invariant in (
       λ yes. absurd (false≢true yes),
-      λ any. absurd (none_among (λ (p : Placed). IsIn c.args.scenario.now p.mapping.spec.scenario) c.args.entries.now none any),
+      λ any. absurd (none_among (λ (p : Placed). IsIn c.args.scenario.now p.mapping.spec.scenario)
+          c.args.entries.now none any),
     )

@@ -57,7 +57,8 @@ returns-in_default-clause-command g c = λ escape asked asks.
     let shown =
     subst (λ (e : CommandError). AppendsFront (g.E.Write.contents c.args.err.now) (g.E.Write.contents c.report.new.err)
     (error_line e)) c.from.ensures c.report.ensures in
-    without_memory g.O.Write.contents g.E.Write.contents (g.F.FileReader.content c.args.files.now) escape asked c.args.out.now
+    without_memory g.O.Write.contents g.E.Write.contents (g.F.FileReader.content c.args.files.now) escape
+    asked c.args.out.now
     c.args.out.now c.args.err.now c.report.new.err 1 refl shown refl
 
 pub returns-in-Ok-Some-clause-streams : goal.returns-in-Ok-Some-clause-streams

@@ -12,7 +12,8 @@ returns c =
     let file_is : rule_of c.required-4.result ≡ required_rule (codes "file") = search rules in
     let no_render : app_of c.after_help.result ≡ new_app (codes "render") =
     rw (c.after_help.ensures, c.about.ensures) c.new.ensures.app in
-    let render_is : app_of c.in_ok-render.render ≡ render_app = c.in_ok-render.ensures.shape c.required-3.ensures.local
+    let render_is : app_of c.in_ok-render.render ≡ render_app =
+    c.in_ok-render.ensures.shape c.required-3.ensures.local
     ∙ ap₂ with_rule (c.in_ok-arg-2.ensures.shape c.required-2.ensures.local
     ∙ ap₂ with_rule
     (c.in_ok-arg.ensures.shape c.required.ensures.local ∙ ap₂ with_rule no_render template_is) method_is) url_is in
@@ -25,10 +26,12 @@ returns c =
     let url_too : rule_of c.required-7.result ≡ required_rule (codes "url") = search rules in
     let no_answer : app_of c.after_help-3.result ≡ new_app (codes "answer") =
     rw (c.after_help-3.ensures, c.about-3.ensures) c.new-3.ensures.app in
-    let answer_is : app_of c.in_ok-answer.answer ≡ answer_app = c.in_ok-answer.ensures.shape c.required-7.ensures.local
+    let answer_is : app_of c.in_ok-answer.answer ≡ answer_app =
+    c.in_ok-answer.ensures.shape c.required-7.ensures.local
     ∙ ap₂ with_rule (c.in_ok-arg-4.ensures.shape c.required-6.ensures.local
     ∙ ap₂ with_rule
-    (c.in_ok-arg-3.ensures.shape c.required-5.ensures.local ∙ ap₂ with_rule no_answer mappings_is) method_too) url_too in
+    (c.in_ok-arg-3.ensures.shape c.required-5.ensures.local ∙ ap₂ with_rule no_answer mappings_is)
+    method_too) url_too in
     let program_is : app_of c.disable_help_subcommand.result ≡ program_app =
     rw (c.disable_help_subcommand.ensures, c.subcommand_required.ensures, c.arg_required_else_help.ensures)
     (rw (c.override_help.ensures, c.version.ensures) (search rules)) in

@@ -5,7 +5,8 @@ use Rattle.mock_request.specs.Cookies.{cookies_in, cookie_pairs}
 use Rattle.mock_request.specs.Values.{pairs_of}
 use Rattle.mock_request.proofs.HeaderLemmas.{cookies_more, no_cookies_more, more_taken, other_way_round}
 use Rattle.mock_request.proofs.cookies.cookie_pairs.Goals as goal
-use Rattle.mock_request.proofs.cookies.cookie_pairs.Goals.{in-Some+then-eq+in_ok-text+in_ok-push_cookies, in-Some+else-eq, in_default}
+use Rattle.mock_request.proofs.cookies.cookie_pairs.Goals.{in-Some+then-eq+in_ok-text+in_ok-push_cookies}
+use Rattle.mock_request.proofs.cookies.cookie_pairs.Goals.{in-Some+else-eq, in_default}
 
 pub loop-index-preserved : goal.loop-index-preserved
 loop-index-preserved c =

@@ -1,4 +1,5 @@
-use Rattle.std.proofs.Common.{◌≡◌, ◌<◌, ◌++◌, ◌∷◌, [], length, take, ap, sym, ◌∙◌, arith, refl}
+use Rattle.std.proofs.Common.{◌≡◌, ◌<◌, ◌++◌, ◌∷◌, [], length, take, ap, sym, ◌∙◌, arith}
+use Rattle.std.proofs.Common.{refl}
 use Rattle.std.specs.Prelude.{string_bytes}
 use Rattle.std.specs.Str.Lossy.{utf8_lossy}
 use Rattle.std.proofs.lemmas.List.{map-append}
@@ -8,7 +9,8 @@ use Rattle.mock_request.specs.HeaderFields.{header_pairs}
 use Rattle.mock_request.specs.Values.{pair_of, pairs_of}
 use Rattle.mock_request.proofs.HeaderLemmas.{more_taken, pairs_more}
 use Rattle.mock_request.proofs.header_fields.header_pairs.Goals as goal
-use Rattle.mock_request.proofs.header_fields.header_pairs.Goals.{in-Some+in_ok-from_str+in_ok-from_utf8_lossy+in_ok-push, in_default}
+use Rattle.mock_request.proofs.header_fields.header_pairs.Goals.{in-Some+in_ok-from_str+in_ok-from_utf8_lossy+in_ok-push}
+use Rattle.mock_request.proofs.header_fields.header_pairs.Goals.{in_default}
 
 pub loop-index-preserved : goal.loop-index-preserved
 loop-index-preserved c =

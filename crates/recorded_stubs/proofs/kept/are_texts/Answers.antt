@@ -17,7 +17,8 @@ loop-index-preserved c =
       | in-Some+then-is_named w ↦
           w.are_texts-is
           ∙ (λ j. c.loop-index.invariant j && w.is_utf8-are_texts.ensures j)
-          ∙ sym (texts_more name all i _ within w.in-Some.ensures.value (sym w.is_named.ensures ∙ w.if-is_named.true))
+          ∙ sym (texts_more name all i _ within w.in-Some.ensures.value
+          (sym w.is_named.ensures ∙ w.if-is_named.true))
       | in-Some+else-is_named w ↦
           w.are_texts-is ∙ c.loop-index.invariant
           ∙ ap (list_all is_text)

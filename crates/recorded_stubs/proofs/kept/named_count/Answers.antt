@@ -16,7 +16,8 @@ loop-index-preserved c =
           record {
             count =
                 w.count-is ∙ ap (λ n. n + 1) c.loop-index.invariant.count
-                ∙ sym (count_more name all i _ within w.in-Some.ensures.value (sym w.is_named.ensures ∙ w.if-is_named.true));
+                ∙ sym (count_more name all i _ within w.in-Some.ensures.value
+                (sym w.is_named.ensures ∙ w.if-is_named.true));
             few = let is = w.count-is in let few = c.loop-index.invariant.few in omega arith;
           }
       | in-Some+else-is_named w ↦
@@ -24,7 +25,8 @@ loop-index-preserved c =
             count =
                 w.count-is ∙ c.loop-index.invariant.count
                 ∙ ap length
-                (sym (none_more name all i _ within w.in-Some.ensures.value (sym w.is_named.ensures ∙ w.if-is_named.false)));
+                (sym (none_more name all i _ within w.in-Some.ensures.value
+                (sym w.is_named.ensures ∙ w.if-is_named.false)));
             few = let is = w.count-is in let few = c.loop-index.invariant.few in omega arith;
           }
       | in_default w ↦

@@ -20,7 +20,8 @@ returns-then-is_named c =
     let i = c.loop-index.index in
     let within : i < length all = omega arith in
     ap value.EqualTo c.in_ok-utf8_text.ensures
-    ∙ sym (first_is c.args.name.now all i _ within c.in-Some.ensures.value (sym c.is_named.ensures ∙ c.if-is_named.true)
+    ∙ sym (first_is c.args.name.now all i _ within c.in-Some.ensures.value
+    (sym c.is_named.ensures ∙ c.if-is_named.true)
     c.loop-index.invariant)
 
 pub loop-index-preserved : goal.loop-index-preserved

@@ -3,7 +3,8 @@ use Rattle.std.proofs.lemmas.List.{length-map}
 use Rattle.recorder.specs.declared.exchange.Exchange.{Exchange}
 use Rattle.recorder.specs.Stubs.{numbered, part_of, parts_of}
 use Rattle.recorded_stubs.specs.Inner.Lent.{lent}
-use Rattle.recorded_stubs.proofs.StubLemmas.{few, is_kept_at, lent_read, length-placed, one_further, parts_more, skipped_is}
+use Rattle.recorded_stubs.proofs.StubLemmas.{few, is_kept_at, lent_read, length-placed, one_further, parts_more}
+use Rattle.recorded_stubs.proofs.StubLemmas.{skipped_is}
 use Rattle.recorded_stubs.proofs.stubs.stubs_of.Goals as goal
 
 pub index-requires-in-loop-index : goal.index-requires-in-loop-index

@@ -11,7 +11,8 @@ returns c =
     let unsorted = c.loop-name.relayed.items in
     let ended : c.loop-name.name-iterator ≡ [] = search rules in
     let whole : unsorted ≡ passed_back received =
-    sym (append-nil unsorted) ∙ ap (λ rest. unsorted ++ passed_back (headers_of rest)) (sym ended) ∙ c.loop-name.invariant.whole in
+    sym (append-nil unsorted) ∙ ap (λ rest. unsorted ++ passed_back (headers_of rest)) (sym ended)
+    ∙ c.loop-name.invariant.whole in
     subst (IsRelayed received) (sym c.from.ensures)
     (relayed_by received unsorted c.sort.new.headers.items whole c.loop-name.invariant.fields c.sort.ensures.same
     c.in_ok-sort.ensures.in_order c.sort.ensures.stable)

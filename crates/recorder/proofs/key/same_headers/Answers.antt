@@ -6,5 +6,6 @@ use Rattle.recorder.proofs.key.same_headers.Goals as goal
 pub returns : goal.returns
 returns c =
     c.eq.ensures
-    ∙ sym (pointwise-map (λ (field : Bor (List ℕ) × Bor (List ℕ)). record { name = field.0.now; value = field.1.now })
+    ∙ sym (pointwise-map (λ (field : Bor (List ℕ) × Bor (List ℕ)).
+    record { name = field.0.now; value = field.1.now })
     same_header c.args.a.now c.args.b.now)

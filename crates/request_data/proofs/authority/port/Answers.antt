@@ -9,4 +9,5 @@ returns c =
     let first : c.starts_with.result ≡ _ = c.starts_with.ensures.byte (omega arith) (omega arith) (λ w o e. e) in
     let few : length digits ≤ 5 = omega arith in
     c.ok.ensures.value
-    ∙ port_read digits c.parse.result c.parse.ensures.value.0 few (eqb-false _ _ (sym first ∙ c.if-starts_with.false))
+    ∙ port_read digits c.parse.result c.parse.ensures.value.0 few
+    (eqb-false _ _ (sym first ∙ c.if-starts_with.false))

@@ -18,7 +18,8 @@ returns c =
     let whole : c.loop-name.yielded ≡ entries = sym (map-id c.loop-name.yielded) ∙ end.0 in
     view-Fields c.loop-name.fields
     ∙ ap (λ ms. fields (members_of ms)) c.loop-name.invariant
-    ∙ ap (λ es. fields (members_of (map (entry_tree values_tree (λ values. map string_bytes values.items)) es))) whole
+    ∙ ap (λ es. fields (members_of
+    (map (entry_tree values_tree (λ values. map string_bytes values.items)) es))) whole
     ∙ ap fields (
     grouped_entries values_tree (λ values. map string_bytes values.items) (pairs_of c.args.pairs.items) entries same.5
     c.in_ok-items.ensures.values c.in_ok-items.ensures.names

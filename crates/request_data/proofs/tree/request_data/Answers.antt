@@ -1,4 +1,5 @@
-use Rattle.std.proofs.Common.{◌≡◌, ◌≤◌, ◌<◌, List, [], ℕ, Option, Result, Ok, Err, MatchResult, IfOk, OnOk, IfErr, option_copied, subst, sym, ◌∙◌}
+use Rattle.std.proofs.Common.{◌≡◌, ◌≤◌, ◌<◌, List, [], ℕ, Option, Result, Ok, Err, MatchResult, IfOk}
+use Rattle.std.proofs.Common.{OnOk, IfErr, option_copied, subst, sym, ◌∙◌}
 use Rattle.data_tree.specs.Json.{size}
 use Rattle.data_tree.specs.RequestData.{root_of}
 use Rattle.data_tree.specs.Tree.{Tree, view}

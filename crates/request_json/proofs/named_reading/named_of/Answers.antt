@@ -14,4 +14,5 @@ loop-name-preserved c =
     c.loop-name.invariant
     ∙ ap (λ es. joined found (each_member named_matcher_of (members_view es))) c.in-Some-2.ensures.steps
     ∙ joined-pushed found part rest
-    ∙ ap (λ list. joined list rest) (sym (c.in_ok-matchers.ensures ∙ ap (pushed found) c.in_ok-named_matcher_of.ensures))
+    ∙ ap (λ list. joined list rest)
+    (sym (c.in_ok-matchers.ensures ∙ ap (pushed found) c.in_ok-named_matcher_of.ensures))

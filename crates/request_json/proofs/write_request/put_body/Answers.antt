@@ -12,5 +12,6 @@ returns c =
     let there = not_left_out patterns (array (items_of (map json_of_pattern patterns)))
     (sym c.is_empty.ensures ∙ c.if-is_empty.false) in
     subst (λ o. OnOk c.put.result
-    (members_view c.put.new.map.entries ≡ with_field (codes "bodyPatterns") o (members_view c.args.members.now.entries)))
+    (members_view c.put.new.map.entries
+    ≡ with_field (codes "bodyPatterns") o (members_view c.args.members.now.entries)))
     (ap Some c.in_ok-write_patterns.ensures ∙ sym there) c.put.ensures.ok

@@ -1,4 +1,5 @@
-use Rattle.std.proofs.Common.{◌≡◌, ◌+◌, ◌∷◌, ◌++◌, [], None, Some, take, ap, sym, subst, arith, ◌∙◌}
+use Rattle.std.proofs.Common.{◌≡◌, ◌+◌, ◌∷◌, ◌++◌, [], None, Some, take, ap, sym, subst, arith}
+use Rattle.std.proofs.Common.{◌∙◌}
 use Rattle.std.proofs.lemmas.List.{take_more}
 use Rattle.request_parts.specs.Inner.FirstError.{IsFirstError}
 use Rattle.request_parts.proofs.ErrorLemmas.{none_added, of_all, body_error}
@@ -16,7 +17,8 @@ loop-spec-preserved c =
       | in-Ok+in_ok-push-in-Ok w ↦ record {
         is_first = subst (λ f. IsFirstError f (take (i + 1) specs)) (sym w.first-is)
             (subst (IsFirstError c.loop-spec.first) (sym more)
-            (none_added c.loop-spec.first (take i specs) (item ∷ []) c.loop-spec.invariant.is_first w.in-Ok.ensures.usable));
+            (none_added c.loop-spec.first (take i specs) (item ∷ [])
+            c.loop-spec.invariant.is_first w.in-Ok.ensures.usable));
         built = λ none. ap (λ v. v.items) w.tests-is ∙ w.in_ok-push-in-Ok.ensures
             ∙ ap (λ ts. ts ++ w.in-Ok.test ∷ []) (c.loop-spec.invariant.built (sym w.first-is ∙ none))
             ∙ ap (λ t. take i specs ++ t ∷ []) w.in-Ok.ensures.ok ∙ sym more;
@@ -24,7 +26,8 @@ loop-spec-preserved c =
       | in-Err w ↦ record {
         is_first = subst (λ f. IsFirstError f (take (i + 1) specs)) (sym w.first-is)
             (subst (IsFirstError (Some w.first_error.result)) (sym more)
-            (w.first_error.ensures (take i specs) (item ∷ []) c.loop-spec.invariant.is_first w.in-Err.ensures.refusal));
+            (w.first_error.ensures (take i specs) (item ∷ [])
+            c.loop-spec.invariant.is_first w.in-Err.ensures.refusal));
         built = λ none. absurd cc (sym w.first-is ∙ none);
       }
     ]

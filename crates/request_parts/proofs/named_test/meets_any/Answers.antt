@@ -1,8 +1,10 @@
-use Rattle.std.proofs.Common.{◌≡◌, ◌+◌, true, false, arith, ap, sym, refl, subst, ◌∙◌, ◌↔◌, drop, string_bytes}
+use Rattle.std.proofs.Common.{◌≡◌, ◌+◌, true, false, arith, ap, sym, refl, subst, ◌∙◌, ◌↔◌, drop}
+use Rattle.std.proofs.Common.{string_bytes}
 use Rattle.std.specs.Str.{bytes_eq}
 use Rattle.std.proofs.lemmas.List.{drop_all, length-map}
 use Rattle.mock_request.specs.Values.{pairs_of, pair_of, values_of}
-use Rattle.request_parts.proofs.RestLemmas.{both, answered, matched, matches_read, pair_at, step_found, step_unmet, step_other, at_end}
+use Rattle.request_parts.proofs.RestLemmas.{both, answered, matched, matches_read, pair_at, step_found, step_unmet}
+use Rattle.request_parts.proofs.RestLemmas.{step_other, at_end}
 use Rattle.request_parts.specs.Inner.Rest.{MeetsRest}
 use Rattle.request_parts.proofs.named_test.meets_any.Goals as goal
 use Rattle.request_parts.proofs.named_test.meets_any.Goals.{then-eq+in_ok-matches+else-branch, else-eq}
@@ -17,7 +19,8 @@ returns-then-branch-clause-answer c =
     ap (bytes_eq name) (sym c.as_str.ensures.value) ∙ sym c.eq.ensures ∙ c.if-eq.true in
     let value = matched m c.loop-key.matcher (string_bytes item.1) c.as_str-then-eq.result.now
     c.loop-key.invariant.same c.as_str-then-eq.ensures.value (c.in_ok-matches.ensures.answer.0 c.if-branch.true) in (
-      λ _. c.loop-key.invariant.left.1 (step_found m name (pairs_of c.args.pairs.now) c.loop-key.key-index (pair_of item)
+      λ _. c.loop-key.invariant.left.1
+          (step_found m name (pairs_of c.args.pairs.now) c.loop-key.key-index (pair_of item)
           here c.loop-key.found named value),
       λ _. refl,
     )

@@ -1,14 +1,17 @@
-use Rattle.std.proofs.Common.{◌≡◌, ◌+◌, ◌<◌, [], true, false, arith, sym, refl, subst, ◌∙◌, ◌↔◌, length, drop, map, ℕ, List}
+use Rattle.std.proofs.Common.{◌≡◌, ◌+◌, ◌<◌, [], true, false, arith, sym, refl, subst, ◌∙◌}
+use Rattle.std.proofs.Common.{◌↔◌, length, drop, map, ℕ, List}
 use Rattle.std.specs.Char.{to_ascii_lowercase}
 use Rattle.std.specs.Str.{bytes_eq}
 use Rattle.std.proofs.lemmas.List.{drop_all, length-map}
 use Rattle.std.proofs.lemmas.Option.{slice_get-get_or}
 use Rattle.mock_request.specs.HeaderFields.{header_pair, header_pairs}
 use Rattle.mock_request.specs.Values.{values_of}
-use Rattle.request_parts.proofs.RestLemmas.{both, answered, matched, matches_read, step_found, step_unmet, step_other, at_end}
+use Rattle.request_parts.proofs.RestLemmas.{both, answered, matched, matches_read, step_found, step_unmet, step_other}
+use Rattle.request_parts.proofs.RestLemmas.{at_end}
 use Rattle.request_parts.specs.Inner.Rest.{MeetsRest}
 use Rattle.request_parts.proofs.named_test.meets_any_header.Goals as goal
-use Rattle.request_parts.proofs.named_test.meets_any_header.Goals.{in-Some+then-is_lower_case_of+in_ok-matches+else-branch, in-Some+else-is_lower_case_of, in_default}
+use Rattle.request_parts.proofs.named_test.meets_any_header.Goals.{in-Some+then-is_lower_case_of+in_ok-matches+else-branch}
+use Rattle.request_parts.proofs.named_test.meets_any_header.Goals.{in-Some+else-is_lower_case_of, in_default}
 
 pub returns-then-branch-clause-answer : goal.returns-then-branch-clause-answer
 returns-then-branch-clause-answer c =

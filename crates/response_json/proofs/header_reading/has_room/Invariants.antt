@@ -8,5 +8,6 @@ use Rattle.response_json.proofs.header_reading.has_room.Given as goal
 abbrev pub invariant-loop-name : goal.invariant-loop-name
 invariant-loop-name l = record {
   within : l.left ≤ HEADER_LIMIT;
-  whole : count_in (members_view l.fn.members.entries) + l.left ≡ HEADER_LIMIT + count_in (members_view l._name-iterator);
+  whole : count_in (members_view l.fn.members.entries) + l.left
+      ≡ HEADER_LIMIT + count_in (members_view l._name-iterator);
 }

@@ -42,16 +42,20 @@ returns-clause-settled g c =
       reached = c.requires.reached;
       legal = c.event_count-events.ensures.legal;
       events = events;
-      counted = events ∙ counted ∙ ap (λ (s : ℕ). s + length all) start ∙ ap (λ (k : ℕ). last_number origin + k) (sym len);
+      counted = events ∙ counted ∙ ap (λ (s : ℕ). s + length all) start
+          ∙ ap (λ (k : ℕ). last_number origin + k) (sym len);
       all = moved;
       numbered =
-          subst (λ (l : List Receipt). numbers l ≡ range_with_len (last_number origin + 1) (length l)) c.as_slice.ensures.value
-          (subst (λ (s : ℕ). numbers c.as_slice.result.now ≡ range_with_len (s + 1) (length c.as_slice.result.now)) start
+          subst (λ (l : List Receipt).
+          numbers l ≡ range_with_len (last_number origin + 1) (length l)) c.as_slice.ensures.value
+          (subst (λ (s : ℕ). numbers c.as_slice.result.now
+          ≡ range_with_len (s + 1) (length c.as_slice.result.now)) start
           c.in_default-miscounted.ensures);
       kept =
           subst (λ (l : List Receipt). All (λ r. IfSome (event_at past r.number) (λ event. r.event ≡ event)) l)
           c.as_slice-2.ensures.value
-          (subst (λ (p : Past). All (λ r. IfSome (event_at p r.number) (λ event. r.event ≡ event)) c.as_slice-2.result.now)
+          (subst (λ (p : Past). All
+          (λ r. IfSome (event_at p r.number) (λ event. r.event ≡ event)) c.as_slice-2.result.now)
           c.history.ensures c.in_default-differing.ensures);
       rising = c.in_default.ensures;
     }

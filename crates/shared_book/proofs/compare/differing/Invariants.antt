@@ -4,4 +4,5 @@ use Rattle.shared_book.proofs.compare.differing.Given as goal
 
 abbrev pub invariant-loop-receipt : goal.invariant-loop-receipt
 invariant-loop-receipt l =
-    All (λ r. IfSome (event_at l.history.past r.number) (λ event. r.event ≡ event)) (take l.receipt-index l.receipts)
+    All (λ r. IfSome (event_at l.history.past r.number) (λ event. r.event ≡ event))
+    (take l.receipt-index l.receipts)

@@ -4,4 +4,5 @@ use Rattle.shared_book.proofs.compare.sort.Goals as goal
 
 pub returns-clause-sorted : goal.returns-clause-sorted
 returns-clause-sorted c =
-    IsNonDecreasingBy-from_sort_by_key (λ r. r.number) _ c.sort_unstable_by_key.ensures.sorted (λ a r q k. search rules)
+    IsNonDecreasingBy-from_sort_by_key (λ r. r.number) _ c.sort_unstable_by_key.ensures.sorted
+    (λ a r q k. search rules)

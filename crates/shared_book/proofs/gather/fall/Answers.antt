@@ -18,4 +18,5 @@ loop-seat-preserved g c =
 
 pub returns : goal.returns
 returns g c =
-    all_taken (λ (s : List Held). All IsRising (all_lists s)) c.args.seats.now c.loop-seat.seat-index (omega arith) c.loop-seat.invariant
+    all_taken (λ (s : List Held). All IsRising (all_lists s)) c.args.seats.now c.loop-seat.seat-index
+    (omega arith) c.loop-seat.invariant

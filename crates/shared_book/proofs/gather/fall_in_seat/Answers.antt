@@ -16,5 +16,6 @@ returns-in-None g c =
     (seat_fall c.fall_in_lists.result c.seat.inside.own.items
     (map (λ (v : Vec Receipt Global). v.items) c.seat.inside.joined.items)
     (subst IsRising c.as_slice.ensures.value c.in-None.ensures)
-    (subst (λ (l : List (List Receipt)). MatchOption c.fall_in_lists.result (All IsRising l) (λ n. Any (Falls n) l)) joined
+    (subst (λ (l : List (List Receipt)).
+    MatchOption c.fall_in_lists.result (All IsRising l) (λ n. Any (Falls n) l)) joined
     c.fall_in_lists.ensures))

@@ -6,7 +6,8 @@ abbrev pub invariant-loop-list : goal.invariant-loop-list
 invariant-loop-list l = record {
   can_next : (goal.iterator-loop-list).can_next l.list-iterator;
   ends : (goal.iterator-loop-list).is_finite l.list-iterator;
-  items : map (λ v. v.items) l.lists.items ≡ map (λ v. v.items) l.fn.lists.items ++ filled (l.fn.own.items ∷ map (λ v. v.items) l.yielded);
+  items : map (λ v. v.items) l.lists.items
+      ≡ map (λ v. v.items) l.fn.lists.items ++ filled (l.fn.own.items ∷ map (λ v. v.items) l.yielded);
   left : l.list-iterator.rest.len + length l.yielded ≡ vec_len l.fn.joined;
   room : vec_len l.lists + vec_len l.fn.joined ≤ vec_capacity l.lists + length l.yielded;
 }

@@ -15,7 +15,8 @@ pub returns-in-None-clause-answer : goal.returns-in-None-clause-answer
 returns-in-None-clause-answer c =
     IfOk-weaker c.unchosen.result (IsUnchosen c.args.recording.now)
     (λ (answer : ServeAnswer). (past : Past)
-    → Agrees past c.args.store.now c.args.scenarios.now c.args.recording.now → IsChoice past c.args.request.now answer)
+    → Agrees past c.args.store.now c.args.scenarios.now c.args.recording.now
+    → IsChoice past c.args.request.now answer)
     (λ answer h past fits.
     is_unchosen past c.args.store.now c.args.scenarios.now c.args.recording.now fits c.args.request.now answer
     (rw c.in-None.is at c.in_ok-found.ensures.found) h)

@@ -1,4 +1,5 @@
-use Rattle.std.proofs.Common.{◌≡◌, ◌+◌, ◌<◌, ◌∷◌, ◌++◌, [], map, take, drop, length, get_or, sym, ap, ◌∙◌, arith, length-set}
+use Rattle.std.proofs.Common.{◌≡◌, ◌+◌, ◌<◌, ◌∷◌, ◌++◌, [], map, take, drop, length, get_or}
+use Rattle.std.proofs.Common.{sym, ap, ◌∙◌, arith, length-set}
 use Rattle.std.proofs.lemmas.List.{take_more, take_more_set, drop-set-lt, drop-drop, map-append}
 use Rattle.stub_response.specs.HeaderText.{value_byte}
 use Rattle.stub_response.proofs.ListLemmas.{same_item}

@@ -12,7 +12,8 @@ returns c =
     let name : ¬ ¬ (IsFieldName c.args.name.now) =
     λ no. let e = c.in-Ok.ensures.invalid.1 (λ is. no (subst IsFieldName named is)) in absurd (cc) in
     let value : ¬ ¬ (IsFieldValue c.args.value) =
-    λ no. let e = c.in-Ok-from_vec.ensures.invalid.1 (λ is. no (subst IsFieldValue c.into_vec.ensures is)) in absurd (cc) in
+    λ no. let e = c.in-Ok-from_vec.ensures.invalid.1 (λ is. no (subst IsFieldValue c.into_vec.ensures is)) in
+    absurd (cc) in
     let old = c.args.headers.now in
     c.in-Ok-append.ensures.ok
     ∙ ap (λ n. append old n c.in-Ok-from_vec.value) (c.in-Ok.ensures.ok ∙ ap lowercase named)

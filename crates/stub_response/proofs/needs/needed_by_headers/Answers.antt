@@ -1,4 +1,5 @@
-use Rattle.std.proofs.Common.{◌≡◌, ◌+◌, List, [], ◌∷◌, ◌++◌, map, take, sym, ap, ◌∙◌, subst, arith}
+use Rattle.std.proofs.Common.{◌≡◌, ◌+◌, List, [], ◌∷◌, ◌++◌, map, take, sym, ap, ◌∙◌, subst}
+use Rattle.std.proofs.Common.{arith}
 use Rattle.std.proofs.lemmas.List.{map_more, take_all}
 use Rattle.mapping_model.specs.declared.header_lines.HeaderLine.{HeaderLine}
 use Rattle.stub_response.proofs.AlikeLemmas.{needed_more}
@@ -14,7 +15,8 @@ loop-header-preserved c =
     let item : HeaderLine Source = c.header-item.result in
     let value = λ (line : HeaderLine Source). line.value in
     let next : map value (take (i + 1) lines) ≡ map value (take i lines) ++ item.value ∷ [] =
-    map_more value lines i item (omega arith) ∙ ap (λ (l : HeaderLine Source). map value (take i lines) ++ l.value ∷ [])
+    map_more value lines i item (omega arith)
+    ∙ ap (λ (l : HeaderLine Source). map value (take i lines) ++ l.value ∷ [])
     (sym c.header-item.is) in
     subst (IsNeededBy c.add_needed.new.needed) (sym next)
     (needed_more c.add_needed.new.needed c.loop-header.needed (map value (take i lines)) item.value
@@ -26,5 +28,6 @@ returns c =
     let lines : List (HeaderLine Source) = c.args.headers.now in
     let i = c.loop-header.header-index in
     let whole : take i lines ≡ lines = take_all i lines (omega arith) in
-    subst (λ (ls : List (HeaderLine Source)). IsNeededBy c.loop-header.needed (map (λ (line : HeaderLine Source). line.value) ls))
+    subst (λ (ls : List (HeaderLine Source)).
+    IsNeededBy c.loop-header.needed (map (λ (line : HeaderLine Source). line.value) ls))
     whole c.loop-header.invariant

@@ -15,6 +15,8 @@ loop-header-preserved c =
     let more : take (i + 1) given ≡ take i given ++ item ∷ [] =
     take_more given i item (omega arith) ∙ ap (λ s. take i given ++ s ∷ []) (sym c.header-item.is) in
     subst (λ l. AllZip (IsLine (Rendered (root_of c.args.request.now))) l c.push.new.self.items) (sym more)
-    (subst (AllZip (IsLine (Rendered (root_of c.args.request.now))) (take i given ++ item ∷ [])) (sym c.in_ok-push.ensures.items)
-    (all_zip_push (IsLine (Rendered (root_of c.args.request.now))) (take i given) c.loop-header.made.items item made c.loop-header.invariant
+    (subst (AllZip (IsLine (Rendered (root_of c.args.request.now))) (take i given ++ item ∷ []))
+    (sym c.in_ok-push.ensures.items)
+    (all_zip_push (IsLine (Rendered (root_of c.args.request.now))) (take i given) c.loop-header.made.items item
+    made c.loop-header.invariant
     c.in_ok-rendered_header.ensures))

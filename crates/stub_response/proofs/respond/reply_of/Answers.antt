@@ -16,5 +16,6 @@ returns-in_ok-template-in-Templated c =
     IfOk-weaker c.templated_reply.result _ _ (λ reply. reply_over c.args.limits c.args.url.now status
     c.args.response.now.content c.in-Templated.headers lines body request template root reply c.in-Templated.is
     c.as_slice-in-Templated.ensures.value c.in_ok-template-in-Templated.ensures refl)
-    (subst (λ t. IfOk c.templated_reply.result (IsReplyOver (Rendered (request_tree request t)) c.args.limits status lines
+    (subst (λ t. IfOk c.templated_reply.result
+    (IsReplyOver (Rendered (request_tree request t)) c.args.limits status lines
     body (request_tree request t))) c.as_ref.ensures.value c.templated_reply.ensures)

@@ -14,6 +14,7 @@ returns-in_ok-rendered_body-in-Some c =
     let within = subst (IsDataWithin c.args.limits (templates_of c.args.headers.now c.args.body.now)
     c.needed_by_body-needed.result whole) c.in-Some.is c.in_ok-data.ensures in (
       within.0,
-      alike_body part whole (no_empty_name c.args.request.now template) c.args.body.now c.in_ok-rendered_body-in-Some.field-0
+      alike_body part whole (no_empty_name c.args.request.now template)
+          c.args.body.now c.in_ok-rendered_body-in-Some.field-0
           (c.needed_by_body-needed.ensures part whole within.1) c.in_ok-rendered_body-in-Some.ensures,
     )

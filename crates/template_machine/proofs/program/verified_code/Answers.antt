@@ -10,7 +10,8 @@ pub returns-in_err-template-clause-err : goal.returns-in_err-template-clause-err
 returns-in_err-template-clause-err c =
     let p = err_from_is_err_and c.from_residual.result c.from_residual.ensures.1 in
     let e = c.in_err-template.ensures in
-    rw (p.1, p.2) (parse_error (with_escape c.args.escape c.args.text.now) c.in_err-template.field-0.0 e.wrong e.every_tree)
+    rw (p.1, p.2) (parse_error (with_escape c.args.escape c.args.text.now) c.in_err-template.field-0.0
+    e.wrong e.every_tree)
 
 pub returns-in_err-code-clause-err : goal.returns-in_err-code-clause-err
 returns-in_err-code-clause-err c =

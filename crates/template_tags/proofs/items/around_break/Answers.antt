@@ -1,5 +1,5 @@
-use Rattle.std.proofs.Common.{◌≡◌, ℕ, suc, ◌+◌, ◌<◌, List, length, take, drop, get_or, Option, Some, IfSome, sym, ap}
-use Rattle.std.proofs.Common.{subst, ◌∙◌, arith, IsCharBoundary}
+use Rattle.std.proofs.Common.{◌≡◌, ℕ, suc, ◌+◌, ◌<◌, List, length, take, drop, get_or, Option, Some}
+use Rattle.std.proofs.Common.{IfSome, sym, ap, subst, ◌∙◌, arith, IsCharBoundary}
 use Rattle.std.proofs.lemmas.List.{get_or-drop, drop-drop, length-drop}
 use Rattle.std.proofs.lemmas.Str.{IsCharBoundary-before_ascii}
 use Rattle.template_tags.specs.Inner.Scan.{break_at, split_around}
@@ -13,7 +13,8 @@ found mode s bytes n at same =
     let P : Option ℕ → Type 0 = λ o. IfSome o (λ k. (k < length s) × (get_or s k 0 < 128)) in
     subst P (sym (at ∙ ap (break_at mode) same)) (break_found mode s)
 
-parts : (mode : Mode) (s bytes front back more after : List ℕ) (n : ℕ) → Some n ≡ break_at mode bytes → bytes ≡ s
+parts : (mode : Mode) (s bytes front back more after : List ℕ) (n : ℕ)
+    → Some n ≡ break_at mode bytes → bytes ≡ s
     → front ≡ take n s → back ≡ drop n s → more ≡ back → after ≡ drop 1 back
     → Some (front, get_or more 0 0, after) ≡ split_around s (break_at mode s)
 parts mode s bytes front back more after n at same is_front is_back is_more is_after =

@@ -5,4 +5,5 @@ use Rattle.template_tree.proofs.parser.read_template.Goals as goal
 
 pub new-requires : goal.new-requires
 new-requires c =
-    spelled_is_sound (with_escape c.args.escape c.args.text.now) (nodes_view c.in_ok-nodes.nodes.items) c.in_ok-nodes.ensures
+    spelled_is_sound (with_escape c.args.escape c.args.text.now)
+    (nodes_view c.in_ok-nodes.nodes.items) c.in_ok-nodes.ensures

@@ -7,4 +7,5 @@ use Rattle.thread_cases.proofs.threads.Job.TheSendSync as job
 use Rattle.thread_cases.proofs.threads.both.Goals as goal
 
 pub join-requires-send-F : goal.join-requires-send-F
-join-requires-send-F g c κs within = search (sendable, shared_book_sync, seat.the_send, first_waits.the_sync, job.the_send, crosses) depth 60
+join-requires-send-F g c κs within =
+    search (sendable, shared_book_sync, seat.the_send, first_waits.the_sync, job.the_send, crosses) depth 60

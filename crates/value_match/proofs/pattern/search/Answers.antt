@@ -1,5 +1,6 @@
 use Rattle.std.proofs.Common.{sym, ◌∙◌, arith}
-use Rattle.value_match.proofs.SearchLemmas.{found_by_run, none_of_is_some, not_found, not_found_anchored, none_from_start}
+use Rattle.value_match.proofs.SearchLemmas.{found_by_run, none_of_is_some, not_found, not_found_anchored}
+use Rattle.value_match.proofs.SearchLemmas.{none_from_start}
 use Rattle.value_match.proofs.pattern.search.Goals as goal
 
 pub returns-then-matches_at-clause-found : goal.returns-then-matches_at-clause-found

@@ -6,4 +6,5 @@ pub returns-in-Some-clause-found : goal.returns-in-Some-clause-found
 returns-in-Some-clause-found c = λ source searches.
     let read = rw c.in-Some.is at searches in
     rw (c.is_match.ensures.found, c.deref_mut.ensures.value)
-    (finds_as_read c.args.value.now (λ k. omega (arith, c.type_inv.value k)) source c.in-Some.pattern.value.automaton read)
+    (finds_as_read c.args.value.now (λ k. omega (arith, c.type_inv.value k)) source
+    c.in-Some.pattern.value.automaton read)

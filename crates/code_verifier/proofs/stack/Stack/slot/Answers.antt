@@ -12,5 +12,6 @@ returns-then-depth-count c =
     let len : c.depth-count.result ≡ length slots = c.depth-count.ensures
     ∙ (ap length (sym c.self.view_is) ∙ length-reverse slots) in
     let lt : n < length slots = omega (arith, len, c.if-depth-count.true) in
-    let at : x ≡ get_or slots (length slots - 1 - n) x = c.index.ensures ∙ ap (λ m. get_or slots (m - 1 - n) x) len in
+    let at : x ≡ get_or slots (length slots - 1 - n) x =
+    c.index.ensures ∙ ap (λ m. get_or slots (m - 1 - n) x) len in
     (drop (n + 1) (reverse slots), ap (drop n) (sym c.self.view_is) ∙ slot-reverse slots n x lt at)

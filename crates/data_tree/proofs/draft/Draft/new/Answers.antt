@@ -6,5 +6,8 @@ use Rattle.data_tree.proofs.draft.Draft.new.Goals as goal
 pub invariant_of-result : goal.invariant_of-result
 invariant_of-result c =
     let bytes = string_bytes c.args.text in
-    let whole : c.len-start.result ≡ length bytes = search rules in
-    (omega arith, subst IsUtf8 (sym (take_all c.len-start.result bytes (omega arith))) (IsUtf8-string_bytes c.args.text))
+    let whole : c.len-start.result ≡ length bytes = search rules in (
+      omega arith,
+      subst IsUtf8 (sym (take_all c.len-start.result bytes (omega arith)))
+          (IsUtf8-string_bytes c.args.text),
+    )

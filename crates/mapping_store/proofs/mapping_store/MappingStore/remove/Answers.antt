@@ -13,7 +13,8 @@ invariant_of-self c = record {
 pub returns-clause-found : goal.returns-clause-found
 returns-clause-found c =
     rw (← c.self.view_is, c.is_some.ensures)
-    (found_taken c.args.id c.self.inside.live.items c.take_out.new.entries.items c.take_out.result c.take_out.ensures.taken)
+    (found_taken c.args.id c.self.inside.live.items c.take_out.new.entries.items
+    c.take_out.result c.take_out.ensures.taken)
 
 pub returns-clause-after : goal.returns-clause-after
 returns-clause-after c = λ number. rw (← c.self.view_is) (record {

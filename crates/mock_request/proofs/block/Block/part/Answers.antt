@@ -18,4 +18,11 @@ returns c =
     let i : c.args.index < length ends = rw (← c.self.view_is, length_parts) at c.requires in
     let end = get_or_read ends c.args.index c.index.result.now i c.index.ensures 0 in
     let part = part_at 0 ends c.self.inside.bytes.items c.args.index i in
-    rw (← c.self.view_is, part, ← end, ← c.as_slice.ensures.value, ← c.start-start.ensures, ← c.deref.ensures.value)
+    rw (
+      ← c.self.view_is,
+      part,
+      ← end,
+      ← c.as_slice.ensures.value,
+      ← c.start-start.ensures,
+      ← c.deref.ensures.value,
+    )

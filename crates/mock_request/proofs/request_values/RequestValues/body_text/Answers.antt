@@ -6,4 +6,5 @@ use Rattle.mock_request.proofs.request_values.RequestValues.body_text.Goals as g
 pub returns-in-None : goal.returns-in-None
 returns-in-None c =
     sym (utf8_lossy-IsUtf8 c.from_utf8_unchecked.result.now c.from_utf8_unchecked.utf8)
-    ∙ ap utf8_lossy (c.from_utf8_unchecked.ensures ∙ c.body.ensures.value ∙ ap (λ request. request.body) c.self.view_is)
+    ∙ ap utf8_lossy (c.from_utf8_unchecked.ensures ∙ c.body.ensures.value
+    ∙ ap (λ request. request.body) c.self.view_is)

@@ -25,7 +25,8 @@ returns-clause-answer c =
     answered c.meet_body.result
     (subst (λ ts. IfOk c.meet_body.result (λ b. IsTrue b ↔ All (λ p. MeetsBody p c.args.request.now.body) ts))
     (c.as_mut_slice.ensures.value ∙ ap (λ m. m.body) (c.self.view_is ∙ c.in_ok-meets_head.ensures.same))
-    (subst (λ body. IfOk c.meet_body.result (λ b. IsTrue b ↔ All (λ p. MeetsBody p body) c.as_mut_slice.result.now))
+    (subst (λ body. IfOk c.meet_body.result
+    (λ b. IsTrue b ↔ All (λ p. MeetsBody p body) c.as_mut_slice.result.now))
     (ap (λ r. r.body) c.meets_head.ensures.same_request) c.meet_body.ensures.answer)) (
       λ bodies. record {
         method = head.method;

@@ -32,7 +32,8 @@ returns-clause-answer c =
     let request = c.args.request.now in
     let cookies = ap (λ r. cookie_pairs r.headers) (c.meets_query.ensures.same ∙ c.meets_headers.ensures.same) in
     answered c.meets_cookies.result
-    (subst (λ pairs. IfOk c.meets_cookies.result (λ b. IsTrue b ↔ MeetPairs c.as_mut_slice-3.result.now pairs)) cookies
+    (subst (λ pairs. IfOk c.meets_cookies.result
+    (λ b. IsTrue b ↔ MeetPairs c.as_mut_slice-3.result.now pairs)) cookies
     c.meets_cookies.ensures.answer) (
       λ a. record {
         method = subst (λ m. MeetsMethod m.method request.method) c.self.view_is

@@ -12,9 +12,11 @@ pub returns-clause-answer : goal.returns-clause-answer
 returns-clause-answer c =
     let P = json.Matches c.args.matcher.now in
     let body = c.self.inside.snapshot.now.body in
-    subst (λ q. IfOk c.match-self.result (λ b. IsTrue b ↔ IsSomeAnd (tree_of_text (utf8_lossy q.body)) P)) c.self.view_is
+    subst (λ q. IfOk c.match-self.result
+    (λ b. IsTrue b ↔ IsSomeAnd (tree_of_text (utf8_lossy q.body)) P)) c.self.view_is
     (elim c.match-self.branch [
-      | in-Some w ↦ subst (λ r. IfOk r (λ b. IsTrue b ↔ IsSomeAnd (tree_of_text (utf8_lossy body)) P)) (sym w.result-is)
+      | in-Some w ↦ subst (λ r.
+          IfOk r (λ b. IsTrue b ↔ IsSomeAnd (tree_of_text (utf8_lossy body)) P)) (sym w.result-is)
           (was_read P body c.read_json.new.json w.in-Some.found w.meets_read.result c.in_ok-read_json.ensures.read
           w.in-Some.is w.meets_read.ensures.answer)
       | in-None w ↦

@@ -9,6 +9,7 @@ pub returns-clause-answer : goal.returns-clause-answer
 returns-clause-answer c =
     let is = are_of c.read_values.new.values c.values_read-values.result.now c.self.inside.snapshot.now c.args.self.now
     c.in_ok-read_values.ensures.read c.values_read-values.ensures c.self.view_is in
-    subst (λ (r : Request). IfOk c.meet_pairs.result (λ b. IsTrue b ↔ MeetPairs c.args.tests.now (query_pairs r.url))) is
+    subst (λ (r : Request).
+    IfOk c.meet_pairs.result (λ b. IsTrue b ↔ MeetPairs c.args.tests.now (query_pairs r.url))) is
     (subst (λ pairs. IfOk c.meet_pairs.result (λ b. IsTrue b ↔ MeetPairs c.args.tests.now pairs)) c.query.ensures
     c.meet_pairs.ensures.answer)

@@ -11,9 +11,11 @@ returns-clause-ok c =
     let e = c.args.escape in
     elim c.if-is_templated.branch [
       | then-is_templated+in_ok-content w ↦
-          subst (λ b. All IsProgramText (if b then values_of (lines_with e d.headers) ++ body_templates (body_with e d.body) else []))
+          subst (λ b. All IsProgramText
+          (if b then values_of (lines_with e d.headers) ++ body_templates (body_with e d.body) else []))
           (sym w.if-is_templated.true) w.in_ok-content.ensures.ok
       | else-is_templated w ↦
-          subst (λ b. All IsProgramText (if b then values_of (lines_with e d.headers) ++ body_templates (body_with e d.body) else []))
+          subst (λ b. All IsProgramText
+          (if b then values_of (lines_with e d.headers) ++ body_templates (body_with e d.body) else []))
           (sym w.if-is_templated.false) no_programs
     ]

@@ -7,7 +7,8 @@ returns-in-Ok g c = (
   (
     refl,
     (λ _. tt),
-    lends_applied g.L.Origin.origin c.args.self.now c.keep_applied.new.self c.args.input c.last.result.now c.in-Ok.ensures.ok c.last.ensures,
+    lends_applied g.L.Origin.origin c.args.self.now c.keep_applied.new.self c.args.input c.last.result.now
+        c.in-Ok.ensures.ok c.last.ensures,
   ),
   record { after = tt; why = tt },
 )

@@ -1,4 +1,5 @@
-use Rattle.std.proofs.Common.{◌≡◌, ◌+◌, ◌<◌, ◌∷◌, ◌++◌, List, Vec, Global, arith, ap, ◌∙◌, sym, map, length, rules}
+use Rattle.std.proofs.Common.{◌≡◌, ◌+◌, ◌<◌, ◌∷◌, ◌++◌, List, Vec, Global, arith, ap, ◌∙◌}
+use Rattle.std.proofs.Common.{sym, map, length, rules}
 use Rattle.shared_book.proofs.HeldLemmas.{receipts_joined}
 use Rattle.shared_book.specs.Held.{filled, receipts_of}
 use Rattle.shared_book.specs.declared.receipt.Receipt.{Receipt}
@@ -16,7 +17,8 @@ invariant_of-self-2 g c =
     ap (λ (l : List (Vec Receipt Global)). map (λ (v : Vec Receipt Global). v.items) l) c.reserve.ensures.items in
     let all : length (receipts_of (c.self.inside.own.items ∷ new))
     ≡ length (receipts_of (c.self.inside.own.items ∷ lists)) + length (receipts_of other) =
-    receipts_joined lists other new c.self.inside.own.items (c.take_over.ensures ∙ ap (λ (l : List (List Receipt)). l ++ filled other) same) in
+    receipts_joined lists other new c.self.inside.own.items
+    (c.take_over.ensures ∙ ap (λ (l : List (List Receipt)). l ++ filled other) same) in
     let sum : c.in-Some.count ≡ c.self.inside.count + c.other.inside.count = search rules in
     record {
       same_parts = omega (arith, mine.same_parts, others.same_parts, c.merge.ensures.parts);

@@ -7,7 +7,8 @@ returns-in-Ok g c = (
   (
     refl,
     (λ _. tt),
-    lends_served g.L.Origin.origin c.args.self.now c.keep_served.new.self c.args.request c.last.result.now c.in-Ok.ensures.ok c.last.ensures,
+    lends_served g.L.Origin.origin c.args.self.now c.keep_served.new.self c.args.request c.last.result.now
+        c.in-Ok.ensures.ok c.last.ensures,
   ),
   record { after = tt; why = tt },
 )

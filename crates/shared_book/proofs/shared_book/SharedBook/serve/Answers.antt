@@ -4,7 +4,9 @@ use Rattle.shared_book.proofs.shared_book.SharedBook.serve.Goals as goal
 
 pub returns-clause-ok : goal.returns-clause-ok
 returns-clause-ok g c =
-    genuine g.L.Origin.origin c.deref_mut.result.now c.serve.new.self (IsServed c.args.request) c.serve.result c.serve.ensures.reached c.serve.ensures.ok
+    genuine g.L.Origin.origin c.deref_mut.result.now c.serve.new.self (IsServed c.args.request) c.serve.result
+    c.serve.ensures.reached c.serve.ensures.ok
 
 pub returns-clause-why : goal.returns-clause-why
-returns-clause-why g c = refused_serve g.L.Origin.origin c.deref_mut.result.now c.serve.result c.serve.ensures.reached c.serve.ensures.why
+returns-clause-why g c =
+    refused_serve g.L.Origin.origin c.deref_mut.result.now c.serve.result c.serve.ensures.reached c.serve.ensures.why

@@ -24,7 +24,8 @@ invariant_of-self-2 c =
     let few = c.in_ok-has_place.ensures.ok m refl in
     let next : IsNext past (event.Add m) = record {
       answer = c.in_ok-id.ensures ∙ ap (λ (n : ℕ). unwrap_or c.args.mapping.id (event_id n)) number;
-      few_live = subst (λ (p : Past). length (live (with_event p (event.Add m))) ≤ LIVE_LIMIT) (sym c.self.view_is) few;
+      few_live = subst (λ (p : Past). length (live (with_event p (event.Add m))) ≤ LIVE_LIMIT)
+          (sym c.self.view_is) few;
       has_room = ok.2;
     } in
     let given = ap (λ (n : Mapping). event.Add n) (c.in_ok-copy.ensures ∙ c.in_ok-added.ensures) in
@@ -36,7 +37,8 @@ invariant_of-self-2 c =
     c.reserve.ensures.same_defaults c.reserve.ensures.same_live c.self.invariant)
     next
     (subst (λ (n : ℕ). Follows store c.add.new.self n (event.Add m)) number
-    (subst (λ (n : Mapping). Follows store c.add.new.self (c.last_number-number.result + 1) (event.Add n)) c.in_ok-added.ensures c.add.ensures))
+    (subst (λ (n : Mapping). Follows store c.add.new.self (c.last_number-number.result + 1) (event.Add n))
+    c.in_ok-added.ensures c.add.ensures))
     (λ name. refl) refl
 
 pub returns-clause-ok : goal.returns-clause-ok
@@ -48,14 +50,16 @@ returns-clause-ok c =
     let few = c.in_ok-has_place.ensures.ok m refl in
     let next : IsNext past (event.Add m) = record {
       answer = c.in_ok-id.ensures ∙ ap (λ (n : ℕ). unwrap_or c.args.mapping.id (event_id n)) number;
-      few_live = subst (λ (p : Past). length (live (with_event p (event.Add m))) ≤ LIVE_LIMIT) (sym c.self.view_is) few;
+      few_live = subst (λ (p : Past). length (live (with_event p (event.Add m))) ≤ LIVE_LIMIT)
+          (sym c.self.view_is) few;
       has_room = ok.2;
     } in
     let given = ap (λ (n : Mapping). event.Add n) (c.in_ok-copy.ensures ∙ c.in_ok-added.ensures) in
     let same = ok.0.is ∙ given in
     accepts c.args.self.now c.push_reserved.new.self.past (input.Add c.args.mapping)
     (event.Add c.in_ok-copy.copy) (event.Add m) c.in_ok-made.made ok.0 given refl
-    (grew c.args.self.now past c.prepare.new.history.past c.push_reserved.new.self.past (event.Add m) c.in_ok-made.made.event
+    (grew c.args.self.now past c.prepare.new.history.past c.push_reserved.new.self.past
+    (event.Add m) c.in_ok-made.made.event
     c.self.view_is c.prepare.ensures.same same c.push_reserved.ensures refl next)
 
 -- more would be live than there may be

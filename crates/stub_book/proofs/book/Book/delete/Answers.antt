@@ -13,7 +13,8 @@ invariant_of-self-2 c =
     let past = c.self.inside.history.past in
     let ok = c.in_ok-made.ensures.ok in
     let held = subst (λ (p : Past). IsLive p c.args.id) (sym c.self.view_is) c.in_ok-has_mapping.ensures.ok in
-    fits_added past c.prepare.new.history.past c.push_reserved.new.self.past (event.Delete c.args.id) c.in_ok-made.made.event
+    fits_added past c.prepare.new.history.past c.push_reserved.new.self.past
+    (event.Delete c.args.id) c.in_ok-made.made.event
     c.self.inside.store c.remove-found.new.self c.self.inside.scenarios c.self.inside.scenarios
     c.self.inside.recording c.self.inside.recording
     c.prepare.ensures.same ok.0.is c.push_reserved.ensures c.self.invariant
@@ -25,7 +26,8 @@ returns-clause-ok c =
     let past = c.self.inside.history.past in
     let ok = c.in_ok-made.ensures.ok in
     let held = subst (λ (p : Past). IsLive p c.args.id) (sym c.self.view_is) c.in_ok-has_mapping.ensures.ok in
-    accepts c.args.self.now c.push_reserved.new.self.past (input.Delete c.args.id) (event.Delete c.args.id) (event.Delete c.args.id) c.in_ok-made.made ok.0 refl refl
+    accepts c.args.self.now c.push_reserved.new.self.past (input.Delete c.args.id) (event.Delete c.args.id)
+    (event.Delete c.args.id) c.in_ok-made.made ok.0 refl refl
     (grew c.args.self.now past c.prepare.new.history.past c.push_reserved.new.self.past (event.Delete c.args.id)
     c.in_ok-made.made.event
     c.self.view_is c.prepare.ensures.same ok.0.is c.push_reserved.ensures refl

@@ -24,7 +24,8 @@ invariant_of-self-2 c =
     c.self.inside.recording c.self.inside.recording
     c.prepare.ensures.same same c.push_reserved.ensures c.self.invariant
     (next_plain past (event.Edit c.args.id c.args.mapping) held refl c.self.invariant.few_live ok.2)
-    (subst (λ (m : Mapping). Follows c.self.inside.store c.edit-found.new.self (last_number past + 1) (event.Edit m.id m.spec))
+    (subst (λ (m : Mapping).
+    Follows c.self.inside.store c.edit-found.new.self (last_number past + 1) (event.Edit m.id m.spec))
     c.in_ok-edited.ensures (c.edit-found.ensures.after (last_number past + 1)))
     (λ name. refl) refl
 
@@ -37,7 +38,9 @@ returns-clause-ok c =
     let given = ap (λ (s : MappingSpec). event.Edit c.args.id s) kept in
     let same = ok.0.is ∙ given in
     accepts c.args.self.now c.push_reserved.new.self.past (input.Edit c.args.id c.args.mapping)
-    (event.Edit c.args.id c.in_ok-spec.spec) (event.Edit c.args.id c.args.mapping) c.in_ok-made.made ok.0 given (refl, refl)
-    (grew c.args.self.now past c.prepare.new.history.past c.push_reserved.new.self.past (event.Edit c.args.id c.args.mapping)
+    (event.Edit c.args.id c.in_ok-spec.spec) (event.Edit c.args.id c.args.mapping) c.in_ok-made.made ok.0
+    given (refl, refl)
+    (grew c.args.self.now past c.prepare.new.history.past c.push_reserved.new.self.past
+    (event.Edit c.args.id c.args.mapping)
     c.in_ok-made.made.event c.self.view_is c.prepare.ensures.same same c.push_reserved.ensures refl
     (next_plain past (event.Edit c.args.id c.args.mapping) held refl c.self.invariant.few_live ok.2))

@@ -12,13 +12,16 @@ pub returns-then-len_with-gt-LIVE_LIMIT-clause-why : goal.returns-then-len_with-
 returns-then-len_with-gt-LIVE_LIMIT-clause-why c =
     let past = c.self.inside.history.past in
     let stubs = c.args.stubs.now in
-    let many : c.len_with.result ≡ length (live (with_event past (event.StopRecording stubs.mappings stubs.skipped))) =
+    let many : c.len_with.result
+    ≡ length (live (with_event past (event.StopRecording stubs.mappings stubs.skipped))) =
     c.len_with.ensures (last_number past + 1) stubs.skipped
-    ∙ many_stopped past c.self.inside.store c.as_slice.result.now stubs.skipped c.self.invariant.same_defaults c.self.invariant.same_live
+    ∙ many_stopped past c.self.inside.store c.as_slice.result.now stubs.skipped
+    c.self.invariant.same_defaults c.self.invariant.same_live
     ∙ ap (λ (ms : List Mapping). length (live (with_event past (event.StopRecording ms stubs.skipped))))
     (c.as_slice.ensures.value ∙ c.requires) in (
       ap (λ (e : BookError). e.code) c.from.ensures,
-      subst (λ (p : Past). LIVE_LIMIT < length (live (with_event p (event.StopRecording stubs.mappings stubs.skipped))))
+      subst (λ (p : Past). LIVE_LIMIT
+          < length (live (with_event p (event.StopRecording stubs.mappings stubs.skipped))))
           c.self.view_is (omega (arith, many)),
     )
 
@@ -26,10 +29,13 @@ pub returns-clause-ok : goal.returns-clause-ok
 returns-clause-ok c =
     let past = c.self.inside.history.past in
     let stubs = c.args.stubs.now in
-    let many : c.len_with.result ≡ length (live (with_event past (event.StopRecording stubs.mappings stubs.skipped))) =
+    let many : c.len_with.result
+    ≡ length (live (with_event past (event.StopRecording stubs.mappings stubs.skipped))) =
     c.len_with.ensures (last_number past + 1) stubs.skipped
-    ∙ many_stopped past c.self.inside.store c.as_slice.result.now stubs.skipped c.self.invariant.same_defaults c.self.invariant.same_live
+    ∙ many_stopped past c.self.inside.store c.as_slice.result.now stubs.skipped
+    c.self.invariant.same_defaults c.self.invariant.same_live
     ∙ ap (λ (ms : List Mapping). length (live (with_event past (event.StopRecording ms stubs.skipped))))
     (c.as_slice.ensures.value ∙ c.requires) in
-    subst (λ (p : Past). length (live (with_event p (event.StopRecording stubs.mappings stubs.skipped))) ≤ LIVE_LIMIT)
+    subst (λ (p : Past). length (live (with_event p (event.StopRecording stubs.mappings stubs.skipped)))
+    ≤ LIVE_LIMIT)
     c.self.view_is (omega (arith, many))

@@ -25,8 +25,10 @@ returns-then-eq-clause-ok c =
     let past = c.self.inside.history.past in
     let known : IsKnown past c.args.name.now =
     live_some (λ (p : Placed). IsIn c.args.name.now p.mapping.spec.scenario) past c.self.inside.store.live
-    c.self.invariant.same_live (c.if-not-knows.ensures.0 refl) in
-    (subst (λ (p : Past). IsKnown p c.args.name.now) c.self.view_is known, inl ((bytes_eq-Decides c.args.state.now started).0 (sym c.if-eq.ensures)))
+    c.self.invariant.same_live (c.if-not-knows.ensures.0 refl) in (
+      subst (λ (p : Past). IsKnown p c.args.name.now) c.self.view_is known,
+      inl ((bytes_eq-Decides c.args.state.now started).0 (sym c.if-eq.ensures)),
+    )
 
 pub returns-then-not-names-clause-why : goal.returns-then-not-names-clause-why
 returns-then-not-names-clause-why c =
@@ -42,7 +44,8 @@ returns-then-not-names-clause-why c =
         | inr named ↦ false≢true (c.if-not-names.ensures.1
             (stored_some (λ (p : Placed). Names c.args.name.now c.args.state.now p.mapping.spec.scenario) past
             c.self.inside.store.live c.self.invariant.same_live
-            (subst (λ (p : Past). Any (λ (q : Placed). Names c.args.name.now c.args.state.now q.mapping.spec.scenario) (live p))
+            (subst (λ (p : Past). Any
+            (λ (q : Placed). Names c.args.name.now c.args.state.now q.mapping.spec.scenario) (live p))
             (sym c.self.view_is) named)))
       ],
     )
@@ -54,7 +57,8 @@ returns-clause-ok c =
     live_some (λ (p : Placed). IsIn c.args.name.now p.mapping.spec.scenario) past c.self.inside.store.live
     c.self.invariant.same_live (c.if-not-knows.ensures.0 refl) in (
       subst (λ (p : Past). IsKnown p c.args.name.now) c.self.view_is known,
-      inr (subst (λ (p : Past). Any (λ (q : Placed). Names c.args.name.now c.args.state.now q.mapping.spec.scenario) (live p))
+      inr (subst (λ (p : Past).
+          Any (λ (q : Placed). Names c.args.name.now c.args.state.now q.mapping.spec.scenario) (live p))
           c.self.view_is
           (live_some (λ (p : Placed). Names c.args.name.now c.args.state.now p.mapping.spec.scenario) past
           c.self.inside.store.live c.self.invariant.same_live (c.if-not-names.ensures.0 refl))),

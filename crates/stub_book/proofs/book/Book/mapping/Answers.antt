@@ -9,7 +9,8 @@ use Rattle.stub_book.proofs.book.Book.mapping.Goals as goal
 
 pub returns-in-Some-clause-found : goal.returns-in-Some-clause-found
 returns-in-Some-clause-found c =
-    subst (λ (q : Past). Any (λ (p : Placed). (p.mapping.id ≡ c.args.id) × (p.mapping.spec ≡ c.in-Some.spec.now)) (live q))
+    subst (λ (q : Past). Any
+    (λ (p : Placed). (p.mapping.id ≡ c.args.id) × (p.mapping.spec ≡ c.in-Some.spec.now)) (live q))
     c.self.view_is
     (live_some (λ (p : Placed). (p.mapping.id ≡ c.args.id) × (p.mapping.spec ≡ c.in-Some.spec.now))
     c.self.inside.history.past c.self.inside.store.live c.self.invariant.same_live c.in-Some.ensures.found)

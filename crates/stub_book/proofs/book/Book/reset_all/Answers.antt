@@ -14,7 +14,8 @@ invariant_of-self-2 c =
     let kept = c.prepare.new.history.past in
     let ok = c.in_ok-made.ensures.ok in
     fits_reset past kept c.checkpoint.new.self.past c.push_reserved.new.self.past
-    event.ResetAll c.in_ok-made.made.event c.self.inside.store c.reset.new.self c.self.inside.scenarios c.reset-2.new.self
+    event.ResetAll c.in_ok-made.made.event c.self.inside.store c.reset.new.self
+    c.self.inside.scenarios c.reset-2.new.self
     c.self.inside.recording
     c.prepare.ensures.same ok.0.is c.checkpoint.ensures.checkpoint c.push_reserved.ensures refl c.self.invariant
     (next_reset past event.ResetAll tt (λ id. refl) refl c.self.invariant.few_defaults ok.2)
@@ -27,8 +28,10 @@ pub returns-clause-ok : goal.returns-clause-ok
 returns-clause-ok c =
     let past = c.self.inside.history.past in
     let ok = c.in_ok-made.ensures.ok in
-    accepts c.args.self.now c.push_reserved.new.self.past (input.ResetAll) (event.ResetAll) (event.ResetAll) c.in_ok-made.made ok.0 refl tt
-    (grew_cleared c.args.self.now past c.prepare.new.history.past c.checkpoint.new.self.past c.push_reserved.new.self.past
+    accepts c.args.self.now c.push_reserved.new.self.past (input.ResetAll) (event.ResetAll) (event.ResetAll)
+    c.in_ok-made.made ok.0 refl tt
+    (grew_cleared c.args.self.now past c.prepare.new.history.past
+    c.checkpoint.new.self.past c.push_reserved.new.self.past
     event.ResetAll c.in_ok-made.made.event
     c.self.view_is c.prepare.ensures.same ok.0.is c.checkpoint.ensures.checkpoint c.push_reserved.ensures refl
     (next_reset past event.ResetAll tt (λ id. refl) refl c.self.invariant.few_defaults ok.2))

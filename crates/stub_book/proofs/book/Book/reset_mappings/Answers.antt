@@ -25,7 +25,9 @@ pub returns-clause-ok : goal.returns-clause-ok
 returns-clause-ok c =
     let past = c.self.inside.history.past in
     let ok = c.in_ok-made.ensures.ok in
-    accepts c.args.self.now c.push_reserved.new.self.past (input.ResetMappings) (event.ResetMappings) (event.ResetMappings) c.in_ok-made.made ok.0 refl tt
-    (grew c.args.self.now past c.prepare.new.history.past c.push_reserved.new.self.past event.ResetMappings c.in_ok-made.made.event
+    accepts c.args.self.now c.push_reserved.new.self.past (input.ResetMappings) (event.ResetMappings)
+    (event.ResetMappings) c.in_ok-made.made ok.0 refl tt
+    (grew c.args.self.now past c.prepare.new.history.past c.push_reserved.new.self.past
+    event.ResetMappings c.in_ok-made.made.event
     c.self.view_is c.prepare.ensures.same ok.0.is c.push_reserved.ensures refl
     (next_reset past event.ResetMappings tt (λ id. refl) refl c.self.invariant.few_defaults ok.2))

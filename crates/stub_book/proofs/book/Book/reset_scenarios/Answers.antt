@@ -13,7 +13,8 @@ invariant_of-self-2 c =
     let past = c.self.inside.history.past in
     let store = c.self.inside.store in
     let ok = c.in_ok-made.ensures.ok in
-    fits_added past c.prepare.new.history.past c.push_reserved.new.self.past event.ResetScenarios c.in_ok-made.made.event
+    fits_added past c.prepare.new.history.past c.push_reserved.new.self.past
+    event.ResetScenarios c.in_ok-made.made.event
     store store c.self.inside.scenarios c.reset.new.self c.self.inside.recording c.self.inside.recording
     c.prepare.ensures.same ok.0.is c.push_reserved.ensures c.self.invariant
     (next_plain past event.ResetScenarios tt refl c.self.invariant.few_live ok.2)
@@ -25,7 +26,9 @@ pub returns-clause-ok : goal.returns-clause-ok
 returns-clause-ok c =
     let past = c.self.inside.history.past in
     let ok = c.in_ok-made.ensures.ok in
-    accepts c.args.self.now c.push_reserved.new.self.past (input.ResetScenarios) (event.ResetScenarios) (event.ResetScenarios) c.in_ok-made.made ok.0 refl tt
-    (grew c.args.self.now past c.prepare.new.history.past c.push_reserved.new.self.past event.ResetScenarios c.in_ok-made.made.event
+    accepts c.args.self.now c.push_reserved.new.self.past (input.ResetScenarios) (event.ResetScenarios)
+    (event.ResetScenarios) c.in_ok-made.made ok.0 refl tt
+    (grew c.args.self.now past c.prepare.new.history.past c.push_reserved.new.self.past
+    event.ResetScenarios c.in_ok-made.made.event
     c.self.view_is c.prepare.ensures.same ok.0.is c.push_reserved.ensures refl
     (next_plain past event.ResetScenarios tt refl c.self.invariant.few_live ok.2))

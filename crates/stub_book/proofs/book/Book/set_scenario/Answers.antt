@@ -29,15 +29,20 @@ invariant_of-self-2 c =
     let given : event.SetScenario c.in_ok-scenario.scenario c.in_ok-target.target ≡ e =
     λ i. event.SetScenario (c.in_ok-scenario.ensures i) (c.in_ok-target.ensures i) in
     let same : c.in_ok-made.made.event ≡ e = ok.0.is ∙ given in
-    let moves : StatesFollow c.self.inside.scenarios c.move_to.new.self (event.SetScenario c.as_str-3.result.now c.as_str-4.result.now) =
-    moved c.self.inside.scenarios c.move_to.new.self c.as_str-3.result.now c.as_str-4.result.now c.in_ok-move_to.ensures.ok in
+    let moves : StatesFollow c.self.inside.scenarios c.move_to.new.self
+    (event.SetScenario c.as_str-3.result.now c.as_str-4.result.now) =
+    moved c.self.inside.scenarios c.move_to.new.self c.as_str-3.result.now c.as_str-4.result.now
+    c.in_ok-move_to.ensures.ok in
     fits_added past c.prepare.new.history.past c.push_reserved.new.self.past e c.in_ok-made.made.event
     store store c.self.inside.scenarios c.move_to.new.self c.self.inside.recording c.self.inside.recording
     c.prepare.ensures.same same c.push_reserved.ensures c.self.invariant
-    (next_plain past e (subst (λ (p : Past). HasState p name state) (sym c.self.view_is) has) refl c.self.invariant.few_live ok.2)
+    (next_plain past e (subst (λ (p : Past). HasState p name state) (sym c.self.view_is) has) refl
+    c.self.invariant.few_live ok.2)
     (follows_same store (last_number past + 1) e (left_all e (λ id. refl) (λ placed. refl) store.live) refl)
-    (subst (λ (n : List ℕ). StatesFollow c.self.inside.scenarios c.move_to.new.self (event.SetScenario n state)) c.as_str-3.ensures
-    (subst (λ (s : List ℕ). StatesFollow c.self.inside.scenarios c.move_to.new.self (event.SetScenario c.as_str-3.result.now s))
+    (subst (λ (n : List ℕ).
+    StatesFollow c.self.inside.scenarios c.move_to.new.self (event.SetScenario n state)) c.as_str-3.ensures
+    (subst (λ (s : List ℕ).
+    StatesFollow c.self.inside.scenarios c.move_to.new.self (event.SetScenario c.as_str-3.result.now s))
     c.as_str-4.ensures moves))
     refl
 
@@ -55,11 +60,13 @@ returns-clause-ok c =
     let given : event.SetScenario c.in_ok-scenario.scenario c.in_ok-target.target ≡ e =
     λ i. event.SetScenario (c.in_ok-scenario.ensures i) (c.in_ok-target.ensures i) in
     let same : c.in_ok-made.made.event ≡ e = ok.0.is ∙ given in
-    accepts c.args.self.now c.push_reserved.new.self.past (input.SetScenario name state) (event.SetScenario c.in_ok-scenario.scenario c.in_ok-target.target) e
+    accepts c.args.self.now c.push_reserved.new.self.past (input.SetScenario name state)
+    (event.SetScenario c.in_ok-scenario.scenario c.in_ok-target.target) e
     c.in_ok-made.made ok.0 given (refl, refl)
     (grew c.args.self.now past c.prepare.new.history.past c.push_reserved.new.self.past e c.in_ok-made.made.event
     c.self.view_is c.prepare.ensures.same same c.push_reserved.ensures refl
-    (next_plain past e (subst (λ (p : Past). HasState p name state) (sym c.self.view_is) has) refl c.self.invariant.few_live ok.2))
+    (next_plain past e (subst (λ (p : Past). HasState p name state) (sym c.self.view_is) has) refl
+    c.self.invariant.few_live ok.2))
 
 -- the scenario isn't known, or has no such state
 pub returns-in_err-has_state-clause-why : goal.returns-in_err-has_state-clause-why

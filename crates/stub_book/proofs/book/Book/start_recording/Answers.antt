@@ -26,11 +26,13 @@ returns-in_err-upstream-clause-why c =
     let reason = c.in_err-upstream.field-0.0.code in
     let why : (reason ≡ code.OutOfMemory) ⊎ ((reason ≡ code.AlreadyRecording) × IsOn (recording past))
     ⊎ ((reason ≡ code.BadTarget) × ¬ (IsOn (recording past)) × ¬ (IsTarget c.args.target)) =
-    subst (λ (t : List ℕ). (reason ≡ code.OutOfMemory) ⊎ ((reason ≡ code.AlreadyRecording) × IsOn (recording past))
+    subst (λ (t : List ℕ).
+    (reason ≡ code.OutOfMemory) ⊎ ((reason ≡ code.AlreadyRecording) × IsOn (recording past))
     ⊎ ((reason ≡ code.BadTarget) × ¬ (IsOn (recording past)) × ¬ (IsTarget t))) c.as_str.ensures
     c.in_err-upstream.ensures.why in
     let p = err_from_is_err_and c.from_residual-in_err-upstream.result c.from_residual-in_err-upstream.ensures.1 in
-    rw (p.1, p.2) (elim why as (λ _. IsRefusal past (input.StartRecording c.args.target c.args.captured c.args.repeats) reason) [
+    rw (p.1, p.2) (elim why as
+    (λ _. IsRefusal past (input.StartRecording c.args.target c.args.captured c.args.repeats) reason) [
       | inl out ↦ inl (inr (out, room))
       | inr own ↦ inr (room, inl own)
     ])

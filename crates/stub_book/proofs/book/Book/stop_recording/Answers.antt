@@ -24,7 +24,8 @@ invariant_of-self-2 c =
     let number = number_of_next past past c.last_number-number.result refl c.last_number-number.ensures.value in
     let next : IsNext past e = record {
       answer = subst (λ (p : Past). IsAnswer p e) (sym c.self.view_is) c.in_ok-stubs.ensures.ok;
-      few_live = subst (λ (p : Past). length (live (with_event p e)) ≤ LIVE_LIMIT) (sym c.self.view_is) c.in_ok-has_places.ensures.ok;
+      few_live = subst (λ (p : Past). length (live (with_event p e)) ≤ LIVE_LIMIT)
+          (sym c.self.view_is) c.in_ok-has_places.ensures.ok;
       has_room = ok.2;
     } in
     fits_added past c.prepare.new.history.past c.push_reserved.new.self.past e c.in_ok-made.made.event
@@ -34,7 +35,8 @@ invariant_of-self-2 c =
     c.reserve.ensures.same_defaults c.reserve.ensures.same_live c.self.invariant)
     next
     (subst (λ (n : ℕ). Follows store c.add_all.new.self n e) number
-    (subst (λ (ms : List Mapping). Follows store c.add_all.new.self (c.last_number-number.result + 1) (event.StopRecording ms stubs.skipped))
+    (subst (λ (ms : List Mapping).
+    Follows store c.add_all.new.self (c.last_number-number.result + 1) (event.StopRecording ms stubs.skipped))
     c.in_ok-stubs.ensures.same (c.add_all.ensures stubs.skipped)))
     (λ name. refl)
     (after_stop (last_number past + 1) stubs.skipped stubs.mappings old c.stop.new.self c.in-Ok.ensures.ok)
@@ -47,7 +49,8 @@ returns-clause-ok c =
     let e : Event = event.StopRecording stubs.mappings stubs.skipped in
     let next : IsNext past e = record {
       answer = subst (λ (p : Past). IsAnswer p e) (sym c.self.view_is) c.in_ok-stubs.ensures.ok;
-      few_live = subst (λ (p : Past). length (live (with_event p e)) ≤ LIVE_LIMIT) (sym c.self.view_is) c.in_ok-has_places.ensures.ok;
+      few_live = subst (λ (p : Past). length (live (with_event p e)) ≤ LIVE_LIMIT)
+          (sym c.self.view_is) c.in_ok-has_places.ensures.ok;
       has_room = ok.2;
     } in
     accepts c.args.self.now c.push_reserved.new.self.past input.StopRecording e e c.in_ok-made.made ok.0 refl tt

@@ -24,7 +24,8 @@ invariant_of-self-2 c =
     let e : Event = event.Record c.args.serve c.args.exchange in
     let took = c.in_ok-take.ensures.ok in
     let takes : TakesFrom old c.args.serve =
-    did_take c.args.serve c.args.exchange old c.take.new.self took (λ h. let is = c.in_ok-take.ensures.not_recording.1 h in cc) in
+    did_take c.args.serve c.args.exchange old c.take.new.self took
+    (λ h. let is = c.in_ok-take.ensures.not_recording.1 h in cc) in
     let room : ¬ (recorder.IsFull old) = λ h. let is = c.in_ok-take.ensures.full.1 (takes, h) in cc in
     let taken : IsTaken past c.args.serve = record {
       takes = subst (λ (r : Recording). TakesFrom r c.args.serve) c.self.invariant.same_recording takes;
@@ -49,7 +50,8 @@ returns-clause-ok c =
     let e : Event = event.Record c.args.serve c.args.exchange in
     let took = c.in_ok-take.ensures.ok in
     let takes : TakesFrom old c.args.serve =
-    did_take c.args.serve c.args.exchange old c.take.new.self took (λ h. let is = c.in_ok-take.ensures.not_recording.1 h in cc) in
+    did_take c.args.serve c.args.exchange old c.take.new.self took
+    (λ h. let is = c.in_ok-take.ensures.not_recording.1 h in cc) in
     let room : ¬ (recorder.IsFull old) = λ h. let is = c.in_ok-take.ensures.full.1 (takes, h) in cc in
     let taken : IsTaken past c.args.serve = record {
       takes = subst (λ (r : Recording). TakesFrom r c.args.serve) c.self.invariant.same_recording takes;
@@ -58,7 +60,8 @@ returns-clause-ok c =
     } in
     let given = ap (λ (x : Exchange). event.Record c.args.serve x) c.in_ok-kept.ensures in
     let same : c.in_ok-made.made.event ≡ e = ok.0.is ∙ given in
-    accepts c.args.self.now c.push_reserved.new.self.past (input.Record c.args.serve c.args.exchange) (event.Record c.args.serve c.in_ok-kept.kept) e
+    accepts c.args.self.now c.push_reserved.new.self.past (input.Record c.args.serve c.args.exchange)
+    (event.Record c.args.serve c.in_ok-kept.kept) e
     c.in_ok-made.made ok.0 given (refl, refl)
     (grew c.args.self.now past c.prepare.new.history.past c.push_reserved.new.self.past e c.in_ok-made.made.event
     c.self.view_is c.prepare.ensures.same same c.push_reserved.ensures refl

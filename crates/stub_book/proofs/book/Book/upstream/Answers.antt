@@ -22,6 +22,7 @@ returns-in_err-parse c =
             | inl bad ↦
                 let is : c.in_err-parse.field-0.0 ≡ RecordingError.BadTarget = cc in
                 inr (inr (ap error_code_of is, none, c.in_err-parse.ensures.bad_target.0 bad))
-            | inr out ↦ let is : c.in_err-parse.field-0.0 ≡ RecordingError.OutOfMemory = cc in inl (ap error_code_of is)
+            | inr out ↦ let is : c.in_err-parse.field-0.0 ≡ RecordingError.OutOfMemory = cc in
+                inl (ap error_code_of is)
           ]);
     }

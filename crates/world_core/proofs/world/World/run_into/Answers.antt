@@ -1,4 +1,5 @@
-use Rattle.std.proofs.Common.{[], ◌∷◌, ◌++◌, List, Option, length, sym, ap, subst, ◌∙◌, arith, rules, append_assoc}
+use Rattle.std.proofs.Common.{[], ◌∷◌, ◌++◌, List, Option, length, sym, ap, subst, ◌∙◌, arith, rules}
+use Rattle.std.proofs.Common.{append_assoc}
 use Rattle.std.specs.Vec.Iter.{into_iter_items}
 use Rattle.mapping_model.specs.declared.reply.Reply.{Reply}
 use Rattle.world_core.specs.Schedule.{IsStopped, Runs}
@@ -40,4 +41,5 @@ returns-in_err-step_into-clause-err c =
     let whole = l.invariant.whole ∙ ap (λ (ss : List Step). l.yielded ++ ss) c.in-Some.ensures.steps.0 in
     on_err c.from_residual.result _
     (subst (λ (rs : List (Option Reply)). IsStopped c.args.self.now c.args.steps.items (length rs) new) (sym err.1)
-    (stopped c.args.self.now l.self new c.args.steps.items l.yielded rest step l.replies.items whole l.invariant.runs err.0))
+    (stopped c.args.self.now l.self new c.args.steps.items l.yielded rest step l.replies.items whole
+    l.invariant.runs err.0))
