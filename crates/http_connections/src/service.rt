@@ -1,11 +1,10 @@
 // The requests of one connection.
-ghost use Rattle.std.specs.Prelude.{◌≡◌, ℕ, List, [], length, Err, IfOk, IfSome, IsSome, IsSomeAnd, Some};
+ghost use Rattle.std.specs.Prelude.{◌≡◌, ℕ, List, [], length, IfOk, IfSome, IsSome, IsSomeAnd, Some};
 ghost use Rattle.futures.specs.Poll.{IfReady, OnPending};
 ghost use Rattle.futures.specs.Task.{IsArmed, Keeps};
 ghost use Rattle.http_connections.specs.declared.service.Answering.TheVariants.{Forwarding as Forwards, Made};
 ghost use Rattle.http_connections.specs.declared.service.Answering.TheVariants.{Waiting as Waits};
 ghost use Rattle.http.specs.Request.{head_of};
-ghost use Rattle.http_messages.specs.declared.error.ServiceError.TheVariants.{OutOfMemory as NoMemory};
 ghost use Rattle.http_connections.specs.Sent.{IsBegun, IsExchangeFor, IsSentFor};
 
 use crate::answers::Answers;
@@ -112,22 +111,18 @@ where
         let request = without_content(head);
         match self.slot.begin(&self.rt, self.rt.alloc(), &request) {
             Ok(Begun::Answered(response)) => Answering::Made(Some(Ok(response))),
-            Ok(Begun::Forwarding(exchange)) => self.forwarding(exchange),
+            Ok(Begun::Forwarding(exchange)) => match self.forwarding(exchange) {
+                Ok(forwarding) => Answering::Forwarding(forwarding),
+                Err(AllocError) => Answering::Made(Some(Err(ServiceError::OutOfMemory))),
+            },
             Err(error) => Answering::Made(Some(Err(error))),
         }
     }
 
-    fn forwarding<G>(&self, exchange: Box<A::Exchange>) -> Answering<R, A, G>
-        ensures { elim result [
-          | Made made ↦ made ≡ Some (Err NoMemory)
-          | Waits waiting ↦ ⊥
-          | Forwards forwarding ↦ forwarding.exchange ≡ exchange
-        ] }
+    fn forwarding(&self, exchange: Box<A::Exchange>) -> Result<Forwarding<R, A>, AllocError>
+        ensures { IfOk result (λ forwarding. forwarding.exchange ≡ exchange) }
     {
-        match Arc::try_clone(&self.slot) {
-            Ok(slot) => Answering::Forwarding(Forwarding::new(self.rt, slot, exchange)),
-            Err(AllocError) => Answering::Made(Some(Err(ServiceError::OutOfMemory))),
-        }
+        Ok(Forwarding::new(self.rt, Arc::try_clone(&self.slot)?, exchange))
     }
 
     // What waits for the content of a request. Not inlined: a function clears all its locals when it is entered, and
