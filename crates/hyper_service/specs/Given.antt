@@ -8,6 +8,7 @@ use Rattle.http.specs.declared.response.Response.{Response}
 use Rattle.http_body_util.specs.declared.full.Full.{Full}
 use Rattle.hyper_service.specs.declared.site_exchange.SiteExchange.{SiteExchange}
 use Rattle.mapping_model.specs.declared.reply.Reply.{Reply}
+use Rattle.mock_request.specs.Request.{Request}
 use Rattle.proxy_client.specs.Messages.{IsSomeReply}
 use Rattle.proxy_client.specs.declared.error.ProxyError.{ProxyError}
 use Rattle.request_journal.specs.Past.{Past}
@@ -39,13 +40,15 @@ pub record IsGivenLater (origin : Past) (message : Message (List ℕ)) (response
 abbrev pub IsGiven : Past → Message (List ℕ) → Response (Full (List ℕ)) → Type 0
 IsGiven origin message response = IsGivenAtOnce origin message response ⊎ IsGivenLater origin message response
 
--- The message was begun to be forwarded by the exchange, which holds what is kept of it. `exchanged` says what an exchange
--- may give.
-pub record IsForwardedBy {E : Type 0} (origin : Past) (exchanged : E → Result Reply ProxyError → Type 0)
-    (message : Message (List ℕ)) (exchange : SiteExchange E) : Type 0 where
+-- The message was begun to be forwarded by the exchange, which holds what is kept of it. By its own exchange, that one's
+-- request may be sent to that one's target (`sends`); `exchanged` says what it may give.
+pub record IsForwardedBy {E : Type 0} (origin : Past) (sends : List ℕ → Request → E → Type 0)
+    (exchanged : E → Result Reply ProxyError → Type 0) (message : Message (List ℕ)) (exchange : SiteExchange E)
+    : Type 0 where
   pub forward : Forward
   pub kept : exchange.forward ≡ Some forward
   pub old : Held
   pub new : Held
   pub begun : IsToForward origin old new message forward
+  pub sent : sends forward.target forward.request exchange.exchange
   pub genuine : (forwarded : Result Reply ProxyError) → exchanged exchange.exchange forwarded → IfOk forwarded IsSomeReply

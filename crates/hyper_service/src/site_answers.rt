@@ -47,7 +47,7 @@ where
 
     ghost gives = { IsGiven L.origin };
 
-    ghost forwards = { IsForwardedBy L.origin F.Exchange.gives };
+    ghost forwards = { IsForwardedBy L.origin F.sends F.Exchange.gives };
 
     fn begin<R: Wait>(
         &self,
