@@ -1,5 +1,5 @@
 -- How a message is answered.
-use Rattle.std.specs.Prelude.{◌≡◌, ◌⊎◌, ◌<◌, ◌≤◌, ℕ, List, length}
+use Rattle.std.specs.Prelude.{◌≡◌, ◌⊎◌, ◌<◌, ◌≤◌, ℕ, List, IfOk, Result, length}
 use Rattle.admin_table.specs.Routes.{IsAdmin}
 use Rattle.error_code.specs.declared.error_code.ErrorCode.{ErrorCode}
 use Rattle.error_code.specs.declared.error_code.ErrorCode.TheVariants.{BadUrl, OutOfMemory, TooLarge}
@@ -8,11 +8,19 @@ use Rattle.http.specs.declared.request.Request.{Request as Message}
 use Rattle.http.specs.declared.response.Response.{Response}
 use Rattle.http_body_util.specs.declared.full.Full.{Full}
 use Rattle.http_messages.specs.Received.{IsReceived, target_of}
+use Rattle.answering.specs.Forwarding.{IsFinished, IsToForward}
 use Rattle.answering.specs.Reply.{IsResponseOf}
+use Rattle.answering.specs.declared.begun.Begun.{Begun}
+use Rattle.answering.specs.declared.begun.Begun.TheVariants.{Answered, ToForward}
+use Rattle.answering.specs.declared.forward.Forward.{Forward}
 use Rattle.mapping_model.specs.declared.reply.Reply.{Reply}
 use Rattle.mock_request.specs.Request.{Request}
 use Rattle.mock_request.specs.Target.{HasUrl}
+use Rattle.mock_request.specs.declared.error.SnapshotError.{SnapshotError}
+use Rattle.mock_request.specs.declared.error.SnapshotError.TheVariants as unread
 use Rattle.mock_request.specs.declared.snapshot.TheConstants.{BODY_LIMIT}
+use Rattle.proxy_client.specs.Messages.{IsSomeReply}
+use Rattle.proxy_client.specs.declared.error.ProxyError.{ProxyError}
 use Rattle.request_journal.specs.Past.{Past}
 use Rattle.shared_book.specs.Held.{Held}
 use Rattle.answering.specs.Admin.{IsAdminAnswered}
@@ -27,38 +35,76 @@ IsServeAnswered origin limits old new request reply =
     IsServedWith origin limits old new request reply
     ⊎ ((reason : ErrorCode) × IsNotServed origin old new request reason × (reply ≡ error_reply 503 reason))
 
+-- the reply to a request of ours, without what is forwarded
 abbrev pub IsRequestAnswered : Past → Limits → Escape → Held → Held → Request → Reply → Type 0
 IsRequestAnswered origin limits escape old new request reply =
     (IsAdmin request.url × IsAdminAnswered origin escape old new request reply)
     ⊎ (¬ (IsAdmin request.url) × IsServeAnswered origin limits old new request reply)
 
--- a message that is no request of ours makes no event: its target is bad, or else its body is too large; or memory ran
+-- the reply to a message that is no request of ours: its target is bad, or else its body is too large; or memory ran
 -- out before it was read
+abbrev pub refusal : SnapshotError → Reply
+refusal unread.BadUrl = error_reply 400 BadUrl
+refusal unread.BodyTooLarge = error_reply 413 TooLarge
+refusal unread.OutOfMemory = error_reply 503 OutOfMemory
+
+-- why it is none
+abbrev pub IsUnread : Message (List ℕ) → SnapshotError → Type 0
+IsUnread message unread.BadUrl = ¬ (HasUrl (target_of message))
+IsUnread message unread.BodyTooLarge = HasUrl (target_of message) × (BODY_LIMIT < length (body_of message))
+IsUnread message unread.OutOfMemory = Unit {0}
+
+-- it makes no event
 abbrev pub IsNotRead : Held → Held → Message (List ℕ) → Reply → Type 0
 IsNotRead old new message reply =
-    (new ≡ old)
-    × ((¬ (HasUrl (target_of message)) × (reply ≡ error_reply 400 BadUrl))
-    ⊎ (HasUrl (target_of message) × (BODY_LIMIT < length (body_of message)) × (reply ≡ error_reply 413 TooLarge))
-    ⊎ (reply ≡ error_reply 503 OutOfMemory))
+    (new ≡ old) × ((error : SnapshotError) × IsUnread message error × (reply ≡ refusal error))
 
 abbrev pub IsRead : Past → Limits → Escape → Held → Held → Message (List ℕ) → Reply → Type 0
 IsRead origin limits escape old new message reply =
     (request : Request) × IsReceived message request × (length (body_of message) ≤ BODY_LIMIT)
     × IsRequestAnswered origin limits escape old new request reply
 
--- the reply to a message, and what the seat has gained by it
+-- the reply to a message that isn't forwarded, and what the seat has gained by it
 abbrev pub IsReply : Past → Limits → Escape → Held → Held → Message (List ℕ) → Reply → Type 0
 IsReply origin limits escape old new message reply =
     IsNotRead old new message reply ⊎ IsRead origin limits escape old new message reply
 
 -- the response is that of the reply; or memory ran out while it was written
-abbrev pub IsAnswered : Past → Limits → Escape → Held → Held → Message (List ℕ)
+abbrev pub IsBegun : Past → Limits → Escape → Held → Held → Message (List ℕ)
     → Response (Full (List ℕ)) → Type 0
-IsAnswered origin limits escape old new message response =
+IsBegun origin limits escape old new message response =
     (reply : Reply) × IsReply origin limits escape old new message reply
     × (IsResponseOf reply response ⊎ IsResponseOf (error_reply 503 OutOfMemory) response)
 
 -- there is no response, and the seat is as one of its replies leaves it
+abbrev pub IsNotBegun : Past → Limits → Escape → Held → Held → Message (List ℕ) → Type 0
+IsNotBegun origin limits escape old new message = (reply : Reply) × IsReply origin limits escape old new message reply
+
+-- what is answered at once, or is to be forwarded
+abbrev pub Begins : Past → Limits → Escape → Held → Held → Message (List ℕ) → Begun → Type 0
+Begins origin limits escape old new message (Answered response) =
+    IsBegun origin limits escape old new message response
+Begins origin limits escape old new message (ToForward forward) = IsToForward origin old new message forward
+
+-- the message was forwarded after the first of its events, and this is the response to what came of that
+pub record IsForwarded (origin : Past) (old new : Held) (message : Message (List ℕ))
+    (response : Response (Full (List ℕ)))
+    : Type 0 where
+  pub middle : Held
+  pub forward : Forward
+  pub forwarded : Result Reply ProxyError
+  pub begun : IsToForward origin old middle message forward
+  pub genuine : IfOk forwarded IsSomeReply
+  pub finished : IsFinished origin middle new forward forwarded response
+
+-- the response to a message, and what the seat has gained by it
+abbrev pub IsAnswered : Past → Limits → Escape → Held → Held → Message (List ℕ)
+    → Response (Full (List ℕ)) → Type 0
+IsAnswered origin limits escape old new message response =
+    IsBegun origin limits escape old new message response ⊎ IsForwarded origin old new message response
+
+-- there is none, and the seat is as a reply leaves it, or as the first event of what is to be forwarded
 abbrev pub IsNotAnswered : Past → Limits → Escape → Held → Held → Message (List ℕ) → Type 0
 IsNotAnswered origin limits escape old new message =
-    (reply : Reply) × IsReply origin limits escape old new message reply
+    IsNotBegun origin limits escape old new message
+    ⊎ ((forward : Forward) × IsToForward origin old new message forward)

@@ -1,7 +1,7 @@
 -- How a request is answered that is no admin call.
 use Rattle.std.specs.Prelude.{◌≡◌, ◌⊎◌}
 use Rattle.error_code.specs.declared.error_code.ErrorCode.{ErrorCode}
-use Rattle.error_code.specs.declared.error_code.ErrorCode.TheVariants.{OutOfMemory, UpstreamFailed}
+use Rattle.error_code.specs.declared.error_code.ErrorCode.TheVariants.{OutOfMemory}
 use Rattle.mapping_model.specs.declared.reply.Reply.{Reply}
 use Rattle.mock_request.specs.Request.{Request}
 use Rattle.request_journal.specs.Past.{Past}
@@ -14,15 +14,15 @@ use Rattle.shared_book.specs.Receipts.{IsReceipt}
 use Rattle.shared_book.specs.Refused.{IsServeRefused}
 use Rattle.shared_book.specs.declared.receipt.Receipt.{Receipt}
 use Rattle.stub_book.specs.Growth.{IsServed}
-use Rattle.stub_response.specs.ErrorReply.{error_reply, unmatched_reply}
+use Rattle.stub_response.specs.ErrorReply.{unmatched_reply}
 use Rattle.stub_response.specs.Response.{IsResponse}
 use Rattle.stub_response.specs.declared.limits.Limits.{Limits}
 
--- the reply to a request that the book answered so: the response of the version that was captured then. A request that
--- is to be forwarded isn't yet, which is reported as a failure of the upstream.
+-- the reply to a request that the book answered so: the response of the version that was captured then. One that is to
+-- be forwarded has none without its target.
 abbrev pub IsServeReply : Limits → Request → ServeAnswer → Reply → Type 0
 IsServeReply limits request (Stub captured) reply = IsResponse limits captured.mapping.spec request reply
-IsServeReply limits request (Proxy target) reply = reply ≡ error_reply 502 UpstreamFailed
+IsServeReply limits request (Proxy target) reply = ⊥
 IsServeReply limits request Unmatched reply = reply ≡ unmatched_reply
 
 abbrev pub IsEventReply : Limits → Event → Reply → Type 0

@@ -3,36 +3,45 @@ ghost use Rattle.std.specs.Prelude.{◌≡◌, IfErr, IfOk};
 ghost use Rattle.http_messages.specs.declared.error.ServiceError.TheVariants.{OutOfMemory as NoMemory};
 ghost use Rattle.answering.specs.Answering.{IsAnswered, IsNotAnswered};
 
-use crate::message_response::message_response;
-use crate::response::error_response;
+use crate::begin::begin;
+use crate::begun::Begun;
+use crate::clock::Clock;
+use crate::finish::finish;
 use crate::site::Site;
 use bytes::Bytes;
-use error_code::error_code::ErrorCode;
 use http::{Request, Response};
 use http_body_util::Full;
 use http_messages::error::ServiceError;
+use proxy_client::forward::forward;
 use shared_book::gate::Gate;
 use shared_book::origin::Origin;
 use shared_book::seat::Seat;
-use std::alloc::Global;
+use std::alloc::{AllocGlobal, Global};
+use std::net::Net;
+use std::random::RandomSource;
 use std::sync::Wait;
 
-/// Answers a message. A request that is no admin call is one serve of the book, and its response is made after the lock
-/// was let go. Where memory runs out after that, the serve stands, and the answer is 503. The error says that there
-/// was no memory for that 503 either.
-pub fn answer<L: Origin, R: Wait, G: Gate>(
+/// Answers a message: begins, waits for the reply where it is to be forwarded, and finishes. The events that were made
+/// before memory ran out stand, and the answer is 503. The error says that there was no memory for that 503 either.
+pub fn answer<L: Origin, R, G: Gate, C: Clock>(
     rt: &R,
     alloc: Global,
-    site: &Site<L, G>,
+    site: &Site<L, G, C>,
     seat: &mut Seat<L>,
     message: &Request<Bytes>,
 ) -> Result<Response<Full<Bytes>>, ServiceError>
+where
+    R: Wait + Net + std::time::Clock + RandomSource + AllocGlobal + Copy + Drop,
     ensures ok { IfOk result (IsAnswered L.origin site.now.limits site.now.escape seat.old seat.new message.now) }
     ensures err { IfErr result (λ error. (error ≡ NoMemory)
         × IsNotAnswered L.origin site.now.limits site.now.escape seat.old seat.new message.now) }
 {
-    match message_response(rt, alloc, site, seat, message) {
-        Ok(response) => Ok(response),
-        Err(_error) => Ok(error_response(alloc, 503, ErrorCode::OutOfMemory)?),
+    match begin(rt, alloc, site, seat, message) {
+        Ok(Begun::Answered(response)) => Ok(response),
+        Ok(Begun::ToForward(begun)) => {
+            let forwarded = forward(rt, &begun.target, begun.request.request(), site.turns);
+            finish(rt, alloc, site, seat, begun, forwarded)
+        }
+        Err(error) => Err(error),
     }
 }

@@ -6,10 +6,14 @@ use template_tree::escape::Escape;
 
 /// A shared book, and how its requests are answered. It has no lock of its own.
 #[derive(Drop)]
-pub struct Site<L: Origin, G> {
+pub struct Site<L: Origin, G, C> {
     pub book: SharedBook<L>,
     pub limits: Limits,
     /// How the prints of the templates of posted mappings are escaped.
     pub escape: Escape,
     pub gate: G,
+    /// By which the exchanges of a recording are timed.
+    pub clock: C,
+    /// How often an exchange with a target may read or write.
+    pub turns: u64,
 }

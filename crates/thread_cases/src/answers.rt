@@ -1,7 +1,9 @@
 //! What messages are answered.
 
+use crate::machine::Machine;
 use crate::messages::{Asked, message};
 use answering::answer::answer;
+use answering::clock::Clock;
 use answering::site::Site;
 use bytes::Bytes;
 use http::Response;
@@ -11,7 +13,6 @@ use shared_book::gate::Gate;
 use shared_book::origin::Origin;
 use shared_book::seat::Seat;
 use std::alloc::{AllocError, Global};
-use std::sync::Wait;
 
 /// The status of an answer, and how many bytes its body has.
 #[derive(Clone, Copy)]
@@ -21,10 +22,10 @@ pub struct Answer {
 }
 
 /// What the message is answered.
-pub fn answer_to<L: Origin, R: Wait, G: Gate>(
+pub fn answer_to<L: Origin, R: Machine, G: Gate, C: Clock>(
     rt: &R,
     alloc: Global,
-    site: &Site<L, G>,
+    site: &Site<L, G, C>,
     seat: &mut Seat<L>,
     asked: Asked,
 ) -> Result<Answer, AllocError> {

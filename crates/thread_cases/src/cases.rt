@@ -6,6 +6,7 @@ use crate::books;
 use crate::cleared::cleared;
 use crate::counted::counted;
 use crate::full::full;
+use crate::machine::Machine;
 use crate::scripts::scripts;
 use crate::two_threads::two_threads;
 use crate::versions::versions;
@@ -15,7 +16,6 @@ use shared_book::seat::Seat;
 use shared_book::shared_book::SharedBook;
 use std::alloc::{AllocError, Global};
 use std::marker::Brand;
-use std::sync::Wait;
 use std::sync::ledger::Blank;
 use std::thread::Threads;
 use stub_book::book::Book;
@@ -57,7 +57,7 @@ impl Case {
 }
 
 /// What a case shows, on a book of its own.
-pub fn play<R: Threads + Wait + Sync>(
+pub fn play<R: Machine + Threads + Sync>(
     rt: &R,
     alloc: Global,
     case: Case,
@@ -66,7 +66,7 @@ pub fn play<R: Threads + Wait + Sync>(
     play_on::<Brand, R>(rt, alloc, case, Blank::new(PARTS), PARTS, book)
 }
 
-fn play_on<L: Origin + Send + Sync, R: Threads + Wait + Sync>(
+fn play_on<L: Origin + Send + Sync, R: Machine + Threads + Sync>(
     rt: &R,
     alloc: Global,
     case: Case,
@@ -87,7 +87,7 @@ fn play_on<L: Origin + Send + Sync, R: Threads + Wait + Sync>(
     cells.finish()
 }
 
-fn play_case<L: Origin + Send + Sync, R: Threads + Wait + Sync>(
+fn play_case<L: Origin + Send + Sync, R: Machine + Threads + Sync>(
     rt: &R,
     alloc: Global,
     case: Case,

@@ -3,10 +3,13 @@
 use crate::answers::answer_to;
 use crate::books::LAST;
 use crate::calls;
+use crate::machine::Machine;
 use crate::messages::Asked;
+use crate::no_clock::NoClock;
 use crate::outcomes::{add_number, add_receipts, add_refusal};
 use answering::site::Site;
 use case_table::cells::Cells;
+use proxy_client::counted::TURN_LIMIT;
 use shared_book::gate::NoGate;
 use shared_book::origin::Origin;
 use shared_book::seat::Seat;
@@ -17,7 +20,7 @@ use stub_response::limits::Limits;
 use template_tree::escape::Escape;
 
 /// Answers the same message twice, over a book that has room for one event.
-pub fn full<L: Origin, R: Wait>(
+pub fn full<L: Origin, R: Machine>(
     rt: &R,
     alloc: Global,
     cells: &mut Cells,
@@ -30,6 +33,8 @@ pub fn full<L: Origin, R: Wait>(
         limits: Limits::usual(),
         escape: Escape::Off,
         gate: NoGate,
+        clock: NoClock,
+        turns: TURN_LIMIT,
     };
     add_answer(rt, alloc, cells, &site, &mut seat)?;
     cells.add(", then ");
@@ -40,6 +45,8 @@ pub fn full<L: Origin, R: Wait>(
         limits: _limits,
         escape: _escape,
         gate: _gate,
+        clock: _clock,
+        turns: _turns,
     } = site;
     add_settled(rt, alloc, cells, book, seat)
 }
@@ -65,11 +72,11 @@ fn add_settled<L: Origin, R: Wait>(
 }
 
 // The status, and how many bytes the body has.
-fn add_answer<L: Origin, R: Wait>(
+fn add_answer<L: Origin, R: Machine>(
     rt: &R,
     alloc: Global,
     cells: &mut Cells,
-    site: &Site<L, NoGate>,
+    site: &Site<L, NoGate, NoClock>,
     seat: &mut Seat<L>,
 ) -> Result<(), AllocError> {
     let answer = answer_to(rt, alloc, site, seat, Asked::Get)?;

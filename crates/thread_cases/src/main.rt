@@ -27,15 +27,17 @@ mod answered;
 mod answers;
 mod counted;
 mod full;
+mod machine;
 mod message_threads;
 mod messages;
+mod no_clock;
 
 use case_table::compare::compare_all;
 use cases::{Case, play};
+use machine::Machine;
 use std::alloc::{AllocError, Global};
 use std::io;
 use std::process::ExitCode;
-use std::sync::Wait;
 use std::thread::Threads;
 use table::Schedules;
 
@@ -58,7 +60,7 @@ fn main(rt: HostRuntime) -> io::Result<ExitCode> {
 }
 
 // Once more where memory ran out.
-fn play_again<R: Threads + Wait + Sync>(
+fn play_again<R: Machine + Threads + Sync>(
     rt: &R,
     alloc: Global,
     case: Case,

@@ -2,14 +2,16 @@
 
 use crate::answers::answer_to;
 use crate::first_waits::FirstWaits;
+use crate::machine::Machine;
 use crate::messages::Asked;
+use crate::no_clock::NoClock;
 use answering::site::Site;
+use proxy_client::counted::TURN_LIMIT;
 use shared_book::gate::Gate;
 use shared_book::origin::Origin;
 use shared_book::seat::Seat;
 use shared_book::shared_book::SharedBook;
 use std::alloc::{AllocError, Global};
-use std::sync::Wait;
 use std::thread;
 use std::thread::Threads;
 use stub_response::limits::Limits;
@@ -27,32 +29,36 @@ pub enum Task {
 }
 
 /// A site of the book, with a gate that holds its first call until its second.
-pub fn site_of<L: Origin>(book: SharedBook<L>) -> Site<L, FirstWaits> {
+pub fn site_of<L: Origin>(book: SharedBook<L>) -> Site<L, FirstWaits, NoClock> {
     Site {
         book,
         limits: Limits::usual(),
         escape: Escape::Off,
         gate: FirstWaits::new(),
+        clock: NoClock,
+        turns: TURN_LIMIT,
     }
 }
 
 /// The book of a site. The error says that its gate gave up.
-pub fn book_of<L: Origin>(site: Site<L, FirstWaits>) -> Result<SharedBook<L>, AllocError> {
+pub fn book_of<L: Origin>(site: Site<L, FirstWaits, NoClock>) -> Result<SharedBook<L>, AllocError> {
     let Site {
         book,
         limits: _limits,
         escape: _escape,
         gate,
+        clock: _clock,
+        turns: _turns,
     } = site;
     gate.held()?;
     Ok(book)
 }
 
 /// The seats, and how long the last answer of each thread is, if all have the status that they are to have.
-pub fn both_answer<L: Origin + Send + Sync, R: Threads + Wait + Sync>(
+pub fn both_answer<L: Origin + Send + Sync, R: Machine + Threads + Sync>(
     rt: &R,
     alloc: Global,
-    site: &Site<L, FirstWaits>,
+    site: &Site<L, FirstWaits, NoClock>,
     one: Seat<L>,
     two: Seat<L>,
     first: Task,
@@ -65,10 +71,10 @@ pub fn both_answer<L: Origin + Send + Sync, R: Threads + Wait + Sync>(
     )
 }
 
-fn answer_all<L: Origin, R: Wait>(
+fn answer_all<L: Origin, R: Machine>(
     rt: &R,
     alloc: Global,
-    site: &Site<L, FirstWaits>,
+    site: &Site<L, FirstWaits, NoClock>,
     seat: Seat<L>,
     task: Task,
 ) -> (Seat<L>, Option<u64>) {
@@ -85,10 +91,10 @@ fn answer_all<L: Origin, R: Wait>(
     (seat, length)
 }
 
-fn edit_and_get<L: Origin, R: Wait>(
+fn edit_and_get<L: Origin, R: Machine>(
     rt: &R,
     alloc: Global,
-    site: &Site<L, FirstWaits>,
+    site: &Site<L, FirstWaits, NoClock>,
     seat: &mut Seat<L>,
 ) -> Option<u64> {
     site.gate.wait_for(1);
@@ -96,10 +102,10 @@ fn edit_and_get<L: Origin, R: Wait>(
     length_of(rt, alloc, site, seat, Asked::Get)
 }
 
-fn many<L: Origin, R: Wait>(
+fn many<L: Origin, R: Machine>(
     rt: &R,
     alloc: Global,
-    site: &Site<L, FirstWaits>,
+    site: &Site<L, FirstWaits, NoClock>,
     seat: &mut Seat<L>,
 ) -> Option<u64> {
     let mut last = Some(length_of(rt, alloc, site, seat, Asked::Missing)?);
@@ -113,10 +119,10 @@ fn many<L: Origin, R: Wait>(
 }
 
 /// How long the answer is, if its status is the one that is wanted.
-pub fn length_of<L: Origin, R: Wait>(
+pub fn length_of<L: Origin, R: Machine>(
     rt: &R,
     alloc: Global,
-    site: &Site<L, FirstWaits>,
+    site: &Site<L, FirstWaits, NoClock>,
     seat: &mut Seat<L>,
     asked: Asked,
 ) -> Option<u64> {

@@ -1,10 +1,40 @@
--- For private clauses: what a response is, of which no reply was made.
-use Rattle.std.specs.Prelude.{ℕ, List}
+-- For private clauses: what a response is, of which no reply was made, and what is to be forwarded.
+use Rattle.std.specs.Prelude.{◌≡◌, ℕ, List}
+use Rattle.admin_table.specs.Routes.{IsAdmin}
 use Rattle.http.specs.declared.response.Response.{Response}
 use Rattle.http_body_util.specs.declared.full.Full.{Full}
+use Rattle.answering.specs.Forwarding.{serve_receipt}
 use Rattle.answering.specs.Reply.{IsResponseOf}
+use Rattle.answering.specs.Served.{GainsServe}
+use Rattle.answering.specs.declared.begun.Begun.{Begun}
+use Rattle.answering.specs.declared.begun.Begun.TheVariants.{Answered, ToForward}
+use Rattle.answering.specs.declared.forward.Forward.{Forward}
 use Rattle.mapping_model.specs.declared.reply.Reply.{Reply}
+use Rattle.mock_request.specs.Request.{Request}
+use Rattle.request_journal.specs.Past.{Past}
+use Rattle.request_journal.specs.declared.event.Event.{Event}
+use Rattle.shared_book.specs.Held.{Held}
 
 -- the response is that of a reply of which this holds
 abbrev pub HasReply : (Reply → Type 0) → Response (Full (List ℕ)) → Type 0
 HasReply Holds response = (reply : Reply) × Holds reply × IsResponseOf reply response
+
+-- a response of which the one holds, or what is to be forwarded, of which the other does
+abbrev pub HasBegun : (Reply → Type 0) → (Forward → Type 0) → Begun → Type 0
+HasBegun Holds Forwards (Answered response) = HasReply Holds response
+HasBegun Holds Forwards (ToForward forward) = Forwards forward
+
+-- it has the number and the event of the receipt
+abbrev pub IsForwardOf : ℕ → Event → Forward → Type 0
+IsForwardOf number event forward =
+    ((serve_receipt forward).number ≡ number) × ((serve_receipt forward).event ≡ event)
+
+-- the request was served, and it is what is to be forwarded
+abbrev pub IsServedToForward : Past → Held → Held → Request → Forward → Type 0
+IsServedToForward origin old new request forward =
+    (forward.request ≡ request) × GainsServe origin old new forward.request (serve_receipt forward)
+
+-- it is no admin call
+abbrev pub IsRequestToForward : Past → Held → Held → Request → Forward → Type 0
+IsRequestToForward origin old new request forward =
+    ¬ (IsAdmin request.url) × IsServedToForward origin old new request forward

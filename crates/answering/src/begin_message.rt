@@ -1,14 +1,18 @@
-// Responses to messages.
+// Messages, each an admin call or a request that is served.
 ghost use Rattle.std.specs.Prelude.{◌≡◌, ◌≤◌, ◌<◌, length, IfOk, IsErrOf, MatchResult, OnOk};
 ghost use Rattle.http.specs.Request.{body_of};
 ghost use Rattle.http_messages.specs.Received.{IsReceived, target_of};
 ghost use Rattle.mock_request.specs.Target.{HasUrl};
 ghost use Rattle.mock_request.specs.declared.snapshot.TheConstants.{BODY_LIMIT};
 ghost use Rattle.answering.specs.Admin.{IsAdminAnswered};
-ghost use Rattle.answering.specs.Answering.{IsNotAnswered, IsReply, IsRequestAnswered};
-ghost use Rattle.answering.specs.Inner.Sent.{HasReply};
+ghost use Rattle.answering.specs.Answering.{IsNotBegun, IsReply, IsRequestAnswered, refusal};
+ghost use Rattle.answering.specs.Forwarding.{IsToForward};
+ghost use Rattle.answering.specs.Inner.Sent.{HasBegun, HasReply, IsRequestToForward};
+ghost use Rattle.answering.specs.Reply.{IsResponseOf};
 
 use crate::admin_reply::admin_reply;
+use crate::begun::Begun;
+use crate::clock::Clock;
 use crate::response::{error_response, response_of};
 use crate::serve::serve;
 use crate::site::Site;
@@ -26,23 +30,25 @@ use shared_book::seat::Seat;
 use std::alloc::{AllocError, Global};
 use std::sync::Wait;
 
-/// The response to a message. The error says that there was no memory to write it.
-pub(crate) fn message_response<L: Origin, R: Wait, G: Gate>(
+/// What `begin` gives. The error says that there was no memory to write the response.
+pub(crate) fn begin_message<L: Origin, R: Wait, G: Gate, C: Clock>(
     rt: &R,
     alloc: Global,
-    site: &Site<L, G>,
+    site: &Site<L, G, C>,
     seat: &mut Seat<L>,
     message: &Request<Bytes>,
-) -> Result<Response<Full<Bytes>>, AllocError>
+) -> Result<Begun, AllocError>
     ensures { MatchResult result
-        (HasReply (IsReply L.origin site.now.limits site.now.escape seat.old seat.new message.now))
-        (λ _. IsNotAnswered L.origin site.now.limits site.now.escape seat.old seat.new message.now) }
+        (HasBegun (IsReply L.origin site.now.limits site.now.escape seat.old seat.new message.now)
+        (IsToForward L.origin seat.old seat.new message.now))
+        (λ _. IsNotBegun L.origin site.now.limits site.now.escape seat.old seat.new message.now) }
 {
     match request_of(alloc, seat, message) {
-        Ok(request) => request_response(rt, alloc, site, seat, request),
-        Err(SnapshotError::BadUrl) => error_response(alloc, 400, ErrorCode::BadUrl),
-        Err(SnapshotError::BodyTooLarge) => error_response(alloc, 413, ErrorCode::TooLarge),
-        Err(SnapshotError::OutOfMemory) => error_response(alloc, 503, ErrorCode::OutOfMemory),
+        Ok(request) => begin_request(rt, alloc, site, seat, request),
+        Err(error) => {
+            let response = refusal_response(alloc, error)?;
+            Ok(Begun::Answered(response))
+        }
     }
 }
 
@@ -65,30 +71,46 @@ fn request_of<L: Origin>(
     request
 }
 
-fn request_response<L: Origin, R: Wait, G: Gate>(
+// The response to a message that is no request of ours.
+fn refusal_response(
+    alloc: Global,
+    error: SnapshotError,
+) -> Result<Response<Full<Bytes>>, AllocError>
+    ensures { IfOk result (IsResponseOf (refusal error)) }
+{
+    match error {
+        SnapshotError::BadUrl => error_response(alloc, 400, ErrorCode::BadUrl),
+        SnapshotError::BodyTooLarge => error_response(alloc, 413, ErrorCode::TooLarge),
+        SnapshotError::OutOfMemory => error_response(alloc, 503, ErrorCode::OutOfMemory),
+    }
+}
+
+fn begin_request<L: Origin, R: Wait, G: Gate, C: Clock>(
     rt: &R,
     alloc: Global,
-    site: &Site<L, G>,
+    site: &Site<L, G, C>,
     seat: &mut Seat<L>,
     request: Snapshot,
-) -> Result<Response<Full<Bytes>>, AllocError>
+) -> Result<Begun, AllocError>
     ensures { MatchResult result
-        (HasReply (IsRequestAnswered L.origin site.now.limits site.now.escape seat.old seat.new request))
+        (HasBegun (IsRequestAnswered L.origin site.now.limits site.now.escape seat.old seat.new request)
+        (IsRequestToForward L.origin seat.old seat.new request))
         (λ _. (reply : _) × IsRequestAnswered L.origin site.now.limits site.now.escape seat.old
         seat.new request reply) }
 {
     if is_admin(request.url()) {
-        return admin_response(rt, alloc, site, seat, &request);
+        let response = admin_response(rt, alloc, site, seat, &request)?;
+        return Ok(Begun::Answered(response));
     }
     serve(rt, alloc, site, seat, request)
 }
 
 // Not inlined, as `admin_reply`.
 #[inline(never)]
-fn admin_response<L: Origin, R: Wait, G: Gate>(
+fn admin_response<L: Origin, R: Wait, G: Gate, C: Clock>(
     rt: &R,
     alloc: Global,
-    site: &Site<L, G>,
+    site: &Site<L, G, C>,
     seat: &mut Seat<L>,
     request: &Snapshot,
 ) -> Result<Response<Full<Bytes>>, AllocError>

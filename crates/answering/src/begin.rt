@@ -1,0 +1,43 @@
+// The response to a message, or what is to be forwarded to have one.
+ghost use Rattle.std.specs.Prelude.{◌≡◌, IfErr, IfOk};
+ghost use Rattle.http_messages.specs.declared.error.ServiceError.TheVariants.{OutOfMemory as NoMemory};
+ghost use Rattle.answering.specs.Answering.{Begins, IsNotBegun};
+
+use crate::begin_message::begin_message;
+use crate::begun::Begun;
+use crate::clock::Clock;
+use crate::response::error_response;
+use crate::site::Site;
+use bytes::Bytes;
+use error_code::error_code::ErrorCode;
+use http::Request;
+use http_messages::error::ServiceError;
+use shared_book::gate::Gate;
+use shared_book::origin::Origin;
+use shared_book::seat::Seat;
+use std::alloc::Global;
+use std::sync::Wait;
+
+/// Answers a message as far as that takes no other server. A request that is no admin call is one serve of the book,
+/// and its response is made after the lock was let go; or it is to be forwarded, and `finish` takes what came of that.
+/// Where memory runs out after the serve, that stands, and the answer is 503. The error says that there was no memory
+/// for that 503 either.
+pub fn begin<L: Origin, R: Wait, G: Gate, C: Clock>(
+    rt: &R,
+    alloc: Global,
+    site: &Site<L, G, C>,
+    seat: &mut Seat<L>,
+    message: &Request<Bytes>,
+) -> Result<Begun, ServiceError>
+    ensures ok { IfOk result (Begins L.origin site.now.limits site.now.escape seat.old seat.new message.now) }
+    ensures err { IfErr result (λ error. (error ≡ NoMemory)
+        × IsNotBegun L.origin site.now.limits site.now.escape seat.old seat.new message.now) }
+{
+    match begin_message(rt, alloc, site, seat, message) {
+        Ok(begun) => Ok(begun),
+        Err(_error) => {
+            let response = error_response(alloc, 503, ErrorCode::OutOfMemory)?;
+            Ok(Begun::Answered(response))
+        }
+    }
+}

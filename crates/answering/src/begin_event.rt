@@ -1,0 +1,83 @@
+// Requests that were served.
+ghost use Rattle.std.specs.Prelude.{◌≡◌, IfOk};
+ghost use Rattle.answering.specs.Inner.Sent.{HasBegun, IsForwardOf};
+ghost use Rattle.answering.specs.Reply.{IsResponseOf};
+ghost use Rattle.answering.specs.Served.{IsEventReply};
+ghost use Rattle.stub_book.specs.Growth.{IsServed};
+ghost use Rattle.stub_response.specs.ErrorReply.{unmatched_reply};
+
+use crate::begun::Begun;
+use crate::clock::Clock;
+use crate::forward::Forward;
+use crate::mapping_response::mapping_response;
+use crate::response::response_of;
+use crate::site::Site;
+use bytes::Bytes;
+use http::Response;
+use http_body_util::Full;
+use recorder::target::Target;
+use request_journal::event::{Event, ServeAnswer};
+use request_journal::shared_request::SharedRequest;
+use shared_book::gate::Gate;
+use shared_book::origin::Origin;
+use std::alloc::{AllocError, Global};
+use stub_response::unmatched_reply::unmatched_reply;
+
+/// The response by the event of the serve, or what is to be forwarded by it.
+pub(crate) fn begin_event<L: Origin, G: Gate, C: Clock>(
+    alloc: Global,
+    site: &Site<L, G, C>,
+    number: u64,
+    event: &Event,
+) -> Result<Begun, AllocError>
+    requires { (request : _) × IsServed request event.now }
+    ensures { IfOk result (HasBegun (IsEventReply site.now.limits event.now) (IsForwardOf number event.now)) }
+{
+    let Event::Serve { request, answer } = event else {
+        unreachable!()
+    };
+    match answer {
+        ServeAnswer::Stub(captured) => {
+            site.gate.between_choice_and_render(number);
+            let spec = &captured.mapping.spec;
+            let response = mapping_response(alloc, spec, request.request(), site.limits)?;
+            Ok(Begun::Answered(response))
+        }
+        ServeAnswer::Proxy(target) => {
+            let forward = forward_of(&site.clock, number, request, target)?;
+            Ok(Begun::ToForward(forward))
+        }
+        ServeAnswer::Unmatched => {
+            let response = unmatched_response(alloc)?;
+            Ok(Begun::Answered(response))
+        }
+    }
+}
+
+// What is to be forwarded from now on. It shares the request with the event.
+#[inline(never)]
+fn forward_of<C: Clock>(
+    clock: &C,
+    number: u64,
+    request: &SharedRequest,
+    target: &Target,
+) -> Result<Forward, AllocError>
+    ensures number { IfOk result (λ forward. forward.number ≡ number) }
+    ensures request { IfOk result (λ forward. forward.request ≡ request.now) }
+    ensures target { IfOk result (λ forward. forward.target ≡ target.now) }
+{
+    Ok(Forward {
+        number,
+        request: request.try_clone()?,
+        target: target.try_clone()?,
+        started_ms: clock.now_ms(),
+    })
+}
+
+// Not inlined, as `templated_response`.
+#[inline(never)]
+fn unmatched_response(alloc: Global) -> Result<Response<Full<Bytes>>, AllocError>
+    ensures { IfOk result (IsResponseOf unmatched_reply) }
+{
+    response_of(alloc, unmatched_reply(alloc)?)
+}

@@ -1,0 +1,12 @@
+// What becomes of a message without any other server.
+use crate::forward::Forward;
+use bytes::Bytes;
+use http::Response;
+use http_body_util::Full;
+
+/// A message's response, or what is to be forwarded to have one.
+#[derive(Drop)]
+pub enum Begun {
+    Answered(Response<Full<Bytes>>),
+    ToForward(Forward),
+}

@@ -1,0 +1,126 @@
+// The response to a message that was forwarded.
+ghost use Rattle.std.specs.Prelude.{◌≡◌, Ok, IfErr, IfOk, OnErr, Result};
+ghost use Rattle.answering.specs.Forwarding.{IsFinished, is_untaken, record_of, reply_unrecorded};
+ghost use Rattle.answering.specs.Reply.{IsResponseOf};
+ghost use Rattle.http_messages.specs.declared.error.ServiceError.TheVariants.{OutOfMemory as NoMemory};
+ghost use Rattle.mapping_model.specs.declared.reply.Reply.{Reply as Sent};
+
+use crate::clock::Clock;
+use crate::forward::Forward;
+use crate::response::{error_response, response_of};
+use crate::site::Site;
+use bytes::Bytes;
+use error_code::error_code::ErrorCode;
+use http::Response;
+use http_body_util::Full;
+use http_messages::error::ServiceError;
+use mapping_model::reply::Reply;
+use proxy_client::error::ProxyError;
+use recorder::exchange::{Exchange, SharedExchange};
+use request_journal::input::BookInput;
+use shared_book::origin::Origin;
+use shared_book::seat::Seat;
+use std::alloc::{AllocError, Global};
+use std::sync::Wait;
+
+/// The response to a message that was forwarded, by what came of that: a reply is recorded where the recording takes
+/// it, and relayed. The error says that there was no memory for a response; then nothing is recorded.
+pub fn finish<L: Origin, R: Wait, G, C: Clock>(
+    rt: &R,
+    alloc: Global,
+    site: &Site<L, G, C>,
+    seat: &mut Seat<L>,
+    forward: Forward,
+    forwarded: Result<Reply, ProxyError>,
+) -> Result<Response<Full<Bytes>>, ServiceError>
+    ensures ok { IfOk result (IsFinished L.origin seat.old seat.new forward forwarded) }
+    ensures err { IfErr result (λ error. (error ≡ NoMemory) × (seat.new ≡ seat.old)) }
+{
+    match forwarded_response(rt, alloc, site, seat, forward, forwarded) {
+        Ok(response) => Ok(response),
+        Err(_error) => Ok(error_response(alloc, 503, ErrorCode::OutOfMemory)?),
+    }
+}
+
+fn forwarded_response<L: Origin, R: Wait, G, C: Clock>(
+    rt: &R,
+    alloc: Global,
+    site: &Site<L, G, C>,
+    seat: &mut Seat<L>,
+    forward: Forward,
+    forwarded: Result<Reply, ProxyError>,
+) -> Result<Response<Full<Bytes>>, AllocError>
+    ensures ok { IfOk result (IsFinished L.origin seat.old seat.new forward forwarded) }
+    ensures err { OnErr result (seat.new ≡ seat.old) }
+{
+    match forwarded {
+        Ok(reply) => relay(rt, alloc, site, seat, forward, reply),
+        Err(ProxyError::UpstreamFailed) => error_response(alloc, 502, ErrorCode::UpstreamFailed),
+        Err(ProxyError::OutOfMemory) => error_response(alloc, 503, ErrorCode::OutOfMemory),
+    }
+}
+
+// Records the exchange, and gives the response that the reply is. That is made first, so that a reply which was
+// recorded is sent: from then on no memory is needed.
+fn relay<L: Origin, R: Wait, G, C: Clock>(
+    rt: &R,
+    alloc: Global,
+    site: &Site<L, G, C>,
+    seat: &mut Seat<L>,
+    forward: Forward,
+    reply: Reply,
+) -> Result<Response<Full<Bytes>>, AllocError>
+    ensures ok { IfOk result (IsFinished L.origin seat.old seat.new forward (Result.Ok reply)) }
+    ensures err { OnErr result (seat.new ≡ seat.old) }
+{
+    let wait_ms = site.clock.now_ms().saturating_sub(forward.started_ms);
+    let input = input_of(alloc, &forward, &reply, wait_ms)?;
+    let response = response_of(alloc, reply)?;
+    match seat.apply(rt, &site.book, input) {
+        Ok(_receipt) => Ok(response),
+        Err(error) => unrecorded_response(alloc, response, error.code),
+    }
+}
+
+// That the exchange be recorded. It shares the reply's body and the request's headers.
+fn input_of(
+    alloc: Global,
+    forward: &Forward,
+    reply: &Reply,
+    wait_ms: u64,
+) -> Result<BookInput, AllocError>
+    ensures { IfOk result (λ input. input ≡ record_of forward.now reply.now wait_ms) }
+{
+    let exchange = Exchange {
+        request: forward.request.request().try_clone()?,
+        reply: reply.try_clone()?,
+        started_ms: forward.started_ms,
+        wait_ms,
+    };
+    Ok(BookInput::Record {
+        serve: forward.number,
+        exchange: SharedExchange::new(alloc, exchange)?,
+    })
+}
+
+// The response where the exchange isn't recorded.
+fn unrecorded_response(
+    alloc: Global,
+    response: Response<Full<Bytes>>,
+    reason: ErrorCode,
+) -> Result<Response<Full<Bytes>>, AllocError>
+    ensures { (sent : Sent) → IsResponseOf sent response
+        → IfOk result (IsResponseOf (reply_unrecorded sent reason)) }
+{
+    if is_untaken(reason) {
+        return Ok(response);
+    }
+    error_response(alloc, 503, reason)
+}
+
+// Whether no recording takes the exchange.
+fn is_untaken(reason: ErrorCode) -> bool
+    ensures { result ≡ is_untaken reason }
+{
+    matches!(reason, ErrorCode::NotRecording | ErrorCode::RecordingFull)
+}
