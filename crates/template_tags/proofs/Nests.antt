@@ -21,7 +21,7 @@ use Rattle.template_tags.specs.Said.{value_said, print_read, print_said}
 use Rattle.template_tags.specs.Terms as terms
 use Rattle.template_tags.specs.Terms.{Term, single, group, Terms, no_terms, first_term, height, greatest_height, Nest}
 use Rattle.template_tags.specs.Terms.{empty_nest, grouped, item_before, nest_of}
-use Rattle.template_tags.specs.declared.calls.TheConstants.{CALL_LIMIT}
+use Rattle.template_tags.specs.declared.expression.TheConstants.{CALL_LIMIT}
 use Rattle.template_tags.specs.declared.level.Level.{Level}
 
 -- ---- terms as pieces

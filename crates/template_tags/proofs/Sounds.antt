@@ -38,7 +38,7 @@ use Rattle.template_tags.specs.Words.{path_word, wrong_word, helper_named, loop_
 use Rattle.template_tags.specs.Words.{literal_of}
 use Rattle.template_tags.specs.Words.{known_word, word_of, found_datum, named_datum, loop_value, word_value}
 use Rattle.template_tags.specs.Words.{argument_word, lone_value}
-use Rattle.template_tags.specs.declared.calls.TheConstants.{CALL_LIMIT}
+use Rattle.template_tags.specs.declared.expression.TheConstants.{CALL_LIMIT}
 use Rattle.template_tags.specs.declared.level.Level.{Level}
 use Rattle.template_tags.specs.declared.word.LoopWord.{LoopWord}
 use Rattle.template_tags.specs.declared.word.LoopWord.TheVariants.{Index, Key, First, Last}

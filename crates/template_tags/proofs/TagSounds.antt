@@ -28,7 +28,7 @@ use Rattle.template_tags.specs.Terms.{single, group, Terms, no_terms, first_term
 use Rattle.template_tags.specs.Terms.{nest_of, is_balanced}
 use Rattle.template_tags.specs.Words.{word_of}
 use Rattle.template_tags.specs.Words.{lone_value}
-use Rattle.template_tags.specs.declared.calls.TheConstants.{CALL_LIMIT}
+use Rattle.template_tags.specs.declared.expression.TheConstants.{CALL_LIMIT}
 use Rattle.template_tags.specs.declared.level.TheConstants.{BLOCK_LIMIT, LOOP_LIMIT}
 use Rattle.template_tags.specs.declared.level.Level.{Level}
 use Rattle.template_tags.specs.declared.tag.Opening.{Opening}

@@ -16,7 +16,7 @@ use Rattle.template_words.specs.declared.error.TagError.TheVariants.{UnknownHelp
 use Rattle.template_tags.specs.Expression.{Expression, datum, text_literal, call, call_two}
 use Rattle.template_tags.specs.Terms.{Term, single, group, Terms, no_terms, first_term, greatest_height}
 use Rattle.template_tags.specs.Words.{Word, helper_word, wrong_word, word_of, argument_word}
-use Rattle.template_tags.specs.declared.calls.TheConstants.{CALL_LIMIT}
+use Rattle.template_tags.specs.declared.expression.TheConstants.{CALL_LIMIT}
 use Rattle.template_tags.specs.declared.expression.Datum.TheVariants.{Root, BodyPath}
 use Rattle.template_tags.specs.declared.level.Level.{Level}
 

@@ -1,4 +1,4 @@
--- Words that only the contracts of this crate's private functions need.
+-- Definitions that only private contracts and proofs need.
 pub mod Scan
 pub mod Views
 pub mod Pieces

@@ -9,7 +9,7 @@ use Rattle.template_tags.specs.Expression.{Expression, datum, index, key, first,
 use Rattle.template_tags.specs.Expression.{call, call_two}
 use Rattle.template_tags.specs.Levels.{loops_open}
 use Rattle.template_tags.specs.Tags.{Tag, print, open_if, open_each, begin_else, close}
-use Rattle.template_tags.specs.declared.calls.TheConstants.{CALL_LIMIT}
+use Rattle.template_tags.specs.declared.expression.TheConstants.{CALL_LIMIT}
 use Rattle.template_tags.specs.declared.expression.Datum.{Datum}
 use Rattle.template_tags.specs.declared.expression.Datum.TheVariants.{Nothing, Root, Item, BodyPath}
 use Rattle.template_tags.specs.declared.level.TheConstants.{BLOCK_LIMIT, LOOP_LIMIT}

@@ -12,7 +12,7 @@ ghost use Rattle.template_tags.specs.Inner.Pieces.{all_pieces_error};
 ghost use Rattle.template_tags.specs.Inner.Scan.{item_view, item_is, with_items, loop_view};
 ghost use Rattle.template_tags.specs.Inner.Views.{read_view, pieces_view, later_view, nest_view, said_view};
 ghost use Rattle.template_tags.specs.Terms.{nest_of};
-ghost use Rattle.template_words.specs.Inner.Views.{part_view};
+ghost use Rattle.template_words.specs.Views.{part_view};
 ghost use Rattle.template_words.specs.Names.{is_name_after_bar, name_before_bar};
 ghost use Rattle.template_words.specs.Paths.{is_name};
 

@@ -7,9 +7,9 @@ ghost use Rattle.template_tags.specs.Calls.{literal_in, body_call, json_path_cal
 ghost use Rattle.template_tags.specs.Expression.{datum};
 ghost use Rattle.template_tags.specs.Inner.Pieces.{piece_argument, piece_arguments, piece_helper, piece_call};
 ghost use Rattle.template_tags.specs.Inner.Views.{read_view, word_view, piece_view, pieces_view};
-ghost use Rattle.template_words.specs.Inner.Views.{part_view};
+ghost use Rattle.template_words.specs.Views.{part_view};
 
-use crate::expression::{Datum, Expression};
+use crate::expression::{CALL_LIMIT, Datum, Expression};
 use crate::level::Level;
 use crate::nest::Piece;
 use crate::word::{Word, argument_word, word_of};
@@ -21,9 +21,6 @@ use json_bridge::json_path::is_json_path;
 use std::alloc::{AllocError, Global};
 use template_words::error::{TagError, joined};
 use template_words::paths::is_step;
-
-/// The most calls in parentheses that may nest.
-pub const CALL_LIMIT: usize = 8;
 
 /// What is read, or the error that is reported where this one is found beside it.
 pub fn beside<T: Drop>(error: Option<TagError>, read: Result<T, TagError>) -> Result<T, TagError>

@@ -4,6 +4,9 @@ use data_tree::plain_text::PlainText;
 use data_tree::step::Path;
 use helper_set::helper::Helper;
 
+/// The most calls in parentheses that may nest.
+pub const CALL_LIMIT: usize = 8;
+
 /// A value of the request's data.
 #[derive(Debug, Drop)]
 pub enum Datum {

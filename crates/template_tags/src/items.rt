@@ -3,7 +3,7 @@ ghost use Rattle.std.specs.Prelude.{◌≡◌, ◌<◌, ◌≤◌, ◌^◌, [], 
 ghost use Rattle.std.specs.Prelude.{IfSome};
 ghost use Rattle.template_tags.specs.Items.{is_start, touches, lacks_space, break_before, word_before, items_of};
 ghost use Rattle.template_tags.specs.Inner.Scan.{item_view, text_of, break_at, around_break, around_view};
-ghost use Rattle.template_words.specs.Inner.Views.{part_view};
+ghost use Rattle.template_words.specs.Views.{part_view};
 ghost use Rattle.template_words.specs.declared.mode.Mode.TheVariants.{Start};
 
 use crate::word_text::WordText;

@@ -20,7 +20,7 @@ pub enum Block {
 
 impl Block {
     /// The word that opens the block after `#`, and closes it after `/`.
-    pub fn name(self) -> &'static str
+    pub(crate) fn name(self) -> &'static str
         ensures { result.now ≡ block_name self }
     {
         match self {
@@ -71,7 +71,7 @@ impl Level {
 }
 
 /// The number of open loops.
-pub fn loops_open(levels: &[Level]) -> usize
+pub(crate) fn loops_open(levels: &[Level]) -> usize
     ensures { result ≡ loops_open (reverse levels.now) }
 {
     let mut count = 0;
@@ -86,7 +86,7 @@ pub fn loops_open(levels: &[Level]) -> usize
 }
 
 /// The innermost loop whose items have that name, by the number of loops inside of it.
-pub fn loop_named(levels: &[Level], name: &str) -> Option<u32>
+pub(crate) fn loop_named(levels: &[Level], name: &str) -> Option<u32>
     requires { length levels.now < 2 ^ 32 }
     ensures { result ≡ loop_named name.now (reverse levels.now) }
 {

@@ -9,11 +9,11 @@ pub mod tag;
 
 // The parts of a tag, lowest first.
 mod blocks;
-pub mod calls;
+mod calls;
 mod items;
 mod nest;
-pub mod word;
-pub mod word_text;
+mod word;
+mod word_text;
 
 // What holds of the definitions.
 pub mod laws;

@@ -7,8 +7,8 @@ ghost use Rattle.template_tags.specs.Inner.Scan.{item_view};
 ghost use Rattle.template_tags.specs.Inner.Views.{piece_view, pieces_view, nest_view};
 ghost use Rattle.template_tags.specs.Terms.{nest_of};
 
-use crate::calls::{CALL_LIMIT, call_read, limited};
-use crate::expression::Expression;
+use crate::calls::{call_read, limited};
+use crate::expression::{CALL_LIMIT, Expression};
 use crate::items::Item;
 use crate::level::Level;
 use crate::word_text::WordText;

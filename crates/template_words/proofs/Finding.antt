@@ -12,7 +12,7 @@ use denote.Ref.{Bor}
 use Rattle.template_words.specs.declared.mode.Mode.{Mode}
 use Rattle.template_words.specs.Marks.{begins, offset_of, around, close_from}
 use Rattle.template_words.specs.Modes.{mode_after, is_literal}
-use Rattle.template_words.specs.Inner.Views.{parts_view}
+use Rattle.template_words.specs.Views.{parts_view}
 use Rattle.template_words.specs.Words.{closed_at_end}
 
 pub strip_is : (n s : List ℕ) (r : Option (Bor (List ℕ)))

@@ -7,5 +7,5 @@ pub mod Literals
 pub mod Paths
 pub mod Names
 pub mod Reading
+pub mod Views
 pub mod Laws
-pub mod Inner

@@ -1,5 +1,5 @@
-// Reads what is between the marks of a template's tags: finds marks and closes in a text, knows literals and names of
-// helpers, and reads a word as a path. Tags as a whole, and templates, are `template_tree`'s.
+// The words of a template's tags: finds marks and closes in a text, and reads a word as a literal, as a name or as a
+// path. What a tag says is `template_tags`', and what a template is, `template_tree`'s.
 #![tactic(auto)]
 
 // What is read, and why it isn't.

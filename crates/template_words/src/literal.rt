@@ -1,7 +1,7 @@
 // Which word is which literal.
 ghost use Rattle.std.specs.Prelude.{◌≡◌, pos, option_map};
 ghost use Rattle.template_words.specs.Literals.{text_literal, short_number, whole_number, truth_literal};
-ghost use Rattle.template_words.specs.Inner.Views.{part_view};
+ghost use Rattle.template_words.specs.Views.{part_view};
 
 use crate::marks::after_mark;
 use crate::words::{enclosed, is_short_digits};

@@ -2,7 +2,7 @@
 ghost use Rattle.std.specs.Prelude.{◌≡◌, ◌<◌, true, false, length, drop, slice_index, codes};
 ghost use Rattle.std.specs.Prelude.{MatchOption, IfSome, IsCharBoundary};
 ghost use Rattle.template_words.specs.Marks.{begins, offset_of, close_from, around};
-ghost use Rattle.template_words.specs.Inner.Views.{parts_view};
+ghost use Rattle.template_words.specs.Views.{parts_view};
 ghost use Rattle.template_words.specs.declared.mode.Mode.TheVariants.{Start};
 
 use crate::mode::Mode;

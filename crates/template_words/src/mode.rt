@@ -16,7 +16,7 @@ pub enum Mode {
 }
 
 /// Space, tab, line feed and carriage return.
-pub fn is_blank(byte: u8) -> bool
+pub(crate) fn is_blank(byte: u8) -> bool
     ensures { result ≡ is_blank byte }
 {
     byte == b' ' || byte == b'\t' || byte == b'\n' || byte == b'\r'
@@ -72,7 +72,7 @@ impl Mode {
         }
     }
 
-    pub fn is_literal(self) -> bool
+    pub(crate) fn is_literal(self) -> bool
         ensures { result ≡ is_literal self }
     {
         matches!(self, Mode::Literal(_))

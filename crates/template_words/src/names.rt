@@ -2,7 +2,7 @@
 ghost use Rattle.std.specs.Prelude.{◌≡◌};
 ghost use Rattle.template_words.specs.Names.{is_hash_argument, only_name, name_in_bars, is_name_after_bar};
 ghost use Rattle.template_words.specs.Names.{name_before_bar, first_part};
-ghost use Rattle.template_words.specs.Inner.Views.{part_view};
+ghost use Rattle.template_words.specs.Views.{part_view};
 
 use crate::marks::{after_mark, around_mark};
 use crate::paths::{around_dot, is_name};

@@ -15,7 +15,7 @@ use Rattle.template_tags.specs.Said.{print_read}
 use Rattle.template_tags.specs.Tags.{Tag}
 use Rattle.template_tags.specs.Terms.{Term, single, group, Terms, no_terms, first_term, height, Nest}
 use Rattle.template_tags.specs.Words.{word_of, argument_word, lone_value}
-use Rattle.template_tags.specs.declared.calls.TheConstants.{CALL_LIMIT}
+use Rattle.template_tags.specs.declared.expression.TheConstants.{CALL_LIMIT}
 use Rattle.template_tags.specs.declared.level.Level.{Level}
 
 -- a word, or the value of a group, as an argument, and the height of the group, which is capped

@@ -5,7 +5,7 @@ use denote.Ref.{Bor}
 use Rattle.template_words.specs.Modes.{mode_after, is_outside}
 use Rattle.template_words.specs.Words.{is_break}
 use Rattle.template_words.specs.declared.mode.Mode.{Mode}
-use Rattle.template_words.specs.Inner.Views.{part_view}
+use Rattle.template_words.specs.Views.{part_view}
 use Rattle.template_tags.specs.Blocks.{LoopItems}
 use Rattle.template_tags.specs.Items as items
 use Rattle.template_tags.specs.declared.items.Item.{Item}
