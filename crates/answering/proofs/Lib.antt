@@ -1,3 +1,5 @@
+mod FinishLemmas
 mod HeaderLemmas
+mod MessageLemmas
 mod ResultLemmas
 mod ServeLemmas

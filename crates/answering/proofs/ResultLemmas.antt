@@ -30,11 +30,3 @@ pub of_right : {E : Type 0} (P : Reply → Type 0) (reply : Reply) (result : Res
     → P reply → IfOk result (IsResponseOf reply) → IfOk result (HasReply P)
 of_right P reply (Ok response) is h = (reply, is, h)
 of_right P reply (Err error) is h = tt
-
--- what a reply is in one sense it is in another
-pub sent_weaker : {E : Type 0} (P Q : Reply → Type 0) → ((r : Reply) → P r → Q r)
-    → (result : Result (Response (Full (List ℕ))) E)
-    → MatchResult result (HasReply P) (λ _. (r : Reply) × P r)
-    → MatchResult result (HasReply Q) (λ _. (r : Reply) × Q r)
-sent_weaker P Q f (Ok response) (reply, is, of) = (reply, f reply is, of)
-sent_weaker P Q f (Err error) (reply, is) = (reply, f reply is)

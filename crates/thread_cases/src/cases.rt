@@ -5,6 +5,7 @@ use crate::answered::answered;
 use crate::books;
 use crate::cleared::cleared;
 use crate::counted::counted;
+use crate::forwarded::forwarded;
 use crate::full::full;
 use crate::machine::Machine;
 use crate::scripts::scripts;
@@ -32,6 +33,7 @@ pub enum Case {
     Answered,
     Counted,
     Full,
+    Forwarded,
 }
 
 impl Case {
@@ -44,6 +46,7 @@ impl Case {
             Case::Answered => "answered: ",
             Case::Counted => "counted: ",
             Case::Full => "full: ",
+            Case::Forwarded => "forwarded: ",
         }
     }
 
@@ -105,5 +108,6 @@ fn play_case<L: Origin + Send + Sync, R: Machine + Threads + Sync>(
         Case::Answered => answered(rt, alloc, cells, shared, seat),
         Case::Counted => counted(rt, alloc, cells, shared, seat),
         Case::Full => full(rt, alloc, cells, shared, seat),
+        Case::Forwarded => forwarded(rt, alloc, cells, shared, seat),
     }
 }

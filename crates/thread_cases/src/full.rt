@@ -5,7 +5,7 @@ use crate::books::LAST;
 use crate::calls;
 use crate::machine::Machine;
 use crate::messages::Asked;
-use crate::no_clock::NoClock;
+use crate::clocks::NoClock;
 use crate::outcomes::{add_number, add_receipts, add_refusal};
 use answering::site::Site;
 use case_table::cells::Cells;

@@ -25,12 +25,14 @@ mod versions;
 // Messages that are answered over shared books, also by two threads.
 mod answered;
 mod answers;
+mod clocks;
 mod counted;
+mod forwarded;
 mod full;
 mod machine;
 mod message_threads;
 mod messages;
-mod no_clock;
+mod upstream;
 
 use case_table::compare::compare_all;
 use cases::{Case, play};
@@ -50,6 +52,7 @@ fn main(rt: HostRuntime) -> io::Result<ExitCode> {
         Case::Answered,
         Case::Counted,
         Case::Full,
+        Case::Forwarded,
     ]
     .as_slice()
     {

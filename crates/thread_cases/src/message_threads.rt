@@ -4,7 +4,7 @@ use crate::answers::answer_to;
 use crate::first_waits::FirstWaits;
 use crate::machine::Machine;
 use crate::messages::Asked;
-use crate::no_clock::NoClock;
+use crate::clocks::NoClock;
 use answering::site::Site;
 use proxy_client::counted::TURN_LIMIT;
 use shared_book::gate::Gate;

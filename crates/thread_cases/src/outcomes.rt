@@ -4,6 +4,7 @@ use crate::books::{is_stubbed, word_of};
 use crate::calls;
 use crate::calls::Asked;
 use case_table::cells::Cells;
+use request_journal::event::Event;
 use shared_book::book_read::ReadAnswer;
 use shared_book::origin::Origin;
 use shared_book::seat::Seat;
@@ -96,6 +97,21 @@ pub fn add_refusal(cells: &mut Cells, reason: &SettleRefusal, seats: usize) {
     cells.add(", ");
     add_number(cells, seats as u64);
     cells.add(" handed back");
+}
+
+/// Of each exchange that was recorded: the number of its serve, when it was started, and how long its reply took.
+pub fn add_exchanges(cells: &mut Cells, settled: &Settled) {
+    for receipt in settled.receipts.as_slice() {
+        if let Event::Record { serve, exchange } = receipt.event.event() {
+            cells.add("; recorded of ");
+            add_number(cells, *serve);
+            cells.add(" at ");
+            add_number(cells, exchange.exchange().started_ms);
+            cells.add(" ms for ");
+            add_number(cells, exchange.exchange().wait_ms);
+            cells.add(" ms");
+        }
+    }
 }
 
 /// A word for each receipt.
