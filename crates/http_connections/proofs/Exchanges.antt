@@ -39,8 +39,8 @@ module _ {E Reply Refusal : Type 0} (forwards : Request (List ℕ) → E → Typ
 
     pub given_later : (polled : Poll (Result (Response (Full (List ℕ))) Refusal)) (new : E)
         → OnPending polled ((result : Result (Response (Full (List ℕ))) Refusal)
-            → IsGivenBy new result → IsGivenBy exchange result)
+        → IsGivenBy new result → IsGivenBy exchange result)
         → OnPending polled ((result : Result (Response (Full (List ℕ))) Refusal)
-            → IsGivenBy new result → IsGivenWith head result)
+        → IsGivenBy new result → IsGivenWith head result)
     given_later (Ready result) new same = tt
     given_later Pending new same = λ result given. given_with result (same result given)

@@ -1,5 +1,9 @@
 // A site answers the requests of connections.
-ghost use Rattle.hyper_service.specs.Given.{IsForwardedBy, IsGiven};
+ghost use Rattle.std.specs.Prelude.{◌≡◌, IfErr, IfOk, IsSome, Some};
+ghost use Rattle.answering.specs.Forwarding.{IsFinished, IsToForward};
+ghost use Rattle.http_connections.specs.Sent.{IsBegun};
+ghost use Rattle.hyper_service.specs.Given.{IsForwardedBy, IsGiven, IsSentBy};
+ghost use Rattle.hyper_service.specs.Inner.Failure.{IsFailure};
 
 use crate::site_exchange::{Forwarded, SiteExchange};
 use answering::clock::Clock;
@@ -69,8 +73,7 @@ where
         seat: &mut Seat<L>,
         reply: Forwarded,
     ) -> Result<Response<Full<Bytes>>, ServiceError> {
-        let Forwarded { forward, reply } = reply;
-        answering::finish::finish(rt, alloc, &self.site, seat, forward, reply)
+        self.finish_forwarded(rt, alloc, seat, reply)
     }
 
     fn split(seat: &mut Seat<L>) -> Option<Seat<L>> {
@@ -101,19 +104,48 @@ where
         alloc: Global,
         seat: &mut Seat<L>,
         forward: Forward,
-    ) -> Result<Begun<SiteExchange<F::Exchange>>, ServiceError> {
+    ) -> Result<Begun<SiteExchange<F::Exchange>>, ServiceError>
+        ensures { (message : _) (old : _) → IsToForward L.origin old seat.old message forward
+            → IfOk result (IsBegun (IsGiven F.sends F.Exchange.gives L.origin)
+            (IsForwardedBy F.sends F.Exchange.gives L.origin)
+            (λ exchange. IsSome exchange.forward × F.Exchange.can_poll exchange.exchange) message) }
+    {
         match self.exchange(alloc, forward) {
             Ok(exchange) => Ok(Begun::Forwarding(exchange)),
-            Err(failed) => Ok(Begun::Answered(self.finish(rt, alloc, seat, failed)?)),
+            Err(failed) => {
+                let response = self.finish_forwarded(rt, alloc, seat, failed)?;
+                Ok(Begun::Answered(response))
+            }
         }
+    }
+
+    fn finish_forwarded<R: Wait>(
+        &self,
+        rt: &R,
+        alloc: Global,
+        seat: &mut Seat<L>,
+        forwarded: Forwarded,
+    ) -> Result<Response<Full<Bytes>>, ServiceError>
+        ensures { IfOk result (IsFinished L.origin seat.old seat.new forwarded.forward forwarded.reply) }
+    {
+        let Forwarded { forward, reply } = forwarded;
+        answering::finish::finish(rt, alloc, &self.site, seat, forward, reply)
     }
 
     fn exchange(
         &self,
         alloc: Global,
         forward: Forward,
-    ) -> Result<Box<SiteExchange<F::Exchange>>, Forwarded> {
-        match self.forwarder.exchange(&forward.target, forward.request.request()) {
+    ) -> Result<Box<SiteExchange<F::Exchange>>, Forwarded>
+        ensures kept { IfOk result (λ made. made.value.forward ≡ Some forward) }
+        ensures sent { IfOk result (λ made. IsSentBy F.sends F.Exchange.gives forward made.value.exchange) }
+        ensures can_poll { IfOk result (λ made. F.Exchange.can_poll made.value.exchange) }
+        ensures none { IfErr result (IsFailure forward) }
+    {
+        match self
+            .forwarder
+            .exchange(&forward.target, forward.request.request())
+        {
             Ok(exchange) => SiteExchange::new(alloc, forward, exchange),
             Err(error) => Err(Forwarded {
                 forward,

@@ -1,5 +1,6 @@
 // A request of a site that is forwarded.
-ghost use Rattle.std.specs.Prelude.{◌≡◌, IsSome, Some};
+ghost use Rattle.std.specs.Prelude.{◌≡◌, IfErr, IfOk, IsSome, Some};
+ghost use Rattle.hyper_service.specs.Inner.Failure.{IsFailure};
 
 use answering::forward::Forward;
 use futures::task::{Context, Poll};
@@ -25,11 +26,14 @@ pub struct Forwarded {
 
 impl<E: Drop> SiteExchange<E> {
     /// Where there is no memory for it, nothing has been forwarded, and the failure is what came of that.
-    pub fn new(
+    pub(crate) fn new(
         alloc: Global,
         forward: Forward,
         exchange: E,
-    ) -> Result<Box<SiteExchange<E>>, Forwarded> {
+    ) -> Result<Box<SiteExchange<E>>, Forwarded>
+        ensures made { IfOk result (λ made. made.value ≡ record { forward = Some forward; exchange = exchange }) }
+        ensures none { IfErr result (IsFailure forward) }
+    {
         let exchange = SiteExchange {
             forward: Some(forward),
             exchange,
