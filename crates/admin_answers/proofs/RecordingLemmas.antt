@@ -1,5 +1,6 @@
 -- What is answered from a reading of recordings is what the past that was read says.
-use Rattle.std.proofs.Common.{◌≡◌, ◌⊎◌, List, Option, Some, None, Result, Ok, Err, IfOk, IfErr, inl, inr, subst}
+use Rattle.std.proofs.Common.{◌≡◌, ◌⊎◌, List, Option, Some, None, Result, Ok, Err, IfOk, IfErr, inl, inr}
+use Rattle.std.proofs.Common.{subst}
 use Rattle.std.specs.declared.alloc.AllocError.{AllocError}
 use Rattle.admin_answers.proofs.ReadLemmas.{said}
 use Rattle.admin_answers.specs.Answers.{InPast, IsReadReply}
@@ -50,4 +51,8 @@ pub no_har
 no_har origin kept reading (Ok reply) is e why = tt
 no_har origin kept reading (Err error) is e (inl memory) = inl memory
 no_har origin kept reading (Err error) is e (inr none) =
-    inr (is.past, is.reached, subst (λ r. HasNoHar (session_of r) error.code) (said origin read.Recording reading _ is e) none)
+    inr (
+      is.past,
+      is.reached,
+      subst (λ r. HasNoHar (session_of r) error.code) (said origin read.Recording reading _ is e) none,
+    )

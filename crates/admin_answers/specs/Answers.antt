@@ -138,5 +138,6 @@ IsNotAnswered origin old new (call.ReadMapping id) reason =
     × ((reason ≡ code.OutOfMemory)
     ⊎ ((reason ≡ code.UnknownMapping) × InPast origin (λ past. ¬ (IsLive past id))))
 IsNotAnswered origin old new call.ReadRecordingHar reason =
-    (new ≡ old) × ((reason ≡ code.OutOfMemory) ⊎ InPast origin (λ past. HasNoHar (session_of (recording past)) reason))
+    (new ≡ old) × ((reason ≡ code.OutOfMemory)
+    ⊎ InPast origin (λ past. HasNoHar (session_of (recording past)) reason))
 IsNotAnswered origin old new read reason = (new ≡ old) × (reason ≡ code.OutOfMemory)

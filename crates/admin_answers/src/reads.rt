@@ -239,7 +239,8 @@ fn status_reply(alloc: Global, status: RecordingStatus) -> Result<Reply, AllocEr
 
 fn har_reply(alloc: Global, recording: &Recording) -> Result<Reply, SharedError>
     ensures ok { IfOk result (IsHarReply (session_of recording.now)) }
-    ensures refused { IfErr result (λ error. (error.code ≡ code.OutOfMemory) ⊎ HasNoHar (session_of recording.now) error.code) }
+    ensures refused { IfErr result
+        (λ error. (error.code ≡ code.OutOfMemory) ⊎ HasNoHar (session_of recording.now) error.code) }
 {
     match recording.session() {
         Some(session) => session_reply(alloc, session),

@@ -49,17 +49,30 @@ pub of_request : {E : Type 0} (origin : Past) (limits : Limits) (escape : Escape
     (message : Message (List ℕ)) (request : Request) (result : Result Begun E)
     → middle ≡ old → IsReceived message request → length (body_of message) ≤ BODY_LIMIT
     → MatchResult result
-    (HasBegun (IsRequestAnswered origin limits escape middle new request) (IsRequestToForward origin middle new request))
+    (HasBegun (IsRequestAnswered origin limits escape middle new request)
+    (IsRequestToForward origin middle new request))
     (λ _. (reply : Reply) × IsRequestAnswered origin limits escape middle new request reply)
     → MatchResult result
     (HasBegun (IsReply origin limits escape old new message) (IsToForward origin old new message))
     (λ _. IsNotBegun origin limits escape old new message)
 of_request origin limits escape old middle new message request (Ok (Answered response)) same received within is = (
   is.0,
-  inr (request, received, within, subst (λ held. IsRequestAnswered origin limits escape held new request is.0) same is.1.0),
+  inr (
+    request,
+    received,
+    within,
+    subst (λ held. IsRequestAnswered origin limits escape held new request is.0) same is.1.0,
+  ),
   is.1.1,
 )
 of_request origin limits escape old middle new message request (Ok (ToForward forward)) same received within is =
     to_forward origin old middle new message request forward same received within is
-of_request origin limits escape old middle new message request (Err error) same received within is =
-    (is.0, inr (request, received, within, subst (λ held. IsRequestAnswered origin limits escape held new request is.0) same is.1))
+of_request origin limits escape old middle new message request (Err error) same received within is = (
+  is.0,
+  inr (
+    request,
+    received,
+    within,
+    subst (λ held. IsRequestAnswered origin limits escape held new request is.0) same is.1,
+  ),
+)

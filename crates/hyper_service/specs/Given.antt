@@ -17,16 +17,18 @@ use Rattle.stub_response.specs.declared.limits.Limits.{Limits}
 use Rattle.template_tree.specs.declared.escape.Escape.{Escape}
 
 -- the message was answered at once
-pub record IsGivenAtOnce (origin : Past) (message : Message (List ℕ)) (response : Response (Full (List ℕ))) : Type 0 where
+pub record IsGivenAtOnce (origin : Past) (message : Message (List ℕ))
+    (response : Response (Full (List ℕ))) : Type 0 where
   pub limits : Limits
   pub escape : Escape
   pub old : Held
   pub new : Held
   pub begun : IsBegun origin limits escape old new message response
 
--- The message was forwarded, and this is the response to what came of that. The seat isn't held meanwhile, so it need not
--- be as the first of both events left it.
-pub record IsGivenLater (origin : Past) (message : Message (List ℕ)) (response : Response (Full (List ℕ))) : Type 0 where
+-- The message was forwarded, and this is the response to what came of that. The seat isn't held meanwhile, so it need
+-- not be as the first of both events left it.
+pub record IsGivenLater (origin : Past) (message : Message (List ℕ))
+    (response : Response (Full (List ℕ))) : Type 0 where
   pub forward : Forward
   pub old : Held
   pub new : Held
@@ -40,8 +42,8 @@ pub record IsGivenLater (origin : Past) (message : Message (List ℕ)) (response
 abbrev pub IsGiven : Past → Message (List ℕ) → Response (Full (List ℕ)) → Type 0
 IsGiven origin message response = IsGivenAtOnce origin message response ⊎ IsGivenLater origin message response
 
--- The message was begun to be forwarded by the exchange, which holds what is kept of it. By its own exchange, that one's
--- request may be sent to that one's target (`sends`); `exchanged` says what it may give.
+-- The message was begun to be forwarded by the exchange, which holds what is kept of it. By its own exchange, that
+-- one's request may be sent to that one's target (`sends`); `exchanged` says what it may give.
 pub record IsForwardedBy {E : Type 0} (origin : Past) (sends : List ℕ → Request → E → Type 0)
     (exchanged : E → Result Reply ProxyError → Type 0) (message : Message (List ℕ)) (exchange : SiteExchange E)
     : Type 0 where
@@ -51,4 +53,5 @@ pub record IsForwardedBy {E : Type 0} (origin : Past) (sends : List ℕ → Requ
   pub new : Held
   pub begun : IsToForward origin old new message forward
   pub sent : sends forward.target forward.request exchange.exchange
-  pub genuine : (forwarded : Result Reply ProxyError) → exchanged exchange.exchange forwarded → IfOk forwarded IsSomeReply
+  pub genuine : (forwarded : Result Reply ProxyError) → exchanged exchange.exchange forwarded
+      → IfOk forwarded IsSomeReply

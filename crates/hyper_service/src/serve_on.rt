@@ -25,8 +25,8 @@ use tokio::net::TcpListener;
 use tokio::runtime::LocalRuntime;
 
 /// Serves the connections of a listener, as many as are wanted, each with a seat of its own, and settles once all have
-/// ended. Requests that are to be forwarded are handed to `forwarder`. Writes where it listens before it accepts the first, how many events were settled, and an error to `err`.
-/// Gives the exit status.
+/// ended. Requests that are to be forwarded are handed to `forwarder`. Writes where it listens before it accepts the
+/// first, how many events were settled, and an error to `err`. Gives the exit status.
 pub fn serve_on<R, L, G, C, F, O, E>(
     rt: R,
     runtime: &mut LocalRuntime,

@@ -113,7 +113,10 @@ where
         alloc: Global,
         forward: Forward,
     ) -> Result<Box<SiteExchange<F::Exchange>>, Forwarded> {
-        match self.forwarder.exchange(&forward.target, forward.request.request()) {
+        match self
+            .forwarder
+            .exchange(&forward.target, forward.request.request())
+        {
             Ok(exchange) => SiteExchange::new(alloc, forward, exchange),
             Err(error) => Err(Forwarded {
                 forward,

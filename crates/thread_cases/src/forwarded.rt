@@ -1,8 +1,8 @@
 //! Messages that are forwarded while a recording is on, and what the recording has of them.
 
 use crate::answers::answer_to;
-use crate::clocks::Ticking;
 use crate::calls;
+use crate::clocks::Ticking;
 use crate::machine::Machine;
 use crate::messages::Asked;
 use crate::outcomes::{add_counts, add_exchanges, add_number, add_receipts, add_refusal};

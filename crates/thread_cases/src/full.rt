@@ -3,9 +3,9 @@
 use crate::answers::answer_to;
 use crate::books::LAST;
 use crate::calls;
+use crate::clocks::NoClock;
 use crate::machine::Machine;
 use crate::messages::Asked;
-use crate::clocks::NoClock;
 use crate::outcomes::{add_number, add_receipts, add_refusal};
 use answering::site::Site;
 use case_table::cells::Cells;
