@@ -45,9 +45,9 @@ where
 
     type Exchange = SiteExchange<F::Exchange>;
 
-    ghost gives = { IsGiven L.origin };
+    ghost gives = { IsGiven F.sends F.Exchange.gives L.origin };
 
-    ghost forwards = { IsForwardedBy L.origin F.sends F.Exchange.gives };
+    ghost forwards = { IsForwardedBy F.sends F.Exchange.gives L.origin };
 
     fn begin<R: Wait>(
         &self,
