@@ -1,2 +1,3 @@
 pub mod ReadLemmas
 pub mod ChangeLemmas
+pub mod RecordingLemmas

@@ -27,7 +27,7 @@ use Rattle.shared_book.specs.declared.book_read.ReadAnswer.TheVariants as answer
 use Rattle.shared_book.specs.declared.book_read.Reading.{Reading}
 
 -- what the past that was read says of this answer
-said : (origin : Past) (asked : BookRead) (reading : Reading) (found : ReadAnswer)
+pub said : (origin : Past) (asked : BookRead) (reading : Reading) (found : ReadAnswer)
     → (is : IsRead origin asked reading) → reading.answer ≡ found → IsReadAnswer is.past asked found
 said origin asked reading found is e = subst (IsReadAnswer is.past asked) e is.answer
 

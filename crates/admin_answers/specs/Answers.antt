@@ -1,20 +1,24 @@
 -- What a shared book answers to an admin call (WireMock's documentation, "Admin API"), and why it is refused.
 use Rattle.std.specs.Prelude.{◌≡◌, ◌⊎◌, ℕ, List, Option, Some, None, Any}
 use Rattle.admin_json.specs.Mappings.{json_of_held, json_of_mappings}
+use Rattle.admin_json.specs.Recordings.{json_of_recorded, json_of_status}
 use Rattle.admin_json.specs.Requests.{json_of_requests, json_of_found, json_of_number}
 use Rattle.admin_json.specs.Scenarios.{json_of_scenarios}
 use Rattle.admin_answers.specs.JsonReply.{IsJsonReply}
+use Rattle.admin_answers.specs.Recordings.{IsHarReply, HasNoHar}
 use Rattle.admin_routes.specs.declared.call.AdminCall.{AdminCall}
 use Rattle.admin_routes.specs.declared.call.AdminCall.TheVariants as call
 use Rattle.error_code.specs.declared.error_code.ErrorCode.{ErrorCode}
 use Rattle.error_code.specs.declared.error_code.ErrorCode.TheVariants as code
 use Rattle.mapping_model.specs.declared.reply.Reply.{Reply}
 use Rattle.mapping_store.specs.Stored.{IsNewestFirst}
+use Rattle.recorder.specs.Recording.{session_of, status_of}
 use Rattle.request_journal.specs.Input.{IsAsked}
 use Rattle.request_journal.specs.Journal.{requests, unmatched, IsCount, Picks}
 use Rattle.request_journal.specs.Legal.{IsLive}
 use Rattle.request_journal.specs.Live.{live}
 use Rattle.request_journal.specs.Past.{Past}
+use Rattle.request_journal.specs.Recording.{recording}
 use Rattle.request_journal.specs.State.{state}
 use Rattle.request_journal.specs.declared.entry.Entry.{Entry}
 use Rattle.request_journal.specs.declared.event.Event.{Event}
@@ -39,10 +43,12 @@ pub record Gains (origin : Past) (old new : Held) (asked : BookInput) (receipt :
   pub is_asked : IsAsked asked receipt.event
   pub is_receipt : IsReceipt origin receipt
 
--- the mapping as it is after the event, and 201 where it is a new one; `{}` with any other event
+-- the mapping as it is after the event, and 201 where it is a new one; what was recorded, where the event stops a
+-- recording; `{}` with any other event
 abbrev pub IsEventReply : Event → Reply → Type 0
 IsEventReply (event.Add mapping) reply = IsJsonReply 201 (json_of_held mapping) reply
 IsEventReply (event.Edit id spec) reply = IsJsonReply 200 (json_of_held (record { id = id; spec = spec })) reply
+IsEventReply (event.StopRecording mappings skipped) reply = IsJsonReply 200 (json_of_recorded mappings skipped) reply
 IsEventReply other reply = IsJsonReply 200 (object no_members) reply
 
 -- the change was made, and this is answered
@@ -86,6 +92,9 @@ IsReadReply call.ListScenarios reply past =
     (states : States) × ((name : List ℕ) → state_of states name ≡ state past name)
     × ((listed : List Mapping) × IsNewestFirst (live past) listed
     × IsJsonReply 200 (json_of_scenarios states listed) reply)
+IsReadReply call.ReadRecordingStatus reply past =
+    IsJsonReply 200 (json_of_status (status_of (recording past))) reply
+IsReadReply call.ReadRecordingHar reply past = IsHarReply (session_of (recording past)) reply
 IsReadReply other reply past = ⊥
 
 -- ---- calls
@@ -103,6 +112,9 @@ IsAnswered origin old new call.ClearRequests reply = IsChanged origin old new in
 IsAnswered origin old new call.ResetScenarios reply = IsChanged origin old new input.ResetScenarios reply
 IsAnswered origin old new (call.SetScenario name state) reply =
     IsChanged origin old new (input.SetScenario name state) reply
+IsAnswered origin old new (call.StartRecording start) reply =
+    IsChanged origin old new (input.StartRecording start.target start.captured start.repeats) reply
+IsAnswered origin old new call.StopRecording reply = IsChanged origin old new input.StopRecording reply
 IsAnswered origin old new read reply = (new ≡ old) × InPast origin (IsReadReply read reply)
 
 -- why the call has no answer, and what it left
@@ -118,8 +130,14 @@ IsNotAnswered origin old new call.ClearRequests reason = IsNotChanged origin old
 IsNotAnswered origin old new call.ResetScenarios reason = IsNotChanged origin old new input.ResetScenarios reason
 IsNotAnswered origin old new (call.SetScenario name state) reason =
     IsNotChanged origin old new (input.SetScenario name state) reason
+IsNotAnswered origin old new (call.StartRecording start) reason =
+    IsNotChanged origin old new (input.StartRecording start.target start.captured start.repeats) reason
+IsNotAnswered origin old new call.StopRecording reason = IsNotChanged origin old new input.StopRecording reason
 IsNotAnswered origin old new (call.ReadMapping id) reason =
     (new ≡ old)
     × ((reason ≡ code.OutOfMemory)
     ⊎ ((reason ≡ code.UnknownMapping) × InPast origin (λ past. ¬ (IsLive past id))))
+IsNotAnswered origin old new call.ReadRecordingHar reason =
+    (new ≡ old) × ((reason ≡ code.OutOfMemory)
+    ⊎ InPast origin (λ past. HasNoHar (session_of (recording past)) reason))
 IsNotAnswered origin old new read reason = (new ≡ old) × (reason ≡ code.OutOfMemory)

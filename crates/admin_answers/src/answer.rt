@@ -1,13 +1,15 @@
 // What a shared book answers to an admin call.
-ghost use Rattle.std.specs.Prelude.{IfOk, IfErr};
+ghost use Rattle.std.specs.Prelude.{◌≡◌, IfOk, IfErr};
 ghost use Rattle.admin_answers.specs.Answers.{IsAnswered, IsNotAnswered};
+ghost use Rattle.request_journal.specs.declared.input.BookInput.TheVariants as input;
 
 use crate::change::change;
 use crate::error::SharedError;
 use crate::reads::{
     count_requests, find_requests, list_mappings, list_requests, list_scenarios, list_unmatched,
-    read_mapping,
+    read_mapping, read_recording_har, read_recording_status,
 };
+use admin_json::start::RecordingStart;
 use admin_routes::call::AdminCall;
 use mapping_model::reply::Reply;
 use request_journal::input::BookInput;
@@ -49,6 +51,10 @@ pub fn answer_admin<L: Origin, R: Wait>(
                 BookInput::SetScenario { name, state },
             )
         }
+        AdminCall::StartRecording(start) => {
+            change(rt, alloc, shared, seat, recording_input(start))
+        }
+        AdminCall::StopRecording => change(rt, alloc, shared, seat, BookInput::StopRecording),
         AdminCall::ListMappings => Ok(list_mappings(rt, alloc, shared, seat)?),
         AdminCall::ReadMapping(id) => read_mapping(rt, alloc, shared, seat, id),
         AdminCall::ListRequests => Ok(list_requests(rt, alloc, shared, seat)?),
@@ -56,5 +62,17 @@ pub fn answer_admin<L: Origin, R: Wait>(
         AdminCall::FindRequests(matcher) => Ok(find_requests(rt, alloc, shared, seat, matcher)?),
         AdminCall::CountRequests(matcher) => Ok(count_requests(rt, alloc, shared, seat, matcher)?),
         AdminCall::ListScenarios => Ok(list_scenarios(rt, alloc, shared, seat)?),
+        AdminCall::ReadRecordingStatus => Ok(read_recording_status(rt, alloc, shared, seat)?),
+        AdminCall::ReadRecordingHar => read_recording_har(rt, alloc, shared, seat),
+    }
+}
+
+fn recording_input(start: RecordingStart) -> BookInput
+    ensures { result ≡ input.StartRecording start.target start.captured start.repeats }
+{
+    BookInput::StartRecording {
+        target: start.target,
+        captured: start.captured,
+        repeats: start.repeats,
     }
 }

@@ -3,10 +3,12 @@ ghost use Rattle.std.specs.Prelude.{◌≡◌, IfOk, IfErr};
 ghost use Rattle.admin_answers.specs.Answers.{IsChanged, IsNotChanged, IsEventReply};
 ghost use Rattle.admin_answers.specs.JsonReply.{IsJsonReply};
 ghost use Rattle.admin_json.specs.Mappings.{json_of_held};
+ghost use Rattle.admin_json.specs.Recordings.{json_of_recorded};
 
 use crate::error::SharedError;
 use crate::json_reply::value_reply;
 use admin_json::mappings::mapping_value;
+use admin_json::recordings::recorded_value;
 use mapping_model::mapping_id::MappingId;
 use mapping_model::reply::Reply;
 use request_journal::event::Event;
@@ -44,6 +46,9 @@ fn event_reply(alloc: Global, event: &Event) -> Result<Reply, AllocError>
     match event {
         Event::Add(mapping) => value_reply(alloc, 201, &mapping_value(alloc, mapping)?),
         Event::Edit { id, spec } => edited_reply(alloc, *id, spec),
+        Event::StopRecording { mappings, skipped } => {
+            recorded_reply(alloc, mappings.as_slice(), *skipped)
+        }
         _ => value_reply(alloc, 200, &Value::Object(Map::new(alloc))),
     }
 }
@@ -53,4 +58,10 @@ fn edited_reply(alloc: Global, id: MappingId, spec: &SharedSpec) -> Result<Reply
 {
     let spec = spec.try_clone()?;
     value_reply(alloc, 200, &mapping_value(alloc, &Mapping { id, spec })?)
+}
+
+fn recorded_reply(alloc: Global, mappings: &[Mapping], skipped: u64) -> Result<Reply, AllocError>
+    ensures { IfOk result (IsJsonReply 200 (json_of_recorded mappings.now skipped)) }
+{
+    value_reply(alloc, 200, &recorded_value(alloc, mappings, skipped)?)
 }

@@ -1,5 +1,6 @@
 // Why an admin call has no answer.
 use error_code::error_code::ErrorCode;
+use har_export::error::HarError;
 use std::alloc::AllocError;
 use stub_book::error::BookError;
 
@@ -26,6 +27,19 @@ impl From<BookError> for SharedError {
 
     fn from(lower: BookError) -> SharedError {
         SharedError { code: lower.code }
+    }
+}
+
+impl From<HarError> for SharedError {
+    ghost use Rattle.std.specs.Prelude.{◌≡◌};
+    ghost use Rattle.har_export.specs.Errors.{error_code_of};
+
+    ghost from_gives = { λ lower error. error ≡ record { code = error_code_of lower } };
+
+    fn from(lower: HarError) -> SharedError {
+        SharedError {
+            code: lower.error_code(),
+        }
     }
 }
 

@@ -1,5 +1,6 @@
 // What a shared book answers to an admin call: one change or one reading of the book, and its answer. Contracts cite
-// `specs/Answers.antt` (what each call is answered, and why it is refused) and `specs/JsonReply.antt`.
+// `specs/Answers.antt` (what each call is answered, and why it is refused), `specs/Recordings.antt` and
+// `specs/JsonReply.antt`.
 #![tactic(auto)]
 
 pub mod answer;

@@ -6,6 +6,7 @@ use crate::mappings::mappings_of;
 use crate::paths::add_paths;
 use crate::requests::request_of;
 use crate::server::{add_reply, reply_to};
+use crate::upstream::add_record;
 use case_table::cells::Cells;
 use case_table::row::Row;
 use shared_book::origin::Origin;
@@ -64,7 +65,8 @@ fn play<L: Origin, R: Wait>(
     cells.finish()
 }
 
-// A call has four cells: its method, its target, its header lines with a line feed between two, and its body.
+// A call has four cells: its method, its target, its header lines with a line feed between two, and its body; or those
+// of `upstream`.
 fn add_calls<L: Origin, R: Wait>(
     rt: &R,
     alloc: Global,
@@ -74,8 +76,25 @@ fn add_calls<L: Origin, R: Wait>(
     row: &Row,
 ) -> Result<(), AllocError> {
     for call in row.given.get(2..).unwrap_or(&[]).chunks(4) {
-        let reply = reply_to(rt, alloc, shared, seat, request_of(alloc, call))?;
-        add_reply(alloc, cells, &reply)?;
+        add_call(rt, alloc, shared, seat, cells, call)?;
     }
     Ok(())
+}
+
+fn add_call<L: Origin, R: Wait>(
+    rt: &R,
+    alloc: Global,
+    shared: &SharedBook<L>,
+    seat: &mut Seat<L>,
+    cells: &mut Cells,
+    call: &[String],
+) -> Result<(), AllocError> {
+    if call
+        .first()
+        .is_some_and(|method| method.as_str() == "upstream")
+    {
+        return add_record(rt, alloc, shared, seat, cells, call);
+    }
+    let reply = reply_to(rt, alloc, shared, seat, request_of(alloc, call))?;
+    add_reply(alloc, cells, &reply)
 }

@@ -12,6 +12,7 @@ mod mappings;
 mod recordings;
 mod requests;
 mod server;
+mod upstream;
 
 use case_table::compare::compare_all;
 use std::io;

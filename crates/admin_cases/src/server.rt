@@ -91,13 +91,17 @@ fn served_reply<L: Origin, R: Wait>(
     }
 }
 
-// No recording is on, so a request that no mapping matches isn't forwarded.
+// Nothing is forwarded: a request that would be is answered as where the upstream fails.
 fn response(alloc: Global, event: &Event) -> Result<Reply, AllocError> {
     match event {
         Event::Serve {
             request,
             answer: ServeAnswer::Stub(captured),
         } => stub_reply(alloc, captured.mapping.spec.spec(), request.request()),
+        Event::Serve {
+            answer: ServeAnswer::Proxy(_),
+            ..
+        } => error_reply(alloc, 502, ErrorCode::UpstreamFailed),
         _ => unmatched_reply(alloc),
     }
 }

@@ -22,6 +22,7 @@ refused escape method url body r error.UnknownMapping names holds = (r, names, h
 refused escape method url body r (error.Mapping why) names holds = (r, names, holds)
 refused escape method url body r (error.Matcher why) names holds = (r, names, holds)
 refused escape method url body r (error.State why) names holds = (r, names, holds)
+refused escape method url body r (error.Start why) names holds = (r, names, holds)
 refused escape method url body r error.OutOfMemory names holds = (r, names, holds)
 
 pub is_refused

@@ -1,6 +1,9 @@
 -- What an admin call is, with its parameters and what its body asks for, and why it is refused.
 use Rattle.std.specs.Prelude.{◌≡◌, ℕ, List, Some, None}
+use Rattle.admin_json.specs.Bodies.{IsRead, IsBodyError}
+use Rattle.admin_json.specs.Start.{reading_of_start}
 use Rattle.admin_json.specs.State.{AsksFor, IsStateError}
+use Rattle.admin_json.specs.declared.start.RecordingStart.{RecordingStart}
 use Rattle.admin_table.specs.Routes.{Names}
 use Rattle.admin_table.specs.Segment.{decoded}
 use Rattle.admin_routes.specs.declared.call.AdminCall.{AdminCall}
@@ -46,6 +49,11 @@ IsCallOf escape route.ListScenarios body found = found ≡ call.ListScenarios
 IsCallOf escape route.ResetScenarios body found = found ≡ call.ResetScenarios
 IsCallOf escape (route.SetScenario name) body found =
     (state : List ℕ) × AsksFor body state × (found ≡ call.SetScenario (decoded name) state)
+IsCallOf escape route.StartRecording body found =
+    (start : RecordingStart) × IsRead reading_of_start body (Read start) × (found ≡ call.StartRecording start)
+IsCallOf escape route.StopRecording body found = found ≡ call.StopRecording
+IsCallOf escape route.ReadRecordingStatus body found = found ≡ call.ReadRecordingStatus
+IsCallOf escape route.ReadRecordingHar body found = found ≡ call.ReadRecordingHar
 
 -- the id of the route is none
 abbrev pub HasNoId : Route → Type 0
@@ -54,7 +62,8 @@ HasNoId (route.EditMapping text) = parsed text ≡ None
 HasNoId (route.DeleteMapping text) = parsed text ≡ None
 HasNoId other = ⊥
 
--- the route takes a mapping, a request matcher, a state from its body; an id is judged before the body
+-- the body of the route is a mapping, a request matcher, a state, the settings of a recording; an id is
+-- judged before it
 abbrev pub TakesMapping : Route → Type 0
 TakesMapping route.AddMapping = Unit {0}
 TakesMapping (route.EditMapping text) = (id : List ℕ) × (parsed text ≡ Some id)
@@ -69,6 +78,10 @@ abbrev pub TakesState : Route → Type 0
 TakesState (route.SetScenario name) = Unit {0}
 TakesState other = ⊥
 
+abbrev pub TakesStart : Route → Type 0
+TakesStart route.StartRecording = Unit {0}
+TakesStart other = ⊥
+
 -- why the call of the route isn't made of this body; memory may also run out where the name of a scenario is decoded
 abbrev pub IsRefusalOf : Escape → Route → List ℕ → AdminError → Type 0
 IsRefusalOf escape found body error.UnknownCall = ⊥
@@ -76,6 +89,7 @@ IsRefusalOf escape found body error.UnknownMapping = HasNoId found
 IsRefusalOf escape found body (error.Mapping why) = TakesMapping found × IsDocumentError escape body why
 IsRefusalOf escape found body (error.Matcher why) = TakesMatcher found × IsRefused body why
 IsRefusalOf escape found body (error.State why) = TakesState found × IsStateError body why
+IsRefusalOf escape found body (error.Start why) = TakesStart found × IsBodyError reading_of_start body why
 IsRefusalOf escape found body error.OutOfMemory = TakesState found
 
 -- the method, the URL and the body are the call

@@ -10,6 +10,7 @@ ghost use Rattle.uuid.specs.Text.{parsed};
 
 use crate::call::AdminCall;
 use crate::error::AdminError;
+use admin_json::start::start_of;
 use admin_json::state::state_of;
 use admin_table::route::{Route, route_of};
 use admin_table::segment::Segment;
@@ -73,6 +74,10 @@ fn call_of(
         Route::ListScenarios => Ok(AdminCall::ListScenarios),
         Route::ResetScenarios => Ok(AdminCall::ResetScenarios),
         Route::SetScenario(name) => set_of(alloc, name, body),
+        Route::StartRecording => start_recording_of(alloc, body),
+        Route::StopRecording => Ok(AdminCall::StopRecording),
+        Route::ReadRecordingStatus => Ok(AdminCall::ReadRecordingStatus),
+        Route::ReadRecordingHar => Ok(AdminCall::ReadRecordingHar),
     }
 }
 
@@ -149,4 +154,14 @@ fn set_of(alloc: Global, segment: &Segment<'_>, body: &[u8]) -> Result<AdminCall
     let state = state_of(alloc, body)?;
     let name = segment.decoded(alloc)?;
     Ok(AdminCall::SetScenario { name, state })
+}
+
+fn start_recording_of(alloc: Global, body: &[u8]) -> Result<AdminCall, AdminError>
+    ensures ok { (escape : Escape) → IfOk result (IsCallOf escape route.StartRecording body.now) }
+    ensures error { (escape : Escape) → IfErr result (IsRefusalOf escape route.StartRecording body.now) }
+{
+    match start_of(alloc, body) {
+        Ok(start) => Ok(AdminCall::StartRecording(start)),
+        Err(error) => Err(AdminError::Start(error)),
+    }
 }

@@ -1,4 +1,5 @@
 // The admin calls.
+use admin_json::start::RecordingStart;
 use mapping_model::mapping_id::MappingId;
 use plain_text::text::Text;
 use request_match::ready_mapping::ReadyMapping;
@@ -31,4 +32,9 @@ pub enum AdminCall {
         /// `Started` where no state was asked for.
         state: Text,
     },
+    StartRecording(RecordingStart),
+    StopRecording,
+    ReadRecordingStatus,
+    /// The recording that is on, or else the last one, as a HAR document.
+    ReadRecordingHar,
 }

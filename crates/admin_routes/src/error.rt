@@ -17,6 +17,7 @@ pub enum AdminError {
     Mapping(MappingError),
     Matcher(RequestDocumentError),
     State(BodyError),
+    Start(BodyError),
     /// Memory ran out where the name of a scenario was decoded. Where it ran out in a body, the body's error says so.
     OutOfMemory,
 }
@@ -33,6 +34,7 @@ impl AdminError {
             AdminError::Mapping(error) => error.error_code(),
             AdminError::Matcher(error) => error.error_code(),
             AdminError::State(error) => error.error_code(),
+            AdminError::Start(error) => error.error_code(),
             AdminError::OutOfMemory => ErrorCode::OutOfMemory,
         }
     }

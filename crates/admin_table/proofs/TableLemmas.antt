@@ -10,8 +10,8 @@ use Rattle.std.proofs.lemmas.List.Splits.{join_with_byte-slice_split, length-sli
 use Rattle.std.proofs.lemmas.Slice.Eq.{bytes_eq-Decides}
 use Rattle.admin_table.specs.Inner.Table.{is_admin_in, is_empty, place_in, place_below, one_segment, two_segments}
 use Rattle.admin_table.specs.Inner.Table.{three_segments, mapping_of, state_of, under_requests, under_scenarios}
-use Rattle.admin_table.specs.Inner.Table.{segments_at, IsPlace, route_at, route_in, when, mappings_at, mapping_at}
-use Rattle.admin_table.specs.Inner.Table.{requests_at}
+use Rattle.admin_table.specs.Inner.Table.{under_recordings, segments_at, IsPlace}
+use Rattle.admin_table.specs.Inner.Table.{route_at, route_in, when, mappings_at, mapping_at, requests_at}
 use Rattle.admin_table.specs.Routes.{method_of, path_below, HasParameter, Names, IsAdmin}
 use Rattle.admin_table.specs.declared.route.Place.{Place}
 use Rattle.admin_table.specs.declared.route.Place.TheVariants as place
@@ -110,12 +110,23 @@ scenarios_found first second p same =
     pick _ _ _ p (λ e. at_place (first ∷ second ∷ []) place.ScenariosReset p tt (two first second same e))
     (λ e. absurd (nothing p e))
 
+recordings_found
+    : (first second : List ℕ) (p : Place) → first ≡ codes "recordings" → under_recordings second ≡ Some p
+    → IsAt (first ∷ second ∷ []) p
+recordings_found first second p same =
+    pick _ _ _ p (λ e. at_place (first ∷ second ∷ []) place.RecordingStart p tt (two first second same e))
+    (pick _ _ _ p (λ e. at_place (first ∷ second ∷ []) place.RecordingStop p tt (two first second same e))
+    (pick _ _ _ p (λ e. at_place (first ∷ second ∷ []) place.RecordingStatus p tt (two first second same e))
+    (pick _ _ _ p (λ e. at_place (first ∷ second ∷ []) place.RecordingHar p tt (two first second same e))
+    (λ e. absurd (nothing p e)))))
+
 two_found : (first second : List ℕ) (p : Place) → two_segments first second ≡ Some p
     → IsAt (first ∷ second ∷ []) p
 two_found first second p =
     pick _ _ _ p (λ e. mapping_found first second p (is_text e))
     (pick _ _ _ p (λ e. requests_found first second p (is_text e))
-    (pick _ _ _ p (λ e. scenarios_found first second p (is_text e)) (λ e. absurd (nothing p e))))
+    (pick _ _ _ p (λ e. scenarios_found first second p (is_text e))
+    (pick _ _ _ p (λ e. recordings_found first second p (is_text e)) (λ e. absurd (nothing p e)))))
 
 state_found
     : (first second third : List ℕ) (p : Place) → first ≡ codes "scenarios" → third ≡ codes "state"
@@ -238,6 +249,14 @@ route_found method place.ScenariosReset r holds e =
     when_found method place.ScenariosReset route.ResetScenarios r tt refl e
 route_found method (place.ScenarioState name) r holds e =
     when_found method (place.ScenarioState name) (route.SetScenario name) r holds refl e
+route_found method place.RecordingStart r holds e =
+    when_found method place.RecordingStart route.StartRecording r tt refl e
+route_found method place.RecordingStop r holds e =
+    when_found method place.RecordingStop route.StopRecording r tt refl e
+route_found method place.RecordingStatus r holds e =
+    when_found method place.RecordingStatus route.ReadRecordingStatus r tt refl e
+route_found method place.RecordingHar r holds e =
+    when_found method place.RecordingHar route.ReadRecordingHar r tt refl e
 
 -- ---- the whole
 
@@ -280,6 +299,10 @@ in_table route.ListScenarios holds = refl
 in_table route.ResetScenarios holds = refl
 in_table (route.SetScenario []) holds = absurd (holds refl)
 in_table (route.SetScenario (b ∷ bs)) holds = refl
+in_table route.StartRecording holds = refl
+in_table route.StopRecording holds = refl
+in_table route.ReadRecordingStatus holds = refl
+in_table route.ReadRecordingHar holds = refl
 
 -- what is named is looked up
 looked_up

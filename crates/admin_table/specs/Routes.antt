@@ -1,5 +1,4 @@
--- The table of the admin calls (WireMock's documentation, "Admin API"): the method and the path of each. The calls
--- under `/recordings` aren't in it yet.
+-- The table of the admin calls (WireMock's documentation, "Admin API"): the method and the path of each.
 use Rattle.std.specs.Prelude.{◌≡◌, ◌≢◌, ℕ, List, [], ◌∷◌, codes}
 use Rattle.std.specs.List.{slice_split}
 use Rattle.admin_table.specs.declared.route.Route.{Route}
@@ -9,6 +8,8 @@ use Rattle.admin_table.specs.declared.route.Route.TheVariants.{ResetMappings, Re
 use Rattle.admin_table.specs.declared.route.Route.TheVariants.{ListRequests, ClearRequests, ListUnmatched}
 use Rattle.admin_table.specs.declared.route.Route.TheVariants.{FindRequests, CountRequests}
 use Rattle.admin_table.specs.declared.route.Route.TheVariants.{ListScenarios, SetScenario}
+use Rattle.admin_table.specs.declared.route.Route.TheVariants.{StartRecording, StopRecording}
+use Rattle.admin_table.specs.declared.route.Route.TheVariants.{ReadRecordingStatus, ReadRecordingHar}
 use Rattle.mock_request.specs.Url.{is_slash, path_of}
 
 abbrev pub method_of : Route → List ℕ
@@ -28,6 +29,10 @@ method_of CountRequests = codes "POST"
 method_of ListScenarios = codes "GET"
 method_of ResetScenarios = codes "POST"
 method_of (SetScenario name) = codes "PUT"
+method_of StartRecording = codes "POST"
+method_of StopRecording = codes "POST"
+method_of ReadRecordingStatus = codes "GET"
+method_of ReadRecordingHar = codes "GET"
 
 -- the segments of its path after `/__admin`, as they were sent: escapes aren't decoded
 abbrev pub path_below : Route → List (List ℕ)
@@ -47,6 +52,10 @@ path_below CountRequests = codes "requests" ∷ codes "count" ∷ []
 path_below ListScenarios = codes "scenarios" ∷ []
 path_below ResetScenarios = codes "scenarios" ∷ codes "reset" ∷ []
 path_below (SetScenario name) = codes "scenarios" ∷ name ∷ codes "state" ∷ []
+path_below StartRecording = codes "recordings" ∷ codes "start" ∷ []
+path_below StopRecording = codes "recordings" ∷ codes "stop" ∷ []
+path_below ReadRecordingStatus = codes "recordings" ∷ codes "status" ∷ []
+path_below ReadRecordingHar = codes "recordings" ∷ codes "har" ∷ []
 
 -- what is in the place of an id or of a name isn't empty
 abbrev pub HasParameter : Route → Type 0

@@ -3,7 +3,8 @@ ghost use Rattle.std.specs.Prelude.{◌≡◌, ◌↔◌, [], ◌∷◌, MatchOp
 ghost use Rattle.std.specs.List.{slice_split};
 ghost use Rattle.admin_table.specs.Inner.Table.{is_admin_in, place_in, place_below, one_segment, two_segments};
 ghost use Rattle.admin_table.specs.Inner.Table.{three_segments, mapping_of, state_of, under_requests, under_scenarios};
-ghost use Rattle.admin_table.specs.Inner.Table.{route_in, route_at, when, mappings_at, mapping_at, requests_at};
+ghost use Rattle.admin_table.specs.Inner.Table.{under_recordings, route_in, route_at, when, mappings_at, mapping_at};
+ghost use Rattle.admin_table.specs.Inner.Table.{requests_at};
 ghost use Rattle.admin_table.specs.Routes.{IsAdmin, Names};
 ghost use Rattle.mock_request.specs.Url.{is_slash, path_of};
 
@@ -28,6 +29,10 @@ pub enum Route<'p> {
     ListScenarios,
     ResetScenarios,
     SetScenario(Segment<'p>),
+    StartRecording,
+    StopRecording,
+    ReadRecordingStatus,
+    ReadRecordingHar,
 }
 
 /// A path of the table, whatever the method.
@@ -43,6 +48,10 @@ enum Place<'p> {
     Scenarios,
     ScenariosReset,
     ScenarioState(Segment<'p>),
+    RecordingStart,
+    RecordingStop,
+    RecordingStatus,
+    RecordingHar,
 }
 
 /// The call that the method and the path of the URL name; its query is ignored. Takes no memory.
@@ -158,6 +167,8 @@ fn two_segments<'p>(first: &str, second: &'p str) -> Option<Place<'p>>
         under_requests(second)
     } else if first == "scenarios" {
         under_scenarios(second)
+    } else if first == "recordings" {
+        under_recordings(second)
     } else {
         None
     }
@@ -215,6 +226,22 @@ fn under_scenarios<'p>(second: &str) -> Option<Place<'p>>
     }
 }
 
+fn under_recordings<'p>(second: &str) -> Option<Place<'p>>
+    ensures { result ≡ under_recordings second.now }
+{
+    if second == "start" {
+        Some(Place::RecordingStart)
+    } else if second == "stop" {
+        Some(Place::RecordingStop)
+    } else if second == "status" {
+        Some(Place::RecordingStatus)
+    } else if second == "har" {
+        Some(Place::RecordingHar)
+    } else {
+        None
+    }
+}
+
 fn route_at<'p>(method: &str, place: Place<'p>) -> Option<Route<'p>>
     ensures { result ≡ route_at method.now place.entry }
 {
@@ -229,6 +256,10 @@ fn route_at<'p>(method: &str, place: Place<'p>) -> Option<Route<'p>>
         Place::Scenarios => when(method, "GET", Route::ListScenarios),
         Place::ScenariosReset => when(method, "POST", Route::ResetScenarios),
         Place::ScenarioState(name) => when(method, "PUT", Route::SetScenario(name)),
+        Place::RecordingStart => when(method, "POST", Route::StartRecording),
+        Place::RecordingStop => when(method, "POST", Route::StopRecording),
+        Place::RecordingStatus => when(method, "GET", Route::ReadRecordingStatus),
+        Place::RecordingHar => when(method, "GET", Route::ReadRecordingHar),
     }
 }
 

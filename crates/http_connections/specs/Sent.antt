@@ -1,11 +1,27 @@
--- What is sent for a request.
+-- What becomes of a request, and what is sent for it.
 use Rattle.std.specs.Prelude.{ℕ, List}
 use Rattle.http.specs.declared.request.Request.{Request}
 use Rattle.http.specs.declared.response.Response.{Response}
 use Rattle.http_body_util.specs.declared.full.Full.{Full}
+use Rattle.http_connections.specs.declared.begun.Begun.{Begun}
+use Rattle.http_connections.specs.declared.begun.Begun.TheVariants.{Answered, Forwarding}
 use Rattle.http_messages.specs.Wire.{IsSent}
 
 -- it is what is sent of an answer that may be given to the message
 abbrev pub IsSentFor : (Request (List ℕ) → Response (Full (List ℕ)) → Type 0) → Request (List ℕ)
     → Response (Full (List ℕ)) → Type 0
 IsSentFor gives message made = (answer : Response (Full (List ℕ))) × gives message answer × IsSent answer made
+
+-- the message has an answer that may be given to it, or an exchange by which it may be forwarded, and which
+-- may be polled
+abbrev pub IsBegun : {E : Type 0} → (Request (List ℕ) → Response (Full (List ℕ)) → Type 0)
+    → (Request (List ℕ) → E → Type 0) → (E → Type 0) → Request (List ℕ) → Begun E → Type 0
+IsBegun gives forwards can_poll message (Answered answer) = gives message answer
+IsBegun gives forwards can_poll message (Forwarding exchange) =
+    forwards message exchange.value × can_poll exchange.value
+
+-- the exchange goes on from one by which the message may be forwarded: what it gives, that one gives
+abbrev pub IsExchangeFor : {E Reply : Type 0} → (Request (List ℕ) → E → Type 0) → (E → Reply → Type 0)
+    → Request (List ℕ) → E → Type 0
+IsExchangeFor {E} {Reply} forwards gives message exchange =
+    (begun : E) × forwards message begun × ((reply : Reply) → gives exchange reply → gives begun reply)

@@ -6,7 +6,9 @@
 pub mod accepting;
 pub mod acceptor;
 pub mod answers;
+pub mod begun;
 pub mod connection_task;
+pub mod forwarding;
 pub mod seat_pool;
 pub mod seat_slot;
 pub mod serve_io;

@@ -1,9 +1,10 @@
 // Where a connection's seat lies, beside the site that it answers for.
 ghost use Rattle.std.specs.Prelude.{IfOk, IsTrue};
-ghost use Rattle.http_connections.specs.Sent.{IsSentFor};
-ghost use Rattle.http_messages.specs.Wire.{IsSent};
+ghost use Rattle.http_connections.specs.Sent.{IsBegun, IsSentFor};
+ghost use Rattle.http_connections.specs.Inner.Begun.{IsSentOf};
 
 use crate::answers::Answers;
+use crate::begun::Begun;
 use bytes::Bytes;
 use http::{Request, Response};
 use http_body_util::Full;
@@ -12,7 +13,8 @@ use http_messages::wire::{is_as_sent, sent};
 use std::alloc::Global;
 use std::sync::{Arc, Mutex, Wait};
 
-/// A site, and the place of one connection's seat. The seat stays in it while a request is answered.
+/// A site, and the place of one connection's seat. The seat stays in it. It is locked in each call, and not
+/// between the two calls for a request that is forwarded.
 #[derive(Drop)]
 pub struct SeatSlot<A: Answers> {
     site: Arc<A>,
@@ -38,45 +40,89 @@ impl<A: Answers> SeatSlot<A> {
         self.seat.lock(rt).take()
     }
 
-    /// What is sent of the answer to a request, by the seat.
-    pub fn answer<R: Wait>(
+    /// What is sent of the answer to a request, or the exchange that forwards it, by the seat.
+    pub fn begin<R: Wait>(
         &self,
         rt: &R,
         alloc: Global,
         request: &Request<Bytes>,
-    ) -> Result<Response<Full<Bytes>>, ServiceError>
-        ensures { IfOk result (IsSentFor A.gives request.now) }
+    ) -> Result<Begun<A::Exchange>, ServiceError>
+        ensures { IfOk result (IsBegun (IsSentFor A.gives) A.forwards A.Exchange.can_poll request.now) }
     {
-        let answer = self.answer_at_seat(rt, alloc, request);
+        let begun = self.begin_at_seat(rt, alloc, request);
         // Most answers are sent as they are, and aren't moved to see that.
-        if goes_as_it_is(&answer) {
-            return answer;
+        if goes_as_it_is(&begun) {
+            return begun;
         }
-        Ok(sent(alloc, answer?)?)
+        begun_anew(alloc, begun?)
     }
 
-    fn answer_at_seat<R: Wait>(
+    /// What is sent of the answer to a request that was forwarded, by the seat.
+    pub fn finish<R: Wait>(
+        &self,
+        rt: &R,
+        alloc: Global,
+        reply: A::Reply,
+    ) -> Result<Response<Full<Bytes>>, ServiceError>
+        ensures { (message : _) (exchange : _) → A.forwards message exchange
+            → A.Exchange.gives exchange reply → IfOk result (IsSentFor A.gives message) }
+    {
+        let response = self.finish_at_seat(rt, alloc, reply)?;
+        if is_as_sent(&response) {
+            return Ok(response);
+        }
+        Ok(sent(alloc, response)?)
+    }
+
+    fn begin_at_seat<R: Wait>(
         &self,
         rt: &R,
         alloc: Global,
         request: &Request<Bytes>,
-    ) -> Result<Response<Full<Bytes>>, ServiceError>
-        ensures { IfOk result (A.gives request.now) }
+    ) -> Result<Begun<A::Exchange>, ServiceError>
+        ensures { IfOk result (IsBegun A.gives A.forwards A.Exchange.can_poll request.now) }
     {
         let mut held = self.seat.lock(rt);
         match &mut *held {
-            Some(seat) => self.site.answer(rt, alloc, seat, request),
+            Some(seat) => self.site.begin(rt, alloc, seat, request),
+            None => Err(ServiceError::Broken),
+        }
+    }
+
+    fn finish_at_seat<R: Wait>(
+        &self,
+        rt: &R,
+        alloc: Global,
+        reply: A::Reply,
+    ) -> Result<Response<Full<Bytes>>, ServiceError>
+        ensures { (message : _) (exchange : _) → A.forwards message exchange
+            → A.Exchange.gives exchange reply → IfOk result (A.gives message) }
+    {
+        let mut held = self.seat.lock(rt);
+        match &mut *held {
+            Some(seat) => self.site.finish(rt, alloc, seat, reply),
             None => Err(ServiceError::Broken),
         }
     }
 }
 
-// Whether an answer is sent as it is, or there is none.
-fn goes_as_it_is(answer: &Result<Response<Full<Bytes>>, ServiceError>) -> bool
-    ensures { IsTrue result → IfOk answer.now (λ response. IsSent response response) }
+// Whether there is no answer, or one that is sent as it is.
+fn goes_as_it_is<E>(begun: &Result<Begun<E>, ServiceError>) -> bool
+    ensures { IsTrue result → IfOk begun.now (λ begun. IsSentOf begun begun) }
 {
-    match answer {
-        Ok(response) => is_as_sent(response),
+    match begun {
+        Ok(Begun::Answered(response)) => is_as_sent(response),
+        Ok(Begun::Forwarding(_exchange)) => true,
         Err(_error) => true,
+    }
+}
+
+// With what is sent of an answer in the place of it.
+fn begun_anew<E: Drop>(alloc: Global, begun: Begun<E>) -> Result<Begun<E>, ServiceError>
+    ensures { IfOk result (IsSentOf begun) }
+{
+    match begun {
+        Begun::Answered(response) => Ok(Begun::Answered(sent(alloc, response)?)),
+        Begun::Forwarding(exchange) => Ok(Begun::Forwarding(exchange)),
     }
 }

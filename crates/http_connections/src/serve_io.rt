@@ -65,6 +65,8 @@ pub(crate) fn builder<R: AllocGlobal + RandomSource>(rt: &R) -> io::Result<Build
     builder.max_headers(HEADER_LINES);
     // Without a clock there is no date to send.
     builder.auto_date_header(false);
+    // A client that has said all of its requests is still answered, also where an answer is awaited.
+    builder.half_close(true);
     Ok(builder)
 }
 

@@ -1,12 +1,15 @@
 // The requests of one connection.
-ghost use Rattle.std.specs.Prelude.{◌≡◌, ℕ, List, [], length, IfOk, IfSome, IsSome, Some};
+ghost use Rattle.std.specs.Prelude.{◌≡◌, ℕ, List, [], length, IfOk, IfSome, IsSome, IsSomeAnd, Some};
 ghost use Rattle.futures.specs.Poll.{IfReady, OnPending};
 ghost use Rattle.futures.specs.Task.{IsArmed, Keeps};
-ghost use Rattle.http_connections.specs.declared.service.Answering.TheVariants.{Made, Waiting};
+ghost use Rattle.http_connections.specs.declared.service.Answering.TheVariants.{Forwarding as Forwards, Made};
+ghost use Rattle.http_connections.specs.declared.service.Answering.TheVariants.{Waiting as Waits};
 ghost use Rattle.http.specs.Request.{head_of};
-ghost use Rattle.http_connections.specs.Sent.{IsSentFor};
+ghost use Rattle.http_connections.specs.Sent.{IsBegun, IsExchangeFor, IsSentFor};
 
 use crate::answers::Answers;
+use crate::begun::Begun;
+use crate::forwarding::Forwarding;
 use crate::seat_slot::SeatSlot;
 use bytes::{Bytes, BytesMut};
 use futures::task::{Context, Poll};
@@ -39,6 +42,8 @@ pub enum Answering<R, A: Answers, G> {
     Made(Option<Result<Response<Full<Bytes>>, ServiceError>>),
     /// The content is still to come. In a box, since hyper moves a future.
     Waiting(Box<Waiting<R, A, G>>),
+    /// It is forwarded.
+    Forwarding(Forwarding<R, A>),
 }
 
 /// A request, and what gathers its content.
@@ -72,14 +77,15 @@ where
     ghost calls = { λ _ request future. elim future [
       | Made made ↦ IfSome made
           (λ result. IfOk result (IsSentFor A.gives (record { head = head_of request; body = [] })))
-      | Waiting waiting ↦ head_of waiting.value.request ≡ head_of request
+      | Waits waiting ↦ head_of waiting.value.request ≡ head_of request
+      | Forwards forwarding ↦ A.forwards (record { head = head_of request; body = [] }) forwarding.exchange.value
     ] };
 
-    // A request without content is answered at once.
+    // A request without content is answered at once, or forwarded.
     fn call(&self, request: Request<Incoming<I>>) -> Self::Future {
         let (head, body) = request.into_parts();
         if body.is_end_stream() {
-            return Answering::Made(Some(self.answer(head)));
+            return self.answering(head);
         }
         match self.waiting(head, body) {
             Ok(waiting) => Answering::Waiting(waiting),
@@ -94,11 +100,29 @@ where
     A: Answers,
 {
     // The answer to a request without content.
-    fn answer(&self, head: Parts) -> Result<Response<Full<Bytes>>, ServiceError>
-        ensures { IfOk result (IsSentFor A.gives (record { head = head; body = [] })) }
+    fn answering<G>(&self, head: Parts) -> Answering<R, A, G>
+        ensures { elim result [
+          | Made made ↦ IsSomeAnd made (λ given. IfOk given (IsSentFor A.gives (record { head = head; body = [] })))
+          | Waits waiting ↦ ⊥
+          | Forwards forwarding ↦ A.forwards (record { head = head; body = [] }) forwarding.exchange.value
+              × A.Exchange.can_poll forwarding.exchange.value
+        ] }
     {
         let request = without_content(head);
-        self.slot.answer(&self.rt, self.rt.alloc(), &request)
+        match self.slot.begin(&self.rt, self.rt.alloc(), &request) {
+            Ok(Begun::Answered(response)) => Answering::Made(Some(Ok(response))),
+            Ok(Begun::Forwarding(exchange)) => match self.forwarding(exchange) {
+                Ok(forwarding) => Answering::Forwarding(forwarding),
+                Err(AllocError) => Answering::Made(Some(Err(ServiceError::OutOfMemory))),
+            },
+            Err(error) => Answering::Made(Some(Err(error))),
+        }
+    }
+
+    fn forwarding(&self, exchange: Box<A::Exchange>) -> Result<Forwarding<R, A>, AllocError>
+        ensures { IfOk result (λ forwarding. forwarding.exchange ≡ exchange) }
+    {
+        Ok(Forwarding::new(self.rt, Arc::try_clone(&self.slot)?, exchange))
     }
 
     // What waits for the content of a request. Not inlined: a function clears all its locals when it is entered, and
@@ -132,18 +156,39 @@ where
 {
     type Output = Result<Response<Full<Bytes>>, ServiceError>;
 
-    ghost can_poll = { elim [ Made made ↦ IsSome made | Waiting waiting ↦ G.can_poll waiting.value.content ] };
+    ghost can_poll = { elim [
+      | Made made ↦ IsSome made
+      | Waits waiting ↦ G.can_poll waiting.value.content
+      | Forwards forwarding ↦ A.Exchange.can_poll forwarding.exchange.value
+    ] };
 
     ghost gives = { λ f result. elim f [
       | Made made ↦ made ≡ Some result
-      | Waiting waiting ↦ IfOk result (λ made. (body : List ℕ)
+      | Waits waiting ↦ IfOk result (λ made. (body : List ℕ)
           × IsSentFor A.gives (record { head = head_of waiting.value.request; body = body }) made)
+      | Forwards forwarding ↦ (message : _)
+          → IsExchangeFor A.forwards A.Exchange.gives message forwarding.exchange.value
+          → IfOk result (IsSentFor A.gives message)
     ] };
 
     fn poll(&mut self, cx: &mut Context<'_>) -> Poll<Result<Response<Full<Bytes>>, ServiceError>> {
         match self {
             Answering::Made(made) => Poll::Ready(made.take().unwrap()),
-            Answering::Waiting(waiting) => waiting.poll(cx),
+            Answering::Waiting(waiting) => match waiting.poll(cx) {
+                Poll::Pending => Poll::Pending,
+                Poll::Ready(Err(error)) => Poll::Ready(Err(error)),
+                Poll::Ready(Ok(Begun::Answered(response))) => Poll::Ready(Ok(response)),
+                Poll::Ready(Ok(Begun::Forwarding(exchange))) => {
+                    let mut forwarding = match waiting.forwarding(exchange) {
+                        Ok(forwarding) => forwarding,
+                        Err(AllocError) => return Poll::Ready(Err(ServiceError::OutOfMemory)),
+                    };
+                    let polled = forwarding.poll(cx);
+                    *self = Answering::Forwarding(forwarding);
+                    polled
+                }
+            },
+            Answering::Forwarding(forwarding) => forwarding.poll(cx),
         }
     }
 }
@@ -153,35 +198,43 @@ where
     R: Wait + AllocGlobal + Copy + Drop,
     A: Answers,
 {
-    // The answer, once gathering the content has ended. Not inlined, as `waiting`.
+    // What becomes of the request, once gathering the content has ended. Not inlined, as `waiting`.
     #[inline(never)]
     fn poll<E: Drop>(
         &mut self,
         cx: &mut Context<'_>,
-    ) -> Poll<Result<Response<Full<Bytes>>, ServiceError>>
+    ) -> Poll<Result<Begun<A::Exchange>, ServiceError>>
     where
         G: Future<Output = Result<Collected, LimitedError<E>>>,
         requires { G.can_poll self.old.content }
-        ensures value { IfReady result (λ result. IfOk result (λ made. (body : List ℕ)
-            × IsSentFor A.gives (record { head = head_of self.old.request; body = body }) made)) }
+        ensures value { IfReady result (λ result. IfOk result (λ begun. (body : List ℕ)
+            × IsBegun (IsSentFor A.gives) A.forwards A.Exchange.can_poll
+            (record { head = head_of self.old.request; body = body }) begun)) }
         ensures again { OnPending result (G.can_poll self.new.content) }
         ensures same { OnPending result (head_of self.new.request ≡ head_of self.old.request) }
         ensures registered { OnPending result (IsArmed cx.new) }
         ensures kept { Keeps cx.old cx.new }
     {
         let gathered = ready!(self.content.poll(cx));
-        Poll::Ready(self.answer(gathered))
+        Poll::Ready(self.begin(gathered))
     }
 
-    fn answer<E: Drop>(
+    fn begin<E: Drop>(
         &mut self,
         gathered: Result<Collected, LimitedError<E>>,
-    ) -> Result<Response<Full<Bytes>>, ServiceError>
-        ensures { IfOk result (λ made. (body : List ℕ)
-            × IsSentFor A.gives (record { head = head_of self.old.request; body = body }) made) }
+    ) -> Result<Begun<A::Exchange>, ServiceError>
+        ensures { IfOk result (λ begun. (body : List ℕ)
+            × IsBegun (IsSentFor A.gives) A.forwards A.Exchange.can_poll
+            (record { head = head_of self.old.request; body = body }) begun) }
     {
         *self.request.body_mut() = bytes_of(self.rt.alloc(), gathered)?;
-        self.slot.answer(&self.rt, self.rt.alloc(), &self.request)
+        self.slot.begin(&self.rt, self.rt.alloc(), &self.request)
+    }
+
+    fn forwarding(&self, exchange: Box<A::Exchange>) -> Result<Forwarding<R, A>, AllocError>
+        ensures { IfOk result (λ forwarding. forwarding.exchange ≡ exchange) }
+    {
+        Ok(Forwarding::new(self.rt, Arc::try_clone(&self.slot)?, exchange))
     }
 }
 

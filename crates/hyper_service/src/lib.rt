@@ -7,3 +7,4 @@ mod report;
 pub mod serve_io;
 pub mod serve_on;
 pub mod site_answers;
+pub mod site_exchange;

@@ -3,11 +3,13 @@ ghost use Rattle.std.specs.Prelude.{◌≤◌};
 
 use crate::report::report;
 use crate::site_answers::SiteAnswers;
+use answering::clock::Clock;
 use answering::site::Site;
 use command_output::error::CommandError;
 use command_output::status::FAILURE;
 use error_code::error_code::ErrorCode;
 use http_connections::serve_on::{End, Served, serve_all};
+use proxy_client::forwards::Forwards;
 use shared_book::gate::Gate;
 use shared_book::origin::Origin;
 use shared_book::seat::Seat;
@@ -19,27 +21,29 @@ use std::io;
 use std::io::Write;
 use std::random::RandomSource;
 use std::sync::{Arc, Wait};
-use std::time::Clock;
 use tokio::net::TcpListener;
 use tokio::runtime::LocalRuntime;
 
 /// Serves the connections of a listener, as many as are wanted, each with a seat of its own, and settles once all have
-/// ended. Writes where it listens before it accepts the first, how many events were settled, and an error to `err`.
-/// Gives the exit status.
-pub fn serve_on<R, L, G, O, E>(
+/// ended. Requests that are to be forwarded are handed to `forwarder`. Writes where it listens before it accepts the
+/// first, how many events were settled, and an error to `err`. Gives the exit status.
+pub fn serve_on<R, L, G, C, F, O, E>(
     rt: R,
     runtime: &mut LocalRuntime,
     listener: TcpListener,
-    site: Site<L, G>,
+    site: Site<L, G, C>,
+    forwarder: F,
     seat: Seat<L>,
     connections: Option<u64>,
     out: &mut O,
     err: &mut E,
 ) -> u8
 where
-    R: Wait + Clock + RandomSource + AllocGlobal + Copy + Drop,
+    R: Wait + std::time::Clock + RandomSource + AllocGlobal + Copy + Drop,
     L: Origin,
     G: Gate + Drop,
+    C: Clock + Drop,
+    F: Forwards,
     O: Write,
     E: Write,
     ensures { result ≤ 1 }
@@ -47,7 +51,7 @@ where
     if announce(&listener, out).is_err() {
         return FAILURE;
     }
-    match serve_site(rt, runtime, listener, site, seat, connections) {
+    match serve_site(rt, runtime, listener, site, forwarder, seat, connections) {
         Ok((settled, end)) => report(settled, end, out, err),
         Err(_error) => {
             CommandError::from(ErrorCode::OutOfMemory).report(err);
@@ -64,21 +68,24 @@ fn announce<O: Write>(listener: &TcpListener, out: &mut O) -> io::Result<()> {
 }
 
 // How many events were settled, or why not, and why no more connections were accepted.
-fn serve_site<R, L, G>(
+fn serve_site<R, L, G, C, F>(
     rt: R,
     runtime: &mut LocalRuntime,
     listener: TcpListener,
-    site: Site<L, G>,
+    site: Site<L, G, C>,
+    forwarder: F,
     seat: Seat<L>,
     connections: Option<u64>,
 ) -> Result<(Result<u64, SettleRefusal>, End), AllocError>
 where
-    R: Wait + Clock + RandomSource + AllocGlobal + Copy + Drop,
+    R: Wait + std::time::Clock + RandomSource + AllocGlobal + Copy + Drop,
     L: Origin,
     G: Gate + Drop,
+    C: Clock + Drop,
+    F: Forwards,
 {
     let book = site.book.try_clone()?;
-    let answers = SiteAnswers::new(Arc::new(rt.alloc(), site)?);
+    let answers = SiteAnswers::new(Arc::new(rt.alloc(), site)?, forwarder);
     let answers = Arc::new(rt.alloc(), answers)?;
     let Served { seats, end } = serve_all(rt, runtime, listener, &answers, seat, connections)?;
     Ok((events(&rt, rt.alloc(), book, seats), end))

@@ -3,6 +3,7 @@ ghost use Rattle.std.specs.Prelude.{◌≡◌, ◌<◌, ◌≤◌};
 
 use crate::arguments::ServeArguments;
 use crate::book::book_of;
+use answering::clock::SystemClock;
 use answering::site::Site;
 use command_output::error::CommandError;
 use command_output::files::FileReader;
@@ -10,6 +11,9 @@ use command_output::output::put;
 use command_output::status::FAILURE;
 use error_code::error_code::ErrorCode;
 use hyper_service::serve_on::serve_on;
+use proxy_client::client::{Client, SILENCE_SECONDS};
+use proxy_client::counted::TURN_LIMIT;
+use proxy_client::forwarder::Forwarder;
 use shared_book::gate::NoGate;
 use shared_book::origin::Origin;
 use shared_book::shared_book::SharedBook;
@@ -21,7 +25,7 @@ use std::net::{Ipv4Addr, Net, SocketAddr};
 use std::random::RandomSource;
 use std::sync::Wait;
 use std::sync::ledger::Blank;
-use std::time::Clock;
+use std::time::{Clock, Duration};
 use stub_book::book::Book;
 use stub_response::limits::Limits;
 use tokio::net::TcpListener;
@@ -72,7 +76,7 @@ where
         CommandError::from(ErrorCode::OutOfMemory).report(err);
         return FAILURE;
     };
-    let (mut runtime, listener) = match listen(&rt, arguments.port) {
+    let (mut runtime, listener, forwarder) = match listen(rt, arguments.port) {
         Ok(listening) => listening,
         Err(error) => {
             report(&error, err);
@@ -84,12 +88,15 @@ where
         limits: Limits::usual(),
         escape: arguments.escape,
         gate: NoGate,
+        clock: SystemClock::new(rt),
+        turns: TURN_LIMIT,
     };
     serve_on(
         rt,
         &mut runtime,
         listener,
         site,
+        forwarder,
         seat,
         arguments.connections,
         out,
@@ -97,14 +104,18 @@ where
     )
 }
 
-fn listen<R>(rt: &R, port: u16) -> io::Result<(LocalRuntime, TcpListener)>
+// A listener of a runtime, and what forwards requests over it.
+fn listen<R>(rt: R, port: u16) -> io::Result<(LocalRuntime, TcpListener, Forwarder<R>)>
 where
-    R: Net + Clock + RandomSource + AllocGlobal,
+    R: Net + Clock + RandomSource + AllocGlobal + Copy + Drop,
 {
-    let runtime = LocalRuntime::new(rt)?;
+    let runtime = LocalRuntime::new(&rt)?;
     let address = SocketAddr::from((Ipv4Addr::LOCALHOST, port));
-    let listener = TcpListener::bind(rt, address, runtime.handle().reactor())?;
-    Ok((runtime, listener))
+    let listener = TcpListener::bind(&rt, address, runtime.handle().reactor())?;
+    let client = Client::new(rt, TURN_LIMIT, Duration::from_secs(SILENCE_SECONDS))?;
+    let handle = runtime.handle().clone()?;
+    let forwarder = Forwarder::new(client, handle, listener.local_addr()?);
+    Ok((runtime, listener, forwarder))
 }
 
 // Why it can't listen.

@@ -1,4 +1,9 @@
 // What forwards the requests of a server over connections.
+ghost use Rattle.std.specs.Prelude.{◌≡◌, Some};
+ghost use Rattle.proxy_client.specs.Messages.{IsForwarded};
+ghost use Rattle.proxy_client.specs.declared.stage.Stage.TheVariants.{Connecting};
+ghost use Rattle.proxy_client.specs.declared.stage.Start.{Start as Begun};
+
 use crate::address::address_of;
 use crate::client::{Client, Exchange};
 use crate::error::ProxyError;
@@ -33,14 +38,24 @@ impl<R> Forwarder<R> {
 impl<R: Clock + Net + AllocGlobal + Copy + Drop> Forwards for Forwarder<R> {
     type Exchange = Exchange<R, ConnectFuture, TcpStream>;
 
+    ghost sends = { λ target request exchange. (connecting : _) × (start : Begun)
+        × (exchange.inner ≡ Connecting connecting (Some start)) × IsForwarded target request start.message };
+
     fn exchange(
         &self,
         target: &Target,
         request: &Snapshot,
     ) -> Result<Exchange<R, ConnectFuture, TcpStream>, ProxyError> {
-        if address_of(target) == self.own {
+        if is_own(address_of(target), self.own) {
             return Err(ProxyError::UpstreamFailed);
         }
         self.client.connect(&self.handle, target, request)
     }
+}
+
+// Whether a connection to that address comes to the server that listens there. One to an unspecified address, as
+// 0.0.0.0, comes to the machine itself, and one to an IPv4 address that is written as IPv6 to that IPv4 address.
+fn is_own(target: SocketAddr, own: SocketAddr) -> bool {
+    let ip = target.ip().to_canonical();
+    target.port() == own.port() && (ip == own.ip() || ip.is_unspecified())
 }

@@ -1,5 +1,6 @@
 // What forwards the requests of a server.
-ghost use Rattle.std.specs.Prelude.{IfOk};
+ghost use Rattle.std.specs.Prelude.{ℕ, List, IfOk, ⊤};
+ghost use Rattle.mock_request.specs.Request.{Request};
 ghost use Rattle.proxy_client.specs.Messages.{IsSomeReply};
 
 use crate::error::ProxyError;
@@ -10,14 +11,19 @@ use recorder::target::Target;
 
 /// Forwards requests to their targets.
 pub trait Forwards: Drop {
-    ghost use Rattle.std.specs.Prelude.{IfOk};
+    ghost use Rattle.std.specs.Prelude.{ℕ, List, IfOk, ⊤};
+    ghost use Rattle.mock_request.specs.Request.{Request};
     ghost use Rattle.proxy_client.specs.Messages.{IsSomeReply};
 
     type Exchange: Future<Output = Result<Reply, ProxyError>>;
 
+    /// By the exchange the request may be sent to the target.
+    ghost sends: { List ℕ → Request → Self.Exchange → Type 0 } = { λ _ _ _. ⊤ };
+
     /// The exchange for a request with its target. It is a future that never blocks.
     fn exchange(&self, target: &Target, request: &Snapshot) -> Result<Self::Exchange, ProxyError>
         ensures can_poll { IfOk result Self.Exchange.can_poll }
+        ensures sends { IfOk result (sends target.now request.now) }
         ensures gives { IfOk result (λ exchange. (given : _)
             → Self.Exchange.gives exchange given → IfOk given IsSomeReply) };
 }

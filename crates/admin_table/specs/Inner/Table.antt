@@ -26,6 +26,13 @@ under_requests second =
 abbrev pub under_scenarios : List ℕ → Option Place
 under_scenarios second = if bytes_eq second (codes "reset") then Some place.ScenariosReset else None
 
+abbrev pub under_recordings : List ℕ → Option Place
+under_recordings second =
+    if bytes_eq second (codes "start") then Some place.RecordingStart
+    else (if bytes_eq second (codes "stop") then Some place.RecordingStop
+    else (if bytes_eq second (codes "status") then Some place.RecordingStatus
+    else (if bytes_eq second (codes "har") then Some place.RecordingHar else None)))
+
 abbrev pub one_segment : List ℕ → Option Place
 one_segment first =
     if bytes_eq first (codes "mappings") then Some place.Mappings
@@ -37,7 +44,8 @@ abbrev pub two_segments : List ℕ → List ℕ → Option Place
 two_segments first second =
     if bytes_eq first (codes "mappings") then mapping_of second
     else (if bytes_eq first (codes "requests") then under_requests second
-    else (if bytes_eq first (codes "scenarios") then under_scenarios second else None))
+    else (if bytes_eq first (codes "scenarios") then under_scenarios second
+    else (if bytes_eq first (codes "recordings") then under_recordings second else None)))
 
 abbrev pub three_segments : List ℕ → List ℕ → List ℕ → Option Place
 three_segments first second third =
@@ -79,6 +87,10 @@ segments_at place.Count = codes "requests" ∷ codes "count" ∷ []
 segments_at place.Scenarios = codes "scenarios" ∷ []
 segments_at place.ScenariosReset = codes "scenarios" ∷ codes "reset" ∷ []
 segments_at (place.ScenarioState name) = codes "scenarios" ∷ name ∷ codes "state" ∷ []
+segments_at place.RecordingStart = codes "recordings" ∷ codes "start" ∷ []
+segments_at place.RecordingStop = codes "recordings" ∷ codes "stop" ∷ []
+segments_at place.RecordingStatus = codes "recordings" ∷ codes "status" ∷ []
+segments_at place.RecordingHar = codes "recordings" ∷ codes "har" ∷ []
 
 abbrev pub IsPlace : Place → Type 0
 IsPlace (place.Mapping id) = id ≢ []
@@ -119,6 +131,10 @@ route_at method place.Count = when method (codes "POST") route.CountRequests
 route_at method place.Scenarios = when method (codes "GET") route.ListScenarios
 route_at method place.ScenariosReset = when method (codes "POST") route.ResetScenarios
 route_at method (place.ScenarioState name) = when method (codes "PUT") (route.SetScenario name)
+route_at method place.RecordingStart = when method (codes "POST") route.StartRecording
+route_at method place.RecordingStop = when method (codes "POST") route.StopRecording
+route_at method place.RecordingStatus = when method (codes "GET") route.ReadRecordingStatus
+route_at method place.RecordingHar = when method (codes "GET") route.ReadRecordingHar
 
 abbrev pub route_in : List ℕ → List (List ℕ) → Option Route
 route_in method segments = option_and_then (route_at method) (place_in segments)

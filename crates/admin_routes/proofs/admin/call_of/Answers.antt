@@ -17,3 +17,11 @@ returns-in-SetScenario-clause-ok c = rw c.in-SetScenario.is (c.set_of.ensures.ok
 
 pub returns-in-SetScenario-clause-error : goal.returns-in-SetScenario-clause-error
 returns-in-SetScenario-clause-error c = rw c.in-SetScenario.is (c.set_of.ensures.error c.args.escape)
+
+pub returns-in-StartRecording-clause-ok : goal.returns-in-StartRecording-clause-ok
+returns-in-StartRecording-clause-ok c =
+    rw c.in-StartRecording.is (c.start_recording_of.ensures.ok c.args.escape)
+
+pub returns-in-StartRecording-clause-error : goal.returns-in-StartRecording-clause-error
+returns-in-StartRecording-clause-error c =
+    rw c.in-StartRecording.is (c.start_recording_of.ensures.error c.args.escape)

@@ -1,0 +1,58 @@
+-- What is answered from a reading of recordings is what the past that was read says.
+use Rattle.std.proofs.Common.{◌≡◌, ◌⊎◌, List, Option, Some, None, Result, Ok, Err, IfOk, IfErr, inl, inr}
+use Rattle.std.proofs.Common.{subst}
+use Rattle.std.specs.declared.alloc.AllocError.{AllocError}
+use Rattle.admin_answers.proofs.ReadLemmas.{said}
+use Rattle.admin_answers.specs.Answers.{InPast, IsReadReply}
+use Rattle.admin_answers.specs.JsonReply.{IsJsonReply}
+use Rattle.admin_answers.specs.Recordings.{IsHarReply, HasNoHar}
+use Rattle.admin_answers.specs.declared.error.SharedError.{SharedError}
+use Rattle.admin_json.specs.Recordings.{json_of_status}
+use Rattle.admin_routes.specs.declared.call.AdminCall.TheVariants as call
+use Rattle.error_code.specs.declared.error_code.ErrorCode.TheVariants as code
+use Rattle.mapping_model.specs.declared.reply.Reply.{Reply}
+use Rattle.recorder.specs.Recording.{session_of}
+use Rattle.recorder.specs.declared.recording.Recording.{Recording}
+use Rattle.recorder.specs.declared.recording.RecordingStatus.{RecordingStatus}
+use Rattle.request_journal.specs.Past.{Past}
+use Rattle.request_journal.specs.Recording.{recording}
+use Rattle.shared_book.specs.Reading.{IsRead}
+use Rattle.shared_book.specs.declared.book_read.BookRead.TheVariants as read
+use Rattle.shared_book.specs.declared.book_read.ReadAnswer.TheVariants as answer
+use Rattle.shared_book.specs.declared.book_read.Reading.{Reading}
+
+pub recording_status
+    : (origin : Past) (found : RecordingStatus) (reading : Reading) (result : Result Reply AllocError)
+    → IsRead origin read.RecordingStatus reading → reading.answer ≡ answer.RecordingStatus found
+    → IfOk result (IsJsonReply 200 (json_of_status found))
+    → IfOk result (λ reply. InPast origin (IsReadReply call.ReadRecordingStatus reply))
+recording_status origin found reading (Ok reply) is e json = (
+  is.past,
+  is.reached,
+  subst (λ s. IsJsonReply 200 (json_of_status s) reply) (said origin read.RecordingStatus reading _ is e) json,
+)
+recording_status origin found reading (Err why) is e json = tt
+
+pub recording_har
+    : (origin : Past) (kept : Recording) (reading : Reading) (result : Result Reply SharedError)
+    → IsRead origin read.Recording reading → reading.answer ≡ answer.Recording kept
+    → IfOk result (IsHarReply (session_of kept))
+    → IfOk result (λ reply. InPast origin (IsReadReply call.ReadRecordingHar reply))
+recording_har origin kept reading (Ok reply) is e har =
+    (is.past, is.reached, subst (λ r. IsHarReply (session_of r) reply) (said origin read.Recording reading _ is e) har)
+recording_har origin kept reading (Err why) is e har = tt
+
+pub no_har
+    : (origin : Past) (kept : Recording) (reading : Reading) (result : Result Reply SharedError)
+    → IsRead origin read.Recording reading → reading.answer ≡ answer.Recording kept
+    → IfErr result (λ error. (error.code ≡ code.OutOfMemory) ⊎ HasNoHar (session_of kept) error.code)
+    → IfErr result (λ error. (error.code ≡ code.OutOfMemory)
+    ⊎ InPast origin (λ past. HasNoHar (session_of (recording past)) error.code))
+no_har origin kept reading (Ok reply) is e why = tt
+no_har origin kept reading (Err error) is e (inl memory) = inl memory
+no_har origin kept reading (Err error) is e (inr none) =
+    inr (
+      is.past,
+      is.reached,
+      subst (λ r. HasNoHar (session_of r) error.code) (said origin read.Recording reading _ is e) none,
+    )

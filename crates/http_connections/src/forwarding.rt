@@ -1,0 +1,50 @@
+// Requests that are forwarded.
+ghost use Rattle.std.specs.Prelude.{◌≡◌, IfOk};
+ghost use Rattle.http_connections.specs.Sent.{IsExchangeFor, IsSentFor};
+
+use crate::answers::Answers;
+use crate::seat_slot::SeatSlot;
+use bytes::Bytes;
+use futures::task::{Context, Poll};
+use futures::{Future, ready};
+use http::Response;
+use http_body_util::Full;
+use http_messages::error::ServiceError;
+use std::alloc::AllocGlobal;
+use std::sync::{Arc, Wait};
+
+/// A request whose reply is awaited. The seat is in its slot meanwhile, and may be taken.
+#[derive(Drop)]
+pub struct Forwarding<R, A: Answers> {
+    rt: R,
+    slot: Arc<SeatSlot<A>>,
+    /// In a box, since hyper moves a future.
+    exchange: Box<A::Exchange>,
+}
+
+impl<R, A: Answers> Forwarding<R, A> {
+    pub fn new(rt: R, slot: Arc<SeatSlot<A>>, exchange: Box<A::Exchange>) -> Forwarding<R, A>
+        ensures { result.exchange ≡ exchange }
+    {
+        Forwarding { rt, slot, exchange }
+    }
+}
+
+impl<R, A> Future for Forwarding<R, A>
+where
+    R: Wait + AllocGlobal + Drop,
+    A: Answers,
+{
+    type Output = Result<Response<Full<Bytes>>, ServiceError>;
+
+    ghost can_poll = { λ f. A.Exchange.can_poll f.exchange.value };
+
+    ghost gives = { λ f result. (message : _)
+        → IsExchangeFor A.forwards A.Exchange.gives message f.exchange.value
+        → IfOk result (IsSentFor A.gives message) };
+
+    fn poll(&mut self, cx: &mut Context<'_>) -> Poll<Result<Response<Full<Bytes>>, ServiceError>> {
+        let reply = ready!(self.exchange.poll(cx));
+        Poll::Ready(self.slot.finish(&self.rt, self.rt.alloc(), reply))
+    }
+}
