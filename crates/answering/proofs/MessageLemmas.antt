@@ -84,12 +84,7 @@ refused old new message error same is = (same, (error, is, refl))
 
 -- what the message begins
 pub begins : (origin : Past) (limits : Limits) (escape : Escape) (old new : Held) (message : Message (List ℕ))
-<<<<<<< HEAD
-    (begun : Begun) → HasBegun (IsReply origin limits escape old new message) (IsToForward origin old new message) begun
-    → Begins origin limits escape old new message begun
-=======
     (begun : Begun) → HasBegun (IsReply origin limits escape old new message)
     (IsToForward origin old new message) begun → Begins origin limits escape old new message begun
->>>>>>> e08a3f0973398d2a52d7b7d78dfdc6fdc9588006
 begins origin limits escape old new message (Answered response) is = (is.0, is.1, inl is.2)
 begins origin limits escape old new message (ToForward forward) is = is
