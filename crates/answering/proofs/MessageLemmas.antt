@@ -38,10 +38,10 @@ to_forward
     → middle ≡ old → IsReceived message request → length (body_of message) ≤ BODY_LIMIT
     → IsRequestToForward origin middle new request forward → IsToForward origin old new message forward
 to_forward origin old middle new message request forward same received within is = record {
-  received = subst (IsReceived message) (sym is.1) received;
+  received = subst (IsReceived message) (sym is.1.0) received;
   within = within;
-  no_admin_call = subst (λ (r : Request). ¬ (IsAdmin r.url)) (sym is.1) is.0;
-  served = subst (λ held. GainsServe origin held new forward.request (serve_receipt forward)) same is.2;
+  no_admin_call = subst (λ (r : Request). ¬ (IsAdmin r.url)) (sym is.1.0) is.0;
+  served = subst (λ held. GainsServe origin held new forward.request (serve_receipt forward)) same is.1.1;
 }
 
 -- its request begins what the message begins
