@@ -13,7 +13,8 @@ returns-in-Ok g c =
 
 pub returns-in_ok-response-in-Err : goal.returns-in_ok-response-in-Err
 returns-in_ok-response-in-Err g c =
-    let why = is_unread c.args.message.now c.in-Err.error c.in-Err.ensures.bad_url c.in-Err.ensures.too_large in (
+    let why = is_unread c.args.message.now c.in-Err.error c.request_of.result c.in-Err.is
+    c.request_of.ensures.bad_url c.request_of.ensures.too_large in (
       refusal c.in-Err.error,
       inl (refused c.args.seat.now c.request_of.new.seat c.args.message.now c.in-Err.error c.request_of.ensures.same why),
       c.in_ok-response-in-Err.ensures,
@@ -22,7 +23,8 @@ returns-in_ok-response-in-Err g c =
 pub returns-in_err-response-in-Err : goal.returns-in_err-response-in-Err
 returns-in_err-response-in-Err g c =
     let none = err_from_is_err_and c.from_residual.result c.from_residual.ensures.1 in
-    let why = is_unread c.args.message.now c.in-Err.error c.in-Err.ensures.bad_url c.in-Err.ensures.too_large in
+    let why = is_unread c.args.message.now c.in-Err.error c.request_of.result c.in-Err.is
+    c.request_of.ensures.bad_url c.request_of.ensures.too_large in
     rw none.1 (
       refusal c.in-Err.error,
       inl (refused c.args.seat.now c.request_of.new.seat c.args.message.now c.in-Err.error c.request_of.ensures.same why),
