@@ -1,7 +1,6 @@
 // What a shared book answers to an admin call.
-ghost use Rattle.std.specs.Prelude.{◌≡◌, IfOk, IfErr};
+ghost use Rattle.std.specs.Prelude.{IfOk, IfErr};
 ghost use Rattle.admin_answers.specs.Answers.{IsAnswered, IsNotAnswered};
-ghost use Rattle.request_journal.specs.declared.input.BookInput.TheVariants as input;
 
 use crate::change::change;
 use crate::error::SharedError;
@@ -51,8 +50,24 @@ pub fn answer_admin<L: Origin, R: Wait>(
                 BookInput::SetScenario { name, state },
             )
         }
-        AdminCall::StartRecording(start) => {
-            change(rt, alloc, shared, seat, recording_input(start))
+        AdminCall::StartRecording(
+            RecordingStart {
+                target,
+                captured,
+                repeats,
+            },
+        ) => {
+            change(
+                rt,
+                alloc,
+                shared,
+                seat,
+                BookInput::StartRecording {
+                    target,
+                    captured,
+                    repeats,
+                },
+            )
         }
         AdminCall::StopRecording => change(rt, alloc, shared, seat, BookInput::StopRecording),
         AdminCall::ListMappings => Ok(list_mappings(rt, alloc, shared, seat)?),
@@ -64,15 +79,5 @@ pub fn answer_admin<L: Origin, R: Wait>(
         AdminCall::ListScenarios => Ok(list_scenarios(rt, alloc, shared, seat)?),
         AdminCall::ReadRecordingStatus => Ok(read_recording_status(rt, alloc, shared, seat)?),
         AdminCall::ReadRecordingHar => read_recording_har(rt, alloc, shared, seat),
-    }
-}
-
-fn recording_input(start: RecordingStart) -> BookInput
-    ensures { result ≡ input.StartRecording start.target start.captured start.repeats }
-{
-    BookInput::StartRecording {
-        target: start.target,
-        captured: start.captured,
-        repeats: start.repeats,
     }
 }

@@ -9,7 +9,8 @@ use Rattle.answering.proofs.begin_message.begin_request.Goals as goal
 pub returns : goal.returns
 returns g c =
     let other : ¬ (IsAdmin c.args.request.url) =
-    λ is. false≢true (sym c.if-is_admin.false ∙ c.is_admin.ensures.1 (subst IsAdmin (sym c.url.ensures.value) is)) in
+    λ is. false≢true (sym c.if-is_admin.false
+    ∙ c.is_admin.ensures.1 (subst IsAdmin (sym c.url.ensures.value) is)) in
     begun_weaker
     (IsServeAnswered g.L.Origin.origin c.args.site.now.limits c.args.seat.now c.serve.new.seat c.args.request)
     (IsRequestAnswered g.L.Origin.origin c.args.site.now.limits c.args.site.now.escape c.args.seat.now

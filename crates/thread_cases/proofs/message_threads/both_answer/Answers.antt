@@ -9,4 +9,12 @@ use Rattle.thread_cases.proofs.message_threads.both_answer.Goals as goal
 
 pub join-requires-send-F : goal.join-requires-send-F
 join-requires-send-F g c κs within =
-    search (sendable, site_sync, seat.the_send, first_waits.the_sync, no_clock.the_sync, task.the_send, crosses) depth 60
+    search (
+      sendable,
+      site_sync,
+      seat.the_send,
+      first_waits.the_sync,
+      no_clock.the_sync,
+      task.the_send,
+      crosses,
+    ) depth 60
