@@ -16,7 +16,8 @@ returns-in_ok-response-in-Err g c =
     let why = is_unread c.args.message.now c.in-Err.error c.request_of.result c.in-Err.is
     c.request_of.ensures.bad_url c.request_of.ensures.too_large in (
       refusal c.in-Err.error,
-      inl (refused c.args.seat.now c.request_of.new.seat c.args.message.now c.in-Err.error c.request_of.ensures.same why),
+      inl (refused c.args.seat.now c.request_of.new.seat c.args.message.now c.in-Err.error
+          c.request_of.ensures.same why),
       c.in_ok-response-in-Err.ensures,
     )
 
@@ -27,5 +28,6 @@ returns-in_err-response-in-Err g c =
     c.request_of.ensures.bad_url c.request_of.ensures.too_large in
     rw none.1 (
       refusal c.in-Err.error,
-      inl (refused c.args.seat.now c.request_of.new.seat c.args.message.now c.in-Err.error c.request_of.ensures.same why),
+      inl (refused c.args.seat.now c.request_of.new.seat c.args.message.now c.in-Err.error
+          c.request_of.ensures.same why),
     )
