@@ -1,5 +1,6 @@
 -- What is answered from a reading of recordings is what the past that was read says.
-use Rattle.std.proofs.Common.{◌≡◌, ◌⊎◌, List, Option, Some, None, Result, Ok, Err, IfOk, IfErr, inl, inr, subst}
+use Rattle.std.proofs.Common.{◌≡◌, ◌⊎◌, List, Option, Some, None, Result, Ok, Err, IfOk, IfErr, inl, inr}
+use Rattle.std.proofs.Common.{subst}
 use Rattle.std.specs.declared.alloc.AllocError.{AllocError}
 use Rattle.admin_answers.proofs.ReadLemmas.{said}
 use Rattle.admin_answers.specs.Answers.{InPast, IsReadReply}
@@ -10,6 +11,7 @@ use Rattle.admin_json.specs.Recordings.{json_of_status}
 use Rattle.admin_routes.specs.declared.call.AdminCall.TheVariants as call
 use Rattle.error_code.specs.declared.error_code.ErrorCode.TheVariants as code
 use Rattle.mapping_model.specs.declared.reply.Reply.{Reply}
+use Rattle.recorder.specs.Recording.{session_of}
 use Rattle.recorder.specs.declared.recording.Recording.{Recording}
 use Rattle.recorder.specs.declared.recording.RecordingStatus.{RecordingStatus}
 use Rattle.request_journal.specs.Past.{Past}
@@ -34,19 +36,23 @@ recording_status origin found reading (Err why) is e json = tt
 pub recording_har
     : (origin : Past) (kept : Recording) (reading : Reading) (result : Result Reply SharedError)
     → IsRead origin read.Recording reading → reading.answer ≡ answer.Recording kept
-    → IfOk result (IsHarReply kept)
+    → IfOk result (IsHarReply (session_of kept))
     → IfOk result (λ reply. InPast origin (IsReadReply call.ReadRecordingHar reply))
 recording_har origin kept reading (Ok reply) is e har =
-    (is.past, is.reached, subst (λ r. IsHarReply r reply) (said origin read.Recording reading _ is e) har)
+    (is.past, is.reached, subst (λ r. IsHarReply (session_of r) reply) (said origin read.Recording reading _ is e) har)
 recording_har origin kept reading (Err why) is e har = tt
 
 pub no_har
     : (origin : Past) (kept : Recording) (reading : Reading) (result : Result Reply SharedError)
     → IsRead origin read.Recording reading → reading.answer ≡ answer.Recording kept
-    → IfErr result (λ error. (error.code ≡ code.OutOfMemory) ⊎ HasNoHar kept error.code)
+    → IfErr result (λ error. (error.code ≡ code.OutOfMemory) ⊎ HasNoHar (session_of kept) error.code)
     → IfErr result (λ error. (error.code ≡ code.OutOfMemory)
-    ⊎ InPast origin (λ past. HasNoHar (recording past) error.code))
+    ⊎ InPast origin (λ past. HasNoHar (session_of (recording past)) error.code))
 no_har origin kept reading (Ok reply) is e why = tt
 no_har origin kept reading (Err error) is e (inl memory) = inl memory
 no_har origin kept reading (Err error) is e (inr none) =
-    inr (is.past, is.reached, subst (λ r. HasNoHar r error.code) (said origin read.Recording reading _ is e) none)
+    inr (
+      is.past,
+      is.reached,
+      subst (λ r. HasNoHar (session_of r) error.code) (said origin read.Recording reading _ is e) none,
+    )

@@ -12,7 +12,7 @@ use Rattle.error_code.specs.declared.error_code.ErrorCode.{ErrorCode}
 use Rattle.error_code.specs.declared.error_code.ErrorCode.TheVariants as code
 use Rattle.mapping_model.specs.declared.reply.Reply.{Reply}
 use Rattle.mapping_store.specs.Stored.{IsNewestFirst}
-use Rattle.recorder.specs.Recording.{status_of}
+use Rattle.recorder.specs.Recording.{session_of, status_of}
 use Rattle.request_journal.specs.Input.{IsAsked}
 use Rattle.request_journal.specs.Journal.{requests, unmatched, IsCount, Picks}
 use Rattle.request_journal.specs.Legal.{IsLive}
@@ -94,7 +94,7 @@ IsReadReply call.ListScenarios reply past =
     × IsJsonReply 200 (json_of_scenarios states listed) reply)
 IsReadReply call.ReadRecordingStatus reply past =
     IsJsonReply 200 (json_of_status (status_of (recording past))) reply
-IsReadReply call.ReadRecordingHar reply past = IsHarReply (recording past) reply
+IsReadReply call.ReadRecordingHar reply past = IsHarReply (session_of (recording past)) reply
 IsReadReply other reply past = ⊥
 
 -- ---- calls
@@ -138,5 +138,6 @@ IsNotAnswered origin old new (call.ReadMapping id) reason =
     × ((reason ≡ code.OutOfMemory)
     ⊎ ((reason ≡ code.UnknownMapping) × InPast origin (λ past. ¬ (IsLive past id))))
 IsNotAnswered origin old new call.ReadRecordingHar reason =
-    (new ≡ old) × ((reason ≡ code.OutOfMemory) ⊎ InPast origin (λ past. HasNoHar (recording past) reason))
+    (new ≡ old) × ((reason ≡ code.OutOfMemory)
+    ⊎ InPast origin (λ past. HasNoHar (session_of (recording past)) reason))
 IsNotAnswered origin old new read reason = (new ≡ old) × (reason ≡ code.OutOfMemory)

@@ -1,7 +1,7 @@
 // What a shared book answers to an admin call.
-ghost use Rattle.std.specs.Prelude.{◌≡◌, IfOk, IfErr};
+ghost use Rattle.std.specs.Prelude.{IfOk, IfErr};
 ghost use Rattle.admin_answers.specs.Answers.{IsAnswered, IsNotAnswered};
-ghost use Rattle.request_journal.specs.declared.input.BookInput.TheVariants as input;
+ghost use Rattle.admin_routes.specs.declared.call.AdminCall.TheVariants.{StartRecording};
 
 use crate::change::change;
 use crate::error::SharedError;
@@ -51,9 +51,7 @@ pub fn answer_admin<L: Origin, R: Wait>(
                 BookInput::SetScenario { name, state },
             )
         }
-        AdminCall::StartRecording(start) => {
-            change(rt, alloc, shared, seat, recording_input(start))
-        }
+        AdminCall::StartRecording(start) => start_recording(rt, alloc, shared, seat, start),
         AdminCall::StopRecording => change(rt, alloc, shared, seat, BookInput::StopRecording),
         AdminCall::ListMappings => Ok(list_mappings(rt, alloc, shared, seat)?),
         AdminCall::ReadMapping(id) => read_mapping(rt, alloc, shared, seat, id),
@@ -67,12 +65,21 @@ pub fn answer_admin<L: Origin, R: Wait>(
     }
 }
 
-fn recording_input(start: RecordingStart) -> BookInput
-    ensures { result ≡ input.StartRecording start.target start.captured start.repeats }
+fn start_recording<L: Origin, R: Wait>(
+    rt: &R,
+    alloc: Global,
+    shared: &SharedBook<L>,
+    seat: &mut Seat<L>,
+    start: RecordingStart,
+) -> Result<Reply, SharedError>
+    ensures ok { IfOk result (IsAnswered L.origin seat.old seat.new (StartRecording start)) }
+    ensures refused { IfErr result (λ error.
+        IsNotAnswered L.origin seat.old seat.new (StartRecording start) error.code) }
 {
-    BookInput::StartRecording {
+    let input = BookInput::StartRecording {
         target: start.target,
         captured: start.captured,
         repeats: start.repeats,
-    }
+    };
+    change(rt, alloc, shared, seat, input)
 }

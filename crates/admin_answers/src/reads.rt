@@ -1,15 +1,15 @@
 // Calls that read the book. The JSON is written after the lock was let go.
-ghost use Rattle.std.specs.Prelude.{◌≡◌, ◌⊎◌, IfErr, IfOk, None};
+ghost use Rattle.std.specs.Prelude.{◌≡◌, ◌⊎◌, IfErr, IfOk, None, Some};
 ghost use Rattle.admin_answers.specs.Answers.{InPast, IsHeldReply, IsReadReply};
 ghost use Rattle.admin_answers.specs.JsonReply.{IsJsonReply};
-ghost use Rattle.admin_answers.specs.Recordings.{HasNoHar, IsHarReply, IsSessionReply};
+ghost use Rattle.admin_answers.specs.Recordings.{HasNoHar, IsHarReply};
 ghost use Rattle.admin_json.specs.Mappings.{json_of_held, json_of_mappings};
 ghost use Rattle.admin_json.specs.Recordings.{json_of_status};
 ghost use Rattle.admin_json.specs.Requests.{json_of_found, json_of_number, json_of_requests};
 ghost use Rattle.admin_json.specs.Scenarios.{json_of_scenarios};
 ghost use Rattle.admin_routes.specs.declared.call.AdminCall.TheVariants as call;
 ghost use Rattle.error_code.specs.declared.error_code.ErrorCode.TheVariants as code;
-ghost use Rattle.har_export.specs.Document.{AreInRange};
+ghost use Rattle.recorder.specs.Recording.{session_of};
 ghost use Rattle.request_journal.specs.Legal.{IsLive};
 ghost use Rattle.request_journal.specs.Recording.{recording};
 
@@ -171,7 +171,7 @@ pub(crate) fn read_recording_har<L: Origin, R: Wait>(
 ) -> Result<Reply, SharedError>
     ensures ok { IfOk result (λ reply. InPast L.origin (IsReadReply call.ReadRecordingHar reply)) }
     ensures refused { IfErr result (λ error. (error.code ≡ code.OutOfMemory)
-        ⊎ InPast L.origin (λ past. HasNoHar (recording past) error.code)) }
+        ⊎ InPast L.origin (λ past. HasNoHar (session_of (recording past)) error.code)) }
 {
     let reading = seat.read(rt, shared, BookRead::Recording)?;
     match &reading.answer {
@@ -238,8 +238,9 @@ fn status_reply(alloc: Global, status: RecordingStatus) -> Result<Reply, AllocEr
 }
 
 fn har_reply(alloc: Global, recording: &Recording) -> Result<Reply, SharedError>
-    ensures ok { IfOk result (IsHarReply recording.now) }
-    ensures refused { IfErr result (λ error. (error.code ≡ code.OutOfMemory) ⊎ HasNoHar recording.now error.code) }
+    ensures ok { IfOk result (IsHarReply (session_of recording.now)) }
+    ensures refused { IfErr result
+        (λ error. (error.code ≡ code.OutOfMemory) ⊎ HasNoHar (session_of recording.now) error.code) }
 {
     match recording.session() {
         Some(session) => session_reply(alloc, session),
@@ -248,9 +249,9 @@ fn har_reply(alloc: Global, recording: &Recording) -> Result<Reply, SharedError>
 }
 
 fn session_reply(alloc: Global, session: &Session) -> Result<Reply, SharedError>
-    ensures ok { IfOk result (IsSessionReply session.now) }
+    ensures ok { IfOk result (IsHarReply (Some session.now)) }
     ensures refused { IfErr result (λ error. (error.code ≡ code.OutOfMemory)
-        ⊎ ((error.code ≡ code.MomentOutOfRange) × ¬ (AreInRange session.now.exchanges))) }
+        ⊎ HasNoHar (Some session.now) error.code) }
 {
     let text = har_text(alloc, session.exchanges.as_slice(), &session.target)?;
     Ok(json_reply(alloc, 200, text)?)

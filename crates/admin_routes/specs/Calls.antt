@@ -62,7 +62,8 @@ HasNoId (route.EditMapping text) = parsed text ≡ None
 HasNoId (route.DeleteMapping text) = parsed text ≡ None
 HasNoId other = ⊥
 
--- the route takes a mapping, a request matcher, a state, what to record from its body; an id is judged before the body
+-- the body of the route is a mapping, a request matcher, a state, the settings of a recording; an id is
+-- judged before it
 abbrev pub TakesMapping : Route → Type 0
 TakesMapping route.AddMapping = Unit {0}
 TakesMapping (route.EditMapping text) = (id : List ℕ) × (parsed text ≡ Some id)

@@ -1,11 +1,11 @@
 -- What a message begins, by what its request does.
 use Rattle.std.proofs.Common.{◌≡◌, ◌≤◌, ◌<◌, ℕ, List, length, Ok, Err, refl, subst, sym, inr}
-use Rattle.std.specs.Prelude.{Result, MatchResult}
+use Rattle.std.specs.Prelude.{Result, IsErrOf, MatchResult}
 use Rattle.admin_table.specs.Routes.{IsAdmin}
 use Rattle.http.specs.Request.{body_of}
 use Rattle.http.specs.declared.request.Request.{Request as Message}
 use Rattle.http_messages.specs.Received.{IsReceived, target_of}
-use Rattle.answering.specs.Answering.{IsNotBegun, IsReply, IsRequestAnswered, IsUnread}
+use Rattle.answering.specs.Answering.{IsNotBegun, IsNotRead, IsReply, IsRequestAnswered, IsUnread, refusal}
 use Rattle.answering.specs.Forwarding.{IsToForward, serve_receipt}
 use Rattle.answering.specs.Inner.Sent.{HasBegun, IsRequestToForward}
 use Rattle.answering.specs.Served.{GainsServe}
@@ -24,13 +24,14 @@ use Rattle.stub_response.specs.declared.limits.Limits.{Limits}
 use Rattle.template_tree.specs.declared.escape.Escape.{Escape}
 
 -- why a message isn't read
-pub is_unread : (message : Message (List ℕ)) (error : SnapshotError)
-    → (error ≡ unread.BadUrl → ¬ (HasUrl (target_of message)))
-    → (error ≡ unread.BodyTooLarge → HasUrl (target_of message) × (BODY_LIMIT < length (body_of message)))
+pub is_unread : {T : Type 0} (message : Message (List ℕ)) (error : SnapshotError) (result : Result T SnapshotError)
+    → result ≡ Err error
+    → (IsErrOf result unread.BadUrl → ¬ (HasUrl (target_of message)))
+    → (IsErrOf result unread.BodyTooLarge → HasUrl (target_of message) × (BODY_LIMIT < length (body_of message)))
     → IsUnread message error
-is_unread message unread.BadUrl bad large = bad refl
-is_unread message unread.BodyTooLarge bad large = large refl
-is_unread message unread.OutOfMemory bad large = tt
+is_unread message unread.BadUrl result is bad large = bad is
+is_unread message unread.BodyTooLarge result is bad large = large is
+is_unread message unread.OutOfMemory result is bad large = tt
 
 -- what is to be forwarded of a request of the message
 to_forward
@@ -40,7 +41,7 @@ to_forward
 to_forward origin old middle new message request forward same received within is = record {
   received = subst (IsReceived message) (sym is.1.0) received;
   within = within;
-  other = subst (λ (r : Request). ¬ (IsAdmin r.url)) (sym is.1.0) is.0;
+  no_admin_call = subst (λ (r : Request). ¬ (IsAdmin r.url)) (sym is.1.0) is.0;
   served = subst (λ held. GainsServe origin held new forward.request (serve_receipt forward)) same is.1.1;
 }
 
@@ -49,17 +50,35 @@ pub of_request : {E : Type 0} (origin : Past) (limits : Limits) (escape : Escape
     (message : Message (List ℕ)) (request : Request) (result : Result Begun E)
     → middle ≡ old → IsReceived message request → length (body_of message) ≤ BODY_LIMIT
     → MatchResult result
-    (HasBegun (IsRequestAnswered origin limits escape middle new request) (IsRequestToForward origin middle new request))
+    (HasBegun (IsRequestAnswered origin limits escape middle new request)
+    (IsRequestToForward origin middle new request))
     (λ _. (reply : Reply) × IsRequestAnswered origin limits escape middle new request reply)
     → MatchResult result
     (HasBegun (IsReply origin limits escape old new message) (IsToForward origin old new message))
     (λ _. IsNotBegun origin limits escape old new message)
 of_request origin limits escape old middle new message request (Ok (Answered response)) same received within is = (
   is.0,
-  inr (request, received, within, subst (λ held. IsRequestAnswered origin limits escape held new request is.0) same is.1.0),
-  is.1.1,
+  inr (
+    request,
+    received,
+    within,
+    subst (λ held. IsRequestAnswered origin limits escape held new request is.0) same is.1,
+  ),
+  is.2,
 )
 of_request origin limits escape old middle new message request (Ok (ToForward forward)) same received within is =
     to_forward origin old middle new message request forward same received within is
-of_request origin limits escape old middle new message request (Err error) same received within is =
-    (is.0, inr (request, received, within, subst (λ held. IsRequestAnswered origin limits escape held new request is.0) same is.1))
+of_request origin limits escape old middle new message request (Err error) same received within is = (
+  is.0,
+  inr (
+    request,
+    received,
+    within,
+    subst (λ held. IsRequestAnswered origin limits escape held new request is.0) same is.1,
+  ),
+)
+
+-- a message that isn't read has no request
+pub refused : (old new : Held) (message : Message (List ℕ)) (error : SnapshotError) → new ≡ old
+    → IsUnread message error → IsNotRead old new message (refusal error)
+refused old new message error same is = (same, (error, is, refl))

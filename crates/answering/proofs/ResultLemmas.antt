@@ -3,8 +3,11 @@ use Rattle.std.proofs.Common.{◌≡◌, ℕ, List, Ok, Err, sym, subst}
 use Rattle.std.specs.Prelude.{Result, IfOk, MatchResult}
 use Rattle.http.specs.declared.response.Response.{Response}
 use Rattle.http_body_util.specs.declared.full.Full.{Full}
-use Rattle.answering.specs.Inner.Sent.{HasReply}
+use Rattle.answering.specs.Inner.Sent.{HasBegun, HasReply}
 use Rattle.answering.specs.Reply.{IsResponseOf}
+use Rattle.answering.specs.declared.begun.Begun.{Begun}
+use Rattle.answering.specs.declared.begun.Begun.TheVariants.{Answered, ToForward}
+use Rattle.answering.specs.declared.forward.Forward.{Forward}
 use Rattle.mapping_model.specs.declared.reply.Reply.{Reply}
 
 -- one reply is right
@@ -30,3 +33,12 @@ pub of_right : {E : Type 0} (P : Reply → Type 0) (reply : Reply) (result : Res
     → P reply → IfOk result (IsResponseOf reply) → IfOk result (HasReply P)
 of_right P reply (Ok response) is h = (reply, is, h)
 of_right P reply (Err error) is h = tt
+
+-- what begins in one sense begins in another
+pub begun_weaker : {E : Type 0} (P Q : Reply → Type 0) (F G : Forward → Type 0) → ((r : Reply) → P r → Q r)
+    → ((f : Forward) → F f → G f) → (result : Result Begun E)
+    → MatchResult result (HasBegun P F) (λ _. (r : Reply) × P r)
+    → MatchResult result (HasBegun Q G) (λ _. (r : Reply) × Q r)
+begun_weaker P Q F G reply to_forward (Ok (Answered response)) h = (h.0, reply h.0 h.1, h.2)
+begun_weaker P Q F G reply to_forward (Ok (ToForward forward)) h = to_forward forward h
+begun_weaker P Q F G reply to_forward (Err error) h = (h.0, reply h.0 h.1)

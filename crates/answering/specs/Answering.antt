@@ -35,26 +35,25 @@ IsServeAnswered origin limits old new request reply =
     IsServedWith origin limits old new request reply
     ⊎ ((reason : ErrorCode) × IsNotServed origin old new request reason × (reply ≡ error_reply 503 reason))
 
--- the reply to a request of ours, without what is forwarded
+-- the reply to a request that isn't forwarded
 abbrev pub IsRequestAnswered : Past → Limits → Escape → Held → Held → Request → Reply → Type 0
 IsRequestAnswered origin limits escape old new request reply =
     (IsAdmin request.url × IsAdminAnswered origin escape old new request reply)
     ⊎ (¬ (IsAdmin request.url) × IsServeAnswered origin limits old new request reply)
 
--- the reply to a message that is no request of ours: its target is bad, or else its body is too large; or memory ran
--- out before it was read
+-- the reply to a message that isn't read: its target is bad, or else its body is too large; or memory ran out
 abbrev pub refusal : SnapshotError → Reply
 refusal unread.BadUrl = error_reply 400 BadUrl
 refusal unread.BodyTooLarge = error_reply 413 TooLarge
 refusal unread.OutOfMemory = error_reply 503 OutOfMemory
 
--- why it is none
+-- why it isn't
 abbrev pub IsUnread : Message (List ℕ) → SnapshotError → Type 0
 IsUnread message unread.BadUrl = ¬ (HasUrl (target_of message))
 IsUnread message unread.BodyTooLarge = HasUrl (target_of message) × (BODY_LIMIT < length (body_of message))
 IsUnread message unread.OutOfMemory = Unit {0}
 
--- it makes no event
+-- such a message makes no event
 abbrev pub IsNotRead : Held → Held → Message (List ℕ) → Reply → Type 0
 IsNotRead old new message reply =
     (new ≡ old) × ((error : SnapshotError) × IsUnread message error × (reply ≡ refusal error))
@@ -87,21 +86,20 @@ Begins origin limits escape old new message (Answered response) =
 Begins origin limits escape old new message (ToForward forward) = IsToForward origin old new message forward
 
 -- the message was forwarded after the first of its events, and this is the response to what came of that
-pub record IsForwarded (origin : Past) (old new : Held) (message : Message (List ℕ))
-    (response : Response (Full (List ℕ)))
-    : Type 0 where
+pub record IsAnsweredLater (origin : Past) (old new : Held) (message : Message (List ℕ))
+    (response : Response (Full (List ℕ))) : Type 0 where
   pub middle : Held
   pub forward : Forward
   pub forwarded : Result Reply ProxyError
   pub begun : IsToForward origin old middle message forward
-  pub genuine : IfOk forwarded IsSomeReply
+  pub some_reply : IfOk forwarded IsSomeReply
   pub finished : IsFinished origin middle new forward forwarded response
 
 -- the response to a message, and what the seat has gained by it
 abbrev pub IsAnswered : Past → Limits → Escape → Held → Held → Message (List ℕ)
     → Response (Full (List ℕ)) → Type 0
 IsAnswered origin limits escape old new message response =
-    IsBegun origin limits escape old new message response ⊎ IsForwarded origin old new message response
+    IsBegun origin limits escape old new message response ⊎ IsAnsweredLater origin old new message response
 
 -- there is none, and the seat is as a reply leaves it, or as the first event of what is to be forwarded
 abbrev pub IsNotAnswered : Past → Limits → Escape → Held → Held → Message (List ℕ) → Type 0

@@ -2,6 +2,7 @@
 -- which is recorded.
 use Rattle.std.specs.Prelude.{◌≡◌, ◌⊎◌, ◌≤◌, ℕ, Bool, List, Ok, Err, Result, false}
 use Rattle.std.specs.Prelude.{if◌then◌else◌, length, true}
+use Rattle.admin_answers.specs.Answers.{Gains}
 use Rattle.admin_table.specs.Routes.{IsAdmin}
 use Rattle.answering.specs.Reply.{IsResponseOf}
 use Rattle.answering.specs.Served.{GainsServe}
@@ -17,14 +18,12 @@ use Rattle.mapping_model.specs.declared.reply.Reply.{Reply}
 use Rattle.mock_request.specs.declared.snapshot.TheConstants.{BODY_LIMIT}
 use Rattle.proxy_client.specs.declared.error.ProxyError.{ProxyError}
 use Rattle.proxy_client.specs.declared.error.ProxyError.TheVariants.{UpstreamFailed, OutOfMemory}
-use Rattle.request_journal.specs.Input.{IsAsked}
 use Rattle.request_journal.specs.Past.{Past}
 use Rattle.request_journal.specs.declared.event.Event.TheVariants as event
 use Rattle.request_journal.specs.declared.event.ServeAnswer.TheVariants.{Proxy}
 use Rattle.request_journal.specs.declared.input.BookInput.{BookInput}
 use Rattle.request_journal.specs.declared.input.BookInput.TheVariants as input
-use Rattle.shared_book.specs.Held.{Held, with_receipt}
-use Rattle.shared_book.specs.Receipts.{IsReceipt}
+use Rattle.shared_book.specs.Held.{Held}
 use Rattle.shared_book.specs.Refused.{IsRefused}
 use Rattle.shared_book.specs.declared.receipt.Receipt.{Receipt}
 use Rattle.stub_response.specs.ErrorReply.{error_reply}
@@ -34,46 +33,41 @@ abbrev pub serve_receipt : Forward → Receipt
 serve_receipt forward =
     record { number = forward.number; event = event.Serve forward.request (Proxy forward.target) }
 
--- the message is a request that is no admin call, and was served: what is to be forwarded has its number,
--- request and target
-pub record IsToForward (origin : Past) (old new : Held) (message : Message (List ℕ))
-    (forward : Forward) : Type 0 where
+-- the message is a request that is no admin call, and was served: what is to be forwarded has the number, the request
+-- and the target of the receipt
+pub record IsToForward (origin : Past) (old new : Held) (message : Message (List ℕ)) (forward : Forward)
+    : Type 0 where
   pub received : IsReceived message forward.request
   pub within : length (body_of message) ≤ BODY_LIMIT
-  pub other : ¬ (IsAdmin forward.request.url)
+  pub no_admin_call : ¬ (IsAdmin forward.request.url)
   pub served : GainsServe origin old new forward.request (serve_receipt forward)
 
--- what the book is asked for when the reply has come, after that time: a record under the serve's number, of its
+-- what the book is asked for when the reply has come, after `wait_ms`: a record under the serve's number, of its
 -- request and this reply
 abbrev pub record_of : Forward → Reply → ℕ → BookInput
 record_of forward sent wait_ms =
     input.Record forward.number
     (record { request = forward.request; reply = sent; started_ms = forward.started_ms; wait_ms = wait_ms })
 
--- the seat has gained one receipt, of what was asked for
-pub record Gains (origin : Past) (old new : Held) (asked : BookInput) (receipt : Receipt) : Type 0 where
-  pub gained : new ≡ with_receipt old receipt
-  pub asked_for : IsAsked asked receipt.event
-  pub genuine : IsReceipt origin receipt
-
 -- no recording takes the exchange: none is on, another one was started later, or it is full
-abbrev pub is_untaken : ErrorCode → Bool
-is_untaken code.NotRecording = true
-is_untaken code.RecordingFull = true
-is_untaken other = false
+abbrev pub is_not_taken : ErrorCode → Bool
+is_not_taken code.NotRecording = true
+is_not_taken code.RecordingFull = true
+is_not_taken other = false
 
 -- the reply where nothing is recorded for that reason: the target's all the same, or the reason
 abbrev pub reply_unrecorded : Reply → ErrorCode → Reply
-reply_unrecorded sent reason = if is_untaken reason then sent else error_reply 503 reason
+reply_unrecorded sent reason = if is_not_taken reason then sent else error_reply 503 reason
 
--- the reply that came is recorded and sent; or nothing is recorded, and the seat is as before
-abbrev pub IsRelayed : Past → Held → Held → BookInput → Reply → Reply → Type 0
-IsRelayed origin old new asked sent reply =
+-- the reply that came is sent, and the seat has gained the receipt of its record; or nothing is recorded, and the seat
+-- is as before
+abbrev pub IsRecordReply : Past → Held → Held → BookInput → Reply → Reply → Type 0
+IsRecordReply origin old new asked sent reply =
     ((reply ≡ sent) × ((receipt : Receipt) × Gains origin old new asked receipt))
     ⊎ ((new ≡ old) × ((reason : ErrorCode) × IsRefused origin asked reason
     × (reply ≡ reply_unrecorded sent reason)))
 
--- the reply where none came
+-- the reply to the client where the target gave none
 abbrev pub failure_reply : ProxyError → Reply
 failure_reply UpstreamFailed = error_reply 502 code.UpstreamFailed
 failure_reply OutOfMemory = error_reply 503 code.OutOfMemory
@@ -81,7 +75,7 @@ failure_reply OutOfMemory = error_reply 503 code.OutOfMemory
 -- the reply to what was forwarded. Where none came, nothing is recorded; there, too, memory may run out.
 abbrev pub IsForwardReply : Past → Held → Held → Forward → Result Reply ProxyError → Reply → Type 0
 IsForwardReply origin old new forward (Ok sent) reply =
-    (wait_ms : ℕ) × IsRelayed origin old new (record_of forward sent wait_ms) sent reply
+    (wait_ms : ℕ) × IsRecordReply origin old new (record_of forward sent wait_ms) sent reply
 IsForwardReply origin old new forward (Err error) reply =
     (new ≡ old) × ((reply ≡ failure_reply error) ⊎ (reply ≡ error_reply 503 code.OutOfMemory))
 

@@ -18,8 +18,8 @@ use shared_book::seat::Seat;
 use std::alloc::Global;
 use std::sync::Wait;
 
-/// Answers a message as far as that takes no other server. A request that is no admin call is one serve of the book,
-/// and its response is made after the lock was let go; or it is to be forwarded, and `finish` takes what came of that.
+/// Answers a message as far as that takes no other server. A request that is no admin call is one serve of the book.
+/// Its response is made after the lock was released; or it is to be forwarded, and `finish` takes what came of that.
 /// Where memory runs out after the serve, that stands, and the answer is 503. The error says that there was no memory
 /// for that 503 either.
 pub fn begin<L: Origin, R: Wait, G: Gate, C: Clock>(

@@ -71,7 +71,7 @@ fn request_of<L: Origin>(
     request
 }
 
-// The response to a message that is no request of ours.
+// The response to a message that isn't read.
 fn refusal_response(
     alloc: Global,
     error: SnapshotError,

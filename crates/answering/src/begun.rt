@@ -1,4 +1,4 @@
-// What becomes of a message without any other server.
+// The response to a message, or what is to be forwarded.
 use crate::forward::Forward;
 use bytes::Bytes;
 use http::Response;

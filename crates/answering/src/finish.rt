@@ -1,9 +1,8 @@
 // The response to a message that was forwarded.
-ghost use Rattle.std.specs.Prelude.{◌≡◌, Ok, IfErr, IfOk, OnErr, Result};
-ghost use Rattle.answering.specs.Forwarding.{IsFinished, is_untaken, record_of, reply_unrecorded};
+ghost use Rattle.std.specs.Prelude.{◌≡◌, IfErr, IfOk, Ok, OnErr};
+ghost use Rattle.answering.specs.Forwarding.{IsFinished, is_not_taken, record_of, reply_unrecorded};
 ghost use Rattle.answering.specs.Reply.{IsResponseOf};
 ghost use Rattle.http_messages.specs.declared.error.ServiceError.TheVariants.{OutOfMemory as NoMemory};
-ghost use Rattle.mapping_model.specs.declared.reply.Reply.{Reply as Sent};
 
 use crate::clock::Clock;
 use crate::forward::Forward;
@@ -70,7 +69,7 @@ fn relay<L: Origin, R: Wait, G, C: Clock>(
     forward: Forward,
     reply: Reply,
 ) -> Result<Response<Full<Bytes>>, AllocError>
-    ensures ok { IfOk result (IsFinished L.origin seat.old seat.new forward (Result.Ok reply)) }
+    ensures ok { IfOk result (IsFinished L.origin seat.old seat.new forward (Ok reply)) }
     ensures err { OnErr result (seat.new ≡ seat.old) }
 {
     let wait_ms = site.clock.now_ms().saturating_sub(forward.started_ms);
@@ -109,18 +108,18 @@ fn unrecorded_response(
     response: Response<Full<Bytes>>,
     reason: ErrorCode,
 ) -> Result<Response<Full<Bytes>>, AllocError>
-    ensures { (sent : Sent) → IsResponseOf sent response
+    ensures { (sent : _) → IsResponseOf sent response
         → IfOk result (IsResponseOf (reply_unrecorded sent reason)) }
 {
-    if is_untaken(reason) {
+    if is_not_taken(reason) {
         return Ok(response);
     }
     error_response(alloc, 503, reason)
 }
 
 // Whether no recording takes the exchange.
-fn is_untaken(reason: ErrorCode) -> bool
-    ensures { result ≡ is_untaken reason }
+fn is_not_taken(reason: ErrorCode) -> bool
+    ensures { result ≡ is_not_taken reason }
 {
     matches!(reason, ErrorCode::NotRecording | ErrorCode::RecordingFull)
 }

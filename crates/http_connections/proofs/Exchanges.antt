@@ -9,7 +9,8 @@ use Rattle.http.specs.declared.response.Response.{Response}
 use Rattle.http_body_util.specs.declared.full.Full.{Full}
 use Rattle.http_connections.specs.Sent.{IsExchangeFor, IsSentFor}
 
-module _ {E Reply Refusal : Type 0} (forwards : Request (List ℕ) → E → Type 0) (exchanged : E → Reply → Type 0)
+module _ {E Reply Refusal : Type 0} (forwards : Request (List ℕ) → E → Type 0)
+    (exchanged : E → Reply → Type 0)
     (gives : Request (List ℕ) → Response (Full (List ℕ)) → Type 0) where
   -- what is given for each message that the exchange may be for
   abbrev pub IsGivenBy : E → Result (Response (Full (List ℕ))) Refusal → Type 0
@@ -26,14 +27,15 @@ module _ {E Reply Refusal : Type 0} (forwards : Request (List ℕ) → E → Typ
   with_body head body (Ok made) given = (body, given)
   with_body head body (Err refusal) given = tt
 
-  module _ (head : Parts) (body : List ℕ) (exchange : E) (may : forwards (record { head = head; body = body }) exchange) where
+  module _ (head : Parts) (body : List ℕ) (exchange : E)
+      (may : forwards (record { head = head; body = body }) exchange) where
     pub given_with : (result : Result (Response (Full (List ℕ))) Refusal) → IsGivenBy exchange result
         → IsGivenWith head result
     given_with result given =
         with_body head body result (given (record { head = head; body = body }) (exchange, may, λ reply same. same))
 
-    pub given_at_once : (polled : Poll (Result (Response (Full (List ℕ))) Refusal)) → IfReady polled (IsGivenBy exchange)
-        → IfReady polled (IsGivenWith head)
+    pub given_at_once : (polled : Poll (Result (Response (Full (List ℕ))) Refusal))
+        → IfReady polled (IsGivenBy exchange) → IfReady polled (IsGivenWith head)
     given_at_once (Ready result) given = given_with result given
     given_at_once Pending given = tt
 

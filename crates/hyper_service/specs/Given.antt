@@ -25,9 +25,10 @@ pub record IsGivenAtOnce (origin : Past) (message : Message (List ℕ)) (respons
   pub new : Held
   pub begun : IsBegun origin limits escape old new message response
 
--- `sends` says which request an exchange sends to which target, and `exchanged` what an exchange may give: those of what
--- forwards the requests of a server.
-module _ {E : Type 0} (sends : List ℕ → Request → E → Type 0) (exchanged : E → Result Reply ProxyError → Type 0) where
+-- `sends` says which request an exchange sends to which target, and `exchanged` what an exchange may give: those of
+-- what forwards the requests of a server.
+module _ {E : Type 0} (sends : List ℕ → Request → E → Type 0)
+    (exchanged : E → Result Reply ProxyError → Type 0) where
   -- an exchange that sends the request of what is to be forwarded to the target of it
   pub record IsSentBy (forward : Forward) (exchange : E) : Type 0 where
     pub sent : sends forward.target forward.request exchange

@@ -53,8 +53,8 @@ impl<R: Clock + Net + AllocGlobal + Copy + Drop> Forwards for Forwarder<R> {
     }
 }
 
-// Whether a connection to that address comes to the server that listens there. One to an unspecified address, as 0.0.0.0,
-// comes to the machine itself, and one to an IPv4 address that is written as IPv6 to that IPv4 address.
+// Whether a connection to that address comes to the server that listens there. One to an unspecified address, as
+// 0.0.0.0, comes to the machine itself, and one to an IPv4 address that is written as IPv6 to that IPv4 address.
 fn is_own(target: SocketAddr, own: SocketAddr) -> bool {
     let ip = target.ip().to_canonical();
     target.port() == own.port() && (ip == own.ip() || ip.is_unspecified())

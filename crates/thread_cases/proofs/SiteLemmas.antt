@@ -1,4 +1,5 @@
--- A site may be lent to another thread, where its gate may: of its book the toolchain's own search gives up.
+-- A site may be lent to another thread, where its gate and its clock may: of its book the toolchain's own search gives
+-- up.
 use denote.RattleType.{RattleType}
 use denote.Param.Send.{IsSync, sendable}
 use denote.Param.SendFields.{declared_sync}
@@ -9,13 +10,19 @@ use Rattle.std.specs.declared.sync.ledger.Ledger as ledger
 use Rattle.stub_response.proofs.limits.Limits.TheSendSync as limits
 use Rattle.template_tree.proofs.escape.Escape.TheSendSync as escape
 
-pub site_sync : (L G : RattleType) (o : origin.Ghosts L.Denot) (l : ledger.Ghosts L.Denot) → IsSync G
-    → IsSync (site.the_row L G o l)
-site_sync L G o l gate =
-    declared_sync (site.the_type L G o l) (
+pub site_sync : (L G C : RattleType) (o : origin.Ghosts L.Denot) (l : ledger.Ghosts L.Denot)
+    → IsSync G → IsSync C → IsSync (site.the_row L G C o l)
+site_sync L G C o l gate clock =
+    declared_sync (site.the_type L G C o l) (
       shared_book_sync L o l,
       (
         search (limits.the_sync, sendable) depth 60,
-        (search (escape.the_sync, sendable) depth 60, (search (gate, sendable) depth 60, tt)),
+        (
+          search (escape.the_sync, sendable) depth 60,
+          (
+            search (gate, sendable) depth 60,
+            (search (clock, sendable) depth 60, (search (sendable) depth 60, tt)),
+          ),
+        ),
       ),
     )

@@ -34,7 +34,8 @@ pub fn answer_to<L: Origin, R: Machine, G: Gate, C: Clock>(
     described(&response.ok().ok_or(AllocError)?)
 }
 
-fn described(response: &Response<Full<Bytes>>) -> Result<Answer, AllocError> {
+/// Its status, and how many bytes its body has.
+pub fn described(response: &Response<Full<Bytes>>) -> Result<Answer, AllocError> {
     Ok(Answer {
         status: response.status().as_u16(),
         length: response.body().size_hint().exact().ok_or(AllocError)?,

@@ -7,6 +7,7 @@ use crate::cleared::cleared;
 use crate::counted::counted;
 use crate::forwarded::forwarded;
 use crate::full::full;
+use crate::late::{Meanwhile, late};
 use crate::machine::Machine;
 use crate::scripts::scripts;
 use crate::two_threads::two_threads;
@@ -34,6 +35,10 @@ pub enum Case {
     Counted,
     Full,
     Forwarded,
+    Recorded,
+    Stopped,
+    Restarted,
+    RecordedLast,
 }
 
 impl Case {
@@ -47,6 +52,10 @@ impl Case {
             Case::Counted => "counted: ",
             Case::Full => "full: ",
             Case::Forwarded => "forwarded: ",
+            Case::Recorded => "recorded: ",
+            Case::Stopped => "stopped: ",
+            Case::Restarted => "restarted: ",
+            Case::RecordedLast => "recorded last: ",
         }
     }
 
@@ -54,6 +63,7 @@ impl Case {
     fn opening(self) -> u64 {
         match self {
             Case::Full => books::LAST,
+            Case::RecordedLast => books::LAST - 1,
             _ => 0,
         }
     }
@@ -109,5 +119,11 @@ fn play_case<L: Origin + Send + Sync, R: Machine + Threads + Sync>(
         Case::Counted => counted(rt, alloc, cells, shared, seat),
         Case::Full => full(rt, alloc, cells, shared, seat),
         Case::Forwarded => forwarded(rt, alloc, cells, shared, seat),
+        Case::Recorded | Case::RecordedLast => {
+            let opening = case.opening();
+            late(rt, alloc, cells, shared, seat, Meanwhile::Nothing, opening)
+        }
+        Case::Stopped => late(rt, alloc, cells, shared, seat, Meanwhile::Stopped, 0),
+        Case::Restarted => late(rt, alloc, cells, shared, seat, Meanwhile::Restarted, 0),
     }
 }

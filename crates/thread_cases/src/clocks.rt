@@ -13,24 +13,27 @@ impl Clock for NoClock {
     }
 }
 
-/// Each time that it is read, it is 7 milliseconds later.
+/// Tells one time, then another, then the first again, and so on.
 #[derive(Drop)]
-pub struct Ticking {
+pub struct TwoTimes {
+    now_ms: Cell<u64>,
     next_ms: Cell<u64>,
 }
 
-impl Ticking {
-    pub fn new(next_ms: u64) -> Ticking {
-        Ticking {
+impl TwoTimes {
+    pub fn new(now_ms: u64, next_ms: u64) -> TwoTimes {
+        TwoTimes {
+            now_ms: Cell::new(now_ms),
             next_ms: Cell::new(next_ms),
         }
     }
 }
 
-impl Clock for Ticking {
+impl Clock for TwoTimes {
     fn now_ms(&self) -> u64 {
-        let now = self.next_ms.get();
-        self.next_ms.set(now.saturating_add(7));
+        let now = self.now_ms.get();
+        self.now_ms.set(self.next_ms.get());
+        self.next_ms.set(now);
         now
     }
 }

@@ -2,11 +2,11 @@
 
 use crate::answers::answer_to;
 use crate::books::LAST;
-use crate::calls;
+use crate::clocks::NoClock;
 use crate::machine::Machine;
 use crate::messages::Asked;
-use crate::clocks::NoClock;
 use crate::outcomes::{add_number, add_receipts, add_refusal};
+use crate::{calls, outcomes};
 use answering::site::Site;
 use case_table::cells::Cells;
 use proxy_client::counted::TURN_LIMIT;
@@ -71,7 +71,6 @@ fn add_settled<L: Origin, R: Wait>(
     Ok(())
 }
 
-// The status, and how many bytes the body has.
 fn add_answer<L: Origin, R: Machine>(
     rt: &R,
     alloc: Global,
@@ -79,10 +78,6 @@ fn add_answer<L: Origin, R: Machine>(
     site: &Site<L, NoGate, NoClock>,
     seat: &mut Seat<L>,
 ) -> Result<(), AllocError> {
-    let answer = answer_to(rt, alloc, site, seat, Asked::Get)?;
-    cells.add_number(u32::from(answer.status));
-    cells.add(" with ");
-    add_number(cells, answer.length);
-    cells.add(" bytes");
+    outcomes::add_answer(cells, answer_to(rt, alloc, site, seat, Asked::Get)?);
     Ok(())
 }

@@ -6,15 +6,13 @@ use std::random::RandomSource;
 use std::sync::Wait;
 use std::time::Clock;
 
-pub trait Machine:
-    Wait
+pub trait Machine: Wait
     + Net<Listener = TcpListener, Stream = TcpStream>
     + Clock
     + RandomSource
     + AllocGlobal
     + Copy
-    + Drop
-{}
+    + Drop {}
 
 impl<R> Machine for R
 where

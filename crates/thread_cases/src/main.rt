@@ -29,9 +29,11 @@ mod clocks;
 mod counted;
 mod forwarded;
 mod full;
+mod late;
 mod machine;
 mod message_threads;
 mod messages;
+mod recordings;
 mod upstream;
 
 use case_table::compare::compare_all;
@@ -53,6 +55,10 @@ fn main(rt: HostRuntime) -> io::Result<ExitCode> {
         Case::Counted,
         Case::Full,
         Case::Forwarded,
+        Case::Recorded,
+        Case::Stopped,
+        Case::Restarted,
+        Case::RecordedLast,
     ]
     .as_slice()
     {

@@ -1,10 +1,10 @@
 //! Two threads that answer messages of one site, each by a seat of its own.
 
 use crate::answers::answer_to;
+use crate::clocks::NoClock;
 use crate::first_waits::FirstWaits;
 use crate::machine::Machine;
 use crate::messages::Asked;
-use crate::clocks::NoClock;
 use answering::site::Site;
 use proxy_client::counted::TURN_LIMIT;
 use shared_book::gate::Gate;

@@ -1,11 +1,10 @@
 //! A server on a thread of its own, which answers one request.
 
 use crate::machine::Machine;
-use std::io;
 use std::io::{ErrorKind, Read, Write};
 use std::net::{TcpListener, TcpStream};
-use std::thread;
 use std::thread::{JoinHandle, Threads};
+use std::{io, thread};
 
 const REPLY: &[u8] = b"HTTP/1.1 203 OK\r\ncontent-length: 5\r\n\r\nhello";
 

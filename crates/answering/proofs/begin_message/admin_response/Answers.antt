@@ -1,6 +1,6 @@
 use Rattle.answering.specs.Admin.{IsAdminAnswered}
 use Rattle.answering.proofs.ResultLemmas.{of_reply}
-use Rattle.answering.proofs.message_response.admin_response.Goals as goal
+use Rattle.answering.proofs.begin_message.admin_response.Goals as goal
 
 pub returns : goal.returns
 returns g c =

@@ -1,45 +1,33 @@
-use Rattle.std.proofs.Common.{MatchResult, inl, inr, refl, rules, subst}
-use Rattle.error_code.specs.declared.error_code.ErrorCode.TheVariants as code
-use Rattle.stub_response.specs.ErrorReply.{error_reply}
-use Rattle.answering.specs.Answering.{IsNotAnswered, IsReply}
-use Rattle.answering.specs.Inner.Sent.{HasReply}
-use Rattle.answering.proofs.ResultLemmas.{of_reply}
-use Rattle.answering.proofs.message_response.message_response.Goals as goal
+use Rattle.std.proofs.Common.{inl}
+use Rattle.std.proofs.lemmas.Result.{err_from_is_err_and}
+use Rattle.answering.specs.Answering.{refusal}
+use Rattle.answering.proofs.MessageLemmas.{is_unread, of_request, refused}
+use Rattle.answering.proofs.begin_message.begin_message.Goals as goal
 
 -- the seat is as it was when the request has been read
 pub returns-in-Ok : goal.returns-in-Ok
 returns-in-Ok g c =
-    subst
-    (λ old. MatchResult c.request_response.result
-    (HasReply (IsReply g.L.Origin.origin c.args.site.now.limits c.args.site.now.escape old
-    c.request_response.new.seat c.args.message.now))
-    (λ _. IsNotAnswered g.L.Origin.origin c.args.site.now.limits c.args.site.now.escape old
-    c.request_response.new.seat c.args.message.now))
-    c.request_of.ensures.same
-    (search rules)
+    of_request g.L.Origin.origin c.args.site.now.limits c.args.site.now.escape c.args.seat.now c.request_of.new.seat
+    c.begin_request.new.seat c.args.message.now c.in-Ok.request c.begin_request.result c.request_of.ensures.same
+    c.in-Ok.ensures.received c.in-Ok.ensures.within c.begin_request.ensures
 
-pub returns-in-Err-BadUrl : goal.returns-in-Err-BadUrl
-returns-in-Err-BadUrl g c =
-    let is = c.in-Err-BadUrl.field-0-is in
-    let bad = c.in-Err-BadUrl.ensures.bad_url (cc) in
-    of_reply (IsReply g.L.Origin.origin c.args.site.now.limits c.args.site.now.escape c.args.seat.now
-    c.request_of.new.seat c.args.message.now)
-    (error_reply 400 code.BadUrl) c.error_response.result
-    (inl (c.request_of.ensures.same, inl (bad, refl))) c.error_response.ensures
+pub returns-in_ok-response-in-Err : goal.returns-in_ok-response-in-Err
+returns-in_ok-response-in-Err g c =
+    let why = is_unread c.args.message.now c.in-Err.error c.request_of.result c.in-Err.is
+    c.request_of.ensures.bad_url c.request_of.ensures.too_large in (
+      refusal c.in-Err.error,
+      inl (refused c.args.seat.now c.request_of.new.seat c.args.message.now c.in-Err.error
+          c.request_of.ensures.same why),
+      c.in_ok-response-in-Err.ensures,
+    )
 
-pub returns-in-Err-BodyTooLarge : goal.returns-in-Err-BodyTooLarge
-returns-in-Err-BodyTooLarge g c =
-    let is = c.in-Err-BodyTooLarge.field-0-is in
-    let large = c.in-Err-BodyTooLarge.ensures.too_large (cc) in
-    of_reply (IsReply g.L.Origin.origin c.args.site.now.limits c.args.site.now.escape c.args.seat.now
-    c.request_of.new.seat c.args.message.now)
-    (error_reply 413 code.TooLarge) c.error_response-in-Err-BodyTooLarge.result
-    (inl (c.request_of.ensures.same, inr (inl (large.0, large.1, refl)))) c.error_response-in-Err-BodyTooLarge.ensures
-
-pub returns-in-Err-OutOfMemory : goal.returns-in-Err-OutOfMemory
-returns-in-Err-OutOfMemory g c =
-    of_reply (IsReply g.L.Origin.origin c.args.site.now.limits c.args.site.now.escape c.args.seat.now
-    c.request_of.new.seat c.args.message.now)
-    (error_reply 503 code.OutOfMemory) c.error_response-in-Err-OutOfMemory.result
-    (inl (c.request_of.ensures.same, inr (inr refl)))
-    c.error_response-in-Err-OutOfMemory.ensures
+pub returns-in_err-response-in-Err : goal.returns-in_err-response-in-Err
+returns-in_err-response-in-Err g c =
+    let none = err_from_is_err_and c.from_residual.result c.from_residual.ensures.1 in
+    let why = is_unread c.args.message.now c.in-Err.error c.request_of.result c.in-Err.is
+    c.request_of.ensures.bad_url c.request_of.ensures.too_large in
+    rw none.1 (
+      refusal c.in-Err.error,
+      inl (refused c.args.seat.now c.request_of.new.seat c.args.message.now c.in-Err.error
+          c.request_of.ensures.same why),
+    )
