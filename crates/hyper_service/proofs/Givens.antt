@@ -16,7 +16,8 @@ use Rattle.shared_book.specs.Held.{Held}
 some_same : {A : Type 0} (a b : A) → Some a ≡ Some b → a ≡ b
 some_same a b e = cc
 
-module _ {E : Type 0} (sends : List ℕ → Request → E → Type 0) (exchanged : E → Result Reply ProxyError → Type 0)
+module _ {E : Type 0} (sends : List ℕ → Request → E → Type 0)
+    (exchanged : E → Result Reply ProxyError → Type 0)
     (origin : Past) (message : Message (List ℕ)) (forward : Forward) (forwarded : Result Reply ProxyError)
     (old_then new_then : Held) where
   -- there was no exchange
@@ -38,7 +39,8 @@ module _ {E : Type 0} (sends : List ℕ → Request → E → Type 0) (exchanged
 
   module _ (exchange : SiteExchange E) (by : IsForwardedBy sends exchanged origin message exchange)
       (kept : exchange.forward ≡ Some forward) (came : exchanged exchange.exchange forwarded) where
-    given_by : (response : Response (Full (List ℕ))) → IsFinished origin old_then new_then forward forwarded response
+    given_by : (response : Response (Full (List ℕ)))
+        → IsFinished origin old_then new_then forward forwarded response
         → IsGiven sends exchanged origin message response
     given_by response finished =
         let same = some_same by.forward forward (sym by.kept ∙ kept) in
