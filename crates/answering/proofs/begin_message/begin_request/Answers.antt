@@ -18,3 +18,9 @@ returns g c =
     (IsServedToForward g.L.Origin.origin c.args.seat.now c.serve.new.seat c.args.request)
     (IsRequestToForward g.L.Origin.origin c.args.seat.now c.serve.new.seat c.args.request)
     (λ reply is. inr (other, is)) (λ forward is. (other, is)) c.serve.result c.serve.ensures
+
+pub returns-then-is_admin : goal.returns-then-is_admin
+returns-then-is_admin g c =
+    let is = subst IsAdmin c.url.ensures.value (c.is_admin.ensures.0 c.if-is_admin.true) in
+    let made = c.in_ok-response.ensures in
+    (made.0, inl (is, made.1), made.2)

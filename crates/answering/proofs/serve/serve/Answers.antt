@@ -28,3 +28,13 @@ returns-in_err-response-in-Err g c =
     c.in-Err.is c.serve.follows.holds-at-none in
     rw none.1
     (error_reply 503 c.in-Err.error.code, inr (c.in-Err.error.code, inl (same, c.in-Err.ensures.why), refl))
+
+pub returns-in_ok-response-in-Err : goal.returns-in_ok-response-in-Err
+returns-in_ok-response-in-Err g c =
+    let same = subst
+    (λ r. LendsServed g.L.Origin.origin c.args.seat.now c.serve.follows.lender-at-none c.args.request r)
+    c.in-Err.is c.serve.follows.holds-at-none in (
+      error_reply 503 c.in-Err.error.code,
+      inr (c.in-Err.error.code, inl (same, c.in-Err.ensures.why), refl),
+      c.in_ok-response-in-Err.ensures,
+    )
