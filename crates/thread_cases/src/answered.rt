@@ -2,7 +2,6 @@
 ghost use Rattle.std.specs.Prelude.{◌≤◌};
 
 use crate::calls;
-use crate::machine::Machine;
 use crate::message_threads::{Task, book_of, both_answer, site_of};
 use crate::one_seat::settle_seat;
 use crate::outcomes::add_number;
@@ -11,11 +10,12 @@ use shared_book::origin::Origin;
 use shared_book::seat::Seat;
 use shared_book::shared_book::SharedBook;
 use std::alloc::{AllocError, Global};
+use std::sync::Wait;
 use std::thread::Threads;
 
 /// The first thread answers a message, and the gate holds it until the second has edited the mapping and answered the
 /// same message.
-pub fn answered<L: Origin + Send + Sync, R: Machine + Threads + Sync>(
+pub fn answered<L: Origin + Send + Sync, R: Threads + Wait + Sync>(
     rt: &R,
     alloc: Global,
     cells: &mut Cells,

@@ -1,8 +1,8 @@
 //! What messages are answered.
 
-use crate::machine::Machine;
 use crate::messages::{Asked, message};
-use answering::answer::answer;
+use answering::begin::begin;
+use answering::begun::Begun;
 use answering::clock::Clock;
 use answering::site::Site;
 use bytes::Bytes;
@@ -13,6 +13,7 @@ use shared_book::gate::Gate;
 use shared_book::origin::Origin;
 use shared_book::seat::Seat;
 use std::alloc::{AllocError, Global};
+use std::sync::Wait;
 
 /// The status of an answer, and how many bytes its body has.
 #[derive(Clone, Copy)]
@@ -21,8 +22,8 @@ pub struct Answer {
     pub length: u64,
 }
 
-/// What the message is answered.
-pub fn answer_to<L: Origin, R: Machine, G: Gate, C: Clock>(
+/// What the message is answered. No recording is on, so none is to be forwarded.
+pub fn answer_to<L: Origin, R: Wait, G: Gate, C: Clock>(
     rt: &R,
     alloc: Global,
     site: &Site<L, G, C>,
@@ -30,12 +31,14 @@ pub fn answer_to<L: Origin, R: Machine, G: Gate, C: Clock>(
     asked: Asked,
 ) -> Result<Answer, AllocError> {
     let message = message(alloc, asked)?;
-    let response = answer(rt, alloc, site, seat, &message);
-    described(&response.ok().ok_or(AllocError)?)
+    match begin(rt, alloc, site, seat, &message) {
+        Ok(Begun::Answered(response)) => described(&response),
+        Ok(Begun::ToForward(_forward)) => Err(AllocError),
+        Err(_error) => Err(AllocError),
+    }
 }
 
-/// Its status, and how many bytes its body has.
-pub fn described(response: &Response<Full<Bytes>>) -> Result<Answer, AllocError> {
+fn described(response: &Response<Full<Bytes>>) -> Result<Answer, AllocError> {
     Ok(Answer {
         status: response.status().as_u16(),
         length: response.body().size_hint().exact().ok_or(AllocError)?,

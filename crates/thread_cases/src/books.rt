@@ -73,18 +73,13 @@ pub fn word_of(receipt: &Receipt) -> &str {
         Event::Add(_) => "add",
         Event::Edit { .. } => "edit",
         Event::ClearJournal => "clear",
-        Event::StartRecording { .. } => "start",
-        Event::Record { .. } => "record",
-        Event::StopRecording { .. } => "stop",
         _ => "other",
     }
 }
 
 fn version(answer: &ServeAnswer) -> &str {
-    let captured = match answer {
-        ServeAnswer::Stub(captured) => captured,
-        ServeAnswer::Proxy(_target) => return "forwarded",
-        ServeAnswer::Unmatched => return "none",
+    let ServeAnswer::Stub(captured) = answer else {
+        return "none";
     };
     match &captured.mapping.spec.spec().response.response().content {
         Content::Plain {

@@ -5,10 +5,7 @@ use crate::answered::answered;
 use crate::books;
 use crate::cleared::cleared;
 use crate::counted::counted;
-use crate::forwarded::forwarded;
 use crate::full::full;
-use crate::late::{Meanwhile, late};
-use crate::machine::Machine;
 use crate::scripts::scripts;
 use crate::two_threads::two_threads;
 use crate::versions::versions;
@@ -18,6 +15,7 @@ use shared_book::seat::Seat;
 use shared_book::shared_book::SharedBook;
 use std::alloc::{AllocError, Global};
 use std::marker::Brand;
+use std::sync::Wait;
 use std::sync::ledger::Blank;
 use std::thread::Threads;
 use stub_book::book::Book;
@@ -34,11 +32,6 @@ pub enum Case {
     Answered,
     Counted,
     Full,
-    Forwarded,
-    Recorded,
-    Stopped,
-    Restarted,
-    RecordedLast,
 }
 
 impl Case {
@@ -51,11 +44,6 @@ impl Case {
             Case::Answered => "answered: ",
             Case::Counted => "counted: ",
             Case::Full => "full: ",
-            Case::Forwarded => "forwarded: ",
-            Case::Recorded => "recorded: ",
-            Case::Stopped => "stopped: ",
-            Case::Restarted => "restarted: ",
-            Case::RecordedLast => "recorded last: ",
         }
     }
 
@@ -63,14 +51,13 @@ impl Case {
     fn opening(self) -> u64 {
         match self {
             Case::Full => books::LAST,
-            Case::RecordedLast => books::LAST - 1,
             _ => 0,
         }
     }
 }
 
 /// What a case shows, on a book of its own.
-pub fn play<R: Machine + Threads + Sync>(
+pub fn play<R: Threads + Wait + Sync>(
     rt: &R,
     alloc: Global,
     case: Case,
@@ -79,7 +66,7 @@ pub fn play<R: Machine + Threads + Sync>(
     play_on::<Brand, R>(rt, alloc, case, Blank::new(PARTS), PARTS, book)
 }
 
-fn play_on<L: Origin + Send + Sync, R: Machine + Threads + Sync>(
+fn play_on<L: Origin + Send + Sync, R: Threads + Wait + Sync>(
     rt: &R,
     alloc: Global,
     case: Case,
@@ -100,7 +87,7 @@ fn play_on<L: Origin + Send + Sync, R: Machine + Threads + Sync>(
     cells.finish()
 }
 
-fn play_case<L: Origin + Send + Sync, R: Machine + Threads + Sync>(
+fn play_case<L: Origin + Send + Sync, R: Threads + Wait + Sync>(
     rt: &R,
     alloc: Global,
     case: Case,
@@ -118,12 +105,5 @@ fn play_case<L: Origin + Send + Sync, R: Machine + Threads + Sync>(
         Case::Answered => answered(rt, alloc, cells, shared, seat),
         Case::Counted => counted(rt, alloc, cells, shared, seat),
         Case::Full => full(rt, alloc, cells, shared, seat),
-        Case::Forwarded => forwarded(rt, alloc, cells, shared, seat),
-        Case::Recorded | Case::RecordedLast => {
-            let opening = case.opening();
-            late(rt, alloc, cells, shared, seat, Meanwhile::Nothing, opening)
-        }
-        Case::Stopped => late(rt, alloc, cells, shared, seat, Meanwhile::Stopped, 0),
-        Case::Restarted => late(rt, alloc, cells, shared, seat, Meanwhile::Restarted, 0),
     }
 }

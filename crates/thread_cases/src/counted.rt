@@ -2,7 +2,6 @@
 ghost use Rattle.std.specs.Prelude.{◌≤◌};
 
 use crate::calls;
-use crate::machine::Machine;
 use crate::message_threads::{Task, book_of, both_answer, length_of, site_of};
 use crate::messages::Asked;
 use crate::outcomes::{add_counts, add_number, add_refusal, add_told};
@@ -21,7 +20,7 @@ use std::thread::Threads;
 
 /// Each thread answers 500 requests, one that no mapping answers, and 10 edits. Then a third seat edits once more and
 /// counts the requests by an admin call, each seat takes over the next, and 1,023 events are settled.
-pub fn counted<L: Origin + Send + Sync, R: Machine + Threads + Sync>(
+pub fn counted<L: Origin + Send + Sync, R: Threads + Wait + Sync>(
     rt: &R,
     alloc: Global,
     cells: &mut Cells,

@@ -2,14 +2,12 @@
 
 use crate::answers::answer_to;
 use crate::books::LAST;
-use crate::clocks::NoClock;
-use crate::machine::Machine;
+use crate::calls;
 use crate::messages::Asked;
+use crate::no_clock::NoClock;
 use crate::outcomes::{add_number, add_receipts, add_refusal};
-use crate::{calls, outcomes};
 use answering::site::Site;
 use case_table::cells::Cells;
-use proxy_client::counted::TURN_LIMIT;
 use shared_book::gate::NoGate;
 use shared_book::origin::Origin;
 use shared_book::seat::Seat;
@@ -20,7 +18,7 @@ use stub_response::limits::Limits;
 use template_tree::escape::Escape;
 
 /// Answers the same message twice, over a book that has room for one event.
-pub fn full<L: Origin, R: Machine>(
+pub fn full<L: Origin, R: Wait>(
     rt: &R,
     alloc: Global,
     cells: &mut Cells,
@@ -34,7 +32,7 @@ pub fn full<L: Origin, R: Machine>(
         escape: Escape::Off,
         gate: NoGate,
         clock: NoClock,
-        turns: TURN_LIMIT,
+        turns: 0,
     };
     add_answer(rt, alloc, cells, &site, &mut seat)?;
     cells.add(", then ");
@@ -71,13 +69,18 @@ fn add_settled<L: Origin, R: Wait>(
     Ok(())
 }
 
-fn add_answer<L: Origin, R: Machine>(
+// The status, and how many bytes the body has.
+fn add_answer<L: Origin, R: Wait>(
     rt: &R,
     alloc: Global,
     cells: &mut Cells,
     site: &Site<L, NoGate, NoClock>,
     seat: &mut Seat<L>,
 ) -> Result<(), AllocError> {
-    outcomes::add_answer(cells, answer_to(rt, alloc, site, seat, Asked::Get)?);
+    let answer = answer_to(rt, alloc, site, seat, Asked::Get)?;
+    cells.add_number(u32::from(answer.status));
+    cells.add(" with ");
+    add_number(cells, answer.length);
+    cells.add(" bytes");
     Ok(())
 }

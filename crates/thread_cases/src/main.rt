@@ -25,23 +25,18 @@ mod versions;
 // Messages that are answered over shared books, also by two threads.
 mod answered;
 mod answers;
-mod clocks;
 mod counted;
-mod forwarded;
 mod full;
-mod late;
-mod machine;
 mod message_threads;
 mod messages;
-mod recordings;
-mod upstream;
+mod no_clock;
 
 use case_table::compare::compare_all;
 use cases::{Case, play};
-use machine::Machine;
 use std::alloc::{AllocError, Global};
 use std::io;
 use std::process::ExitCode;
+use std::sync::Wait;
 use std::thread::Threads;
 use table::Schedules;
 
@@ -54,11 +49,6 @@ fn main(rt: HostRuntime) -> io::Result<ExitCode> {
         Case::Answered,
         Case::Counted,
         Case::Full,
-        Case::Forwarded,
-        Case::Recorded,
-        Case::Stopped,
-        Case::Restarted,
-        Case::RecordedLast,
     ]
     .as_slice()
     {
@@ -69,7 +59,7 @@ fn main(rt: HostRuntime) -> io::Result<ExitCode> {
 }
 
 // Once more where memory ran out.
-fn play_again<R: Machine + Threads + Sync>(
+fn play_again<R: Threads + Wait + Sync>(
     rt: &R,
     alloc: Global,
     case: Case,

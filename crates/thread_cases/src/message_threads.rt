@@ -1,17 +1,16 @@
 //! Two threads that answer messages of one site, each by a seat of its own.
 
 use crate::answers::answer_to;
-use crate::clocks::NoClock;
 use crate::first_waits::FirstWaits;
-use crate::machine::Machine;
 use crate::messages::Asked;
+use crate::no_clock::NoClock;
 use answering::site::Site;
-use proxy_client::counted::TURN_LIMIT;
 use shared_book::gate::Gate;
 use shared_book::origin::Origin;
 use shared_book::seat::Seat;
 use shared_book::shared_book::SharedBook;
 use std::alloc::{AllocError, Global};
+use std::sync::Wait;
 use std::thread;
 use std::thread::Threads;
 use stub_response::limits::Limits;
@@ -36,7 +35,7 @@ pub fn site_of<L: Origin>(book: SharedBook<L>) -> Site<L, FirstWaits, NoClock> {
         escape: Escape::Off,
         gate: FirstWaits::new(),
         clock: NoClock,
-        turns: TURN_LIMIT,
+        turns: 0,
     }
 }
 
@@ -55,7 +54,7 @@ pub fn book_of<L: Origin>(site: Site<L, FirstWaits, NoClock>) -> Result<SharedBo
 }
 
 /// The seats, and how long the last answer of each thread is, if all have the status that they are to have.
-pub fn both_answer<L: Origin + Send + Sync, R: Machine + Threads + Sync>(
+pub fn both_answer<L: Origin + Send + Sync, R: Threads + Wait + Sync>(
     rt: &R,
     alloc: Global,
     site: &Site<L, FirstWaits, NoClock>,
@@ -71,7 +70,7 @@ pub fn both_answer<L: Origin + Send + Sync, R: Machine + Threads + Sync>(
     )
 }
 
-fn answer_all<L: Origin, R: Machine>(
+fn answer_all<L: Origin, R: Wait>(
     rt: &R,
     alloc: Global,
     site: &Site<L, FirstWaits, NoClock>,
@@ -91,7 +90,7 @@ fn answer_all<L: Origin, R: Machine>(
     (seat, length)
 }
 
-fn edit_and_get<L: Origin, R: Machine>(
+fn edit_and_get<L: Origin, R: Wait>(
     rt: &R,
     alloc: Global,
     site: &Site<L, FirstWaits, NoClock>,
@@ -102,7 +101,7 @@ fn edit_and_get<L: Origin, R: Machine>(
     length_of(rt, alloc, site, seat, Asked::Get)
 }
 
-fn many<L: Origin, R: Machine>(
+fn many<L: Origin, R: Wait>(
     rt: &R,
     alloc: Global,
     site: &Site<L, FirstWaits, NoClock>,
@@ -119,7 +118,7 @@ fn many<L: Origin, R: Machine>(
 }
 
 /// How long the answer is, if its status is the one that is wanted.
-pub fn length_of<L: Origin, R: Machine>(
+pub fn length_of<L: Origin, R: Wait>(
     rt: &R,
     alloc: Global,
     site: &Site<L, FirstWaits, NoClock>,

@@ -11,8 +11,6 @@ pub enum Asked {
     Get,
     /// `GET /none`, which no mapping answers.
     Missing,
-    /// `GET /other`, which none answers either.
-    Other,
     /// An admin call that makes the default mapping one of version `version 2`.
     Edit,
 }
@@ -21,7 +19,7 @@ impl Asked {
     /// The status of its answer.
     pub fn status(self) -> u16 {
         match self {
-            Asked::Missing | Asked::Other => 404,
+            Asked::Missing => 404,
             Asked::Get | Asked::Edit => 200,
         }
     }
@@ -31,14 +29,13 @@ impl Asked {
         match self {
             Asked::Get => "/a",
             Asked::Missing => "/none",
-            Asked::Other => "/other",
             Asked::Edit => "/__admin/mappings/f50b98c2-b941-505f-bc3f-fa455f5bb49b",
         }
     }
 
     fn body(self) -> &'static [u8] {
         match self {
-            Asked::Get | Asked::Missing | Asked::Other => b"",
+            Asked::Get | Asked::Missing => b"",
             Asked::Edit => {
                 b"{\"request\":{\"method\":\"GET\",\"url\":\"/a\"},\"response\":{\"body\":\"version 2\"}}"
             }
@@ -47,7 +44,7 @@ impl Asked {
 
     fn method(self) -> Method {
         match self {
-            Asked::Get | Asked::Missing | Asked::Other => Method::GET,
+            Asked::Get | Asked::Missing => Method::GET,
             Asked::Edit => Method::PUT,
         }
     }

@@ -1,7 +1,7 @@
 //! Settling a book that one seat has all parts of.
 
 use crate::calls;
-use crate::outcomes::{add_counts_since, add_receipts, add_refusal};
+use crate::outcomes::{add_counts, add_receipts, add_refusal};
 use case_table::cells::Cells;
 use shared_book::origin::Origin;
 use shared_book::seat::Seat;
@@ -17,22 +17,10 @@ pub fn settle_seat<L: Origin, R: Wait>(
     shared: SharedBook<L>,
     seat: Seat<L>,
 ) -> Result<(), AllocError> {
-    settle_since(rt, alloc, cells, shared, seat, 0)
-}
-
-/// The same of a book that was opened with that number.
-pub fn settle_since<L: Origin, R: Wait>(
-    rt: &R,
-    alloc: Global,
-    cells: &mut Cells,
-    shared: SharedBook<L>,
-    seat: Seat<L>,
-    opening: u64,
-) -> Result<(), AllocError> {
     let seats = calls::list(alloc, seat)?;
     match calls::settled(rt, alloc, shared, seats) {
         Ok(settled) => {
-            add_counts_since(cells, &settled, opening);
+            add_counts(cells, &settled);
             cells.add(":");
             add_receipts(cells, &settled);
         }

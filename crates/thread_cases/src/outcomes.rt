@@ -1,14 +1,11 @@
 //! What calls and settled books give, in words.
 
-use crate::answers::Answer;
 use crate::books::{is_stubbed, word_of};
 use crate::calls;
 use crate::calls::Asked;
 use case_table::cells::Cells;
-use request_journal::event::Event;
 use shared_book::book_read::ReadAnswer;
 use shared_book::origin::Origin;
-use shared_book::receipt::Receipt;
 use shared_book::seat::Seat;
 use shared_book::settle::SettleError;
 use shared_book::settled::{SettleRefusal, Settled};
@@ -63,12 +60,7 @@ pub fn add_outcome<L: Origin>(cells: &mut Cells, outcome: &Result<Settled, Settl
 }
 
 pub fn add_counts(cells: &mut Cells, settled: &Settled) {
-    add_counts_since(cells, settled, 0);
-}
-
-/// How many events there are since the opening, and how many receipts.
-pub fn add_counts_since(cells: &mut Cells, settled: &Settled, opening: u64) {
-    add_number(cells, settled.events.saturating_sub(opening));
+    add_number(cells, settled.events);
     cells.add(" events, ");
     add_number(cells, settled.receipts.len() as u64);
     cells.add(" receipts");
@@ -106,32 +98,10 @@ pub fn add_refusal(cells: &mut Cells, reason: &SettleRefusal, seats: usize) {
     cells.add(" handed back");
 }
 
-// Of an exchange that was recorded: the number of its serve, when it was started, and how long its reply took.
-fn add_exchange(cells: &mut Cells, receipt: &Receipt) {
-    if let Event::Record { serve, exchange } = receipt.event.event() {
-        cells.add(" of ");
-        add_number(cells, *serve);
-        cells.add(" at ");
-        add_number(cells, exchange.exchange().started_ms);
-        cells.add(" ms for ");
-        add_number(cells, exchange.exchange().wait_ms);
-        cells.add(" ms,");
-    }
-}
-
-/// The status of an answer, and how many bytes its body has.
-pub fn add_answer(cells: &mut Cells, answer: Answer) {
-    cells.add_number(u32::from(answer.status));
-    cells.add(" with ");
-    add_number(cells, answer.length);
-    cells.add(" bytes");
-}
-
 /// A word for each receipt.
 pub fn add_receipts(cells: &mut Cells, settled: &Settled) {
     for receipt in settled.receipts.as_slice() {
         cells.add(" ");
         cells.add(word_of(receipt));
-        add_exchange(cells, receipt);
     }
 }

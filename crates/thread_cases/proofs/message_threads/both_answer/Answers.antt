@@ -2,7 +2,7 @@ use denote.Param.Send.{sendable}
 use Rattle.std.proofs.Crossing.{crosses}
 use Rattle.shared_book.proofs.seat.Seat.TheSendSync as seat
 use Rattle.thread_cases.proofs.SiteLemmas.{site_sync}
-use Rattle.thread_cases.proofs.clocks.NoClock.TheSendSync as no_clock
+use Rattle.thread_cases.proofs.no_clock.NoClock.TheSendSync as no_clock
 use Rattle.thread_cases.proofs.first_waits.FirstWaits.TheSendSync as first_waits
 use Rattle.thread_cases.proofs.message_threads.Task.TheSendSync as task
 use Rattle.thread_cases.proofs.message_threads.both_answer.Goals as goal
