@@ -1,7 +1,7 @@
 use Rattle.std.proofs.Common.{refl, inr}
 use Rattle.answering.specs.Admin.{IsAnsweredCall, reporting}
 use Rattle.answering.proofs.ResultLemmas.{given}
-use Rattle.answering.proofs.admin_reply.call_reply.Goals as goal
+use Rattle.answering.proofs.admin_answer.call_answer.Goals as goal
 
 pub returns-in-Err : goal.returns-in-Err
 returns-in-Err g c =
