@@ -56,7 +56,7 @@ fn call_reply<L: Origin, R: Wait>(
         (λ _. (reply : _) × IsAnsweredCall L.origin seat.old seat.new call reply) }
 {
     match answer_admin(rt, alloc, shared, seat, call) {
-        Ok(reply) => Ok(reply),
+        Ok(answer) => answer.into_reply(alloc),
         Err(error) => reporting(alloc, error.code),
     }
 }
