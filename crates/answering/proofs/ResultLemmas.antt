@@ -1,8 +1,8 @@
 -- Replies that a call gives, or would give if it had the memory.
 use Rattle.std.proofs.Common.{◌≡◌, ℕ, List, Ok, Err, sym, subst}
 use Rattle.std.specs.Prelude.{Result, IfOk, MatchResult}
-use Rattle.admin_answers.specs.Answers.{reply_of}
-use Rattle.admin_answers.specs.declared.answer.AdminAnswer.{AdminAnswer}
+use Rattle.admin_answers.specs.Replies.{reply_of}
+use Rattle.admin_answers.specs.declared.admin_answer.AdminAnswer.{AdminAnswer}
 use Rattle.http.specs.declared.response.Response.{Response}
 use Rattle.answering.specs.Inner.Sent.{HasBegun, HasReply}
 use Rattle.answering.specs.Reply.{IsResponseOf}

@@ -1,9 +1,10 @@
 // Admin calls.
 ghost use Rattle.std.specs.Prelude.{◌≡◌, IfOk, MatchResult};
-ghost use Rattle.admin_answers.specs.Answers.{reply_of};
+ghost use Rattle.admin_answers.specs.Replies.{reply_of};
 ghost use Rattle.answering.specs.Admin.{IsAdminAnswered, IsAnsweredCall, reporting};
 
-use admin_answers::answer::{AdminAnswer, answer_admin};
+use admin_answers::admin_answer::AdminAnswer;
+use admin_answers::answer::answer_admin;
 use admin_routes::admin::admin_with;
 use admin_routes::call::AdminCall;
 use error_code::error_code::ErrorCode;

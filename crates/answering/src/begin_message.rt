@@ -10,7 +10,7 @@ ghost use Rattle.answering.specs.Forwarding.{IsToForward};
 ghost use Rattle.answering.specs.Inner.Sent.{HasBegun, HasReply, IsRequestToForward};
 ghost use Rattle.answering.specs.Reply.{IsResponseOf};
 
-use admin_answers::answer::AdminAnswer;
+use admin_answers::admin_answer::AdminAnswer;
 use crate::admin_answer::admin_answer;
 use crate::begun::Begun;
 use crate::clock::Clock;

@@ -4,6 +4,7 @@
 //! `specs/Errors.antt` (the code of each error).
 #![tactic(auto)]
 
+pub mod entries;
 pub mod error;
 pub mod har;
 
