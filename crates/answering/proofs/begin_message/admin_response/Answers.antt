@@ -1,5 +1,5 @@
 use Rattle.answering.specs.Admin.{IsAdminAnswered}
-use Rattle.answering.proofs.ResultLemmas.{of_reply}
+use Rattle.answering.proofs.ResultLemmas.{of_answer}
 use Rattle.answering.proofs.begin_message.admin_response.Goals as goal
 
 pub returns-in-Whole : goal.returns-in-Whole
