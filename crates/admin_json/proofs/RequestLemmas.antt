@@ -3,7 +3,8 @@ use Rattle.std.proofs.Common.{ℕ, List, [], ◌∷◌, length, map, codes}
 use Rattle.std.specs.List.{AllByRecursion}
 use Rattle.std.specs.Str.Lossy.{utf8_lossy}
 use Rattle.admin_json.specs.Pairs.{json_of_pairs, with_values}
-use Rattle.admin_json.specs.Requests.{json_of_received, json_of_entry, json_of_requests, json_of_found}
+use Rattle.admin_json.specs.Requests.{json_of_received, json_of_entry, json_of_entries, json_of_requests}
+use Rattle.admin_json.specs.Requests.{json_of_found}
 use Rattle.admin_json.specs.Written.{json_of_count, json_of_meta, json_of_texts}
 use Rattle.mock_request.specs.HeaderFields.{header_pairs}
 use Rattle.mock_request.specs.Request.{Request}
@@ -38,15 +39,19 @@ module _ (P : Num → Type 0) where
   received_regular : (request : Request) → IsRegular P (json_of_received request)
   unfolding json_of_received
   received_regular request =
-      put_regular (codes "url") (string request.url) _ tt
-      (put_regular (codes "method") (string request.method) _ tt
-      (put_regular (codes "headers") (json_of_pairs (header_pairs request.headers)) _
+      let body : Members = put (codes "body") (string (utf8_lossy request.body)) no_members in
+      let headers : Members = put (codes "headers") (json_of_pairs (header_pairs request.headers)) body in
+      let method : Members = put (codes "method") (string request.method) headers in
+      put_regular (codes "url") (string request.url) method tt
+      (put_regular (codes "method") (string request.method) headers tt
+      (put_regular (codes "headers") (json_of_pairs (header_pairs request.headers)) body
       (pairs_regular (header_pairs request.headers))
       (put_regular (codes "body") (string (utf8_lossy request.body)) no_members tt (tt, tt))))
 
   pub entry_regular : (entry : Entry) → P (unsigned entry.number) → IsRegular P (json_of_entry entry)
   entry_regular entry number =
-      put_regular (codes "request") (json_of_received entry.request) _ (received_regular entry.request)
+      let event : Members = put (codes "event") (json_of_count entry.number) no_members in
+      put_regular (codes "request") (json_of_received entry.request) event (received_regular entry.request)
       (put_regular (codes "event") (json_of_count entry.number) no_members number (tt, tt))
 
   entries_regular
@@ -59,12 +64,14 @@ module _ (P : Num → Type 0) where
   pub found_regular
       : (entries : List Entry) → AllByRecursion (λ entry. P (unsigned entry.number)) entries
       → IsRegular P (json_of_found entries)
-  found_regular entries all = put_regular (codes "requests") _ no_members (entries_regular entries all) (tt, tt)
+  found_regular entries all =
+      put_regular (codes "requests") (json_of_entries entries) no_members (entries_regular entries all) (tt, tt)
 
   pub requests_regular
       : (entries : List Entry) → P (unsigned (length entries)) → AllByRecursion (λ entry. P (unsigned entry.number)) entries
       → IsRegular P (json_of_requests entries)
   requests_regular entries total all =
-      put_regular (codes "requests") _ _ (entries_regular entries all)
+      let meta : Members = put (codes "meta") (json_of_meta (length entries)) no_members in
+      put_regular (codes "requests") (json_of_entries entries) meta (entries_regular entries all)
       (put_regular (codes "meta") (json_of_meta (length entries)) no_members
       (put_regular (codes "total") (json_of_count (length entries)) no_members total (tt, tt)) (tt, tt))

@@ -3,10 +3,14 @@ use Rattle.std.specs.Prelude.{ℕ, List, [], ◌∷◌, ◌++◌, Bool, true, na
 use Rattle.admin_json.specs.Requests.{json_of_entry}
 use Rattle.admin_listing.specs.declared.entries.Entries.{Entries}
 use Rattle.admin_listing.specs.declared.entries.Entries.TheVariants.{Requests, Exchanges}
+use Rattle.request_journal.specs.declared.entry.Entry.{Entry}
 use Rattle.serde_json.specs.Written.{comma_if, compact_text}
 
+abbrev pub text_of : Entry → List ℕ
+text_of entry = compact_text (json_of_entry entry)
+
 abbrev pub texts_in : Entries → List (List ℕ)
-texts_in (Requests entries) = map (λ entry. compact_text (json_of_entry entry)) entries.items
+texts_in (Requests entries) = map text_of entries.items
 texts_in (Exchanges texts) = texts
 
 abbrev pub end_of : Entries → List ℕ
