@@ -3,7 +3,7 @@ ghost use Rattle.std.specs.Prelude.{◌≡◌, ◌≢◌, ◌↔◌, ◌+◌, �
 ghost use Rattle.std.specs.Prelude.{IfOk, OnOk, OnErr, IsErrOf, MatchOption};
 ghost use Rattle.std.specs.List.{AllByRecursion};
 ghost use Rattle.admin_json.specs.Requests.{json_of_found, json_of_requests};
-ghost use Rattle.admin_listing.specs.Inner.Joined.{left_of, texts_in};
+ghost use Rattle.admin_listing.specs.Inner.Joined.{head_of_requests, left_of, texts_in};
 ghost use Rattle.har_export.specs.Document.{AreInRange, IsHarText};
 ghost use Rattle.serde_json.specs.Data.{depth};
 ghost use Rattle.serde_json.specs.Read.{max_depth, read};
@@ -51,9 +51,7 @@ impl Listing {
             → depth (json_of_requests entries.items) ≤ max_depth
             → read listing ≡ Some (json_of_requests entries.items)) }
     {
-        let mut head = String::from_str(alloc, "{\"meta\":{\"total\":")?;
-        head.push_str(Buffer::new().format(entries.len()))?;
-        head.push_str("},\"requests\":[")?;
+        let head = head_of_requests(alloc, entries.len())?;
         Ok(new_listing(head, Entries::Requests(entries)))
     }
 
@@ -103,6 +101,15 @@ impl Listing {
     }
 }
 
+fn head_of_requests(alloc: Global, total: usize) -> Result<String, AllocError>
+    ensures { IfOk result (λ head. string_bytes head ≡ head_of_requests total) }
+{
+    let mut head = String::from_str(alloc, "{\"meta\":{\"total\":")?;
+    head.push_str(Buffer::new().format(total))?;
+    head.push_str("},\"requests\":[")?;
+    Ok(head)
+}
+
 fn new_listing(head: String, entries: Entries) -> Listing
     ensures { result ≡ left_of (string_bytes head) entries (Some 0) }
 {
@@ -150,7 +157,8 @@ fn push_entry(
 {
     push_comma(piece, 0 < index)?;
     let text = entries.text(alloc, index)?;
-    piece.push_str(text.as_str())
+    piece.push_str(text.as_str())?;
+    Ok(())
 }
 
 fn push_comma(piece: &mut String, later: bool) -> Result<(), AllocError>
