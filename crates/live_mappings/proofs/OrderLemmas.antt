@@ -1,5 +1,5 @@
 -- The order of choice among entries, and what comes before what.
-use Rattle.std.proofs.Common.{◌≡◌, ℕ, ◌<◌, ◌≤◌, true, false, List, length, get_or, sym, ap, subst}
+use Rattle.std.proofs.Common.{◌≡◌, ℕ, ◌≤◌, true, false, List, length, get_or, sym, ap, subst}
 use Rattle.std.proofs.Common.{arith, ◌⊎◌, inl, inr, ℤ, ◌<ℤ◌}
 use Rattle.mapping_model.specs.Priority.{priority_of}
 use Rattle.std.specs.Cmp.{IsTotalOrder}

@@ -1,8 +1,8 @@
 -- Which of some entries wins over the others, found among those of each key.
-use Rattle.std.proofs.Common.{◌≡◌, ℕ, ◌<◌, ◌≤◌, ◌-◌, true, false, Bool, List, length, get_or, refl, sym, ap, subst}
-use Rattle.std.proofs.Common.{◌∙◌, arith, ◌⊎◌, inl, inr, Option, Some, None, IfSome}
+use Rattle.std.proofs.Common.{◌≡◌, ℕ, ◌<◌, ◌≤◌, true, false, Bool, not, List, length, get_or, refl, sym, ap, subst}
+use Rattle.std.proofs.Common.{◌∙◌, arith, ◌⊎◌, inl, inr, Option, Some, None}
 use Rattle.std.specs.Cmp.{IsTotalOrder}
-use Rattle.std.specs.List.{All, AllPairs, AllWithin, HoldsAt}
+use Rattle.std.specs.List.{AllPairs, AllWithin, HoldsAt}
 use Rattle.std.specs.List.Sorted.{IsPartitionedBy}
 use Rattle.std.specs.Ordering.{is_gt, is_lt, ordering_reverse, ordering_then}
 use Rattle.std.specs.declared.cmp.Ordering.{Ordering}
@@ -13,7 +13,7 @@ use Rattle.live_mappings.specs.declared.entry.Entry.{Entry}
 use Rattle.live_mappings.specs.Kept.{choice_order, key_order, IsBefore, IsFirst}
 use Rattle.live_mappings.proofs.OrderLemmas.{choice_total, key_total, not_beaten_itself}
 use Rattle.live_mappings.proofs.RankLemmas.{less_than}
-use Rattle.mapping_store.specs.Inner.Best.{IsBest, IsBestAt, IsNone}
+use Rattle.mapping_store.specs.Inner.Best.{IsBest, IsBestAt, IsBetterOf, IsNone}
 use Rattle.request_parts.specs.declared.url_key.UrlKey.{UrlKey}
 
 -- ---- a total order
@@ -112,7 +112,65 @@ module _ (P Q Meets : Entry → Type 0) (entries : List Entry) where
         ];
   }
 
+  pub better_of : (one other result : Option ℕ) → IsBest P Meets entries one → IsBest Q Meets entries other
+      → IsBetterOf entries one other result → IsBest Both Meets entries result
+  better_of None None result no_one no_other is =
+      subst (IsBest Both Meets entries) (sym is) (neither no_one no_other)
+  better_of None (Some after) result no_one other is =
+      subst (IsBest Both Meets entries) (sym is) (other_alone after no_one other)
+  better_of (Some at) None result one no_other is =
+      subst (IsBest Both Meets entries) (sym is) (one_alone at one no_other)
+  better_of (Some at) (Some after) result one other (inl is) =
+      subst (IsBest Both Meets entries) (sym is.0) (one_first at after one other is.1)
+  better_of (Some at) (Some after) result one other (inr is) =
+      subst (IsBest Both Meets entries) (sym is.0) (other_first at after one other is.1)
+
 -- ---- those of one key
+
+-- what is in order is in the order of keys
+in_keys : (r q : Ordering) → is_gt (ordering_then r q) ≡ false → is_gt r ≡ false
+in_keys Less q h = refl
+in_keys Equal q h = refl
+in_keys Greater q h = absurd (true≢false h)
+
+pub from_not_true : (b : Bool) → not b ≡ true → b ≡ false
+from_not_true true h = absurd (false≢true h)
+from_not_true false h = refl
+
+pub from_not_false : (b : Bool) → not b ≡ false → b ≡ true
+from_not_false true h = refl
+from_not_false false h = absurd (true≢false h)
+
+module _ (xs : List Entry) (key : UrlKey) (pairs : AllPairs IsBefore xs) where
+  keys : (i j : ℕ) (d : Entry) → i < j → j < length xs
+      → is_gt (key_order (get_or xs i d).key (get_or xs j d).key) ≡ false
+  keys i j d below l =
+      in_keys (key_order (get_or xs i d).key (get_or xs j d).key)
+      (choice_order (get_or xs i d) (get_or xs j d)) (pairs i j d below l)
+
+  -- those whose keys are less come first
+  pub parted_below : IsPartitionedBy (λ e. is_lt (key_order e.key key)) xs
+  parted_below i j d le l less =
+      elim (cases_order i j) as (λ _. is_lt (key_order (get_or xs i d).key key) ≡ true) [
+        | inl same ↦ subst (λ k. is_lt (key_order (get_or xs k d).key key) ≡ true) (sym same) less
+        | inr other ↦ elim other as (λ _. is_lt (key_order (get_or xs i d).key key) ≡ true) [
+          | inl below ↦ less_than key_total (get_or xs i d).key (get_or xs j d).key key (keys i j d below l) less
+          | inr above ↦ absurd (omega arith)
+        ]
+      ]
+
+  -- and before those whose keys are greater, the others
+  pub parted_up_to : IsPartitionedBy (λ e. not (is_gt (key_order e.key key))) xs
+  parted_up_to i j d le l no_more =
+      elim (cases_order i j) as (λ _. not (is_gt (key_order (get_or xs i d).key key)) ≡ true) [
+        | inl same ↦ subst (λ k. not (is_gt (key_order (get_or xs k d).key key)) ≡ true) (sym same) no_more
+        | inr other ↦ elim other as (λ _. not (is_gt (key_order (get_or xs i d).key key)) ≡ true) [
+          | inl below ↦ ap not
+              (not_gt_trans key_total (get_or xs i d).key (get_or xs j d).key key (keys i j d below l)
+              (from_not_true (is_gt (key_order (get_or xs j d).key key)) no_more))
+          | inr above ↦ absurd (omega arith)
+        ]
+      ]
 
 -- where a key is neither less nor greater, what is in order is in the order of choice
 in_choice : (r q : Ordering) → is_lt r ≡ false → is_gt r ≡ false → is_gt (ordering_then r q) ≡ false
@@ -122,7 +180,7 @@ in_choice Equal q no_less no_more h = h
 in_choice Greater q no_less no_more h = absurd (true≢false no_more)
 
 module _ (entries : List Entry) (key : UrlKey) (start end : ℕ) where
-  record IsBounds : Type 0 where
+  pub record IsBounds : Type 0 where
     pub before : AllWithin (λ e. is_lt (key_order e.key key) ≡ true) entries 0 start
     pub from : AllWithin (λ e. is_lt (key_order e.key key) ≡ false) entries start (length entries)
     pub up_to : AllWithin (λ e. is_gt (key_order e.key key) ≡ false) entries 0 end
@@ -182,7 +240,7 @@ module _ (entries : List Entry) (key : UrlKey) (start end : ℕ) where
 module _ (P Meets : Entry → Type 0) (entries : List Entry)
     (each : (k : ℕ) (d : Entry) → k < length entries → Meets (get_or entries k d) → P (get_or entries k d)) where
   pub of_all : (found : Option ℕ) → IsBest P Meets entries found → IsBest (λ _. Unit {0}) Meets entries found
-  of_all None none k d within is meets = none k d within (each k d within meets) meets
+  of_all None none = λ k d within is meets. none k d within (each k d within meets) meets
   of_all (Some at) best = record {
     within = best.within;
     meets = best.meets;

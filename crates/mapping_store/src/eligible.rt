@@ -1,13 +1,12 @@
 // Which entries are eligible for a request.
-ghost use Rattle.std.specs.Prelude.{◌≡◌, ◌↔◌, ◌<◌, ◌≤◌, ◌⊎◌, ⊤, false, length, true, AllPairs, IfOk, IfSome, IsTrue};
+ghost use Rattle.std.specs.Prelude.{◌≡◌, ◌↔◌, ◌<◌, ◌≤◌, ⊤, false, length, true, AllPairs, IfOk, IfSome, IsTrue};
 ghost use Rattle.std.specs.List.{AllWithin};
 ghost use Rattle.std.specs.Ordering.{is_gt, is_lt};
 ghost use Rattle.request_journal.specs.Choice.{IsEligible, IsReady};
 ghost use Rattle.request_match.specs.Matching.{MeetsRequest};
 ghost use Rattle.scenario_core.specs.Scenarios.{state_of};
 ghost use Rattle.live_mappings.specs.Kept.{AreKept, Fits, IsBefore, key_order, placed_of};
-ghost use Rattle.live_mappings.specs.declared.entry.Entry.{Entry};
-ghost use Rattle.mapping_store.specs.Inner.Best.{IsBest};
+ghost use Rattle.mapping_store.specs.Inner.Best.{IsBest, IsBetterOf};
 
 use live_mappings::book_mapping::BookMapping;
 use live_mappings::entry::{Entry, Source, key_order};
@@ -57,8 +56,7 @@ pub(crate) fn best_eligible(
 fn better(entries: &[Entry], one: Option<usize>, other: Option<usize>) -> Option<usize>
     requires one { IfSome one (λ at. at < length entries.now) }
     requires other { IfSome other (λ at. at < length entries.now) }
-    ensures { (P Q Meets : Entry → Type 0) → IsBest P Meets entries.now one → IsBest Q Meets entries.now other
-        → IsBest (λ e. P e ⊎ Q e) Meets entries.now result }
+    ensures { IsBetterOf entries.now one other result }
 {
     match (one, other) {
         (Some(at), Some(after)) => {
