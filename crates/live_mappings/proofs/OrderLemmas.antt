@@ -11,7 +11,8 @@ use Rattle.std.proofs.lemmas.Cmp.{then_total, on_total, back_total, nat_cmp_tota
 use Rattle.request_journal.specs.Choice.{WinsOver}
 use Rattle.request_journal.specs.declared.mapping.Mapping.{Mapping}
 use Rattle.live_mappings.specs.declared.entry.Entry.{Entry}
-use Rattle.live_mappings.specs.Kept.{choice_order, hash_in, key_order, kind_of, order, placed_of, Fits, IsBefore, IsFirst}
+use Rattle.live_mappings.specs.Kept.{choice_order, hash_in, key_order, kind_of, order, placed_of, Fits, IsBefore}
+use Rattle.live_mappings.specs.Kept.{IsFirst}
 use Rattle.live_mappings.proofs.ListLemmas.{AllPairs-insert}
 use Rattle.live_mappings.proofs.RankLemmas.{less_than, from_less, from_not_less, not_over, Newer}
 

@@ -26,8 +26,8 @@ pub struct Entry {
     pub index: u64,
     pub id: MappingId,
     pub priority: i32,
-    /// What the literal URL of the mapping is known by: a request is compared with those alone that are known by its own,
-    /// and with those that ask for none.
+    /// What the literal URL of the mapping is known by: a request is compared with those alone that are known by its
+    /// own, and with those that ask for none.
     pub key: UrlKey,
     pub source: Source,
     /// For contracts alone.

@@ -1,6 +1,6 @@
 -- Which of some entries wins over the others, found among those of each key.
-use Rattle.std.proofs.Common.{◌≡◌, ℕ, ◌<◌, ◌≤◌, true, false, Bool, not, List, length, get_or, refl, sym, ap, subst}
-use Rattle.std.proofs.Common.{◌∙◌, arith, ◌⊎◌, inl, inr, Option, Some, None}
+use Rattle.std.proofs.Common.{◌≡◌, ℕ, ◌<◌, ◌≤◌, true, false, Bool, not, List, length, get_or, refl}
+use Rattle.std.proofs.Common.{sym, ap, subst, ◌∙◌, arith, ◌⊎◌, inl, inr, Option, Some, None}
 use Rattle.std.specs.Cmp.{IsTotalOrder}
 use Rattle.std.specs.List.{AllPairs, AllWithin, HoldsAt}
 use Rattle.std.specs.List.Sorted.{IsPartitionedBy}
@@ -64,7 +64,8 @@ module _ (P Q Meets : Entry → Type 0) (entries : List Entry) where
   neither one other k d within (inl is) = one k d within is
   neither one other k d within (inr is) = other k d within is
 
-  pub one_alone : (at : ℕ) → IsBestAt P Meets entries at → IsNone Q Meets entries → IsBestAt Both Meets entries at
+  pub one_alone : (at : ℕ) → IsBestAt P Meets entries at → IsNone Q Meets entries
+      → IsBestAt Both Meets entries at
   one_alone at one other = record {
     within = one.within;
     meets = one.meets;
@@ -75,7 +76,8 @@ module _ (P Q Meets : Entry → Type 0) (entries : List Entry) where
         ];
   }
 
-  pub other_alone : (at : ℕ) → IsNone P Meets entries → IsBestAt Q Meets entries at → IsBestAt Both Meets entries at
+  pub other_alone : (at : ℕ) → IsNone P Meets entries → IsBestAt Q Meets entries at
+      → IsBestAt Both Meets entries at
   other_alone at one other = record {
     within = other.within;
     meets = other.meets;
@@ -238,7 +240,8 @@ module _ (entries : List Entry) (key : UrlKey) (start end : ℕ) where
 
 -- what holds of each entry that meets may be left out
 module _ (P Meets : Entry → Type 0) (entries : List Entry)
-    (each : (k : ℕ) (d : Entry) → k < length entries → Meets (get_or entries k d) → P (get_or entries k d)) where
+    (each : (k : ℕ) (d : Entry) → k < length entries → Meets (get_or entries k d)
+    → P (get_or entries k d)) where
   pub of_all : (found : Option ℕ) → IsBest P Meets entries found → IsBest (λ _. Unit {0}) Meets entries found
   of_all None none = λ k d within is meets. none k d within (each k d within meets) meets
   of_all (Some at) best = record {

@@ -1,5 +1,6 @@
 // Which entries are eligible for a request.
-ghost use Rattle.std.specs.Prelude.{◌≡◌, ◌↔◌, ◌<◌, ◌≤◌, ⊤, false, length, true, AllPairs, IfOk, IfSome, IsTrue};
+ghost use Rattle.std.specs.Prelude.{◌≡◌, ◌↔◌, ◌<◌, ◌≤◌, ⊤, false, length, true, AllPairs, IfOk};
+ghost use Rattle.std.specs.Prelude.{IfSome, IsTrue};
 ghost use Rattle.std.specs.List.{AllWithin};
 ghost use Rattle.std.specs.Ordering.{is_gt, is_lt};
 ghost use Rattle.request_journal.specs.Choice.{IsEligible, IsReady};
@@ -28,8 +29,8 @@ pub(crate) fn spec_of<'a>(entry: &'a Entry, defaults: &'a [BookMapping]) -> &'a 
     }
 }
 
-/// The index of the eligible entry that wins over all others. Only those that are known by the request's URL or path, or
-/// that ask for none, are compared with the request.
+/// The index of the eligible entry that wins over all others. Only those that are known by the request's URL or path,
+/// or that ask for none, are compared with the request.
 pub(crate) fn best_eligible(
     entries: &mut [Entry],
     defaults: &mut [BookMapping],
