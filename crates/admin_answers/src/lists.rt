@@ -14,7 +14,7 @@ use admin_listing::listing::Listing;
 use error_code::error_code::ErrorCode;
 use recorder::recording::{Recording, Session};
 use request_match::request_matcher::RequestMatcher;
-use shared_book::book_read::{BookRead, ReadAnswer};
+use shared_book::book_read::{BookRead, ReadAnswer, Reading};
 use shared_book::origin::Origin;
 use shared_book::seat::Seat;
 use shared_book::shared_book::SharedBook;
@@ -30,8 +30,11 @@ pub(crate) fn list_requests<L: Origin, R: Wait>(
     ensures { IfOk result (λ listing.
         InPast L.origin (IsReadReply call.ListRequests (json_reply 200 listing))) }
 {
-    let reading = seat.read(rt, shared, BookRead::Requests)?;
-    match reading.answer {
+    let Reading {
+        number: _number,
+        answer,
+    } = seat.read(rt, shared, BookRead::Requests)?;
+    match answer {
         ReadAnswer::Requests(entries) => Listing::of_requests(alloc, entries),
         _ => unreachable!(),
     }
@@ -46,8 +49,11 @@ pub(crate) fn list_unmatched<L: Origin, R: Wait>(
     ensures { IfOk result (λ listing.
         InPast L.origin (IsReadReply call.ListUnmatched (json_reply 200 listing))) }
 {
-    let reading = seat.read(rt, shared, BookRead::Unmatched)?;
-    match reading.answer {
+    let Reading {
+        number: _number,
+        answer,
+    } = seat.read(rt, shared, BookRead::Unmatched)?;
+    match answer {
         ReadAnswer::Requests(entries) => Listing::of_found(alloc, entries),
         _ => unreachable!(),
     }
@@ -63,8 +69,11 @@ pub(crate) fn find_requests<L: Origin, R: Wait>(
     ensures { IfOk result (λ listing.
         InPast L.origin (IsReadReply (call.FindRequests matcher) (json_reply 200 listing))) }
 {
-    let reading = seat.read(rt, shared, BookRead::Find(matcher))?;
-    match reading.answer {
+    let Reading {
+        number: _number,
+        answer,
+    } = seat.read(rt, shared, BookRead::Find(matcher))?;
+    match answer {
         ReadAnswer::Requests(entries) => Listing::of_found(alloc, entries),
         _ => unreachable!(),
     }

@@ -1,10 +1,13 @@
 // The text of a list, written piece by piece.
-ghost use Rattle.std.specs.Prelude.{◌≡◌, ◌≢◌, ◌↔◌, ◌+◌, ◌<◌, ◌++◌, [], Some, length, string_bytes};
+ghost use Rattle.std.specs.Prelude.{◌≡◌, ◌≢◌, ◌↔◌, ◌+◌, ◌^◌, ◌<◌, ◌≤◌, ◌++◌, [], Some, length, string_bytes};
 ghost use Rattle.std.specs.Prelude.{IfOk, OnOk, OnErr, IsErrOf, MatchOption};
+ghost use Rattle.std.specs.List.{AllByRecursion};
 ghost use Rattle.admin_json.specs.Requests.{json_of_found, json_of_requests};
-ghost use Rattle.admin_listing.specs.Inner.Joined.{left_of, texts_in};
+ghost use Rattle.admin_listing.specs.Inner.Joined.{head_of_requests, left_of, texts_in};
 ghost use Rattle.har_export.specs.Document.{AreInRange, IsHarText};
-ghost use Rattle.serde_json.specs.Written.{compact_text};
+ghost use Rattle.serde_json.specs.Data.{depth};
+ghost use Rattle.serde_json.specs.Read.{max_depth, read};
+ghost use Rattle.serde_json.specs.Written.{comma_if, compact_text};
 
 use crate::entries::Entries;
 use har_export::entries::HarEntries;
@@ -42,17 +45,23 @@ impl Model for Listing {
 impl Listing {
     /// The requests, in the order that is given, and how many there are.
     pub fn of_requests(alloc: Global, entries: Vec<Entry>) -> Result<Listing, AllocError>
-        ensures { IfOk result (λ listing. listing ≡ compact_text (json_of_requests entries.items)) }
+        ensures text { IfOk result (λ listing. listing ≡ compact_text (json_of_requests entries.items)) }
+        ensures reads_back { IfOk result (λ listing.
+            AllByRecursion (λ entry. entry.number < 2 ^ 64) entries.items
+            → depth (json_of_requests entries.items) ≤ max_depth
+            → read listing ≡ Some (json_of_requests entries.items)) }
     {
-        let mut head = String::from_str(alloc, "{\"meta\":{\"total\":")?;
-        head.push_str(Buffer::new().format(entries.len()))?;
-        head.push_str("},\"requests\":[")?;
+        let head = head_of_requests(alloc, entries.len())?;
         Ok(new_listing(head, Entries::Requests(entries)))
     }
 
     /// The requests that were found, in the order that is given.
     pub fn of_found(alloc: Global, entries: Vec<Entry>) -> Result<Listing, AllocError>
-        ensures { IfOk result (λ listing. listing ≡ compact_text (json_of_found entries.items)) }
+        ensures text { IfOk result (λ listing. listing ≡ compact_text (json_of_found entries.items)) }
+        ensures reads_back { IfOk result (λ listing.
+            AllByRecursion (λ entry. entry.number < 2 ^ 64) entries.items
+            → depth (json_of_found entries.items) ≤ max_depth
+            → read listing ≡ Some (json_of_found entries.items)) }
     {
         let head = String::from_str(alloc, "{\"requests\":[")?;
         Ok(new_listing(head, Entries::Requests(entries)))
@@ -90,6 +99,15 @@ impl Listing {
         self.next = next;
         Ok(Some(piece))
     }
+}
+
+fn head_of_requests(alloc: Global, total: usize) -> Result<String, AllocError>
+    ensures { IfOk result (λ head. string_bytes head ≡ head_of_requests total) }
+{
+    let mut head = String::from_str(alloc, "{\"meta\":{\"total\":")?;
+    head.push_str(Buffer::new().format(total))?;
+    head.push_str("},\"requests\":[")?;
+    Ok(head)
 }
 
 fn new_listing(head: String, entries: Entries) -> Listing
@@ -137,9 +155,17 @@ fn push_entry(
     ensures { OnOk result (string_bytes piece.old ++ left_of [] entries.now (Some index)
         ≡ string_bytes piece.new ++ left_of [] entries.now (Some (index + 1))) }
 {
-    if 0 < index {
-        piece.push(',')?;
-    }
+    push_comma(piece, 0 < index)?;
     let text = entries.text(alloc, index)?;
-    piece.push_str(text.as_str())
+    piece.push_str(text.as_str())?;
+    Ok(())
+}
+
+fn push_comma(piece: &mut String, later: bool) -> Result<(), AllocError>
+    ensures { OnOk result (string_bytes piece.new ≡ string_bytes piece.old ++ comma_if later) }
+{
+    if later {
+        piece.push_str(",")?;
+    }
+    Ok(())
 }

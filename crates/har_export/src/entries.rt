@@ -1,27 +1,18 @@
 // The entries of a document, each of which is written by itself.
-ghost use Rattle.std.specs.Prelude.{◌≡◌, ◌↔◌, ◌<◌, ◌*◌, Some, length, map, pos, IfOk, IsErrOf, slice_get, string_bytes};
+ghost use Rattle.std.specs.Prelude.{◌≡◌, ◌↔◌, ◌<◌, Some, length, map, IfOk, IsErrOf, slice_get, string_bytes};
 ghost use Rattle.har_export.specs.Document.{AreEntries, AreInRange, texts_of};
 ghost use Rattle.har_export.specs.Inner.Timed.{text_of, texts_of_timed};
 ghost use Rattle.har_export.specs.Moment.{IsInRange};
-ghost use Rattle.jiff_core.specs.DateTime.{civil_nanos};
 ghost use Rattle.serde_json.specs.Data.{Items};
 
 use crate::error::HarError;
 use crate::har::{are_in_range, entry_started};
 use crate::moment::{clock_at, shown_value};
-use jiff_core::civil::DateTime;
+use crate::timed::Timed;
 use recorder::exchange::SharedExchange;
 use recorder::target::Target;
 use std::alloc::{AllocError, Global};
 use std::marker::Model;
-
-/// An exchange, and what a clock at UTC showed when it was started.
-#[derive(Drop)]
-pub(crate) struct Timed {
-    pub exchange: SharedExchange,
-    pub shown: DateTime,
-    ghost at: { civil_nanos shown ≡ pos (exchange.started_ms * 1_000_000) },
-}
 
 /// The entries of exchanges with a target, which contracts see as their compact texts. Only references are kept, and
 /// moments.

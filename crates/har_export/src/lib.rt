@@ -13,3 +13,4 @@ mod content;
 mod message;
 mod moment;
 mod pairs;
+mod timed;

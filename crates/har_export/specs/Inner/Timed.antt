@@ -2,7 +2,7 @@
 use Rattle.std.specs.Prelude.{ℕ, List, map}
 use Rattle.har_export.specs.Document.{json_of_entry}
 use Rattle.har_export.specs.Moment.{moment_text}
-use Rattle.har_export.specs.declared.entries.Timed.{Timed}
+use Rattle.har_export.specs.declared.timed.Timed.{Timed}
 use Rattle.serde_json.specs.Written.{compact_text}
 
 abbrev pub text_of : List ℕ → Timed → List ℕ

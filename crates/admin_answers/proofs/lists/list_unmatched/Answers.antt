@@ -1,0 +1,7 @@
+use Rattle.admin_answers.proofs.ReadLemmas.{unmatched}
+use Rattle.admin_answers.proofs.lists.list_unmatched.Goals as goal
+
+pub returns : goal.returns
+returns g c =
+    unmatched g.L.Origin.origin c.in-Requests.entries c.in_ok-reading.reading c.of_found.result c.in_ok-reading.ensures
+    c.in-Requests.is c.ranges.number c.of_found.ensures.text c.of_found.ensures.reads_back
