@@ -1,10 +1,9 @@
 -- What is sent of a response.
-use Rattle.std.specs.Prelude.{◌≡◌, ℕ, Bool, ◌==◌, ◌||◌, List, [], ◌∷◌, codes, fold, reverse, None}
-use Rattle.std.specs.Prelude.{if◌then◌else◌, bytes_eq}
+use Rattle.std.specs.Prelude.{◌≡◌, ℕ, Bool, ◌==◌, ◌||◌, List, [], ◌∷◌, codes, fold, reverse}
+use Rattle.std.specs.Prelude.{IsFalse, IsTrue, if◌then◌else◌, bytes_eq}
 use Rattle.std.specs.List.{list_any}
 use Rattle.http.specs.Response.{head_of, body_of}
 use Rattle.http.specs.declared.response.Response.{Response}
-use Rattle.http_body_util.specs.declared.full.Full.{Full}
 use Rattle.http_header.specs.FieldValue.{FieldValue}
 use Rattle.http_header.specs.HeaderMap.{Entries, append, pairs}
 use Rattle.http_header.specs.Token.{space, tab}
@@ -47,12 +46,10 @@ sent_headers headers = fold with_sent [] (pairs headers)
 abbrev pub has_no_content : ℕ → Bool
 has_no_content status = (status == 204) || ((status == 205) || (status == 304))
 
-abbrev pub sent_body : ℕ → Full (List ℕ) → Full (List ℕ)
-sent_body status body = if has_no_content status then record { buf = None } else body
-
--- what is sent of a response
-pub record IsSent (response sent : Response (Full (List ℕ))) : Type 0 where
+-- what is sent of a response; `IsEmpty` says which content has no bytes
+pub record IsSent {B : Type 0} (IsEmpty : B → Type 0) (response sent : Response B) : Type 0 where
   pub status : (head_of sent).status ≡ (head_of response).status
   pub version : (head_of sent).version ≡ (head_of response).version
   pub headers : (head_of sent).headers ≡ sent_headers (head_of response).headers
-  pub body : body_of sent ≡ sent_body (head_of response).status (body_of response)
+  pub empty : IsTrue (has_no_content (head_of response).status) → IsEmpty (body_of sent)
+  pub body : IsFalse (has_no_content (head_of response).status) → body_of sent ≡ body_of response

@@ -9,13 +9,12 @@ ghost use Rattle.http_messages.specs.Wire.{without_blanks, without_end_blanks, w
 use bytes::Bytes;
 use http::response::Parts;
 use http::{HeaderMap, HeaderName, HeaderValue, Response, StatusCode};
-use http_body_util::Full;
 use std::alloc::{AllocError, Global};
 
 /// Whether a response is sent as it is: most are, and nothing of them is made anew. `sent` makes what is sent
 /// of the others.
-pub fn is_as_sent(response: &Response<Full<Bytes>>) -> bool
-    ensures { IsTrue result → IsSent response.now response.now }
+pub fn is_as_sent<B: Default>(response: &Response<B>) -> bool
+    ensures { IsTrue result → IsSent B.is_default response.now response.now }
 {
     !has_no_content(response.status()) && are_as_sent(response.headers())
 }
@@ -25,16 +24,16 @@ pub fn is_as_sent(response: &Response<Full<Bytes>>) -> bool
 // Not inlined: a function clears all its locals when it is entered, and a response that is sent as it is needs
 // none of these.
 #[inline(never)]
-pub fn sent(
+pub fn sent<B: Default + Drop>(
     alloc: Global,
-    response: Response<Full<Bytes>>,
-) -> Result<Response<Full<Bytes>>, AllocError>
-    ensures { IfOk result (IsSent response) }
+    response: Response<B>,
+) -> Result<Response<B>, AllocError>
+    ensures { IfOk result (IsSent B.is_default response) }
 {
     let (head, body) = response.into_parts();
     let headers = sent_headers(alloc, &head.headers)?;
     let body = if has_no_content(head.status) {
-        Full::default()
+        B::default()
     } else {
         body
     };
