@@ -1,6 +1,6 @@
 -- What is sent of a response.
 use Rattle.std.specs.Prelude.{◌≡◌, ℕ, Bool, ◌==◌, ◌||◌, List, [], ◌∷◌, codes, fold, reverse}
-use Rattle.std.specs.Prelude.{if◌then◌else◌, bytes_eq, MatchBool}
+use Rattle.std.specs.Prelude.{IsFalse, IsTrue, if◌then◌else◌, bytes_eq}
 use Rattle.std.specs.List.{list_any}
 use Rattle.http.specs.Response.{head_of, body_of}
 use Rattle.http.specs.declared.response.Response.{Response}
@@ -46,13 +46,10 @@ sent_headers headers = fold with_sent [] (pairs headers)
 abbrev pub has_no_content : ℕ → Bool
 has_no_content status = (status == 204) || ((status == 205) || (status == 304))
 
--- The body that is sent of one; `IsEmpty` says which bodies have no content.
-abbrev pub IsSentBody : {B : Type 0} → (B → Type 0) → ℕ → B → B → Type 0
-IsSentBody IsEmpty status body sent = MatchBool (has_no_content status) (IsEmpty sent) (sent ≡ body)
-
--- what is sent of a response
+-- what is sent of a response; `IsEmpty` says which content has no bytes
 pub record IsSent {B : Type 0} (IsEmpty : B → Type 0) (response sent : Response B) : Type 0 where
   pub status : (head_of sent).status ≡ (head_of response).status
   pub version : (head_of sent).version ≡ (head_of response).version
   pub headers : (head_of sent).headers ≡ sent_headers (head_of response).headers
-  pub body : IsSentBody IsEmpty (head_of response).status (body_of response) (body_of sent)
+  pub empty : IsTrue (has_no_content (head_of response).status) → IsEmpty (body_of sent)
+  pub body : IsFalse (has_no_content (head_of response).status) → body_of sent ≡ body_of response
