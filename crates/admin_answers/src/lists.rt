@@ -14,7 +14,7 @@ use admin_listing::listing::Listing;
 use error_code::error_code::ErrorCode;
 use recorder::recording::{Recording, Session};
 use request_match::request_matcher::RequestMatcher;
-use shared_book::book_read::{BookRead, ReadAnswer, Reading};
+use shared_book::book_read::{BookRead, ReadAnswer};
 use shared_book::origin::Origin;
 use shared_book::seat::Seat;
 use shared_book::shared_book::SharedBook;
@@ -30,11 +30,9 @@ pub(crate) fn list_requests<L: Origin, R: Wait>(
     ensures { IfOk result (λ listing.
         InPast L.origin (IsReadReply call.ListRequests (json_reply 200 listing))) }
 {
-    let Reading {
-        number: _number,
-        answer,
-    } = seat.read(rt, shared, BookRead::Requests)?;
-    match answer {
+    let reading = seat.read(rt, shared, BookRead::Requests)?;
+    let _number = reading.number;
+    match reading.answer {
         ReadAnswer::Requests(entries) => Listing::of_requests(alloc, entries),
         _ => unreachable!(),
     }
@@ -49,11 +47,9 @@ pub(crate) fn list_unmatched<L: Origin, R: Wait>(
     ensures { IfOk result (λ listing.
         InPast L.origin (IsReadReply call.ListUnmatched (json_reply 200 listing))) }
 {
-    let Reading {
-        number: _number,
-        answer,
-    } = seat.read(rt, shared, BookRead::Unmatched)?;
-    match answer {
+    let reading = seat.read(rt, shared, BookRead::Unmatched)?;
+    let _number = reading.number;
+    match reading.answer {
         ReadAnswer::Requests(entries) => Listing::of_found(alloc, entries),
         _ => unreachable!(),
     }
@@ -69,11 +65,9 @@ pub(crate) fn find_requests<L: Origin, R: Wait>(
     ensures { IfOk result (λ listing.
         InPast L.origin (IsReadReply (call.FindRequests matcher) (json_reply 200 listing))) }
 {
-    let Reading {
-        number: _number,
-        answer,
-    } = seat.read(rt, shared, BookRead::Find(matcher))?;
-    match answer {
+    let reading = seat.read(rt, shared, BookRead::Find(matcher))?;
+    let _number = reading.number;
+    match reading.answer {
         ReadAnswer::Requests(entries) => Listing::of_found(alloc, entries),
         _ => unreachable!(),
     }

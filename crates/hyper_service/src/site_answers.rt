@@ -7,11 +7,11 @@ ghost use Rattle.hyper_service.specs.Inner.Failure.{IsFailure};
 
 use crate::site_exchange::{Forwarded, SiteExchange};
 use answering::clock::Clock;
+use answering::content::Content;
 use answering::forward::Forward;
 use answering::site::Site;
 use bytes::Bytes;
 use http::{Request, Response};
-use http_body_util::Full;
 use http_connections::answers::Answers;
 use http_connections::begun::Begun;
 use http_messages::error::ServiceError;
@@ -49,6 +49,8 @@ where
 
     type Exchange = SiteExchange<F::Exchange>;
 
+    type Content = Content;
+
     ghost gives = { IsGiven F.sends F.Exchange.gives L.origin };
 
     ghost forwards = { IsForwardedBy F.sends F.Exchange.gives L.origin };
@@ -59,7 +61,7 @@ where
         alloc: Global,
         seat: &mut Seat<L>,
         request: &Request<Bytes>,
-    ) -> Result<Begun<SiteExchange<F::Exchange>>, ServiceError> {
+    ) -> Result<Begun<SiteExchange<F::Exchange>, Content>, ServiceError> {
         match answering::begin::begin(rt, alloc, &self.site, seat, request)? {
             answering::begun::Begun::Answered(response) => Ok(Begun::Answered(response)),
             answering::begun::Begun::ToForward(forward) => self.forward(rt, alloc, seat, forward),
@@ -72,7 +74,7 @@ where
         alloc: Global,
         seat: &mut Seat<L>,
         reply: Forwarded,
-    ) -> Result<Response<Full<Bytes>>, ServiceError> {
+    ) -> Result<Response<Content>, ServiceError> {
         self.finish_forwarded(rt, alloc, seat, reply)
     }
 
@@ -104,7 +106,7 @@ where
         alloc: Global,
         seat: &mut Seat<L>,
         forward: Forward,
-    ) -> Result<Begun<SiteExchange<F::Exchange>>, ServiceError>
+    ) -> Result<Begun<SiteExchange<F::Exchange>, Content>, ServiceError>
         ensures { (message : _) (old : _) → IsToForward L.origin old seat.old message forward
             → IfOk result (IsBegun (IsGiven F.sends F.Exchange.gives L.origin)
             (IsForwardedBy F.sends F.Exchange.gives L.origin)
@@ -125,7 +127,7 @@ where
         alloc: Global,
         seat: &mut Seat<L>,
         forwarded: Forwarded,
-    ) -> Result<Response<Full<Bytes>>, ServiceError>
+    ) -> Result<Response<Content>, ServiceError>
         ensures { IfOk result (IsFinished L.origin seat.old seat.new forwarded.forward forwarded.reply) }
     {
         let Forwarded { forward, reply } = forwarded;
