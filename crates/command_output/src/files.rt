@@ -3,7 +3,7 @@ ghost use Rattle.std.specs.Prelude.{◌≡◌, IfOk, IfErr};
 ghost use Rattle.command_output.specs.Files.{IsFile, IsFileError};
 
 use crate::error::CommandError;
-use crate::output::put_all;
+use crate::output::{put_all, put_notes};
 use error_code::error_code::ErrorCode;
 use std::alloc::Global;
 use std::fs::File;
@@ -40,14 +40,14 @@ impl FileReader for HostRuntime {
 /// Why no file is read.
 #[derive(Clone, Copy, Debug)]
 pub enum FileError {
-    /// It can't be read, or is over the limit.
-    CannotRead,
+    /// It can't be read, or is over the limit; and why.
+    CannotRead(io::Error),
     OutOfMemory,
 }
 
 impl FileError {
     ghost use Rattle.command_output.specs.Files.{file_error_line};
-    ghost use Rattle.command_output.specs.Output.{AppendsFront, Writes};
+    ghost use Rattle.command_output.specs.Output.{AppendsFront, Continues, Writes};
 
     /// Writes its line, as far as the writer takes it. Takes no memory.
     pub fn report<W: Write>(self, path: &str, err: &mut W)
@@ -57,13 +57,35 @@ impl FileError {
         let _ = self.write_to(path, err);
     }
 
+    /// Writes the system's reason on a line of its own, as far as there is memory and the writer takes it.
+    pub fn explain<W: Write>(self, alloc: Global, err: &mut W)
+        ensures { Continues (W.contents err.old) (W.contents err.new) }
+    {
+        put_notes(err, self.reason(alloc).as_str());
+    }
+
+    fn reason(self, alloc: Global) -> String {
+        match self {
+            FileError::CannotRead(reason) => reason_line(alloc, &reason),
+            FileError::OutOfMemory => String::new(alloc),
+        }
+    }
+
     fn write_to<W: Write>(self, path: &str, out: &mut W) -> io::Result<()>
         ensures { Writes result (W.contents out.old) (W.contents out.new) (file_error_line path.now self) }
     {
         match self {
-            FileError::CannotRead => put_all(out, ["error: cannot read ", path, "\n"].as_slice()),
+            FileError::CannotRead(_reason) => put_all(out, ["error: cannot read ", path, "\n"].as_slice()),
             FileError::OutOfMemory => CommandError::from(ErrorCode::OutOfMemory).write_to(out),
         }
+    }
+}
+
+/// An error of the system in words, on a line that follows the error's own.
+pub fn reason_line(alloc: Global, error: &io::Error) -> String {
+    match format!(in alloc; "  {error}\n") {
+        Ok(line) => line,
+        Err(_out_of_memory) => String::new(alloc),
     }
 }
 
@@ -77,12 +99,14 @@ pub fn read_file<F: FileReader>(alloc: Global, files: &F, path: &str) -> Result<
             if bytes.len() as u64 <= FILE_LIMIT {
                 Ok(bytes)
             } else {
-                Err(FileError::CannotRead)
+                Err(FileError::CannotRead(io::Error::from(
+                    ErrorKind::FileTooLarge,
+                )))
             }
         }
         Err(error) => Err(match error.kind() {
             ErrorKind::OutOfMemory => FileError::OutOfMemory,
-            _ => FileError::CannotRead,
+            _ => FileError::CannotRead(error),
         }),
     }
 }

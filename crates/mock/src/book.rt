@@ -1,6 +1,9 @@
 // The book that is served.
 use command_output::error::CommandError;
 use command_output::files::{FileReader, read_file};
+use command_output::output::put_notes;
+use mapping_diagnosis::notes::Notes;
+use mapping_json::error::MappingsError;
 use mapping_json::read::read_mappings_with;
 use request_match::ready_mapping::ReadyMapping;
 use std::alloc::Global;
@@ -8,8 +11,8 @@ use std::io::Write;
 use stub_book::book::Book;
 use template_tree::escape::Escape;
 
-/// A book with the mappings of the file, whose templates' prints are escaped so, or with none. What is wrong is told on
-/// `err`: first the file, then its mappings, then that they are too many.
+/// A book with the mappings of the file, whose templates' prints are escaped so, or with none. What is wrong is reported
+/// on `err`: first the file, then its mappings, then that they are too many. Lines there say where and why, and warn.
 pub(crate) fn book_of<F: FileReader, E: Write>(
     alloc: Global,
     files: &F,
@@ -38,9 +41,10 @@ fn mappings_of<F: FileReader, E: Write>(
     err: &mut E,
 ) -> Option<Vec<ReadyMapping>> {
     match read_file(alloc, files, path) {
-        Ok(bytes) => read(alloc, bytes.as_slice(), escape, err),
+        Ok(bytes) => read(alloc, path, bytes.as_slice(), escape, err),
         Err(error) => {
             error.report(path, err);
+            error.explain(alloc, err);
             None
         }
     }
@@ -48,15 +52,33 @@ fn mappings_of<F: FileReader, E: Write>(
 
 fn read<E: Write>(
     alloc: Global,
+    path: &str,
     bytes: &[u8],
     escape: Escape,
     err: &mut E,
 ) -> Option<Vec<ReadyMapping>> {
     match read_mappings_with(alloc, bytes, escape) {
-        Ok(mappings) => Some(mappings),
+        Ok(mappings) => {
+            note(alloc, path, bytes, None, err);
+            Some(mappings)
+        }
         Err(error) => {
             CommandError::from(error.error.error_code()).report(err);
+            note(alloc, path, bytes, Some(error), err);
             None
         }
     }
+}
+
+// Writes what there is to say of the document of a file, as far as there is memory for it.
+fn note<E: Write>(
+    alloc: Global,
+    path: &str,
+    bytes: &[u8],
+    error: Option<MappingsError>,
+    err: &mut E,
+) {
+    let mut notes = Notes::new(alloc);
+    let _ = notes.add_all(alloc, path, 1, bytes, error);
+    put_notes(err, notes.as_str());
 }
