@@ -6,9 +6,11 @@ use crate::error::CommandError;
 use crate::output::{put_all, put_notes};
 use error_code::error_code::ErrorCode;
 use std::alloc::Global;
+use std::fs;
 use std::fs::File;
 use std::io;
 use std::io::{ErrorKind, Read, Write};
+use std::path::AsPath;
 
 /// The most bytes that a file may have.
 pub const FILE_LIMIT: u64 = 16_777_216;
@@ -27,6 +29,9 @@ pub trait FileReader {
             (λ front. IfSome (content self.now path.now) (λ all. front.items ≡ take limit all)) }
         ensures error { IfErr result (λ error. IfSome (content self.now path.now)
             (λ _. error_kind error ≡ ErrorKind.OutOfMemory)) };
+
+    /// The files that a path names: itself; or, of a folder, those in it whose names end in `.json`, in byte order.
+    fn files_at(&self, alloc: Global, path: &str) -> io::Result<Vec<String>>;
 }
 
 impl FileReader for HostRuntime {
@@ -35,6 +40,35 @@ impl FileReader for HostRuntime {
         File::open(self, path)?.take(limit).read_to_end(&mut front)?;
         Ok(front)
     }
+
+    fn files_at(&self, alloc: Global, path: &str) -> io::Result<Vec<String>> {
+        if is_folder(self, path) {
+            return files_in(self, alloc, path);
+        }
+        let mut files = Vec::new(alloc);
+        files.push(String::from_str(alloc, path)?)?;
+        Ok(files)
+    }
+}
+
+// A link to a folder is one, too.
+fn is_folder(rt: &HostRuntime, path: &str) -> bool {
+    match fs::metadata(rt, path) {
+        Ok(metadata) => metadata.is_dir(),
+        Err(_error) => false,
+    }
+}
+
+fn files_in(rt: &HostRuntime, alloc: Global, folder: &str) -> io::Result<Vec<String>> {
+    let mut files: Vec<String> = Vec::new(alloc);
+    for entry in fs::read_dir(rt, folder)? {
+        let path = String::from_str(alloc, entry?.path().path_text())?;
+        if path.as_str().ends_with(".json") && !is_folder(rt, path.as_str()) {
+            files.push(path)?;
+        }
+    }
+    files.sort()?;
+    Ok(files)
 }
 
 /// Why no file is read.
@@ -78,6 +112,21 @@ impl FileError {
             FileError::CannotRead(_reason) => put_all(out, ["error: cannot read ", path, "\n"].as_slice()),
             FileError::OutOfMemory => CommandError::from(ErrorCode::OutOfMemory).write_to(out),
         }
+    }
+}
+
+/// The files that a path names: itself; or, of a folder, those in it whose names end in `.json`, in byte order.
+pub fn list_files<F: FileReader>(
+    alloc: Global,
+    files: &F,
+    path: &str,
+) -> Result<Vec<String>, FileError> {
+    match files.files_at(alloc, path) {
+        Ok(paths) => Ok(paths),
+        Err(error) => Err(match error.kind() {
+            ErrorKind::OutOfMemory => FileError::OutOfMemory,
+            _ => FileError::CannotRead(error),
+        }),
     }
 }
 

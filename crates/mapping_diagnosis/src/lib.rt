@@ -16,5 +16,3 @@ mod sought;
 mod warnings;
 
 pub mod notes;
-#[cfg(test)]
-mod tests;

@@ -91,7 +91,7 @@ impl Notes {
             Err(error) => if error.is_memory() {
                 return Err(AllocError);
             } else {
-                format!(in alloc; "it isn't JSON: {error}")?
+                format!(in alloc; "{error}")?
             },
         };
         let line = format!(in alloc; "  {file}: {what}\n")?;

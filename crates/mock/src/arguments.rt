@@ -114,7 +114,7 @@ fn command<'a>(alloc: Global) -> Result<Command<'a>, AllocError> {
             Arg::new(alloc, "mappings")
                 .long("mappings")
                 .value_name("FILE")
-                .help("A JSON file: one mapping, or an object with a list `mappings`"),
+                .help("A JSON file: one mapping, or an object with a list `mappings`; or a folder of them"),
         )?
         .arg(
             Arg::new(alloc, "html-escape")
