@@ -6,11 +6,10 @@ use crate::error::CommandError;
 use crate::output::{put_all, put_notes};
 use error_code::error_code::ErrorCode;
 use std::alloc::Global;
-use std::fs;
 use std::fs::File;
-use std::io;
 use std::io::{ErrorKind, Read, Write};
 use std::path::AsPath;
+use std::{fs, io};
 
 /// The most bytes that a file may have.
 pub const FILE_LIMIT: u64 = 16_777_216;
@@ -109,7 +108,10 @@ impl FileError {
         ensures { Writes result (W.contents out.old) (W.contents out.new) (file_error_line path.now self) }
     {
         match self {
-            FileError::CannotRead(_reason) => put_all(out, ["error: cannot read ", path, "\n"].as_slice()),
+            FileError::CannotRead(_reason) => put_all(
+                out,
+                ["error: cannot read ", path, "\n"].as_slice(),
+            ),
             FileError::OutOfMemory => CommandError::from(ErrorCode::OutOfMemory).write_to(out),
         }
     }
@@ -148,9 +150,7 @@ pub fn read_file<F: FileReader>(alloc: Global, files: &F, path: &str) -> Result<
             if bytes.len() as u64 <= FILE_LIMIT {
                 Ok(bytes)
             } else {
-                Err(FileError::CannotRead(io::Error::from(
-                    ErrorKind::FileTooLarge,
-                )))
+                Err(FileError::CannotRead(io::Error::from(ErrorKind::FileTooLarge)))
             }
         }
         Err(error) => Err(match error.kind() {

@@ -176,7 +176,9 @@ fn expected_fault(alloc: Global, text: &str) -> Result<Option<Fault>, AllocError
             Err(AllocError)
         } else {
             let found = quoted(alloc, text)?;
-            let said = format!(in alloc; "wanted JSON or the text of JSON, found {found}: {error}")?;
+            let said = format!(in alloc;
+                "wanted JSON or the text of JSON, found {found}: {error}"
+            )?;
             Ok(Some(Fault::saying(alloc, said)?))
         },
     }

@@ -8,11 +8,10 @@ mod fault;
 mod leaf;
 mod mapping;
 mod matcher;
+pub mod notes;
 mod numbers;
 mod request;
 mod response;
 mod shown;
 mod sought;
 mod warnings;
-
-pub mod notes;

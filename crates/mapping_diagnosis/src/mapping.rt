@@ -43,7 +43,11 @@ fn field_fault(
         return response_fault(alloc, member, sought);
     }
     if sought == Sought::Number {
-        return if is_read(name) { number_fault(alloc, member) } else { Ok(None) };
+        return if is_read(name) {
+            number_fault(alloc, member)
+        } else {
+            Ok(None)
+        };
     }
     match name {
         "request" => request_fault(alloc, member, sought),
@@ -63,8 +67,7 @@ fn field_fault(
 pub(crate) fn is_read(name: &str) -> bool {
     matches!(
         name,
-        "id"
-            | "uuid"
+        "id" | "uuid"
             | "name"
             | "priority"
             | "scenarioName"

@@ -5,11 +5,12 @@ use crate::sought::Sought;
 use serde_json::Value;
 use std::alloc::{AllocError, Global};
 
-const VALUE_WORDS: &str = "equalTo (with caseInsensitive), contains, doesNotContain, matches, doesNotMatch, absent";
+const VALUE_WORDS: &str =
+    "equalTo (with caseInsensitive), contains, doesNotContain, matches, doesNotMatch, absent";
 
 const BODY_WORDS: &str =
-    "equalTo (with caseInsensitive), contains, doesNotContain, matches, doesNotMatch, absent, binaryEqualTo, equalToJson \
-    (with ignoreArrayOrder, ignoreExtraElements), matchesJsonPath";
+    "equalTo (with caseInsensitive), contains, doesNotContain, matches, doesNotMatch, absent, binaryEqualTo, \
+    equalToJson (with ignoreArrayOrder, ignoreExtraElements), matchesJsonPath";
 
 /// What is wrong in the sought way with a matcher of a header, a query parameter, a cookie or a path parameter.
 pub(crate) fn value_matcher_fault(
@@ -18,7 +19,12 @@ pub(crate) fn value_matcher_fault(
     sought: Sought,
 ) -> Result<Option<Fault>, AllocError> {
     let Some(members) = value.as_object() else {
-        return misshapen(alloc, "an object with a matcher, as {\"equalTo\":\"text\"}", value, sought);
+        return misshapen(
+            alloc,
+            "an object with a matcher, as {\"equalTo\":\"text\"}",
+            value,
+            sought,
+        );
     };
     for (name, member) in members.iter() {
         let found = match value_word(name.as_str()) {
@@ -55,7 +61,12 @@ pub(crate) fn body_matcher_fault(
     sought: Sought,
 ) -> Result<Option<Fault>, AllocError> {
     let Some(members) = value.as_object() else {
-        return misshapen(alloc, "an object with a matcher, as {\"equalTo\":\"text\"}", value, sought);
+        return misshapen(
+            alloc,
+            "an object with a matcher, as {\"equalTo\":\"text\"}",
+            value,
+            sought,
+        );
     };
     for (name, member) in members.iter() {
         if let Some(fault) = body_word_fault(alloc, name.as_str(), member, sought)? {
@@ -78,7 +89,12 @@ fn body_word_fault(
     match name {
         "binaryEqualTo" => leaf_fault(alloc, Leaf::Base64, member, sought),
         "equalToJson" => leaf_fault(alloc, Leaf::ExpectedJson, member, sought),
-        "ignoreArrayOrder" | "ignoreExtraElements" => leaf_fault(alloc, Leaf::Truth, member, sought),
+        "ignoreArrayOrder" | "ignoreExtraElements" => leaf_fault(
+            alloc,
+            Leaf::Truth,
+            member,
+            sought,
+        ),
         "matchesJsonPath" => json_path_fault(alloc, member, sought),
         name => match value_word(name) {
             Some(leaf) => leaf_fault(alloc, leaf, member, sought),
@@ -112,7 +128,12 @@ fn json_path_fault(
         return leaf_fault(alloc, Leaf::JsonPath, value, sought);
     }
     let Some(members) = value.as_object() else {
-        return misshapen(alloc, "a JSON path, or an object with one as `expression`", value, sought);
+        return misshapen(
+            alloc,
+            "a JSON path, or an object with one as `expression`",
+            value,
+            sought,
+        );
     };
     for (name, member) in members.iter() {
         let found = match name.as_str() {

@@ -57,7 +57,10 @@ impl Notes {
         if let Some(error) = error {
             let name = name_of(alloc, value)?;
             let what = what_of(alloc, place, value, error)?;
-            let line = format!(in alloc; "  {}, mapping {}{name}{what}\n", place.file, place.number)?;
+            let line = format!(in alloc;
+                "  {}, mapping {}{name}{what}\n",
+                place.file, place.number
+            )?;
             self.add_line(line.as_str())?;
         }
         let warnings = warnings_of(alloc, value)?;
@@ -75,7 +78,10 @@ impl Notes {
         warning: &str,
     ) -> Result<(), AllocError> {
         let name = name_of(alloc, value)?;
-        let line = format!(in alloc; "warning: {}, mapping {}{name}: {warning}\n", place.file, place.number)?;
+        let line = format!(in alloc;
+            "warning: {}, mapping {}{name}: {warning}\n",
+            place.file, place.number
+        )?;
         self.add_line(line.as_str())
     }
 
@@ -154,10 +160,12 @@ impl Notes {
 
 fn error_at(error: Option<MappingsError>, index: usize) -> Option<MappingError> {
     match error {
-        Some(MappingsError {
-            index: Some(at),
-            error,
-        }) => if at == index { Some(error) } else { None },
+        Some(
+            MappingsError {
+                index: Some(at),
+                error,
+            },
+        ) => if at == index { Some(error) } else { None },
         _ => None,
     }
 }
@@ -170,7 +178,9 @@ fn document_fault(alloc: Global, document: &Value) -> Result<String, AllocError>
         }
         None => {
             let found = shown(alloc, document)?;
-            format!(in alloc; "wanted a mapping, or an object with a list `mappings`, found {found}")
+            format!(in alloc;
+                "wanted a mapping, or an object with a list `mappings`, found {found}"
+            )
         }
     }
 }

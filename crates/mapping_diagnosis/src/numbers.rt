@@ -31,10 +31,7 @@ fn item_fault(alloc: Global, items: &Vec<Value>) -> Result<Option<Fault>, AllocE
 }
 
 #[cycle(number_fault)]
-fn member_fault(
-    alloc: Global,
-    members: &Map<String, Value>,
-) -> Result<Option<Fault>, AllocError> {
+fn member_fault(alloc: Global, members: &Map<String, Value>) -> Result<Option<Fault>, AllocError> {
     for (name, member) in members.iter() {
         if let Some(fault) = number_fault(alloc, member)? {
             return Ok(Some(fault.under(alloc, name.as_str())?));

@@ -52,7 +52,12 @@ fn field_fault(
 /// An object with a value matcher at each name.
 fn named_fault(alloc: Global, value: &Value, sought: Sought) -> Result<Option<Fault>, AllocError> {
     let Some(members) = value.as_object() else {
-        return misshapen(alloc, "an object with a matcher at each name", value, sought);
+        return misshapen(
+            alloc,
+            "an object with a matcher at each name",
+            value,
+            sought,
+        );
     };
     for (name, member) in members.iter() {
         if let Some(fault) = value_matcher_fault(alloc, member, sought)? {

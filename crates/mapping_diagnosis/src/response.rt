@@ -81,7 +81,12 @@ fn headers_fault(
     sought: Sought,
 ) -> Result<Option<Fault>, AllocError> {
     let Some(members) = value.as_object() else {
-        return misshapen(alloc, "an object with a text, or a list of texts, at each name", value, sought);
+        return misshapen(
+            alloc,
+            "an object with a text, or a list of texts, at each name",
+            value,
+            sought,
+        );
     };
     if sought != Sought::Shape {
         return Ok(None);
@@ -100,7 +105,9 @@ fn headers_fault(
 fn header_fault(alloc: Global, name: &str, value: &Value) -> Result<Option<Fault>, AllocError> {
     if FieldName::new(Text::from(String::from_str(alloc, name)?)).is_none() {
         let found = quoted(alloc, name)?;
-        let said = format!(in alloc; "wanted the name of a header, a token by RFC 9110, found {found}")?;
+        let said = format!(in alloc;
+            "wanted the name of a header, a token by RFC 9110, found {found}"
+        )?;
         return Ok(Some(Fault::saying(alloc, said)?));
     }
     let Some(items) = value.as_array() else {
@@ -139,7 +146,12 @@ fn transformers_fault(
     sought: Sought,
 ) -> Result<Option<Fault>, AllocError> {
     let Some(items) = value.as_array() else {
-        return misshapen(alloc, "a list of transformers, as [\"response-template\"]", value, sought);
+        return misshapen(
+            alloc,
+            "a list of transformers, as [\"response-template\"]",
+            value,
+            sought,
+        );
     };
     for (index, item) in items.iter().enumerate() {
         if let Some(fault) = transformer_fault(alloc, item, sought)? {

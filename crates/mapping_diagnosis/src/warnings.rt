@@ -18,11 +18,7 @@ pub(crate) fn warnings_of(alloc: Global, value: &Value) -> Result<Vec<String>, A
 }
 
 /// Fields at the top that are ignored, and that WireMock doesn't write: they are probably misspelt.
-fn add_ignored(
-    alloc: Global,
-    value: &Value,
-    warnings: &mut Vec<String>,
-) -> Result<(), AllocError> {
+fn add_ignored(alloc: Global, value: &Value, warnings: &mut Vec<String>) -> Result<(), AllocError> {
     let Some(members) = value.as_object() else {
         return Ok(());
     };
@@ -45,10 +41,16 @@ fn ignored(alloc: Global, name: &str, value: &Value) -> Result<String, AllocErro
     let quoted = quoted(alloc, name)?;
     let reason = match name {
         "mappings" => "one mapping is wanted here, and not a list of them; ",
-        "method" | "url" | "urlPattern" | "urlPath" | "urlPathPattern" | "urlPathTemplate"
-        | "queryParameters" | "cookies" | "pathParameters" | "bodyPatterns" => {
-            "it belongs into `request`; "
-        }
+        "method"
+        | "url"
+        | "urlPattern"
+        | "urlPath"
+        | "urlPathPattern"
+        | "urlPathTemplate"
+        | "queryParameters"
+        | "cookies"
+        | "pathParameters"
+        | "bodyPatterns" => { "it belongs into `request`; " }
         "status" | "body" | "jsonBody" | "base64Body" | "transformers" => {
             "it belongs into `response`; "
         }
@@ -108,7 +110,8 @@ fn add_json_body(
     }
     let text = body.to_string(alloc)?;
     if text.as_str().contains("{{") {
-        let warning = "`jsonBody` is no template, its {{ is sent as it is: write the JSON as the text of `body`";
+        let warning =
+            "`jsonBody` is no template, its {{ is sent as it is: write the JSON as the text of `body`";
         warnings.push(String::from_str(alloc, warning)?)?;
     }
     Ok(())

@@ -62,8 +62,8 @@ pub enum ServeCall<'a> {
     BadAddress(&'a str),
 }
 
-/// What the arguments of `mock serve` ask for, the first being the program's name; or the text of `clap` in place of them, for help or for
-/// arguments that aren't valid.
+/// What the arguments of `mock serve` ask for, the first being the program's name; or the text of `clap` in place of
+/// them, for help or for arguments that aren't valid.
 pub fn serve_arguments<'a>(
     alloc: Global,
     arguments: &'a [&'a str],
@@ -114,7 +114,9 @@ fn command<'a>(alloc: Global) -> Result<Command<'a>, AllocError> {
             Arg::new(alloc, "mappings")
                 .long("mappings")
                 .value_name("FILE")
-                .help("A JSON file: one mapping, or an object with a list `mappings`; or a folder of them"),
+                .help(
+                    "A JSON file: one mapping, or an object with a list `mappings`; or a folder of them",
+                ),
         )?
         .arg(
             Arg::new(alloc, "html-escape")

@@ -13,8 +13,8 @@ use stub_book::book::Book;
 use template_tree::escape::Escape;
 
 /// A book with the mappings of the file, or of the files of a folder one after another, whose templates' prints are
-/// escaped so; or with none. What is wrong is reported on `err`: first a file, then its mappings, then the next file; at
-/// the end that there are too many mappings. Lines there say where and why, and warn.
+/// escaped so; or with none. What is wrong is reported on `err`: first a file, then its mappings, then the next file;
+/// at the end that there are too many mappings. Lines there say where and why, and warn.
 pub(crate) fn book_of<F: FileReader, E: Write>(
     alloc: Global,
     files: &F,

@@ -40,7 +40,7 @@ where
         → ¬ (AskToHelp (map string_bytes arguments.now)) → (result ≡ 2) ⊎ (result ≡ 1) }
     ensures range { result ≤ 2 }
 
-    // Apart from lines on standard error that explain what was written, or warn, the other commands write to one stream.
+    // Apart from lines on standard error that explain or warn, the other commands write to one of both streams.
     ensures streams { ¬ (AskToServe (map string_bytes arguments.now))
         → Followed E.contents (λ e. WritesOneStream out.old out.new err.old e result) err.new }
 {

@@ -41,7 +41,7 @@ pub fn run<F: FileReader, O: Write, E: Write>(
     // Help is no mistake, and invalid arguments are one. Where the text can't be made or written, the status is 1.
     ensures help { CallsForHelp (map string_bytes arguments.now) → (result ≡ 0) ⊎ (result ≡ 1) }
     ensures invalid { AreInvalid (map string_bytes arguments.now) → (result ≡ 2) ⊎ (result ≡ 1) }
-    // Apart from lines on standard error that explain what was written, or warn, a command writes to one stream.
+    // Apart from lines on standard error that explain or warn, a command writes to one of both streams.
     ensures streams { Followed E.contents (λ e. WritesOneStream out.old out.new err.old e result) err.new }
 {
     let escape = escape_asked(arguments);

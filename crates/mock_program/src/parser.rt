@@ -57,7 +57,8 @@ prints
   Hello Ann
 ";
 
-const CHECK_HELP: &str = "Says which mappings of a file are accepted, and what their templates may cost
+const CHECK_HELP: &str =
+    "Says which mappings of a file are accepted, and what their templates may cost
 
 Usage: mock check [OPTIONS] <FILE>
 
