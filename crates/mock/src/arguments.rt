@@ -50,8 +50,6 @@ pub struct ServeArguments<'a> {
     pub connections: Option<u64>,
     /// How many connections are open at once.
     pub max_connections: u64,
-    /// At how many requests the journal is cleared.
-    pub journal_limit: Option<u64>,
 }
 
 /// What the arguments of `mock serve` ask for.
@@ -93,7 +91,6 @@ fn arguments_in<'a>(given: &ArgMatches<'a>, address: IpAddr) -> Option<ServeCall
         address,
         connections: given.get_one("connections"),
         max_connections: given.get_one("max-connections").unwrap_or(MAX_CONNECTIONS),
-        journal_limit: given.get_one("journal-limit"),
     }))
 }
 
@@ -131,8 +128,7 @@ fn command<'a>(alloc: Global) -> Result<Command<'a>, AllocError> {
                 .help("The IP address to listen on [default: 127.0.0.1]"),
         )?
         .arg(connections(alloc))?
-        .arg(count(alloc, "max-connections"))?
-        .arg(count(alloc, "journal-limit"))?;
+        .arg(max_connections(alloc))?;
     Command::new(alloc, "mock")
         .version("1")
         .subcommand_required(true)
@@ -148,12 +144,11 @@ fn port<'a>(alloc: Global) -> Arg<'a> {
         .value_parser(value_parser!(u16))
 }
 
-// A number that is taken. Help tells of it once it has an effect.
-fn count<'a>(alloc: Global, name: &'a str) -> Arg<'a> {
-    Arg::new(alloc, name)
-        .long(name)
+fn max_connections<'a>(alloc: Global) -> Arg<'a> {
+    Arg::new(alloc, "max-connections")
+        .long("max-connections")
         .value_name("N")
-        .hide(true)
+        .help("How many connections are open at once, while others wait [default: 900]")
         .value_parser(value_parser!(u64))
 }
 
