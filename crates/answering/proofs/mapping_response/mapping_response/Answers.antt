@@ -18,6 +18,7 @@ returns-in_ok-body-in-Response c =
         headers = c.response_with.ensures.headers
             ∙ headers_same plain.headers c.in_ok-headers-in-Response.headers c.in_ok-headers-in-Response.ensures.cases
             ∙ is.2.headers;
-        body = c.response_with.ensures.body ∙ c.in_ok-body-in-Response.ensures.cases ∙ is.2.body;
+        body = c.response_with.ensures.body ∙ c.whole.ensures ∙ c.in_ok-body-in-Response.ensures.cases
+            ∙ is.2.body;
       },
     )

@@ -25,7 +25,7 @@ returns-in_ok-clone-in-Some c =
             (c.code-status.ensures.value ∙ ap (λ (r : ResponseSpec). r.status) c.response.ensures ∙ is.2.status);
         headers = c.response_with.ensures.headers
             ∙ headers_same headers c.in_ok-clone-in-Some.field-0 c.in_ok-clone-in-Some.ensures.cases ∙ is.2.headers;
-        body = c.response_with.ensures.body ∙ is.2.body;
+        body = c.response_with.ensures.body ∙ c.whole.ensures ∙ is.2.body;
       },
     )
 
