@@ -1,48 +1,58 @@
--- What is given by an exchange that goes on from the one that was begun.
-use Rattle.std.proofs.Common.{ℕ, List, Result, Ok, Err, IfOk}
+-- What is given by an exchange that goes on from the one that was begun, and while content is gathered.
+use Rattle.std.proofs.Common.{◌≡◌, ℕ, List, Result, Ok, Err, IfOk, inl, subst}
 use Rattle.futures.specs.Poll.{IfReady, OnPending}
 use Rattle.futures.specs.declared.task.Poll.{Poll}
 use Rattle.futures.specs.declared.task.Poll.TheVariants.{Ready, Pending}
 use Rattle.http.specs.declared.request.Parts.{Parts}
 use Rattle.http.specs.declared.request.Request.{Request}
 use Rattle.http.specs.declared.response.Response.{Response}
-use Rattle.http_body_util.specs.declared.full.Full.{Full}
+use Rattle.http_connections.specs.Content.{IsAnswerTo, IsContentOf}
 use Rattle.http_connections.specs.Sent.{IsExchangeFor, IsSentFor}
+use Rattle.http_connections.specs.declared.content_error.ContentError.{ContentError}
 
-module _ {E Reply Refusal : Type 0} (forwards : Request (List ℕ) → E → Type 0)
-    (exchanged : E → Reply → Type 0)
-    (gives : Request (List ℕ) → Response (Full (List ℕ)) → Type 0) where
-  -- what is given for each message that the exchange may be for
-  abbrev pub IsGivenBy : E → Result (Response (Full (List ℕ))) Refusal → Type 0
-  IsGivenBy exchange result = (message : Request (List ℕ)) → IsExchangeFor forwards exchanged message exchange
-      → IfOk result (IsSentFor gives message)
+module _ {Refusal C : Type 0} (IsEmpty : C → Type 0) (gives : Request (List ℕ) → Response C → Type 0) where
+  -- what is given for a request with this head, where the gatherer may give so
+  abbrev pub IsGivenWith : Parts → (Result (List ℕ) ContentError → Type 0) → Result (Response C) Refusal → Type 0
+  IsGivenWith head comes result = IfOk result (λ made. (gathered : Result (List ℕ) ContentError) × comes gathered
+      × IsAnswerTo IsEmpty gives head gathered made)
 
-  -- what is given for a message with this head
-  abbrev pub IsGivenWith : Parts → Result (Response (Full (List ℕ))) Refusal → Type 0
-  IsGivenWith head result = IfOk result (λ made. (body : List ℕ)
-      × IsSentFor gives (record { head = head; body = body }) made)
+  pub given_within : (head head' : Parts) (comes comes' : Result (List ℕ) ContentError → Type 0) → head' ≡ head
+      → ((gathered : Result (List ℕ) ContentError) → comes' gathered → comes gathered)
+      → (result : Result (Response C) Refusal) → IsGivenWith head' comes' result → IsGivenWith head comes result
+  given_within head head' comes comes' same more (Ok made) given =
+      (given.0, more given.0 given.1, subst (λ h. IsAnswerTo IsEmpty gives h given.0 made) same given.2)
+  given_within head head' comes comes' same more (Err refusal) given = tt
 
-  with_body : (head : Parts) (body : List ℕ) (result : Result (Response (Full (List ℕ))) Refusal)
-      → IfOk result (IsSentFor gives (record { head = head; body = body })) → IsGivenWith head result
-  with_body head body (Ok made) given = (body, given)
-  with_body head body (Err refusal) given = tt
+  module _ {E Reply : Type 0} (forwards : Request (List ℕ) → E → Type 0) (exchanged : E → Reply → Type 0) where
+    -- what is given for each message that the exchange may be for
+    abbrev pub IsGivenBy : E → Result (Response C) Refusal → Type 0
+    IsGivenBy exchange result = (message : Request (List ℕ)) → IsExchangeFor forwards exchanged message exchange
+        → IfOk result (IsSentFor IsEmpty gives message)
 
-  module _ (head : Parts) (body : List ℕ) (exchange : E)
-      (may : forwards (record { head = head; body = body }) exchange) where
-    pub given_with : (result : Result (Response (Full (List ℕ))) Refusal) → IsGivenBy exchange result
-        → IsGivenWith head result
-    given_with result given =
-        with_body head body result (given (record { head = head; body = body }) (exchange, may, λ reply same. same))
+    module _ (head : Parts) (comes : Result (List ℕ) ContentError → Type 0)
+        (gathered : Result (List ℕ) ContentError) (came : comes gathered) (body : List ℕ)
+        (content : IsContentOf gathered body) (exchange : E)
+        (may : forwards (record { head = head; body = body }) exchange) where
+      with_body : (result : Result (Response C) Refusal)
+          → IfOk result (IsSentFor IsEmpty gives (record { head = head; body = body }))
+          → IsGivenWith head comes result
+      with_body (Ok made) given = (gathered, came, inl (body, content, given))
+      with_body (Err refusal) given = tt
 
-    pub given_at_once : (polled : Poll (Result (Response (Full (List ℕ))) Refusal))
-        → IfReady polled (IsGivenBy exchange) → IfReady polled (IsGivenWith head)
-    given_at_once (Ready result) given = given_with result given
-    given_at_once Pending given = tt
+      pub given_with : (result : Result (Response C) Refusal) → IsGivenBy exchange result
+          → IsGivenWith head comes result
+      given_with result given =
+          with_body result (given (record { head = head; body = body }) (exchange, may, λ reply same. same))
 
-    pub given_later : (polled : Poll (Result (Response (Full (List ℕ))) Refusal)) (new : E)
-        → OnPending polled ((result : Result (Response (Full (List ℕ))) Refusal)
-        → IsGivenBy new result → IsGivenBy exchange result)
-        → OnPending polled ((result : Result (Response (Full (List ℕ))) Refusal)
-        → IsGivenBy new result → IsGivenWith head result)
-    given_later (Ready result) new same = tt
-    given_later Pending new same = λ result given. given_with result (same result given)
+      pub given_at_once : (polled : Poll (Result (Response C) Refusal))
+          → IfReady polled (IsGivenBy exchange) → IfReady polled (IsGivenWith head comes)
+      given_at_once (Ready result) given = given_with result given
+      given_at_once Pending given = tt
+
+      pub given_later : (polled : Poll (Result (Response C) Refusal)) (new : E)
+          → OnPending polled ((result : Result (Response C) Refusal)
+          → IsGivenBy new result → IsGivenBy exchange result)
+          → OnPending polled ((result : Result (Response C) Refusal)
+          → IsGivenBy new result → IsGivenWith head comes result)
+      given_later (Ready result) new same = tt
+      given_later Pending new same = λ result given. given_with result (same result given)

@@ -1,1 +1,3 @@
+mod BegunLemmas
+mod ContentLemmas
 mod Exchanges

@@ -1,2 +1,3 @@
 -- Words of private clauses.
 pub mod Begun
+pub mod Pushed

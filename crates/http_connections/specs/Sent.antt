@@ -2,20 +2,19 @@
 use Rattle.std.specs.Prelude.{ℕ, List}
 use Rattle.http.specs.declared.request.Request.{Request}
 use Rattle.http.specs.declared.response.Response.{Response}
-use Rattle.http_body_util.specs.declared.full.Full.{Full}
 use Rattle.http_connections.specs.declared.begun.Begun.{Begun}
 use Rattle.http_connections.specs.declared.begun.Begun.TheVariants.{Answered, Forwarding}
 use Rattle.http_messages.specs.Wire.{IsSent}
 
--- it is what is sent of an answer that may be given to the message
-abbrev pub IsSentFor : (Request (List ℕ) → Response (Full (List ℕ)) → Type 0) → Request (List ℕ)
-    → Response (Full (List ℕ)) → Type 0
-IsSentFor gives message made = (answer : Response (Full (List ℕ))) × gives message answer × IsSent answer made
+-- it is what is sent of an answer that may be given to the message; `IsEmpty` says which content has no bytes
+abbrev pub IsSentFor : {C : Type 0} → (C → Type 0) → (Request (List ℕ) → Response C → Type 0) → Request (List ℕ)
+    → Response C → Type 0
+IsSentFor {C} IsEmpty gives message made = (answer : Response C) × gives message answer × IsSent IsEmpty answer made
 
 -- the message has an answer that may be given to it, or an exchange by which it may be forwarded, and which
 -- may be polled
-abbrev pub IsBegun : {E : Type 0} → (Request (List ℕ) → Response (Full (List ℕ)) → Type 0)
-    → (Request (List ℕ) → E → Type 0) → (E → Type 0) → Request (List ℕ) → Begun E → Type 0
+abbrev pub IsBegun : {E C : Type 0} → (Request (List ℕ) → Response C → Type 0)
+    → (Request (List ℕ) → E → Type 0) → (E → Type 0) → Request (List ℕ) → Begun E C → Type 0
 IsBegun gives forwards can_poll message (Answered answer) = gives message answer
 IsBegun gives forwards can_poll message (Forwarding exchange) =
     forwards message exchange.value × can_poll exchange.value

@@ -1,58 +1,161 @@
-// The connections that a listener accepts.
-ghost use Rattle.std.specs.Prelude.{IfSome};
+// The connections that a listener accepts, each a task.
+ghost use Rattle.std.specs.Prelude.{◌≡◌, IfSome};
 
+use crate::answers::Answers;
+use crate::connects::Connects;
+use crate::connection_task::ConnectionTask;
+use crate::pause::Pause;
+use crate::seat_pool::{Assignment, SeatPool};
+use crate::seat_slot::SeatSlot;
+use crate::service::MessageService;
+use crate::settings::Settings;
 use futures::task::{Context, Poll};
 use futures::{Future, Stream, ready};
+use std::alloc::AllocGlobal;
+use std::io;
+use std::io::ErrorKind;
+use std::sync::{Arc, Wait};
+use std::time::Clock;
 use tokio::net::{TcpListener, TcpStream};
 
-/// What becomes of the connections that are accepted.
-pub trait Accepts: Drop {
-    ghost use Rattle.std.specs.Prelude.{IfSome};
+/// The numbers of Linux for errors that have no kind of their own: too many open files in the system and in the
+/// process, a protocol error, no buffer space.
+const ENFILE: i32 = 23;
+const EMFILE: i32 = 24;
+const EPROTO: i32 = 71;
+const ENOBUFS: i32 = 105;
 
-    type Task: Future<Output = ()>;
-
-    /// Whether one more connection is to be accepted.
-    fn wants_more(&self) -> bool;
-
-    /// The task that serves the connection; `None` where it is closed at once.
-    fn accept(&mut self, socket: TcpStream) -> Option<Self::Task>
-        ensures { IfSome result Self.Task.can_poll };
-
-    /// No connection could be accepted.
-    fn give_up(&mut self);
-}
-
-/// A task for each connection that is accepted, as long as more are wanted.
+/// Makes a task of each connection, as many as are wanted, with a slot of the pool.
 #[derive(Drop)]
-pub struct Accepting<H> {
+pub(crate) struct Accepting<R, A: Answers, M> {
+    rt: R,
     listener: TcpListener,
-    acceptor: H,
+    pool: Arc<SeatPool<A>>,
+    left: Option<u64>,
+    most: u64,
+    pause: Pause<R>,
+    connects: M,
 }
 
-impl<H> Accepting<H> {
-    pub fn new(listener: TcpListener, acceptor: H) -> Accepting<H> {
-        Accepting { listener, acceptor }
-    }
-}
-
-impl<H: Accepts> Stream for Accepting<H> {
-    type Item = H::Task;
-
-    ghost yields = { λ _ _ last. IfSome last H.Task.can_poll };
-
-    fn poll_next(&mut self, cx: &mut Context<'_>) -> Poll<Option<H::Task>> {
-        if !self.acceptor.wants_more() {
-            return Poll::Ready(None);
+impl<R, A, M> Accepting<R, A, M>
+where
+    R: Wait + Clock + AllocGlobal + Copy + Drop,
+    A: Answers,
+{
+    pub(crate) fn new(
+        rt: R,
+        listener: TcpListener,
+        pool: Arc<SeatPool<A>>,
+        settings: Settings,
+        pause: Pause<R>,
+        connects: M,
+    ) -> Accepting<R, A, M>
+        ensures { result.connects ≡ connects }
+    {
+        Accepting {
+            rt,
+            listener,
+            pool,
+            left: settings.connections,
+            most: settings.max_connections,
+            pause,
+            connects,
         }
-        match ready!(self.listener.poll_accept(cx)) {
-            Ok((socket, _address)) => match self.acceptor.accept(socket) {
-                Some(task) => Poll::Ready(Some(task)),
-                None => cx.yield_now(),
-            },
-            Err(_error) => {
-                self.acceptor.give_up();
-                Poll::Ready(None)
+    }
+
+    fn wants_more(&self) -> bool {
+        self.left != Some(0) && self.pool.is_open(&self.rt)
+    }
+
+    // A slot with a seat, if the connection can be served.
+    fn slot(&self) -> Option<Arc<SeatSlot<A>>> {
+        match self.pool.assign(&self.rt, self.rt.alloc()) {
+            Assignment::Slot(slot) => Some(slot),
+            Assignment::NoSlot => None,
+            Assignment::NoSeat => {
+                self.pool.close(&self.rt);
+                None
             }
         }
     }
+
+    // What was wrong for a moment, or with one connection, ends nothing.
+    fn refused(&mut self, error: &io::Error)
+        ensures { self.new.connects ≡ self.old.connects }
+    {
+        if is_passing(error) {
+            self.pause.begin();
+        } else {
+            self.pool.close(&self.rt);
+        }
+    }
+
+    // The task that serves the connection; `None` where it is closed at once.
+    fn task<F>(&mut self, socket: TcpStream) -> Option<ConnectionTask<R, A, F>>
+    where
+        M: Connects<MessageService<R, A>, Connection = F>,
+        F: Future<Output = hyper::Result<()>>,
+        requires can_connect { (service : _) → M.can_connect self.old.connects service }
+        requires makes { (made : F) → M.makes self.old.connects made → F.can_poll made }
+        ensures can_poll { IfSome result (λ task. F.can_poll task.connection.value) }
+        ensures same { self.new.connects ≡ self.old.connects }
+    {
+        self.left = self.left.map(|left| left.saturating_sub(1));
+        let pool = Arc::try_clone(&self.pool).ok()?;
+        let slot = self.slot()?;
+        let service = MessageService::new(self.rt, Arc::try_clone(&slot).ok()?);
+        // Answers are written whole, so there is nothing to wait for.
+        let _ = socket.set_nodelay(true);
+        let connection = self.connects.connect(socket, service);
+        ConnectionTask::new(self.rt, pool, slot, connection)
+    }
+}
+
+impl<R, A, M, F> Stream for Accepting<R, A, M>
+where
+    R: Wait + Clock + AllocGlobal + Copy + Drop,
+    A: Answers,
+    M: Connects<MessageService<R, A>, Connection = F>,
+    F: Future<Output = hyper::Result<()>>,
+{
+    type Item = ConnectionTask<R, A, F>;
+
+    ghost can_poll = { λ accepting. ((service : _) → M.can_connect accepting.connects service)
+        × ((made : F) → M.makes accepting.connects made → F.can_poll made) };
+
+    ghost yields = { λ _ _ last. IfSome last (λ task. F.can_poll task.connection.value) };
+
+    fn poll_next(&mut self, cx: &mut Context<'_>) -> Poll<Option<ConnectionTask<R, A, F>>> {
+        if !self.wants_more() {
+            return Poll::Ready(None);
+        }
+        ready!(self.pause.poll(cx));
+        if !self.pool.has_room(&self.rt, self.most) {
+            self.pause.begin();
+            return cx.yield_now();
+        }
+        match ready!(self.listener.poll_accept(cx)) {
+            Ok((socket, _address)) => match self.task(socket) {
+                Some(task) => Poll::Ready(Some(task)),
+                None => cx.yield_now(),
+            },
+            Err(error) => {
+                self.refused(&error);
+                cx.yield_now()
+            }
+        }
+    }
+}
+
+// Whether the process or the system has no descriptor or memory at the moment, or the peer has gone.
+fn is_passing(error: &io::Error) -> bool {
+    let by_kind = matches!(
+        error.kind(),
+        ErrorKind::OutOfMemory | ErrorKind::Interrupted | ErrorKind::ConnectionAborted
+    );
+    by_kind
+        || matches!(
+            error.raw_os_error(),
+            Some(ENFILE | EMFILE | EPROTO | ENOBUFS)
+        )
 }

@@ -2,14 +2,12 @@
 ghost use Rattle.std.specs.Prelude.{List, ℕ, IfOk, ⊤};
 ghost use Rattle.http.specs.declared.request.Request.{Request as Message};
 ghost use Rattle.http.specs.declared.response.Response.{Response as Answer};
-ghost use Rattle.http_body_util.specs.declared.full.Full.{Full as Content};
 ghost use Rattle.http_connections.specs.Sent.{IsBegun};
 
 use crate::begun::Begun;
 use bytes::Bytes;
 use futures::Future;
 use http::{Request, Response};
-use http_body_util::Full;
 use http_messages::error::ServiceError;
 use std::alloc::Global;
 use std::sync::Wait;
@@ -25,8 +23,11 @@ pub trait Answers: Drop {
     /// Forwards a request.
     type Exchange: Future<Output = Self::Reply>;
 
+    /// The content of an answer. Its default has no bytes.
+    type Content: Default + Drop;
+
     /// It may give this answer to the message.
-    ghost gives: { Message (List ℕ) → Answer (Content (List ℕ)) → Type 0 } = { λ _ _. ⊤ };
+    ghost gives: { Message (List ℕ) → Answer Self.Content → Type 0 } = { λ _ _. ⊤ };
 
     /// It may forward the message by this exchange.
     ghost forwards: { Message (List ℕ) → Self.Exchange → Type 0 } = { λ _ _. ⊤ };
@@ -39,7 +40,7 @@ pub trait Answers: Drop {
         alloc: Global,
         seat: &mut Self::Seat,
         request: &Request<Bytes>,
-    ) -> Result<Begun<Self::Exchange>, ServiceError>
+    ) -> Result<Begun<Self::Exchange, Self::Content>, ServiceError>
         ensures { IfOk result (IsBegun gives forwards Self.Exchange.can_poll request.now) };
 
     /// The answer to a request that was forwarded, once its exchange has given what came of it. An error is out of
@@ -50,7 +51,7 @@ pub trait Answers: Drop {
         alloc: Global,
         seat: &mut Self::Seat,
         reply: Self::Reply,
-    ) -> Result<Response<Full<Bytes>>, ServiceError>
+    ) -> Result<Response<Self::Content>, ServiceError>
         ensures { (message : _) (exchange : _) → forwards message exchange
             → Self.Exchange.gives exchange reply → IfOk result (gives message) };
 

@@ -48,12 +48,11 @@ where
     }
 }
 
-impl<R, A, C, T> Future for ConnectionTask<R, A, C>
+impl<R, A, C> Future for ConnectionTask<R, A, C>
 where
     R: Wait + Drop,
     A: Answers,
-    C: Future<Output = T>,
-    T: Drop,
+    C: Future<Output = hyper::Result<()>>,
 {
     type Output = ();
 

@@ -4,11 +4,9 @@ ghost use Rattle.http_connections.specs.Sent.{IsExchangeFor, IsSentFor};
 
 use crate::answers::Answers;
 use crate::seat_slot::SeatSlot;
-use bytes::Bytes;
 use futures::task::{Context, Poll};
 use futures::{Future, ready};
 use http::Response;
-use http_body_util::Full;
 use http_messages::error::ServiceError;
 use std::alloc::AllocGlobal;
 use std::sync::{Arc, Wait};
@@ -35,15 +33,15 @@ where
     R: Wait + AllocGlobal + Drop,
     A: Answers,
 {
-    type Output = Result<Response<Full<Bytes>>, ServiceError>;
+    type Output = Result<Response<A::Content>, ServiceError>;
 
     ghost can_poll = { λ f. A.Exchange.can_poll f.exchange.value };
 
     ghost gives = { λ f result. (message : _)
         → IsExchangeFor A.forwards A.Exchange.gives message f.exchange.value
-        → IfOk result (IsSentFor A.gives message) };
+        → IfOk result (IsSentFor A.Content.is_default A.gives message) };
 
-    fn poll(&mut self, cx: &mut Context<'_>) -> Poll<Result<Response<Full<Bytes>>, ServiceError>> {
+    fn poll(&mut self, cx: &mut Context<'_>) -> Poll<Result<Response<A::Content>, ServiceError>> {
         let reply = ready!(self.exchange.poll(cx));
         Poll::Ready(self.slot.finish(&self.rt, self.rt.alloc(), reply))
     }

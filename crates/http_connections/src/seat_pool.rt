@@ -18,6 +18,8 @@ struct Seats<A: Answers> {
     own: Option<A::Seat>,
     slots: Vec<Arc<SeatSlot<A>>>,
     free: Vec<Arc<SeatSlot<A>>>,
+    // How many slots connections have.
+    taken: u64,
     is_open: bool,
 }
 
@@ -41,6 +43,7 @@ impl<A: Answers> SeatPool<A> {
                 own: None,
                 slots: Vec::new(alloc),
                 free: Vec::new(alloc),
+                taken: 0,
                 is_open: false,
             }),
         }
@@ -61,6 +64,11 @@ impl<A: Answers> SeatPool<A> {
     /// Joins the seat of a connection that has ended to the server's own, and frees its slot.
     pub fn release<R: Wait>(&self, rt: &R, slot: Arc<SeatSlot<A>>) {
         self.seats.lock(rt).release(rt, slot);
+    }
+
+    /// Whether fewer connections than `most` are open.
+    pub(crate) fn has_room<R: Wait>(&self, rt: &R, most: u64) -> bool {
+        self.seats.lock(rt).taken < most
     }
 
     /// No more connections can be accepted.
@@ -92,6 +100,7 @@ impl<A: Answers> Seats<A> {
             return Assignment::NoSeat;
         };
         slot.put(rt, seat);
+        self.taken = self.taken.saturating_add(1);
         Assignment::Slot(slot)
     }
 
@@ -115,6 +124,7 @@ impl<A: Answers> Seats<A> {
     }
 
     fn release<R: Wait>(&mut self, rt: &R, slot: Arc<SeatSlot<A>>) {
+        self.taken = self.taken.saturating_sub(1);
         if let Some(seat) = slot.take(rt)
             && let Err(seat) = self.join(seat)
         {

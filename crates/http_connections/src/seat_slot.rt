@@ -2,15 +2,15 @@
 ghost use Rattle.std.specs.Prelude.{IfOk, IsTrue};
 ghost use Rattle.http_connections.specs.Sent.{IsBegun, IsSentFor};
 ghost use Rattle.http_connections.specs.Inner.Begun.{IsSentOf};
+ghost use Rattle.http_messages.specs.Wire.{IsSent};
 
 use crate::answers::Answers;
 use crate::begun::Begun;
 use bytes::Bytes;
 use http::{Request, Response};
-use http_body_util::Full;
 use http_messages::error::ServiceError;
 use http_messages::wire::{is_as_sent, sent};
-use std::alloc::Global;
+use std::alloc::{AllocError, Global};
 use std::sync::{Arc, Mutex, Wait};
 
 /// A site, and the place of one connection's seat. The seat stays in it. It is locked in each call, and not
@@ -46,8 +46,8 @@ impl<A: Answers> SeatSlot<A> {
         rt: &R,
         alloc: Global,
         request: &Request<Bytes>,
-    ) -> Result<Begun<A::Exchange>, ServiceError>
-        ensures { IfOk result (IsBegun (IsSentFor A.gives) A.forwards A.Exchange.can_poll request.now) }
+    ) -> Result<Begun<A::Exchange, A::Content>, ServiceError>
+        ensures { IfOk result (IsBegun (IsSentFor A.Content.is_default A.gives) A.forwards A.Exchange.can_poll request.now) }
     {
         let begun = self.begin_at_seat(rt, alloc, request);
         // Most answers are sent as they are, and aren't moved to see that.
@@ -63,15 +63,12 @@ impl<A: Answers> SeatSlot<A> {
         rt: &R,
         alloc: Global,
         reply: A::Reply,
-    ) -> Result<Response<Full<Bytes>>, ServiceError>
+    ) -> Result<Response<A::Content>, ServiceError>
         ensures { (message : _) (exchange : _) → A.forwards message exchange
-            → A.Exchange.gives exchange reply → IfOk result (IsSentFor A.gives message) }
+            → A.Exchange.gives exchange reply → IfOk result (IsSentFor A.Content.is_default A.gives message) }
     {
         let response = self.finish_at_seat(rt, alloc, reply)?;
-        if is_as_sent(&response) {
-            return Ok(response);
-        }
-        Ok(sent(alloc, response)?)
+        Ok(as_sent(alloc, response)?)
     }
 
     fn begin_at_seat<R: Wait>(
@@ -79,7 +76,7 @@ impl<A: Answers> SeatSlot<A> {
         rt: &R,
         alloc: Global,
         request: &Request<Bytes>,
-    ) -> Result<Begun<A::Exchange>, ServiceError>
+    ) -> Result<Begun<A::Exchange, A::Content>, ServiceError>
         ensures { IfOk result (IsBegun A.gives A.forwards A.Exchange.can_poll request.now) }
     {
         let mut held = self.seat.lock(rt);
@@ -94,7 +91,7 @@ impl<A: Answers> SeatSlot<A> {
         rt: &R,
         alloc: Global,
         reply: A::Reply,
-    ) -> Result<Response<Full<Bytes>>, ServiceError>
+    ) -> Result<Response<A::Content>, ServiceError>
         ensures { (message : _) (exchange : _) → A.forwards message exchange
             → A.Exchange.gives exchange reply → IfOk result (A.gives message) }
     {
@@ -106,20 +103,41 @@ impl<A: Answers> SeatSlot<A> {
     }
 }
 
+// What is sent of a response: itself, where it may be.
+fn as_sent<C: Default + Drop>(alloc: Global, response: Response<C>) -> Result<Response<C>, AllocError>
+    ensures { IfOk result (IsSent C.is_default response) }
+{
+    if is_as_sent(&response) {
+        return Ok(response);
+    }
+    sent(alloc, response)
+}
+
 // Whether there is no answer, or one that is sent as it is.
-fn goes_as_it_is<E>(begun: &Result<Begun<E>, ServiceError>) -> bool
-    ensures { IsTrue result → IfOk begun.now (λ begun. IsSentOf begun begun) }
+fn goes_as_it_is<E, C: Default>(begun: &Result<Begun<E, C>, ServiceError>) -> bool
+    ensures { IsTrue result → IfOk begun.now (λ begun. IsSentOf C.is_default begun begun) }
 {
     match begun {
-        Ok(Begun::Answered(response)) => is_as_sent(response),
-        Ok(Begun::Forwarding(_exchange)) => true,
+        Ok(begun) => is_sent_as_it_is(begun),
         Err(_error) => true,
     }
 }
 
+fn is_sent_as_it_is<E, C: Default>(begun: &Begun<E, C>) -> bool
+    ensures { IsTrue result → IsSentOf C.is_default begun.now begun.now }
+{
+    match begun {
+        Begun::Answered(response) => is_as_sent(response),
+        Begun::Forwarding(_exchange) => true,
+    }
+}
+
 // With what is sent of an answer in the place of it.
-fn begun_anew<E: Drop>(alloc: Global, begun: Begun<E>) -> Result<Begun<E>, ServiceError>
-    ensures { IfOk result (IsSentOf begun) }
+fn begun_anew<E: Drop, C: Default + Drop>(
+    alloc: Global,
+    begun: Begun<E, C>,
+) -> Result<Begun<E, C>, ServiceError>
+    ensures { IfOk result (IsSentOf C.is_default begun) }
 {
     match begun {
         Begun::Answered(response) => Ok(Begun::Answered(sent(alloc, response)?)),

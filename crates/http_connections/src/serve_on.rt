@@ -1,17 +1,28 @@
 // The connections of a listener, each a task.
 use crate::accepting::Accepting;
-use crate::acceptor::Acceptor;
 use crate::answers::Answers;
+use crate::pause::Pause;
 use crate::seat_pool::SeatPool;
-use crate::serve_io::builder;
+use crate::settings::Settings;
+use bytes::Bytes;
+use http_body::Body;
+use hyper::rt::TokioTimer;
+use hyper::server::conn::http1::Builder;
 use std::alloc::{AllocError, AllocGlobal, Global};
+use std::hash::RandomState;
 use std::io;
 use std::io::ErrorKind;
 use std::random::RandomSource;
 use std::sync::{Arc, Wait};
-use std::time::Clock;
+use std::time::{Clock, Duration};
 use tokio::net::TcpListener;
 use tokio::runtime::LocalRuntime;
+
+/// How many lines of headers a request may have.
+pub const HEADER_LINES: usize = 256;
+
+/// How long the head of a request may take from its first byte, in seconds.
+pub const HEAD_TIME: u64 = 30;
 
 /// The seats of all connections once they have been served, and why there were no more.
 #[derive(Drop)]
@@ -38,15 +49,17 @@ pub fn serve_all<R, A>(
     listener: TcpListener,
     site: &Arc<A>,
     seat: A::Seat,
-    connections: Option<u64>,
+    settings: Settings,
 ) -> Result<Served<A::Seat>, AllocError>
 where
     R: Wait + Clock + RandomSource + AllocGlobal + Copy + Drop,
     A: Answers,
+    A::Content: Body<Data = Bytes, Error: Into<anyhow::Error>>,
+    requires { (content : A.Content) → A.Content.can_poll content }
 {
     let pool = pool_of(rt.alloc(), site)?;
     pool.open(&rt, seat);
-    let ran = run(rt, runtime, listener, &pool, connections);
+    let ran = run(rt, runtime, listener, &pool, settings);
     served_by(&rt, rt.alloc(), &pool, &ran)
 }
 
@@ -79,12 +92,28 @@ fn run<R, A>(
     runtime: &mut LocalRuntime,
     listener: TcpListener,
     pool: &Arc<SeatPool<A>>,
-    connections: Option<u64>,
+    settings: Settings,
 ) -> io::Result<()>
 where
     R: Wait + Clock + RandomSource + AllocGlobal + Copy + Drop,
     A: Answers,
+    A::Content: Body<Data = Bytes, Error: Into<anyhow::Error>>,
+    requires { (content : A.Content) → A.Content.can_poll content }
 {
-    let acceptor = Acceptor::new(rt, builder(&rt)?, Arc::try_clone(pool)?, connections);
-    runtime.run_all(&rt, Accepting::new(listener, acceptor))
+    let timers = runtime.handle().time();
+    let builder = builder(&rt)?.timer(TokioTimer::new(rt, timers.clone()?));
+    let pause = Pause::new(rt, timers)?;
+    let accepting = Accepting::new(rt, listener, Arc::try_clone(pool)?, settings, pause, builder);
+    runtime.run_all(&rt, accepting)
+}
+
+// The settings of a connection.
+fn builder<R: AllocGlobal + RandomSource>(rt: &R) -> io::Result<Builder> {
+    let mut builder = Builder::new(rt.alloc(), RandomState::new(rt)?);
+    builder.max_headers(HEADER_LINES);
+    builder.header_read_timeout(Some(Duration::from_secs(HEAD_TIME)));
+    builder.auto_date_header(false);
+    // A client that has said all of its requests is still answered, also where an answer is awaited.
+    builder.half_close(true);
+    Ok(builder)
 }

@@ -1,32 +1,35 @@
 // The requests of one connection.
-ghost use Rattle.std.specs.Prelude.{◌≡◌, ℕ, List, [], length, IfOk, IfSome, IsSome, IsSomeAnd, Some};
+ghost use Rattle.std.specs.Prelude.{◌≡◌, ◌<◌, ℕ, List, Result, Some, length, IfOk, IfSome, IsSome, IsTrue, ⊤};
 ghost use Rattle.futures.specs.Poll.{IfReady, OnPending};
 ghost use Rattle.futures.specs.Task.{IsArmed, Keeps};
+ghost use Rattle.http_connections.specs.declared.content_error.ContentError.{ContentError as GatherError};
 ghost use Rattle.http_connections.specs.declared.service.Answering.TheVariants.{Forwarding as Forwards, Made};
 ghost use Rattle.http_connections.specs.declared.service.Answering.TheVariants.{Waiting as Waits};
-ghost use Rattle.http.specs.Request.{head_of};
-ghost use Rattle.http_connections.specs.Sent.{IsBegun, IsExchangeFor, IsSentFor};
+ghost use Rattle.http.specs.Request.{body_of, head_of};
+ghost use Rattle.http_connections.specs.Content.{HasOtherCoding, IsAnswerTo, IsAnsweredAtOnce, IsContentAtOnce};
+ghost use Rattle.http_connections.specs.Content.{IsNewFor, IsRefusal, IsTooLong};
+ghost use Rattle.http_connections.specs.Inner.Begun.{IsBegunWith};
+ghost use Rattle.http_connections.specs.Sent.{IsExchangeFor, IsSentFor};
+ghost use Rattle.mock_request.specs.declared.snapshot.TheConstants.{BODY_LIMIT};
 
 use crate::answers::Answers;
 use crate::begun::Begun;
+use crate::content_error::ContentError;
 use crate::forwarding::Forwarding;
+use crate::gathering::Gathering;
+use crate::refusal::{awaits_leave, has_other_coding, refusal, unknown_coding};
 use crate::seat_slot::SeatSlot;
 use bytes::{Bytes, BytesMut};
 use futures::task::{Context, Poll};
 use futures::{Future, ready};
-use http::request::Parts;
-use http::{Request, Response};
-use http_body_util::combinators::Collect;
-use http_body_util::{BodyExt, Collected, Full, Limited, LimitedError};
+use http::{Request, Response, StatusCode};
+use http_body::Body;
 use http_messages::error::ServiceError;
-use hyper::body::{Body, Incoming};
+use hyper::body::Incoming;
 use hyper::service::Service;
 use mock_request::snapshot::BODY_LIMIT;
 use std::alloc::{AllocError, AllocGlobal, Global};
 use std::sync::{Arc, Wait};
-
-/// More bytes of a body than these aren't gathered: these are too many already.
-pub const GATHERED: usize = BODY_LIMIT + 1;
 
 /// Answers the requests of one connection, by the seat of its slot.
 #[derive(Drop)]
@@ -39,7 +42,7 @@ pub struct MessageService<R, A: Answers> {
 #[derive(Drop)]
 pub enum Answering<R, A: Answers, G> {
     /// It was made at the call, as most requests have no content. `None` once it was given.
-    Made(Option<Result<Response<Full<Bytes>>, ServiceError>>),
+    Made(Option<Result<Response<A::Content>, ServiceError>>),
     /// The content is still to come. In a box, since hyper moves a future.
     Waiting(Box<Waiting<R, A, G>>),
     /// It is forwarded.
@@ -68,29 +71,26 @@ where
     A: Answers,
     I: Drop,
 {
-    type Response = Response<Full<Bytes>>;
+    type Response = Response<A::Content>;
 
     type Error = ServiceError;
 
-    type Future = Answering<R, A, Collect<Limited<Incoming<I>>>>;
+    type Future = Answering<R, A, Gathering<Incoming<I>>>;
 
     ghost calls = { λ _ request future. elim future [
-      | Made made ↦ IfSome made
-          (λ result. IfOk result (IsSentFor A.gives (record { head = head_of request; body = [] })))
-      | Waits waiting ↦ head_of waiting.value.request ≡ head_of request
-      | Forwards forwarding ↦ A.forwards (record { head = head_of request; body = [] }) forwarding.exchange.value
+      | Made made ↦ IfSome made (λ result. IfOk result (IsAnsweredAtOnce A.Content.is_default A.gives request))
+      | Waits waiting ↦ (head_of waiting.value.request ≡ head_of request)
+          × IsNewFor waiting.value.content (body_of request) × ¬ (HasOtherCoding (head_of request).headers)
+      | Forwards forwarding ↦ (content : List ℕ) × IsContentAtOnce (body_of request) content
+          × A.forwards (record { head = head_of request; body = content }) forwarding.exchange.value
     ] };
 
     // A request without content is answered at once, or forwarded.
     fn call(&self, request: Request<Incoming<I>>) -> Self::Future {
-        let (head, body) = request.into_parts();
-        if body.is_end_stream() {
-            return self.answering(head);
+        if request.body().size_hint().exact() == Some(0) {
+            return self.at_once(request, Bytes::new());
         }
-        match self.waiting(head, body) {
-            Ok(waiting) => Answering::Waiting(waiting),
-            Err(AllocError) => Answering::Made(Some(Err(ServiceError::OutOfMemory))),
-        }
+        self.gathering(request)
     }
 }
 
@@ -99,17 +99,29 @@ where
     R: Wait + AllocGlobal + Copy + Drop,
     A: Answers,
 {
-    // The answer to a request without content.
-    fn answering<G>(&self, head: Parts) -> Answering<R, A, G>
-        ensures { elim result [
-          | Made made ↦ IsSomeAnd made (λ given. IfOk given (IsSentFor A.gives (record { head = head; body = [] })))
-          | Waits waiting ↦ ⊥
-          | Forwards forwarding ↦ A.forwards (record { head = head; body = [] }) forwarding.exchange.value
-              × A.Exchange.can_poll forwarding.exchange.value
+    // The answer to a request of which nothing has to come.
+    fn at_once<I: Drop>(
+        &self,
+        request: Request<Incoming<I>>,
+        content: Bytes,
+    ) -> Answering<R, A, Gathering<Incoming<I>>>
+        requires { IsContentAtOnce (body_of request) content }
+        ensures called { elim result [
+          | Made made ↦ IfSome made (λ result. IfOk result
+              (IsAnsweredAtOnce A.Content.is_default A.gives request))
+          | Waits waiting ↦ (head_of waiting.value.request ≡ head_of request)
+              × IsNewFor waiting.value.content (body_of request) × ¬ (HasOtherCoding (head_of request).headers)
+          | Forwards forwarding ↦ (content : List ℕ) × IsContentAtOnce (body_of request) content
+              × A.forwards (record { head = head_of request; body = content }) forwarding.exchange.value
+        ] }
+        ensures can_poll { elim result [
+          | Made made ↦ IsSome made
+          | Waits waiting ↦ ⊤
+          | Forwards forwarding ↦ A.Exchange.can_poll forwarding.exchange.value
         ] }
     {
-        let request = without_content(head);
-        match self.slot.begin(&self.rt, self.rt.alloc(), &request) {
+        let message = with_content(request, content);
+        match self.slot.begin(&self.rt, self.rt.alloc(), &message) {
             Ok(Begun::Answered(response)) => Answering::Made(Some(Ok(response))),
             Ok(Begun::Forwarding(exchange)) => match self.forwarding(exchange) {
                 Ok(forwarding) => Answering::Forwarding(forwarding),
@@ -125,36 +137,93 @@ where
         Ok(Forwarding::new(self.rt, Arc::try_clone(&self.slot)?, exchange))
     }
 
-    // What waits for the content of a request. Not inlined: a function clears all its locals when it is entered, and
-    // most requests have no content.
+    // The answer to a request whose content is still to come. A client that waits for leave to send what is too long is
+    // answered before it sends it. Not inlined: a function clears all its locals when it is entered, and most requests
+    // have no content.
     #[inline(never)]
+    fn gathering<I: Drop>(
+        &self,
+        request: Request<Incoming<I>>,
+    ) -> Answering<R, A, Gathering<Incoming<I>>>
+        ensures called { elim result [
+          | Made made ↦ IfSome made (λ result. IfOk result
+              (IsAnsweredAtOnce A.Content.is_default A.gives request))
+          | Waits waiting ↦ (head_of waiting.value.request ≡ head_of request)
+              × IsNewFor waiting.value.content (body_of request) × ¬ (HasOtherCoding (head_of request).headers)
+          | Forwards forwarding ↦ (content : List ℕ) × IsContentAtOnce (body_of request) content
+              × A.forwards (record { head = head_of request; body = content }) forwarding.exchange.value
+        ] }
+        ensures can_poll { elim result [
+          | Made made ↦ IsSome made
+          | Waits waiting ↦ ⊤
+          | Forwards forwarding ↦ A.Exchange.can_poll forwarding.exchange.value
+        ] }
+    {
+        if has_other_coding(request.headers()) {
+            return Answering::Made(Some(Ok(unknown_coding(self.rt.alloc()))));
+        }
+        if awaits_leave(request.headers()) && is_too_long(request.body()) {
+            return self.too_long(request);
+        }
+        match self.waiting(request) {
+            Ok(waiting) => Answering::Waiting(waiting),
+            Err(AllocError) => Answering::Made(Some(Ok(out_of_memory(self.rt.alloc())))),
+        }
+    }
+
+    // The answer to a request with content that is too long, of which nothing has come.
+    fn too_long<I: Drop>(
+        &self,
+        request: Request<Incoming<I>>,
+    ) -> Answering<R, A, Gathering<Incoming<I>>>
+        requires { IsTooLong (body_of request) }
+        ensures called { elim result [
+          | Made made ↦ IfSome made (λ result. IfOk result
+              (IsAnsweredAtOnce A.Content.is_default A.gives request))
+          | Waits waiting ↦ (head_of waiting.value.request ≡ head_of request)
+              × IsNewFor waiting.value.content (body_of request) × ¬ (HasOtherCoding (head_of request).headers)
+          | Forwards forwarding ↦ (content : List ℕ) × IsContentAtOnce (body_of request) content
+              × A.forwards (record { head = head_of request; body = content }) forwarding.exchange.value
+        ] }
+        ensures can_poll { elim result [
+          | Made made ↦ IsSome made
+          | Waits waiting ↦ ⊤
+          | Forwards forwarding ↦ A.Exchange.can_poll forwarding.exchange.value
+        ] }
+    {
+        match overlong(self.rt.alloc()) {
+            Ok(content) => self.at_once(request, content),
+            Err(AllocError) => Answering::Made(Some(Ok(out_of_memory(self.rt.alloc())))),
+        }
+    }
+
+    // What waits for the content of a request.
     fn waiting<I: Drop>(
         &self,
-        head: Parts,
-        body: Incoming<I>,
-    ) -> Result<Box<Waiting<R, A, Collect<Limited<Incoming<I>>>>>, AllocError>
-        ensures ready { IfOk result (λ waiting. IsSome waiting.value.content.collected) }
-        ensures head { IfOk result (λ waiting. head_of waiting.value.request ≡ head) }
+        request: Request<Incoming<I>>,
+    ) -> Result<Box<Waiting<R, A, Gathering<Incoming<I>>>>, AllocError>
+        ensures head { IfOk result (λ waiting. head_of waiting.value.request ≡ head_of request) }
+        ensures content { IfOk result (λ waiting. IsNewFor waiting.value.content (body_of request)) }
     {
         let alloc = self.rt.alloc();
+        let (head, body) = request.into_parts();
         let waiting = Waiting {
             rt: self.rt,
             slot: Arc::try_clone(&self.slot)?,
-            request: without_content(head),
-            content: Limited::new(body, GATHERED).collect(alloc),
+            request: Request::from_parts(head, Bytes::new()),
+            content: Gathering::new(alloc, body),
         };
         Ok(Box::new(alloc, waiting)?)
     }
 }
 
-impl<R, A, G, E> Future for Answering<R, A, G>
+impl<R, A, G> Future for Answering<R, A, G>
 where
     R: Wait + AllocGlobal + Copy + Drop,
     A: Answers,
-    G: Future<Output = Result<Collected, LimitedError<E>>>,
-    E: Drop,
+    G: Future<Output = Result<Bytes, ContentError>>,
 {
-    type Output = Result<Response<Full<Bytes>>, ServiceError>;
+    type Output = Result<Response<A::Content>, ServiceError>;
 
     ghost can_poll = { elim [
       | Made made ↦ IsSome made
@@ -164,14 +233,15 @@ where
 
     ghost gives = { λ f result. elim f [
       | Made made ↦ made ≡ Some result
-      | Waits waiting ↦ IfOk result (λ made. (body : List ℕ)
-          × IsSentFor A.gives (record { head = head_of waiting.value.request; body = body }) made)
+      | Waits waiting ↦ IfOk result (λ made. (gathered : Result (List ℕ) GatherError)
+          × G.gives waiting.value.content gathered
+          × IsAnswerTo A.Content.is_default A.gives (head_of waiting.value.request) gathered made)
       | Forwards forwarding ↦ (message : _)
           → IsExchangeFor A.forwards A.Exchange.gives message forwarding.exchange.value
-          → IfOk result (IsSentFor A.gives message)
+          → IfOk result (IsSentFor A.Content.is_default A.gives message)
     ] };
 
-    fn poll(&mut self, cx: &mut Context<'_>) -> Poll<Result<Response<Full<Bytes>>, ServiceError>> {
+    fn poll(&mut self, cx: &mut Context<'_>) -> Poll<Result<Response<A::Content>, ServiceError>> {
         match self {
             Answering::Made(made) => Poll::Ready(made.take().unwrap()),
             Answering::Waiting(waiting) => match waiting.poll(cx) {
@@ -198,20 +268,23 @@ where
     R: Wait + AllocGlobal + Copy + Drop,
     A: Answers,
 {
-    // What becomes of the request, once gathering the content has ended. Not inlined, as `waiting`.
+    // What becomes of the request, once gathering the content has ended. Not inlined, as `gathering`.
     #[inline(never)]
-    fn poll<E: Drop>(
+    fn poll(
         &mut self,
         cx: &mut Context<'_>,
-    ) -> Poll<Result<Begun<A::Exchange>, ServiceError>>
+    ) -> Poll<Result<Begun<A::Exchange, A::Content>, ServiceError>>
     where
-        G: Future<Output = Result<Collected, LimitedError<E>>>,
+        G: Future<Output = Result<Bytes, ContentError>>,
         requires { G.can_poll self.old.content }
-        ensures value { IfReady result (λ result. IfOk result (λ begun. (body : List ℕ)
-            × IsBegun (IsSentFor A.gives) A.forwards A.Exchange.can_poll
-            (record { head = head_of self.old.request; body = body }) begun)) }
+        ensures value { IfReady result (λ result. IfOk result (λ begun. (gathered : Result (List ℕ) GatherError)
+            × G.gives self.old.content gathered
+            × IsBegunWith A.Content.is_default A.gives A.forwards A.Exchange.can_poll
+                (head_of self.old.request) gathered begun)) }
         ensures again { OnPending result (G.can_poll self.new.content) }
         ensures same { OnPending result (head_of self.new.request ≡ head_of self.old.request) }
+        ensures rest { OnPending result ((gathered : Result (List ℕ) GatherError)
+            → G.gives self.new.content gathered → G.gives self.old.content gathered) }
         ensures registered { OnPending result (IsArmed cx.new) }
         ensures kept { Keeps cx.old cx.new }
     {
@@ -219,16 +292,25 @@ where
         Poll::Ready(self.begin(gathered))
     }
 
-    fn begin<E: Drop>(
+    fn begin(
         &mut self,
-        gathered: Result<Collected, LimitedError<E>>,
-    ) -> Result<Begun<A::Exchange>, ServiceError>
-        ensures { IfOk result (λ begun. (body : List ℕ)
-            × IsBegun (IsSentFor A.gives) A.forwards A.Exchange.can_poll
-            (record { head = head_of self.old.request; body = body }) begun) }
+        gathered: Result<Bytes, ContentError>,
+    ) -> Result<Begun<A::Exchange, A::Content>, ServiceError>
+        ensures { IfOk result (IsBegunWith A.Content.is_default A.gives A.forwards A.Exchange.can_poll
+            (head_of self.old.request) gathered) }
     {
-        *self.request.body_mut() = bytes_of(self.rt.alloc(), gathered)?;
-        self.slot.begin(&self.rt, self.rt.alloc(), &self.request)
+        let alloc = self.rt.alloc();
+        let content = match gathered {
+            Ok(content) => content,
+            Err(ContentError::TooLong) => overlong(alloc)?,
+            Err(ContentError::Malformed) => {
+                return Ok(Begun::Answered(refusal(alloc, StatusCode::BAD_REQUEST)));
+            }
+            Err(ContentError::OutOfMemory) => return Ok(Begun::Answered(out_of_memory(alloc))),
+            Err(ContentError::Broken) => return Err(ServiceError::Broken),
+        };
+        *self.request.body_mut() = content;
+        self.slot.begin(&self.rt, alloc, &self.request)
     }
 
     fn forwarding(&self, exchange: Box<A::Exchange>) -> Result<Forwarding<R, A>, AllocError>
@@ -238,27 +320,32 @@ where
     }
 }
 
-// The request with this head, whose content hasn't come or is none.
-fn without_content(head: Parts) -> Request<Bytes>
-    ensures { result ≡ record { head = head; body = [] } }
+// The request, with this content.
+fn with_content<I: Drop>(request: Request<Incoming<I>>, content: Bytes) -> Request<Bytes>
+    ensures { result ≡ record { head = head_of request; body = content } }
 {
-    Request::from_parts(head, Bytes::new())
+    let (head, _body) = request.into_parts();
+    Request::from_parts(head, content)
 }
 
-fn bytes_of<E: Drop>(
-    alloc: Global,
-    gathered: Result<Collected, LimitedError<E>>,
-) -> Result<Bytes, ServiceError> {
-    match gathered {
-        Ok(collected) => Ok(collected.to_bytes()?),
-        Err(LimitedError::LengthLimit) => Ok(overlong(alloc)?),
-        Err(LimitedError::Body(_error)) => Err(ServiceError::Broken),
+fn out_of_memory<C: Default>(alloc: Global) -> Response<C>
+    ensures { IsRefusal C.is_default 503 result }
+{
+    refusal(alloc, StatusCode::SERVICE_UNAVAILABLE)
+}
+
+fn is_too_long<I: Drop>(body: &Incoming<I>) -> bool
+    ensures { IsTrue result → IsTooLong body.now }
+{
+    match body.size_hint().exact() {
+        Some(len) => len > BODY_LIMIT as u64,
+        None => false,
     }
 }
 
-// A body that is too long, in the place of one that wasn't gathered whole.
+// Content that is too long, in the place of that which wasn't gathered.
 fn overlong(alloc: Global) -> Result<Bytes, AllocError>
-    ensures { IfOk result (λ bytes. length bytes ≡ GATHERED) }
+    ensures { IfOk result (λ bytes. BODY_LIMIT < length bytes) }
 {
-    Ok(BytesMut::from(vec![in alloc; 0; GATHERED]?).freeze()?)
+    Ok(BytesMut::from(vec![in alloc; 0; BODY_LIMIT + 1]?).freeze()?)
 }

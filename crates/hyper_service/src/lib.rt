@@ -1,10 +1,8 @@
-//! The server's connections, answered by a site: one over any reader and writer (`serve_io`), and those of a listener
-//! (`serve_on`), each with a seat of its own. How requests are gathered and where seats lie is `http_connections`';
-//! what the answer to a request is, `answering`'s.
+//! The server's connections, answered by a site: those of a listener, each with a seat of its own. How requests are
+//! gathered and where seats lie is `http_connections`'; what the answer to a request is, `answering`'s.
 #![tactic(auto)]
 
 mod report;
-pub mod serve_io;
 pub mod serve_on;
 pub mod site_answers;
 pub mod site_exchange;

@@ -9,6 +9,7 @@ use command_output::error::CommandError;
 use command_output::status::FAILURE;
 use error_code::error_code::ErrorCode;
 use http_connections::serve_on::{End, Served, serve_all};
+use http_connections::settings::Settings;
 use proxy_client::forwards::Forwards;
 use shared_book::gate::Gate;
 use shared_book::origin::Origin;
@@ -34,7 +35,7 @@ pub fn serve_on<R, L, G, C, F, O, E>(
     site: Site<L, G, C>,
     forwarder: F,
     seat: Seat<L>,
-    connections: Option<u64>,
+    settings: Settings,
     out: &mut O,
     err: &mut E,
 ) -> u8
@@ -51,7 +52,7 @@ where
     if announce(&listener, out).is_err() {
         return FAILURE;
     }
-    match serve_site(rt, runtime, listener, site, forwarder, seat, connections) {
+    match serve_site(rt, runtime, listener, site, forwarder, seat, settings) {
         Ok((settled, end)) => report(settled, end, out, err),
         Err(_error) => {
             CommandError::from(ErrorCode::OutOfMemory).report(err);
@@ -75,7 +76,7 @@ fn serve_site<R, L, G, C, F>(
     site: Site<L, G, C>,
     forwarder: F,
     seat: Seat<L>,
-    connections: Option<u64>,
+    settings: Settings,
 ) -> Result<(Result<u64, SettleRefusal>, End), AllocError>
 where
     R: Wait + std::time::Clock + RandomSource + AllocGlobal + Copy + Drop,
@@ -87,7 +88,7 @@ where
     let book = site.book.try_clone()?;
     let answers = SiteAnswers::new(Arc::new(rt.alloc(), site)?, forwarder);
     let answers = Arc::new(rt.alloc(), answers)?;
-    let Served { seats, end } = serve_all(rt, runtime, listener, &answers, seat, connections)?;
+    let Served { seats, end } = serve_all(rt, runtime, listener, &answers, seat, settings)?;
     Ok((events(&rt, rt.alloc(), book, seats), end))
 }
 

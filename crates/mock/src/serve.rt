@@ -10,6 +10,7 @@ use command_output::files::FileReader;
 use command_output::output::put;
 use command_output::status::FAILURE;
 use error_code::error_code::ErrorCode;
+use http_connections::settings::Settings;
 use hyper_service::serve_on::serve_on;
 use proxy_client::client::{Client, SILENCE_SECONDS};
 use proxy_client::counted::TURN_LIMIT;
@@ -33,6 +34,9 @@ use tokio::runtime::LocalRuntime;
 
 // Into how many parts the ledger is cut: as many connections may be open at once, less one.
 const PARTS: u64 = 4_294_967_296;
+
+// How many connections are open at a time.
+const MAX_CONNECTIONS: u64 = 900;
 
 /// Serves as the arguments say, and gives the exit status: 0, or 1 with a line on `err`. First the file is judged, then
 /// its mappings, the book, and the port.
@@ -98,7 +102,10 @@ where
         site,
         forwarder,
         seat,
-        arguments.connections,
+        Settings {
+            connections: arguments.connections,
+            max_connections: MAX_CONNECTIONS,
+        },
         out,
         err,
     )

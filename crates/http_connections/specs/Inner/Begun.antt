@@ -1,12 +1,25 @@
--- What is sent of what a request has become.
-use Rattle.std.specs.Prelude.{◌≡◌, ℕ, List}
+-- What a request has become, and what is sent of that.
+use Rattle.std.specs.Prelude.{◌≡◌, ℕ, List, Result}
+use Rattle.http.specs.declared.request.Parts.{Parts}
+use Rattle.http.specs.declared.request.Request.{Request}
 use Rattle.http.specs.declared.response.Response.{Response}
-use Rattle.http_body_util.specs.declared.full.Full.{Full}
 use Rattle.http_connections.specs.declared.begun.Begun.{Begun}
 use Rattle.http_connections.specs.declared.begun.Begun.TheVariants.{Answered, Forwarding}
+use Rattle.http_connections.specs.Content.{IsAnswerTo, IsContentOf}
+use Rattle.http_connections.specs.declared.content_error.ContentError.{ContentError}
 use Rattle.http_messages.specs.Wire.{IsSent}
 
 -- an answer becomes what is sent of it, and an exchange stays
-abbrev pub IsSentOf : {E : Type 0} → Begun E → Begun E → Type 0
-IsSentOf (Answered answer) made = (sent : Response (Full (List ℕ))) × (made ≡ Answered sent) × IsSent answer sent
-IsSentOf (Forwarding exchange) made = made ≡ Forwarding exchange
+abbrev pub IsSentOf : {E C : Type 0} → (C → Type 0) → Begun E C → Begun E C → Type 0
+IsSentOf {C = C} IsEmpty (Answered answer) made =
+    (sent : Response C) × (made ≡ Answered sent) × IsSent IsEmpty answer sent
+IsSentOf IsEmpty (Forwarding exchange) made = made ≡ Forwarding exchange
+
+-- A request with this head, after this came of gathering its content, has an answer that may be sent, or an exchange by
+-- which it may be forwarded, and which may be polled.
+abbrev pub IsBegunWith : {E C : Type 0} → (C → Type 0) → (Request (List ℕ) → Response C → Type 0)
+    → (Request (List ℕ) → E → Type 0) → (E → Type 0) → Parts → Result (List ℕ) ContentError → Begun E C → Type 0
+IsBegunWith IsEmpty gives forwards can_poll head gathered (Answered made) = IsAnswerTo IsEmpty gives head gathered made
+IsBegunWith IsEmpty gives forwards can_poll head gathered (Forwarding exchange) =
+    ((body : List ℕ) × IsContentOf gathered body × forwards (record { head = head; body = body }) exchange.value)
+    × can_poll exchange.value

@@ -1,0 +1,30 @@
+-- What is sent of what a request has become.
+use Rattle.std.proofs.Common.{ℕ, List, Result, Ok, Err, IfOk, sym, subst}
+use Rattle.http.specs.declared.request.Request.{Request}
+use Rattle.http.specs.declared.response.Response.{Response}
+use Rattle.http_connections.specs.Inner.Begun.{IsSentOf}
+use Rattle.http_connections.specs.Sent.{IsBegun, IsSentFor}
+use Rattle.http_connections.specs.declared.begun.Begun.{Begun}
+use Rattle.http_connections.specs.declared.begun.Begun.TheVariants.{Answered, Forwarding}
+
+module _ {E C : Type 0} (IsEmpty : C → Type 0) (gives : Request (List ℕ) → Response C → Type 0)
+    (forwards : Request (List ℕ) → E → Type 0) (can_poll : E → Type 0) (message : Request (List ℕ)) where
+  abbrev IsBegunSent : Begun E C → Type 0
+  IsBegunSent = IsBegun (IsSentFor IsEmpty gives) forwards can_poll message
+
+  sent_begun : (begun made : Begun E C) → IsBegun gives forwards can_poll message begun
+      → IsSentOf IsEmpty begun made → IsBegunSent made
+  sent_begun (Answered answer) made given sent = subst IsBegunSent (sym sent.1) (answer, given, sent.2)
+  sent_begun (Forwarding exchange) made given same = subst IsBegunSent (sym same) given
+
+  pub sent_as_it_is : {Refusal : Type 0} (result : Result (Begun E C) Refusal)
+      → IfOk result (IsBegun gives forwards can_poll message) → IfOk result (λ begun. IsSentOf IsEmpty begun begun)
+      → IfOk result (IsBegun (IsSentFor IsEmpty gives) forwards can_poll message)
+  sent_as_it_is (Ok begun) given sent = sent_begun begun begun given sent
+  sent_as_it_is (Err refusal) given sent = tt
+
+  pub sent_anew : (begun : Begun E C) → IsBegun gives forwards can_poll message begun
+      → {Refusal : Type 0} (result : Result (Begun E C) Refusal) → IfOk result (IsSentOf IsEmpty begun)
+      → IfOk result (IsBegun (IsSentFor IsEmpty gives) forwards can_poll message)
+  sent_anew begun given (Ok made) sent = sent_begun begun made given sent
+  sent_anew begun given (Err refusal) sent = tt

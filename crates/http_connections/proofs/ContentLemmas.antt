@@ -1,0 +1,93 @@
+-- Each frame of a body adds its data to the content that is gathered, or makes it too long.
+use Rattle.std.proofs.Common.{◌≡◌, ◌≢◌, ◌<◌, ℕ, Bool, true, false, List, [], ◌∷◌, ◌++◌, None, Some, Ok, Err, IfOk, IsErrOf, Result}
+use Rattle.std.proofs.Common.{true≢false, length, map, refl, append_assoc, append-nil, sym, ap, subst, ◌∙◌}
+use Rattle.futures.specs.Runs.{Runs, After}
+use Rattle.http_body.specs.Frame.{bytes_in, joined_data}
+use Rattle.http_body.specs.declared.frame.Frame.{Frame}
+use Rattle.http_connections.specs.Content.{Exceeds, Gathers, IsGathered}
+use Rattle.http_connections.specs.Inner.Pushed.{IsPushed}
+use Rattle.http_connections.specs.declared.content_error.ContentError.{ContentError}
+use Rattle.http_connections.specs.declared.content_error.ContentError.TheVariants.{Broken, Malformed, OutOfMemory, TooLong}
+use Rattle.mock_request.specs.declared.snapshot.TheConstants.{BODY_LIMIT}
+
+module _ {E : Type 0} (old : Runs (Result (Frame (List ℕ)) E)) where
+  -- the body has ended
+  pub ended : (is_too_long : Bool) (held : List ℕ) (result : Result (List ℕ) ContentError)
+      → IfOk result (λ content. (content ≡ held) × (is_too_long ≡ false))
+      → (IsErrOf result TooLong → is_too_long ≡ true) → old [] None
+      → IsGathered old is_too_long held result
+  ended true held (Ok content) value too_long came = absurd (true≢false value.1)
+  ended true held (Err error) value too_long came = tt
+  ended false held (Ok content) value too_long came = record {
+    frames = [];
+    came = came;
+    joined = value.0 ∙ sym (append-nil held);
+  }
+  ended false held (Err TooLong) value too_long came = absurd (true≢false (sym (too_long refl)))
+  ended false held (Err Malformed) value too_long came = tt
+  ended false held (Err Broken) value too_long came = tt
+  ended false held (Err OutOfMemory) value too_long came = tt
+
+  -- the body failed, and not because it is too long
+  pub broke : (is_too_long : Bool) (held : List ℕ) (error : ContentError) → error ≢ TooLong
+      → IsGathered old is_too_long held (Err error)
+  broke true held error other = tt
+  broke false held TooLong other = absurd (other refl)
+  broke false held Malformed other = tt
+  broke false held Broken other = tt
+  broke false held OutOfMemory other = tt
+
+  module _ (frame : Frame (List ℕ)) where
+    first_exceeds : (held : List ℕ) → old [] (Some (Ok frame)) → BODY_LIMIT < length (held ++ bytes_in frame.kind)
+        → Exceeds old held
+    first_exceeds held came over = record { frames = []; last = frame; came = came; over = over }
+
+    -- the frame made the content too long, and no more is read; or there was no memory for it
+    pub failed : (is_too_long : Bool) (held next : List ℕ) (error : ContentError)
+        → (error ≡ TooLong → IsPushed is_too_long held frame true next)
+        → old [] (Some (Ok frame)) → IsGathered old is_too_long held (Err error)
+    failed true held next error pushed came = tt
+    failed false held next TooLong pushed came = first_exceeds held came (pushed refl)
+    failed false held next Malformed pushed came = tt
+    failed false held next Broken pushed came = tt
+    failed false held next OutOfMemory pushed came = tt
+
+    module _ (new : Runs (Result (Frame (List ℕ)) E)) (came : old [] (Some (Ok frame)))
+        (after : After old (Ok frame) new) where
+      gathers_after : (held content : List ℕ) → Gathers new (held ++ bytes_in frame.kind) content
+          → Gathers old held content
+      gathers_after held content more = record {
+        frames = frame ∷ more.frames;
+        came = after (map Ok more.frames) None more.came;
+        joined = more.joined ∙ append_assoc held (bytes_in frame.kind) (joined_data more.frames);
+      }
+
+      exceeds_after : (held : List ℕ) → Exceeds new (held ++ bytes_in frame.kind) → Exceeds old held
+      exceeds_after held more =
+          let rest = joined_data more.frames ++ bytes_in more.last.kind in
+          record {
+            frames = frame ∷ more.frames;
+            last = more.last;
+            came = after (map Ok more.frames) (Some (Ok more.last)) more.came;
+            over = subst (λ bytes. BODY_LIMIT < length bytes)
+                (append_assoc held (bytes_in frame.kind) rest
+                ∙ ap (λ bytes. held ++ bytes)
+                    (sym (append_assoc (bytes_in frame.kind) (joined_data more.frames) (bytes_in more.last.kind))))
+                more.over;
+          }
+
+      pub gathered_after : (is_too_long : Bool) (held : List ℕ) (is_too_long' : Bool) (next : List ℕ)
+          → IsPushed is_too_long held frame is_too_long' next → (result : Result (List ℕ) ContentError)
+          → IsGathered new is_too_long' next result → IsGathered old is_too_long held result
+      gathered_after true held true next pushed (Ok content) more = more
+      gathered_after true held false next pushed (Ok content) more = absurd (true≢false (sym pushed))
+      gathered_after true held is_too_long' next pushed (Err error) more = tt
+      gathered_after false held true next pushed (Ok content) more = absurd more
+      gathered_after false held true next pushed (Err TooLong) more = first_exceeds held came pushed
+      gathered_after false held false next pushed (Ok content) more =
+          gathers_after held content (subst (λ bytes. Gathers new bytes content) pushed more)
+      gathered_after false held false next pushed (Err TooLong) more =
+          exceeds_after held (subst (λ bytes. Exceeds new bytes) pushed more)
+      gathered_after false held is_too_long' next pushed (Err Malformed) more = tt
+      gathered_after false held is_too_long' next pushed (Err Broken) more = tt
+      gathered_after false held is_too_long' next pushed (Err OutOfMemory) more = tt

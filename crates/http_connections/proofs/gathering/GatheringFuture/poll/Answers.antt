@@ -1,0 +1,26 @@
+use Rattle.std.proofs.Common.{rules, Err, ap, ◌∙◌}
+use Rattle.http_connections.proofs.ContentLemmas.{ended, failed, gathered_after}
+use Rattle.http_connections.proofs.gathering.GatheringFuture.poll.Goals as goal
+
+pub returns-in-Err-clause-value : goal.returns-in-Err-clause-value
+returns-in-Err-clause-value g c =
+    failed (g.B.Body.yields c.args.self.now.body) c.in-Some-Ok.frame c.args.self.now.is_too_long
+    c.args.self.now.gathered.items c.push.new.self.gathered.items c.in-Err.error
+    (λ same. c.push.ensures.too_long (c.in-Err.is ∙ ap (λ error. Err error) same)) (search rules)
+
+pub returns-then-is_end_stream-clause-value : goal.returns-then-is_end_stream-clause-value
+returns-then-is_end_stream-clause-value g c =
+    gathered_after (g.B.Body.yields c.args.self.now.body) c.in-Some-Ok.frame (g.B.Body.yields c.push.new.self.body)
+    (search rules) (rw c.push.ensures.same (search rules)) c.args.self.now.is_too_long c.args.self.now.gathered.items
+    c.push.new.self.is_too_long c.push.new.self.gathered.items c.in_default.ensures.pushed
+    c.end-then-is_end_stream.result
+    (ended (g.B.Body.yields c.push.new.self.body) c.push.new.self.is_too_long c.push.new.self.gathered.items
+    c.end-then-is_end_stream.result c.end-then-is_end_stream.ensures.value c.end-then-is_end_stream.ensures.too_long
+    (search rules))
+
+pub returns-2-clause-same : goal.returns-2-clause-same
+returns-2-clause-same g c =
+    rw c.yield_now.ensures.pending (λ x more. gathered_after (g.B.Body.yields c.args.self.now.body)
+    c.in-Some-Ok.frame (g.B.Body.yields c.push.new.self.body) (search rules) (rw c.push.ensures.same (search rules))
+    c.args.self.now.is_too_long c.args.self.now.gathered.items c.push.new.self.is_too_long
+    c.push.new.self.gathered.items c.in_default.ensures.pushed x more)

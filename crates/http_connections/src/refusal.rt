@@ -1,0 +1,53 @@
+// The connection's own answers.
+ghost use Rattle.std.specs.Prelude.{◌↔◌, IsTrue};
+ghost use Rattle.http_connections.specs.Content.{HasOtherCoding, IsChunked, IsRefusal};
+
+use http::response::Parts;
+use http::{HeaderMap, HeaderValue, Response, StatusCode, header};
+use std::alloc::Global;
+
+/// An answer without content.
+pub(crate) fn refusal<C: Default>(alloc: Global, status: StatusCode) -> Response<C>
+    ensures { IsRefusal C.is_default status result }
+{
+    let mut head = Parts::new(alloc);
+    head.status = status;
+    Response::from_parts(head, C::default())
+}
+
+/// The answer to a request in a coding that isn't known. The connection ends after it.
+pub(crate) fn unknown_coding<C: Default>(alloc: Global) -> Response<C>
+    ensures { IsRefusal C.is_default 501 result }
+{
+    let mut head = Parts::new(alloc);
+    head.status = StatusCode::NOT_IMPLEMENTED;
+    // Where there is no memory for it, the connection ends when the rest of the content doesn't come.
+    let _ = head
+        .headers
+        .append(header::CONNECTION, HeaderValue::from_static("close"));
+    Response::from_parts(head, C::default())
+}
+
+/// Whether the content is in another coding than `chunked`, too.
+pub(crate) fn has_other_coding(headers: &HeaderMap) -> bool
+    ensures { IsTrue result ↔ HasOtherCoding headers.now }
+{
+    headers
+        .get_all(header::TRANSFER_ENCODING)
+        .iter()
+        .any(|value| !is_chunked(value))
+}
+
+fn is_chunked(value: &HeaderValue) -> bool
+    ensures { IsTrue result ↔ IsChunked value.now }
+{
+    value.as_bytes().eq_ignore_ascii_case(b"chunked")
+}
+
+/// Whether the client waits for `100 Continue` before it sends the content (RFC 9110, section 10.1.1).
+pub(crate) fn awaits_leave(headers: &HeaderMap) -> bool {
+    match headers.get(header::EXPECT) {
+        Some(value) => value.as_bytes().eq_ignore_ascii_case(b"100-continue"),
+        None => false,
+    }
+}
