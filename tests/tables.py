@@ -90,8 +90,18 @@ def response(stream, has_content=True):
     while header := stream.readline().decode().rstrip("\r\n"):
         headers.append(tuple(header.split(": ", 1)))
     has_content = has_content and line[1] not in ("100", "204", "304")
+    if has_content and dict(headers).get("transfer-encoding") == "chunked":
+        return line[1], headers, b"".join(chunks(stream))
     length = int(dict(headers).get("content-length", 0)) if has_content else 0
     return line[1], headers, stream.read(length)
+
+
+def chunks(stream):
+    """The chunks of a content that has them (RFC 9112, section 7.1)."""
+    while length := int(stream.readline(), 16):
+        yield stream.read(length)
+        stream.readline()
+    stream.readline()
 
 
 class Client:

@@ -1,3 +1,4 @@
+pub mod NumberLemmas
 pub mod ReadLemmas
 pub mod ChangeLemmas
 pub mod RecordingLemmas

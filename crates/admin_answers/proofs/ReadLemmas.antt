@@ -1,8 +1,9 @@
 -- What is answered from a reading is what the past that was read says.
 use Rattle.std.proofs.Common.{◌≡◌, ◌⊎◌, ℕ, List, Vec, Option, Some, None, Any, Result, Ok, Err, IfOk}
-use Rattle.std.proofs.Common.{IfErr, inl, inr, sym, subst, ◌∙◌}
+use Rattle.std.proofs.Common.{IfErr, inl, inr, sym, subst, refl, ◌∙◌, ◌+◌, ◌<◌, ◌≤◌, arith}
 use Rattle.std.specs.declared.alloc.AllocError.{AllocError}
 use Rattle.std.specs.declared.alloc.Global.{Global}
+use Rattle.admin_answers.proofs.NumberLemmas.{AreBelow, picked_below, visible_below}
 use Rattle.admin_answers.specs.Answers.{InPast, IsHeldReply, IsReadReply}
 use Rattle.admin_answers.specs.declared.error.SharedError.{SharedError}
 use Rattle.error_code.specs.declared.error_code.ErrorCode.TheVariants as code
@@ -13,18 +14,26 @@ use Rattle.admin_json.specs.Scenarios.{json_of_scenarios}
 use Rattle.admin_routes.specs.declared.call.AdminCall.TheVariants as call
 use Rattle.mapping_model.specs.declared.reply.Reply.{Reply}
 use Rattle.mapping_model.specs.declared.request_spec.RequestSpec.{RequestSpec}
+use Rattle.request_journal.specs.Journal.{request_of, unmatched_of}
+use Rattle.request_journal.specs.Journal.{requests as requests_in}
 use Rattle.request_journal.specs.Legal.{IsLive}
 use Rattle.request_journal.specs.Live.{live}
 use Rattle.request_journal.specs.Past.{Past, Placed}
 use Rattle.request_journal.specs.declared.entry.Entry.{Entry}
 use Rattle.request_journal.specs.declared.mapping.Mapping.{Mapping}
+use Rattle.request_match.specs.Matching.{MeetsRequest}
 use Rattle.scenario_core.specs.Scenarios.{States}
+use Rattle.serde_json.specs.Data.{Data, depth}
+use Rattle.serde_json.specs.Read as json
+use Rattle.serde_json.specs.Read.{max_depth}
+use Rattle.serde_json.specs.Written.{compact_text}
 use Rattle.shared_book.specs.Reading.{IsRead, IsReadAnswer}
 use Rattle.shared_book.specs.declared.book_read.BookRead.{BookRead}
 use Rattle.shared_book.specs.declared.book_read.BookRead.TheVariants as read
 use Rattle.shared_book.specs.declared.book_read.ReadAnswer.{ReadAnswer}
 use Rattle.shared_book.specs.declared.book_read.ReadAnswer.TheVariants as answer
 use Rattle.shared_book.specs.declared.book_read.Reading.{Reading}
+use Rattle.stub_response.specs.ErrorReply.{json_reply}
 
 -- what the past that was read says of this answer
 pub said : (origin : Past) (asked : BookRead) (reading : Reading) (found : ReadAnswer)
@@ -40,40 +49,60 @@ mappings origin list reading (Ok reply) is e json =
     (is.past, is.reached, (list.items, said origin read.Mappings reading _ is e, json))
 mappings origin list reading (Err why) is e json = tt
 
+-- a text that is the compact text of a value, and reads back, is its reply
+pub replied
+    : (value : Data) (P Q : Type 0) (result : Result (List ℕ) AllocError) → (Q → P)
+    → IfOk result (λ text. text ≡ compact_text value)
+    → IfOk result (λ text. P → depth value ≤ max_depth → json.read text ≡ Some value)
+    → IfOk result (λ text. Q → IsJsonReply 200 value (json_reply 200 text))
+replied value P Q (Ok text) less same reads =
+    λ q. (text, record { compact = λ whole. same; reads_back = reads (less q) }, refl)
+replied value P Q (Err why) less same reads = tt
+
 pub requests
-    : (origin : Past) (list : Vec Entry Global) (reading : Reading) (result : Result Reply AllocError)
+    : (origin : Past) (list : Vec Entry Global) (reading : Reading) (result : Result (List ℕ) AllocError)
     → IsRead origin read.Requests reading → reading.answer ≡ answer.Requests list
-    → IfOk result (IsJsonReply 200 (json_of_requests list.items))
-    → IfOk result (λ reply. InPast origin (IsReadReply call.ListRequests reply))
-requests origin list reading (Ok reply) is e json = (
-  is.past,
-  is.reached,
-  subst (λ es. IsJsonReply 200 (json_of_requests es) reply)
-      (said origin read.Requests reading _ is e) json,
-)
+    → IfOk result (λ text. AreBelow (reading.number + 1) list.items
+    → IsJsonReply 200 (json_of_requests list.items) (json_reply 200 text))
+    → IfOk result (λ text. InPast origin (IsReadReply call.ListRequests (json_reply 200 text)))
+requests origin list reading (Ok text) is e json =
+    let says = said origin read.Requests reading _ is e in
+    let below = visible_below (reading.number + 1) request_of is.past (omega (arith, is.number)) in (
+      is.past,
+      is.reached,
+      subst (λ es. IsJsonReply 200 (json_of_requests es) (json_reply 200 text)) says
+          (json (subst (AreBelow (reading.number + 1)) (sym says) below)),
+    )
 requests origin list reading (Err why) is e json = tt
 
 pub unmatched
-    : (origin : Past) (list : Vec Entry Global) (reading : Reading) (result : Result Reply AllocError)
+    : (origin : Past) (list : Vec Entry Global) (reading : Reading) (result : Result (List ℕ) AllocError)
     → IsRead origin read.Unmatched reading → reading.answer ≡ answer.Requests list
-    → IfOk result (IsJsonReply 200 (json_of_found list.items))
-    → IfOk result (λ reply. InPast origin (IsReadReply call.ListUnmatched reply))
-unmatched origin list reading (Ok reply) is e json = (
-  is.past,
-  is.reached,
-  subst (λ es. IsJsonReply 200 (json_of_found es) reply)
-      (said origin read.Unmatched reading _ is e) json,
-)
+    → IfOk result (λ text. AreBelow (reading.number + 1) list.items
+    → IsJsonReply 200 (json_of_found list.items) (json_reply 200 text))
+    → IfOk result (λ text. InPast origin (IsReadReply call.ListUnmatched (json_reply 200 text)))
+unmatched origin list reading (Ok text) is e json =
+    let says = said origin read.Unmatched reading _ is e in
+    let below = visible_below (reading.number + 1) unmatched_of is.past (omega (arith, is.number)) in (
+      is.past,
+      is.reached,
+      subst (λ es. IsJsonReply 200 (json_of_found es) (json_reply 200 text)) says
+          (json (subst (AreBelow (reading.number + 1)) (sym says) below)),
+    )
 unmatched origin list reading (Err why) is e json = tt
 
 pub found
     : (origin : Past) (matcher : RequestSpec) (list : Vec Entry Global) (reading : Reading)
-    (result : Result Reply AllocError)
+    (result : Result (List ℕ) AllocError)
     → IsRead origin (read.Find matcher) reading → reading.answer ≡ answer.Requests list
-    → IfOk result (IsJsonReply 200 (json_of_found list.items))
-    → IfOk result (λ reply. InPast origin (IsReadReply (call.FindRequests matcher) reply))
-found origin matcher list reading (Ok reply) is e json =
-    (is.past, is.reached, (list.items, said origin (read.Find matcher) reading _ is e, json))
+    → IfOk result (λ text. AreBelow (reading.number + 1) list.items
+    → IsJsonReply 200 (json_of_found list.items) (json_reply 200 text))
+    → IfOk result (λ text. InPast origin (IsReadReply (call.FindRequests matcher) (json_reply 200 text)))
+found origin matcher list reading (Ok text) is e json =
+    let says = said origin (read.Find matcher) reading _ is e in
+    let below = visible_below (reading.number + 1) request_of is.past (omega (arith, is.number)) in
+    let all = picked_below (reading.number + 1) (λ entry. MeetsRequest matcher entry.request) (requests_in is.past)
+    list.items says below in (is.past, is.reached, (list.items, says, json all))
 found origin matcher list reading (Err why) is e json = tt
 
 pub counted

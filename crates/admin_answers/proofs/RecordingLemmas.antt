@@ -1,5 +1,5 @@
 -- What is answered from a reading of recordings is what the past that was read says.
-use Rattle.std.proofs.Common.{◌≡◌, ◌⊎◌, List, Option, Some, None, Result, Ok, Err, IfOk, IfErr, inl, inr}
+use Rattle.std.proofs.Common.{◌≡◌, ◌⊎◌, ℕ, List, Option, Some, None, Result, Ok, Err, IfOk, IfErr, inl, inr}
 use Rattle.std.proofs.Common.{subst}
 use Rattle.std.specs.declared.alloc.AllocError.{AllocError}
 use Rattle.admin_answers.proofs.ReadLemmas.{said}
@@ -20,6 +20,7 @@ use Rattle.shared_book.specs.Reading.{IsRead}
 use Rattle.shared_book.specs.declared.book_read.BookRead.TheVariants as read
 use Rattle.shared_book.specs.declared.book_read.ReadAnswer.TheVariants as answer
 use Rattle.shared_book.specs.declared.book_read.Reading.{Reading}
+use Rattle.stub_response.specs.ErrorReply.{json_reply}
 
 pub recording_status
     : (origin : Past) (found : RecordingStatus) (reading : Reading) (result : Result Reply AllocError)
@@ -34,21 +35,24 @@ recording_status origin found reading (Ok reply) is e json = (
 recording_status origin found reading (Err why) is e json = tt
 
 pub recording_har
-    : (origin : Past) (kept : Recording) (reading : Reading) (result : Result Reply SharedError)
+    : (origin : Past) (kept : Recording) (reading : Reading) (result : Result (List ℕ) SharedError)
     → IsRead origin read.Recording reading → reading.answer ≡ answer.Recording kept
-    → IfOk result (IsHarReply (session_of kept))
-    → IfOk result (λ reply. InPast origin (IsReadReply call.ReadRecordingHar reply))
-recording_har origin kept reading (Ok reply) is e har =
-    (is.past, is.reached, subst (λ r. IsHarReply (session_of r) reply) (said origin read.Recording reading _ is e) har)
+    → IfOk result (λ text. IsHarReply (session_of kept) (json_reply 200 text))
+    → IfOk result (λ text. InPast origin (IsReadReply call.ReadRecordingHar (json_reply 200 text)))
+recording_har origin kept reading (Ok text) is e har = (
+  is.past,
+  is.reached,
+  subst (λ r. IsHarReply (session_of r) (json_reply 200 text)) (said origin read.Recording reading _ is e) har,
+)
 recording_har origin kept reading (Err why) is e har = tt
 
 pub no_har
-    : (origin : Past) (kept : Recording) (reading : Reading) (result : Result Reply SharedError)
+    : (origin : Past) (kept : Recording) (reading : Reading) (result : Result (List ℕ) SharedError)
     → IsRead origin read.Recording reading → reading.answer ≡ answer.Recording kept
     → IfErr result (λ error. (error.code ≡ code.OutOfMemory) ⊎ HasNoHar (session_of kept) error.code)
     → IfErr result (λ error. (error.code ≡ code.OutOfMemory)
     ⊎ InPast origin (λ past. HasNoHar (session_of (recording past)) error.code))
-no_har origin kept reading (Ok reply) is e why = tt
+no_har origin kept reading (Ok text) is e why = tt
 no_har origin kept reading (Err error) is e (inl memory) = inl memory
 no_har origin kept reading (Err error) is e (inr none) =
     inr (

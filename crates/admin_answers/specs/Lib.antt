@@ -1,3 +1,4 @@
+pub mod Replies
 pub mod Answers
 pub mod Recordings
 pub mod JsonReply

@@ -1,13 +1,15 @@
 // What a shared book answers to an admin call.
 ghost use Rattle.std.specs.Prelude.{IfOk, IfErr};
 ghost use Rattle.admin_answers.specs.Answers.{IsAnswered, IsNotAnswered};
+ghost use Rattle.admin_answers.specs.Replies.{IsListed, reply_of};
 ghost use Rattle.admin_routes.specs.declared.call.AdminCall.TheVariants.{StartRecording};
 
+use crate::admin_answer::AdminAnswer;
 use crate::change::change;
 use crate::error::SharedError;
+use crate::lists::{find_requests, list_requests, list_unmatched, read_recording_har};
 use crate::reads::{
-    count_requests, find_requests, list_mappings, list_requests, list_scenarios, list_unmatched,
-    read_mapping, read_recording_har, read_recording_status,
+    count_requests, list_mappings, list_scenarios, read_mapping, read_recording_status,
 };
 use admin_json::start::RecordingStart;
 use admin_routes::call::AdminCall;
@@ -27,7 +29,34 @@ pub fn answer_admin<L: Origin, R: Wait>(
     shared: &SharedBook<L>,
     seat: &mut Seat<L>,
     call: AdminCall,
+) -> Result<AdminAnswer, SharedError>
+    ensures ok { IfOk result (λ answer. IsAnswered L.origin seat.old seat.new call (reply_of answer)) }
+    ensures refused { IfErr result (λ error. IsNotAnswered L.origin seat.old seat.new call error.code) }
+{
+    match call {
+        AdminCall::ListRequests => Ok(AdminAnswer::Listed(list_requests(rt, alloc, shared, seat)?)),
+        AdminCall::ListUnmatched => {
+            Ok(AdminAnswer::Listed(list_unmatched(rt, alloc, shared, seat)?))
+        }
+        AdminCall::FindRequests(matcher) => {
+            Ok(AdminAnswer::Listed(find_requests(rt, alloc, shared, seat, matcher)?))
+        }
+        AdminCall::ReadRecordingHar => {
+            Ok(AdminAnswer::Listed(read_recording_har(rt, alloc, shared, seat)?))
+        }
+        other => Ok(AdminAnswer::Whole(answer_whole(rt, alloc, shared, seat, other)?)),
+    }
+}
+
+// The calls whose answers are short.
+fn answer_whole<L: Origin, R: Wait>(
+    rt: &R,
+    alloc: Global,
+    shared: &SharedBook<L>,
+    seat: &mut Seat<L>,
+    call: AdminCall,
 ) -> Result<Reply, SharedError>
+    requires { ¬ (IsListed call) }
     ensures ok { IfOk result (IsAnswered L.origin seat.old seat.new call) }
     ensures refused { IfErr result (λ error. IsNotAnswered L.origin seat.old seat.new call error.code) }
 {
@@ -55,13 +84,10 @@ pub fn answer_admin<L: Origin, R: Wait>(
         AdminCall::StopRecording => change(rt, alloc, shared, seat, BookInput::StopRecording),
         AdminCall::ListMappings => Ok(list_mappings(rt, alloc, shared, seat)?),
         AdminCall::ReadMapping(id) => read_mapping(rt, alloc, shared, seat, id),
-        AdminCall::ListRequests => Ok(list_requests(rt, alloc, shared, seat)?),
-        AdminCall::ListUnmatched => Ok(list_unmatched(rt, alloc, shared, seat)?),
-        AdminCall::FindRequests(matcher) => Ok(find_requests(rt, alloc, shared, seat, matcher)?),
         AdminCall::CountRequests(matcher) => Ok(count_requests(rt, alloc, shared, seat, matcher)?),
         AdminCall::ListScenarios => Ok(list_scenarios(rt, alloc, shared, seat)?),
         AdminCall::ReadRecordingStatus => Ok(read_recording_status(rt, alloc, shared, seat)?),
-        AdminCall::ReadRecordingHar => read_recording_har(rt, alloc, shared, seat),
+        _ => unreachable!(),
     }
 }
 

@@ -2,29 +2,24 @@
 ghost use Rattle.std.specs.Prelude.{◌≡◌, ◌⊎◌, IfErr, IfOk, None, Some};
 ghost use Rattle.admin_answers.specs.Answers.{InPast, IsHeldReply, IsReadReply};
 ghost use Rattle.admin_answers.specs.JsonReply.{IsJsonReply};
-ghost use Rattle.admin_answers.specs.Recordings.{HasNoHar, IsHarReply};
 ghost use Rattle.admin_json.specs.Mappings.{json_of_held, json_of_mappings};
 ghost use Rattle.admin_json.specs.Recordings.{json_of_status};
-ghost use Rattle.admin_json.specs.Requests.{json_of_found, json_of_number, json_of_requests};
+ghost use Rattle.admin_json.specs.Requests.{json_of_number};
 ghost use Rattle.admin_json.specs.Scenarios.{json_of_scenarios};
 ghost use Rattle.admin_routes.specs.declared.call.AdminCall.TheVariants as call;
 ghost use Rattle.error_code.specs.declared.error_code.ErrorCode.TheVariants as code;
-ghost use Rattle.recorder.specs.Recording.{session_of};
 ghost use Rattle.request_journal.specs.Legal.{IsLive};
-ghost use Rattle.request_journal.specs.Recording.{recording};
 
 use crate::error::SharedError;
 use crate::json_reply::value_reply;
 use admin_json::mappings::{mapping_value, mappings_value};
 use admin_json::recordings::status_value;
-use admin_json::requests::{count_value, found_value, requests_value};
+use admin_json::requests::count_value;
 use admin_json::scenarios::scenarios_value;
 use error_code::error_code::ErrorCode;
-use har_export::har::har_text;
 use mapping_model::mapping_id::MappingId;
 use mapping_model::reply::Reply;
-use recorder::recording::{Recording, RecordingStatus, Session};
-use request_journal::entry::Entry;
+use recorder::recording::RecordingStatus;
 use request_journal::mapping::Mapping;
 use request_match::request_matcher::RequestMatcher;
 use scenario_core::scenarios::Scenarios;
@@ -34,7 +29,6 @@ use shared_book::seat::Seat;
 use shared_book::shared_book::SharedBook;
 use std::alloc::{AllocError, Global};
 use std::sync::Wait;
-use stub_response::error_reply::json_reply;
 
 pub(crate) fn list_mappings<L: Origin, R: Wait>(
     rt: &R,
@@ -65,52 +59,6 @@ pub(crate) fn read_mapping<L: Origin, R: Wait>(
     let reading = seat.read(rt, shared, BookRead::Mapping(id))?;
     match &reading.answer {
         ReadAnswer::Mapping(held) => held_reply(alloc, held),
-        _ => unreachable!(),
-    }
-}
-
-pub(crate) fn list_requests<L: Origin, R: Wait>(
-    rt: &R,
-    alloc: Global,
-    shared: &SharedBook<L>,
-    seat: &Seat<L>,
-) -> Result<Reply, AllocError>
-    ensures { IfOk result (λ reply. InPast L.origin (IsReadReply call.ListRequests reply)) }
-{
-    let reading = seat.read(rt, shared, BookRead::Requests)?;
-    match &reading.answer {
-        ReadAnswer::Requests(entries) => { requests_reply(alloc, entries.as_slice()) }
-        _ => unreachable!(),
-    }
-}
-
-pub(crate) fn list_unmatched<L: Origin, R: Wait>(
-    rt: &R,
-    alloc: Global,
-    shared: &SharedBook<L>,
-    seat: &Seat<L>,
-) -> Result<Reply, AllocError>
-    ensures { IfOk result (λ reply. InPast L.origin (IsReadReply call.ListUnmatched reply)) }
-{
-    let reading = seat.read(rt, shared, BookRead::Unmatched)?;
-    match &reading.answer {
-        ReadAnswer::Requests(entries) => { found_reply(alloc, entries.as_slice()) }
-        _ => unreachable!(),
-    }
-}
-
-pub(crate) fn find_requests<L: Origin, R: Wait>(
-    rt: &R,
-    alloc: Global,
-    shared: &SharedBook<L>,
-    seat: &Seat<L>,
-    matcher: RequestMatcher,
-) -> Result<Reply, AllocError>
-    ensures { IfOk result (λ reply. InPast L.origin (IsReadReply (call.FindRequests matcher) reply)) }
-{
-    let reading = seat.read(rt, shared, BookRead::Find(matcher))?;
-    match &reading.answer {
-        ReadAnswer::Requests(entries) => { found_reply(alloc, entries.as_slice()) }
         _ => unreachable!(),
     }
 }
@@ -163,23 +111,6 @@ pub(crate) fn read_recording_status<L: Origin, R: Wait>(
     }
 }
 
-pub(crate) fn read_recording_har<L: Origin, R: Wait>(
-    rt: &R,
-    alloc: Global,
-    shared: &SharedBook<L>,
-    seat: &Seat<L>,
-) -> Result<Reply, SharedError>
-    ensures ok { IfOk result (λ reply. InPast L.origin (IsReadReply call.ReadRecordingHar reply)) }
-    ensures refused { IfErr result (λ error. (error.code ≡ code.OutOfMemory)
-        ⊎ InPast L.origin (λ past. HasNoHar (session_of (recording past)) error.code)) }
-{
-    let reading = seat.read(rt, shared, BookRead::Recording)?;
-    match &reading.answer {
-        ReadAnswer::Recording(recording) => har_reply(alloc, recording),
-        _ => unreachable!(),
-    }
-}
-
 fn mappings_reply(alloc: Global, mappings: &[Mapping]) -> Result<Reply, AllocError>
     ensures { IfOk result (IsJsonReply 200 (json_of_mappings mappings.now)) }
 {
@@ -203,18 +134,6 @@ fn mapping_reply(alloc: Global, mapping: &Mapping) -> Result<Reply, AllocError>
     value_reply(alloc, 200, &mapping_value(alloc, mapping)?)
 }
 
-fn requests_reply(alloc: Global, entries: &[Entry]) -> Result<Reply, AllocError>
-    ensures { IfOk result (IsJsonReply 200 (json_of_requests entries.now)) }
-{
-    value_reply(alloc, 200, &requests_value(alloc, entries)?)
-}
-
-fn found_reply(alloc: Global, entries: &[Entry]) -> Result<Reply, AllocError>
-    ensures { IfOk result (IsJsonReply 200 (json_of_found entries.now)) }
-{
-    value_reply(alloc, 200, &found_value(alloc, entries)?)
-}
-
 fn count_reply(alloc: Global, count: usize) -> Result<Reply, AllocError>
     ensures { IfOk result (IsJsonReply 200 (json_of_number count)) }
 {
@@ -235,24 +154,4 @@ fn status_reply(alloc: Global, status: RecordingStatus) -> Result<Reply, AllocEr
     ensures { IfOk result (IsJsonReply 200 (json_of_status status)) }
 {
     value_reply(alloc, 200, &status_value(alloc, status)?)
-}
-
-fn har_reply(alloc: Global, recording: &Recording) -> Result<Reply, SharedError>
-    ensures ok { IfOk result (IsHarReply (session_of recording.now)) }
-    ensures refused { IfErr result
-        (λ error. (error.code ≡ code.OutOfMemory) ⊎ HasNoHar (session_of recording.now) error.code) }
-{
-    match recording.session() {
-        Some(session) => session_reply(alloc, session),
-        None => Err(SharedError::from(ErrorCode::NotRecording)),
-    }
-}
-
-fn session_reply(alloc: Global, session: &Session) -> Result<Reply, SharedError>
-    ensures ok { IfOk result (IsHarReply (Some session.now)) }
-    ensures refused { IfErr result (λ error. (error.code ≡ code.OutOfMemory)
-        ⊎ HasNoHar (Some session.now) error.code) }
-{
-    let text = har_text(alloc, session.exchanges.as_slice(), &session.target)?;
-    Ok(json_reply(alloc, 200, text)?)
 }

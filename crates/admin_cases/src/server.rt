@@ -73,7 +73,9 @@ fn answered<L: Origin, R: Wait>(
     call: AdminCall,
 ) -> Result<Reply, ErrorCode> {
     match answer_admin(rt, alloc, shared, seat, call) {
-        Ok(reply) => Ok(reply),
+        Ok(answer) => answer
+            .into_reply(alloc)
+            .map_err(|_error| ErrorCode::OutOfMemory),
         Err(error) => Err(error.code),
     }
 }

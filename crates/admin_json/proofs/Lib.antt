@@ -1,2 +1,4 @@
 pub mod NameLemmas
 pub mod GroupLemmas
+pub mod Regular
+pub mod RequestLemmas

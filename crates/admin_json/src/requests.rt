@@ -1,8 +1,9 @@
 // Requests of the journal, as values.
-ghost use Rattle.std.specs.Prelude.{◌≡◌, IfOk};
+ghost use Rattle.std.specs.Prelude.{◌≡◌, IfOk, string_bytes};
 ghost use Rattle.admin_json.specs.Requests.{json_of_received, json_of_entry, json_of_entries};
 ghost use Rattle.admin_json.specs.Requests.{json_of_requests, json_of_found, json_of_number};
 ghost use Rattle.serde_json.specs.View.{view};
+ghost use Rattle.serde_json.specs.Written.{compact_text};
 
 use crate::grouped::pairs_value;
 use crate::written::{meta_value, only_member};
@@ -47,6 +48,13 @@ fn list_value(alloc: Global, entries: &[Entry]) -> Result<Value, AllocError>
         values.push(entry_value(alloc, entry)?)?;
     }
     Ok(Value::Array(values))
+}
+
+/// The compact text of a request.
+pub fn entry_text(alloc: Global, entry: &Entry) -> Result<String, AllocError>
+    ensures { IfOk result (λ text. string_bytes text ≡ compact_text (json_of_entry entry.now)) }
+{
+    entry_value(alloc, entry)?.to_string(alloc)
 }
 
 fn entry_value(alloc: Global, entry: &Entry) -> Result<Value, AllocError>

@@ -4,7 +4,6 @@ use Rattle.std.specs.Prelude.{Result, IfOk}
 use Rattle.error_code.specs.declared.error_code.ErrorCode.{ErrorCode}
 use Rattle.error_code.specs.declared.error_code.ErrorCode.TheVariants as code
 use Rattle.http.specs.declared.response.Response.{Response}
-use Rattle.http_body_util.specs.declared.full.Full.{Full}
 use Rattle.answering.specs.Forwarding.{IsFinished, IsForwardReply, record_of, reply_unrecorded}
 use Rattle.answering.specs.Reply.{IsResponseOf}
 use Rattle.answering.specs.declared.forward.Forward.{Forward}
@@ -18,8 +17,8 @@ use Rattle.stub_response.specs.ErrorReply.{error_reply}
 
 -- where the record was refused, the reply or the reason is sent, and nothing has changed
 pub unrecorded : {E : Type 0} (origin : Past) (old new : Held) (forward : Forward) (sent : Reply) (wait_ms : ℕ)
-    (asked : BookInput) (reason : ErrorCode) (response : Response (Full (List ℕ)))
-    (result : Result (Response (Full (List ℕ))) E)
+    (asked : BookInput) (reason : ErrorCode) (response : Response (List ℕ))
+    (result : Result (Response (List ℕ)) E)
     → asked ≡ record_of forward sent wait_ms → new ≡ old → IsRefused origin asked reason
     → IsResponseOf sent response
     → ((r : Reply) → IsResponseOf r response → IfOk result (IsResponseOf (reply_unrecorded r reason)))

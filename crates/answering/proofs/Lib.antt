@@ -3,3 +3,4 @@ mod HeaderLemmas
 mod MessageLemmas
 mod ResultLemmas
 mod ServeLemmas
+pub mod YieldLemmas

@@ -6,7 +6,6 @@ use Rattle.error_code.specs.declared.error_code.ErrorCode.TheVariants.{BadUrl, O
 use Rattle.http.specs.Request.{body_of}
 use Rattle.http.specs.declared.request.Request.{Request as Message}
 use Rattle.http.specs.declared.response.Response.{Response}
-use Rattle.http_body_util.specs.declared.full.Full.{Full}
 use Rattle.http_messages.specs.Received.{IsReceived, target_of}
 use Rattle.answering.specs.Forwarding.{IsFinished, IsToForward}
 use Rattle.answering.specs.Reply.{IsResponseOf}
@@ -70,7 +69,7 @@ IsReply origin limits escape old new message reply =
 
 -- the response is that of the reply; or memory ran out while it was written
 abbrev pub IsBegun : Past → Limits → Escape → Held → Held → Message (List ℕ)
-    → Response (Full (List ℕ)) → Type 0
+    → Response (List ℕ) → Type 0
 IsBegun origin limits escape old new message response =
     (reply : Reply) × IsReply origin limits escape old new message reply
     × (IsResponseOf reply response ⊎ IsResponseOf (error_reply 503 OutOfMemory) response)
@@ -87,7 +86,7 @@ Begins origin limits escape old new message (ToForward forward) = IsToForward or
 
 -- the message was forwarded after the first of its events, and this is the response to what came of that
 pub record IsAnsweredLater (origin : Past) (old new : Held) (message : Message (List ℕ))
-    (response : Response (Full (List ℕ))) : Type 0 where
+    (response : Response (List ℕ)) : Type 0 where
   pub middle : Held
   pub forward : Forward
   pub forwarded : Result Reply ProxyError
@@ -97,7 +96,7 @@ pub record IsAnsweredLater (origin : Past) (old new : Held) (message : Message (
 
 -- the response to a message, and what the seat has gained by it
 abbrev pub IsAnswered : Past → Limits → Escape → Held → Held → Message (List ℕ)
-    → Response (Full (List ℕ)) → Type 0
+    → Response (List ℕ) → Type 0
 IsAnswered origin limits escape old new message response =
     IsBegun origin limits escape old new message response ⊎ IsAnsweredLater origin old new message response
 

@@ -12,7 +12,6 @@ use Rattle.error_code.specs.declared.error_code.ErrorCode.TheVariants as code
 use Rattle.http.specs.Request.{body_of}
 use Rattle.http.specs.declared.request.Request.{Request as Message}
 use Rattle.http.specs.declared.response.Response.{Response}
-use Rattle.http_body_util.specs.declared.full.Full.{Full}
 use Rattle.http_messages.specs.Received.{IsReceived}
 use Rattle.mapping_model.specs.declared.reply.Reply.{Reply}
 use Rattle.mock_request.specs.declared.snapshot.TheConstants.{BODY_LIMIT}
@@ -81,6 +80,6 @@ IsForwardReply origin old new forward (Err error) reply =
 
 -- the response is that of such a reply
 abbrev pub IsFinished
-    : Past → Held → Held → Forward → Result Reply ProxyError → Response (Full (List ℕ)) → Type 0
+    : Past → Held → Held → Forward → Result Reply ProxyError → Response (List ℕ) → Type 0
 IsFinished origin old new forward forwarded response =
     (reply : Reply) × IsForwardReply origin old new forward forwarded reply × IsResponseOf reply response

@@ -1,5 +1,6 @@
 pub mod Admin
 pub mod Answering
+pub mod Content
 pub mod Forwarding
 pub mod Inner
 pub mod Reply

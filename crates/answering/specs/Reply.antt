@@ -1,9 +1,8 @@
 -- The response of `http` that a reply is.
-use Rattle.std.specs.Prelude.{◌≡◌, ℕ, ◌&&◌, List, [], if◌then◌else◌, nat_le, nat_lt, unwrap_or}
+use Rattle.std.specs.Prelude.{◌≡◌, ℕ, ◌&&◌, List, if◌then◌else◌, nat_le, nat_lt}
 use Rattle.http.specs.Response.{head_of, body_of}
 use Rattle.http.specs.declared.response.Response.{Response}
 use Rattle.http.specs.declared.version.TheConstants.Version.{HTTP_11}
-use Rattle.http_body_util.specs.declared.full.Full.{Full}
 use Rattle.mapping_model.specs.declared.reply.Reply.{Reply}
 use Rattle.stub_response.specs.Headers.{headers_of}
 
@@ -11,11 +10,8 @@ use Rattle.stub_response.specs.Headers.{headers_of}
 abbrev pub response_status : ℕ → ℕ
 response_status status = if nat_le 100 status && nat_lt status 1000 then status else 500
 
-abbrev pub content : Full (List ℕ) → List ℕ
-content body = unwrap_or body.buf []
-
-pub record IsResponseOf (reply : Reply) (response : Response (Full (List ℕ))) : Type 0 where
+pub record IsResponseOf (reply : Reply) (response : Response (List ℕ)) : Type 0 where
   pub version : (head_of response).version ≡ HTTP_11
   pub status : (head_of response).status ≡ response_status reply.status
   pub headers : (head_of response).headers ≡ headers_of reply.headers
-  pub body : content (body_of response) ≡ reply.body
+  pub body : body_of response ≡ reply.body

@@ -6,11 +6,11 @@ ghost use Rattle.answering.specs.Answering.{IsAnswered, IsNotAnswered};
 use crate::begin::begin;
 use crate::begun::Begun;
 use crate::clock::Clock;
+use crate::content::Content;
 use crate::finish::finish;
 use crate::site::Site;
 use bytes::Bytes;
 use http::{Request, Response};
-use http_body_util::Full;
 use http_messages::error::ServiceError;
 use proxy_client::forward::forward;
 use shared_book::gate::Gate;
@@ -29,7 +29,7 @@ pub fn answer<L: Origin, R, G: Gate, C: Clock>(
     site: &Site<L, G, C>,
     seat: &mut Seat<L>,
     message: &Request<Bytes>,
-) -> Result<Response<Full<Bytes>>, ServiceError>
+) -> Result<Response<Content>, ServiceError>
 where
     R: Wait + Net + std::time::Clock + RandomSource + AllocGlobal + Copy + Drop,
     ensures ok { IfOk result (IsAnswered L.origin site.now.limits site.now.escape seat.old seat.new message.now) }

@@ -8,13 +8,12 @@ ghost use Rattle.stub_response.specs.ErrorReply.{unmatched_reply};
 
 use crate::begun::Begun;
 use crate::clock::Clock;
+use crate::content::Content;
 use crate::forward::Forward;
 use crate::mapping_response::mapping_response;
 use crate::response::response_of;
 use crate::site::Site;
-use bytes::Bytes;
 use http::Response;
-use http_body_util::Full;
 use recorder::target::Target;
 use request_journal::event::{Event, ServeAnswer};
 use request_journal::shared_request::SharedRequest;
@@ -76,7 +75,7 @@ fn forward_of<C: Clock>(
 
 // Not inlined, as `templated_response`.
 #[inline(never)]
-fn unmatched_response(alloc: Global) -> Result<Response<Full<Bytes>>, AllocError>
+fn unmatched_response(alloc: Global) -> Result<Response<Content>, AllocError>
     ensures { IfOk result (IsResponseOf unmatched_reply) }
 {
     response_of(alloc, unmatched_reply(alloc)?)

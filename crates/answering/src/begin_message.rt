@@ -10,17 +10,18 @@ ghost use Rattle.answering.specs.Forwarding.{IsToForward};
 ghost use Rattle.answering.specs.Inner.Sent.{HasBegun, HasReply, IsRequestToForward};
 ghost use Rattle.answering.specs.Reply.{IsResponseOf};
 
-use crate::admin_reply::admin_reply;
+use admin_answers::admin_answer::AdminAnswer;
+use crate::admin_answer::admin_answer;
 use crate::begun::Begun;
 use crate::clock::Clock;
-use crate::response::{error_response, response_of};
+use crate::content::Content;
+use crate::response::{error_response, listed_response, response_of};
 use crate::serve::serve;
 use crate::site::Site;
 use admin_table::route::is_admin;
 use bytes::Bytes;
 use error_code::error_code::ErrorCode;
 use http::{Request, Response};
-use http_body_util::Full;
 use http_messages::received::snapshot_of;
 use mock_request::error::SnapshotError;
 use mock_request::snapshot::Snapshot;
@@ -75,7 +76,7 @@ fn request_of<L: Origin>(
 fn refusal_response(
     alloc: Global,
     error: SnapshotError,
-) -> Result<Response<Full<Bytes>>, AllocError>
+) -> Result<Response<Content>, AllocError>
     ensures { IfOk result (IsResponseOf (refusal error)) }
 {
     match error {
@@ -105,7 +106,7 @@ fn begin_request<L: Origin, R: Wait, G: Gate, C: Clock>(
     serve(rt, alloc, site, seat, request)
 }
 
-// Not inlined, as `admin_reply`.
+// Not inlined, as `admin_answer`.
 #[inline(never)]
 fn admin_response<L: Origin, R: Wait, G: Gate, C: Clock>(
     rt: &R,
@@ -113,11 +114,13 @@ fn admin_response<L: Origin, R: Wait, G: Gate, C: Clock>(
     site: &Site<L, G, C>,
     seat: &mut Seat<L>,
     request: &Snapshot,
-) -> Result<Response<Full<Bytes>>, AllocError>
+) -> Result<Response<Content>, AllocError>
     ensures { MatchResult result
         (HasReply (IsAdminAnswered L.origin site.now.escape seat.old seat.new request.now))
         (λ _. (reply : _) × IsAdminAnswered L.origin site.now.escape seat.old seat.new request.now reply) }
 {
-    let reply = admin_reply(rt, alloc, &site.book, seat, request, site.escape)?;
-    response_of(alloc, reply)
+    match admin_answer(rt, alloc, &site.book, seat, request, site.escape)? {
+        AdminAnswer::Whole(reply) => response_of(alloc, reply),
+        AdminAnswer::Listed(listing) => listed_response(alloc, listing),
+    }
 }

@@ -5,13 +5,12 @@ ghost use Rattle.answering.specs.Reply.{IsResponseOf};
 ghost use Rattle.http_messages.specs.declared.error.ServiceError.TheVariants.{OutOfMemory as NoMemory};
 
 use crate::clock::Clock;
+use crate::content::Content;
 use crate::forward::Forward;
 use crate::response::{error_response, response_of};
 use crate::site::Site;
-use bytes::Bytes;
 use error_code::error_code::ErrorCode;
 use http::Response;
-use http_body_util::Full;
 use http_messages::error::ServiceError;
 use mapping_model::reply::Reply;
 use proxy_client::error::ProxyError;
@@ -31,7 +30,7 @@ pub fn finish<L: Origin, R: Wait, G, C: Clock>(
     seat: &mut Seat<L>,
     forward: Forward,
     forwarded: Result<Reply, ProxyError>,
-) -> Result<Response<Full<Bytes>>, ServiceError>
+) -> Result<Response<Content>, ServiceError>
     ensures ok { IfOk result (IsFinished L.origin seat.old seat.new forward forwarded) }
     ensures err { IfErr result (λ error. (error ≡ NoMemory) × (seat.new ≡ seat.old)) }
 {
@@ -48,7 +47,7 @@ fn forwarded_response<L: Origin, R: Wait, G, C: Clock>(
     seat: &mut Seat<L>,
     forward: Forward,
     forwarded: Result<Reply, ProxyError>,
-) -> Result<Response<Full<Bytes>>, AllocError>
+) -> Result<Response<Content>, AllocError>
     ensures ok { IfOk result (IsFinished L.origin seat.old seat.new forward forwarded) }
     ensures err { OnErr result (seat.new ≡ seat.old) }
 {
@@ -68,7 +67,7 @@ fn relay<L: Origin, R: Wait, G, C: Clock>(
     seat: &mut Seat<L>,
     forward: Forward,
     reply: Reply,
-) -> Result<Response<Full<Bytes>>, AllocError>
+) -> Result<Response<Content>, AllocError>
     ensures ok { IfOk result (IsFinished L.origin seat.old seat.new forward (Ok reply)) }
     ensures err { OnErr result (seat.new ≡ seat.old) }
 {
@@ -105,9 +104,9 @@ fn input_of(
 // The response where the exchange isn't recorded.
 fn unrecorded_response(
     alloc: Global,
-    response: Response<Full<Bytes>>,
+    response: Response<Content>,
     reason: ErrorCode,
-) -> Result<Response<Full<Bytes>>, AllocError>
+) -> Result<Response<Content>, AllocError>
     ensures { (sent : _) → IsResponseOf sent response
         → IfOk result (IsResponseOf (reply_unrecorded sent reason)) }
 {

@@ -2,16 +2,17 @@
 // made outside the lock, or it is forwarded and its reply is recorded. It knows messages of `http`, and no connections.
 // Contracts cite `specs/Served.antt` (the reply to a request that was served), `specs/Forwarding.antt` (that to one
 // that is forwarded), `specs/Admin.antt` (that to an admin call), `specs/Reply.antt` (the response of `http` that a
-// reply is) and `specs/Answering.antt` (the response to a message).
+// reply is), `specs/Content.antt` (the frames of its body) and `specs/Answering.antt` (the response to a message).
 #![tactic(auto)]
 
-mod admin_reply;
+mod admin_answer;
 pub mod answer;
 pub mod begin;
 mod begin_event;
 mod begin_message;
 pub mod begun;
 pub mod clock;
+pub mod content;
 pub mod finish;
 pub mod forward;
 mod mapping_response;

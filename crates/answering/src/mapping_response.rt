@@ -5,11 +5,10 @@ ghost use Rattle.stub_response.specs.Prepared.{IsPrepared};
 ghost use Rattle.stub_response.specs.Response.{IsResponse};
 ghost use Rattle.stub_response.specs.declared.prepared.Prepared.TheVariants.{Headers};
 
+use crate::content::Content;
 use crate::response::{error_response, response_of, response_with};
-use bytes::Bytes;
 use error_code::error_code::ErrorCode;
 use http::{HeaderMap, Response};
-use http_body_util::Full;
 use mapping_model::mapping_spec::MappingSpec;
 use mock_request::snapshot::Snapshot;
 use request_match::shared_spec::SharedSpec;
@@ -25,7 +24,7 @@ pub(crate) fn mapping_response(
     mapping: &SharedSpec,
     request: &Snapshot,
     limits: Limits,
-) -> Result<Response<Full<Bytes>>, AllocError>
+) -> Result<Response<Content>, AllocError>
     ensures { IfOk result (HasReply (IsResponse limits mapping.now request.now)) }
 {
     match mapping.prepared() {
@@ -33,7 +32,7 @@ pub(crate) fn mapping_response(
             // Neither copies a byte.
             let headers = plain.headers.clone()?;
             let body = plain.body.clone()?;
-            Ok(response_with(plain.status, headers, body))
+            Ok(response_with(plain.status, headers, Content::whole(body)))
         }
         Prepared::Headers(headers) => {
             templated_body_response(alloc, mapping.spec(), headers, request, limits)
@@ -49,7 +48,7 @@ fn templated_response(
     mapping: &MappingSpec,
     request: &Snapshot,
     limits: Limits,
-) -> Result<Response<Full<Bytes>>, AllocError>
+) -> Result<Response<Content>, AllocError>
     ensures { IfOk result (HasReply (IsResponse limits mapping.now request.now)) }
 {
     let reply = respond(alloc, mapping, request, limits)?;
@@ -64,13 +63,17 @@ fn templated_body_response(
     headers: &HeaderMap,
     request: &Snapshot,
     limits: Limits,
-) -> Result<Response<Full<Bytes>>, AllocError>
+) -> Result<Response<Content>, AllocError>
     requires { IsPrepared mapping.now.response (Headers headers.now) }
     ensures { IfOk result (HasReply (IsResponse limits mapping.now request.now)) }
 {
     let status = mapping.response.response().status.code();
     match respond_body(alloc, mapping, request, limits)? {
-        Some(body) => Ok(response_with(status, headers.clone()?, body)),
+        Some(body) => Ok(response_with(
+            status,
+            headers.clone()?,
+            Content::whole(body),
+        )),
         None => error_response(alloc, 500, ErrorCode::OverBudget),
     }
 }

@@ -1,18 +1,18 @@
 // The response of `http` that a reply is.
 ghost use Rattle.std.specs.Prelude.{◌≡◌, IfOk};
-ghost use Rattle.answering.specs.Reply.{IsResponseOf, content, response_status};
+ghost use Rattle.answering.specs.Reply.{IsResponseOf, response_status};
 ghost use Rattle.http.specs.Response.{head_of, body_of};
 ghost use Rattle.http.specs.declared.version.TheConstants.Version.{HTTP_11};
-ghost use Rattle.stub_response.specs.ErrorReply.{error_reply};
+ghost use Rattle.stub_response.specs.ErrorReply.{error_reply, json_reply};
 
-use bytes::Bytes;
+use admin_listing::listing::Listing;
+use crate::content::Content;
 use error_code::error_code::ErrorCode;
 use http::response::Parts;
 use http::{HeaderMap, Response, StatusCode, Version};
-use http_body_util::Full;
 use mapping_model::reply::Reply;
 use std::alloc::{AllocError, Global};
-use stub_response::error_reply::error_reply;
+use stub_response::error_reply::{error_reply, json_reply};
 use stub_response::headers::header_map;
 
 /// The response that reports the error, with that status.
@@ -22,14 +22,14 @@ pub(crate) fn error_response(
     alloc: Global,
     status: u16,
     code: ErrorCode,
-) -> Result<Response<Full<Bytes>>, AllocError>
+) -> Result<Response<Content>, AllocError>
     ensures { IfOk result (IsResponseOf (error_reply status code)) }
 {
     response_of(alloc, error_reply(alloc, status, code)?)
 }
 
 /// The response that a reply is. Values and body are moved, and not copied.
-pub(crate) fn response_of(alloc: Global, reply: Reply) -> Result<Response<Full<Bytes>>, AllocError>
+pub(crate) fn response_of(alloc: Global, reply: Reply) -> Result<Response<Content>, AllocError>
     ensures { IfOk result (IsResponseOf reply) }
 {
     let Reply {
@@ -38,22 +38,36 @@ pub(crate) fn response_of(alloc: Global, reply: Reply) -> Result<Response<Full<B
         body,
     } = reply;
     let made = header_map(alloc, headers.into_vec())?;
-    Ok(response_with(status, made, body))
+    Ok(response_with(status, made, Content::whole(body)))
+}
+
+/// The response whose body is the JSON text of a list.
+// Not inlined, as it is seldom called.
+#[inline(never)]
+pub(crate) fn listed_response(
+    alloc: Global,
+    listing: Listing,
+) -> Result<Response<Content>, AllocError>
+    ensures { IfOk result (IsResponseOf (json_reply 200 listing)) }
+{
+    let without = json_reply(alloc, 200, String::new(alloc))?;
+    let headers = header_map(alloc, without.headers.into_vec())?;
+    Ok(response_with(200, headers, Content::listed(alloc, listing)?))
 }
 
 /// The response of these parts.
-pub(crate) fn response_with(status: u16, headers: HeaderMap, body: Bytes) -> Response<Full<Bytes>>
+pub(crate) fn response_with(status: u16, headers: HeaderMap, body: Content) -> Response<Content>
     ensures version { (head_of result).version ≡ HTTP_11 }
     ensures status { (head_of result).status ≡ response_status status }
     ensures headers { (head_of result).headers ≡ headers }
-    ensures body { content (body_of result) ≡ body }
+    ensures body { body_of result ≡ body }
 {
     let head = Parts {
         status: response_status(status),
         version: Version::HTTP_11,
         headers,
     };
-    Response::from_parts(head, Full::new(body))
+    Response::from_parts(head, body)
 }
 
 fn response_status(status: u16) -> StatusCode

@@ -12,10 +12,10 @@ IsFile known bytes = IfSome known (λ all. bytes ≡ all) × (length bytes ≤ F
 
 -- a file of which the bytes are known can't be read only where it is over the limit
 abbrev pub IsFileError : Option (List ℕ) → FileError → Type 0
-IsFileError known CannotRead = IfSome known (λ all. FILE_LIMIT < length all)
+IsFileError known (CannotRead reason) = IfSome known (λ all. FILE_LIMIT < length all)
 IsFileError known OutOfMemory = ⊤
 
 -- the line of an error in reading the file at the path
 abbrev pub file_error_line : List ℕ → FileError → List ℕ
-file_error_line path CannotRead = unreadable_line path
+file_error_line path (CannotRead reason) = unreadable_line path
 file_error_line path OutOfMemory = error_line out_of_memory

@@ -75,7 +75,7 @@ request_plain : (target : List ℕ) (request : Request) → has_float (json_of_r
 unfolding json_of_request
 request_plain target request = request_plain_by target request _ _ request.body
 
-entry_plain : (target started : List ℕ) (exchange : Exchange)
+pub entry_plain : (target started : List ℕ) (exchange : Exchange)
     → has_float (json_of_entry target started exchange) ≡ false
 unfolding json_of_entry
 entry_plain target started exchange =

@@ -2,3 +2,4 @@ mod Texts
 mod PairLemmas
 mod EntryLemmas
 mod FloatLemmas
+mod TimedLemmas

@@ -35,6 +35,11 @@ AreEntries target (exchange ∷ exchanges) (item entry entries) =
     IsEntry target exchange entry × AreEntries target exchanges entries
 AreEntries target exchanges entries = ⊥
 
+-- the compact texts of values
+abbrev pub texts_of : Items → List (List ℕ)
+texts_of no_items = []
+texts_of (item value values) = compact_text value ∷ texts_of values
+
 -- the program that made the document
 abbrev pub creator : Data
 creator = object (put (codes "version") (string (codes "1")) (put (codes "name") (string (codes "mock")) no_members))

@@ -4,3 +4,4 @@ pub mod Content
 pub mod Message
 pub mod Document
 pub mod Errors
+pub mod Inner

@@ -10,11 +10,15 @@ use Rattle.har_export.specs.declared.moment.TheConstants.{LAST_MOMENT}
 abbrev pub letter_t : ℕ
 letter_t = 84
 
--- the text of so many milliseconds after 1970 began, as 1970-01-01T00:00:01.000Z: what a clock at UTC shows then
+-- what a clock shows, as 1970-01-01T00:00:01.000Z
+abbrev pub moment_text : DateTime → List ℕ
+moment_text shown = datetime_text false letter_t (Some 3) shown ++ codes "Z"
+
+-- the text of so many milliseconds after 1970 began: what a clock at UTC shows then
 pub record IsMoment (ms : ℕ) (text : List ℕ) : Type 0 where
   pub shown : DateTime
   pub at : civil_nanos shown ≡ pos (ms * 1_000_000)
-  pub spelled : text ≡ datetime_text false letter_t (Some 3) shown ++ codes "Z"
+  pub spelled : text ≡ moment_text shown
 
 -- before the year 9999
 abbrev pub IsInRange : ℕ → Type 0

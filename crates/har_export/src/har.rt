@@ -42,7 +42,7 @@ pub fn har_text(
     Ok(document.to_string(alloc)?)
 }
 
-fn are_in_range(exchanges: &[SharedExchange]) -> bool
+pub(crate) fn are_in_range(exchanges: &[SharedExchange]) -> bool
     ensures { IsTrue result ↔ AreInRange exchanges.now }
 {
     exchanges
@@ -74,7 +74,7 @@ fn entry_value(alloc: Global, target: &Target, exchange: &Exchange) -> Result<Va
 }
 
 #[tactic(auto, unfolding(crate::specs::Document::json_of_entry))]
-fn entry_started(
+pub(crate) fn entry_started(
     alloc: Global,
     target: &Target,
     exchange: &Exchange,

@@ -4,6 +4,7 @@
 //! `specs/Errors.antt` (the code of each error).
 #![tactic(auto)]
 
+pub mod entries;
 pub mod error;
 pub mod har;
 
@@ -12,3 +13,4 @@ mod content;
 mod message;
 mod moment;
 mod pairs;
+mod timed;

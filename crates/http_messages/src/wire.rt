@@ -20,7 +20,7 @@ pub fn is_as_sent<B: Default>(response: &Response<B>) -> bool
 }
 
 /// What is sent of a response: without headers that say how a message is framed, without blanks at the ends of values,
-/// and without content where its status allows none. The connection frames it.
+/// and without content where its status allows none: then its body is the empty one. The connection frames it.
 // Not inlined: a function clears all its locals when it is entered, and a response that is sent as it is needs
 // none of these.
 #[inline(never)]

@@ -4,7 +4,6 @@ use Rattle.answering.specs.Forwarding.{IsFinished, IsToForward}
 use Rattle.answering.specs.declared.forward.Forward.{Forward}
 use Rattle.http.specs.declared.request.Request.{Request as Message}
 use Rattle.http.specs.declared.response.Response.{Response}
-use Rattle.http_body_util.specs.declared.full.Full.{Full}
 use Rattle.hyper_service.specs.Given.{IsForwardedBy, IsGiven}
 use Rattle.hyper_service.specs.declared.site_exchange.SiteExchange.{SiteExchange}
 use Rattle.mapping_model.specs.declared.reply.Reply.{Reply}
@@ -21,7 +20,7 @@ module _ {E : Type 0} (sends : List ℕ → Request → E → Type 0)
     (origin : Past) (message : Message (List ℕ)) (forward : Forward) (forwarded : Result Reply ProxyError)
     (old_then new_then : Held) where
   -- there was no exchange
-  pub given_without : (response : Response (Full (List ℕ)))
+  pub given_without : (response : Response (List ℕ))
       → IsFinished origin old_then new_then forward forwarded response → (old new : Held)
       → IsToForward origin old new message forward → IsErr forwarded
       → IsGiven sends exchanged origin message response
@@ -39,7 +38,7 @@ module _ {E : Type 0} (sends : List ℕ → Request → E → Type 0)
 
   module _ (exchange : SiteExchange E) (by : IsForwardedBy sends exchanged origin message exchange)
       (kept : exchange.forward ≡ Some forward) (came : exchanged exchange.exchange forwarded) where
-    given_by : (response : Response (Full (List ℕ)))
+    given_by : (response : Response (List ℕ))
         → IsFinished origin old_then new_then forward forwarded response
         → IsGiven sends exchanged origin message response
     given_by response finished =
@@ -57,7 +56,7 @@ module _ {E : Type 0} (sends : List ℕ → Request → E → Type 0)
         })
 
     -- the exchange has given what came of it
-    pub given_later : {Refusal : Type 0} (result : Result (Response (Full (List ℕ))) Refusal)
+    pub given_later : {Refusal : Type 0} (result : Result (Response (List ℕ)) Refusal)
         → IfOk result (IsFinished origin old_then new_then forward forwarded)
         → IfOk result (IsGiven sends exchanged origin message)
     given_later (Ok response) finished = given_by response finished

@@ -5,7 +5,6 @@ use Rattle.answering.specs.Forwarding.{IsFinished, IsToForward}
 use Rattle.answering.specs.declared.forward.Forward.{Forward}
 use Rattle.http.specs.declared.request.Request.{Request as Message}
 use Rattle.http.specs.declared.response.Response.{Response}
-use Rattle.http_body_util.specs.declared.full.Full.{Full}
 use Rattle.hyper_service.specs.declared.site_exchange.SiteExchange.{SiteExchange}
 use Rattle.mapping_model.specs.declared.reply.Reply.{Reply}
 use Rattle.mock_request.specs.Request.{Request}
@@ -17,7 +16,7 @@ use Rattle.stub_response.specs.declared.limits.Limits.{Limits}
 use Rattle.template_tree.specs.declared.escape.Escape.{Escape}
 
 -- the message was answered at once
-pub record IsGivenAtOnce (origin : Past) (message : Message (List ℕ)) (response : Response (Full (List ℕ)))
+pub record IsGivenAtOnce (origin : Past) (message : Message (List ℕ)) (response : Response (List ℕ))
     : Type 0 where
   pub limits : Limits
   pub escape : Escape
@@ -42,7 +41,7 @@ module _ {E : Type 0} (sends : List ℕ → Request → E → Type 0)
   module _ (origin : Past) where
     -- The message was forwarded, and this is the response to what came of that. The seat isn't held meanwhile, so it
     -- need not be as the first of both events left it.
-    pub record IsGivenLater (message : Message (List ℕ)) (response : Response (Full (List ℕ))) : Type 0 where
+    pub record IsGivenLater (message : Message (List ℕ)) (response : Response (List ℕ)) : Type 0 where
       pub forward : Forward
       pub old : Held
       pub new : Held
@@ -53,7 +52,7 @@ module _ {E : Type 0} (sends : List ℕ → Request → E → Type 0)
       pub new_then : Held
       pub finished : IsFinished origin old_then new_then forward forwarded response
 
-    abbrev pub IsGiven : Message (List ℕ) → Response (Full (List ℕ)) → Type 0
+    abbrev pub IsGiven : Message (List ℕ) → Response (List ℕ) → Type 0
     IsGiven message response = IsGivenAtOnce origin message response ⊎ IsGivenLater message response
 
     -- the message was begun to be forwarded by the exchange, which holds what is kept of it

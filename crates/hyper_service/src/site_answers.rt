@@ -7,11 +7,11 @@ ghost use Rattle.hyper_service.specs.Inner.Failure.{IsFailure};
 
 use crate::site_exchange::{Forwarded, SiteExchange};
 use answering::clock::Clock;
+use answering::content::Content;
 use answering::forward::Forward;
 use answering::site::Site;
 use bytes::Bytes;
 use http::{Request, Response};
-use http_body_util::Full;
 use http_connections::answers::Answers;
 use http_connections::begun::Begun;
 use http_messages::error::ServiceError;
@@ -74,7 +74,7 @@ where
         alloc: Global,
         seat: &mut Seat<L>,
         reply: Forwarded,
-    ) -> Result<Response<Full<Bytes>>, ServiceError> {
+    ) -> Result<Response<Content>, ServiceError> {
         self.finish_forwarded(rt, alloc, seat, reply)
     }
 
@@ -127,7 +127,7 @@ where
         alloc: Global,
         seat: &mut Seat<L>,
         forwarded: Forwarded,
-    ) -> Result<Response<Full<Bytes>>, ServiceError>
+    ) -> Result<Response<Content>, ServiceError>
         ensures { IfOk result (IsFinished L.origin seat.old seat.new forwarded.forward forwarded.reply) }
     {
         let Forwarded { forward, reply } = forwarded;

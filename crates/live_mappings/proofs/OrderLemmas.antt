@@ -1,5 +1,5 @@
 -- The order of choice among entries, and what comes before what.
-use Rattle.std.proofs.Common.{◌≡◌, ℕ, ◌<◌, ◌≤◌, true, false, List, length, get_or, sym, ap, subst}
+use Rattle.std.proofs.Common.{◌≡◌, ℕ, ◌≤◌, true, false, List, length, get_or, sym, ap, subst}
 use Rattle.std.proofs.Common.{arith, ◌⊎◌, inl, inr, ℤ, ◌<ℤ◌}
 use Rattle.mapping_model.specs.Priority.{priority_of}
 use Rattle.std.specs.Cmp.{IsTotalOrder}
@@ -11,15 +11,22 @@ use Rattle.std.proofs.lemmas.Cmp.{then_total, on_total, back_total, nat_cmp_tota
 use Rattle.request_journal.specs.Choice.{WinsOver}
 use Rattle.request_journal.specs.declared.mapping.Mapping.{Mapping}
 use Rattle.live_mappings.specs.declared.entry.Entry.{Entry}
-use Rattle.live_mappings.specs.Kept.{order, placed_of, Fits, IsBefore}
+use Rattle.live_mappings.specs.Kept.{choice_order, hash_in, key_order, kind_of, order, placed_of, Fits, IsBefore}
+use Rattle.live_mappings.specs.Kept.{IsFirst}
 use Rattle.live_mappings.proofs.ListLemmas.{AllPairs-insert}
 use Rattle.live_mappings.proofs.RankLemmas.{less_than, from_less, from_not_less, not_over, Newer}
 
-pub order_total : IsTotalOrder order
-order_total =
+pub choice_total : IsTotalOrder choice_order
+choice_total =
     then_total (on_total (λ (e : Entry). e.priority) int_cmp_total)
     (then_total (on_total (λ (e : Entry). e.event) (back_total nat_cmp_total))
     (on_total (λ (e : Entry). e.index) (back_total nat_cmp_total)))
+
+pub key_total : IsTotalOrder key_order
+key_total = then_total (on_total kind_of nat_cmp_total) (on_total hash_in nat_cmp_total)
+
+pub order_total : IsTotalOrder order
+order_total = then_total (on_total (λ (e : Entry). e.key) key_total) choice_total
 
 -- those that win over an entry come first
 pub parted_by : (xs : List Entry) (y : Entry) → AllPairs IsBefore xs → IsPartitionedBy (λ e. is_lt (order e y)) xs
@@ -46,11 +53,11 @@ Wins a b p r = (p <ℤ r) ⊎ ((p ≡ r) × Newer a.event a.index b.event b.inde
 
 -- an entry that isn't beaten by another isn't won over by it
 pub not_won : (defaults : List Mapping) (a b : Entry) → Fits defaults a → Fits defaults b
-    → is_gt (order a b) ≡ false → ¬ (WinsOver (placed_of b) (placed_of a))
+    → IsFirst a b → ¬ (WinsOver (placed_of b) (placed_of a))
 not_won defaults a b f g h wins =
     not_over a.priority b.priority a.event b.event a.index b.index h
     (subst (λ p. Wins b a p a.priority) (sym g.priority)
     (subst (λ p. Wins b a (priority_of b.seen.value.priority) p) (sym f.priority) wins))
 
-pub not_beaten_itself : (e : Entry) → is_gt (order e e) ≡ false
-not_beaten_itself e = ap is_gt (tied_itself order_total e)
+pub not_beaten_itself : (e : Entry) → IsFirst e e
+not_beaten_itself e = ap is_gt (tied_itself choice_total e)

@@ -1,4 +1,5 @@
--- Live mappings as they are kept: in the order of choice, each under an id of its own.
+-- Live mappings as they are kept: those that are known by one literal URL together, in the order of choice, and each
+-- under an id of its own.
 use Rattle.std.specs.Prelude.{◌≡◌, ℕ, ◌<◌, Bool, false, not, List, [], ◌∷◌, ◌++◌, length, All}
 use Rattle.std.specs.Prelude.{AllPairs, IsPermutation, filter, slice_index_or}
 use Rattle.std.specs.List.{IsDistinct}
@@ -10,6 +11,8 @@ use Rattle.mapping_model.specs.declared.mapping_spec.MappingSpec.{MappingSpec}
 use Rattle.request_journal.specs.Past.{Placed, has_id, placed_from}
 use Rattle.request_journal.specs.declared.mapping.Mapping.{Mapping}
 use Rattle.request_parts.specs.Key.{key_of}
+use Rattle.request_parts.specs.declared.url_key.UrlKey.{UrlKey}
+use Rattle.request_parts.specs.declared.url_key.UrlKey.TheVariants as key
 use Rattle.live_mappings.specs.declared.entry.Entry.{Entry}
 use Rattle.live_mappings.specs.declared.entry.Source.{Source}
 use Rattle.live_mappings.specs.declared.entry.Source.TheVariants.{Own, Default}
@@ -22,12 +25,33 @@ placed_of e = record {
 }
 
 -- `Less` where the first wins: by a lower priority number, or as the newer of equals
-abbrev pub order : Entry → Entry → Ordering
-order a b =
+abbrev pub choice_order : Entry → Entry → Ordering
+choice_order a b =
     ordering_then (int_cmp a.priority b.priority)
     (ordering_then (nat_cmp b.event a.event) (nat_cmp b.index a.index))
 
 -- the second doesn't win over the first
+abbrev pub IsFirst : Entry → Entry → Type 0
+IsFirst a b = is_gt (choice_order a b) ≡ false
+
+-- keys by their kind, and those of a kind by their hash
+abbrev pub kind_of : UrlKey → ℕ
+kind_of key.Any = 0
+kind_of (key.Url hash) = 1
+kind_of (key.UrlPath hash) = 2
+
+abbrev pub hash_in : UrlKey → ℕ
+hash_in key.Any = 0
+hash_in (key.Url hash) = hash
+hash_in (key.UrlPath hash) = hash
+
+abbrev pub key_order : UrlKey → UrlKey → Ordering
+key_order a b = ordering_then (nat_cmp (kind_of a) (kind_of b)) (nat_cmp (hash_in a) (hash_in b))
+
+-- entries by their keys, and those of a key in the order of choice
+abbrev pub order : Entry → Entry → Ordering
+order a b = ordering_then (key_order a.key b.key) (choice_order a b)
+
 abbrev pub IsBefore : Entry → Entry → Type 0
 IsBefore a b = is_gt (order a b) ≡ false
 
@@ -46,7 +70,7 @@ pub record Fits (defaults : List Mapping) (e : Entry) : Type 0 where
   pub key : e.key ≡ key_of e.seen.value.request.url
   pub source : IsSourceOf defaults e.seen.value e.source
 
--- entries in the order of choice, each with an id of its own
+-- entries in their order, each with an id of its own
 pub record AreKept (defaults : List Mapping) (entries : List Entry) : Type 0 where
   pub fit : All (Fits defaults) entries
   pub ids : IsDistinct have_one_id entries

@@ -37,7 +37,7 @@ pub fn take_out(entries: &mut Vec<Entry>, id: MappingId) -> Option<Entry>
     Some(entries.remove(at))
 }
 
-/// Puts the entry where the order of choice has it.
+/// Puts the entry where the order has it.
 pub fn put_in(entries: &mut Vec<Entry>, entry: Entry)
     requires room { vec_len entries.old < vec_capacity entries.old }
     requires in_order { AllPairs IsBefore entries.old.items }
@@ -54,7 +54,7 @@ pub fn put_in(entries: &mut Vec<Entry>, entry: Entry)
     }
 }
 
-/// The entry replaces the one with its id, if there is one. It stands where the order of choice has it.
+/// The entry replaces the one with its id, if there is one. It stands where the order has it.
 pub fn replace(entries: &mut Vec<Entry>, entry: Entry)
     requires room { vec_len entries.old < vec_capacity entries.old }
     requires ids { IsDistinct have_one_id entries.old.items }
@@ -81,7 +81,7 @@ pub fn replace_last(entries: &mut Vec<Entry>, entry: Entry)
     }
 }
 
-/// Brings the entries into the order of choice. Takes no memory.
+/// Brings the entries into their order. Takes no memory.
 pub fn sort(entries: &mut Vec<Entry>)
     ensures same { IsPermutation entries.old.items entries.new.items }
     ensures in_order { AllPairs IsBefore entries.new.items }

@@ -1,7 +1,7 @@
 // A live mapping as it is kept.
 ghost use Rattle.std.specs.Prelude.{◌≡◌, ◌<◌, List, length, slice_index_or};
 ghost use Rattle.request_journal.specs.declared.mapping.Mapping.{Mapping};
-ghost use Rattle.live_mappings.specs.Kept.{order, placed_of, Fits};
+ghost use Rattle.live_mappings.specs.Kept.{choice_order, hash_in, key_order, kind_of, order, placed_of, Fits};
 
 use crate::book_mapping::BookMapping;
 use mapping_model::mapping_id::MappingId;
@@ -26,8 +26,8 @@ pub struct Entry {
     pub index: u64,
     pub id: MappingId,
     pub priority: i32,
-    /// What the literal URL of the mapping is known by, so that most requests for another one are told without a look
-    /// at its matcher.
+    /// What the literal URL of the mapping is known by: a request is compared with those alone that are known by its
+    /// own, and with those that ask for none.
     pub key: UrlKey,
     pub source: Source,
     /// For contracts alone.
@@ -87,13 +87,49 @@ impl Entry {
         }
     }
 
-    /// `Less` where it wins over the other.
+    /// By the keys, and those of one key by choice.
     pub fn order(&self, other: &Entry) -> Ordering
         ensures { result ≡ order self.now other.now }
+    {
+        key_order(self.key, other.key).then(self.choice_order(other))
+    }
+
+    /// `Less` where it wins over the other.
+    pub fn choice_order(&self, other: &Entry) -> Ordering
+        ensures { result ≡ choice_order self.now other.now }
     {
         self.priority
             .cmp(&other.priority)
             .then(other.event.cmp(&self.event))
             .then(other.index.cmp(&self.index))
+    }
+}
+
+/// Keys by their kind, and those of a kind by their hash.
+pub fn key_order(one: UrlKey, other: UrlKey) -> Ordering
+    ensures { result ≡ key_order one other }
+{
+    kind_of(one)
+        .cmp(&kind_of(other))
+        .then(hash_in(one).cmp(&hash_in(other)))
+}
+
+fn kind_of(key: UrlKey) -> u8
+    ensures { result ≡ kind_of key }
+{
+    match key {
+        UrlKey::Any => 0,
+        UrlKey::Url(_hash) => 1,
+        UrlKey::UrlPath(_hash) => 2,
+    }
+}
+
+fn hash_in(key: UrlKey) -> u64
+    ensures { result ≡ hash_in key }
+{
+    match key {
+        UrlKey::Any => 0,
+        UrlKey::Url(hash) => hash,
+        UrlKey::UrlPath(hash) => hash,
     }
 }

@@ -1,13 +1,16 @@
 //! `mock answer`: the reply to one request.
 ghost use Rattle.std.specs.Prelude.{IfErr, IfOk};
+ghost use Rattle.command_output.specs.Output.{Followed};
 ghost use Rattle.mapping_answer.specs.Answering.{Answers, AnswersFile, IsRefusal, IsReplyText};
 
 use crate::fresh::{answer_of, fresh_book, plain_request, reply_by};
 use crate::printed::reply_text;
 use command_output::error::CommandError;
 use command_output::files::{FileReader, read_file};
-use command_output::output::put;
+use command_output::output::{put, put_notes};
 use command_output::status::{FAILURE, SUCCESS};
+use mapping_diagnosis::notes::Notes;
+use mapping_json::read::read_mappings_with;
 use std::alloc::Global;
 use std::io::Write;
 use template_tree::escape::Escape;
@@ -58,7 +61,7 @@ pub fn answer_to<O: Write, E: Write>(
 }
 
 /// Reads the file and does with its bytes what `answer_to` does. Where it can't be read, that is written to `err`, and
-/// the exit status is 1.
+/// the exit status is 1. Further lines on `err` say where and why something is wrong, and warn.
 pub fn answer_file<F: FileReader, O: Write, E: Write>(
     alloc: Global,
     files: &F,
@@ -69,14 +72,34 @@ pub fn answer_file<F: FileReader, O: Write, E: Write>(
     err: &mut E,
     escape: Escape,
 ) -> u8
-    ensures { AnswersFile O.contents E.contents escape (F.content files.now path.now) path.now method.now target.now
-        out.old out.new err.old err.new result }
+    ensures { Followed E.contents
+        (λ e. AnswersFile O.contents E.contents escape (F.content files.now path.now) path.now method.now target.now
+        out.old out.new err.old e result) err.new }
 {
     match read_file(alloc, files, path) {
-        Ok(bytes) => { answer_to(alloc, bytes.as_slice(), method, target, out, err, escape) }
+        Ok(bytes) => {
+            let status = answer_to(alloc, bytes.as_slice(), method, target, out, err, escape);
+            let notes = notes_of(alloc, path, bytes.as_slice(), status, escape);
+            put_notes(err, notes.as_str());
+            status
+        }
         Err(error) => {
             error.report(path, err);
+            error.explain(alloc, err);
             FAILURE
         }
     }
+}
+
+/// Where and why the document of a file is wrong, and warnings, as far as there is memory. Only where the status says
+/// so has it an error.
+fn notes_of(alloc: Global, file: &str, bytes: &[u8], status: u8, escape: Escape) -> Notes {
+    let mut notes = Notes::new(alloc);
+    let error = if status == SUCCESS {
+        None
+    } else {
+        read_mappings_with(alloc, bytes, escape).err()
+    };
+    let _ = notes.add_all(alloc, file, 1, bytes, error);
+    notes
 }

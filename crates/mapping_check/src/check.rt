@@ -2,6 +2,7 @@
 ghost use Rattle.std.specs.Prelude.{◌≡◌, ◌+◌, ◌++◌, List, ℕ, map, decimal, IfOk, IfErr, OnOk};
 ghost use Rattle.std.specs.Prelude.{if◌then◌else◌, string_bytes};
 ghost use Rattle.mapping_check.specs.Checking.{IsContentLine, IsBudgetLine, IsReportOf};
+ghost use Rattle.command_output.specs.Output.{Followed};
 ghost use Rattle.mapping_check.specs.Checking.{Checks, ChecksFile, plain_line, refused_line};
 ghost use Rattle.mapping_check.specs.Inner.Reports.{AreReported, Reports};
 ghost use Rattle.mapping_json.specs.Documents.{IsOuterError};
@@ -12,12 +13,13 @@ use crate::budgets::total_of;
 use command_output::error::CommandError;
 use command_output::files::{FileReader, read_file};
 use command_output::lines::total_text;
-use command_output::output::put;
+use command_output::output::{put, put_notes};
 use command_output::status::{FAILURE, SUCCESS};
 use error_code::error_code::ErrorCode;
 use itoa::Buffer;
 use json_reading::document::document_of;
 use json_reading::kind::Kind;
+use mapping_diagnosis::notes::{Notes, Place};
 use mapping_json::error::MappingError;
 use mapping_json::read::{mapping_values, response_of};
 use mapping_model::header_lines::HeaderLines;
@@ -39,9 +41,15 @@ pub struct Checked {
 
 /// What `mock check` prints for a document: a line for each of its mappings, numbered from 1, as `1 plain`,
 /// `2 steps [5] bytes [6,1]` or `3 error 11`, where the prints of templates are escaped so. The error is that of a
-/// document that has no mappings.
+/// document that has no mappings. Where and why a mapping is wrong is noted.
 #[tactic(auto, using(crate::proofs::LinesOf::whole))]
-pub fn check_document(alloc: Global, bytes: &[u8], escape: Escape) -> Result<Checked, MappingError>
+pub fn check_document(
+    alloc: Global,
+    file: &str,
+    bytes: &[u8],
+    escape: Escape,
+    notes: &mut Notes,
+) -> Result<Checked, MappingError>
     ensures report { IfOk result
         (λ checked. IsReportOf escape bytes.now (string_bytes checked.text) checked.is_refused) }
     ensures error { IfErr result (IsOuterError bytes.now) }
@@ -52,20 +60,39 @@ pub fn check_document(alloc: Global, bytes: &[u8], escape: Escape) -> Result<Che
     // Whoever checks a document ends then: its tree isn't taken apart, which takes a fifth of the time and more.
     let document = ManuallyDrop::new(document);
     match mapping_values(&document) {
-        Some(values) => Ok(report_of(alloc, values, escape)?),
+        Some(values) => {
+            let source = Source {
+                file,
+                is_list: document.get("mappings").is_some(),
+            };
+            Ok(report_of(alloc, source, values, escape, notes)?)
+        }
         None => Err(MappingError::Document(Kind::Misshapen)),
     }
 }
 
+/// From which file mappings are, and whether as a list.
+#[derive(Clone, Copy)]
+struct Source<'a> {
+    file: &'a str,
+    is_list: bool,
+}
+
 /// Each mapping is judged and its line written before the next, so that none is kept.
-fn report_of(alloc: Global, values: &[Value], escape: Escape) -> Result<Checked, AllocError>
+fn report_of(
+    alloc: Global,
+    source: Source<'_>,
+    values: &[Value],
+    escape: Escape,
+    notes: &mut Notes,
+) -> Result<Checked, AllocError>
     ensures { IfOk result (λ checked.
         AreReported escape (map view values.now) (string_bytes checked.text) checked.is_refused) }
 {
     let mut text = String::new(alloc);
     let mut is_refused = false;
     for (index, value) in values.iter().enumerate() {
-        is_refused |= push_line(alloc, &mut text, index, value, escape)?;
+        is_refused |= push_line(alloc, &mut text, source, index, value, escape, notes)?;
     }
     Ok(Checked { text, is_refused })
 }
@@ -74,9 +101,11 @@ fn report_of(alloc: Global, values: &[Value], escape: Escape) -> Result<Checked,
 fn push_line(
     alloc: Global,
     text: &mut String,
+    source: Source<'_>,
     index: usize,
     value: &Value,
     escape: Escape,
+    notes: &mut Notes,
 ) -> Result<bool, AllocError>
     ensures { IfOk result (λ refused.
         Reports escape (index + 1) (view value.now) (string_bytes text.old) (string_bytes text.new) refused) }
@@ -84,36 +113,76 @@ fn push_line(
     let number = index as u128 + 1;
     match response_of(alloc, value, escape) {
         Ok(response) => {
+            note(alloc, source, index, value, None, notes);
             push_content_line(alloc, text, number, &response.content)?;
             Ok(false)
         }
         Err(MappingError::OutOfMemory) => Err(AllocError),
         Err(error) => {
+            note(alloc, source, index, value, Some(error), notes);
             push_refused_line(text, number, error.error_code())?;
             Ok(true)
         }
     }
 }
 
+/// Notes what there is to say of a mapping, if there is memory for it.
+fn note(
+    alloc: Global,
+    source: Source<'_>,
+    index: usize,
+    value: &Value,
+    error: Option<MappingError>,
+    notes: &mut Notes,
+) {
+    let place = Place {
+        file: source.file,
+        number: index.saturating_add(1),
+        index: if source.is_list { Some(index) } else { None },
+    };
+    // A note is no part of the report.
+    let _ = notes.add_mapping(alloc, place, value, error);
+}
+
 /// Writes what `check_document` gives to `out`, or its error to `err`, and gives the exit status: 0, or 1 where a
 /// mapping is refused, for an error, or for output that can't be written. All memory is taken before the first
-/// byte is written.
+/// byte is written. Lines on `err` say where and why the document of that file is wrong, and warn.
 pub fn check_to<O: Write, E: Write>(
     alloc: Global,
+    file: &str,
     bytes: &[u8],
     out: &mut O,
     err: &mut E,
     escape: Escape,
 ) -> u8
+    ensures { Followed E.contents
+        (λ e. Checks O.contents E.contents escape bytes.now out.old out.new err.old e result) err.new }
+{
+    let mut notes = Notes::new(alloc);
+    let status = check_noting(alloc, file, bytes, out, err, escape, &mut notes);
+    put_notes(err, notes.as_str());
+    status
+}
+
+fn check_noting<O: Write, E: Write>(
+    alloc: Global,
+    file: &str,
+    bytes: &[u8],
+    out: &mut O,
+    err: &mut E,
+    escape: Escape,
+    notes: &mut Notes,
+) -> u8
     ensures { Checks O.contents E.contents escape bytes.now out.old out.new err.old err.new result }
 {
-    match check_document(alloc, bytes, escape) {
+    match check_document(alloc, file, bytes, escape, notes) {
         Ok(checked) => match put(out, checked.text.as_bytes()) {
             Ok(()) => status_of(checked.is_refused),
             Err(_error) => FAILURE,
         },
         Err(error) => {
             CommandError::from(error.error_code()).report(err);
+            let _ = notes.add_document(alloc, file, bytes);
             FAILURE
         }
     }
@@ -135,13 +204,15 @@ pub fn check_file<F: FileReader, O: Write, E: Write>(
     err: &mut E,
     escape: Escape,
 ) -> u8
-    ensures { ChecksFile O.contents E.contents escape (F.content files.now path.now) path.now
-        out.old out.new err.old err.new result }
+    ensures { Followed E.contents
+        (λ e. ChecksFile O.contents E.contents escape (F.content files.now path.now) path.now
+        out.old out.new err.old e result) err.new }
 {
     match read_file(alloc, files, path) {
-        Ok(bytes) => check_to(alloc, bytes.as_slice(), out, err, escape),
+        Ok(bytes) => check_to(alloc, path, bytes.as_slice(), out, err, escape),
         Err(error) => {
             error.report(path, err);
+            error.explain(alloc, err);
             FAILURE
         }
     }

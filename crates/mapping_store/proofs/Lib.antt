@@ -1,5 +1,6 @@
 pub mod EventLemmas
 pub mod StoreLemmas
+pub mod BestLemmas
 pub mod ChoiceLemmas
 pub mod CountLemmas
 pub mod PastLemmas

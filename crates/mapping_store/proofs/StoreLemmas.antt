@@ -1,5 +1,5 @@
 -- What the store's calls do to its entries, as contracts see it.
-use Rattle.std.proofs.Common.{◌≡◌, ◌≢◌, ℕ, zero, suc, ◌+◌, ◌<◌, not, List, [], ◌∷◌}
+use Rattle.std.proofs.Common.{◌≡◌, ◌≢◌, ℕ, zero, suc, ◌<◌, not, List, [], ◌∷◌}
 use Rattle.std.proofs.Common.{◌++◌, length, map, get_or, Any, true, refl, sym, ap, subst, ◌∙◌, arith}
 use Rattle.std.proofs.Common.{append-nil, Contains, ◌↔◌, Option, Some, None, is_some, IsTrue, MatchOption}
 use Rattle.std.specs.List.{All, AllPairs, IsDistinct, filter}

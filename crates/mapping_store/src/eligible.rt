@@ -1,17 +1,20 @@
 // Which entries are eligible for a request.
-ghost use Rattle.std.specs.Prelude.{◌≡◌, ◌↔◌, ◌<◌, length, All, IfOk, IsTrue, MatchOption};
-ghost use Rattle.std.specs.List.{AllWithin, HoldsAt};
+ghost use Rattle.std.specs.Prelude.{◌≡◌, ◌↔◌, ◌<◌, ◌≤◌, ⊤, false, length, true, AllPairs, IfOk};
+ghost use Rattle.std.specs.Prelude.{IfSome, IsTrue};
+ghost use Rattle.std.specs.List.{AllWithin};
+ghost use Rattle.std.specs.Ordering.{is_gt, is_lt};
 ghost use Rattle.request_journal.specs.Choice.{IsEligible, IsReady};
 ghost use Rattle.request_match.specs.Matching.{MeetsRequest};
-ghost use Rattle.request_parts.specs.Key.{key_of};
 ghost use Rattle.scenario_core.specs.Scenarios.{state_of};
-ghost use Rattle.live_mappings.specs.Kept.{Fits, placed_of};
+ghost use Rattle.live_mappings.specs.Kept.{AreKept, Fits, IsBefore, key_order, placed_of};
+ghost use Rattle.mapping_store.specs.Inner.Best.{IsBest, IsBetterOf};
 
 use live_mappings::book_mapping::BookMapping;
-use live_mappings::entry::{Entry, Source};
+use live_mappings::entry::{Entry, Source, key_order};
 use mapping_model::scenario_spec::ScenarioSpec;
 use request_match::parsed_request::ParsedRequest;
 use request_match::shared_spec::SharedSpec;
+use request_parts::url_key::UrlKey;
 use scenario_core::scenarios::Scenarios;
 use std::alloc::AllocError;
 
@@ -26,30 +29,93 @@ pub(crate) fn spec_of<'a>(entry: &'a Entry, defaults: &'a [BookMapping]) -> &'a 
     }
 }
 
-/// The index of the first eligible entry.
-pub(crate) fn first_eligible(
+/// The index of the eligible entry that wins over all others. Only those that are known by the request's URL or path,
+/// or that ask for none, are compared with the request.
+pub(crate) fn best_eligible(
     entries: &mut [Entry],
     defaults: &mut [BookMapping],
     scenarios: &Scenarios,
     request: &mut ParsedRequest<'_>,
 ) -> Result<Option<usize>, AllocError>
-    requires { All (Fits defaults.old) entries.old }
-    ensures found { IfOk result (λ found. MatchOption found
-        (All (λ e. ¬ (IsEligible (state_of scenarios.now) request.old (placed_of e).mapping)) entries.old)
-        (λ at. (at < length entries.old)
-        × HoldsAt (λ e. IsEligible (state_of scenarios.now) request.old (placed_of e).mapping) entries.old at
-        × AllWithin (λ e. ¬ (IsEligible (state_of scenarios.now) request.old (placed_of e).mapping))
-        entries.old 0 at)) }
+    requires { AreKept defaults.old entries.old }
+    ensures found { IfOk result (IsBest (λ e. ⊤)
+        (λ e. IsEligible (state_of scenarios.now) request.old (placed_of e).mapping) entries.old) }
     ensures same_entries { entries.new ≡ entries.old }
     ensures same_defaults { defaults.new ≡ defaults.old }
     ensures same_request { request.new ≡ request.old }
 {
-    for i in 0..entries.len() {
+    let url = request.url_key();
+    let path = request.path_key();
+    let by_any = best_of(entries, UrlKey::Any, defaults, scenarios, request)?;
+    let by_url = best_of(entries, url, defaults, scenarios, request)?;
+    let by_path = best_of(entries, path, defaults, scenarios, request)?;
+    let by_literal = better(entries, by_url, by_path);
+    Ok(better(entries, by_any, by_literal))
+}
+
+// That of both entries which wins over the other.
+fn better(entries: &[Entry], one: Option<usize>, other: Option<usize>) -> Option<usize>
+    requires one { IfSome one (λ at. at < length entries.now) }
+    requires other { IfSome other (λ at. at < length entries.now) }
+    ensures { IsBetterOf entries.now one other result }
+{
+    match (one, other) {
+        (Some(at), Some(after)) => {
+            if entries[after].choice_order(&entries[at]).is_lt() {
+                other
+            } else {
+                one
+            }
+        }
+        (Some(_at), None) => one,
+        (None, _) => other,
+    }
+}
+
+// That of the entries with this key.
+fn best_of(
+    entries: &mut [Entry],
+    key: UrlKey,
+    defaults: &mut [BookMapping],
+    scenarios: &Scenarios,
+    request: &mut ParsedRequest<'_>,
+) -> Result<Option<usize>, AllocError>
+    requires { AreKept defaults.old entries.old }
+    ensures found { IfOk result (IsBest (λ e. e.key ≡ key)
+        (λ e. IsEligible (state_of scenarios.now) request.old (placed_of e).mapping) entries.old) }
+    ensures within { IfOk result (λ found. IfSome found (λ at. at < length entries.old)) }
+    ensures same_entries { entries.new ≡ entries.old }
+    ensures same_defaults { defaults.new ≡ defaults.old }
+    ensures same_request { request.new ≡ request.old }
+{
+    let start = start_of(entries, key);
+    let end = end_of(entries, key);
+    for i in start..end {
         if is_eligible(&mut entries[i], defaults, scenarios, request)? {
             return Ok(Some(i));
         }
     }
     Ok(None)
+}
+
+// Where the entries with this key begin.
+fn start_of(entries: &[Entry], key: UrlKey) -> usize
+    requires { AllPairs IsBefore entries.now }
+    ensures before { AllWithin (λ e. is_lt (key_order e.key key) ≡ true) entries.now 0 result }
+    ensures from { AllWithin (λ e. is_lt (key_order e.key key) ≡ false) entries.now result (length entries.now) }
+    ensures within { result ≤ length entries.now }
+{
+    entries.partition_point(|entry| key_order(entry.key, key).is_lt())
+}
+
+// Where they end.
+fn end_of(entries: &[Entry], key: UrlKey) -> usize
+    requires { AllPairs IsBefore entries.now }
+    ensures before { AllWithin (λ e. is_gt (key_order e.key key) ≡ false) entries.now 0 result }
+    ensures from { AllWithin (λ e. is_gt (key_order e.key key) ≡ true) entries.now result (length entries.now) }
+    ensures within { result ≤ length entries.now }
+{
+    entries.partition_point(|entry| !key_order(entry.key, key).is_gt())
 }
 
 fn is_eligible(
@@ -65,18 +131,10 @@ fn is_eligible(
     ensures same_defaults { defaults.new ≡ defaults.old }
     ensures same_request { request.new ≡ request.old }
 {
-    // Of most entries this reads no memory but their own.
-    if is_of_another_url(entry, request) || !meets(entry, defaults, request)? {
+    if !meets(entry, defaults, request)? {
         return Ok(false);
     }
     Ok(is_ready(scenarios, &spec_of(entry, defaults).spec().scenario))
-}
-
-fn is_of_another_url(entry: &Entry, request: &ParsedRequest<'_>) -> bool
-    requires { entry.now.key ≡ key_of entry.now.seen.value.request.url }
-    ensures { IsTrue result → ¬ (MeetsRequest entry.now.seen.value.request request.now) }
-{
-    request.has_another_url(entry.key)
 }
 
 fn meets(

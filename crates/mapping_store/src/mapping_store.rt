@@ -11,7 +11,7 @@ ghost use Rattle.scenario_core.specs.Scenarios.{state_of};
 ghost use Rattle.mapping_store.specs.Stored.{Follows, IsNewestFirst};
 
 use crate::counts::{count_ids, count_others};
-use crate::eligible::{first_eligible, spec_of};
+use crate::eligible::{best_eligible, spec_of};
 use crate::listing::newest_first;
 use crate::scenario_names::{knows, names};
 use live_mappings::book_mapping::BookMapping;
@@ -34,7 +34,8 @@ pub struct MappingStore {
     defaults: Vec<BookMapping>,
     /// For each default, whether none after it has its id, so that a reset looks for none.
     lasts: Vec<bool>,
-    /// In the order of choice, so that the first eligible one is chosen. There is room for all defaults.
+    /// By the literal URLs that they are known by, and those of one URL in the order of choice. There is room for all
+    /// defaults.
     live: Vec<Entry>,
 }
 
@@ -155,8 +156,8 @@ impl MappingStore {
         Some(spec_of(&self.live[at], self.defaults.as_slice()))
     }
 
-    /// The mapping that is chosen for the request in these states of scenarios. Takes a look at each live mapping until
-    /// one is eligible.
+    /// The mapping that is chosen for the request in these states of scenarios. Of those with a literal URL it takes a
+    /// look at the request's alone, and of them, as of the others, until one is eligible.
     pub fn find(
         &mut self,
         scenarios: &Scenarios,
@@ -169,7 +170,7 @@ impl MappingStore {
         ensures same_request { request.new ≡ request.old }
     {
         let defaults = self.defaults.as_mut_slice();
-        match first_eligible(self.live.as_mut_slice(), defaults, scenarios, request)? {
+        match best_eligible(self.live.as_mut_slice(), defaults, scenarios, request)? {
             Some(at) => {
                 let entry = &self.live[at];
                 Ok(Some(Mapping {

@@ -1,11 +1,12 @@
--- A command leaves one of both writers as it was.
+-- A command leaves one of both writers as it was, but for lines that follow on standard error.
 use Rattle.std.proofs.Common.{◌≡◌, ◌⊎◌, ℕ, List, Option, inl, inr, arith, Bool, true, false}
 use Rattle.std.proofs.Common.{if◌then◌else◌}
 use Rattle.mapping_answer.specs.Answering.{Answers, AnswersFile}
 use Rattle.mapping_check.specs.Checking.{Checks, ChecksFile}
 use Rattle.mock_program.specs.CommandLine.{Asked, render, check, answer}
 use Rattle.mock_program.specs.Commands.{Does}
-use Rattle.command_output.specs.Output.{WritesOneStream}
+use Rattle.command_output.proofs.PartsWritten.{alone, followed_map}
+use Rattle.command_output.specs.Output.{Followed, WritesOneStream}
 use Rattle.mock_program.specs.Rendering.{Renders}
 use Rattle.template_tree.specs.Source.{Source, with_escape}
 use Rattle.template_tree.specs.declared.escape.Escape.{Escape}
@@ -83,10 +84,16 @@ module _ {O E : Type 0} (out_holds : O → Option (List ℕ)) (err_holds : E →
 
   pub of_command : (files : List ℕ → Option (List ℕ)) (escape : Escape) (asked : Asked) (out out' : O)
       (err err' : E) (status : ℕ) → Does out_holds err_holds files escape asked out out' err err' status
-      → WritesOneStream out out' err err' status
+      → Followed err_holds (λ e. WritesOneStream out out' err e status) err'
   of_command files escape (render template method target) out out' err err' status done =
-      of_rendering (with_escape escape template) method target out out' err err' status done
+      alone err_holds (λ e. WritesOneStream out out' err e status) err'
+      (of_rendering (with_escape escape template) method target out out' err err' status done)
   of_command files escape (check path) out out' err err' status done =
-      of_file escape (files path) path out out' err err' status done
+      followed_map err_holds (λ e. ChecksFile out_holds err_holds escape (files path) path out out' err e status)
+      (λ e. WritesOneStream out out' err e status) err'
+      (λ e. of_file escape (files path) path out out' err e status) done
   of_command files escape (answer path method target) out out' err err' status done =
-      of_mappings escape (files path) path method target out out' err err' status done
+      followed_map err_holds
+      (λ e. AnswersFile out_holds err_holds escape (files path) path method target out out' err e status)
+      (λ e. WritesOneStream out out' err e status) err'
+      (λ e. of_mappings escape (files path) path method target out out' err e status) done

@@ -4,7 +4,10 @@ use Rattle.mock_program.specs.CommandLine.{Asked, render, check, answer}
 use Rattle.mock_program.specs.Commands.{Does}
 use Rattle.template_tree.specs.declared.escape.Escape.{Escape}
 use Rattle.command_output.specs.Lines.{error_line, out_of_memory}
+use Rattle.command_output.proofs.PartsWritten.{alone}
 use Rattle.command_output.specs.Output.{AppendsFront}
+use Rattle.mapping_answer.specs.Answering.{AnswersFile}
+use Rattle.mapping_check.specs.Checking.{ChecksFile}
 use Rattle.command_output.specs.declared.files.FileError.TheVariants as file
 
 pub without_memory : {O E : Type 0} (out_holds : O → Option (List ℕ)) (err_holds : E → Option (List ℕ))
@@ -16,6 +19,9 @@ without_memory out_holds err_holds files escape (render template method target) 
     status one shown same =
     inr (inl (one, (out_of_memory, inr (inr refl), shown), same))
 without_memory out_holds err_holds files escape (check path) out out' err err' status one shown same =
-    inr (file.OutOfMemory, tt, one, shown, same)
+    alone err_holds (λ e. ChecksFile out_holds err_holds escape (files path) path out out' err e status) err'
+    (inr (file.OutOfMemory, tt, one, shown, same))
 without_memory out_holds err_holds files escape (answer path method target) out out' err err' status one shown same =
-    inr (file.OutOfMemory, tt, one, shown, same)
+    alone err_holds
+    (λ e. AnswersFile out_holds err_holds escape (files path) path method target out out' err e status) err'
+    (inr (file.OutOfMemory, tt, one, shown, same))

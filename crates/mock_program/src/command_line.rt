@@ -6,7 +6,7 @@ ghost use Rattle.mock_program.specs.CommandLine.{AreInvalid, Asked, AsksFor, Cal
 ghost use Rattle.mock_program.specs.Commands.{Does};
 ghost use Rattle.mock_program.specs.Inner.Parser.{IsHelp, asked_of};
 ghost use Rattle.command_output.specs.Lines.{error_line, out_of_memory};
-ghost use Rattle.command_output.specs.Output.{AppendsFront, WritesOneStream};
+ghost use Rattle.command_output.specs.Output.{AppendsFront, Followed, WritesOneStream};
 ghost use Rattle.template_tree.specs.declared.escape.Escape.{Escape};
 
 use crate::arguments::{escape_asked, parser_arguments};
@@ -41,7 +41,8 @@ pub fn run<F: FileReader, O: Write, E: Write>(
     // Help is no mistake, and invalid arguments are one. Where the text can't be made or written, the status is 1.
     ensures help { CallsForHelp (map string_bytes arguments.now) → (result ≡ 0) ⊎ (result ≡ 1) }
     ensures invalid { AreInvalid (map string_bytes arguments.now) → (result ≡ 2) ⊎ (result ≡ 1) }
-    ensures streams { WritesOneStream out.old out.new err.old err.new result }
+    // Apart from lines on standard error that explain or warn, a command writes to one of both streams.
+    ensures streams { Followed E.contents (λ e. WritesOneStream out.old out.new err.old e result) err.new }
 {
     let escape = escape_asked(arguments);
     let Ok(arguments) = parser_arguments(alloc, arguments) else {

@@ -6,11 +6,12 @@ ghost use Rattle.data_tree.specs.Tree.{view};
 ghost use Rattle.data_tree.specs.WellFormed.{IsWellFormed};
 ghost use Rattle.json_bridge.specs.Reading.{tree_of_text};
 ghost use Rattle.json_match.specs.Matching as json;
+ghost use Rattle.mapping_model.specs.declared.url_spec.UrlSpec.TheVariants.{Url, UrlPath};
 ghost use Rattle.mock_request.specs.Cookies.{cookie_pairs};
 ghost use Rattle.mock_request.specs.Query.{query_pairs};
 ghost use Rattle.mock_request.specs.Url.{path_of};
 ghost use Rattle.request_parts.specs.Inner.Read.{IsReadOf};
-ghost use Rattle.request_parts.specs.Key.{MayHave};
+ghost use Rattle.request_parts.specs.Key.{MayHave, key_of};
 ghost use Rattle.request_parts.specs.Matching.{MeetHeaders, MeetPairs, MeetsText, found_text};
 ghost use Rattle.value_match.specs.Matching as value;
 
@@ -114,6 +115,20 @@ impl<'a> ParsedRequest<'a> {
             UrlKey::Url(hash) => hash != self.url.hash(),
             UrlKey::UrlPath(hash) => hash != self.path.hash(),
         }
+    }
+
+    /// What a matcher that asks for its very path and query is known by.
+    pub fn url_key(&self) -> UrlKey
+        ensures { result ≡ key_of (Url self.now.url) }
+    {
+        UrlKey::Url(self.url.hash())
+    }
+
+    /// What a matcher that asks for its very path is known by.
+    pub fn path_key(&self) -> UrlKey
+        ensures { result ≡ key_of (UrlPath (path_of self.now.url)) }
+    {
+        UrlKey::UrlPath(self.path.hash())
     }
 
     /// The path and the query with their hash.

@@ -4,11 +4,10 @@ use crate::messages::{Asked, message};
 use answering::begin::begin;
 use answering::begun::Begun;
 use answering::clock::Clock;
+use answering::content::Content;
 use answering::site::Site;
-use bytes::Bytes;
 use http::Response;
 use http_body::Body;
-use http_body_util::Full;
 use shared_book::gate::Gate;
 use shared_book::origin::Origin;
 use shared_book::seat::Seat;
@@ -38,7 +37,7 @@ pub fn answer_to<L: Origin, R: Wait, G: Gate, C: Clock>(
     }
 }
 
-fn described(response: &Response<Full<Bytes>>) -> Result<Answer, AllocError> {
+fn described(response: &Response<Content>) -> Result<Answer, AllocError> {
     Ok(Answer {
         status: response.status().as_u16(),
         length: response.body().size_hint().exact().ok_or(AllocError)?,

@@ -105,6 +105,6 @@ fn reply_to<L: Origin, R: Wait>(
     seat: &mut Seat<L>,
     call: AdminCall,
 ) -> Result<Reply, AllocError> {
-    let reply = answer_admin(rt, alloc, shared, seat, call);
-    reply.ok().ok_or(AllocError)
+    let answer = answer_admin(rt, alloc, shared, seat, call);
+    answer.ok().ok_or(AllocError)?.into_reply(alloc)
 }

@@ -2,7 +2,6 @@
 use Rattle.std.specs.Prelude.{◌≡◌, ℕ, List}
 use Rattle.admin_table.specs.Routes.{IsAdmin}
 use Rattle.http.specs.declared.response.Response.{Response}
-use Rattle.http_body_util.specs.declared.full.Full.{Full}
 use Rattle.answering.specs.Forwarding.{serve_receipt}
 use Rattle.answering.specs.Reply.{IsResponseOf}
 use Rattle.answering.specs.Served.{GainsServe}
@@ -16,7 +15,7 @@ use Rattle.request_journal.specs.declared.event.Event.{Event}
 use Rattle.shared_book.specs.Held.{Held}
 
 -- the response is that of a reply of which this holds
-abbrev pub HasReply : (Reply → Type 0) → Response (Full (List ℕ)) → Type 0
+abbrev pub HasReply : (Reply → Type 0) → Response (List ℕ) → Type 0
 HasReply Holds response = (reply : Reply) × Holds reply × IsResponseOf reply response
 
 -- a response of which the one holds, or what is to be forwarded, of which the other does

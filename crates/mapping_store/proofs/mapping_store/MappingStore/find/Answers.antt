@@ -1,8 +1,6 @@
-use Rattle.std.proofs.Common.{◌≡◌, ℕ, List, get_or, sym, ap, subst, ◌∙◌}
-use Rattle.request_journal.specs.Choice.{IsEligible}
+use Rattle.std.proofs.Common.{◌≡◌, ℕ, List, get_or, sym, ap, ◌∙◌}
 use Rattle.scenario_core.specs.Scenarios.{state_of}
 use Rattle.live_mappings.specs.declared.entry.Entry.{Entry}
-use Rattle.live_mappings.specs.Kept.{placed_of}
 use Rattle.mapping_store.proofs.ChoiceLemmas.{chosen, missed, same_items}
 use Rattle.mapping_store.proofs.mapping_store.MappingStore.find.Goals as goal
 use Rattle.mapping_store.proofs.mapping_store.MappingStore.find.Goals.{in-Some+in_ok-try_clone-in-Some, in-None}
@@ -16,7 +14,7 @@ returns-clause-found c =
       | in-Some+in_ok-try_clone-in-Some w ↦
           let found = rw (w.in-Some.is, c.as_mut_slice.ensures.value) at c.in_ok-at.ensures.found in
           let e : Entry = w.index-entry.result.now in
-          let kept = same_items c.self.inside.live.len items c.first_eligible.new.entries
+          let kept = same_items c.self.inside.live.len items c.best_eligible.new.entries
           (c.in_ok-at.ensures.same_entries ∙ c.as_mut_slice.ensures.value) c.self.inside.live.ok.0 in
           let read : e ≡ get_or items w.in-Some.at e =
           w.index-entry.ensures ∙ ap (λ l. get_or l w.in-Some.at e) kept in
@@ -24,8 +22,7 @@ returns-clause-found c =
           sym (w.in_ok-try_clone-in-Some.ensures ∙ w.spec_of.ensures) in
           rw (← c.self.view_is, w.result-is)
           (chosen states request items c.self.inside.defaults.items w.in-Some.at e
-          (record { id = e.id; spec = w.in_ok-try_clone-in-Some.field-0 }) c.self.invariant.kept found.0 read
-          (subst (λ (x : Entry). IsEligible states request (placed_of x).mapping) (sym read) (found.1 e)) found.2
+          (record { id = e.id; spec = w.in_ok-try_clone-in-Some.field-0 }) c.self.invariant.kept read found
           (λ i. record { id = e.id; spec = copy i }))
       | in-None w ↦
           let found = rw (w.in-None.is, c.as_mut_slice.ensures.value) at c.in_ok-at.ensures.found in

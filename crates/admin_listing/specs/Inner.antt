@@ -1,0 +1,2 @@
+-- Words of private clauses.
+pub mod Joined

@@ -1,0 +1,70 @@
+// Admin calls.
+ghost use Rattle.std.specs.Prelude.{◌≡◌, IfOk, MatchResult};
+ghost use Rattle.admin_answers.specs.Replies.{reply_of};
+ghost use Rattle.answering.specs.Admin.{IsAdminAnswered, IsAnsweredCall, reporting};
+
+use admin_answers::admin_answer::AdminAnswer;
+use admin_answers::answer::answer_admin;
+use admin_routes::admin::admin_with;
+use admin_routes::call::AdminCall;
+use error_code::error_code::ErrorCode;
+use mock_request::snapshot::Snapshot;
+use shared_book::origin::Origin;
+use shared_book::seat::Seat;
+use shared_book::shared_book::SharedBook;
+use std::alloc::{AllocError, Global};
+use std::sync::Wait;
+use stub_response::error_reply::error_reply;
+use template_tree::escape::Escape;
+
+/// Makes the admin call that the request is, where the prints of the templates of a posted mapping are escaped so, and
+/// gives the answer. The error says that there was no memory to write it.
+// Not inlined: a function clears all its locals when it is entered, and most requests need none of these.
+#[inline(never)]
+pub(crate) fn admin_answer<L: Origin, R: Wait>(
+    rt: &R,
+    alloc: Global,
+    shared: &SharedBook<L>,
+    seat: &mut Seat<L>,
+    request: &Snapshot,
+    escape: Escape,
+) -> Result<AdminAnswer, AllocError>
+    ensures { MatchResult result
+        (λ answer. IsAdminAnswered L.origin escape seat.old seat.new request.now (reply_of answer))
+        (λ _. (reply : _) × IsAdminAnswered L.origin escape seat.old seat.new request.now reply) }
+{
+    match admin_with(
+        alloc,
+        request.method(),
+        request.url(),
+        request.body(),
+        escape,
+    ) {
+        Ok(call) => call_answer(rt, alloc, shared, seat, call),
+        Err(error) => reporting(alloc, error.error_code()),
+    }
+}
+
+fn call_answer<L: Origin, R: Wait>(
+    rt: &R,
+    alloc: Global,
+    shared: &SharedBook<L>,
+    seat: &mut Seat<L>,
+    call: AdminCall,
+) -> Result<AdminAnswer, AllocError>
+    ensures { MatchResult result
+        (λ answer. IsAnsweredCall L.origin seat.old seat.new call (reply_of answer))
+        (λ _. (reply : _) × IsAnsweredCall L.origin seat.old seat.new call reply) }
+{
+    match answer_admin(rt, alloc, shared, seat, call) {
+        Ok(answer) => Ok(answer),
+        Err(error) => reporting(alloc, error.code),
+    }
+}
+
+fn reporting(alloc: Global, reason: ErrorCode) -> Result<AdminAnswer, AllocError>
+    ensures { IfOk result (λ answer. reply_of answer ≡ reporting reason) }
+{
+    let reply = error_reply(alloc, reason.status().unwrap_or(500), reason)?;
+    Ok(AdminAnswer::Whole(reply))
+}

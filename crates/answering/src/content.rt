@@ -1,0 +1,163 @@
+// The body of a response.
+ghost use Rattle.std.specs.Prelude.{◌≡◌, [], IfOk, IfSome, string_bytes, ⊤};
+ghost use Rattle.answering.specs.Content.{Yields};
+ghost use Rattle.futures.specs.Poll.{IfReady, OnPending};
+ghost use Rattle.futures.specs.Runs.{After, Within};
+ghost use Rattle.futures.specs.Task.{IsArmed, Keeps};
+ghost use Rattle.http_body.specs.Frame.{data_frame};
+
+use admin_listing::listing::Listing;
+use bytes::Bytes;
+use futures::task::{Context, Poll};
+use http_body::{Body, Frame, SizeHint};
+use http_messages::error::ServiceError;
+use std::alloc::{AllocError, Global};
+use std::marker::Model;
+use std::mem;
+
+/// The body of a response: bytes, or a list whose text is written piece by piece while it is sent.
+#[derive(Drop)]
+pub struct Content {
+    kind: Kind,
+}
+
+#[derive(Drop)]
+enum Kind {
+    Whole(Bytes),
+    /// In a box, since most bodies are whole.
+    Listed(Box<Listed>),
+}
+
+#[derive(Drop)]
+struct Listed {
+    alloc: Global,
+    listing: Listing,
+    /// Whether a piece was given since others were served.
+    gave: bool,
+}
+
+impl Model for Content {
+    ghost use Rattle.std.specs.Prelude.{List, ℕ};
+    ghost use Rattle.answering.specs.declared.content.Kind.TheVariants.{Whole, Listed as IsListed};
+
+    ghost Value = { List ℕ };
+
+    ghost view = { λ c. elim c.kind [ | Whole bytes ↦ bytes | IsListed listed ↦ listed.value.listing ] };
+}
+
+impl Content {
+    pub fn whole(bytes: Bytes) -> Content
+        ensures { result ≡ bytes }
+    {
+        Content {
+            kind: Kind::Whole(bytes),
+        }
+    }
+
+    pub fn listed(alloc: Global, listing: Listing) -> Result<Content, AllocError>
+        ensures { IfOk result (λ content. content ≡ listing) }
+    {
+        let listed = Listed {
+            alloc,
+            listing,
+            gave: false,
+        };
+        Ok(Content {
+            kind: Kind::Listed(Box::new(alloc, listed)?),
+        })
+    }
+}
+
+impl Default for Content {
+    ghost is_default = { λ content. content ≡ [] };
+
+    fn default() -> Content {
+        Content::whole(Bytes::new())
+    }
+}
+
+impl Body for Content {
+    type Data = Bytes;
+
+    type Error = ServiceError;
+
+    ghost yields = { Yields };
+
+    fn poll_frame(
+        &mut self,
+        cx: &mut Context<'_>,
+    ) -> Poll<Option<Result<Frame<Bytes>, ServiceError>>> {
+        match &mut self.kind {
+            Kind::Whole(bytes) => Poll::Ready(whole_frame(bytes)),
+            Kind::Listed(listed) => listed.poll_frame(cx),
+        }
+    }
+
+    fn is_end_stream(&self) -> bool {
+        match &self.kind {
+            Kind::Whole(bytes) => bytes.is_empty(),
+            Kind::Listed(_listed) => false,
+        }
+    }
+
+    fn size_hint(&self) -> SizeHint {
+        match &self.kind {
+            Kind::Whole(bytes) => SizeHint::with_exact(bytes.len() as u64),
+            Kind::Listed(_listed) => SizeHint::new(),
+        }
+    }
+}
+
+impl Listed {
+    // The next piece. Others are served between two pieces.
+    fn poll_frame(
+        &mut self,
+        cx: &mut Context<'_>,
+    ) -> Poll<Option<Result<Frame<Bytes>, ServiceError>>>
+        ensures value { IfReady result (Yields self.old.listing []) }
+        ensures rest { IfReady result
+            (λ o. IfSome o (λ x. After (Yields self.old.listing) x (Yields self.new.listing))) }
+        ensures same { OnPending result (self.new.listing ≡ self.old.listing) }
+        ensures registered { OnPending result (IsArmed cx.new) }
+        ensures kept { Keeps cx.old cx.new }
+    {
+        if self.gave {
+            self.gave = false;
+            return cx.yield_now();
+        }
+        self.gave = true;
+        Poll::Ready(listed_frame(self.alloc, &mut self.listing))
+    }
+}
+
+// The one frame of a whole body.
+fn whole_frame(bytes: &mut Bytes) -> Option<Result<Frame<Bytes>, ServiceError>>
+    ensures value { Yields bytes.old [] result }
+    ensures rest { IfSome result (λ x. After (Yields bytes.old) x (Yields bytes.new)) }
+{
+    if bytes.is_empty() {
+        return None;
+    }
+    let whole = mem::replace(bytes, Bytes::new());
+    Some(Ok(Frame::data(whole)))
+}
+
+fn listed_frame(
+    alloc: Global,
+    listing: &mut Listing,
+) -> Option<Result<Frame<Bytes>, ServiceError>>
+    ensures value { Yields listing.old [] result }
+    ensures rest { IfSome result (λ x. After (Yields listing.old) x (Yields listing.new)) }
+{
+    match listing.next(alloc) {
+        Ok(Some(piece)) => Some(piece_frame(piece)),
+        Ok(None) => None,
+        Err(AllocError) => Some(Err(ServiceError::OutOfMemory)),
+    }
+}
+
+fn piece_frame(piece: String) -> Result<Frame<Bytes>, ServiceError>
+    ensures { IfOk result (λ frame. frame ≡ data_frame (string_bytes piece)) }
+{
+    Ok(Frame::data(Bytes::from_string(piece)?))
+}
