@@ -2,8 +2,8 @@
 ghost use Rattle.std.specs.Prelude.{◌≡◌, IfSome};
 
 use crate::answers::Answers;
-use crate::connects::Connects;
 use crate::connection_task::ConnectionTask;
+use crate::connects::Connects;
 use crate::pause::Pause;
 use crate::seat_pool::{Assignment, SeatPool};
 use crate::seat_slot::SeatSlot;
@@ -21,8 +21,11 @@ use tokio::net::{TcpListener, TcpStream};
 /// The numbers of Linux for errors that have no kind of their own: too many open files in the system and in the
 /// process, a protocol error, no buffer space.
 const ENFILE: i32 = 23;
+
 const EMFILE: i32 = 24;
+
 const EPROTO: i32 = 71;
+
 const ENOBUFS: i32 = 105;
 
 /// Makes a task of each connection, as many as are wanted, with a slot of the pool.

@@ -104,7 +104,10 @@ impl<A: Answers> SeatSlot<A> {
 }
 
 // What is sent of a response: itself, where it may be.
-fn as_sent<C: Default + Drop>(alloc: Global, response: Response<C>) -> Result<Response<C>, AllocError>
+fn as_sent<C: Default + Drop>(
+    alloc: Global,
+    response: Response<C>,
+) -> Result<Response<C>, AllocError>
     ensures { IfOk result (IsSent C.is_default response) }
 {
     if is_as_sent(&response) {

@@ -103,7 +103,14 @@ where
     let timers = runtime.handle().time();
     let builder = builder(&rt)?.timer(TokioTimer::new(rt, timers.clone()?));
     let pause = Pause::new(rt, timers)?;
-    let accepting = Accepting::new(rt, listener, Arc::try_clone(pool)?, settings, pause, builder);
+    let accepting = Accepting::new(
+        rt,
+        listener,
+        Arc::try_clone(pool)?,
+        settings,
+        pause,
+        builder,
+    );
     runtime.run_all(&rt, accepting)
 }
 

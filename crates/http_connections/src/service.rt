@@ -280,7 +280,7 @@ where
         ensures value { IfReady result (λ result. IfOk result (λ begun. (gathered : Result (List ℕ) GatherError)
             × G.gives self.old.content gathered
             × IsBegunWith A.Content.is_default A.gives A.forwards A.Exchange.can_poll
-                (head_of self.old.request) gathered begun)) }
+            (head_of self.old.request) gathered begun)) }
         ensures again { OnPending result (G.can_poll self.new.content) }
         ensures same { OnPending result (head_of self.new.request ≡ head_of self.old.request) }
         ensures rest { OnPending result ((gathered : Result (List ℕ) GatherError)

@@ -49,7 +49,7 @@ where
 
     type Exchange = SiteExchange<F::Exchange>;
 
-    type Content = Full<Bytes>;
+    type Content = Content;
 
     ghost gives = { IsGiven F.sends F.Exchange.gives L.origin };
 
@@ -61,7 +61,7 @@ where
         alloc: Global,
         seat: &mut Seat<L>,
         request: &Request<Bytes>,
-    ) -> Result<Begun<SiteExchange<F::Exchange>, Full<Bytes>>, ServiceError> {
+    ) -> Result<Begun<SiteExchange<F::Exchange>, Content>, ServiceError> {
         match answering::begin::begin(rt, alloc, &self.site, seat, request)? {
             answering::begun::Begun::Answered(response) => Ok(Begun::Answered(response)),
             answering::begun::Begun::ToForward(forward) => self.forward(rt, alloc, seat, forward),
@@ -106,7 +106,7 @@ where
         alloc: Global,
         seat: &mut Seat<L>,
         forward: Forward,
-    ) -> Result<Begun<SiteExchange<F::Exchange>, Full<Bytes>>, ServiceError>
+    ) -> Result<Begun<SiteExchange<F::Exchange>, Content>, ServiceError>
         ensures { (message : _) (old : _) → IsToForward L.origin old seat.old message forward
             → IfOk result (IsBegun (IsGiven F.sends F.Exchange.gives L.origin)
             (IsForwardedBy F.sends F.Exchange.gives L.origin)

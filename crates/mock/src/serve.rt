@@ -35,9 +35,6 @@ use tokio::runtime::LocalRuntime;
 // Into how many parts the ledger is cut: as many connections may be open at once, less one.
 const PARTS: u64 = 4_294_967_296;
 
-// How many connections are open at a time.
-const MAX_CONNECTIONS: u64 = 900;
-
 /// Serves as the arguments say, and gives the exit status: 0, or 1 with a line on `err`. First the file is judged, then
 /// its mappings, the book, and the port.
 pub fn serve<R, O, E>(rt: R, arguments: ServeArguments<'_>, out: &mut O, err: &mut E) -> u8
@@ -104,7 +101,7 @@ where
         seat,
         Settings {
             connections: arguments.connections,
-            max_connections: MAX_CONNECTIONS,
+            max_connections: arguments.max_connections,
         },
         out,
         err,
