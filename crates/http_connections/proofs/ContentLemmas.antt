@@ -72,7 +72,7 @@ module _ {E : Type 0} (old : Runs (Result (Frame (List ℕ)) E)) where
             over = subst (λ bytes. BODY_LIMIT < length bytes)
                 (append_assoc held (bytes_in frame.kind) rest
                 ∙ ap (λ bytes. held ++ bytes)
-                    (sym (append_assoc (bytes_in frame.kind) (joined_data more.frames) (bytes_in more.last.kind))))
+                (sym (append_assoc (bytes_in frame.kind) (joined_data more.frames) (bytes_in more.last.kind))))
                 more.over;
           }
 

@@ -97,7 +97,7 @@ module _ {C : Type 0} (IsEmpty : C → Type 0) where
       → Response C → Type 0
   IsAnswerTo gives head gathered made =
       ((body : List ℕ) × IsContentOf gathered body
-          × IsSentFor IsEmpty gives (record { head = head; body = body }) made)
+      × IsSentFor IsEmpty gives (record { head = head; body = body }) made)
       ⊎ Refuses gathered made
 
   -- what is sent for a request before its content has come
@@ -105,5 +105,5 @@ module _ {C : Type 0} (IsEmpty : C → Type 0) where
       → Response C → Type 0
   IsAnsweredAtOnce gives message made =
       ((content : List ℕ) × IsContentAtOnce (request.body_of message) content
-          × IsSentFor IsEmpty gives (record { head = request.head_of message; body = content }) made)
+      × IsSentFor IsEmpty gives (record { head = request.head_of message; body = content }) made)
       ⊎ ((HasOtherCoding (request.head_of message).headers × IsRefusal 501 made) ⊎ IsRefusal 503 made)

@@ -3,6 +3,7 @@ ghost use Rattle.std.specs.Prelude.{◌≡◌, IfSome};
 
 use crate::answers::Answers;
 use crate::connection_task::ConnectionTask;
+use crate::connects::Connects;
 use crate::pause::Pause;
 use crate::seat_pool::{Assignment, SeatPool};
 use crate::seat_slot::SeatSlot;
@@ -20,12 +21,14 @@ use tokio::net::{TcpListener, TcpStream};
 /// The numbers of Linux for errors that have no kind of their own: too many open files in the system and in the
 /// process, a protocol error, no buffer space.
 const ENFILE: i32 = 23;
+
 const EMFILE: i32 = 24;
+
 const EPROTO: i32 = 71;
+
 const ENOBUFS: i32 = 105;
 
-/// Makes a task of each connection, as many as are wanted, with a slot of the pool. `connect` makes the connection over a
-/// socket with its service.
+/// Makes a task of each connection, as many as are wanted, with a slot of the pool.
 #[derive(Drop)]
 pub(crate) struct Accepting<R, A: Answers, M> {
     rt: R,
@@ -34,7 +37,7 @@ pub(crate) struct Accepting<R, A: Answers, M> {
     left: Option<u64>,
     most: u64,
     pause: Pause<R>,
-    connect: M,
+    connects: M,
 }
 
 impl<R, A, M> Accepting<R, A, M>
@@ -48,9 +51,9 @@ where
         pool: Arc<SeatPool<A>>,
         settings: Settings,
         pause: Pause<R>,
-        connect: M,
+        connects: M,
     ) -> Accepting<R, A, M>
-        ensures { result.connect ≡ connect }
+        ensures { result.connects ≡ connects }
     {
         Accepting {
             rt,
@@ -59,7 +62,7 @@ where
             left: settings.connections,
             most: settings.max_connections,
             pause,
-            connect,
+            connects,
         }
     }
 
@@ -81,7 +84,7 @@ where
 
     // What was wrong for a moment, or with one connection, ends nothing.
     fn refused(&mut self, error: &io::Error)
-        ensures { self.new.connect ≡ self.old.connect }
+        ensures { self.new.connects ≡ self.old.connects }
     {
         if is_passing(error) {
             self.pause.begin();
@@ -93,13 +96,12 @@ where
     // The task that serves the connection; `None` where it is closed at once.
     fn task<F>(&mut self, socket: TcpStream) -> Option<ConnectionTask<R, A, F>>
     where
-        M: Fn(TcpStream, MessageService<R, A>) -> F,
+        M: Connects<MessageService<R, A>, Connection = F>,
         F: Future<Output = hyper::Result<()>>,
-        requires callable { M.IsAlwaysCallable self.old.connect }
-        requires connects { (socket : _) (service : _) (made : _) → M.post self.old.connect socket service made
-            → F.can_poll made }
+        requires can_connect { (service : _) → M.can_connect self.old.connects service }
+        requires makes { (made : F) → M.makes self.old.connects made → F.can_poll made }
         ensures can_poll { IfSome result (λ task. F.can_poll task.connection.value) }
-        ensures same { self.new.connect ≡ self.old.connect }
+        ensures same { self.new.connects ≡ self.old.connects }
     {
         self.left = self.left.map(|left| left.saturating_sub(1));
         let pool = Arc::try_clone(&self.pool).ok()?;
@@ -107,7 +109,7 @@ where
         let service = MessageService::new(self.rt, Arc::try_clone(&slot).ok()?);
         // Answers are written whole, so there is nothing to wait for.
         let _ = socket.set_nodelay(true);
-        let connection = (self.connect)(socket, service);
+        let connection = self.connects.connect(socket, service);
         ConnectionTask::new(self.rt, pool, slot, connection)
     }
 }
@@ -116,13 +118,13 @@ impl<R, A, M, F> Stream for Accepting<R, A, M>
 where
     R: Wait + Clock + AllocGlobal + Copy + Drop,
     A: Answers,
-    M: Fn(TcpStream, MessageService<R, A>) -> F + Drop,
+    M: Connects<MessageService<R, A>, Connection = F>,
     F: Future<Output = hyper::Result<()>>,
 {
     type Item = ConnectionTask<R, A, F>;
 
-    ghost can_poll = { λ accepting. M.IsAlwaysCallable accepting.connect
-        × ((socket : _) (service : _) (made : _) → M.post accepting.connect socket service made → F.can_poll made) };
+    ghost can_poll = { λ accepting. ((service : _) → M.can_connect accepting.connects service)
+        × ((made : F) → M.makes accepting.connects made → F.can_poll made) };
 
     ghost yields = { λ _ _ last. IfSome last (λ task. F.can_poll task.connection.value) };
 

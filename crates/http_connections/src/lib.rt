@@ -6,6 +6,7 @@ mod accepting;
 pub mod answers;
 pub mod begun;
 pub mod connection_task;
+mod connects;
 pub mod content_error;
 pub mod forwarding;
 pub mod gathering;

@@ -49,6 +49,8 @@ impl<R: Clock + Drop> Pause<R> {
     }
 
     fn deadline(&self) -> Option<Instant> {
-        Instant::now(&self.clock).ok()?.checked_add(Duration::from_millis(PAUSE))
+        Instant::now(&self.clock)
+            .ok()?
+            .checked_add(Duration::from_millis(PAUSE))
     }
 }

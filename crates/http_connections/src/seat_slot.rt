@@ -104,7 +104,10 @@ impl<A: Answers> SeatSlot<A> {
 }
 
 // What is sent of a response: itself, where it may be.
-fn as_sent<C: Default + Drop>(alloc: Global, response: Response<C>) -> Result<Response<C>, AllocError>
+fn as_sent<C: Default + Drop>(
+    alloc: Global,
+    response: Response<C>,
+) -> Result<Response<C>, AllocError>
     ensures { IfOk result (IsSent C.is_default response) }
 {
     if is_as_sent(&response) {
@@ -118,9 +121,17 @@ fn goes_as_it_is<E, C: Default>(begun: &Result<Begun<E, C>, ServiceError>) -> bo
     ensures { IsTrue result → IfOk begun.now (λ begun. IsSentOf C.is_default begun begun) }
 {
     match begun {
-        Ok(Begun::Answered(response)) => is_as_sent(response),
-        Ok(Begun::Forwarding(_exchange)) => true,
+        Ok(begun) => is_sent_as_it_is(begun),
         Err(_error) => true,
+    }
+}
+
+fn is_sent_as_it_is<E, C: Default>(begun: &Begun<E, C>) -> bool
+    ensures { IsTrue result → IsSentOf C.is_default begun.now begun.now }
+{
+    match begun {
+        Begun::Answered(response) => is_as_sent(response),
+        Begun::Forwarding(_exchange) => true,
     }
 }
 

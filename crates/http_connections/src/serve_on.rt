@@ -109,7 +109,7 @@ where
         Arc::try_clone(pool)?,
         settings,
         pause,
-        move |socket, service| builder.serve_connection(socket, service),
+        builder,
     );
     runtime.run_all(&rt, accepting)
 }

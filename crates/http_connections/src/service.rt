@@ -22,7 +22,6 @@ use crate::seat_slot::SeatSlot;
 use bytes::{Bytes, BytesMut};
 use futures::task::{Context, Poll};
 use futures::{Future, ready};
-use http::request::Parts;
 use http::{Request, Response, StatusCode};
 use http_body::Body;
 use http_messages::error::ServiceError;
@@ -88,11 +87,10 @@ where
 
     // A request without content is answered at once, or forwarded.
     fn call(&self, request: Request<Incoming<I>>) -> Self::Future {
-        let (head, body) = request.into_parts();
-        if body.size_hint().exact() == Some(0) {
-            return self.at_once(head, Bytes::new(), &body);
+        if request.body().size_hint().exact() == Some(0) {
+            return self.at_once(request, Bytes::new());
         }
-        self.gathering(head, body)
+        self.gathering(request)
     }
 }
 
@@ -104,18 +102,17 @@ where
     // The answer to a request of which nothing has to come.
     fn at_once<I: Drop>(
         &self,
-        head: Parts,
+        request: Request<Incoming<I>>,
         content: Bytes,
-        body: &Incoming<I>,
     ) -> Answering<R, A, Gathering<Incoming<I>>>
-        requires { IsContentAtOnce body.now content }
+        requires { IsContentAtOnce (body_of request) content }
         ensures called { elim result [
           | Made made ↦ IfSome made (λ result. IfOk result
-              (IsAnsweredAtOnce A.Content.is_default A.gives (record { head = head; body = body.now })))
-          | Waits waiting ↦ (head_of waiting.value.request ≡ head)
-              × IsNewFor waiting.value.content body.now × ¬ (HasOtherCoding head.headers)
-          | Forwards forwarding ↦ (content : List ℕ) × IsContentAtOnce body.now content
-              × A.forwards (record { head = head; body = content }) forwarding.exchange.value
+              (IsAnsweredAtOnce A.Content.is_default A.gives request))
+          | Waits waiting ↦ (head_of waiting.value.request ≡ head_of request)
+              × IsNewFor waiting.value.content (body_of request) × ¬ (HasOtherCoding (head_of request).headers)
+          | Forwards forwarding ↦ (content : List ℕ) × IsContentAtOnce (body_of request) content
+              × A.forwards (record { head = head_of request; body = content }) forwarding.exchange.value
         ] }
         ensures can_poll { elim result [
           | Made made ↦ IsSome made
@@ -123,8 +120,8 @@ where
           | Forwards forwarding ↦ A.Exchange.can_poll forwarding.exchange.value
         ] }
     {
-        let request = with_content(head, content);
-        match self.slot.begin(&self.rt, self.rt.alloc(), &request) {
+        let message = with_content(request, content);
+        match self.slot.begin(&self.rt, self.rt.alloc(), &message) {
             Ok(Begun::Answered(response)) => Answering::Made(Some(Ok(response))),
             Ok(Begun::Forwarding(exchange)) => match self.forwarding(exchange) {
                 Ok(forwarding) => Answering::Forwarding(forwarding),
@@ -146,16 +143,15 @@ where
     #[inline(never)]
     fn gathering<I: Drop>(
         &self,
-        head: Parts,
-        body: Incoming<I>,
+        request: Request<Incoming<I>>,
     ) -> Answering<R, A, Gathering<Incoming<I>>>
         ensures called { elim result [
           | Made made ↦ IfSome made (λ result. IfOk result
-              (IsAnsweredAtOnce A.Content.is_default A.gives (record { head = head; body = body })))
-          | Waits waiting ↦ (head_of waiting.value.request ≡ head)
-              × IsNewFor waiting.value.content body × ¬ (HasOtherCoding head.headers)
-          | Forwards forwarding ↦ (content : List ℕ) × IsContentAtOnce body content
-              × A.forwards (record { head = head; body = content }) forwarding.exchange.value
+              (IsAnsweredAtOnce A.Content.is_default A.gives request))
+          | Waits waiting ↦ (head_of waiting.value.request ≡ head_of request)
+              × IsNewFor waiting.value.content (body_of request) × ¬ (HasOtherCoding (head_of request).headers)
+          | Forwards forwarding ↦ (content : List ℕ) × IsContentAtOnce (body_of request) content
+              × A.forwards (record { head = head_of request; body = content }) forwarding.exchange.value
         ] }
         ensures can_poll { elim result [
           | Made made ↦ IsSome made
@@ -163,13 +159,13 @@ where
           | Forwards forwarding ↦ A.Exchange.can_poll forwarding.exchange.value
         ] }
     {
-        if has_other_coding(&head.headers) {
+        if has_other_coding(request.headers()) {
             return Answering::Made(Some(Ok(unknown_coding(self.rt.alloc()))));
         }
-        if awaits_leave(&head.headers) && is_too_long(&body) {
-            return self.too_long(head, &body);
+        if awaits_leave(request.headers()) && is_too_long(request.body()) {
+            return self.too_long(request);
         }
-        match self.waiting(head, body) {
+        match self.waiting(request) {
             Ok(waiting) => Answering::Waiting(waiting),
             Err(AllocError) => Answering::Made(Some(Ok(out_of_memory(self.rt.alloc())))),
         }
@@ -178,17 +174,16 @@ where
     // The answer to a request with content that is too long, of which nothing has come.
     fn too_long<I: Drop>(
         &self,
-        head: Parts,
-        body: &Incoming<I>,
+        request: Request<Incoming<I>>,
     ) -> Answering<R, A, Gathering<Incoming<I>>>
-        requires { IsTooLong body.now }
+        requires { IsTooLong (body_of request) }
         ensures called { elim result [
           | Made made ↦ IfSome made (λ result. IfOk result
-              (IsAnsweredAtOnce A.Content.is_default A.gives (record { head = head; body = body.now })))
-          | Waits waiting ↦ (head_of waiting.value.request ≡ head)
-              × IsNewFor waiting.value.content body.now × ¬ (HasOtherCoding head.headers)
-          | Forwards forwarding ↦ (content : List ℕ) × IsContentAtOnce body.now content
-              × A.forwards (record { head = head; body = content }) forwarding.exchange.value
+              (IsAnsweredAtOnce A.Content.is_default A.gives request))
+          | Waits waiting ↦ (head_of waiting.value.request ≡ head_of request)
+              × IsNewFor waiting.value.content (body_of request) × ¬ (HasOtherCoding (head_of request).headers)
+          | Forwards forwarding ↦ (content : List ℕ) × IsContentAtOnce (body_of request) content
+              × A.forwards (record { head = head_of request; body = content }) forwarding.exchange.value
         ] }
         ensures can_poll { elim result [
           | Made made ↦ IsSome made
@@ -197,7 +192,7 @@ where
         ] }
     {
         match overlong(self.rt.alloc()) {
-            Ok(content) => self.at_once(head, content, body),
+            Ok(content) => self.at_once(request, content),
             Err(AllocError) => Answering::Made(Some(Ok(out_of_memory(self.rt.alloc())))),
         }
     }
@@ -205,17 +200,17 @@ where
     // What waits for the content of a request.
     fn waiting<I: Drop>(
         &self,
-        head: Parts,
-        body: Incoming<I>,
+        request: Request<Incoming<I>>,
     ) -> Result<Box<Waiting<R, A, Gathering<Incoming<I>>>>, AllocError>
-        ensures head { IfOk result (λ waiting. head_of waiting.value.request ≡ head) }
-        ensures content { IfOk result (λ waiting. IsNewFor waiting.value.content body) }
+        ensures head { IfOk result (λ waiting. head_of waiting.value.request ≡ head_of request) }
+        ensures content { IfOk result (λ waiting. IsNewFor waiting.value.content (body_of request)) }
     {
         let alloc = self.rt.alloc();
+        let (head, body) = request.into_parts();
         let waiting = Waiting {
             rt: self.rt,
             slot: Arc::try_clone(&self.slot)?,
-            request: with_content(head, Bytes::new()),
+            request: Request::from_parts(head, Bytes::new()),
             content: Gathering::new(alloc, body),
         };
         Ok(Box::new(alloc, waiting)?)
@@ -285,7 +280,7 @@ where
         ensures value { IfReady result (λ result. IfOk result (λ begun. (gathered : Result (List ℕ) GatherError)
             × G.gives self.old.content gathered
             × IsBegunWith A.Content.is_default A.gives A.forwards A.Exchange.can_poll
-                (head_of self.old.request) gathered begun)) }
+            (head_of self.old.request) gathered begun)) }
         ensures again { OnPending result (G.can_poll self.new.content) }
         ensures same { OnPending result (head_of self.new.request ≡ head_of self.old.request) }
         ensures rest { OnPending result ((gathered : Result (List ℕ) GatherError)
@@ -325,9 +320,11 @@ where
     }
 }
 
-fn with_content(head: Parts, content: Bytes) -> Request<Bytes>
-    ensures { result ≡ record { head = head; body = content } }
+// The request, with this content.
+fn with_content<I: Drop>(request: Request<Incoming<I>>, content: Bytes) -> Request<Bytes>
+    ensures { result ≡ record { head = head_of request; body = content } }
 {
+    let (head, _body) = request.into_parts();
     Request::from_parts(head, content)
 }
 
