@@ -19,6 +19,15 @@ AppendsFront old new bytes = Appends old new bytes ⊎ AppendsPart old new bytes
 abbrev pub Writes : {T E : Type 0} → Result T E → Option (List ℕ) → Option (List ℕ) → List ℕ → Type 0
 Writes r old new bytes = MatchResult r (λ _. Appends old new bytes) (λ _. AppendsPart old new bytes)
 
+-- more was written, whatever it is
+abbrev pub Continues : Option (List ℕ) → Option (List ℕ) → Type 0
+Continues old new = (bytes : List ℕ) × Appends old new bytes
+
+-- What a writer is after something was done to it, and more was written then: as lines that explain an error follow its
+-- first line.
+abbrev pub Followed : {W : Type 0} → (W → Option (List ℕ)) → (W → Type 0) → W → Type 0
+Followed {W} holds done new = (middle : W) × done middle × Continues (holds middle) (holds new)
+
 -- The exit status of a command, and that it left standard output or standard error as it was: standard error where it
 -- succeeded, standard output where the arguments were invalid.
 pub record WritesOneStream {O E : Type 0} (out out' : O) (err err' : E) (status : ℕ) : Type 0 where

@@ -1,6 +1,6 @@
 //! Writing to a writer of which nothing is known, with what it holds after an error.
 ghost use Rattle.std.specs.Prelude.{flat_map};
-ghost use Rattle.command_output.specs.Output.{Writes};
+ghost use Rattle.command_output.specs.Output.{Continues, Writes};
 
 use std::io;
 use std::io::{ErrorKind, Write};
@@ -27,6 +27,15 @@ pub fn put<W: Write>(out: &mut W, bytes: &[u8]) -> io::Result<()>
         }
     }
     Ok(())
+}
+
+/// Writes lines that follow what was written before, as far as the writer takes them.
+#[tactic(auto, using(crate::proofs::PartsWritten::continued))]
+pub fn put_notes<W: Write>(out: &mut W, lines: &str)
+    ensures { Continues (W.contents out.old) (W.contents out.new) }
+{
+    // What they explain is reported already.
+    let _ = put(out, lines.as_bytes());
 }
 
 /// Writes the texts, one after the other. Takes no memory.

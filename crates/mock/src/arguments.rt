@@ -4,14 +4,20 @@ ghost use Rattle.clap.specs.Words.{first_of, found_of, rows_of};
 
 use clap::{Arg, ArgAction, ArgMatches, Command, Error, value_parser};
 use std::alloc::{AllocError, Global};
+use std::net::{IpAddr, Ipv4Addr};
 use template_tree::escape::Escape;
 
 const SERVE_HELP: &str =
-    "It serves on 127.0.0.1. Its first line is `listening on 127.0.0.1:PORT`, and it goes on until it is
-stopped. Admin calls, on paths below /__admin, list, add, edit and remove mappings, and show which
-requests were received; a reset brings the mappings of FILE back.
+    "Its first line is `listening on ADDRESS:PORT`, and it goes on until it is stopped. It serves on
+127.0.0.1, for clients of this machine alone, or on the address of --bind-address: 0.0.0.0 is every
+IPv4 address of this machine, as in a container, and :: every address.
+Admin calls, on paths below /__admin, list, add, edit and remove mappings, and show which requests
+were received; a reset brings the mappings of FILE back. A recording, from
+POST /__admin/recordings/start to POST /__admin/recordings/stop, forwards what no mapping matches to
+another server, and makes mappings of its answers.
 With --connections it ends after N connections, and prints how many events its history has, as
 `settled 3 events`, if they are those that the connections have seen.
+What is wrong with a mapping, where, and warnings are written to standard error.
 
 Example, in the folder of this repository:
   mock serve --port 8080 --mappings examples/scenario.json
@@ -20,7 +26,16 @@ and then from another shell:
   curl http://127.0.0.1:8080/todo
   curl -X POST http://127.0.0.1:8080/todo -d milk
   curl http://127.0.0.1:8080/todo
-  curl http://127.0.0.1:8080/__admin/requests";
+  curl http://127.0.0.1:8080/__admin/requests
+
+A recording of a server on port 9000, as examples/upstream.py is one:
+  curl http://127.0.0.1:8080/__admin/recordings/start \\
+    -d '{\"targetBaseUrl\":\"http://127.0.0.1:9000\"}'
+  curl http://127.0.0.1:8080/count
+  curl -X POST http://127.0.0.1:8080/__admin/recordings/stop";
+
+/// How many connections are open at once, where the arguments don't say.
+const MAX_CONNECTIONS: u64 = 900;
 
 /// What is to be served, and where.
 #[derive(Clone, Copy)]
@@ -30,30 +45,56 @@ pub struct ServeArguments<'a> {
     pub mappings: Option<&'a str>,
     /// How the prints of templates are escaped, also of mappings that are posted.
     pub escape: Escape,
+    pub address: IpAddr,
     /// After how many connections it ends.
     pub connections: Option<u64>,
+    /// How many connections are open at once.
+    pub max_connections: u64,
+    /// At how many requests the journal is cleared.
+    pub journal_limit: Option<u64>,
 }
 
-/// The arguments of `mock serve`, the first being `serve`; or the text of `clap` in place of them, for help or for
-/// arguments that aren't valid.
+/// What the arguments of `mock serve` ask for.
+#[derive(Clone, Copy)]
+pub enum ServeCall<'a> {
+    Serve(ServeArguments<'a>),
+    /// The address isn't one.
+    BadAddress(&'a str),
+}
+
+/// What the arguments of `mock serve` ask for, the first being the program's name; or the text of `clap` in place of
+/// them, for help or for arguments that aren't valid.
 pub fn serve_arguments<'a>(
     alloc: Global,
     arguments: &'a [&'a str],
-) -> Result<Option<ServeArguments<'a>>, Error> {
+) -> Result<Option<ServeCall<'a>>, Error> {
     let matches = command(alloc)?.try_get_matches_from(arguments)?;
     match matches.subcommand() {
-        Some((_name, given)) => Ok(arguments_in(given)),
+        Some((_name, given)) => Ok(call_in(given)),
         None => Ok(None),
     }
 }
 
-fn arguments_in<'a>(given: &ArgMatches<'a>) -> Option<ServeArguments<'a>> {
-    Some(ServeArguments {
+fn call_in<'a>(given: &ArgMatches<'a>) -> Option<ServeCall<'a>> {
+    match given.get_str("bind-address") {
+        Some(text) => match text.parse::<IpAddr>() {
+            Ok(address) => arguments_in(given, address),
+            Err(_error) => Some(ServeCall::BadAddress(text)),
+        },
+        None => arguments_in(given, IpAddr::V4(Ipv4Addr::LOCALHOST)),
+    }
+}
+
+fn arguments_in<'a>(given: &ArgMatches<'a>, address: IpAddr) -> Option<ServeCall<'a>> {
+    Some(ServeCall::Serve(ServeArguments {
         port: given.get_one("port")?,
         mappings: given.get_str("mappings"),
         escape: escape_in(given),
+        address,
         connections: given.get_one("connections"),
-    })
+        max_connections: given.get_one("max-connections").unwrap_or(MAX_CONNECTIONS),
+        journal_limit: given.get_one("journal-limit"),
+    }))
 }
 
 fn escape_in(given: &ArgMatches<'_>) -> Escape {
@@ -73,7 +114,9 @@ fn command<'a>(alloc: Global) -> Result<Command<'a>, AllocError> {
             Arg::new(alloc, "mappings")
                 .long("mappings")
                 .value_name("FILE")
-                .help("A JSON file: one mapping, or an object with a list `mappings`"),
+                .help(
+                    "A JSON file: one mapping, or an object with a list `mappings`; or a folder of them",
+                ),
         )?
         .arg(
             Arg::new(alloc, "html-escape")
@@ -81,7 +124,15 @@ fn command<'a>(alloc: Global) -> Result<Command<'a>, AllocError> {
                 .help("Escapes what {{x}} prints in templates for HTML, but not {{{x}}}")
                 .action(ArgAction::SetTrue),
         )?
-        .arg(connections(alloc))?;
+        .arg(
+            Arg::new(alloc, "bind-address")
+                .long("bind-address")
+                .value_name("ADDRESS")
+                .help("The IP address to listen on [default: 127.0.0.1]"),
+        )?
+        .arg(connections(alloc))?
+        .arg(count(alloc, "max-connections"))?
+        .arg(count(alloc, "journal-limit"))?;
     Command::new(alloc, "mock")
         .version("1")
         .subcommand_required(true)
@@ -95,6 +146,15 @@ fn port<'a>(alloc: Global) -> Arg<'a> {
         .help("The port to listen on; 0 for a free one")
         .required(true)
         .value_parser(value_parser!(u16))
+}
+
+// A number that is taken. Help tells of it once it has an effect.
+fn count<'a>(alloc: Global, name: &'a str) -> Arg<'a> {
+    Arg::new(alloc, name)
+        .long(name)
+        .value_name("N")
+        .hide(true)
+        .value_parser(value_parser!(u64))
 }
 
 fn connections<'a>(alloc: Global) -> Arg<'a> {

@@ -1,17 +1,18 @@
 //! The command line of the program: `mock serve` is done here, each other command by `mock_program`.
 ghost use Rattle.std.specs.Prelude.{◌≡◌, ◌⊎◌, ◌≤◌, map, string_bytes};
-ghost use Rattle.command_output.specs.Output.{WritesOneStream};
+ghost use Rattle.command_output.specs.Output.{Followed, WritesOneStream};
 ghost use Rattle.mock_program.specs.CommandLine.{AreInvalid, Asked, AsksFor, CallsForHelp};
 ghost use Rattle.mock_program.specs.Commands.{Does};
 ghost use Rattle.template_tree.specs.declared.escape.Escape.{Escape};
-ghost use Rattle.mock.specs.CommandLine.{AskToServe};
-ghost use Rattle.mock.specs.Inner.Arguments.{ask_to_serve};
+ghost use Rattle.mock.specs.CommandLine.{AskToHelp, AskToServe};
+ghost use Rattle.mock.specs.Inner.Arguments.{ask_to_help, ask_to_serve};
 
-use crate::arguments::serve_arguments;
+use crate::arguments::{ServeCall, serve_arguments};
 use crate::serve::serve;
 use command_output::error::CommandError;
 use command_output::files::FileReader;
-use command_output::status::FAILURE;
+use command_output::output::put_all;
+use command_output::status::{FAILURE, INVALID_ARGUMENTS};
 use error_code::error_code::ErrorCode;
 use mock_program::command_line::write_parser_message;
 use std::alloc::{AllocError, AllocGlobal, Global};
@@ -31,20 +32,22 @@ where
     E: Write,
     // Arguments that ask for a command other than `serve` do what that command does, each argument taken as it is.
     ensures command { (escape : Escape) (asked : Asked) → AsksFor (map string_bytes arguments.now) escape asked
-        → Does O.contents E.contents (R.content rt) escape asked out.old out.new err.old err.new result }
+        → Does O.contents E.contents (R.listed rt) (R.content rt) escape asked out.old out.new err.old err.new result }
 
     // Help is no mistake, and invalid arguments are one. Where the text can't be made or written, the status is 1.
     ensures help { CallsForHelp (map string_bytes arguments.now) → (result ≡ 0) ⊎ (result ≡ 1) }
     ensures invalid { AreInvalid (map string_bytes arguments.now) → ¬ (AskToServe (map string_bytes arguments.now))
-        → (result ≡ 2) ⊎ (result ≡ 1) }
+        → ¬ (AskToHelp (map string_bytes arguments.now)) → (result ≡ 2) ⊎ (result ≡ 1) }
     ensures range { result ≤ 2 }
 
-    // What the other commands write goes to one of both streams.
+    // Apart from lines on standard error that explain or warn, the other commands write to one of both streams.
     ensures streams { ¬ (AskToServe (map string_bytes arguments.now))
-        → WritesOneStream out.old out.new err.old err.new result }
+        → Followed E.contents (λ e. WritesOneStream out.old out.new err.old e result) err.new }
 {
     if ask_to_serve(arguments) {
         run_serve(rt, arguments, out, err)
+    } else if ask_to_help(arguments) {
+        run_help(rt, arguments, out, err)
     } else {
         mock_program::command_line::run(rt.alloc(), &rt, arguments, out, err)
     }
@@ -59,6 +62,60 @@ fn ask_to_serve(arguments: &[String]) -> bool
     }
 }
 
+fn ask_to_help(arguments: &[String]) -> bool
+    ensures { result ≡ ask_to_help (map string_bytes arguments.now) }
+{
+    match arguments {
+        [_program, command] | [_program, command, _] => command.as_str() == "help",
+        _ => false,
+    }
+}
+
+// The help of the program, or of the command that is named: what its flag for help writes.
+#[tactic(auto, using(command_output::proofs::PartsWritten::alone))]
+fn run_help<R, O, E>(rt: R, arguments: &[String], out: &mut O, err: &mut E) -> u8
+where
+    R: Wait + Net + Clock + RandomSource + AllocGlobal + FileReader + Copy + Drop,
+    O: Write,
+    E: Write,
+    ensures range { result ≤ 2 }
+    ensures streams { Followed E.contents (λ e. WritesOneStream out.old out.new err.old e result) err.new }
+{
+    match help_arguments(rt.alloc(), arguments) {
+        Ok(words) => if ask_to_serve(words.as_slice()) {
+            serve_help(rt.alloc(), out, err)
+        } else {
+            mock_program::command_line::run(rt.alloc(), &rt, words.as_slice(), out, err)
+        },
+        Err(_error) => {
+            CommandError::from(ErrorCode::OutOfMemory).report(err);
+            FAILURE
+        }
+    }
+}
+
+#[tactic(auto, using(command_output::proofs::PartsWritten::alone))]
+fn serve_help<O: Write, E: Write>(alloc: Global, out: &mut O, err: &mut E) -> u8
+    ensures range { result ≤ 2 }
+    ensures streams { Followed E.contents (λ e. WritesOneStream out.old out.new err.old e result) err.new }
+{
+    match serve_arguments(alloc, &["mock", "serve", "--help"]) {
+        Ok(_given) => FAILURE,
+        Err(error) => write_parser_message(&error, out, err),
+    }
+}
+
+// `PROGRAM --help`, or `PROGRAM COMMAND --help`.
+fn help_arguments(alloc: Global, arguments: &[String]) -> Result<Vec<String>, AllocError> {
+    let mut words = Vec::new(alloc);
+    words.push(String::from_str(alloc, "mock")?)?;
+    if let [_program, _help, command] = arguments {
+        words.push(command.clone()?)?;
+    }
+    words.push(String::from_str(alloc, "--help")?)?;
+    Ok(words)
+}
+
 fn run_serve<R, O, E>(rt: R, arguments: &[String], out: &mut O, err: &mut E) -> u8
 where
     R: Wait + Net + Clock + RandomSource + AllocGlobal + FileReader + Copy + Drop,
@@ -71,9 +128,25 @@ where
         return FAILURE;
     };
     match serve_arguments(rt.alloc(), words.as_slice()) {
-        Ok(Some(given)) => serve(rt, given, out, err),
+        Ok(Some(ServeCall::Serve(given))) => serve(rt, given, out, err),
+        Ok(Some(ServeCall::BadAddress(text))) => report_address(text, err),
         Ok(None) => FAILURE,
         Err(error) => write_parser_message(&error, out, err),
+    }
+}
+
+// As `clap` says it of other values.
+fn report_address<E: Write>(text: &str, err: &mut E) -> u8
+    ensures { result ≤ 2 }
+{
+    let texts = [
+        "error: invalid value '",
+        text,
+        "' for '--bind-address <ADDRESS>': it is no IP address\n\nFor more information, try '--help'.\n",
+    ];
+    match put_all(err, texts.as_slice()) {
+        Ok(()) => INVALID_ARGUMENTS,
+        Err(_error) => FAILURE,
     }
 }
 

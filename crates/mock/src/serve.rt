@@ -6,8 +6,8 @@ use crate::book::book_of;
 use answering::clock::SystemClock;
 use answering::site::Site;
 use command_output::error::CommandError;
-use command_output::files::FileReader;
-use command_output::output::put;
+use command_output::files::{FileReader, reason_line};
+use command_output::output::{put, put_notes};
 use command_output::status::FAILURE;
 use error_code::error_code::ErrorCode;
 use hyper_service::serve_on::serve_on;
@@ -17,11 +17,11 @@ use proxy_client::forwarder::Forwarder;
 use shared_book::gate::NoGate;
 use shared_book::origin::Origin;
 use shared_book::shared_book::SharedBook;
-use std::alloc::AllocGlobal;
+use std::alloc::{AllocGlobal, Global};
 use std::io;
 use std::io::{ErrorKind, Write};
 use std::marker::Brand;
-use std::net::{Ipv4Addr, Net, SocketAddr};
+use std::net::{IpAddr, Net, SocketAddr};
 use std::random::RandomSource;
 use std::sync::Wait;
 use std::sync::ledger::Blank;
@@ -76,10 +76,10 @@ where
         CommandError::from(ErrorCode::OutOfMemory).report(err);
         return FAILURE;
     };
-    let (mut runtime, listener, forwarder) = match listen(rt, arguments.port) {
+    let (mut runtime, listener, forwarder) = match listen(rt, arguments.address, arguments.port) {
         Ok(listening) => listening,
         Err(error) => {
-            report(&error, err);
+            report(rt.alloc(), &error, err);
             return FAILURE;
         }
     };
@@ -105,12 +105,16 @@ where
 }
 
 // A listener of a runtime, and what forwards requests over it.
-fn listen<R>(rt: R, port: u16) -> io::Result<(LocalRuntime, TcpListener, Forwarder<R>)>
+fn listen<R>(
+    rt: R,
+    address: IpAddr,
+    port: u16,
+) -> io::Result<(LocalRuntime, TcpListener, Forwarder<R>)>
 where
     R: Net + Clock + RandomSource + AllocGlobal + Copy + Drop,
 {
     let runtime = LocalRuntime::new(&rt)?;
-    let address = SocketAddr::from((Ipv4Addr::LOCALHOST, port));
+    let address = SocketAddr::from((address, port));
     let listener = TcpListener::bind(&rt, address, runtime.handle().reactor())?;
     let client = Client::new(rt, TURN_LIMIT, Duration::from_secs(SILENCE_SECONDS))?;
     let handle = runtime.handle().clone()?;
@@ -119,11 +123,12 @@ where
 }
 
 // Why it can't listen.
-fn report<E: Write>(error: &io::Error, err: &mut E) {
+fn report<E: Write>(alloc: Global, error: &io::Error, err: &mut E) {
     if error.kind() == ErrorKind::OutOfMemory {
         CommandError::from(ErrorCode::OutOfMemory).report(err);
     } else {
         // The exit status is 1 in any case.
         let _ = put(err, "error: cannot listen\n".as_bytes());
+        put_notes(err, reason_line(alloc, error).as_str());
     }
 }

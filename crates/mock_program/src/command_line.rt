@@ -6,7 +6,7 @@ ghost use Rattle.mock_program.specs.CommandLine.{AreInvalid, Asked, AsksFor, Cal
 ghost use Rattle.mock_program.specs.Commands.{Does};
 ghost use Rattle.mock_program.specs.Inner.Parser.{IsHelp, asked_of};
 ghost use Rattle.command_output.specs.Lines.{error_line, out_of_memory};
-ghost use Rattle.command_output.specs.Output.{AppendsFront, WritesOneStream};
+ghost use Rattle.command_output.specs.Output.{AppendsFront, Followed, WritesOneStream};
 ghost use Rattle.template_tree.specs.declared.escape.Escape.{Escape};
 
 use crate::arguments::{escape_asked, parser_arguments};
@@ -36,12 +36,14 @@ pub fn run<F: FileReader, O: Write, E: Write>(
 ) -> u8
     // Arguments that ask for a command do what that command does, each argument taken as it is.
     ensures command { (escape : Escape) (asked : Asked) → AsksFor (map string_bytes arguments.now) escape asked
-        → Does O.contents E.contents (F.content files.now) escape asked out.old out.new err.old err.new result }
+        → Does O.contents E.contents (F.listed files.now) (F.content files.now) escape asked
+        out.old out.new err.old err.new result }
 
     // Help is no mistake, and invalid arguments are one. Where the text can't be made or written, the status is 1.
     ensures help { CallsForHelp (map string_bytes arguments.now) → (result ≡ 0) ⊎ (result ≡ 1) }
     ensures invalid { AreInvalid (map string_bytes arguments.now) → (result ≡ 2) ⊎ (result ≡ 1) }
-    ensures streams { WritesOneStream out.old out.new err.old err.new result }
+    // Apart from lines on standard error that explain or warn, a command writes to one of both streams.
+    ensures streams { Followed E.contents (λ e. WritesOneStream out.old out.new err.old e result) err.new }
 {
     let escape = escape_asked(arguments);
     let Ok(arguments) = parser_arguments(alloc, arguments) else {
@@ -63,7 +65,7 @@ fn run_call<F: FileReader, O: Write, E: Write>(
     out: &mut O,
     err: &mut E,
 ) -> u8
-    ensures { Does O.contents E.contents (F.content files.now) escape (asked_of call.entry)
+    ensures { Does O.contents E.contents (F.listed files.now) (F.content files.now) escape (asked_of call.entry)
         out.old out.new err.old err.new result }
 {
     match call {

@@ -23,18 +23,29 @@ Options:
   -h, --help     Print help
   -V, --version  Print version
 
-`mock COMMAND --help` explains a command.
+`mock COMMAND --help`, or `mock help COMMAND`, explains a command.
 
 Example, in the folder of this repository:
   mock serve --port 8080 --mappings examples/scenario.json
 ";
 
-const RENDER_HELP: &str =
-    "It prints the steps of the run and the bytes of the text, each with its budget, and then the text.
+const RENDER_HELP: &str = "Renders a response template for one request
+
+Usage: mock render [OPTIONS] <TEMPLATE> <METHOD> <URL>
+
+Arguments:
+  <TEMPLATE>  The text of the template
+  <METHOD>    The method of the request, as GET
+  <URL>       The target of the request, as /hi/Ann?q=1 or http://host/hi/Ann
+
+Options, before TEMPLATE:
+      --html-escape  Escapes what {{x}} prints for HTML, but not what {{{x}}} prints
+  -h, --help         Print help
+
+It prints the steps of the run and the bytes of the text, each with its budget, and then the text.
 A budget is a list of coefficients, the constant first: [6,1] is 6 + n, where n is the size of the
 request's data. The request has no headers and no body.
 
-With --html-escape before TEMPLATE, what {{x}} prints is escaped for HTML; what {{{x}}} prints isn't.
 Where TEMPLATE is `-h`, `--help`, `--html-escape` or `--`, a `--` has to precede it.
 
 Example:
@@ -43,16 +54,29 @@ Example:
 prints
   steps 5 of [5]
   bytes 9 of [6,1]
-  Hello Ann";
+  Hello Ann
+";
 
-const CHECK_HELP: &str = "It prints a line for each mapping, numbered from 1:
+const CHECK_HELP: &str =
+    "Says which mappings of a file are accepted, and what their templates may cost
+
+Usage: mock check [OPTIONS] <FILE>
+
+Arguments:
+  <FILE>  A JSON file: one mapping, or an object with a list `mappings`; or a folder of such files
+
+Options, before FILE:
+      --html-escape  Escapes what {{x}} prints in templates for HTML, but not what {{{x}}} prints
+  -h, --help         Print help
+
+It prints a line for each mapping, numbered from 1:
   1 plain                   it is accepted, and has no templates
   2 steps [5] bytes [11,1]  it is accepted; the budgets of its templates, added up
   3 error 11                it is refused, with the code of its first error
+and to standard error where and why a mapping is refused, and warnings, as of fields that are ignored.
 The status is 1 where a mapping is refused. A budget is a list of coefficients, the constant first:
 [11,1] is 11 + n, where n is the size of a request's data.
 
-With --html-escape before FILE, what {{x}} prints in templates is escaped for HTML.
 Where FILE is `-h`, `--help`, `--html-escape` or `--`, a `--` has to precede it.
 
 Example, in the folder of this repository:
@@ -60,13 +84,26 @@ Example, in the folder of this repository:
 
 prints
   1 plain
-  2 steps [5] bytes [11,1]";
+  2 steps [5] bytes [11,1]
+";
 
-const ANSWER_HELP: &str =
-    "It prints the reply of a server that has just started: the status, the headers, an empty line and
-the body. The request has no headers and no body.
+const ANSWER_HELP: &str = "Prints what a server with the mappings of a file replies to one request
 
-With --html-escape before MAPPINGS, what {{x}} prints in templates is escaped for HTML.
+Usage: mock answer [OPTIONS] <MAPPINGS> <METHOD> <URL>
+
+Arguments:
+  <MAPPINGS>  A JSON file: one mapping, or an object with a list `mappings`; or a folder of such files
+  <METHOD>    The method of the request, as GET
+  <URL>       The target of the request, as /hi/Ann?q=1 or http://host/hi/Ann
+
+Options, before MAPPINGS:
+      --html-escape  Escapes what {{x}} prints in templates for HTML, but not what {{{x}}} prints
+  -h, --help         Print help
+
+It prints the reply of a server that has just started: the status, the headers, an empty line and
+the body. The request has no headers and no body. Where and why a mapping is refused, and warnings,
+are written to standard error.
+
 Where MAPPINGS is `-h`, `--help`, `--html-escape` or `--`, a `--` has to precede it.
 
 Example, in the folder of this repository:
@@ -76,7 +113,8 @@ prints
   status 200
   Content-Type: text/plain
 
-  Hello";
+  Hello
+";
 
 /// A command that is asked for, with its arguments as they are on the command line.
 #[derive(Clone, Copy)]
@@ -165,7 +203,7 @@ fn command<'a>(alloc: Global) -> Result<Command<'a>, AllocError>
 {
     let render = Command::new(alloc, "render")
         .about("Renders a response template for one request")
-        .after_help(RENDER_HELP)
+        .override_help(RENDER_HELP)
         .arg(required(alloc, "template", "TEMPLATE", "The text of the template"))?
         .arg(required(
             alloc,
@@ -181,7 +219,7 @@ fn command<'a>(alloc: Global) -> Result<Command<'a>, AllocError>
         ))?;
     let check = Command::new(alloc, "check")
         .about("Says which mappings of a file are accepted, and what their templates may cost")
-        .after_help(CHECK_HELP)
+        .override_help(CHECK_HELP)
         .arg(required(
             alloc,
             "file",
@@ -190,7 +228,7 @@ fn command<'a>(alloc: Global) -> Result<Command<'a>, AllocError>
         ))?;
     let answer = Command::new(alloc, "answer")
         .about("Prints what a server with the mappings of a file replies to one request")
-        .after_help(ANSWER_HELP)
+        .override_help(ANSWER_HELP)
         .arg(required(
             alloc,
             "mappings",

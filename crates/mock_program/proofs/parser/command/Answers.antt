@@ -10,22 +10,22 @@ returns c =
     let method_is : rule_of c.required-2.result ≡ required_rule (codes "method") = search rules in
     let url_is : rule_of c.required-3.result ≡ required_rule (codes "url") = search rules in
     let file_is : rule_of c.required-4.result ≡ required_rule (codes "file") = search rules in
-    let no_render : app_of c.after_help.result ≡ new_app (codes "render") =
-    rw (c.after_help.ensures, c.about.ensures) c.new.ensures.app in
+    let no_render : app_of c.override_help.result ≡ new_app (codes "render") =
+    rw (c.override_help.ensures, c.about.ensures) c.new.ensures.app in
     let render_is : app_of c.in_ok-render.render ≡ render_app =
     c.in_ok-render.ensures.shape c.required-3.ensures.local
     ∙ ap₂ with_rule (c.in_ok-arg-2.ensures.shape c.required-2.ensures.local
     ∙ ap₂ with_rule
     (c.in_ok-arg.ensures.shape c.required.ensures.local ∙ ap₂ with_rule no_render template_is) method_is) url_is in
-    let no_check : app_of c.after_help-2.result ≡ new_app (codes "check") =
-    rw (c.after_help-2.ensures, c.about-2.ensures) c.new-2.ensures.app in
+    let no_check : app_of c.override_help-2.result ≡ new_app (codes "check") =
+    rw (c.override_help-2.ensures, c.about-2.ensures) c.new-2.ensures.app in
     let check_is : app_of c.in_ok-check.check ≡ check_app =
     c.in_ok-check.ensures.shape c.required-4.ensures.local ∙ ap₂ with_rule no_check file_is in
     let mappings_is : rule_of c.required-5.result ≡ required_rule (codes "mappings") = search rules in
     let method_too : rule_of c.required-6.result ≡ required_rule (codes "method") = search rules in
     let url_too : rule_of c.required-7.result ≡ required_rule (codes "url") = search rules in
-    let no_answer : app_of c.after_help-3.result ≡ new_app (codes "answer") =
-    rw (c.after_help-3.ensures, c.about-3.ensures) c.new-3.ensures.app in
+    let no_answer : app_of c.override_help-3.result ≡ new_app (codes "answer") =
+    rw (c.override_help-3.ensures, c.about-3.ensures) c.new-3.ensures.app in
     let answer_is : app_of c.in_ok-answer.answer ≡ answer_app =
     c.in_ok-answer.ensures.shape c.required-7.ensures.local
     ∙ ap₂ with_rule (c.in_ok-arg-4.ensures.shape c.required-6.ensures.local
@@ -34,20 +34,20 @@ returns c =
     method_too) url_too in
     let program_is : app_of c.disable_help_subcommand.result ≡ program_app =
     rw (c.disable_help_subcommand.ensures, c.subcommand_required.ensures, c.arg_required_else_help.ensures)
-    (rw (c.override_help.ensures, c.version.ensures) (search rules)) in
+    (rw (c.override_help-4.ensures, c.version.ensures) (search rules)) in
     let with_render = c.in_ok-subcommand.ensures.shape
     (rw (c.in_ok-render.ensures.globals, c.in_ok-arg-2.ensures.globals, c.in_ok-arg.ensures.globals)
-    (rw (c.after_help.ensures, c.about.ensures, c.new.ensures.local)
+    (rw (c.override_help.ensures, c.about.ensures, c.new.ensures.local)
     (rw (c.required.ensures.local, c.required-2.ensures.local, c.required-3.ensures.local) refl)))
     ∙ ap₂ with_subcommand program_is (ap (λ (a : App). a.top) render_is) in
     let with_check = c.in_ok-subcommand-2.ensures.shape
     (rw c.in_ok-check.ensures.globals
-    (rw (c.after_help-2.ensures, c.about-2.ensures, c.new-2.ensures.local) (rw c.required-4.ensures.local refl)))
+    (rw (c.override_help-2.ensures, c.about-2.ensures, c.new-2.ensures.local) (rw c.required-4.ensures.local refl)))
     ∙ ap₂ with_subcommand with_render (ap (λ (a : App). a.top) check_is) in
     IfOk-weaker c.subcommand-3.result _ _
     (λ made added. added.shape
     (rw (c.in_ok-answer.ensures.globals, c.in_ok-arg-4.ensures.globals, c.in_ok-arg-3.ensures.globals)
-    (rw (c.after_help-3.ensures, c.about-3.ensures, c.new-3.ensures.local)
+    (rw (c.override_help-3.ensures, c.about-3.ensures, c.new-3.ensures.local)
     (rw (c.required-5.ensures.local, c.required-6.ensures.local, c.required-7.ensures.local) refl)))
     ∙ ap₂ with_subcommand with_check (ap (λ (a : App). a.top) answer_is))
     c.subcommand-3.ensures

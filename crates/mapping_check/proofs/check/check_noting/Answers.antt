@@ -1,6 +1,6 @@
 use Rattle.std.proofs.Common.{inr, refl, string_bytes, subst}
 use Rattle.command_output.specs.Output.{AppendsPart}
-use Rattle.mapping_check.proofs.check.check_to.Goals as goal
+use Rattle.mapping_check.proofs.check.check_noting.Goals as goal
 
 pub returns-in-Ok : goal.returns-in-Ok
 returns-in-Ok g c =

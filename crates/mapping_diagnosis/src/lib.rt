@@ -1,0 +1,17 @@
+//! Where a mapping document is wrong, and why, in words for whoever wrote it: which value (a JSON pointer, RFC 6901),
+//! what was wanted there, and what was found; and warnings of fields that are ignored or can't have the effect that was
+//! meant. That a document is refused, and by which code, is `mapping_json`'s: here the first value is looked for, in
+//! the order of the JSON tree, that explains the code. No contract says what is found; tables of cases do.
+#![tactic(auto)]
+
+mod fault;
+mod leaf;
+mod mapping;
+mod matcher;
+pub mod notes;
+mod numbers;
+mod request;
+mod response;
+mod shown;
+mod sought;
+mod warnings;
