@@ -1,6 +1,9 @@
 //! The files that a command reads.
-ghost use Rattle.std.specs.Prelude.{◌≡◌, IfOk, IfErr};
-ghost use Rattle.command_output.specs.Files.{IsFile, IsFileError};
+ghost use Rattle.std.specs.Prelude.{◌≡◌, ◌⊎◌, ◌∷◌, ◌++◌, [], Contains, IfOk, IfErr, IfSome, List, OnOk};
+ghost use Rattle.std.specs.Prelude.{ℕ, map, string_bytes};
+ghost use Rattle.std.specs.List.{AllZip};
+ghost use Rattle.command_output.specs.Files.{AreDocuments, IsDocumentsError, IsFile, IsFileError};
+ghost use Rattle.command_output.specs.declared.files.FileError.TheVariants.{OutOfMemory as NoMemory};
 
 use crate::error::CommandError;
 use crate::output::{put_all, put_notes};
@@ -16,11 +19,15 @@ pub const FILE_LIMIT: u64 = 16_777_216;
 
 /// Where the files of a command are: the file system, or what a case program has in its place.
 pub trait FileReader {
-    ghost use Rattle.std.specs.Prelude.{◌≡◌, List, ℕ, Option, None, IfOk, IfErr, IfSome, take};
+    ghost use Rattle.std.specs.Prelude.{◌≡◌, List, ℕ, Option, None, IfOk, IfErr, IfSome, map, take};
+    ghost use Rattle.std.specs.Prelude.{string_bytes};
     ghost use Rattle.std.specs.IoError.{error_kind};
 
     // The bytes of the file at a path, where they are known.
     ghost content: { Self → List ℕ → Option (List ℕ) } = { λ _ _. None };
+
+    // The files that a path names, where they are known.
+    ghost listed: { Self → List ℕ → Option (List (List ℕ)) } = { λ _ _. None };
 
     /// The first bytes of the file at the path, at most so many.
     fn read_at_most(&self, alloc: Global, path: &str, limit: u64) -> io::Result<Vec<u8>>
@@ -30,7 +37,11 @@ pub trait FileReader {
             (λ _. error_kind error ≡ ErrorKind.OutOfMemory)) };
 
     /// The files that a path names: itself; or, of a folder, those in it whose names end in `.json`, in byte order.
-    fn files_at(&self, alloc: Global, path: &str) -> io::Result<Vec<String>>;
+    fn files_at(&self, alloc: Global, path: &str) -> io::Result<Vec<String>>
+        ensures all { IfOk result
+            (λ files. IfSome (listed self.now path.now) (λ all. map string_bytes files.items ≡ all)) }
+        ensures error { IfErr result (λ error. IfSome (listed self.now path.now)
+            (λ _. error_kind error ≡ ErrorKind.OutOfMemory)) };
 }
 
 impl FileReader for HostRuntime {
@@ -80,7 +91,7 @@ pub enum FileError {
 
 impl FileError {
     ghost use Rattle.command_output.specs.Files.{file_error_line};
-    ghost use Rattle.command_output.specs.Output.{AppendsFront, Continues, Writes};
+    ghost use Rattle.command_output.specs.Output.{AppendsFront, Writes};
 
     /// Writes its line, as far as the writer takes it. Takes no memory.
     pub fn report<W: Write>(self, path: &str, err: &mut W)
@@ -88,20 +99,6 @@ impl FileError {
     {
         // The caller's exit status is 1 in any case.
         let _ = self.write_to(path, err);
-    }
-
-    /// Writes the system's reason on a line of its own, as far as there is memory and the writer takes it.
-    pub fn explain<W: Write>(self, alloc: Global, err: &mut W)
-        ensures { Continues (W.contents err.old) (W.contents err.new) }
-    {
-        put_notes(err, self.reason(alloc).as_str());
-    }
-
-    fn reason(self, alloc: Global) -> String {
-        match self {
-            FileError::CannotRead(reason) => reason_line(alloc, &reason),
-            FileError::OutOfMemory => String::new(alloc),
-        }
     }
 
     fn write_to<W: Write>(self, path: &str, out: &mut W) -> io::Result<()>
@@ -114,21 +111,6 @@ impl FileError {
             ),
             FileError::OutOfMemory => CommandError::from(ErrorCode::OutOfMemory).write_to(out),
         }
-    }
-}
-
-/// The files that a path names: itself; or, of a folder, those in it whose names end in `.json`, in byte order.
-pub fn list_files<F: FileReader>(
-    alloc: Global,
-    files: &F,
-    path: &str,
-) -> Result<Vec<String>, FileError> {
-    match files.files_at(alloc, path) {
-        Ok(paths) => Ok(paths),
-        Err(error) => Err(match error.kind() {
-            ErrorKind::OutOfMemory => FileError::OutOfMemory,
-            _ => FileError::CannotRead(error),
-        }),
     }
 }
 
@@ -157,5 +139,145 @@ pub fn read_file<F: FileReader>(alloc: Global, files: &F, path: &str) -> Result<
             ErrorKind::OutOfMemory => FileError::OutOfMemory,
             _ => FileError::CannotRead(error),
         }),
+    }
+}
+
+/// The documents that a path names: that of a file, or those of the files of a folder.
+#[derive(Debug, Drop)]
+pub struct Documents {
+    pub paths: Vec<String>,
+    /// The bytes of each.
+    pub texts: Vec<Vec<u8>>,
+}
+
+/// Why documents aren't read, and at which file of a folder.
+#[derive(Debug, Drop)]
+pub struct Unread {
+    pub error: FileError,
+    pub file: Option<String>,
+}
+
+impl Unread {
+    ghost use Rattle.command_output.specs.Files.{file_error_line};
+    ghost use Rattle.command_output.specs.Output.{AppendsFront, Followed};
+
+    /// Writes the line of the error, and on a line of its own the system's reason, as far as there is memory and the
+    /// writer takes it.
+    pub fn report<W: Write>(&self, alloc: Global, path: &str, err: &mut W)
+        ensures { Followed W.contents
+            (λ e. AppendsFront (W.contents err.old) (W.contents e) (file_error_line path.now self.now.error)) err.new }
+    {
+        self.error.report(path, err);
+        put_notes(err, self.reason(alloc).as_str());
+    }
+
+    fn reason(&self, alloc: Global) -> String {
+        match (&self.error, &self.file) {
+            (FileError::CannotRead(reason), None) => reason_line(alloc, reason),
+            (FileError::CannotRead(reason), Some(file)) => line_of(alloc, file.as_str(), reason),
+            (FileError::OutOfMemory, _) => String::new(alloc),
+        }
+    }
+}
+
+fn line_of(alloc: Global, file: &str, reason: &io::Error) -> String {
+    match format!(in alloc; "  {file}: {reason}\n") {
+        Ok(line) => line,
+        Err(_out_of_memory) => String::new(alloc),
+    }
+}
+
+/// The documents that a path names, whole.
+pub fn read_documents<F: FileReader>(
+    alloc: Global,
+    files: &F,
+    path: &str,
+) -> Result<Documents, Unread>
+    ensures ok { IfOk result (λ found. AreDocuments (F.listed files.now path.now) (F.content files.now)
+        (map (λ text. text.items) found.texts.items)) }
+    ensures err { IfErr result
+        (λ unread. IsDocumentsError (F.listed files.now path.now) (F.content files.now) unread.error) }
+{
+    match list_files(alloc, files, path) {
+        Ok(paths) => read_listed(alloc, files, path, paths),
+        Err(error) => Err(Unread { error, file: None }),
+    }
+}
+
+fn list_files<F: FileReader>(alloc: Global, files: &F, path: &str) -> Result<Vec<String>, FileError>
+    ensures ok { IfOk result
+        (λ paths. IfSome (F.listed files.now path.now) (λ all. map string_bytes paths.items ≡ all)) }
+    ensures err { IfErr result (IsDocumentsError (F.listed files.now path.now) (F.content files.now)) }
+{
+    match files.files_at(alloc, path) {
+        Ok(paths) => Ok(paths),
+        Err(error) => Err(match error.kind() {
+            ErrorKind::OutOfMemory => FileError::OutOfMemory,
+            _ => FileError::CannotRead(error),
+        }),
+    }
+}
+
+fn read_listed<F: FileReader>(
+    alloc: Global,
+    files: &F,
+    path: &str,
+    paths: Vec<String>,
+) -> Result<Documents, Unread>
+    requires { IfSome (F.listed files.now path.now) (λ all. map string_bytes paths.items ≡ all) }
+    ensures ok { IfOk result (λ found. AreDocuments (F.listed files.now path.now) (F.content files.now)
+        (map (λ text. text.items) found.texts.items)) }
+    ensures err { IfErr result
+        (λ unread. IsDocumentsError (F.listed files.now path.now) (F.content files.now) unread.error) }
+{
+    match read_each(alloc, files, paths.as_slice()) {
+        Ok(texts) => Ok(Documents { paths, texts }),
+        Err((error, file)) => Err(Unread {
+            error,
+            file: if file.as_str() == path {
+                None
+            } else {
+                Some(file)
+            },
+        }),
+    }
+}
+
+/// The bytes of each file, or the error of the first that can't be read, with its path.
+fn read_each<F: FileReader>(
+    alloc: Global,
+    files: &F,
+    paths: &[String],
+) -> Result<Vec<Vec<u8>>, (FileError, String)>
+    ensures ok { IfOk result (λ texts. AllZip (λ path bytes. IsFile (F.content files.now path) bytes)
+        (map string_bytes paths.now) (map (λ text. text.items) texts.items)) }
+    ensures err { IfErr result (λ failed. (failed.0 ≡ NoMemory)
+        ⊎ ((path : List ℕ) × Contains (map string_bytes paths.now) path
+        × IsFileError (F.content files.now path) failed.0)) }
+{
+    let mut texts = Vec::new(alloc);
+    for path in paths {
+        match read_file(alloc, files, path.as_str()) {
+            Ok(text) => push(alloc, &mut texts, text)?,
+            Err(error) => return Err((error, path_or_none(alloc, path.as_str()))),
+        }
+    }
+    Ok(texts)
+}
+
+fn push(alloc: Global, texts: &mut Vec<Vec<u8>>, text: Vec<u8>) -> Result<(), (FileError, String)>
+    ensures ok { OnOk result (texts.new.items ≡ texts.old.items ++ text ∷ []) }
+    ensures err { IfErr result (λ failed. failed.0 ≡ NoMemory) }
+{
+    match texts.push(text) {
+        Ok(()) => Ok(()),
+        Err(_out_of_memory) => Err((FileError::OutOfMemory, String::new(alloc))),
+    }
+}
+
+fn path_or_none(alloc: Global, path: &str) -> String {
+    match String::from_str(alloc, path) {
+        Ok(path) => path,
+        Err(_out_of_memory) => String::new(alloc),
     }
 }

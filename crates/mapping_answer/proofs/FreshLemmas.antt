@@ -10,8 +10,9 @@ use Rattle.stub_book.specs.Refusals.{IsFull}
 use Rattle.template_tree.specs.declared.escape.Escape.{Escape}
 use Rattle.mapping_answer.specs.Inner.Fresh.{IsFresh, IsOwn}
 
-pub has_room : (escape : Escape) (bytes : List ℕ) (past : Past) → IsFresh escape bytes past → ¬ (IsFull past)
-has_room escape bytes past (mappings, spelled, is, few) full =
+pub has_room : (escape : Escape) (documents : List (List ℕ)) (past : Past) → IsFresh escape documents past
+    → ¬ (IsFull past)
+has_room escape documents past (mappings, spelled, is, few) full =
     let none : ¬ (IsFull (opened 0 mappings)) = λ f. absurd (omega (arith, f)) in
     none (subst IsFull is full)
 
@@ -21,8 +22,8 @@ own_answer mappings request (Stub captured) chosen = tt
 own_answer mappings request (Proxy target) chosen = chosen.1
 own_answer mappings request Unmatched chosen = tt
 
-pub is_own : (escape : Escape) (bytes : List ℕ) (past : Past) (request : Request) (answer : ServeAnswer)
-    → IsFresh escape bytes past
+pub is_own : (escape : Escape) (documents : List (List ℕ)) (past : Past) (request : Request) (answer : ServeAnswer)
+    → IsFresh escape documents past
     → IsChoice past request answer → IsOwn answer
-is_own escape bytes past request answer (mappings, spelled, is, few) chosen =
+is_own escape documents past request answer (mappings, spelled, is, few) chosen =
     own_answer mappings request answer (subst (λ p. IsChoice p request answer) is chosen)

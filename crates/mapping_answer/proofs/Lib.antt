@@ -1,1 +1,2 @@
-mod FreshLemmas
+pub mod DocumentLemmas
+pub mod FreshLemmas

@@ -1,9 +1,9 @@
--- What `mock answer` prints for a document, a method and a target: the reply of a book that was just opened with the
--- document's mappings. And which errors it reports, and how it ends.
-use Rattle.std.specs.Prelude.{◌≡◌, ◌⊎◌, ◌<◌, ◌≤◌, ℕ, List, [], ◌++◌, length, codes, decimal}
+-- What `mock answer` prints for documents, a method and a target: the reply of a book that was just opened with the
+-- documents' mappings. And which errors it reports, and how it ends.
+use Rattle.std.specs.Prelude.{◌≡◌, ◌⊎◌, ◌<◌, ◌≤◌, ℕ, List, [], ◌∷◌, ◌++◌, length, codes, decimal}
 use Rattle.std.specs.Prelude.{flat_map, Option, None}
 use Rattle.std.specs.Io.KnownBytes.{Appends}
-use Rattle.command_output.specs.Files.{IsFile, IsFileError, file_error_line}
+use Rattle.command_output.specs.Files.{AreDocuments, IsDocumentsError, file_error_line}
 use Rattle.command_output.specs.Lines.{error_line, out_of_memory}
 use Rattle.command_output.specs.Output.{AppendsPart, AppendsFront}
 use Rattle.command_output.specs.declared.error.CommandError.{CommandError}
@@ -61,11 +61,18 @@ IsRequest method target request =
     (url : List ℕ) × IsTarget target url
     × (request ≡ record { method = method; url = url; headers = []; body = [] })
 
--- the reply to that request of a book that was just opened with the document's mappings, whose templates' prints are
+-- each value in the documents spells its mapping: those of one document after those of the one before
+abbrev pub SpellDocuments : Escape → List (List ℕ) → List MappingSpec → Type 0
+SpellDocuments escape [] mappings = mappings ≡ []
+SpellDocuments escape (bytes ∷ documents) mappings =
+    (own : List MappingSpec) × (rest : List MappingSpec) × SpellMappings escape bytes own
+    × SpellDocuments escape documents rest × (mappings ≡ own ++ rest)
+
+-- the reply to that request of a book that was just opened with the documents' mappings, whose templates' prints are
 -- escaped so
-pub record IsReply (escape : Escape) (bytes method target : List ℕ) (reply : Reply) : Type 0 where
+pub record IsReply (escape : Escape) (documents : List (List ℕ)) (method target : List ℕ) (reply : Reply) : Type 0 where
   pub mappings : List MappingSpec
-  pub document : SpellMappings escape bytes mappings
+  pub spelled : SpellDocuments escape documents mappings
   -- a book can be opened with them
   pub few : length (live (opened 0 mappings)) ≤ LIVE_LIMIT
   pub request : Request
@@ -75,78 +82,86 @@ pub record IsReply (escape : Escape) (bytes method target : List ℕ) (reply : R
   pub replied : IsReplyBy answer request reply
 
 -- such a reply as it is printed
-abbrev pub IsReplyText : Escape → List ℕ → List ℕ → List ℕ → List ℕ → Type 0
-IsReplyText escape bytes method target text =
-    (reply : Reply) × IsReply escape bytes method target reply × (text ≡ reply_text reply)
+abbrev pub IsReplyText : Escape → List (List ℕ) → List ℕ → List ℕ → List ℕ → Type 0
+IsReplyText escape documents method target text =
+    (reply : Reply) × IsReply escape documents method target reply × (text ≡ reply_text reply)
 
 -- ---- errors
 
--- the document is no list of mappings, or one of them is none: this is the first error
-abbrev pub RefusesDocument : Escape → List ℕ → CommandError → Type 0
-RefusesDocument escape bytes error =
-    (e : MappingsError) × IsMappingsError escape bytes e
-    × (error ≡ record { code = error_code_of e.error; at = None })
+-- a document is no list of mappings, or one of them is none: this is the first error
+pub record RefusesDocument (escape : Escape) (documents : List (List ℕ)) (error : CommandError) : Type 0 where
+  pub before : List (List ℕ)
+  pub bytes : List ℕ
+  pub after : List (List ℕ)
+  pub mappings : List MappingSpec
+  pub e : MappingsError
+  pub whole : documents ≡ before ++ bytes ∷ after
+  pub read : SpellDocuments escape before mappings
+  pub refused : IsMappingsError escape bytes e
+  pub is : error ≡ record { code = error_code_of e.error; at = None }
 
 -- its mappings are more than may be live
-abbrev pub RefusesBook : Escape → List ℕ → CommandError → Type 0
-RefusesBook escape bytes error =
-    ((mappings : List MappingSpec) × SpellMappings escape bytes mappings
+abbrev pub RefusesBook : Escape → List (List ℕ) → CommandError → Type 0
+RefusesBook escape documents error =
+    ((mappings : List MappingSpec) × SpellDocuments escape documents mappings
     × (LIVE_LIMIT < length (live (opened 0 mappings))))
     × (error ≡ record { code = ErrorCode.TooManyMappings; at = None })
 
--- a book can be opened with the document's mappings
-abbrev pub HasBook : Escape → List ℕ → Type 0
-HasBook escape bytes =
-    (mappings : List MappingSpec) × SpellMappings escape bytes mappings
+-- a book can be opened with the documents' mappings
+abbrev pub HasBook : Escape → List (List ℕ) → Type 0
+HasBook escape documents =
+    (mappings : List MappingSpec) × SpellDocuments escape documents mappings
     × (length (live (opened 0 mappings)) ≤ LIVE_LIMIT)
 
 -- the target asks for no URL
 abbrev pub RefusesUrl : List ℕ → CommandError → Type 0
 RefusesUrl target error = (¬ (HasUrl target)) × (error ≡ record { code = ErrorCode.BadUrl; at = None })
 
--- the first error, where the document is judged first, then the book, then the target; memory may run out at any moment
-abbrev pub IsRefusal : Escape → List ℕ → List ℕ → CommandError → Type 0
-IsRefusal escape bytes target error =
-    RefusesDocument escape bytes error
-    ⊎ RefusesBook escape bytes error
-    ⊎ (HasBook escape bytes × RefusesUrl target error)
+-- the first error, where the documents are judged first, then the book, then the target; memory may run out at any
+-- moment
+abbrev pub IsRefusal : Escape → List (List ℕ) → List ℕ → CommandError → Type 0
+IsRefusal escape documents target error =
+    RefusesDocument escape documents error
+    ⊎ RefusesBook escape documents error
+    ⊎ (HasBook escape documents × RefusesUrl target error)
     ⊎ (error ≡ out_of_memory)
 
 -- ---- the whole
 
 -- the whole reply was written
-abbrev pub ShowsReply : Escape → List ℕ → List ℕ → List ℕ → Option (List ℕ)
+abbrev pub ShowsReply : Escape → List (List ℕ) → List ℕ → List ℕ → Option (List ℕ)
     → Option (List ℕ) → Type 0
-ShowsReply escape bytes method target old new =
-    (text : List ℕ) × IsReplyText escape bytes method target text × Appends old new text
+ShowsReply escape documents method target old new =
+    (text : List ℕ) × IsReplyText escape documents method target text × Appends old new text
 
 -- the reply was begun, and the writer refused the rest
-abbrev pub BreaksReplyOff : Escape → List ℕ → List ℕ → List ℕ → Option (List ℕ)
+abbrev pub BreaksReplyOff : Escape → List (List ℕ) → List ℕ → List ℕ → Option (List ℕ)
     → Option (List ℕ) → Type 0
-BreaksReplyOff escape bytes method target old new =
-    (text : List ℕ) × IsReplyText escape bytes method target text × AppendsPart old new text
+BreaksReplyOff escape documents method target old new =
+    (text : List ℕ) × IsReplyText escape documents method target text × AppendsPart old new text
 
 -- an error was reported, as far as the writer took its line
-abbrev pub ReportsRefusal : Escape → List ℕ → List ℕ → Option (List ℕ) → Option (List ℕ) → Type 0
-ReportsRefusal escape bytes target old new =
-    (error : CommandError) × IsRefusal escape bytes target error × AppendsFront old new (error_line error)
+abbrev pub ReportsRefusal : Escape → List (List ℕ) → List ℕ → Option (List ℕ) → Option (List ℕ) → Type 0
+ReportsRefusal escape documents target old new =
+    (error : CommandError) × IsRefusal escape documents target error × AppendsFront old new (error_line error)
 
 -- How an answer ends, by what standard output and standard error hold before and after it, and the exit status: the
 -- reply is on standard output (0), an error is on standard error (1), or standard output took a part of the reply (1).
 -- Each time the other of both is as it was.
 abbrev pub Answers : {O E : Type 0} → (O → Option (List ℕ)) → (E → Option (List ℕ)) → Escape
-    → List ℕ → List ℕ → List ℕ → O → O → E → E → ℕ → Type 0
-Answers out_holds err_holds escape bytes method target out out' err err' status =
-    ((status ≡ 0) × ShowsReply escape bytes method target (out_holds out) (out_holds out') × (err' ≡ err))
-    ⊎ ((status ≡ 1) × ReportsRefusal escape bytes target (err_holds err) (err_holds err') × (out' ≡ out))
-    ⊎ ((status ≡ 1) × BreaksReplyOff escape bytes method target (out_holds out) (out_holds out') × (err' ≡ err))
+    → List (List ℕ) → List ℕ → List ℕ → O → O → E → E → ℕ → Type 0
+Answers out_holds err_holds escape documents method target out out' err err' status =
+    ((status ≡ 0) × ShowsReply escape documents method target (out_holds out) (out_holds out') × (err' ≡ err))
+    ⊎ ((status ≡ 1) × ReportsRefusal escape documents target (err_holds err) (err_holds err') × (out' ≡ out))
+    ⊎ ((status ≡ 1) × BreaksReplyOff escape documents method target (out_holds out) (out_holds out') × (err' ≡ err))
 
--- How `mock answer` ends: the file is read and the request answered, or an error in reading it is on standard error
--- (1), as far as the writer took its line, and standard output is as it was. The file is known, or it isn't.
-abbrev pub AnswersFile : {O E : Type 0} → (O → Option (List ℕ)) → (E → Option (List ℕ)) → Escape
-    → Option (List ℕ) → List ℕ → List ℕ → List ℕ → O → O → E → E → ℕ → Type 0
-AnswersFile out_holds err_holds escape known path method target out out' err err' status =
-    ((bytes : List ℕ) × IsFile known bytes
-    × Answers out_holds err_holds escape bytes method target out out' err err' status)
-    ⊎ ((error : FileError) × IsFileError known error × (status ≡ 1)
+-- How `mock answer` ends: the files that the path names are read and the request answered, or an error in reading them
+-- is on standard error (1), as far as the writer took its line, and standard output is as it was. The files are known,
+-- or they aren't.
+abbrev pub AnswersFiles : {O E : Type 0} → (O → Option (List ℕ)) → (E → Option (List ℕ)) → Escape
+    → Option (List (List ℕ)) → (List ℕ → Option (List ℕ)) → List ℕ → List ℕ → List ℕ → O → O → E → E → ℕ → Type 0
+AnswersFiles out_holds err_holds escape listed known path method target out out' err err' status =
+    ((documents : List (List ℕ)) × AreDocuments listed known documents
+    × Answers out_holds err_holds escape documents method target out out' err err' status)
+    ⊎ ((error : FileError) × IsDocumentsError listed known error × (status ≡ 1)
     × AppendsFront (err_holds err) (err_holds err') (file_error_line path error) × (out' ≡ out))

@@ -1,15 +1,15 @@
 // A book that was just opened with the mappings of a document, and what it answers a request with.
-ghost use Rattle.std.specs.Prelude.{◌≡◌, ◌⊎◌, ◌<◌, ◌≤◌, IfErr, IfOk, OnOk, length};
+ghost use Rattle.std.specs.Prelude.{◌≡◌, ◌⊎◌, ◌<◌, ◌≤◌, IfErr, IfOk, OnOk, length, map};
 ghost use Rattle.command_output.specs.Lines.{out_of_memory};
 ghost use Rattle.mapping_answer.specs.Answering.{HasBook, IsReplyBy, IsRequest, RefusesBook, RefusesDocument};
-ghost use Rattle.mapping_answer.specs.Answering.{RefusesUrl};
+ghost use Rattle.mapping_answer.specs.Answering.{RefusesUrl, SpellDocuments};
 ghost use Rattle.mapping_answer.specs.Inner.Fresh.{IsFresh, IsOwn};
-ghost use Rattle.mapping_json.specs.Documents.{SpellMappings};
 ghost use Rattle.request_journal.specs.Choice.{IsChoice};
 ghost use Rattle.request_journal.specs.Past.{opened};
 ghost use Rattle.stub_book.specs.Refusals.{IsFull};
 
 use command_output::error::CommandError;
+use command_output::files::Documents;
 use mapping_json::read::read_mappings_with;
 use mapping_model::reply::Reply;
 use mock_request::snapshot::Snapshot;
@@ -23,14 +23,19 @@ use stub_response::unmatched_reply::unmatched_reply;
 use template_tree::escape::Escape;
 
 /// A book whose first event has the number 1.
-pub(crate) fn fresh_book(alloc: Global, bytes: &[u8], escape: Escape) -> Result<Book, CommandError>
-    ensures ok { IfOk result (IsFresh escape bytes.now) }
-    ensures opens { OnOk result (HasBook escape bytes.now) }
+pub(crate) fn fresh_book(
+    alloc: Global,
+    documents: &Documents,
+    escape: Escape,
+) -> Result<Book, CommandError>
+    ensures ok { IfOk result (IsFresh escape (map (λ text. text.items) documents.now.texts.items)) }
+    ensures opens { OnOk result (HasBook escape (map (λ text. text.items) documents.now.texts.items)) }
     ensures refusal { IfErr result
-        (λ error. RefusesDocument escape bytes.now error ⊎ RefusesBook escape bytes.now error
+        (λ error. RefusesDocument escape (map (λ text. text.items) documents.now.texts.items) error
+        ⊎ RefusesBook escape (map (λ text. text.items) documents.now.texts.items) error
         ⊎ (error ≡ out_of_memory)) }
 {
-    let mappings = mappings_of(alloc, bytes, escape)?;
+    let mappings = mappings_of(alloc, documents.texts.as_slice(), escape)?;
     match Book::new(alloc, mappings, 0) {
         Ok(book) => {
             // For its clause: no more mappings are live than may be.
@@ -43,16 +48,22 @@ pub(crate) fn fresh_book(alloc: Global, bytes: &[u8], escape: Escape) -> Result<
 
 fn mappings_of(
     alloc: Global,
-    bytes: &[u8],
+    texts: &[Vec<u8>],
     escape: Escape,
 ) -> Result<Vec<ReadyMapping>, CommandError>
-    ensures ok { IfOk result (λ mappings. SpellMappings escape bytes.now mappings.items) }
-    ensures refusal { IfErr result (RefusesDocument escape bytes.now) }
+    ensures ok { IfOk result (λ mappings.
+        SpellDocuments escape (map (λ text. text.items) texts.now) mappings.items) }
+    ensures refusal { IfErr result
+        (λ error. RefusesDocument escape (map (λ text. text.items) texts.now) error ⊎ (error ≡ out_of_memory)) }
 {
-    match read_mappings_with(alloc, bytes, escape) {
-        Ok(mappings) => Ok(mappings),
-        Err(error) => Err(CommandError::from(error.error.error_code())),
+    let mut mappings = Vec::new(alloc);
+    for text in texts {
+        match read_mappings_with(alloc, text.as_slice(), escape) {
+            Ok(mut more) => mappings.append(&mut more)?,
+            Err(error) => return Err(CommandError::from(error.error.error_code())),
+        }
     }
+    Ok(mappings)
 }
 
 /// The request of that method for the target's URL, without headers and body.

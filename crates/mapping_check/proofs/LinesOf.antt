@@ -1,8 +1,8 @@
 -- The lines of results, one more at their end.
 use Rattle.std.proofs.Common.{◌≡◌, ◌≢◌, ℕ, suc, ◌+◌, List, [], ◌∷◌, ◌++◌, Bool, true, false}
 use Rattle.std.proofs.Common.{◌||◌, length, Some, Result, Ok, Err, refl, sym, ap, ap₂, subst, ◌∙◌}
-use Rattle.std.proofs.Common.{append_assoc, arith}
-use Rattle.std.proofs.lemmas.List.{append-nil}
+use Rattle.std.proofs.Common.{append_assoc, arith, take, drop, take-append-drop, map, string_bytes}
+use Rattle.std.proofs.lemmas.List.{append-nil, length_push, map-append}
 use Rattle.std.proofs.lemmas.List.Folds.{list_any-append}
 use Rattle.std.proofs.lemmas.Slice.Zip.{AllZip-long}
 use Rattle.std.specs.Prelude.{is_err}
@@ -15,8 +15,9 @@ use Rattle.mapping_json.specs.declared.error.MappingError.TheVariants.{OutOfMemo
 use Rattle.mapping_json.proofs.Zips.{zip_push}
 use Rattle.mapping_model.specs.declared.mapping_spec.MappingSpec.{MappingSpec}
 use Rattle.mapping_model.specs.declared.response_spec.ResponseSpec.{ResponseSpec}
-use Rattle.mapping_check.specs.Checking.{AreLines, IsContentLine, IsLineOf, IsReportOf, refused_line}
-use Rattle.mapping_check.specs.Inner.Reports.{AreReported, Reports}
+use Rattle.mapping_check.specs.Checking.{AreLines, HasValues, IsContentLine, IsLineOf, IsReportOf, refused_line}
+use Rattle.mapping_check.specs.Inner.Reports.{Adds, AddsDocument, AreReported, IsChecked, Reports}
+use Rattle.mapping_check.specs.declared.check.Checked.{Checked}
 use Rattle.serde_json.specs.Data.{Data}
 use Rattle.template_tree.specs.declared.escape.Escape.{Escape}
 
@@ -83,12 +84,71 @@ refused escape number d old new error is other text = record {
   is_refused = refl;
 }
 
-pub none : (escape : Escape) → AreReported escape [] [] false
-none escape = record { results = []; read = tt; lines = refl; is_refused = refl }
+-- ---- several documents
 
--- the report of a document is that of its values
-pub whole : (escape : Escape) (bytes : List ℕ) (d : Data) (values : List Data) (text : List ℕ) (refused : Bool)
-    → IsDocument bytes d → mappings_in d ≡ Some values → AreReported escape values text refused
-    → IsReportOf escape bytes text refused
-whole escape bytes d values text refused document listed reported =
-    (reported.results, (d, values, document, listed, reported.read), reported.lines, reported.is_refused)
+pub nothing : (escape : Escape) (c : Checked) → string_bytes c.text ≡ [] → c.is_refused ≡ false → c.count ≡ 0
+    → IsChecked escape [] c
+nothing escape c text refused count = record {
+  lines = record {
+    results = [];
+    read = tt;
+    lines = text;
+    is_refused = refused;
+  };
+  counted = count;
+}
+
+-- the values so far, and one more
+pub value_more : (escape : Escape) (values : List Data) (old new : Checked) (d : Data) (more : Bool)
+    → IsChecked escape values old
+    → Reports escape (old.count + 1) d (string_bytes old.text) (string_bytes new.text) more
+    → new.count ≡ old.count + 1 → new.is_refused ≡ (old.is_refused || more)
+    → IsChecked escape (values ++ d ∷ []) new
+value_more escape values old new d more so_far next count refused = record {
+  lines = subst (AreReported escape (values ++ d ∷ []) (string_bytes new.text)) (sym refused)
+      (one_more escape values (string_bytes old.text) old.is_refused d (string_bytes new.text) more so_far.lines
+      (subst (λ n. Reports escape (n + 1) d (string_bytes old.text) (string_bytes new.text) more) so_far.counted next));
+  counted = count ∙ ap (λ n. n + 1) so_far.counted ∙ sym (length_push values d);
+}
+
+-- the values of the documents so far, and those of one more
+pub values_push : (documents : List (List ℕ)) (values : List Data) (bytes : List ℕ) (d : Data) (own : List Data)
+    → HasValues documents values → IsDocument bytes d → mappings_in d ≡ Some own
+    → HasValues (documents ++ bytes ∷ []) (values ++ own)
+values_push [] values bytes d own none document listed =
+    (d, own, [], document, listed, refl, ap (λ vs. vs ++ own) none ∙ sym (append-nil own))
+values_push (x ∷ xs) values bytes d own (d', own', rest, document', listed', more, whole) document listed = (
+  d',
+  own',
+  rest ++ own,
+  document',
+  listed',
+  values_push xs rest bytes d own more document listed,
+  ap (λ vs. vs ++ own) whole ∙ append_assoc own' rest own,
+)
+
+-- the list up to an element, that element, and the rest
+pub split_mapped : {A B : Type 0} (f : A → B) (xs : List A) (i : ℕ) (x : A) → take (i + 1) xs ≡ take i xs ++ x ∷ []
+    → map f xs ≡ map f (take i xs) ++ f x ∷ map f (drop (i + 1) xs)
+split_mapped f xs i x more =
+    ap (map f) (sym (take-append-drop (i + 1) xs) ∙ ap (λ l. l ++ drop (i + 1) xs) more
+    ∙ append_assoc (take i xs) (x ∷ []) (drop (i + 1) xs))
+    ∙ map-append f (take i xs) (x ∷ drop (i + 1) xs)
+
+-- the report of documents is that of their values
+pub whole : (escape : Escape) (documents : List (List ℕ)) (values : List Data) (c : Checked)
+    → HasValues documents values → IsChecked escape values c
+    → IsReportOf escape documents (string_bytes c.text) c.is_refused
+whole escape documents values c has is =
+    (values, is.lines.results, has, is.lines.read, is.lines.lines, is.lines.is_refused)
+
+-- the values of a document are added
+pub added : (escape : Escape) (bytes : List ℕ) (d : Data) (own : List Data) (old new : Checked) → IsDocument bytes d
+    → mappings_in d ≡ Some own → Adds escape own old new → AddsDocument escape bytes old new
+added escape bytes d own old new document listed adds = record {
+  d = d;
+  own = own;
+  document = document;
+  listed = listed;
+  adds = adds;
+}

@@ -1,15 +1,17 @@
--- What `mock check` prints for a document: a line for each of its mappings.
+-- What `mock check` prints for documents: a line for each of their mappings.
 use Rattle.std.specs.Prelude.{◌≡◌, ◌⊎◌, ℕ, suc, List, [], ◌∷◌, ◌++◌, Bool, map, is_err}
-use Rattle.std.specs.Prelude.{if◌then◌else◌, Option, None, Result, Ok, Err, codes, decimal}
+use Rattle.std.specs.Prelude.{if◌then◌else◌, Option, None, Some, Result, Ok, Err, codes, decimal}
 use Rattle.std.specs.Io.KnownBytes.{Appends}
 use Rattle.std.specs.List.{AllZip, list_any}
-use Rattle.mapping_json.specs.Documents.{AreResults, IsOuterError}
+use Rattle.json_reading.specs.Document.{IsDocument}
+use Rattle.mapping_json.specs.Documents.{IsOuterError, IsResultOf, mappings_in}
 use Rattle.mapping_json.specs.Errors.{error_code_of}
 use Rattle.mapping_json.specs.declared.error.MappingError.{MappingError}
+use Rattle.mapping_json.specs.declared.error.MappingError.TheVariants.{OutOfMemory}
 use Rattle.mapping_model.specs.declared.mapping_spec.MappingSpec.{MappingSpec}
 use Rattle.mapping_model.specs.declared.response_spec.Content.{Content}
 use Rattle.mapping_model.specs.declared.response_spec.Content.TheVariants.{Plain, Templated}
-use Rattle.command_output.specs.Files.{IsFile, IsFileError, file_error_line}
+use Rattle.command_output.specs.Files.{AreDocuments, IsDocumentsError, file_error_line}
 use Rattle.command_output.specs.Lines.{error_line, numbers_text}
 use Rattle.command_output.specs.Output.{AppendsPart, AppendsFront}
 use Rattle.command_output.specs.declared.error.CommandError.{CommandError}
@@ -17,6 +19,7 @@ use Rattle.command_output.specs.declared.files.FileError.{FileError}
 use Rattle.error_code.specs.Codes.{number_of}
 use Rattle.error_code.specs.declared.error_code.ErrorCode.{ErrorCode}
 use Rattle.response_json.specs.Draft.{values_of, body_templates}
+use Rattle.serde_json.specs.Data.{Data}
 use Rattle.code_rules.specs.Polynomial.{Polynomial, plus, as_printed}
 use Rattle.code_rules.specs.Regions.{budget}
 use Rattle.template_machine.specs.Program.{ProgramParts, IsProgram}
@@ -79,48 +82,69 @@ AreLines number (result ∷ results) text =
 
 -- ---- the whole
 
--- the lines of a document's mappings, whose templates' prints are escaped so, numbered from 1, and whether one of them
--- is refused
-abbrev pub IsReportOf : Escape → List ℕ → List ℕ → Bool → Type 0
-IsReportOf escape bytes text refused =
-    (results : List (Result MappingSpec MappingError)) × AreResults escape bytes results × AreLines 1 results text
-    × (refused ≡ list_any is_err results)
+-- the values of the documents that are to be mappings, those of one document after those of the one before
+abbrev pub HasValues : List (List ℕ) → List Data → Type 0
+HasValues [] values = values ≡ []
+HasValues (bytes ∷ documents) values =
+    (d : Data) × (own : List Data) × (rest : List Data) × IsDocument bytes d × (mappings_in d ≡ Some own)
+    × HasValues documents rest × (values ≡ own ++ rest)
 
--- the document has no mappings, or memory is out
-abbrev pub IsCheckError : List ℕ → CommandError → Type 0
-IsCheckError bytes error =
-    (e : MappingError) × IsOuterError bytes e × (error ≡ record { code = error_code_of e; at = None })
+-- the lines of the documents' mappings, whose templates' prints are escaped so, numbered from 1, and whether one of
+-- them is refused
+abbrev pub IsReportOf : Escape → List (List ℕ) → List ℕ → Bool → Type 0
+IsReportOf escape documents text refused =
+    (values : List Data) × (results : List (Result MappingSpec MappingError)) × HasValues documents values
+    × AllZip (IsResultOf escape) values results × AreLines 1 results text × (refused ≡ list_any is_err results)
+
+-- the first document that has no mappings, and why
+pub record IsFirstRefused (documents : List (List ℕ)) (error : MappingError) : Type 0 where
+  pub before : List (List ℕ)
+  pub bytes : List ℕ
+  pub after : List (List ℕ)
+  pub values : List Data
+  pub whole : documents ≡ before ++ bytes ∷ after
+  pub read : HasValues before values
+  pub is : IsOuterError bytes error
+
+abbrev pub IsDocumentsRefusal : List (List ℕ) → MappingError → Type 0
+IsDocumentsRefusal documents error = IsFirstRefused documents error ⊎ (error ≡ OutOfMemory)
+
+-- a document has no mappings, or memory is out
+abbrev pub IsCheckError : List (List ℕ) → CommandError → Type 0
+IsCheckError documents error =
+    (e : MappingError) × IsDocumentsRefusal documents e × (error ≡ record { code = error_code_of e; at = None })
 
 -- the whole report was written; the status is 1 where a mapping is refused
-abbrev pub ShowsLines : Escape → List ℕ → Option (List ℕ) → Option (List ℕ) → ℕ → Type 0
-ShowsLines escape bytes old new status =
-    (text : List ℕ) × (refused : Bool) × IsReportOf escape bytes text refused × Appends old new text
+abbrev pub ShowsLines : Escape → List (List ℕ) → Option (List ℕ) → Option (List ℕ) → ℕ → Type 0
+ShowsLines escape documents old new status =
+    (text : List ℕ) × (refused : Bool) × IsReportOf escape documents text refused × Appends old new text
     × (status ≡ (if refused then 1 else 0))
 
 -- the report was begun, and the writer refused the rest
-abbrev pub BreaksLinesOff : Escape → List ℕ → Option (List ℕ) → Option (List ℕ) → Type 0
-BreaksLinesOff escape bytes old new =
-    (text : List ℕ) × (refused : Bool) × IsReportOf escape bytes text refused × AppendsPart old new text
+abbrev pub BreaksLinesOff : Escape → List (List ℕ) → Option (List ℕ) → Option (List ℕ) → Type 0
+BreaksLinesOff escape documents old new =
+    (text : List ℕ) × (refused : Bool) × IsReportOf escape documents text refused × AppendsPart old new text
 
 -- an error was reported, as far as the writer took its line
-abbrev pub ReportsDocument : List ℕ → Option (List ℕ) → Option (List ℕ) → Type 0
-ReportsDocument bytes old new =
-    (error : CommandError) × IsCheckError bytes error × AppendsFront old new (error_line error)
+abbrev pub ReportsDocument : List (List ℕ) → Option (List ℕ) → Option (List ℕ) → Type 0
+ReportsDocument documents old new =
+    (error : CommandError) × IsCheckError documents error × AppendsFront old new (error_line error)
 
 -- How a check ends: the report is on standard output (0, or 1 where a mapping is refused), an error is on standard
 -- error (1), or standard output took a part of the report (1). Each time the other of both is as it was.
-abbrev pub Checks : {O E : Type 0} → (O → Option (List ℕ)) → (E → Option (List ℕ)) → Escape → List ℕ
-    → O → O → E → E → ℕ → Type 0
-Checks out_holds err_holds escape bytes out out' err err' status =
-    (ShowsLines escape bytes (out_holds out) (out_holds out') status × (err' ≡ err))
-    ⊎ ((status ≡ 1) × ReportsDocument bytes (err_holds err) (err_holds err') × (out' ≡ out))
-    ⊎ ((status ≡ 1) × BreaksLinesOff escape bytes (out_holds out) (out_holds out') × (err' ≡ err))
+abbrev pub Checks : {O E : Type 0} → (O → Option (List ℕ)) → (E → Option (List ℕ)) → Escape
+    → List (List ℕ) → O → O → E → E → ℕ → Type 0
+Checks out_holds err_holds escape documents out out' err err' status =
+    (ShowsLines escape documents (out_holds out) (out_holds out') status × (err' ≡ err))
+    ⊎ ((status ≡ 1) × ReportsDocument documents (err_holds err) (err_holds err') × (out' ≡ out))
+    ⊎ ((status ≡ 1) × BreaksLinesOff escape documents (out_holds out) (out_holds out') × (err' ≡ err))
 
--- How `mock check` ends: the file is read and checked, or an error in reading it is on standard error (1), as far as
--- the writer took its line, and standard output is as it was. The file is known, or it isn't.
-abbrev pub ChecksFile : {O E : Type 0} → (O → Option (List ℕ)) → (E → Option (List ℕ)) → Escape
-    → Option (List ℕ) → List ℕ → O → O → E → E → ℕ → Type 0
-ChecksFile out_holds err_holds escape known path out out' err err' status =
-    ((bytes : List ℕ) × IsFile known bytes × Checks out_holds err_holds escape bytes out out' err err' status)
-    ⊎ ((error : FileError) × IsFileError known error × (status ≡ 1)
+-- How `mock check` ends: the files that the path names are read and checked, or an error in reading them is on standard
+-- error (1), as far as the writer took its line, and standard output is as it was. The files are known, or they aren't.
+abbrev pub ChecksFiles : {O E : Type 0} → (O → Option (List ℕ)) → (E → Option (List ℕ)) → Escape
+    → Option (List (List ℕ)) → (List ℕ → Option (List ℕ)) → List ℕ → O → O → E → E → ℕ → Type 0
+ChecksFiles out_holds err_holds escape listed known path out out' err err' status =
+    ((documents : List (List ℕ)) × AreDocuments listed known documents
+    × Checks out_holds err_holds escape documents out out' err err' status)
+    ⊎ ((error : FileError) × IsDocumentsError listed known error × (status ≡ 1)
     × AppendsFront (err_holds err) (err_holds err') (file_error_line path error) × (out' ≡ out))

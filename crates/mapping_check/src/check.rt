@@ -1,17 +1,17 @@
 //! `mock check`: which mappings of a document are taken, and the budgets of their templates.
 ghost use Rattle.std.specs.Prelude.{◌≡◌, ◌+◌, ◌++◌, List, ℕ, map, decimal, IfOk, IfErr, OnOk};
 ghost use Rattle.std.specs.Prelude.{if◌then◌else◌, string_bytes};
-ghost use Rattle.mapping_check.specs.Checking.{IsContentLine, IsBudgetLine, IsReportOf};
+ghost use Rattle.mapping_check.specs.Checking.{IsContentLine, IsBudgetLine, IsDocumentsRefusal, IsReportOf};
 ghost use Rattle.command_output.specs.Output.{Followed};
-ghost use Rattle.mapping_check.specs.Checking.{Checks, ChecksFile, plain_line, refused_line};
-ghost use Rattle.mapping_check.specs.Inner.Reports.{AreReported, Reports};
+ghost use Rattle.mapping_check.specs.Checking.{Checks, ChecksFiles, plain_line, refused_line};
+ghost use Rattle.mapping_check.specs.Inner.Reports.{Adds, AddsDocument, Reports};
 ghost use Rattle.mapping_json.specs.Documents.{IsOuterError};
 ghost use Rattle.response_json.specs.Draft.{values_of, body_templates};
 ghost use Rattle.serde_json.specs.View.{view};
 
 use crate::budgets::total_of;
 use command_output::error::CommandError;
-use command_output::files::{FileReader, read_file};
+use command_output::files::{Documents, FileReader, read_documents};
 use command_output::lines::total_text;
 use command_output::output::{put, put_notes};
 use command_output::status::{FAILURE, SUCCESS};
@@ -31,27 +31,65 @@ use std::io::Write;
 use std::mem::ManuallyDrop;
 use template_tree::escape::Escape;
 
-/// What is printed for a document.
+/// What is printed for documents.
 #[derive(Debug, Drop)]
 pub struct Checked {
     pub text: String,
-    /// Whether one of its mappings is refused.
+    /// Whether one of their mappings is refused.
     pub is_refused: bool,
+    /// How many mappings they have.
+    pub count: u64,
 }
 
-/// What `mock check` prints for a document: a line for each of its mappings, numbered from 1, as `1 plain`,
-/// `2 steps [5] bytes [6,1]` or `3 error 11`, where the prints of templates are escaped so. The error is that of a
-/// document that has no mappings. Where and why a mapping is wrong is noted.
-#[tactic(auto, using(crate::proofs::LinesOf::whole))]
-pub fn check_document(
+/// What `mock check` prints for documents: a line for each of their mappings, numbered from 1, as `1 plain`,
+/// `2 steps [5] bytes [6,1]` or `3 error 11`, where the prints of templates are escaped so. The error is that of the
+/// first document that has no mappings. Where and why a mapping or a document is wrong is noted.
+pub fn check_documents(
     alloc: Global,
+    documents: &Documents,
+    escape: Escape,
+    notes: &mut Notes,
+) -> Result<Checked, MappingError>
+    ensures report { IfOk result (λ checked. IsReportOf escape (map (λ text. text.items) documents.now.texts.items)
+        (string_bytes checked.text) checked.is_refused) }
+    ensures error { IfErr result (IsDocumentsRefusal (map (λ text. text.items) documents.now.texts.items)) }
+{
+    let mut checked = Checked {
+        text: String::new(alloc),
+        is_refused: false,
+        count: 0,
+    };
+    for (index, text) in documents.texts.iter().enumerate() {
+        let file = path_at(documents, index);
+        match add_document(alloc, &mut checked, file, text.as_slice(), escape, notes) {
+            Ok(()) => {}
+            Err(error) => {
+                let _ = notes.add_document(alloc, file, text.as_slice());
+                return Err(error);
+            }
+        }
+    }
+    Ok(checked)
+}
+
+fn path_at(documents: &Documents, index: usize) -> &str {
+    match documents.paths.get(index) {
+        Some(path) => path.as_str(),
+        None => "",
+    }
+}
+
+/// Adds the lines of a document's mappings.
+#[tactic(auto, using(crate::proofs::LinesOf::added))]
+fn add_document(
+    alloc: Global,
+    checked: &mut Checked,
     file: &str,
     bytes: &[u8],
     escape: Escape,
     notes: &mut Notes,
-) -> Result<Checked, MappingError>
-    ensures report { IfOk result
-        (λ checked. IsReportOf escape bytes.now (string_bytes checked.text) checked.is_refused) }
+) -> Result<(), MappingError>
+    ensures ok { OnOk result (AddsDocument escape bytes.now checked.old checked.new) }
     ensures error { IfErr result (IsOuterError bytes.now) }
 {
     let Some(document) = document_of(alloc, bytes)? else {
@@ -65,7 +103,7 @@ pub fn check_document(
                 file,
                 is_list: document.get("mappings").is_some(),
             };
-            Ok(report_of(alloc, source, values, escape, notes)?)
+            Ok(add_values(alloc, checked, source, values, escape, notes)?)
         }
         None => Err(MappingError::Document(Kind::Misshapen)),
     }
@@ -79,22 +117,35 @@ struct Source<'a> {
 }
 
 /// Each mapping is judged and its line written before the next, so that none is kept.
-fn report_of(
+fn add_values(
     alloc: Global,
+    checked: &mut Checked,
     source: Source<'_>,
     values: &[Value],
     escape: Escape,
     notes: &mut Notes,
-) -> Result<Checked, AllocError>
-    ensures { IfOk result (λ checked.
-        AreReported escape (map view values.now) (string_bytes checked.text) checked.is_refused) }
+) -> Result<(), AllocError>
+    ensures { OnOk result (Adds escape (map view values.now) checked.old checked.new) }
 {
-    let mut text = String::new(alloc);
-    let mut is_refused = false;
     for (index, value) in values.iter().enumerate() {
-        is_refused |= push_line(alloc, &mut text, source, index, value, escape, notes)?;
+        // As many mappings aren't in any memory.
+        let Some(number) = checked.count.checked_add(1) else {
+            return Err(AllocError);
+        };
+        let is_refused = push_line(
+            alloc,
+            &mut checked.text,
+            source,
+            index,
+            number,
+            value,
+            escape,
+            notes,
+        )?;
+        checked.count = number;
+        checked.is_refused |= is_refused;
     }
-    Ok(Checked { text, is_refused })
+    Ok(())
 }
 
 /// Writes the line of a value, and gives whether it is refused.
@@ -103,23 +154,23 @@ fn push_line(
     text: &mut String,
     source: Source<'_>,
     index: usize,
+    number: u64,
     value: &Value,
     escape: Escape,
     notes: &mut Notes,
 ) -> Result<bool, AllocError>
     ensures { IfOk result (λ refused.
-        Reports escape (index + 1) (view value.now) (string_bytes text.old) (string_bytes text.new) refused) }
+        Reports escape number (view value.now) (string_bytes text.old) (string_bytes text.new) refused) }
 {
-    let number = index as u128 + 1;
     match response_of(alloc, value, escape) {
         Ok(response) => {
-            note(alloc, source, index, value, None, notes);
+            note(alloc, source, index, number, value, None, notes);
             push_content_line(alloc, text, number, &response.content)?;
             Ok(false)
         }
         Err(MappingError::OutOfMemory) => Err(AllocError),
         Err(error) => {
-            note(alloc, source, index, value, Some(error), notes);
+            note(alloc, source, index, number, value, Some(error), notes);
             push_refused_line(text, number, error.error_code())?;
             Ok(true)
         }
@@ -131,58 +182,57 @@ fn note(
     alloc: Global,
     source: Source<'_>,
     index: usize,
+    number: u64,
     value: &Value,
     error: Option<MappingError>,
     notes: &mut Notes,
 ) {
     let place = Place {
         file: source.file,
-        number: index.saturating_add(1),
+        number,
         index: if source.is_list { Some(index) } else { None },
     };
     // A note is no part of the report.
     let _ = notes.add_mapping(alloc, place, value, error);
 }
 
-/// Writes what `check_document` gives to `out`, or its error to `err`, and gives the exit status: 0, or 1 where a
+/// Writes what `check_documents` gives to `out`, or its error to `err`, and gives the exit status: 0, or 1 where a
 /// mapping is refused, for an error, or for output that can't be written. All memory is taken before the first
-/// byte is written. Lines on `err` say where and why the document of that file is wrong, and warn.
+/// byte is written. Lines on `err` say where and why something is wrong, and warn.
 pub fn check_to<O: Write, E: Write>(
     alloc: Global,
-    file: &str,
-    bytes: &[u8],
+    documents: &Documents,
     out: &mut O,
     err: &mut E,
     escape: Escape,
 ) -> u8
-    ensures { Followed E.contents
-        (λ e. Checks O.contents E.contents escape bytes.now out.old out.new err.old e result) err.new }
+    ensures { Followed E.contents (λ e. Checks O.contents E.contents escape
+        (map (λ text. text.items) documents.now.texts.items) out.old out.new err.old e result) err.new }
 {
     let mut notes = Notes::new(alloc);
-    let status = check_noting(alloc, file, bytes, out, err, escape, &mut notes);
+    let status = check_noting(alloc, documents, out, err, escape, &mut notes);
     put_notes(err, notes.as_str());
     status
 }
 
 fn check_noting<O: Write, E: Write>(
     alloc: Global,
-    file: &str,
-    bytes: &[u8],
+    documents: &Documents,
     out: &mut O,
     err: &mut E,
     escape: Escape,
     notes: &mut Notes,
 ) -> u8
-    ensures { Checks O.contents E.contents escape bytes.now out.old out.new err.old err.new result }
+    ensures { Checks O.contents E.contents escape (map (λ text. text.items) documents.now.texts.items)
+        out.old out.new err.old err.new result }
 {
-    match check_document(alloc, file, bytes, escape, notes) {
+    match check_documents(alloc, documents, escape, notes) {
         Ok(checked) => match put(out, checked.text.as_bytes()) {
             Ok(()) => status_of(checked.is_refused),
             Err(_error) => FAILURE,
         },
         Err(error) => {
             CommandError::from(error.error_code()).report(err);
-            let _ = notes.add_document(alloc, file, bytes);
             FAILURE
         }
     }
@@ -194,8 +244,8 @@ fn status_of(is_refused: bool) -> u8
     if is_refused { FAILURE } else { SUCCESS }
 }
 
-/// Reads the file and does with its bytes what `check_to` does. Where it can't be read, that is written to `err`, and
-/// the exit status is 1.
+/// Reads the file at the path, or the files of the folder, and does with them what `check_to` does. Where one can't be
+/// read, that is written to `err`, and the exit status is 1.
 pub fn check_file<F: FileReader, O: Write, E: Write>(
     alloc: Global,
     files: &F,
@@ -205,36 +255,35 @@ pub fn check_file<F: FileReader, O: Write, E: Write>(
     escape: Escape,
 ) -> u8
     ensures { Followed E.contents
-        (λ e. ChecksFile O.contents E.contents escape (F.content files.now path.now) path.now
+        (λ e. ChecksFiles O.contents E.contents escape (F.listed files.now path.now) (F.content files.now) path.now
         out.old out.new err.old e result) err.new }
 {
-    match read_file(alloc, files, path) {
-        Ok(bytes) => check_to(alloc, path, bytes.as_slice(), out, err, escape),
+    match read_documents(alloc, files, path) {
+        Ok(documents) => check_to(alloc, &documents, out, err, escape),
         Err(error) => {
-            error.report(path, err);
-            error.explain(alloc, err);
+            error.report(alloc, path, err);
             FAILURE
         }
     }
 }
 
-fn push_refused_line(text: &mut String, number: u128, code: ErrorCode) -> Result<(), AllocError>
+fn push_refused_line(text: &mut String, number: u64, code: ErrorCode) -> Result<(), AllocError>
     ensures { OnOk result (string_bytes text.new ≡ string_bytes text.old ++ refused_line number code) }
 {
     push_number(text, number)?;
     text.push_str(" error ")?;
-    push_number(text, u128::from(code.number()))?;
+    push_number(text, u64::from(code.number()))?;
     text.push_str("\n")
 }
 
-fn push_plain_line(text: &mut String, number: u128) -> Result<(), AllocError>
+fn push_plain_line(text: &mut String, number: u64) -> Result<(), AllocError>
     ensures { OnOk result (string_bytes text.new ≡ string_bytes text.old ++ plain_line number) }
 {
     push_number(text, number)?;
     text.push_str(" plain\n")
 }
 
-fn push_number(text: &mut String, number: u128) -> Result<(), AllocError>
+fn push_number(text: &mut String, number: u64) -> Result<(), AllocError>
     ensures { OnOk result (string_bytes text.new ≡ string_bytes text.old ++ decimal number) }
 {
     let mut digits = Buffer::new();
@@ -244,7 +293,7 @@ fn push_number(text: &mut String, number: u128) -> Result<(), AllocError>
 fn push_content_line(
     alloc: Global,
     text: &mut String,
-    number: u128,
+    number: u64,
     content: &Content,
 ) -> Result<(), AllocError>
     ensures { OnOk result ((line : List ℕ) × IsContentLine number content.now line
@@ -263,7 +312,7 @@ fn push_content_line(
 fn push_budget_line(
     alloc: Global,
     text: &mut String,
-    number: u128,
+    number: u64,
     headers: &HeaderLines<TemplateText>,
     body: &Body<TemplateText>,
 ) -> Result<(), AllocError>
@@ -276,7 +325,7 @@ fn push_budget_line(
 
 fn budget_line(
     alloc: Global,
-    number: u128,
+    number: u64,
     headers: &HeaderLines<TemplateText>,
     body: &Body<TemplateText>,
 ) -> Result<String, AllocError>

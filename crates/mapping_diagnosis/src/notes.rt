@@ -18,6 +18,8 @@ pub struct Notes {
     text: String,
     /// How many lines may follow.
     left: u32,
+    /// The number of the next mapping.
+    next: u64,
 }
 
 /// Which mapping of which file.
@@ -25,7 +27,7 @@ pub struct Notes {
 pub struct Place<'a> {
     pub file: &'a str,
     /// From 1 on, over all files of a command.
-    pub number: usize,
+    pub number: u64,
     /// Its index in the list `mappings` of its file, if that has one.
     pub index: Option<usize>,
 }
@@ -35,6 +37,7 @@ impl Notes {
         Notes {
             text: String::new(alloc),
             left: LINE_LIMIT,
+            next: 1,
         }
     }
 
@@ -104,12 +107,12 @@ impl Notes {
         self.add_line(line.as_str())
     }
 
-    /// All lines of a document, of which the first error is this, if it has one. The first mapping has that number.
+    /// All lines of the next document, of which the first error is this, if it has one. The numbers of its mappings
+    /// follow those of the documents before it.
     pub fn add_all(
         &mut self,
         alloc: Global,
         file: &str,
-        number: usize,
         bytes: &[u8],
         error: Option<MappingsError>,
     ) -> Result<(), AllocError> {
@@ -119,7 +122,7 @@ impl Notes {
         match mapping_values(&document) {
             Some(values) => {
                 let is_listed = document.get("mappings").is_some();
-                self.add_values(alloc, file, number, values, is_listed, error)
+                self.add_values(alloc, file, values, is_listed, error)
             }
             None => self.add_document(alloc, file, bytes),
         }
@@ -129,7 +132,6 @@ impl Notes {
         &mut self,
         alloc: Global,
         file: &str,
-        number: usize,
         values: &[Value],
         is_listed: bool,
         error: Option<MappingsError>,
@@ -137,9 +139,10 @@ impl Notes {
         for (index, value) in values.iter().enumerate() {
             let place = Place {
                 file,
-                number: number.saturating_add(index),
+                number: self.next,
                 index: if is_listed { Some(index) } else { None },
             };
+            self.next = self.next.saturating_add(1);
             self.add_mapping(alloc, place, value, error_at(error, index))?;
         }
         Ok(())

@@ -32,7 +32,7 @@ where
     E: Write,
     // Arguments that ask for a command other than `serve` do what that command does, each argument taken as it is.
     ensures command { (escape : Escape) (asked : Asked) → AsksFor (map string_bytes arguments.now) escape asked
-        → Does O.contents E.contents (R.content rt) escape asked out.old out.new err.old err.new result }
+        → Does O.contents E.contents (R.listed rt) (R.content rt) escape asked out.old out.new err.old err.new result }
 
     // Help is no mistake, and invalid arguments are one. Where the text can't be made or written, the status is 1.
     ensures help { CallsForHelp (map string_bytes arguments.now) → (result ≡ 0) ⊎ (result ≡ 1) }

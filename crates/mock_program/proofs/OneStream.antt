@@ -1,8 +1,8 @@
 -- A command leaves one of both writers as it was, but for lines that follow on standard error.
-use Rattle.std.proofs.Common.{◌≡◌, ◌⊎◌, ℕ, List, Option, inl, inr, arith, Bool, true, false}
+use Rattle.std.proofs.Common.{◌≡◌, ◌⊎◌, ℕ, List, Option, inl, inr, arith, Bool, true, false, refl}
 use Rattle.std.proofs.Common.{if◌then◌else◌}
-use Rattle.mapping_answer.specs.Answering.{Answers, AnswersFile}
-use Rattle.mapping_check.specs.Checking.{Checks, ChecksFile}
+use Rattle.mapping_answer.specs.Answering.{Answers, AnswersFiles}
+use Rattle.mapping_check.specs.Checking.{Checks, ChecksFiles}
 use Rattle.mock_program.specs.CommandLine.{Asked, render, check, answer}
 use Rattle.mock_program.specs.Commands.{Does}
 use Rattle.command_output.proofs.PartsWritten.{alone, followed_map}
@@ -30,6 +30,10 @@ module _ {O E : Type 0} (out_holds : O → Option (List ℕ)) (err_holds : E →
     one_of_both = inl same;
   }
 
+  pub nothing_written : (out : O) (err : E) → Followed err_holds (λ e. WritesOneStream out out err e 1) err
+  nothing_written out err =
+      alone err_holds (λ e. WritesOneStream out out err e 1) err (of_error out out err err 1 refl refl)
+
   of_rendering : (template : Source) (method target : List ℕ) (out out' : O) (err err' : E) (status : ℕ)
       → Renders out_holds err_holds template method target out out' err err' status
       → WritesOneStream out out' err err' status
@@ -45,55 +49,60 @@ module _ {O E : Type 0} (out_holds : O → Option (List ℕ)) (err_holds : E →
   zero_or_one true status is = inr is
   zero_or_one false status is = inl is
 
-  of_checking : (escape : Escape) (bytes : List ℕ) (out out' : O) (err err' : E) (status : ℕ)
-      → Checks out_holds err_holds escape bytes out out' err err' status
+  of_checking : (escape : Escape) (documents : List (List ℕ)) (out out' : O) (err err' : E) (status : ℕ)
+      → Checks out_holds err_holds escape documents out out' err err' status
       → WritesOneStream out out' err err' status
-  of_checking escape bytes out out' err err' status (inl ((text, refused, report, written, is), same)) =
+  of_checking escape documents out out' err err' status (inl ((text, refused, report, written, is), same)) =
       of_output out out' err err' status (zero_or_one refused status is) same
-  of_checking escape bytes out out' err err' status (inr (inl (one, as_reported, same))) =
+  of_checking escape documents out out' err err' status (inr (inl (one, as_reported, same))) =
       of_error out out' err err' status one same
-  of_checking escape bytes out out' err err' status (inr (inr (one, begun, same))) =
+  of_checking escape documents out out' err err' status (inr (inr (one, begun, same))) =
       of_output out out' err err' status (inr one) same
 
-  of_file : (escape : Escape) (known : Option (List ℕ)) (path : List ℕ) (out out' : O) (err err' : E) (status : ℕ)
-      → ChecksFile out_holds err_holds escape known path out out' err err' status
+  of_file : (escape : Escape) (listed : Option (List (List ℕ))) (known : List ℕ → Option (List ℕ)) (path : List ℕ)
+      (out out' : O) (err err' : E) (status : ℕ)
+      → ChecksFiles out_holds err_holds escape listed known path out out' err err' status
       → WritesOneStream out out' err err' status
-  of_file escape known path out out' err err' status (inl (bytes, file, checked)) =
-      of_checking escape bytes out out' err err' status checked
-  of_file escape known path out out' err err' status (inr (error, is, one, as_reported, same)) =
+  of_file escape listed known path out out' err err' status (inl (documents, are, checked)) =
+      of_checking escape documents out out' err err' status checked
+  of_file escape listed known path out out' err err' status (inr (error, is, one, as_reported, same)) =
       of_error out out' err err' status one same
 
-  of_answering : (escape : Escape) (bytes method target : List ℕ) (out out' : O) (err err' : E) (status : ℕ)
-      → Answers out_holds err_holds escape bytes method target out out' err err' status
-      → WritesOneStream out out' err err' status
-  of_answering escape bytes method target out out' err err' status (inl (zero, shown, same)) =
-      of_output out out' err err' status (inl zero) same
-  of_answering escape bytes method target out out' err err' status (inr (inl (one, as_reported, same))) =
-      of_error out out' err err' status one same
-  of_answering escape bytes method target out out' err err' status (inr (inr (one, begun, same))) =
-      of_output out out' err err' status (inr one) same
-
-  of_mappings : (escape : Escape) (known : Option (List ℕ)) (path method target : List ℕ) (out out' : O)
+  of_answering : (escape : Escape) (documents : List (List ℕ)) (method target : List ℕ) (out out' : O)
       (err err' : E) (status : ℕ)
-      → AnswersFile out_holds err_holds escape known path method target out out' err err' status
+      → Answers out_holds err_holds escape documents method target out out' err err' status
       → WritesOneStream out out' err err' status
-  of_mappings escape known path method target out out' err err' status (inl (bytes, file, answered)) =
-      of_answering escape bytes method target out out' err err' status answered
-  of_mappings escape known path method target out out' err err' status (inr (error, is, one, as_reported, same)) =
+  of_answering escape documents method target out out' err err' status (inl (zero, shown, same)) =
+      of_output out out' err err' status (inl zero) same
+  of_answering escape documents method target out out' err err' status (inr (inl (one, as_reported, same))) =
+      of_error out out' err err' status one same
+  of_answering escape documents method target out out' err err' status (inr (inr (one, begun, same))) =
+      of_output out out' err err' status (inr one) same
+
+  of_mappings : (escape : Escape) (listed : Option (List (List ℕ))) (known : List ℕ → Option (List ℕ))
+      (path method target : List ℕ) (out out' : O) (err err' : E) (status : ℕ)
+      → AnswersFiles out_holds err_holds escape listed known path method target out out' err err' status
+      → WritesOneStream out out' err err' status
+  of_mappings escape listed known path method target out out' err err' status (inl (documents, are, answered)) =
+      of_answering escape documents method target out out' err err' status answered
+  of_mappings escape listed known path method target out out' err err' status
+      (inr (error, is, one, as_reported, same)) =
       of_error out out' err err' status one same
 
-  pub of_command : (files : List ℕ → Option (List ℕ)) (escape : Escape) (asked : Asked) (out out' : O)
-      (err err' : E) (status : ℕ) → Does out_holds err_holds files escape asked out out' err err' status
+  pub of_command : (listed : List ℕ → Option (List (List ℕ))) (known : List ℕ → Option (List ℕ)) (escape : Escape)
+      (asked : Asked) (out out' : O) (err err' : E) (status : ℕ)
+      → Does out_holds err_holds listed known escape asked out out' err err' status
       → Followed err_holds (λ e. WritesOneStream out out' err e status) err'
-  of_command files escape (render template method target) out out' err err' status done =
+  of_command listed known escape (render template method target) out out' err err' status done =
       alone err_holds (λ e. WritesOneStream out out' err e status) err'
       (of_rendering (with_escape escape template) method target out out' err err' status done)
-  of_command files escape (check path) out out' err err' status done =
-      followed_map err_holds (λ e. ChecksFile out_holds err_holds escape (files path) path out out' err e status)
-      (λ e. WritesOneStream out out' err e status) err'
-      (λ e. of_file escape (files path) path out out' err e status) done
-  of_command files escape (answer path method target) out out' err err' status done =
+  of_command listed known escape (check path) out out' err err' status done =
       followed_map err_holds
-      (λ e. AnswersFile out_holds err_holds escape (files path) path method target out out' err e status)
+      (λ e. ChecksFiles out_holds err_holds escape (listed path) known path out out' err e status)
       (λ e. WritesOneStream out out' err e status) err'
-      (λ e. of_mappings escape (files path) path method target out out' err e status) done
+      (λ e. of_file escape (listed path) known path out out' err e status) done
+  of_command listed known escape (answer path method target) out out' err err' status done =
+      followed_map err_holds
+      (λ e. AnswersFiles out_holds err_holds escape (listed path) known path method target out out' err e status)
+      (λ e. WritesOneStream out out' err e status) err'
+      (λ e. of_mappings escape (listed path) known path method target out out' err e status) done

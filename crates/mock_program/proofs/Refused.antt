@@ -6,22 +6,23 @@ use Rattle.template_tree.specs.declared.escape.Escape.{Escape}
 use Rattle.command_output.specs.Lines.{error_line, out_of_memory}
 use Rattle.command_output.proofs.PartsWritten.{alone}
 use Rattle.command_output.specs.Output.{AppendsFront}
-use Rattle.mapping_answer.specs.Answering.{AnswersFile}
-use Rattle.mapping_check.specs.Checking.{ChecksFile}
+use Rattle.mapping_answer.specs.Answering.{AnswersFiles}
+use Rattle.mapping_check.specs.Checking.{ChecksFiles}
 use Rattle.command_output.specs.declared.files.FileError.TheVariants as file
 
 pub without_memory : {O E : Type 0} (out_holds : O → Option (List ℕ)) (err_holds : E → Option (List ℕ))
-    (files : List ℕ → Option (List ℕ)) (escape : Escape) (asked : Asked) (out out' : O) (err err' : E)
-    (status : ℕ) → status ≡ 1
+    (listed : List ℕ → Option (List (List ℕ))) (known : List ℕ → Option (List ℕ)) (escape : Escape) (asked : Asked)
+    (out out' : O) (err err' : E) (status : ℕ) → status ≡ 1
     → AppendsFront (err_holds err) (err_holds err') (error_line out_of_memory) → out' ≡ out
-    → Does out_holds err_holds files escape asked out out' err err' status
-without_memory out_holds err_holds files escape (render template method target) out out' err err'
+    → Does out_holds err_holds listed known escape asked out out' err err' status
+without_memory out_holds err_holds listed known escape (render template method target) out out' err err'
     status one shown same =
     inr (inl (one, (out_of_memory, inr (inr refl), shown), same))
-without_memory out_holds err_holds files escape (check path) out out' err err' status one shown same =
-    alone err_holds (λ e. ChecksFile out_holds err_holds escape (files path) path out out' err e status) err'
-    (inr (file.OutOfMemory, tt, one, shown, same))
-without_memory out_holds err_holds files escape (answer path method target) out out' err err' status one shown same =
+without_memory out_holds err_holds listed known escape (check path) out out' err err' status one shown same =
+    alone err_holds (λ e. ChecksFiles out_holds err_holds escape (listed path) known path out out' err e status) err'
+    (inr (file.OutOfMemory, inl refl, one, shown, same))
+without_memory out_holds err_holds listed known escape (answer path method target) out out' err err' status one
+    shown same =
     alone err_holds
-    (λ e. AnswersFile out_holds err_holds escape (files path) path method target out out' err e status) err'
-    (inr (file.OutOfMemory, tt, one, shown, same))
+    (λ e. AnswersFiles out_holds err_holds escape (listed path) known path method target out out' err e status) err'
+    (inr (file.OutOfMemory, inl refl, one, shown, same))

@@ -9,9 +9,9 @@ use Rattle.template_tree.specs.declared.escape.Escape.TheVariants.{Off, Html}
 pub data Asked : Type 0 where
   -- `render TEMPLATE METHOD URL`
   render : List ℕ → List ℕ → List ℕ → Asked
-  -- `check FILE`
+  -- `check FILE`, which may be a folder
   check : List ℕ → Asked
-  -- `answer MAPPINGS METHOD URL`
+  -- `answer MAPPINGS METHOD URL`, where the first may be a folder
   answer : List ℕ → List ℕ → List ℕ → Asked
 
 abbrev pub name_of : Asked → List ℕ

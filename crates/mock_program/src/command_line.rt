@@ -36,7 +36,8 @@ pub fn run<F: FileReader, O: Write, E: Write>(
 ) -> u8
     // Arguments that ask for a command do what that command does, each argument taken as it is.
     ensures command { (escape : Escape) (asked : Asked) → AsksFor (map string_bytes arguments.now) escape asked
-        → Does O.contents E.contents (F.content files.now) escape asked out.old out.new err.old err.new result }
+        → Does O.contents E.contents (F.listed files.now) (F.content files.now) escape asked
+        out.old out.new err.old err.new result }
 
     // Help is no mistake, and invalid arguments are one. Where the text can't be made or written, the status is 1.
     ensures help { CallsForHelp (map string_bytes arguments.now) → (result ≡ 0) ⊎ (result ≡ 1) }
@@ -64,7 +65,7 @@ fn run_call<F: FileReader, O: Write, E: Write>(
     out: &mut O,
     err: &mut E,
 ) -> u8
-    ensures { Does O.contents E.contents (F.content files.now) escape (asked_of call.entry)
+    ensures { Does O.contents E.contents (F.listed files.now) (F.content files.now) escape (asked_of call.entry)
         out.old out.new err.old err.new result }
 {
     match call {

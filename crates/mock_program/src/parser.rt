@@ -63,7 +63,7 @@ const CHECK_HELP: &str =
 Usage: mock check [OPTIONS] <FILE>
 
 Arguments:
-  <FILE>  A JSON file: one mapping, or an object with a list `mappings`
+  <FILE>  A JSON file: one mapping, or an object with a list `mappings`; or a folder of such files
 
 Options, before FILE:
       --html-escape  Escapes what {{x}} prints in templates for HTML, but not what {{{x}}} prints
@@ -92,7 +92,7 @@ const ANSWER_HELP: &str = "Prints what a server with the mappings of a file repl
 Usage: mock answer [OPTIONS] <MAPPINGS> <METHOD> <URL>
 
 Arguments:
-  <MAPPINGS>  A JSON file: one mapping, or an object with a list `mappings`
+  <MAPPINGS>  A JSON file: one mapping, or an object with a list `mappings`; or a folder of such files
   <METHOD>    The method of the request, as GET
   <URL>       The target of the request, as /hi/Ann?q=1 or http://host/hi/Ann
 

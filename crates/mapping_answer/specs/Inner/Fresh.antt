@@ -1,6 +1,6 @@
 -- A book that was just opened, and what it answers.
 use Rattle.std.specs.Prelude.{◌≡◌, ◌≤◌, ℕ, List, length}
-use Rattle.mapping_json.specs.Documents.{SpellMappings}
+use Rattle.mapping_answer.specs.Answering.{SpellDocuments}
 use Rattle.mapping_model.specs.declared.mapping_spec.MappingSpec.{MappingSpec}
 use Rattle.request_journal.specs.Live.{live}
 use Rattle.request_journal.specs.Past.{Past, opened}
@@ -9,10 +9,10 @@ use Rattle.request_journal.specs.declared.event.ServeAnswer.TheVariants.{Stub, P
 use Rattle.request_journal.specs.declared.limits.TheConstants.{LIVE_LIMIT}
 use Rattle.template_tree.specs.declared.escape.Escape.{Escape}
 
--- the past of a book that was just opened with the document's mappings
-abbrev pub IsFresh : Escape → List ℕ → Past → Type 0
-IsFresh escape bytes past =
-    (mappings : List MappingSpec) × SpellMappings escape bytes mappings × (past ≡ opened 0 mappings)
+-- the past of a book that was just opened with the documents' mappings
+abbrev pub IsFresh : Escape → List (List ℕ) → Past → Type 0
+IsFresh escape documents past =
+    (mappings : List MappingSpec) × SpellDocuments escape documents mappings × (past ≡ opened 0 mappings)
     × (length (live past) ≤ LIVE_LIMIT)
 
 -- the answer doesn't send the request on

@@ -1,8 +1,10 @@
 -- For private clauses: the lines of a document's values while they are written.
-use Rattle.std.specs.Prelude.{◌≡◌, ℕ, List, ◌++◌, Bool, is_err, Result}
+use Rattle.std.specs.Prelude.{◌≡◌, ℕ, List, ◌++◌, Bool, is_err, length, Result, Some, string_bytes}
 use Rattle.std.specs.List.{AllZip, list_any}
+use Rattle.json_reading.specs.Document.{IsDocument}
 use Rattle.mapping_check.specs.Checking.{AreLines, IsLineOf}
-use Rattle.mapping_json.specs.Documents.{IsResultOf}
+use Rattle.mapping_check.specs.declared.check.Checked.{Checked}
+use Rattle.mapping_json.specs.Documents.{IsResultOf, mappings_in}
 use Rattle.mapping_json.specs.declared.error.MappingError.{MappingError}
 use Rattle.mapping_model.specs.declared.mapping_spec.MappingSpec.{MappingSpec}
 use Rattle.serde_json.specs.Data.{Data}
@@ -23,3 +25,20 @@ pub record Reports (escape : Escape) (number : ℕ) (d : Data) (old new : List �
   pub is_line : IsLineOf number result line
   pub text : new ≡ old ++ line
   pub is_refused : refused ≡ is_err result
+
+-- what is reported of some values
+pub record IsChecked (escape : Escape) (values : List Data) (c : Checked) : Type 0 where
+  pub lines : AreReported escape values (string_bytes c.text) c.is_refused
+  pub counted : c.count ≡ length values
+
+-- what was reported of some values is reported of these more
+abbrev pub Adds : Escape → List Data → Checked → Checked → Type 0
+Adds escape more old new = (values : List Data) → IsChecked escape values old → IsChecked escape (values ++ more) new
+
+-- the same of those of a document
+pub record AddsDocument (escape : Escape) (bytes : List ℕ) (old new : Checked) : Type 0 where
+  pub d : Data
+  pub own : List Data
+  pub document : IsDocument bytes d
+  pub listed : mappings_in d ≡ Some own
+  pub adds : Adds escape own old new

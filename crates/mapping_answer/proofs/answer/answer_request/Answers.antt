@@ -12,7 +12,7 @@ returns-clause-reply c =
       c.in_ok-reply.reply,
       record {
         mappings = fresh.0;
-        document = fresh.1;
+        spelled = fresh.1;
         few = subst (λ p. length (live p) ≤ LIVE_LIMIT) fresh.2 fresh.3;
         request = request;
         asked = c.in_ok-request.ensures.ok;

@@ -11,7 +11,7 @@ use Rattle.command_output.specs.Output.{AppendsFront}
 use Rattle.command_output.specs.declared.error.CommandError.{CommandError}
 use Rattle.mock_program.proofs.CommandArguments.{parser_arguments-asked, escape_asked-asked}
 use Rattle.template_tree.specs.declared.escape.Escape.{Escape}
-use Rattle.mock_program.proofs.OneStream.{of_command}
+use Rattle.mock_program.proofs.OneStream.{nothing_written, of_command}
 use Rattle.mock_program.proofs.Refused.{without_memory}
 use Rattle.mock_program.proofs.ParserCalls.{asked_is_found, asked_is_taken}
 use Rattle.mock_program.proofs.ParserErrors.{fails_by_help, fails_by_mistake}
@@ -28,10 +28,12 @@ returns-in-Ok-Some-clause-command g c = λ escape asked asks.
     let same_escape : c.escape_asked-escape.result ≡ escape =
     c.escape_asked-escape.ensures ∙ escape_asked-asked (map string_bytes c.args.arguments.now) escape asked asks in
     let done =
-    subst (λ (a : Asked). Does g.O.Write.contents g.E.Write.contents (g.F.FileReader.content c.args.files.now)
+    subst (λ (a : Asked). Does g.O.Write.contents g.E.Write.contents (g.F.FileReader.listed c.args.files.now)
+    (g.F.FileReader.content c.args.files.now)
     c.escape_asked-escape.result a c.args.out.now c.run_call.new.out c.args.err.now c.run_call.new.err
     c.run_call.result) same c.run_call.ensures in
-    subst (λ (e : Escape). Does g.O.Write.contents g.E.Write.contents (g.F.FileReader.content c.args.files.now) e
+    subst (λ (e : Escape). Does g.O.Write.contents g.E.Write.contents (g.F.FileReader.listed c.args.files.now)
+    (g.F.FileReader.content c.args.files.now) e
     asked c.args.out.now c.run_call.new.out c.args.err.now c.run_call.new.err c.run_call.result) same_escape done
 
 pub returns-in-Ok-None-clause-command : goal.returns-in-Ok-None-clause-command
@@ -49,7 +51,7 @@ returns-clause-command g c = λ escape asked asks.
     ∙ parser_arguments-asked (map string_bytes c.args.arguments.now) escape asked asks in
     let (one, as_reported, same) =
     c.write_parser_message.ensures.no_memory (c.in-Err.ensures.err (ap is_taken arguments ∙ asked_is_taken asked)) in
-    without_memory _ _ _ escape asked _ _ _ _ _ one as_reported same
+    without_memory _ _ _ _ escape asked _ _ _ _ _ one as_reported same
 
 -- where the arguments of the parser have no memory
 pub returns-in_default-clause-command : goal.returns-in_default-clause-command
@@ -57,13 +59,18 @@ returns-in_default-clause-command g c = λ escape asked asks.
     let shown =
     subst (λ (e : CommandError). AppendsFront (g.E.Write.contents c.args.err.now) (g.E.Write.contents c.report.new.err)
     (error_line e)) c.from.ensures c.report.ensures in
-    without_memory g.O.Write.contents g.E.Write.contents (g.F.FileReader.content c.args.files.now) escape
+    without_memory g.O.Write.contents g.E.Write.contents (g.F.FileReader.listed c.args.files.now)
+    (g.F.FileReader.content c.args.files.now) escape
     asked c.args.out.now
     c.args.out.now c.args.err.now c.report.new.err 1 refl shown refl
 
 pub returns-in-Ok-Some-clause-streams : goal.returns-in-Ok-Some-clause-streams
 returns-in-Ok-Some-clause-streams g c =
-    of_command g.O.Write.contents g.E.Write.contents _ _ _ _ _ _ _ _ c.run_call.ensures
+    of_command g.O.Write.contents g.E.Write.contents _ _ _ _ _ _ _ _ _ c.run_call.ensures
+
+pub returns-in-Ok-None-clause-streams : goal.returns-in-Ok-None-clause-streams
+returns-in-Ok-None-clause-streams g c =
+    nothing_written g.O.Write.contents g.E.Write.contents c.args.out.now c.args.err.now
 
 pub returns-in-Ok-Some-clause-invalid : goal.returns-in-Ok-Some-clause-invalid
 returns-in-Ok-Some-clause-invalid g c = λ invalid.
