@@ -10,7 +10,6 @@ ghost use Rattle.answering.specs.Forwarding.{IsToForward};
 ghost use Rattle.answering.specs.Inner.Sent.{HasBegun, HasReply, IsRequestToForward};
 ghost use Rattle.answering.specs.Reply.{IsResponseOf};
 
-use admin_answers::admin_answer::AdminAnswer;
 use crate::admin_answer::admin_answer;
 use crate::begun::Begun;
 use crate::clock::Clock;
@@ -18,6 +17,7 @@ use crate::content::Content;
 use crate::response::{error_response, listed_response, response_of};
 use crate::serve::serve;
 use crate::site::Site;
+use admin_answers::admin_answer::AdminAnswer;
 use admin_table::route::is_admin;
 use bytes::Bytes;
 use error_code::error_code::ErrorCode;
@@ -73,10 +73,7 @@ fn request_of<L: Origin>(
 }
 
 // The response to a message that isn't read.
-fn refusal_response(
-    alloc: Global,
-    error: SnapshotError,
-) -> Result<Response<Content>, AllocError>
+fn refusal_response(alloc: Global, error: SnapshotError) -> Result<Response<Content>, AllocError>
     ensures { IfOk result (IsResponseOf (refusal error)) }
 {
     match error {

@@ -42,7 +42,7 @@ impl Model for Content {
 
     ghost Value = { List ℕ };
 
-    ghost view = { λ c. elim c.kind [ | Whole bytes ↦ bytes | IsListed listed ↦ listed.value.listing ] };
+    ghost view = { λ c. elim c.kind [ Whole bytes ↦ bytes | IsListed listed ↦ listed.value.listing ] };
 }
 
 impl Content {
@@ -142,10 +142,7 @@ fn whole_frame(bytes: &mut Bytes) -> Option<Result<Frame<Bytes>, ServiceError>>
     Some(Ok(Frame::data(whole)))
 }
 
-fn listed_frame(
-    alloc: Global,
-    listing: &mut Listing,
-) -> Option<Result<Frame<Bytes>, ServiceError>>
+fn listed_frame(alloc: Global, listing: &mut Listing) -> Option<Result<Frame<Bytes>, ServiceError>>
     ensures value { Yields listing.old [] result }
     ensures rest { IfSome result (λ x. After (Yields listing.old) x (Yields listing.new)) }
 {

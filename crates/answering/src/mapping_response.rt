@@ -69,11 +69,7 @@ fn templated_body_response(
 {
     let status = mapping.response.response().status.code();
     match respond_body(alloc, mapping, request, limits)? {
-        Some(body) => Ok(response_with(
-            status,
-            headers.clone()?,
-            Content::whole(body),
-        )),
+        Some(body) => Ok(response_with(status, headers.clone()?, Content::whole(body))),
         None => error_response(alloc, 500, ErrorCode::OverBudget),
     }
 }

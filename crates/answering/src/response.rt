@@ -5,8 +5,8 @@ ghost use Rattle.http.specs.Response.{head_of, body_of};
 ghost use Rattle.http.specs.declared.version.TheConstants.Version.{HTTP_11};
 ghost use Rattle.stub_response.specs.ErrorReply.{error_reply, json_reply};
 
-use admin_listing::listing::Listing;
 use crate::content::Content;
+use admin_listing::listing::Listing;
 use error_code::error_code::ErrorCode;
 use http::response::Parts;
 use http::{HeaderMap, Response, StatusCode, Version};
