@@ -62,6 +62,10 @@ reversed_onto
 reversed_onto bound [] ys first last = last
 reversed_onto bound (x ∷ xs) ys first last = reversed_onto bound xs (x ∷ ys) first.1 (first.0, last)
 
+pub below_more : (bound more : ℕ) (xs : List Entry) → bound ≤ more → AreBelow bound xs → AreBelow more xs
+below_more bound more [] up all = tt
+below_more bound more (x ∷ xs) up all = (omega (arith, all.0), below_more bound more xs up all.1)
+
 pub visible_below
     : (bound : ℕ) (found : Event → Option Request) (past : Past) → last_number past < bound
     → AreBelow bound (visible found past)

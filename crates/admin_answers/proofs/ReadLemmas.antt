@@ -1,6 +1,6 @@
 -- What is answered from a reading is what the past that was read says.
 use Rattle.std.proofs.Common.{◌≡◌, ◌⊎◌, ℕ, List, Vec, Option, Some, None, Any, Result, Ok, Err, IfOk}
-use Rattle.std.proofs.Common.{IfErr, inl, inr, sym, subst, refl, ◌∙◌, ◌<◌, ◌≤◌, ◌^◌}
+use Rattle.std.proofs.Common.{IfErr, inl, inr, sym, subst, refl, ◌∙◌, ◌+◌, ◌<◌, ◌≤◌, arith}
 use Rattle.std.specs.declared.alloc.AllocError.{AllocError}
 use Rattle.std.specs.declared.alloc.Global.{Global}
 use Rattle.admin_answers.proofs.NumberLemmas.{AreBelow, picked_below, visible_below}
@@ -50,63 +50,60 @@ mappings origin list reading (Ok reply) is e json =
 mappings origin list reading (Err why) is e json = tt
 
 -- a text that is the compact text of a value, and reads back, is its reply
-replied
-    : (value : Data) (text : List ℕ) → text ≡ compact_text value
-    → (depth value ≤ max_depth → json.read text ≡ Some value) → IsJsonReply 200 value (json_reply 200 text)
-replied value text is reads = (text, record { compact = λ whole. is; reads_back = reads }, refl)
+pub replied
+    : (value : Data) (P Q : Type 0) (result : Result (List ℕ) AllocError) → (Q → P)
+    → IfOk result (λ text. text ≡ compact_text value)
+    → IfOk result (λ text. P → depth value ≤ max_depth → json.read text ≡ Some value)
+    → IfOk result (λ text. Q → IsJsonReply 200 value (json_reply 200 text))
+replied value P Q (Ok text) less same reads =
+    λ q. (text, record { compact = λ whole. same; reads_back = reads (less q) }, refl)
+replied value P Q (Err why) less same reads = tt
 
 pub requests
     : (origin : Past) (list : Vec Entry Global) (reading : Reading) (result : Result (List ℕ) AllocError)
-    → IsRead origin read.Requests reading → reading.answer ≡ answer.Requests list → reading.number < 2 ^ 64
-    → IfOk result (λ text. text ≡ compact_text (json_of_requests list.items))
-    → IfOk result (λ text. AreBelow (2 ^ 64) list.items → depth (json_of_requests list.items) ≤ max_depth
-    → json.read text ≡ Some (json_of_requests list.items))
+    → IsRead origin read.Requests reading → reading.answer ≡ answer.Requests list
+    → IfOk result (λ text. AreBelow (reading.number + 1) list.items
+    → IsJsonReply 200 (json_of_requests list.items) (json_reply 200 text))
     → IfOk result (λ text. InPast origin (IsReadReply call.ListRequests (json_reply 200 text)))
-requests origin list reading (Ok text) is e fits same reads =
+requests origin list reading (Ok text) is e json =
     let says = said origin read.Requests reading _ is e in
-    let below = visible_below (2 ^ 64) request_of is.past (subst (λ n. n < 2 ^ 64) is.number fits) in (
+    let below = visible_below (reading.number + 1) request_of is.past (omega (arith, is.number)) in (
       is.past,
       is.reached,
       subst (λ es. IsJsonReply 200 (json_of_requests es) (json_reply 200 text)) says
-          (replied (json_of_requests list.items) text same (reads (subst (AreBelow (2 ^ 64)) (sym says) below))),
+          (json (subst (AreBelow (reading.number + 1)) (sym says) below)),
     )
-requests origin list reading (Err why) is e fits same reads = tt
+requests origin list reading (Err why) is e json = tt
 
 pub unmatched
     : (origin : Past) (list : Vec Entry Global) (reading : Reading) (result : Result (List ℕ) AllocError)
-    → IsRead origin read.Unmatched reading → reading.answer ≡ answer.Requests list → reading.number < 2 ^ 64
-    → IfOk result (λ text. text ≡ compact_text (json_of_found list.items))
-    → IfOk result (λ text. AreBelow (2 ^ 64) list.items → depth (json_of_found list.items) ≤ max_depth
-    → json.read text ≡ Some (json_of_found list.items))
+    → IsRead origin read.Unmatched reading → reading.answer ≡ answer.Requests list
+    → IfOk result (λ text. AreBelow (reading.number + 1) list.items
+    → IsJsonReply 200 (json_of_found list.items) (json_reply 200 text))
     → IfOk result (λ text. InPast origin (IsReadReply call.ListUnmatched (json_reply 200 text)))
-unmatched origin list reading (Ok text) is e fits same reads =
+unmatched origin list reading (Ok text) is e json =
     let says = said origin read.Unmatched reading _ is e in
-    let below = visible_below (2 ^ 64) unmatched_of is.past (subst (λ n. n < 2 ^ 64) is.number fits) in (
+    let below = visible_below (reading.number + 1) unmatched_of is.past (omega (arith, is.number)) in (
       is.past,
       is.reached,
       subst (λ es. IsJsonReply 200 (json_of_found es) (json_reply 200 text)) says
-          (replied (json_of_found list.items) text same (reads (subst (AreBelow (2 ^ 64)) (sym says) below))),
+          (json (subst (AreBelow (reading.number + 1)) (sym says) below)),
     )
-unmatched origin list reading (Err why) is e fits same reads = tt
+unmatched origin list reading (Err why) is e json = tt
 
 pub found
     : (origin : Past) (matcher : RequestSpec) (list : Vec Entry Global) (reading : Reading)
     (result : Result (List ℕ) AllocError)
-    → IsRead origin (read.Find matcher) reading → reading.answer ≡ answer.Requests list → reading.number < 2 ^ 64
-    → IfOk result (λ text. text ≡ compact_text (json_of_found list.items))
-    → IfOk result (λ text. AreBelow (2 ^ 64) list.items → depth (json_of_found list.items) ≤ max_depth
-    → json.read text ≡ Some (json_of_found list.items))
+    → IsRead origin (read.Find matcher) reading → reading.answer ≡ answer.Requests list
+    → IfOk result (λ text. AreBelow (reading.number + 1) list.items
+    → IsJsonReply 200 (json_of_found list.items) (json_reply 200 text))
     → IfOk result (λ text. InPast origin (IsReadReply (call.FindRequests matcher) (json_reply 200 text)))
-found origin matcher list reading (Ok text) is e fits same reads =
+found origin matcher list reading (Ok text) is e json =
     let says = said origin (read.Find matcher) reading _ is e in
-    let below = visible_below (2 ^ 64) request_of is.past (subst (λ n. n < 2 ^ 64) is.number fits) in
-    let all = picked_below (2 ^ 64) (λ entry. MeetsRequest matcher entry.request) (requests_in is.past) list.items
-    says below in (
-      is.past,
-      is.reached,
-      (list.items, says, replied (json_of_found list.items) text same (reads all)),
-    )
-found origin matcher list reading (Err why) is e fits same reads = tt
+    let below = visible_below (reading.number + 1) request_of is.past (omega (arith, is.number)) in
+    let all = picked_below (reading.number + 1) (λ entry. MeetsRequest matcher entry.request) (requests_in is.past)
+    list.items says below in (is.past, is.reached, (list.items, says, json all))
+found origin matcher list reading (Err why) is e json = tt
 
 pub counted
     : (origin : Past) (matcher : RequestSpec) (count : ℕ) (reading : Reading) (result : Result Reply AllocError)

@@ -1,7 +1,10 @@
 // Calls that read lists. The JSON is written piece by piece, after the lock was let go.
-ghost use Rattle.std.specs.Prelude.{◌≡◌, ◌⊎◌, IfErr, IfOk, Some};
+ghost use Rattle.std.specs.Prelude.{◌≡◌, ◌⊎◌, ◌+◌, ◌<◌, IfErr, IfOk, Some};
+ghost use Rattle.std.specs.List.{AllByRecursion};
 ghost use Rattle.admin_answers.specs.Answers.{InPast, IsReadReply};
+ghost use Rattle.admin_answers.specs.JsonReply.{IsJsonReply};
 ghost use Rattle.admin_answers.specs.Recordings.{HasNoHar, IsHarReply};
+ghost use Rattle.admin_json.specs.Requests.{json_of_found, json_of_requests};
 ghost use Rattle.admin_routes.specs.declared.call.AdminCall.TheVariants as call;
 ghost use Rattle.error_code.specs.declared.error_code.ErrorCode.TheVariants as code;
 ghost use Rattle.har_export.specs.Document.{IsHarText};
@@ -13,8 +16,9 @@ use crate::error::SharedError;
 use admin_listing::listing::Listing;
 use error_code::error_code::ErrorCode;
 use recorder::recording::{Recording, Session};
+use request_journal::entry::Entry;
 use request_match::request_matcher::RequestMatcher;
-use shared_book::book_read::{BookRead, ReadAnswer, Reading};
+use shared_book::book_read::{BookRead, ReadAnswer};
 use shared_book::origin::Origin;
 use shared_book::seat::Seat;
 use shared_book::shared_book::SharedBook;
@@ -30,12 +34,10 @@ pub(crate) fn list_requests<L: Origin, R: Wait>(
     ensures { IfOk result (λ listing.
         InPast L.origin (IsReadReply call.ListRequests (json_reply 200 listing))) }
 {
-    let Reading {
-        number: _number,
-        answer,
-    } = seat.read(rt, shared, BookRead::Requests)?;
-    match answer {
-        ReadAnswer::Requests(entries) => Listing::of_requests(alloc, entries),
+    let reading = seat.read(rt, shared, BookRead::Requests)?;
+    let last = reading.number;
+    match reading.answer {
+        ReadAnswer::Requests(entries) => requests_listing(alloc, last, entries),
         _ => unreachable!(),
     }
 }
@@ -49,12 +51,10 @@ pub(crate) fn list_unmatched<L: Origin, R: Wait>(
     ensures { IfOk result (λ listing.
         InPast L.origin (IsReadReply call.ListUnmatched (json_reply 200 listing))) }
 {
-    let Reading {
-        number: _number,
-        answer,
-    } = seat.read(rt, shared, BookRead::Unmatched)?;
-    match answer {
-        ReadAnswer::Requests(entries) => Listing::of_found(alloc, entries),
+    let reading = seat.read(rt, shared, BookRead::Unmatched)?;
+    let last = reading.number;
+    match reading.answer {
+        ReadAnswer::Requests(entries) => found_listing(alloc, last, entries),
         _ => unreachable!(),
     }
 }
@@ -69,12 +69,10 @@ pub(crate) fn find_requests<L: Origin, R: Wait>(
     ensures { IfOk result (λ listing.
         InPast L.origin (IsReadReply (call.FindRequests matcher) (json_reply 200 listing))) }
 {
-    let Reading {
-        number: _number,
-        answer,
-    } = seat.read(rt, shared, BookRead::Find(matcher))?;
-    match answer {
-        ReadAnswer::Requests(entries) => Listing::of_found(alloc, entries),
+    let reading = seat.read(rt, shared, BookRead::Find(matcher))?;
+    let last = reading.number;
+    match reading.answer {
+        ReadAnswer::Requests(entries) => found_listing(alloc, last, entries),
         _ => unreachable!(),
     }
 }
@@ -95,6 +93,23 @@ pub(crate) fn read_recording_har<L: Origin, R: Wait>(
         ReadAnswer::Recording(recording) => har_listing(alloc, recording),
         _ => unreachable!(),
     }
+}
+
+// Requests whose events have numbers up to the last.
+fn requests_listing(alloc: Global, last: u64, entries: Vec<Entry>) -> Result<Listing, AllocError>
+    ensures { IfOk result (λ listing.
+        AllByRecursion (λ entry. entry.number < last + 1) entries.items
+        → IsJsonReply 200 (json_of_requests entries.items) (json_reply 200 listing)) }
+{
+    Listing::of_requests(alloc, entries)
+}
+
+fn found_listing(alloc: Global, last: u64, entries: Vec<Entry>) -> Result<Listing, AllocError>
+    ensures { IfOk result (λ listing.
+        AllByRecursion (λ entry. entry.number < last + 1) entries.items
+        → IsJsonReply 200 (json_of_found entries.items) (json_reply 200 listing)) }
+{
+    Listing::of_found(alloc, entries)
 }
 
 fn har_listing(alloc: Global, recording: &Recording) -> Result<Listing, SharedError>

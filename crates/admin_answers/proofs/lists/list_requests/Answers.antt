@@ -1,7 +1,16 @@
+use Rattle.std.proofs.Common.{◌+◌, IfOk, subst}
+use Rattle.admin_answers.specs.JsonReply.{IsJsonReply}
+use Rattle.admin_answers.proofs.NumberLemmas.{AreBelow}
 use Rattle.admin_answers.proofs.ReadLemmas.{requests}
+use Rattle.admin_json.specs.Requests.{json_of_requests}
+use Rattle.stub_response.specs.ErrorReply.{json_reply}
 use Rattle.admin_answers.proofs.lists.list_requests.Goals as goal
 
 pub returns : goal.returns
 returns g c =
-    requests g.L.Origin.origin c.in-Requests.entries c.in_ok-reading.reading c.of_requests.result c.in_ok-reading.ensures
-    c.in-Requests.is c.ranges.number c.of_requests.ensures.text c.of_requests.ensures.reads_back
+    let last = c.in_ok-reading.reading.number in
+    requests g.L.Origin.origin c.in-Requests.entries c.in_ok-reading.reading c.requests_listing.result c.in_ok-reading.ensures
+    c.in-Requests.is
+    (subst (λ es. IfOk c.requests_listing.result (λ text. AreBelow (last + 1) es.items
+    → IsJsonReply 200 (json_of_requests es.items) (json_reply 200 text)))
+    c.in-Requests.entries-is c.requests_listing.ensures)
