@@ -92,7 +92,9 @@ def response(stream, has_content=True):
     has_content = has_content and line[1] not in ("100", "204", "304")
     if has_content and dict(headers).get("transfer-encoding") == "chunked":
         return line[1], headers, b"".join(chunks(stream))
-    length = int(dict(headers).get("content-length", 0)) if has_content else 0
+    if has_content and "content-length" not in dict(headers):
+        return line[1], headers, stream.read()
+    length = int(dict(headers)["content-length"]) if has_content else 0
     return line[1], headers, stream.read(length)
 
 
