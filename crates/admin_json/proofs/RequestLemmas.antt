@@ -68,7 +68,8 @@ module _ (P : Num → Type 0) where
       put_regular (codes "requests") (json_of_entries entries) no_members (entries_regular entries all) (tt, tt)
 
   pub requests_regular
-      : (entries : List Entry) → P (unsigned (length entries)) → AllByRecursion (λ entry. P (unsigned entry.number)) entries
+      : (entries : List Entry) → P (unsigned (length entries))
+      → AllByRecursion (λ entry. P (unsigned entry.number)) entries
       → IsRegular P (json_of_requests entries)
   requests_regular entries total all =
       let meta : Members = put (codes "meta") (json_of_meta (length entries)) no_members in

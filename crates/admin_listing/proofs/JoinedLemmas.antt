@@ -1,6 +1,7 @@
 -- Texts of entries that are joined are the compact text of the list.
-use Rattle.std.proofs.Common.{◌≡◌, ◌≢◌, ℕ, zero, suc, ◌+◌, List, [], ◌∷◌, ◌++◌, Bool, true, false, Some, length, map, drop}
-use Rattle.std.proofs.Common.{refl, ap, ◌∙◌, slice_get, codes, decimal, append_assoc}
+use Rattle.std.proofs.Common.{◌≡◌, ◌≢◌, ℕ, zero, suc, ◌+◌, List, [], ◌∷◌, ◌++◌, Bool, true}
+use Rattle.std.proofs.Common.{false, Some, length, map, drop, refl, ap, ◌∙◌, slice_get, codes, decimal}
+use Rattle.std.proofs.Common.{append_assoc}
 use Rattle.std.specs.Prelude.{unwrap_or}
 use Rattle.admin_json.specs.Requests.{json_of_entry, json_of_entries, json_of_found, json_of_requests}
 use Rattle.admin_listing.specs.Inner.Joined.{joined, text_of}
@@ -54,7 +55,8 @@ unfolding serde_json_on_literals
 requests_text entries =
     ap (λ s. codes "{\"meta\":{\"total\":" ++ s)
     (append_assoc (decimal (length entries)) (codes "}") _
-    ∙ ap (λ s. decimal (length entries) ++ (codes "},\"requests\":[" ++ s)) (entries_joined false entries (codes "}")))
+    ∙ ap (λ s. decimal (length entries) ++ (codes "},\"requests\":[" ++ s))
+    (entries_joined false entries (codes "}")))
 
 pub har_text
     : (values : Items)
@@ -77,6 +79,7 @@ at_drop (y ∷ xs) zero x is = ap (λ z. z ∷ xs) (some_same y x is)
 at_drop (y ∷ xs) (suc i) x is = at_drop xs i x is
 
 pub next_joined
-    : (end : List ℕ) (later : Bool) (texts : List (List ℕ)) (i : ℕ) (text : List ℕ) → slice_get texts i ≡ Some text
+    : (end : List ℕ) (later : Bool) (texts : List (List ℕ)) (i : ℕ) (text : List ℕ)
+    → slice_get texts i ≡ Some text
     → joined end later (drop i texts) ≡ comma_if later ++ (text ++ joined end true (drop (suc i) texts))
 next_joined end later texts i text is = ap (joined end later) (at_drop texts i text is)

@@ -1,6 +1,6 @@
 // The text of a list, written piece by piece.
-ghost use Rattle.std.specs.Prelude.{◌≡◌, ◌≢◌, ◌↔◌, ◌+◌, ◌^◌, ◌<◌, ◌≤◌, ◌++◌, [], Some, length, string_bytes};
-ghost use Rattle.std.specs.Prelude.{IfOk, OnOk, OnErr, IsErrOf, MatchOption};
+ghost use Rattle.std.specs.Prelude.{◌≡◌, ◌≢◌, ◌↔◌, ◌+◌, ◌^◌, ◌<◌, ◌≤◌, ◌++◌};
+ghost use Rattle.std.specs.Prelude.{[], Some, length, string_bytes, IfOk, OnOk, OnErr, IsErrOf, MatchOption};
 ghost use Rattle.std.specs.List.{AllByRecursion};
 ghost use Rattle.admin_json.specs.Requests.{json_of_found, json_of_requests};
 ghost use Rattle.admin_listing.specs.Inner.Joined.{head_of_requests, left_of, texts_in};
@@ -67,8 +67,8 @@ impl Listing {
         Ok(new_listing(head, Entries::Requests(entries)))
     }
 
-    /// The HAR document of exchanges with the target. An exchange that started too late is reported before any memory is
-    /// taken.
+    /// The HAR document of exchanges with the target. An exchange that started too late is reported before any memory
+    /// is taken.
     pub fn of_exchanges(
         alloc: Global,
         exchanges: &[SharedExchange],

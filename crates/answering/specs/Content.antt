@@ -7,10 +7,13 @@ use Rattle.http_messages.specs.declared.error.ServiceError.{ServiceError}
 -- the frame has the first bytes of the content, and what holds of the rest
 abbrev pub IsFront : Frame (List ℕ) → List ℕ → (List ℕ → Type 0) → Type 0
 IsFront frame content Holds =
-    (piece : List ℕ) × (frame ≡ data_frame piece) × ((rest : List ℕ) × (content ≡ piece ++ rest) × Holds rest)
+    (piece : List ℕ) × (frame ≡ data_frame piece)
+    × ((rest : List ℕ) × (content ≡ piece ++ rest) × Holds rest)
 
--- These frames, and then this answer: the end comes exactly after the whole content. After an error nothing is promised.
-unfoldable pub Yields : List ℕ → List (Result (Frame (List ℕ)) ServiceError) → Option (Result (Frame (List ℕ)) ServiceError) → Type 0
+-- These frames, and then this answer: the end comes exactly after the whole content. After an error
+-- nothing is promised.
+unfoldable pub Yields : List ℕ → List (Result (Frame (List ℕ)) ServiceError)
+    → Option (Result (Frame (List ℕ)) ServiceError) → Type 0
 Yields content [] None = content ≡ []
 Yields content [] (Some (Ok frame)) = IsFront frame content (λ _. ⊤)
 Yields content [] (Some (Err error)) = ⊤

@@ -32,7 +32,7 @@ enum Kind {
 struct Listed {
     alloc: Global,
     listing: Listing,
-    /// Whether a piece was given since others were served.
+    /// Whether a piece was given at the last poll.
     gave: bool,
 }
 
@@ -109,7 +109,7 @@ impl Body for Content {
 }
 
 impl Listed {
-    // The next piece. Others are served between two pieces.
+    // The next piece. Between two of them it says once that none is ready yet, and asks to be polled again.
     fn poll_frame(
         &mut self,
         cx: &mut Context<'_>,

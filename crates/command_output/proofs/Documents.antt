@@ -1,6 +1,6 @@
 -- Files that are read one after the other.
-use Rattle.std.proofs.Common.{◌≡◌, ◌⊎◌, ◌<◌, ◌∙◌, List, [], ◌∷◌, ◌++◌, ℕ, Option, Some, None, map, length, inl, inr}
-use Rattle.std.proofs.Common.{sym, ap, subst, arith, slice_index_or}
+use Rattle.std.proofs.Common.{◌≡◌, ◌⊎◌, ◌<◌, ◌∙◌, List, [], ◌∷◌, ◌++◌, ℕ, Option}
+use Rattle.std.proofs.Common.{Some, None, map, length, inl, inr, sym, ap, subst, arith, slice_index_or}
 use Rattle.std.proofs.lemmas.List.{get_or-map, length-map}
 use Rattle.std.specs.Prelude.{Contains, IfSome}
 use Rattle.std.specs.List.{AllZip}
@@ -31,7 +31,8 @@ contains_mapped f xs i x lt is = (
 )
 
 -- the error of one of the files that are listed
-pub listed_error : (listed : Option (List (List ℕ))) (known : List ℕ → Option (List ℕ)) (paths : List (List ℕ))
+pub listed_error : (listed : Option (List (List ℕ))) (known : List ℕ → Option (List ℕ))
+    (paths : List (List ℕ))
     (error : FileError) → IfSome listed (λ all. paths ≡ all)
     → (error ≡ OutOfMemory)
     ⊎ ((path : List ℕ) × Contains paths path × IsFileError (known path) error)

@@ -1,6 +1,6 @@
 //! The files that a command reads.
-ghost use Rattle.std.specs.Prelude.{◌≡◌, ◌⊎◌, ◌∷◌, ◌++◌, [], Contains, IfOk, IfErr, IfSome, List, OnOk};
-ghost use Rattle.std.specs.Prelude.{ℕ, map, string_bytes};
+ghost use Rattle.std.specs.Prelude.{◌≡◌, ◌⊎◌, ◌∷◌, ◌++◌, [], Contains, IfOk, IfErr, IfSome, List};
+ghost use Rattle.std.specs.Prelude.{OnOk, ℕ, map, string_bytes};
 ghost use Rattle.std.specs.List.{AllZip};
 ghost use Rattle.command_output.specs.Files.{AreDocuments, IsDocumentsError, IsFile, IsFileError};
 ghost use Rattle.command_output.specs.declared.files.FileError.TheVariants.{OutOfMemory as NoMemory};

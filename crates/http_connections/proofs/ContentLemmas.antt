@@ -1,13 +1,15 @@
 -- Each frame of a body adds its data to the content that is gathered, or makes it too long.
-use Rattle.std.proofs.Common.{◌≡◌, ◌≢◌, ◌<◌, ℕ, Bool, true, false, List, [], ◌∷◌, ◌++◌, None, Some, Ok, Err, IfOk, IsErrOf, Result}
-use Rattle.std.proofs.Common.{true≢false, length, map, refl, append_assoc, append-nil, sym, ap, subst, ◌∙◌}
+use Rattle.std.proofs.Common.{◌≡◌, ◌≢◌, ◌<◌, ℕ, Bool, true, false, List, [], ◌∷◌, ◌++◌}
+use Rattle.std.proofs.Common.{None, Some, Ok, Err, IfOk, IsErrOf, Result, true≢false, length, map, refl, append_assoc}
+use Rattle.std.proofs.Common.{append-nil, sym, ap, subst, ◌∙◌}
 use Rattle.futures.specs.Runs.{Runs, After}
 use Rattle.http_body.specs.Frame.{bytes_in, joined_data}
 use Rattle.http_body.specs.declared.frame.Frame.{Frame}
 use Rattle.http_connections.specs.Content.{Exceeds, Gathers, IsGathered}
 use Rattle.http_connections.specs.Inner.Pushed.{IsPushed}
 use Rattle.http_connections.specs.declared.content_error.ContentError.{ContentError}
-use Rattle.http_connections.specs.declared.content_error.ContentError.TheVariants.{Broken, Malformed, OutOfMemory, TooLong}
+use Rattle.http_connections.specs.declared.content_error.ContentError.TheVariants.{Broken, Malformed, OutOfMemory}
+use Rattle.http_connections.specs.declared.content_error.ContentError.TheVariants.{TooLong}
 use Rattle.mock_request.specs.declared.snapshot.TheConstants.{BODY_LIMIT}
 
 module _ {E : Type 0} (old : Runs (Result (Frame (List ℕ)) E)) where

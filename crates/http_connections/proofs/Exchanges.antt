@@ -12,7 +12,8 @@ use Rattle.http_connections.specs.declared.content_error.ContentError.{ContentEr
 
 module _ {Refusal C : Type 0} (IsEmpty : C → Type 0) (gives : Request (List ℕ) → Response C → Type 0) where
   -- what is given for a request with this head, where the gatherer may give so
-  abbrev pub IsGivenWith : Parts → (Result (List ℕ) ContentError → Type 0) → Result (Response C) Refusal → Type 0
+  abbrev pub IsGivenWith : Parts → (Result (List ℕ) ContentError → Type 0)
+      → Result (Response C) Refusal → Type 0
   IsGivenWith head comes result = IfOk result (λ made. (gathered : Result (List ℕ) ContentError) × comes gathered
       × IsAnswerTo IsEmpty gives head gathered made)
 
@@ -23,7 +24,8 @@ module _ {Refusal C : Type 0} (IsEmpty : C → Type 0) (gives : Request (List �
       (given.0, more given.0 given.1, subst (λ h. IsAnswerTo IsEmpty gives h given.0 made) same given.2)
   given_within head head' comes comes' same more (Err refusal) given = tt
 
-  module _ {E Reply : Type 0} (forwards : Request (List ℕ) → E → Type 0) (exchanged : E → Reply → Type 0) where
+  module _ {E Reply : Type 0} (forwards : Request (List ℕ) → E → Type 0)
+      (exchanged : E → Reply → Type 0) where
     -- what is given for each message that the exchange may be for
     abbrev pub IsGivenBy : E → Result (Response C) Refusal → Type 0
     IsGivenBy exchange result = (message : Request (List ℕ)) → IsExchangeFor forwards exchanged message exchange

@@ -1,6 +1,6 @@
 -- The content of a request: what is gathered of it, and what is answered then.
-use Rattle.std.specs.Prelude.{◌≡◌, ◌<◌, ◌⊎◌, ℕ, Bool, true, false, List, [], ◌++◌, None, Some, Ok, Err, Result}
-use Rattle.std.specs.Prelude.{length, map, codes, Any, ⊤}
+use Rattle.std.specs.Prelude.{◌≡◌, ◌<◌, ◌⊎◌, ℕ, Bool, true, false, List, [], ◌++◌, None, Some, Ok}
+use Rattle.std.specs.Prelude.{Err, Result, length, map, codes, Any, ⊤}
 use Rattle.std.specs.Char.{to_ascii_lowercase}
 use Rattle.futures.specs.Runs.{Runs}
 use Rattle.http.specs.Request as request
@@ -16,7 +16,8 @@ use Rattle.hyper.specs.Incoming.{size_left}
 use Rattle.hyper.specs.declared.body.incoming.Incoming.{Incoming}
 use Rattle.http_connections.specs.Sent.{IsSentFor}
 use Rattle.http_connections.specs.declared.content_error.ContentError.{ContentError}
-use Rattle.http_connections.specs.declared.content_error.ContentError.TheVariants.{Broken, Malformed, OutOfMemory, TooLong}
+use Rattle.http_connections.specs.declared.content_error.ContentError.TheVariants.{Broken, Malformed, OutOfMemory}
+use Rattle.http_connections.specs.declared.content_error.ContentError.TheVariants.{TooLong}
 use Rattle.http_connections.specs.declared.gathering.Gathering.{Gathering}
 use Rattle.mock_request.specs.declared.snapshot.TheConstants.{BODY_LIMIT}
 
@@ -70,7 +71,8 @@ IsChunked value = map to_ascii_lowercase value.bytes ≡ codes "chunked"
 abbrev pub HasOtherCoding : Entries FieldValue → Type 0
 HasOtherCoding headers = Any (λ value. ¬ (IsChunked value)) (get_all headers (codes "transfer-encoding"))
 
--- The content that a request is answered with, after this came of gathering it: what is too long stands for all that is.
+-- The content that a request is answered with, after this came of gathering it: what is too long stands for
+-- all that is.
 abbrev pub IsContentOf : Result (List ℕ) ContentError → List ℕ → Type 0
 IsContentOf (Ok content) body = body ≡ content
 IsContentOf (Err TooLong) body = BODY_LIMIT < length body

@@ -7,8 +7,8 @@ use Rattle.http_connections.specs.declared.begun.Begun.TheVariants.{Answered, Fo
 use Rattle.http_messages.specs.Wire.{IsSent}
 
 -- it is what is sent of an answer that may be given to the message; `IsEmpty` says which content has no bytes
-abbrev pub IsSentFor : {C : Type 0} → (C → Type 0) → (Request (List ℕ) → Response C → Type 0) → Request (List ℕ)
-    → Response C → Type 0
+abbrev pub IsSentFor : {C : Type 0} → (C → Type 0) → (Request (List ℕ) → Response C → Type 0)
+    → Request (List ℕ) → Response C → Type 0
 IsSentFor {C} IsEmpty gives message made = (answer : Response C) × gives message answer × IsSent IsEmpty answer made
 
 -- the message has an answer that may be given to it, or an exchange by which it may be forwarded, and which

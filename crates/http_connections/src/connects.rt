@@ -40,7 +40,8 @@ where
 
     ghost can_connect = { λ _ service. S.can_call service × ((content : B) → B.can_poll content) };
 
-    ghost makes = { λ _ made. Runs ⟦<TcpStream as AsyncRead>⟧ ⟦<TcpStream as AsyncWrite>⟧ S.Service S.Future.Future B.Body
+    ghost makes = { λ _ made.
+        Runs ⟦<TcpStream as AsyncRead>⟧ ⟦<TcpStream as AsyncWrite>⟧ S.Service S.Future.Future B.Body
         B.Data.Into made.conn };
 
     fn connect(&self, socket: TcpStream, service: S) -> Connection<TcpStream, S, B, T> {

@@ -103,7 +103,8 @@ impl<B> Gathering<B> {
     }
 
     fn end(&mut self) -> Result<Bytes, ContentError>
-        ensures value { IfOk result (λ content. (content ≡ self.old.gathered.items) × (self.old.is_too_long ≡ false)) }
+        ensures value { IfOk result
+            (λ content. (content ≡ self.old.gathered.items) × (self.old.is_too_long ≡ false)) }
         ensures too_long { IsErrOf result TooLong → self.old.is_too_long ≡ true }
     {
         if self.is_too_long {

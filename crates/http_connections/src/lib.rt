@@ -1,5 +1,5 @@
-//! The server's connections: requests of HTTP/1.1 over the sockets of a listener of `tokio`. It knows how a request is gathered, which seat answers it, and where the seat is kept; what the answer is,
-//! says who implements `Answers`.
+//! The server's connections: requests of HTTP/1.1 over the sockets of a listener of `tokio`. It knows how a request is
+//! gathered, which seat answers it, and where the seat is kept; what the answer is, says who implements `Answers`.
 #![tactic(auto)]
 
 mod accepting;

@@ -47,7 +47,8 @@ impl<A: Answers> SeatSlot<A> {
         alloc: Global,
         request: &Request<Bytes>,
     ) -> Result<Begun<A::Exchange, A::Content>, ServiceError>
-        ensures { IfOk result (IsBegun (IsSentFor A.Content.is_default A.gives) A.forwards A.Exchange.can_poll request.now) }
+        ensures { IfOk result
+            (IsBegun (IsSentFor A.Content.is_default A.gives) A.forwards A.Exchange.can_poll request.now) }
     {
         let begun = self.begin_at_seat(rt, alloc, request);
         // Most answers are sent as they are, and aren't moved to see that.

@@ -1,5 +1,6 @@
 // The requests of one connection.
-ghost use Rattle.std.specs.Prelude.{◌≡◌, ◌<◌, ℕ, List, Result, Some, length, IfOk, IfSome, IsSome, IsTrue, ⊤};
+ghost use Rattle.std.specs.Prelude.{◌≡◌, ◌<◌, ℕ, List, Result, Some, length, IfOk, IfSome, IsSome, IsTrue};
+ghost use Rattle.std.specs.Prelude.{⊤};
 ghost use Rattle.futures.specs.Poll.{IfReady, OnPending};
 ghost use Rattle.futures.specs.Task.{IsArmed, Keeps};
 ghost use Rattle.http_connections.specs.declared.content_error.ContentError.{ContentError as GatherError};

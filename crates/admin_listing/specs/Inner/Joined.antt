@@ -1,5 +1,6 @@
 -- The text of a list from an entry on: the texts of the entries, with commas between them, and what stands after them.
-use Rattle.std.specs.Prelude.{ℕ, List, [], ◌∷◌, ◌++◌, Bool, true, nat_lt, drop, map, Option, Some, None, codes, decimal}
+use Rattle.std.specs.Prelude.{ℕ, List, [], ◌∷◌, ◌++◌, Bool, true, nat_lt, drop, map, Option, Some, None}
+use Rattle.std.specs.Prelude.{codes, decimal}
 use Rattle.admin_json.specs.Requests.{json_of_entry}
 use Rattle.admin_listing.specs.declared.entries.Entries.{Entries}
 use Rattle.admin_listing.specs.declared.entries.Entries.TheVariants.{Requests, Exchanges}

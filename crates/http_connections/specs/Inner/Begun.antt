@@ -18,7 +18,8 @@ IsSentOf IsEmpty (Forwarding exchange) made = made ≡ Forwarding exchange
 -- A request with this head, after this came of gathering its content, has an answer that may be sent, or an exchange by
 -- which it may be forwarded, and which may be polled.
 abbrev pub IsBegunWith : {E C : Type 0} → (C → Type 0) → (Request (List ℕ) → Response C → Type 0)
-    → (Request (List ℕ) → E → Type 0) → (E → Type 0) → Parts → Result (List ℕ) ContentError → Begun E C → Type 0
+    → (Request (List ℕ) → E → Type 0) → (E → Type 0) → Parts → Result (List ℕ) ContentError
+    → Begun E C → Type 0
 IsBegunWith IsEmpty gives forwards can_poll head gathered (Answered made) = IsAnswerTo IsEmpty gives head gathered made
 IsBegunWith IsEmpty gives forwards can_poll head gathered (Forwarding exchange) =
     ((body : List ℕ) × IsContentOf gathered body × forwards (record { head = head; body = body }) exchange.value)

@@ -1,5 +1,5 @@
-use Rattle.std.proofs.Common.{◌≡◌, ◌<◌, ◌++◌, ◌∙◌, ◌+◌, suc, sym, ap, append_assoc, string_bytes, true, drop, arith, nat_lt}
-use Rattle.std.proofs.Common.{lt-ltb}
+use Rattle.std.proofs.Common.{◌≡◌, ◌<◌, ◌++◌, ◌∙◌, ◌+◌, suc, sym, ap, append_assoc}
+use Rattle.std.proofs.Common.{string_bytes, true, drop, arith, nat_lt, lt-ltb}
 use Rattle.admin_listing.specs.Inner.Joined.{end_of, joined, texts_in}
 use Rattle.admin_listing.proofs.JoinedLemmas.{next_joined}
 use Rattle.serde_json.specs.Written.{comma_if}

@@ -1,4 +1,5 @@
-use Rattle.std.proofs.Common.{◌≡◌, ◌+◌, ◌∷◌, ◌++◌, [], inr, take, sym, ap, subst, arith, ◌∙◌, string_bytes, Vec, ℕ}
+use Rattle.std.proofs.Common.{◌≡◌, ◌+◌, ◌∷◌, ◌++◌, [], inr, take, sym, ap, subst, arith, ◌∙◌}
+use Rattle.std.proofs.Common.{string_bytes, Vec, ℕ}
 use Rattle.std.proofs.lemmas.List.{take_all, take_more}
 use Rattle.std.specs.List.{AllZip}
 use Rattle.command_output.specs.Files.{IsFile, IsFileError}
@@ -37,5 +38,6 @@ returns-clause-ok g c =
     take_all c.loop-path.path-index c.args.paths.now (omega arith) in
     zip_maps (λ path bytes. IsFile (g.F.FileReader.content c.args.files.now path) bytes) string_bytes
     (λ (text : Vec ℕ _). text.items) c.args.paths.now c.loop-path.texts.items
-    (subst (λ ps. AllZip (λ path text. IsFile (g.F.FileReader.content c.args.files.now (string_bytes path)) text.items)
+    (subst (λ ps. AllZip (λ path text.
+    IsFile (g.F.FileReader.content c.args.files.now (string_bytes path)) text.items)
     ps c.loop-path.texts.items) all c.loop-path.invariant)

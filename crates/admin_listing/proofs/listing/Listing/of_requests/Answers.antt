@@ -1,4 +1,5 @@
-use Rattle.std.proofs.Common.{◌≡◌, ◌<◌, ◌^◌, ◌++◌, ◌∙◌, sym, ap, append_assoc, arith, codes, decimal, false, length, map}
+use Rattle.std.proofs.Common.{◌≡◌, ◌<◌, ◌^◌, ◌++◌, ◌∙◌, sym, ap, append_assoc, arith, codes}
+use Rattle.std.proofs.Common.{decimal, false, length, map}
 use Rattle.admin_json.specs.Requests.{json_of_requests}
 use Rattle.admin_json.proofs.Regular.{FitsWord, reads_back}
 use Rattle.admin_json.proofs.RequestLemmas.{requests_regular}
