@@ -55,9 +55,21 @@ def serve(program, *arguments):
 def port_of(server):
     """The port that its first line tells."""
     first = server.stdout.readline().decode()
-    if not re.fullmatch(r"listening on 127\.0\.0\.1:\d+\n", first):
+    if not re.fullmatch(r"listening on \S+:\d+\n", first):
         sys.exit(f"the first line of `mock serve`: {first!r}")
     return int(first.rsplit(":", 1)[1])
+
+
+def untold(end):
+    """The end of a server, without what standard error tells of refused admin calls and of posted mappings, which `told`
+    compares: lines that begin so, and what belongs to them, which is indented."""
+    output, error, status = end
+    kept, is_told = [], False
+    for line in error.splitlines(keepends=True):
+        is_told = line.startswith(("refused ", "warning")) or is_told and line.startswith("  ")
+        if not is_told:
+            kept.append(line)
+    return [output, "".join(kept), status]
 
 
 def end(process):

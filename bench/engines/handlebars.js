@@ -1,7 +1,8 @@
 // Renders the templates of bench/templates by Handlebars, as often as it is told. node handlebars.js HANDLEBARS.JS FILE:
 // the file has the cases as JSON. Lines on standard input are `text CASE`, answered by the rendered text as JSON, and
-// `run CASE COUNT`, answered by the length of so many rendered texts. Templates are compiled before the first line is
-// read: Handlebars makes their code at the first rendering, and `text` is asked first.
+// `run CASE COUNT` and `alone CASE COUNT`, answered by the length of so many rendered texts: `alone` reads no body, but
+// renders over data that were read before. Templates are compiled before the first line is read: Handlebars makes their
+// code at the first rendering, and `text` is asked first.
 const fs = require('fs');
 const path = require('path');
 const readline = require('readline');
@@ -44,14 +45,12 @@ function find(value, jsonPath) {
 
 Handlebars.registerHelper({ upper, lower, trim, jsonPath: find, eq: (one, other) => one === other });
 
-// One rendering; it begins with the body's text, if there is one.
+// One rendering, which begins with the body's text, if there is one, and one over data that were read before.
 function rendering({ handlebars, request, body }) {
   const template = Handlebars.compile(handlebars, { noEscape: true });
-  if (body === null) {
-    const data = { request };
-    return () => template(data);
-  }
-  return () => template({ request: { body: JSON.parse(body) } });
+  const data = { request: body === null ? request : { body: JSON.parse(body) } };
+  const alone = () => template(data);
+  return { run: body === null ? alone : () => template({ request: { body: JSON.parse(body) } }), alone };
 }
 
 const cases = JSON.parse(fs.readFileSync(process.argv[3], 'utf8'));
@@ -59,11 +58,11 @@ const renderings = new Map(Object.entries(cases).map(([name, one]) => [name, ren
 
 readline.createInterface({ input: process.stdin }).on('line', line => {
   const [what, name, count] = line.split(' ');
-  const render = renderings.get(name);
   if (what === 'text') {
-    console.log(JSON.stringify(render()));
+    console.log(JSON.stringify(renderings.get(name).run()));
     return;
   }
+  const render = renderings.get(name)[what];
   let length = 0;
   for (let i = 0; i < Number(count); i++) length += render().length;
   console.log(length);

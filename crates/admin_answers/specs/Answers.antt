@@ -29,7 +29,7 @@ use Rattle.request_journal.specs.declared.input.BookInput.TheVariants as input
 use Rattle.request_match.specs.Matching.{MeetsRequest}
 use Rattle.scenario_core.specs.Scenarios.{States, state_of}
 use Rattle.serde_json.specs.Data.{object, no_members}
-use Rattle.shared_book.specs.Held.{Held, with_receipt}
+use Rattle.shared_book.specs.Held.{Gained, Held}
 use Rattle.shared_book.specs.Reached.{IsReached}
 use Rattle.shared_book.specs.Receipts.{IsReceipt}
 use Rattle.shared_book.specs.Refused.{IsRefused}
@@ -39,7 +39,7 @@ use Rattle.shared_book.specs.declared.receipt.Receipt.{Receipt}
 
 -- the seat has gained the receipt of what was asked for
 pub record Gains (origin : Past) (old new : Held) (asked : BookInput) (receipt : Receipt) : Type 0 where
-  pub gained : new ≡ with_receipt old receipt
+  pub gained : Gained origin old receipt new
   pub is_asked : IsAsked asked receipt.event
   pub is_receipt : IsReceipt origin receipt
 

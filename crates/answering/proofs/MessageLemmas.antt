@@ -1,9 +1,10 @@
 -- What a message begins, by what its request does.
-use Rattle.std.proofs.Common.{◌≡◌, ◌≤◌, ◌<◌, ℕ, List, length, Ok, Err, refl, subst, sym, inr}
+use Rattle.std.proofs.Common.{◌≡◌, ◌≤◌, ◌<◌, ℕ, List, All, length, Ok, Err, refl, subst, sym, inr}
 use Rattle.std.specs.Prelude.{Result, IsErrOf, MatchResult}
 use Rattle.admin_table.specs.Routes.{IsAdmin}
 use Rattle.http.specs.Request.{body_of}
 use Rattle.http.specs.declared.request.Request.{Request as Message}
+use Rattle.http_header.specs.FieldName.{IsHeaderName}
 use Rattle.http_messages.specs.Received.{IsReceived, target_of}
 use Rattle.answering.specs.Answering.{IsNotBegun, IsNotRead, IsReply, IsRequestAnswered, IsUnread, refusal}
 use Rattle.answering.specs.Forwarding.{IsToForward, serve_receipt}
@@ -13,7 +14,7 @@ use Rattle.answering.specs.declared.begun.Begun.{Begun}
 use Rattle.answering.specs.declared.begun.Begun.TheVariants.{Answered, ToForward}
 use Rattle.answering.specs.declared.forward.Forward.{Forward}
 use Rattle.mapping_model.specs.declared.reply.Reply.{Reply}
-use Rattle.mock_request.specs.Request.{Request}
+use Rattle.mock_request.specs.Request.{Header, Request}
 use Rattle.mock_request.specs.Target.{HasUrl}
 use Rattle.mock_request.specs.declared.error.SnapshotError.{SnapshotError}
 use Rattle.mock_request.specs.declared.error.SnapshotError.TheVariants as unread
@@ -37,18 +38,21 @@ is_unread message unread.OutOfMemory result is bad large = tt
 to_forward
     : (origin : Past) (old middle new : Held) (message : Message (List ℕ)) (request : Request) (forward : Forward)
     → middle ≡ old → IsReceived message request → length (body_of message) ≤ BODY_LIMIT
+    → All (λ (h : Header). IsHeaderName h.name) request.headers
     → IsRequestToForward origin middle new request forward → IsToForward origin old new message forward
-to_forward origin old middle new message request forward same received within is = record {
+to_forward origin old middle new message request forward same received within names is = record {
   received = subst (IsReceived message) (sym is.1.0) received;
   within = within;
   no_admin_call = subst (λ (r : Request). ¬ (IsAdmin r.url)) (sym is.1.0) is.0;
   served = subst (λ held. GainsServe origin held new forward.request (serve_receipt forward)) same is.1.1;
+  names = subst (λ (r : Request). All (λ (h : Header). IsHeaderName h.name) r.headers) (sym is.1.0) names;
 }
 
 -- its request begins what the message begins
 pub of_request : {E : Type 0} (origin : Past) (limits : Limits) (escape : Escape) (old middle new : Held)
     (message : Message (List ℕ)) (request : Request) (result : Result Begun E)
     → middle ≡ old → IsReceived message request → length (body_of message) ≤ BODY_LIMIT
+    → All (λ (h : Header). IsHeaderName h.name) request.headers
     → MatchResult result
     (HasBegun (IsRequestAnswered origin limits escape middle new request)
     (IsRequestToForward origin middle new request))
@@ -56,7 +60,7 @@ pub of_request : {E : Type 0} (origin : Past) (limits : Limits) (escape : Escape
     → MatchResult result
     (HasBegun (IsReply origin limits escape old new message) (IsToForward origin old new message))
     (λ _. IsNotBegun origin limits escape old new message)
-of_request origin limits escape old middle new message request (Ok (Answered response)) same received within is = (
+of_request origin limits escape old middle new message request (Ok (Answered response)) same received within names is = (
   is.0,
   inr (
     request,
@@ -66,9 +70,9 @@ of_request origin limits escape old middle new message request (Ok (Answered res
   ),
   is.2,
 )
-of_request origin limits escape old middle new message request (Ok (ToForward forward)) same received within is =
-    to_forward origin old middle new message request forward same received within is
-of_request origin limits escape old middle new message request (Err error) same received within is = (
+of_request origin limits escape old middle new message request (Ok (ToForward forward)) same received within
+    names is = to_forward origin old middle new message request forward same received within names is
+of_request origin limits escape old middle new message request (Err error) same received within names is = (
   is.0,
   inr (
     request,

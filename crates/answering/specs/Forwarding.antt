@@ -1,7 +1,7 @@
 -- How a request is answered that is forwarded to the target of a recording: with the reply of the target,
 -- which is recorded.
 use Rattle.std.specs.Prelude.{◌≡◌, ◌⊎◌, ◌≤◌, ℕ, Bool, List, Ok, Err, Result, false}
-use Rattle.std.specs.Prelude.{if◌then◌else◌, length, true}
+use Rattle.std.specs.Prelude.{if◌then◌else◌, length, true, All}
 use Rattle.admin_answers.specs.Answers.{Gains}
 use Rattle.admin_table.specs.Routes.{IsAdmin}
 use Rattle.answering.specs.Reply.{IsResponseOf}
@@ -12,6 +12,7 @@ use Rattle.error_code.specs.declared.error_code.ErrorCode.TheVariants as code
 use Rattle.http.specs.Request.{body_of}
 use Rattle.http.specs.declared.request.Request.{Request as Message}
 use Rattle.http.specs.declared.response.Response.{Response}
+use Rattle.http_header.specs.FieldName.{IsHeaderName}
 use Rattle.http_messages.specs.Received.{IsReceived}
 use Rattle.mapping_model.specs.declared.reply.Reply.{Reply}
 use Rattle.mock_request.specs.declared.snapshot.TheConstants.{BODY_LIMIT}
@@ -40,6 +41,8 @@ pub record IsToForward (origin : Past) (old new : Held) (message : Message (List
   pub within : length (body_of message) ≤ BODY_LIMIT
   pub no_admin_call : ¬ (IsAdmin forward.request.url)
   pub served : GainsServe origin old new forward.request (serve_receipt forward)
+  -- as those of each received request
+  pub names : All (λ header. IsHeaderName header.name) forward.request.headers
 
 -- what the book is asked for when the reply has come, after `wait_ms`: a record under the serve's number, of its
 -- request and this reply

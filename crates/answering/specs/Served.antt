@@ -9,7 +9,7 @@ use Rattle.request_journal.specs.declared.event.Event.{Event}
 use Rattle.request_journal.specs.declared.event.Event.TheVariants as event
 use Rattle.request_journal.specs.declared.event.ServeAnswer.{ServeAnswer}
 use Rattle.request_journal.specs.declared.event.ServeAnswer.TheVariants.{Stub, Proxy, Unmatched}
-use Rattle.shared_book.specs.Held.{Held, with_receipt}
+use Rattle.shared_book.specs.Held.{Gained, Held}
 use Rattle.shared_book.specs.Receipts.{IsReceipt}
 use Rattle.shared_book.specs.Refused.{IsServeRefused}
 use Rattle.shared_book.specs.declared.receipt.Receipt.{Receipt}
@@ -31,7 +31,7 @@ IsEventReply limits other reply = ⊥
 
 -- the seat has gained one receipt, of the serve of this request
 pub record GainsServe (origin : Past) (old new : Held) (request : Request) (receipt : Receipt) : Type 0 where
-  pub gained : new ≡ with_receipt old receipt
+  pub gained : Gained origin old receipt new
   pub served : IsServed request receipt.event
   pub genuine : IsReceipt origin receipt
 

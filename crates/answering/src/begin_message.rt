@@ -45,7 +45,10 @@ pub(crate) fn begin_message<L: Origin, R: Wait, G: Gate, C: Clock>(
         (λ _. IsNotBegun L.origin site.now.limits site.now.escape seat.old seat.new message.now) }
 {
     match request_of(alloc, seat, message) {
-        Ok(request) => begin_request(rt, alloc, site, seat, request),
+        Ok(request) => {
+            request.law_names();
+            begin_request(rt, alloc, site, seat, request)
+        }
         Err(error) => {
             let response = refusal_response(alloc, error)?;
             Ok(Begun::Answered(response))

@@ -15,6 +15,10 @@ use std::alloc::{AllocError, Global};
 use std::marker::Model;
 use std::mem;
 
+/// Between two pieces of a list. While a task asks to be polled again, the runtime looks for what others have sent
+/// after 64 polls, so it does so after each fourth piece.
+const PAUSES: u32 = 16;
+
 /// The body of a response: bytes, or a list whose text is written piece by piece while it is sent.
 #[derive(Drop)]
 pub struct Content {
@@ -32,8 +36,8 @@ enum Kind {
 struct Listed {
     alloc: Global,
     listing: Listing,
-    /// Whether a piece was given at the last poll.
-    gave: bool,
+    /// How often it says that no piece is ready, before the next one.
+    pauses: u32,
 }
 
 impl Model for Content {
@@ -54,13 +58,23 @@ impl Content {
         }
     }
 
+    /// Its bytes, where they are there as a whole.
+    pub fn as_whole(&self) -> Option<&[u8]>
+        ensures { IfSome result (λ bytes. bytes.now ≡ self.now) }
+    {
+        match &self.kind {
+            Kind::Whole(bytes) => Some(bytes.as_slice()),
+            Kind::Listed(_listed) => None,
+        }
+    }
+
     pub fn listed(alloc: Global, listing: Listing) -> Result<Content, AllocError>
         ensures { IfOk result (λ content. content ≡ listing) }
     {
         let listed = Listed {
             alloc,
             listing,
-            gave: false,
+            pauses: 0,
         };
         Ok(Content {
             kind: Kind::Listed(Box::new(alloc, listed)?),
@@ -109,7 +123,7 @@ impl Body for Content {
 }
 
 impl Listed {
-    // The next piece. Between two of them it says once that none is ready yet, and asks to be polled again.
+    // The next piece. Between two of them it says some times that none is ready yet, and asks to be polled again.
     fn poll_frame(
         &mut self,
         cx: &mut Context<'_>,
@@ -121,11 +135,11 @@ impl Listed {
         ensures registered { OnPending result (IsArmed cx.new) }
         ensures kept { Keeps cx.old cx.new }
     {
-        if self.gave {
-            self.gave = false;
+        if self.pauses > 0 {
+            self.pauses -= 1;
             return cx.yield_now();
         }
-        self.gave = true;
+        self.pauses = PAUSES;
         Poll::Ready(listed_frame(self.alloc, &mut self.listing))
     }
 }

@@ -1,16 +1,32 @@
 -- What is given by an exchange that goes on from the one that was begun, and while content is gathered.
-use Rattle.std.proofs.Common.{◌≡◌, ℕ, List, Result, Ok, Err, IfOk, inl, subst}
+use Rattle.std.proofs.Common.{◌≡◌, ℕ, List, Result, Ok, Err, IfOk, inl, inr, subst}
 use Rattle.futures.specs.Poll.{IfReady, OnPending}
 use Rattle.futures.specs.declared.task.Poll.{Poll}
 use Rattle.futures.specs.declared.task.Poll.TheVariants.{Ready, Pending}
 use Rattle.http.specs.declared.request.Parts.{Parts}
 use Rattle.http.specs.declared.request.Request.{Request}
 use Rattle.http.specs.declared.response.Response.{Response}
-use Rattle.http_connections.specs.Content.{IsAnswerTo, IsContentOf}
+use Rattle.http_connections.specs.Content.{IsAnswerFor, IsAnswerTo, IsContentOf, IsRefusal, Refuses}
 use Rattle.http_connections.specs.Sent.{IsExchangeFor, IsSentFor}
 use Rattle.http_connections.specs.declared.content_error.ContentError.{ContentError}
+use Rattle.http_connections.specs.declared.content_error.ContentError.TheVariants.{Malformed, OutOfMemory, TooLong}
+
+-- memory ran out for a request that has content to be answered with
+refused : {C : Type 0} (IsEmpty : C → Type 0) (gathered : Result (List ℕ) ContentError) (body : List ℕ)
+    → IsContentOf gathered body → (made : Response C) → IsRefusal IsEmpty 503 made
+    → Refuses IsEmpty gathered made
+refused IsEmpty (Ok content) body is made refusal = refusal
+refused IsEmpty (Err TooLong) body is made refusal = refusal
+refused IsEmpty (Err Malformed) body none made refusal = absurd none
+refused IsEmpty (Err OutOfMemory) body none made refusal = absurd none
 
 module _ {Refusal C : Type 0} (IsEmpty : C → Type 0) (gives : Request (List ℕ) → Response C → Type 0) where
+  -- what is sent is sent of an answer
+  pub sent_or_refused : (message : Request (List ℕ)) (result : Result (Response C) Refusal)
+      → IfOk result (IsSentFor IsEmpty gives message) → IfOk result (IsAnswerFor IsEmpty gives message)
+  sent_or_refused message (Ok made) sent = inl sent
+  sent_or_refused message (Err error) sent = tt
+
   -- what is given for a request with this head, where the gatherer may give so
   abbrev pub IsGivenWith : Parts → (Result (List ℕ) ContentError → Type 0)
       → Result (Response C) Refusal → Type 0
@@ -29,16 +45,17 @@ module _ {Refusal C : Type 0} (IsEmpty : C → Type 0) (gives : Request (List �
     -- what is given for each message that the exchange may be for
     abbrev pub IsGivenBy : E → Result (Response C) Refusal → Type 0
     IsGivenBy exchange result = (message : Request (List ℕ)) → IsExchangeFor forwards exchanged message exchange
-        → IfOk result (IsSentFor IsEmpty gives message)
+        → IfOk result (IsAnswerFor IsEmpty gives message)
 
     module _ (head : Parts) (comes : Result (List ℕ) ContentError → Type 0)
         (gathered : Result (List ℕ) ContentError) (came : comes gathered) (body : List ℕ)
         (content : IsContentOf gathered body) (exchange : E)
         (may : forwards (record { head = head; body = body }) exchange) where
       with_body : (result : Result (Response C) Refusal)
-          → IfOk result (IsSentFor IsEmpty gives (record { head = head; body = body }))
+          → IfOk result (IsAnswerFor IsEmpty gives (record { head = head; body = body }))
           → IsGivenWith head comes result
-      with_body (Ok made) given = (gathered, came, inl (body, content, given))
+      with_body (Ok made) (inl sent) = (gathered, came, inl (body, content, sent))
+      with_body (Ok made) (inr refusal) = (gathered, came, inr (refused IsEmpty gathered body content made refusal))
       with_body (Err refusal) given = tt
 
       pub given_with : (result : Result (Response C) Refusal) → IsGivenBy exchange result

@@ -16,7 +16,7 @@ use Rattle.hyper.specs.Incoming.{size_left}
 use Rattle.hyper.specs.declared.body.incoming.Incoming.{Incoming}
 use Rattle.http_connections.specs.Sent.{IsSentFor}
 use Rattle.http_connections.specs.declared.content_error.ContentError.{ContentError}
-use Rattle.http_connections.specs.declared.content_error.ContentError.TheVariants.{Broken, Malformed, OutOfMemory}
+use Rattle.http_connections.specs.declared.content_error.ContentError.TheVariants.{Malformed, OutOfMemory}
 use Rattle.http_connections.specs.declared.content_error.ContentError.TheVariants.{TooLong}
 use Rattle.http_connections.specs.declared.gathering.Gathering.{Gathering}
 use Rattle.mock_request.specs.declared.snapshot.TheConstants.{BODY_LIMIT}
@@ -44,11 +44,10 @@ IsGathered source true held (Err error) = ⊤
 IsGathered source false held (Ok content) = Gathers source held content
 IsGathered source false held (Err TooLong) = Exceeds source held
 IsGathered source false held (Err Malformed) = ⊤
-IsGathered source false held (Err Broken) = ⊤
 IsGathered source false held (Err OutOfMemory) = ⊤
 
 -- what gathers the content of the body, of which nothing is there
-pub record IsNewFor {B : Type 0} (gathering : Gathering B) (body : B) : Type 0 where
+pub record IsNewFor {R B : Type 0} (gathering : Gathering R B) (body : B) : Type 0 where
   pub source : gathering.body ≡ body
   pub empty : gathering.gathered.items ≡ []
   pub short : gathering.is_too_long ≡ false
@@ -77,7 +76,6 @@ abbrev pub IsContentOf : Result (List ℕ) ContentError → List ℕ → Type 0
 IsContentOf (Ok content) body = body ≡ content
 IsContentOf (Err TooLong) body = BODY_LIMIT < length body
 IsContentOf (Err Malformed) body = ⊥
-IsContentOf (Err Broken) body = ⊥
 IsContentOf (Err OutOfMemory) body = ⊥
 
 module _ {C : Type 0} (IsEmpty : C → Type 0) where
@@ -86,13 +84,17 @@ module _ {C : Type 0} (IsEmpty : C → Type 0) where
     pub answers : (response.head_of made).status ≡ status
     pub empty : IsEmpty (response.body_of made)
 
-  -- how the connection itself refuses a request whose content didn't come whole
+  -- how the connection itself refuses a request: where its content is malformed, and where memory runs out
   abbrev pub Refuses : Result (List ℕ) ContentError → Response C → Type 0
-  Refuses (Ok content) made = ⊥
-  Refuses (Err TooLong) made = ⊥
+  Refuses (Ok content) made = IsRefusal 503 made
+  Refuses (Err TooLong) made = IsRefusal 503 made
   Refuses (Err Malformed) made = IsRefusal 400 made
-  Refuses (Err Broken) made = ⊥
   Refuses (Err OutOfMemory) made = IsRefusal 503 made
+
+  -- what is sent for the message, or that memory ran out for it
+  abbrev pub IsAnswerFor : (Request (List ℕ) → Response C → Type 0) → Request (List ℕ) → Response C
+      → Type 0
+  IsAnswerFor gives message made = IsSentFor IsEmpty gives message made ⊎ IsRefusal 503 made
 
   -- what is sent for a request with this head, after this came of gathering its content
   abbrev pub IsAnswerTo : (Request (List ℕ) → Response C → Type 0) → Parts → Result (List ℕ) ContentError

@@ -9,11 +9,14 @@ use crate::seat_pool::{Assignment, SeatPool};
 use crate::seat_slot::SeatSlot;
 use crate::service::MessageService;
 use crate::settings::Settings;
+use crate::watched::Watched;
 use futures::task::{Context, Poll};
 use futures::{Future, Stream, ready};
 use std::alloc::AllocGlobal;
+use std::cell::Cell;
 use std::io;
 use std::io::ErrorKind;
+use std::rc::Rc;
 use std::sync::{Arc, Wait};
 use std::time::Clock;
 use tokio::net::{TcpListener, TcpStream};
@@ -93,6 +96,25 @@ where
         }
     }
 
+    // The connection of a socket, whose requests are answered by the seat of the slot; `None` where there is no memory.
+    fn connection<F>(&self, socket: TcpStream, slot: &Arc<SeatSlot<A>>) -> Option<F>
+    where
+        M: Connects<MessageService<R, A>, Connection = F>,
+        requires { (service : _) → M.can_connect self.now.connects service }
+        ensures { IfSome result (M.makes self.now.connects) }
+    {
+        // Answers are written whole, so there is nothing to wait for.
+        let _ = socket.set_nodelay(true);
+        let begun = Rc::new(self.rt.alloc(), Cell::new(false)).ok()?;
+        let service = MessageService::new(
+            self.rt,
+            Arc::try_clone(slot).ok()?,
+            self.pause.timers().clone().ok()?,
+            begun.clone().ok()?,
+        );
+        self.connects.connect(Watched::new(socket, begun), service)
+    }
+
     // The task that serves the connection; `None` where it is closed at once.
     fn task<F>(&mut self, socket: TcpStream) -> Option<ConnectionTask<R, A, F>>
     where
@@ -106,10 +128,10 @@ where
         self.left = self.left.map(|left| left.saturating_sub(1));
         let pool = Arc::try_clone(&self.pool).ok()?;
         let slot = self.slot()?;
-        let service = MessageService::new(self.rt, Arc::try_clone(&slot).ok()?);
-        // Answers are written whole, so there is nothing to wait for.
-        let _ = socket.set_nodelay(true);
-        let connection = self.connects.connect(socket, service);
+        let Some(connection) = self.connection(socket, &slot) else {
+            pool.release(&self.rt, slot);
+            return None;
+        };
         ConnectionTask::new(self.rt, pool, slot, connection)
     }
 }
@@ -138,10 +160,15 @@ where
             return cx.yield_now();
         }
         match ready!(self.listener.poll_accept(cx)) {
-            Ok((socket, _address)) => match self.task(socket) {
-                Some(task) => Poll::Ready(Some(task)),
-                None => cx.yield_now(),
-            },
+            Ok((mut socket, _address)) => {
+                // What the event loop is told of a socket it keeps only from the first poll on: a client that has left
+                // before the task's first one would stay unnoticed.
+                let _ = socket.poll_read_ready(cx);
+                match self.task(socket) {
+                    Some(task) => Poll::Ready(Some(task)),
+                    None => cx.yield_now(),
+                }
+            }
             Err(error) => {
                 self.refused(&error);
                 cx.yield_now()

@@ -1,7 +1,8 @@
 // What makes a connection of a socket.
-ghost use Rattle.std.specs.Prelude.{⊤};
+ghost use Rattle.std.specs.Prelude.{IfSome, ⊤};
 ghost use Rattle.hyper.specs.ServerDispatch.{Runs};
 
+use crate::watched::{HeadTimer, Watched};
 use bytes::Bytes;
 use http::{Request, Response};
 use http_body::Body;
@@ -22,29 +23,50 @@ pub(crate) trait Connects<S>: Drop {
     /// It may make this connection.
     ghost makes: { Self → Self.Connection → Type 0 } = { λ _ _. ⊤ };
 
-    fn connect(&self, socket: TcpStream, service: S) -> Self::Connection
+    /// `None` where there is no memory for it.
+    fn connect(&self, socket: Watched<TcpStream>, service: S) -> Option<Self::Connection>
         requires { can_connect self.now service }
-        ensures { makes self.now result };
+        ensures { IfSome result (makes self.now) };
 }
 
-impl<S, B, T> Connects<S> for Builder<T>
+/// The settings of connections, and what tells the time for their heads.
+#[derive(Drop)]
+pub(crate) struct Connecting<T> {
+    builder: Builder,
+    timer: T,
+}
+
+impl<T> Connecting<T> {
+    pub(crate) fn new(builder: Builder, timer: T) -> Connecting<T> {
+        Connecting { builder, timer }
+    }
+}
+
+impl<S, B, T> Connects<S> for Connecting<T>
 where
-    S: Service<Request<Incoming<TcpStream>>, Response = Response<B>>,
+    S: Service<Request<Incoming<Watched<TcpStream>>>, Response = Response<B>>,
     S::Error: Into<anyhow::Error>,
     B: Body,
     B::Data: Into<Bytes>,
     B::Error: Into<anyhow::Error>,
     T: Timer,
 {
-    type Connection = Connection<TcpStream, S, B, T>;
+    type Connection = Connection<Watched<TcpStream>, S, B, HeadTimer<T>>;
 
     ghost can_connect = { λ _ service. S.can_call service × ((content : B) → B.can_poll content) };
 
     ghost makes = { λ _ made.
-        Runs ⟦<TcpStream as AsyncRead>⟧ ⟦<TcpStream as AsyncWrite>⟧ S.Service S.Future.Future B.Body
-        B.Data.Into made.conn };
+        Runs ⟦<Watched<TcpStream> as AsyncRead>⟧ ⟦<Watched<TcpStream> as AsyncWrite>⟧ S.Service S.Future.Future
+        B.Body B.Data.Into made.conn };
 
-    fn connect(&self, socket: TcpStream, service: S) -> Connection<TcpStream, S, B, T> {
-        self.serve_connection(socket, service)
+    fn connect(
+        &self,
+        socket: Watched<TcpStream>,
+        service: S,
+    ) -> Option<Connection<Watched<TcpStream>, S, B, HeadTimer<T>>> {
+        let begun = socket.begun().clone().ok()?;
+        let timer = HeadTimer::new(self.timer.clone().ok()?, begun);
+        let builder = self.builder.clone().ok()?.timer(timer);
+        Some(builder.serve_connection(socket, service))
     }
 }

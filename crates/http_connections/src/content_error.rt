@@ -7,10 +7,8 @@ use std::alloc::AllocError;
 /// Why the content of a request wasn't gathered whole.
 #[derive(Clone, Copy, Debug, PartialEq, Eq)]
 pub enum ContentError {
-    /// What came is no content: a chunk without its size or its end, say.
+    /// What came is no content: a chunk without its size or its end, say, or content that ends early.
     Malformed,
-    /// The client went away within it.
-    Broken,
     TooLong,
     OutOfMemory,
 }
@@ -32,8 +30,6 @@ pub(crate) fn content_error(error: &hyper::Error) -> ContentError
 {
     if error.is_out_of_memory() {
         ContentError::OutOfMemory
-    } else if error.is_incomplete_message() {
-        ContentError::Broken
     } else {
         ContentError::Malformed
     }

@@ -1,8 +1,10 @@
 // Requests that are forwarded.
 ghost use Rattle.std.specs.Prelude.{◌≡◌, IfOk};
-ghost use Rattle.http_connections.specs.Sent.{IsExchangeFor, IsSentFor};
+ghost use Rattle.http_connections.specs.Content.{IsAnswerFor};
+ghost use Rattle.http_connections.specs.Sent.{IsExchangeFor};
 
 use crate::answers::Answers;
+use crate::refusal::out_of_memory;
 use crate::seat_slot::SeatSlot;
 use futures::task::{Context, Poll};
 use futures::{Future, ready};
@@ -39,10 +41,14 @@ where
 
     ghost gives = { λ f result. (message : _)
         → IsExchangeFor A.forwards A.Exchange.gives message f.exchange.value
-        → IfOk result (IsSentFor A.Content.is_default A.gives message) };
+        → IfOk result (IsAnswerFor A.Content.is_default A.gives message) };
 
     fn poll(&mut self, cx: &mut Context<'_>) -> Poll<Result<Response<A::Content>, ServiceError>> {
         let reply = ready!(self.exchange.poll(cx));
-        Poll::Ready(self.slot.finish(&self.rt, self.rt.alloc(), reply))
+        let alloc = self.rt.alloc();
+        match self.slot.finish(&self.rt, alloc, reply) {
+            Err(ServiceError::OutOfMemory) => Poll::Ready(Ok(out_of_memory(alloc))),
+            finished => Poll::Ready(finished),
+        }
     }
 }

@@ -1,10 +1,12 @@
 // The content of a request, gathered into one buffer.
-ghost use Rattle.std.specs.Prelude.{◌≡◌, true, false, IfOk, IsErrOf, OnOk};
+ghost use Rattle.std.specs.Prelude.{◌≡◌, true, false, IfOk, IsErrOf, IsTrue, OnOk};
+ghost use Rattle.futures.specs.Task.{Keeps};
 ghost use Rattle.http_connections.specs.Content.{IsGathered, IsNewFor};
 ghost use Rattle.http_connections.specs.Inner.Pushed.{IsPushed};
 ghost use Rattle.http_connections.specs.declared.content_error.ContentError.TheVariants.{TooLong};
 
 use crate::content_error::{ContentError, content_error};
+use crate::patience::Patience;
 use bytes::{Bytes, BytesMut};
 use futures::task::{Context, Poll};
 use futures::{Future, ready};
@@ -12,29 +14,37 @@ use http_body::{Body, Frame};
 use mock_request::snapshot::BODY_LIMIT;
 use std::alloc::Global;
 use std::mem;
+use std::time::Clock;
 
-/// Content that is too long is read on up to this number of bytes (64 MiB): a client that is still sending wouldn't see
-/// the answer.
+/// Content that is too long is read on up to this number of bytes (64 MiB), and as long as there is patience: a client
+/// that is still sending wouldn't see the answer.
 pub const SKIPPED: usize = 67_108_864;
+
+/// So many pieces are taken. Each has a byte at least, so there are no more of them.
+const PIECES: usize = BODY_LIMIT + SKIPPED;
 
 /// Gathers the content of a request, since each of its pieces would keep a buffer of the connection. Of content that is
 /// too long nothing is kept.
 #[derive(Drop)]
-pub struct Gathering<B> {
+pub struct Gathering<R, B> {
     alloc: Global,
     body: B,
+    patience: Patience<R>,
+    pieces: usize,
     gathered: BytesMut,
     is_too_long: bool,
     skipped: usize,
 }
 
-impl<B> Gathering<B> {
-    pub fn new(alloc: Global, body: B) -> Gathering<B>
+impl<R, B> Gathering<R, B> {
+    pub fn new(alloc: Global, body: B, patience: Patience<R>) -> Gathering<R, B>
         ensures { IsNewFor result body }
     {
         Gathering {
             alloc,
             body,
+            patience,
+            pieces: 0,
             gathered: BytesMut::new(alloc),
             is_too_long: false,
             skipped: 0,
@@ -42,8 +52,9 @@ impl<B> Gathering<B> {
     }
 }
 
-impl<B> Future for Gathering<B>
+impl<R, B> Future for Gathering<R, B>
 where
+    R: Clock + Drop,
     B: Body<Data = Bytes, Error = hyper::Error>,
 {
     type Output = Result<Bytes, ContentError>;
@@ -56,6 +67,9 @@ where
 
     // One frame a poll: a connection hands its frames over one by one, and others are served between them.
     fn poll(&mut self, cx: &mut Context<'_>) -> Poll<Result<Bytes, ContentError>> {
+        if is_enough(self.is_too_long, &mut self.patience, cx) {
+            return Poll::Ready(Err(ContentError::TooLong));
+        }
         let frame = match ready!(self.body.poll_frame(cx)) {
             Some(Ok(frame)) => frame,
             Some(Err(error)) => return Poll::Ready(Err(content_error(&error))),
@@ -71,7 +85,15 @@ where
     }
 }
 
-impl<B> Gathering<B> {
+// Whether what has come is too long, and was read on as long as there is patience.
+fn is_enough<R: Clock>(is_too_long: bool, patience: &mut Patience<R>, cx: &mut Context<'_>) -> bool
+    ensures too_long { IsTrue result → is_too_long ≡ true }
+    ensures kept { Keeps cx.old cx.new }
+{
+    is_too_long && patience.is_over(cx)
+}
+
+impl<R, B> Gathering<R, B> {
     // The data of one more frame. Trailers are no content.
     fn push(&mut self, frame: Frame<Bytes>) -> Result<(), ContentError>
         ensures pushed { OnOk result (IsPushed self.old.is_too_long self.old.gathered.items frame
@@ -80,6 +102,10 @@ impl<B> Gathering<B> {
             → IsPushed self.old.is_too_long self.old.gathered.items frame true self.new.gathered.items }
         ensures same { self.new.body ≡ self.old.body }
     {
+        if self.pieces >= PIECES {
+            return Err(ContentError::Malformed);
+        }
+        self.pieces += 1;
         let Ok(data) = frame.into_data() else {
             return Ok(());
         };

@@ -15,6 +15,7 @@ const PAUSE: u64 = 10;
 #[derive(Drop)]
 pub(crate) struct Pause<R> {
     clock: R,
+    timers: Handle,
     sleep: Sleep,
     has_begun: bool,
 }
@@ -24,9 +25,15 @@ impl<R: Clock + Drop> Pause<R> {
         let sleep = timers.sleep(&clock, Duration::from_millis(PAUSE))?;
         Ok(Pause {
             clock,
+            timers: timers.clone()?,
             sleep,
             has_begun: false,
         })
+    }
+
+    /// What has its timer.
+    pub(crate) fn timers(&self) -> &Handle {
+        &self.timers
     }
 
     pub(crate) fn begin(&mut self) {

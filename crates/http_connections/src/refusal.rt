@@ -15,6 +15,13 @@ pub(crate) fn refusal<C: Default>(alloc: Global, status: StatusCode) -> Response
     Response::from_parts(head, C::default())
 }
 
+/// The answer where there is no memory for another.
+pub(crate) fn out_of_memory<C: Default>(alloc: Global) -> Response<C>
+    ensures { IsRefusal C.is_default 503 result }
+{
+    refusal(alloc, StatusCode::SERVICE_UNAVAILABLE)
+}
+
 /// The answer to a request in a coding that isn't known. The connection ends after it.
 pub(crate) fn unknown_coding<C: Default>(alloc: Global) -> Response<C>
     ensures { IsRefusal C.is_default 501 result }

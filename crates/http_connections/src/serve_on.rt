@@ -1,6 +1,7 @@
 // The connections of a listener, each a task.
 use crate::accepting::Accepting;
 use crate::answers::Answers;
+use crate::connects::Connecting;
 use crate::pause::Pause;
 use crate::seat_pool::SeatPool;
 use crate::settings::Settings;
@@ -101,7 +102,7 @@ where
     requires { (content : A.Content) → A.Content.can_poll content }
 {
     let timers = runtime.handle().time();
-    let builder = builder(&rt)?.timer(TokioTimer::new(rt, timers.clone()?));
+    let connecting = Connecting::new(builder(&rt)?, TokioTimer::new(rt, timers.clone()?));
     let pause = Pause::new(rt, timers)?;
     let accepting = Accepting::new(
         rt,
@@ -109,7 +110,7 @@ where
         Arc::try_clone(pool)?,
         settings,
         pause,
-        builder,
+        connecting,
     );
     runtime.run_all(&rt, accepting)
 }

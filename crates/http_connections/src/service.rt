@@ -7,10 +7,10 @@ ghost use Rattle.http_connections.specs.declared.content_error.ContentError.{Con
 ghost use Rattle.http_connections.specs.declared.service.Answering.TheVariants.{Forwarding as Forwards, Made};
 ghost use Rattle.http_connections.specs.declared.service.Answering.TheVariants.{Waiting as Waits};
 ghost use Rattle.http.specs.Request.{body_of, head_of};
-ghost use Rattle.http_connections.specs.Content.{HasOtherCoding, IsAnswerTo, IsAnsweredAtOnce, IsContentAtOnce};
-ghost use Rattle.http_connections.specs.Content.{IsNewFor, IsRefusal, IsTooLong};
+ghost use Rattle.http_connections.specs.Content.{HasOtherCoding, IsAnswerFor, IsAnswerTo, IsAnsweredAtOnce};
+ghost use Rattle.http_connections.specs.Content.{IsContentAtOnce, IsNewFor, IsTooLong};
 ghost use Rattle.http_connections.specs.Inner.Begun.{IsBegunWith};
-ghost use Rattle.http_connections.specs.Sent.{IsExchangeFor, IsSentFor};
+ghost use Rattle.http_connections.specs.Sent.{IsExchangeFor};
 ghost use Rattle.mock_request.specs.declared.snapshot.TheConstants.{BODY_LIMIT};
 
 use crate::answers::Answers;
@@ -18,7 +18,8 @@ use crate::begun::Begun;
 use crate::content_error::ContentError;
 use crate::forwarding::Forwarding;
 use crate::gathering::Gathering;
-use crate::refusal::{awaits_leave, has_other_coding, refusal, unknown_coding};
+use crate::patience::Patience;
+use crate::refusal::{awaits_leave, has_other_coding, out_of_memory, refusal, unknown_coding};
 use crate::seat_slot::SeatSlot;
 use bytes::{Bytes, BytesMut};
 use futures::task::{Context, Poll};
@@ -30,13 +31,20 @@ use hyper::body::Incoming;
 use hyper::service::Service;
 use mock_request::snapshot::BODY_LIMIT;
 use std::alloc::{AllocError, AllocGlobal, Global};
+use std::cell::Cell;
+use std::rc::Rc;
 use std::sync::{Arc, Wait};
+use std::time::Clock;
+use tokio::time::Handle;
 
 /// Answers the requests of one connection, by the seat of its slot.
 #[derive(Drop)]
 pub struct MessageService<R, A: Answers> {
     rt: R,
     slot: Arc<SeatSlot<A>>,
+    timers: Handle,
+    /// Whether something of the next request has come.
+    begun: Rc<Cell<bool>>,
 }
 
 /// The answer to one request.
@@ -58,17 +66,28 @@ pub struct Waiting<R, A: Answers, G> {
     /// Its body is empty until the content has come whole.
     request: Request<Bytes>,
     content: G,
+    begun: Rc<Cell<bool>>,
 }
 
 impl<R, A: Answers> MessageService<R, A> {
-    pub fn new(rt: R, slot: Arc<SeatSlot<A>>) -> MessageService<R, A> {
-        MessageService { rt, slot }
+    pub fn new(
+        rt: R,
+        slot: Arc<SeatSlot<A>>,
+        timers: Handle,
+        begun: Rc<Cell<bool>>,
+    ) -> MessageService<R, A> {
+        MessageService {
+            rt,
+            slot,
+            timers,
+            begun,
+        }
     }
 }
 
 impl<R, A, I> Service<Request<Incoming<I>>> for MessageService<R, A>
 where
-    R: Wait + AllocGlobal + Copy + Drop,
+    R: Wait + Clock + AllocGlobal + Copy + Drop,
     A: Answers,
     I: Drop,
 {
@@ -76,7 +95,7 @@ where
 
     type Error = ServiceError;
 
-    type Future = Answering<R, A, Gathering<Incoming<I>>>;
+    type Future = Answering<R, A, Gathering<R, Incoming<I>>>;
 
     ghost calls = { λ _ request future. elim future [
       | Made made ↦ IfSome made (λ result. IfOk result (IsAnsweredAtOnce A.Content.is_default A.gives request))
@@ -88,6 +107,7 @@ where
 
     // A request without content is answered at once, or forwarded.
     fn call(&self, request: Request<Incoming<I>>) -> Self::Future {
+        self.begun.set(false);
         if request.body().size_hint().exact() == Some(0) {
             return self.at_once(request, Bytes::new());
         }
@@ -105,7 +125,7 @@ where
         &self,
         request: Request<Incoming<I>>,
         content: Bytes,
-    ) -> Answering<R, A, Gathering<Incoming<I>>>
+    ) -> Answering<R, A, Gathering<R, Incoming<I>>>
         requires { IsContentAtOnce (body_of request) content }
         ensures called { elim result [
           | Made made ↦ IfSome made (λ result. IfOk result
@@ -128,6 +148,9 @@ where
                 Ok(forwarding) => Answering::Forwarding(forwarding),
                 Err(AllocError) => Answering::Made(Some(Err(ServiceError::OutOfMemory))),
             },
+            Err(ServiceError::OutOfMemory) => {
+                Answering::Made(Some(Ok(out_of_memory(self.rt.alloc()))))
+            }
             Err(error) => Answering::Made(Some(Err(error))),
         }
     }
@@ -145,7 +168,7 @@ where
     fn gathering<I: Drop>(
         &self,
         request: Request<Incoming<I>>,
-    ) -> Answering<R, A, Gathering<Incoming<I>>>
+    ) -> Answering<R, A, Gathering<R, Incoming<I>>>
         ensures called { elim result [
           | Made made ↦ IfSome made (λ result. IfOk result
               (IsAnsweredAtOnce A.Content.is_default A.gives request))
@@ -176,7 +199,7 @@ where
     fn too_long<I: Drop>(
         &self,
         request: Request<Incoming<I>>,
-    ) -> Answering<R, A, Gathering<Incoming<I>>>
+    ) -> Answering<R, A, Gathering<R, Incoming<I>>>
         requires { IsTooLong (body_of request) }
         ensures called { elim result [
           | Made made ↦ IfSome made (λ result. IfOk result
@@ -202,7 +225,7 @@ where
     fn waiting<I: Drop>(
         &self,
         request: Request<Incoming<I>>,
-    ) -> Result<Box<Waiting<R, A, Gathering<Incoming<I>>>>, AllocError>
+    ) -> Result<Box<Waiting<R, A, Gathering<R, Incoming<I>>>>, AllocError>
         ensures head { IfOk result (λ waiting. head_of waiting.value.request ≡ head_of request) }
         ensures content { IfOk result (λ waiting. IsNewFor waiting.value.content (body_of request)) }
     {
@@ -212,7 +235,8 @@ where
             rt: self.rt,
             slot: Arc::try_clone(&self.slot)?,
             request: Request::from_parts(head, Bytes::new()),
-            content: Gathering::new(alloc, body),
+            content: Gathering::new(alloc, body, Patience::new(self.rt, self.timers.clone()?)),
+            begun: self.begun.clone()?,
         };
         Ok(Box::new(alloc, waiting)?)
     }
@@ -239,7 +263,7 @@ where
           × IsAnswerTo A.Content.is_default A.gives (head_of waiting.value.request) gathered made)
       | Forwards forwarding ↦ (message : _)
           → IsExchangeFor A.forwards A.Exchange.gives message forwarding.exchange.value
-          → IfOk result (IsSentFor A.Content.is_default A.gives message)
+          → IfOk result (IsAnswerFor A.Content.is_default A.gives message)
     ] };
 
     fn poll(&mut self, cx: &mut Context<'_>) -> Poll<Result<Response<A::Content>, ServiceError>> {
@@ -300,18 +324,24 @@ where
         ensures { IfOk result (IsBegunWith A.Content.is_default A.gives A.forwards A.Exchange.can_poll
             (head_of self.old.request) gathered) }
     {
+        self.begun.set(false);
         let alloc = self.rt.alloc();
         let content = match gathered {
             Ok(content) => content,
-            Err(ContentError::TooLong) => overlong(alloc)?,
+            Err(ContentError::TooLong) => match overlong(alloc) {
+                Ok(content) => content,
+                Err(AllocError) => return Ok(Begun::Answered(out_of_memory(alloc))),
+            },
             Err(ContentError::Malformed) => {
                 return Ok(Begun::Answered(refusal(alloc, StatusCode::BAD_REQUEST)));
             }
             Err(ContentError::OutOfMemory) => return Ok(Begun::Answered(out_of_memory(alloc))),
-            Err(ContentError::Broken) => return Err(ServiceError::Broken),
         };
         *self.request.body_mut() = content;
-        self.slot.begin(&self.rt, alloc, &self.request)
+        match self.slot.begin(&self.rt, alloc, &self.request) {
+            Err(ServiceError::OutOfMemory) => Ok(Begun::Answered(out_of_memory(alloc))),
+            begun => begun,
+        }
     }
 
     fn forwarding(&self, exchange: Box<A::Exchange>) -> Result<Forwarding<R, A>, AllocError>
@@ -327,12 +357,6 @@ fn with_content<I: Drop>(request: Request<Incoming<I>>, content: Bytes) -> Reque
 {
     let (head, _body) = request.into_parts();
     Request::from_parts(head, content)
-}
-
-fn out_of_memory<C: Default>(alloc: Global) -> Response<C>
-    ensures { IsRefusal C.is_default 503 result }
-{
-    refusal(alloc, StatusCode::SERVICE_UNAVAILABLE)
 }
 
 fn is_too_long<I: Drop>(body: &Incoming<I>) -> bool

@@ -2,6 +2,9 @@
 //! gathered and where seats lie is `http_connections`'; what the answer to a request is, `answering`'s.
 #![tactic(auto)]
 
+mod gained;
+pub mod journal_limit;
+pub mod log;
 mod report;
 pub mod serve_on;
 pub mod site_answers;

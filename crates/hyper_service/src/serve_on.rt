@@ -1,10 +1,10 @@
 // The connections of a listener, until as many as are wanted were served.
 ghost use Rattle.std.specs.Prelude.{◌≤◌};
 
+use crate::log::Log;
 use crate::report::report;
 use crate::site_answers::SiteAnswers;
 use answering::clock::Clock;
-use answering::site::Site;
 use command_output::error::CommandError;
 use command_output::status::FAILURE;
 use error_code::error_code::ErrorCode;
@@ -26,14 +26,13 @@ use tokio::net::TcpListener;
 use tokio::runtime::LocalRuntime;
 
 /// Serves the connections of a listener, as many as are wanted, each with a seat of its own, and settles once all have
-/// ended. Requests that are to be forwarded are handed to `forwarder`. Writes where it listens before it accepts the
-/// first, how many events were settled, and an error to `err`. Gives the exit status.
-pub fn serve_on<R, L, G, C, F, O, E>(
+/// ended. Writes where it listens before it accepts the first, how many events were settled, and an error to `err`.
+/// Gives the exit status.
+pub fn serve_on<R, L, G, C, F, N, O, E>(
     rt: R,
     runtime: &mut LocalRuntime,
     listener: TcpListener,
-    site: Site<L, G, C>,
-    forwarder: F,
+    answers: SiteAnswers<L, G, C, F, N>,
     seat: Seat<L>,
     settings: Settings,
     out: &mut O,
@@ -45,6 +44,7 @@ where
     G: Gate + Drop,
     C: Clock + Drop,
     F: Forwards,
+    N: Log + Drop,
     O: Write,
     E: Write,
     ensures { result ≤ 1 }
@@ -52,7 +52,7 @@ where
     if announce(&listener, out).is_err() {
         return FAILURE;
     }
-    match serve_site(rt, runtime, listener, site, forwarder, seat, settings) {
+    match serve_site(rt, runtime, listener, answers, seat, settings) {
         Ok((settled, end)) => report(settled, end, out, err),
         Err(_error) => {
             CommandError::from(ErrorCode::OutOfMemory).report(err);
@@ -69,12 +69,11 @@ fn announce<O: Write>(listener: &TcpListener, out: &mut O) -> io::Result<()> {
 }
 
 // How many events were settled, or why not, and why no more connections were accepted.
-fn serve_site<R, L, G, C, F>(
+fn serve_site<R, L, G, C, F, N>(
     rt: R,
     runtime: &mut LocalRuntime,
     listener: TcpListener,
-    site: Site<L, G, C>,
-    forwarder: F,
+    answers: SiteAnswers<L, G, C, F, N>,
     seat: Seat<L>,
     settings: Settings,
 ) -> Result<(Result<u64, SettleRefusal>, End), AllocError>
@@ -84,9 +83,9 @@ where
     G: Gate + Drop,
     C: Clock + Drop,
     F: Forwards,
+    N: Log + Drop,
 {
-    let book = site.book.try_clone()?;
-    let answers = SiteAnswers::new(Arc::new(rt.alloc(), site)?, forwarder);
+    let book = answers.book()?;
     let answers = Arc::new(rt.alloc(), answers)?;
     let Served { seats, end } = serve_all(rt, runtime, listener, &answers, seat, settings)?;
     Ok((events(&rt, rt.alloc(), book, seats), end))

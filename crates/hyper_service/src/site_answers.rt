@@ -5,6 +5,9 @@ ghost use Rattle.http_connections.specs.Sent.{IsBegun};
 ghost use Rattle.hyper_service.specs.Given.{IsForwardedBy, IsGiven, IsSentBy};
 ghost use Rattle.hyper_service.specs.Inner.Failure.{IsFailure};
 
+use crate::gained::{gained, last_number};
+use crate::journal_limit::JournalLimit;
+use crate::log::Log;
 use crate::site_exchange::{Forwarded, SiteExchange};
 use answering::clock::Clock;
 use answering::content::Content;
@@ -20,28 +23,48 @@ use proxy_client::forwards::Forwards;
 use shared_book::gate::Gate;
 use shared_book::origin::Origin;
 use shared_book::seat::Seat;
-use std::alloc::Global;
+use shared_book::shared_book::SharedBook;
+use std::alloc::{AllocError, Global};
 use std::sync::{Arc, Wait};
 
-/// A site and what forwards its requests, as what the connections of a server are served by.
+/// A site, what forwards its requests, what is told of them, and how long its journal gets, as what the connections of a
+/// server are served by.
 #[derive(Drop)]
-pub struct SiteAnswers<L: Origin, G, C, F> {
+pub struct SiteAnswers<L: Origin, G, C, F, N> {
     site: Arc<Site<L, G, C>>,
     forwarder: F,
+    log: N,
+    journal: JournalLimit,
 }
 
-impl<L: Origin, G, C, F> SiteAnswers<L, G, C, F> {
-    pub fn new(site: Arc<Site<L, G, C>>, forwarder: F) -> SiteAnswers<L, G, C, F> {
-        SiteAnswers { site, forwarder }
+impl<L: Origin, G, C, F, N> SiteAnswers<L, G, C, F, N> {
+    pub fn new(
+        site: Arc<Site<L, G, C>>,
+        forwarder: F,
+        log: N,
+        journal: JournalLimit,
+    ) -> SiteAnswers<L, G, C, F, N> {
+        SiteAnswers {
+            site,
+            forwarder,
+            log,
+            journal,
+        }
+    }
+
+    /// The book of its site.
+    pub(crate) fn book(&self) -> Result<SharedBook<L>, AllocError> {
+        self.site.book.try_clone()
     }
 }
 
-impl<L, G, C, F> Answers for SiteAnswers<L, G, C, F>
+impl<L, G, C, F, N> Answers for SiteAnswers<L, G, C, F, N>
 where
     L: Origin,
     G: Gate + Drop,
     C: Clock + Drop,
     F: Forwards,
+    N: Log + Drop,
 {
     type Seat = Seat<L>;
 
@@ -62,10 +85,10 @@ where
         seat: &mut Seat<L>,
         request: &Request<Bytes>,
     ) -> Result<Begun<SiteExchange<F::Exchange>, Content>, ServiceError> {
-        match answering::begin::begin(rt, alloc, &self.site, seat, request)? {
-            answering::begun::Begun::Answered(response) => Ok(Begun::Answered(response)),
-            answering::begun::Begun::ToForward(forward) => self.forward(rt, alloc, seat, forward),
-        }
+        let before = last_number(seat);
+        let begun = self.begin_message(rt, alloc, seat, before, request);
+        self.journal.keep(rt, &self.site.book, seat, before);
+        begun
     }
 
     fn finish<R: Wait>(
@@ -90,13 +113,37 @@ where
     }
 }
 
-impl<L, G, C, F> SiteAnswers<L, G, C, F>
+impl<L, G, C, F, N> SiteAnswers<L, G, C, F, N>
 where
     L: Origin,
     G: Gate + Drop,
     C: Clock + Drop,
     F: Forwards,
+    N: Log + Drop,
 {
+    // The answer to a request, or the exchange that forwards it. `before` is the number of the seat's last receipt.
+    fn begin_message<R: Wait>(
+        &self,
+        rt: &R,
+        alloc: Global,
+        seat: &mut Seat<L>,
+        before: Option<u64>,
+        request: &Request<Bytes>,
+    ) -> Result<Begun<SiteExchange<F::Exchange>, Content>, ServiceError>
+        ensures { IfOk result (IsBegun (IsGiven F.sends F.Exchange.gives L.origin)
+            (IsForwardedBy F.sends F.Exchange.gives L.origin)
+            (λ exchange. IsSome exchange.forward × F.Exchange.can_poll exchange.exchange) request.now) }
+    {
+        match answering::begin::begin(rt, alloc, &self.site, seat, request)? {
+            answering::begun::Begun::Answered(response) => {
+                let receipt = gained(seat, before);
+                self.log.answered(rt, alloc, request, receipt, &response);
+                Ok(Begun::Answered(response))
+            }
+            answering::begun::Begun::ToForward(forward) => self.forward(rt, alloc, seat, forward),
+        }
+    }
+
     // The exchange for what is to be forwarded; or the answer, where there can't be one. Not inlined: a function clears
     // all its locals when it is entered, and most requests are answered at once.
     #[inline(never)]
@@ -131,7 +178,15 @@ where
         ensures { IfOk result (IsFinished L.origin seat.old seat.new forwarded.forward forwarded.reply) }
     {
         let Forwarded { forward, reply } = forwarded;
-        answering::finish::finish(rt, alloc, &self.site, seat, forward, reply)
+        let number = forward.number;
+        let request = forward.request.try_clone();
+        let response = answering::finish::finish(rt, alloc, &self.site, seat, forward, reply)?;
+        if let Ok(request) = &request {
+            let status = response.status().as_u16();
+            self.log
+                .forwarded(rt, alloc, number, request.request(), status);
+        }
+        Ok(response)
     }
 
     fn exchange(

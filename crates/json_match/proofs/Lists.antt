@@ -1,7 +1,8 @@
 -- Lists of values, item by item.
 use Rattle.std.proofs.Common.{◌≡◌, ℕ, suc, ◌≤◌, ◌&&◌, ◌||◌, ◌⊎◌, inl, inr, not, Bool, true}
 use Rattle.std.proofs.Common.{false, nat_eq, List, [], ◌∷◌, length, drop, None, Some, String, Global, refl, sym}
-use Rattle.std.proofs.Common.{ap, ◌∙◌, arith}
+use Rattle.std.proofs.Common.{ap, ◌∙◌, arith, IfOk, Result, Ok, Err}
+use Rattle.std.specs.declared.alloc.AllocError.{AllocError}
 use Rattle.std.proofs.lemmas.Bool.{eq-eqb}
 use Rattle.std.proofs.lemmas.Bool.Decides.{nat_tests}
 use Rattle.std.proofs.lemmas.List.{drop_all}
@@ -86,11 +87,12 @@ as_they_take f es ts b (inr same) takes =
     && each_takes_one f (items_view es) (items_view ts)) (one_length es ts same)
     ∙ ap (λ c. c && each_takes_one f (items_view es) (items_view ts)) (or-true f.ignore_extra_elements) ∙ takes
 
-pub none_takes : (f : Flags) (es ts : List Data) → each_takes_one f (items_view es) (items_view ts) ≡ false
-    → are_equal_in_any_order f (items_view es) (items_view ts) ≡ false
-none_takes f es ts takes =
-    ap (λ c. (f.ignore_extra_elements || have_one_length (items_view es) (items_view ts)) && c) takes
-    ∙ and-false (f.ignore_extra_elements || have_one_length (items_view es) (items_view ts))
+pub if_they_take : (f : Flags) (es ts : List Data) (r : Result Bool AllocError)
+    → (f.ignore_extra_elements ≡ true) ⊎ (length es ≡ length ts)
+    → IfOk r (λ answer. answer ≡ each_takes_one f (items_view es) (items_view ts))
+    → IfOk r (λ answer. answer ≡ are_equal_in_any_order f (items_view es) (items_view ts))
+if_they_take f es ts (Err error) fit is = tt
+if_they_take f es ts (Ok answer) fit is = sym (as_they_take f es ts answer fit (sym is))
 
 pub no_partner : (f : Flags) (es later : List Data) (e : Data) (left : Items) → es ≡ e ∷ later
     → without_first (is_equal f (view e)) left ≡ None → each_takes_one f (items_view es) left ≡ false

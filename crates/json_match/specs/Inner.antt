@@ -1,3 +1,4 @@
 pub mod Walk
 pub mod Taken
+pub mod Counts
 pub mod Test

@@ -3,8 +3,10 @@
 ghost use Rattle.std.specs.Prelude.{◌≡◌, IfOk, vec_len};
 ghost use Rattle.data_tree.specs.Tree.{view, items_view, members_view};
 ghost use Rattle.json_match.specs.Inner.Taken.{first_left};
-ghost use Rattle.json_match.specs.Inner.Walk.{is_equal, are_equal, are_equal_in_any_order, have_equal};
+ghost use Rattle.json_match.specs.Inner.Walk.{is_equal, are_equal, each_takes_one, are_equal_in_any_order};
+ghost use Rattle.json_match.specs.Inner.Walk.{have_equal};
 
+use crate::counts::{are_scalars, each_takes_same};
 use crate::find::member_at;
 use data_tree::data::Data;
 use std::alloc::AllocError;
@@ -18,8 +20,9 @@ pub struct Flags {
     pub ignore_extra_elements: bool,
 }
 
-/// Whether the actual value is equal to the expected one. Objects and lists in order are gone over once; lists in any
-/// order take a flag for each actual element and at most as many comparisons as there are pairs of elements.
+/// Whether the actual value is equal to the expected one. Objects and lists in order are gone over once. In any order,
+/// the actual elements are counted where no expected one is a list or an object; else each has a flag, and there are at
+/// most as many comparisons as pairs of elements.
 #[cycle(is_equal)]
 pub fn is_equal(flags: Flags, expected: &Data, actual: &Data) -> Result<bool, AllocError>
     ensures { IfOk result (λ yes. yes ≡ is_equal flags (view expected.now) (view actual.now)) }
@@ -56,7 +59,7 @@ fn are_equal(flags: Flags, expected: &Vec<Data>, actual: &Vec<Data>) -> Result<b
     Ok(true)
 }
 
-/// Each expected item takes the first equal one that isn't taken.
+/// Values that are no lists or objects are counted. Of others, each expected one is compared with those that are left.
 #[cycle(is_equal)]
 fn are_equal_in_any_order(
     flags: Flags,
@@ -69,6 +72,22 @@ fn are_equal_in_any_order(
     if !flags.ignore_extra_elements && expected.len() != actual.len() {
         return Ok(false);
     }
+    if are_scalars(expected) {
+        return each_takes_same(expected, actual);
+    }
+    each_takes_one(flags, expected, actual)
+}
+
+/// Each expected item takes the first equal one that isn't taken.
+#[cycle(is_equal)]
+fn each_takes_one(
+    flags: Flags,
+    expected: &Vec<Data>,
+    actual: &Vec<Data>,
+) -> Result<bool, AllocError>
+    ensures { IfOk result (λ yes. yes
+        ≡ each_takes_one flags (items_view expected.now.items) (items_view actual.now.items)) }
+{
     let mut taken = vec![in *actual.allocator(); false; actual.len()]?;
     for item in expected {
         let Some(i) = first_left(flags, item, actual, &taken)? else {

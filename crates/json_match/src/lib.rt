@@ -3,6 +3,7 @@
 #![tactic(auto)]
 
 mod compare;
+mod counts;
 pub mod error;
 mod find;
 pub mod json_matcher;

@@ -8,6 +8,8 @@ ghost use Rattle.live_mappings.specs.Kept.{AreKept, Fits, lasts_of, placed_of};
 use crate::book_mapping::BookMapping;
 use crate::entries::sort;
 use crate::entry::Entry;
+use crate::ids;
+use crate::ids::push_ids;
 use mapping_model::mapping_id::MappingId;
 use request_journal::mapping::Mapping;
 use request_match::ready_mapping::ReadyMapping;
@@ -45,10 +47,9 @@ pub fn copies(alloc: Global, mappings: &[BookMapping]) -> Result<Vec<Mapping>, A
 pub fn lasts(alloc: Global, mappings: &[BookMapping]) -> Result<Vec<bool>, AllocError>
     ensures { IfOk result (λ lasts. lasts.items ≡ lasts_of mappings.now) }
 {
-    let mut lasts = Vec::with_capacity(alloc, mappings.len())?;
-    for i in 0..mappings.len() {
-        lasts.push(!has_id(&mappings[i + 1..], mappings[i].id()))?;
-    }
+    let mut ids = Vec::new(alloc);
+    push_ids(&mut ids, mappings)?;
+    let lasts = ids::lasts(alloc, ids.as_slice())?;
     Ok(lasts)
 }
 

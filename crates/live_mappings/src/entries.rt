@@ -1,5 +1,6 @@
 // The entries of a store.
-ghost use Rattle.std.specs.Prelude.{◌≡◌, ◌≢◌, ◌+◌, ◌<◌, ◌≤◌, ◌∷◌, length, All};
+ghost use Rattle.std.specs.Prelude.{◌≡◌, ◌≢◌, ◌+◌, ◌<◌, ◌≤◌, [], ◌∷◌, ◌++◌};
+ghost use Rattle.std.specs.Prelude.{length, All, IsTrue};
 ghost use Rattle.std.specs.Prelude.{AllPairs, MatchOption, IsPermutation, slice_index_or};
 ghost use Rattle.std.specs.List.{IsDistinct};
 ghost use Rattle.std.specs.Prelude.{vec_len};
@@ -67,8 +68,27 @@ pub fn replace(entries: &mut Vec<Entry>, entry: Entry)
     put_in(entries, entry);
 }
 
+/// Puts the entry last, in place of the one with its id, if there is one. Where it is new, none is looked for.
+pub fn put_last(entries: &mut Vec<Entry>, entry: Entry, is_new: bool)
+    requires room { vec_len entries.old < vec_capacity entries.old }
+    requires ids { IsDistinct have_one_id entries.old.items }
+    requires new { IsTrue is_new → All (λ e. e.id ≢ entry.id) entries.old.items }
+    ensures put { IsPermutation (entry ∷ without entry.id entries.old.items) entries.new.items }
+    ensures last { IsTrue is_new → entries.new.items ≡ entries.old.items ++ entry ∷ [] }
+    ensures len { vec_len entries.new ≤ vec_len entries.old + 1 }
+    ensures capacity { vec_capacity entries.old ≤ vec_capacity entries.new }
+{
+    if !is_new {
+        replace_last(entries, entry);
+        return;
+    }
+    if let Err(_refused) = entries.push(entry) {
+        unreachable!()
+    }
+}
+
 /// Puts the entry last, in place of the one with its id, if there is one.
-pub fn replace_last(entries: &mut Vec<Entry>, entry: Entry)
+fn replace_last(entries: &mut Vec<Entry>, entry: Entry)
     requires room { vec_len entries.old < vec_capacity entries.old }
     requires ids { IsDistinct have_one_id entries.old.items }
     ensures put { IsPermutation (entry ∷ without entry.id entries.old.items) entries.new.items }

@@ -7,4 +7,5 @@ pub mod book_mapping;
 pub mod defaults;
 pub mod entries;
 pub mod entry;
+pub mod ids;
 pub mod several;

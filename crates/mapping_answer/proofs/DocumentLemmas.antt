@@ -1,5 +1,6 @@
 -- Documents that are read one after the other.
-use Rattle.std.proofs.Common.{◌≡◌, ◌+◌, ◌∷◌, ◌++◌, ◌∙◌, [], ℕ, List, ap, append_assoc, drop, map, refl, sym, take}
+use Rattle.std.proofs.Common.{◌≡◌, ◌+◌, ◌∷◌, ◌++◌, ◌∙◌, [], ℕ, List}
+use Rattle.std.proofs.Common.{ap, append_assoc, drop, map, refl, sym, take}
 use Rattle.std.proofs.Common.{take-append-drop}
 use Rattle.std.proofs.lemmas.List.{append-nil, map-append}
 use Rattle.mapping_answer.specs.Answering.{SpellDocuments}
@@ -22,7 +23,8 @@ spell_push escape (x ∷ xs) mappings bytes own (own', rest, spelled', more, who
 )
 
 -- the list up to an element, that element, and the rest, as what each is mapped to
-pub split_mapped : {A B : Type 0} (f : A → B) (xs : List A) (i : ℕ) (x : A) → take (i + 1) xs ≡ take i xs ++ x ∷ []
+pub split_mapped : {A B : Type 0} (f : A → B) (xs : List A) (i : ℕ) (x : A)
+    → take (i + 1) xs ≡ take i xs ++ x ∷ []
     → map f xs ≡ map f (take i xs) ++ f x ∷ map f (drop (i + 1) xs)
 split_mapped f xs i x more =
     ap (map f) (sym (take-append-drop (i + 1) xs) ∙ ap (λ l. l ++ drop (i + 1) xs) more

@@ -1,6 +1,7 @@
 -- What `mock answer` prints for documents, a method and a target: the reply of a book that was just opened with the
 -- documents' mappings. And which errors it reports, and how it ends.
-use Rattle.std.specs.Prelude.{◌≡◌, ◌⊎◌, ◌<◌, ◌≤◌, ℕ, List, [], ◌∷◌, ◌++◌, length, codes, decimal}
+use Rattle.std.specs.Prelude.{◌≡◌, ◌⊎◌, ◌<◌, ◌≤◌, ℕ, List, [], ◌∷◌, ◌++◌}
+use Rattle.std.specs.Prelude.{length, codes, decimal}
 use Rattle.std.specs.Prelude.{flat_map, Option, None}
 use Rattle.std.specs.Io.KnownBytes.{Appends}
 use Rattle.command_output.specs.Files.{AreDocuments, IsDocumentsError, file_error_line}
@@ -70,7 +71,8 @@ SpellDocuments escape (bytes ∷ documents) mappings =
 
 -- the reply to that request of a book that was just opened with the documents' mappings, whose templates' prints are
 -- escaped so
-pub record IsReply (escape : Escape) (documents : List (List ℕ)) (method target : List ℕ) (reply : Reply) : Type 0 where
+pub record IsReply (escape : Escape) (documents : List (List ℕ)) (method target : List ℕ) (reply : Reply)
+    : Type 0 where
   pub mappings : List MappingSpec
   pub spelled : SpellDocuments escape documents mappings
   -- a book can be opened with them
@@ -141,7 +143,8 @@ BreaksReplyOff escape documents method target old new =
     (text : List ℕ) × IsReplyText escape documents method target text × AppendsPart old new text
 
 -- an error was reported, as far as the writer took its line
-abbrev pub ReportsRefusal : Escape → List (List ℕ) → List ℕ → Option (List ℕ) → Option (List ℕ) → Type 0
+abbrev pub ReportsRefusal : Escape → List (List ℕ) → List ℕ
+    → Option (List ℕ) → Option (List ℕ) → Type 0
 ReportsRefusal escape documents target old new =
     (error : CommandError) × IsRefusal escape documents target error × AppendsFront old new (error_line error)
 
@@ -153,13 +156,15 @@ abbrev pub Answers : {O E : Type 0} → (O → Option (List ℕ)) → (E → Opt
 Answers out_holds err_holds escape documents method target out out' err err' status =
     ((status ≡ 0) × ShowsReply escape documents method target (out_holds out) (out_holds out') × (err' ≡ err))
     ⊎ ((status ≡ 1) × ReportsRefusal escape documents target (err_holds err) (err_holds err') × (out' ≡ out))
-    ⊎ ((status ≡ 1) × BreaksReplyOff escape documents method target (out_holds out) (out_holds out') × (err' ≡ err))
+    ⊎ ((status ≡ 1) × BreaksReplyOff escape documents method target (out_holds out) (out_holds out')
+    × (err' ≡ err))
 
 -- How `mock answer` ends: the files that the path names are read and the request answered, or an error in reading them
 -- is on standard error (1), as far as the writer took its line, and standard output is as it was. The files are known,
 -- or they aren't.
 abbrev pub AnswersFiles : {O E : Type 0} → (O → Option (List ℕ)) → (E → Option (List ℕ)) → Escape
-    → Option (List (List ℕ)) → (List ℕ → Option (List ℕ)) → List ℕ → List ℕ → List ℕ → O → O → E → E → ℕ → Type 0
+    → Option (List (List ℕ)) → (List ℕ → Option (List ℕ)) → List ℕ → List ℕ → List ℕ
+    → O → O → E → E → ℕ → Type 0
 AnswersFiles out_holds err_holds escape listed known path method target out out' err err' status =
     ((documents : List (List ℕ)) × AreDocuments listed known documents
     × Answers out_holds err_holds escape documents method target out out' err err' status)

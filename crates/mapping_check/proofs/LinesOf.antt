@@ -86,7 +86,8 @@ refused escape number d old new error is other text = record {
 
 -- ---- several documents
 
-pub nothing : (escape : Escape) (c : Checked) → string_bytes c.text ≡ [] → c.is_refused ≡ false → c.count ≡ 0
+pub nothing : (escape : Escape) (c : Checked)
+    → string_bytes c.text ≡ [] → c.is_refused ≡ false → c.count ≡ 0
     → IsChecked escape [] c
 nothing escape c text refused count = record {
   lines = record {
@@ -107,7 +108,8 @@ pub value_more : (escape : Escape) (values : List Data) (old new : Checked) (d :
 value_more escape values old new d more so_far next count refused = record {
   lines = subst (AreReported escape (values ++ d ∷ []) (string_bytes new.text)) (sym refused)
       (one_more escape values (string_bytes old.text) old.is_refused d (string_bytes new.text) more so_far.lines
-      (subst (λ n. Reports escape (n + 1) d (string_bytes old.text) (string_bytes new.text) more) so_far.counted next));
+      (subst (λ n. Reports escape (n + 1) d (string_bytes old.text) (string_bytes new.text) more)
+      so_far.counted next));
   counted = count ∙ ap (λ n. n + 1) so_far.counted ∙ sym (length_push values d);
 }
 
@@ -128,7 +130,8 @@ values_push (x ∷ xs) values bytes d own (d', own', rest, document', listed', m
 )
 
 -- the list up to an element, that element, and the rest
-pub split_mapped : {A B : Type 0} (f : A → B) (xs : List A) (i : ℕ) (x : A) → take (i + 1) xs ≡ take i xs ++ x ∷ []
+pub split_mapped : {A B : Type 0} (f : A → B) (xs : List A) (i : ℕ) (x : A)
+    → take (i + 1) xs ≡ take i xs ++ x ∷ []
     → map f xs ≡ map f (take i xs) ++ f x ∷ map f (drop (i + 1) xs)
 split_mapped f xs i x more =
     ap (map f) (sym (take-append-drop (i + 1) xs) ∙ ap (λ l. l ++ drop (i + 1) xs) more

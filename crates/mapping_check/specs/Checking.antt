@@ -142,7 +142,8 @@ Checks out_holds err_holds escape documents out out' err err' status =
 -- How `mock check` ends: the files that the path names are read and checked, or an error in reading them is on standard
 -- error (1), as far as the writer took its line, and standard output is as it was. The files are known, or they aren't.
 abbrev pub ChecksFiles : {O E : Type 0} → (O → Option (List ℕ)) → (E → Option (List ℕ)) → Escape
-    → Option (List (List ℕ)) → (List ℕ → Option (List ℕ)) → List ℕ → O → O → E → E → ℕ → Type 0
+    → Option (List (List ℕ)) → (List ℕ → Option (List ℕ)) → List ℕ
+    → O → O → E → E → ℕ → Type 0
 ChecksFiles out_holds err_holds escape listed known path out out' err err' status =
     ((documents : List (List ℕ)) × AreDocuments listed known documents
     × Checks out_holds err_holds escape documents out out' err err' status)

@@ -189,7 +189,7 @@ fn note(
 ) {
     let place = Place {
         file: source.file,
-        number,
+        number: Some(number),
         index: if source.is_list { Some(index) } else { None },
     };
     // A note is no part of the report.

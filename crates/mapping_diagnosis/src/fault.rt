@@ -1,10 +1,11 @@
 // What is wrong, and where.
-use crate::shown::shown;
+use crate::shown::{joined, shown};
+use itoa::Buffer;
 use serde_json::Value;
 use std::alloc::{AllocError, Global};
 
 /// What is wrong with a value, and the JSON pointer (RFC 6901) to it from the value that was looked through.
-#[derive(Debug, Drop)]
+#[derive(Drop)]
 pub(crate) struct Fault {
     pub(crate) pointer: String,
     pub(crate) said: String,
@@ -14,14 +15,18 @@ impl Fault {
     /// The value itself isn't what was wanted.
     pub(crate) fn of(alloc: Global, wanted: &str, found: &Value) -> Result<Fault, AllocError> {
         let found = shown(alloc, found)?;
-        Fault::saying(alloc, format!(in alloc; "wanted {wanted}, found {found}")?)
+        let said = joined(
+            alloc,
+            ["wanted ", wanted, ", found ", found.as_str()].as_slice(),
+        )?;
+        Ok(Fault::saying(alloc, said))
     }
 
-    pub(crate) fn saying(alloc: Global, said: String) -> Result<Fault, AllocError> {
-        Ok(Fault {
+    pub(crate) fn saying(alloc: Global, said: String) -> Fault {
+        Fault {
             pointer: String::new(alloc),
             said,
-        })
+        }
     }
 
     /// The same fault, of the object that has the value at that name.
@@ -38,12 +43,8 @@ impl Fault {
 
     /// The same fault, of the list that has the value at that index.
     pub(crate) fn under_index(self, alloc: Global, index: usize) -> Result<Fault, AllocError> {
-        let Fault { pointer, said } = self;
-        let longer = format!(in alloc; "/{index}{pointer}")?;
-        Ok(Fault {
-            pointer: longer,
-            said,
-        })
+        let mut digits = Buffer::new();
+        self.under(alloc, digits.format(index))
     }
 }
 

@@ -1,7 +1,8 @@
 // The values of single fields.
 use crate::fault::Fault;
 use crate::numbers::number_fault;
-use crate::shown::quoted;
+use crate::reasons::{json_reason, pattern_reason, template_reason};
+use crate::shown::{joined, quoted};
 use crate::sought::Sought;
 use json_bridge::error::JsonPathError;
 use json_bridge::json_path::JsonPath;
@@ -10,14 +11,15 @@ use json_reading::reading::Reading;
 use mapping_model::mapping_id::MappingId;
 use path_template::error::PathTemplateError;
 use path_template::path_template::PathTemplate;
-use regex::Regex;
 use serde_json::Value;
 use std::alloc::{AllocError, Global};
 
 /// What the value of a field has to be.
-#[derive(Clone, Copy, Debug, PartialEq, Eq)]
+#[derive(Clone, Copy, PartialEq, Eq)]
 pub(crate) enum Leaf {
     Text,
+    /// A text, which may be a template.
+    Source,
     Truth,
     /// `true`.
     True,
@@ -33,6 +35,7 @@ pub(crate) enum Leaf {
     ExpectedJson,
     JsonPath,
     EmptyList,
+    Transformer,
     Json,
 }
 
@@ -43,33 +46,27 @@ pub(crate) fn leaf_fault(
     value: &Value,
     sought: Sought,
 ) -> Result<Option<Fault>, AllocError> {
-    match sought {
-        Sought::Shape => shape_fault(alloc, leaf, value),
-        Sought::Field => list_fault(alloc, leaf, value),
-        _ => match value.as_str() {
-            Some(text) => text_fault(alloc, leaf, text, value, sought),
-            None => Ok(None),
-        },
-    }
-}
-
-fn list_fault(alloc: Global, leaf: Leaf, value: &Value) -> Result<Option<Fault>, AllocError> {
-    if leaf == Leaf::EmptyList && !is_empty_list(value) {
-        return Ok(Some(Fault::of(alloc, wanted(leaf), value)?));
-    }
-    Ok(None)
-}
-
-fn shape_fault(alloc: Global, leaf: Leaf, value: &Value) -> Result<Option<Fault>, AllocError> {
-    if has_shape(alloc, leaf, value)? {
+    let is_right = match sought {
+        Sought::Shape => has_shape(alloc, leaf, value)?,
+        Sought::Field => is_supported(leaf, value),
+        _ => return text_fault(alloc, leaf, value, sought),
+    };
+    if is_right {
         return Ok(None);
     }
-    Ok(Some(Fault::of(alloc, wanted(leaf), value)?))
+    Ok(Some(Fault::of(alloc, wanted(leaf, sought), value)?))
+}
+
+fn is_supported(leaf: Leaf, value: &Value) -> bool {
+    match leaf {
+        Leaf::EmptyList => is_empty_list(value),
+        Leaf::Transformer => value.as_str() == Some("response-template"),
+        _ => true,
+    }
 }
 
 fn has_shape(alloc: Global, leaf: Leaf, value: &Value) -> Result<bool, AllocError> {
     Ok(match leaf {
-        Leaf::Text | Leaf::Pattern | Leaf::PathTemplate | Leaf::JsonPath => value.is_string(),
         Leaf::Truth => matches!(value, Value::Bool(_)),
         Leaf::True => matches!(value, Value::Bool(true)),
         Leaf::Priority => is_priority(value),
@@ -77,12 +74,12 @@ fn has_shape(alloc: Global, leaf: Leaf, value: &Value) -> Result<bool, AllocErro
         Leaf::Uuid => is_uuid(value),
         Leaf::Base64 => matches!(bytes_of(alloc, value)?, Reading::Read(_)),
         Leaf::ExpectedJson | Leaf::EmptyList | Leaf::Json => true,
+        _ => value.is_string(),
     })
 }
 
-fn wanted(leaf: Leaf) -> &'static str {
+fn wanted(leaf: Leaf, sought: Sought) -> &'static str {
     match leaf {
-        Leaf::Text | Leaf::Pattern | Leaf::PathTemplate | Leaf::JsonPath => "a text",
         Leaf::Truth => "true or false",
         Leaf::True => "true",
         Leaf::Priority => "a whole number from -2147483648 to 2147483647",
@@ -91,6 +88,9 @@ fn wanted(leaf: Leaf) -> &'static str {
         Leaf::Base64 => "a text in base64, with padding",
         Leaf::EmptyList => "no such field, or an empty list",
         Leaf::ExpectedJson | Leaf::Json => "JSON",
+        Leaf::Transformer if sought == Sought::Field =>
+            "\"response-template\", the one transformer",
+        _ => "a text",
     }
 }
 
@@ -119,30 +119,51 @@ fn is_empty_list(value: &Value) -> bool {
 fn text_fault(
     alloc: Global,
     leaf: Leaf,
-    text: &str,
     value: &Value,
     sought: Sought,
 ) -> Result<Option<Fault>, AllocError> {
+    let Some(text) = value.as_str() else {
+        return Ok(None);
+    };
     match (leaf, sought) {
-        (Leaf::Pattern, Sought::Pattern) => pattern_fault(alloc, text),
+        (Leaf::Pattern, Sought::Pattern) => {
+            reasoned(alloc, PATTERN, text, pattern_reason(alloc, text)?)
+        }
         (Leaf::PathTemplate, Sought::PathTemplate) => path_template_fault(alloc, text, value),
-        (Leaf::ExpectedJson, Sought::ExpectedJson) => expected_fault(alloc, text),
+        (Leaf::ExpectedJson, Sought::ExpectedJson) => {
+            reasoned(alloc, EXPECTED, text, json_reason(alloc, text.as_bytes())?)
+        }
         (Leaf::ExpectedJson, Sought::ExpectedNumber) => expected_number_fault(alloc, text),
         (Leaf::JsonPath, Sought::Path) => path_fault(alloc, text, value),
+        (Leaf::Source, Sought::Template) => source_fault(alloc, text),
         _ => Ok(None),
     }
 }
 
-fn pattern_fault(alloc: Global, text: &str) -> Result<Option<Fault>, AllocError> {
-    match Regex::new(alloc, text) {
-        Ok(_regex) => Ok(None),
-        Err(regex::Error::OutOfMemory) => Err(AllocError),
-        Err(error) => {
-            let found = quoted(alloc, text)?;
-            let said = format!(in alloc; "wanted a regular expression, found {found}: {error}")?;
-            Ok(Some(Fault::saying(alloc, said)?))
-        }
-    }
+const PATTERN: &str = "a regular expression";
+
+const EXPECTED: &str = "JSON or the text of JSON";
+
+/// The fault of a text, if there is a reason why it isn't what is wanted.
+fn reasoned(
+    alloc: Global,
+    wanted: &str,
+    text: &str,
+    reason: Option<String>,
+) -> Result<Option<Fault>, AllocError> {
+    let Some(reason) = reason else {
+        return Ok(None);
+    };
+    let found = quoted(alloc, text)?;
+    let texts = [
+        "wanted ",
+        wanted,
+        ", found ",
+        found.as_str(),
+        ": ",
+        reason.as_str(),
+    ];
+    Ok(Some(Fault::saying(alloc, joined(alloc, texts.as_slice())?)))
 }
 
 fn path_template_fault(
@@ -169,21 +190,6 @@ fn path_fault(alloc: Global, text: &str, value: &Value) -> Result<Option<Fault>,
 
 const JSON_PATH: &str = "a JSON path: $ and steps .name, ['text'] or [0]";
 
-fn expected_fault(alloc: Global, text: &str) -> Result<Option<Fault>, AllocError> {
-    match Value::from_str(alloc, text) {
-        Ok(_value) => Ok(None),
-        Err(error) => if error.is_memory() {
-            Err(AllocError)
-        } else {
-            let found = quoted(alloc, text)?;
-            let said = format!(in alloc;
-                "wanted JSON or the text of JSON, found {found}: {error}"
-            )?;
-            Ok(Some(Fault::saying(alloc, said)?))
-        },
-    }
-}
-
 fn expected_number_fault(alloc: Global, text: &str) -> Result<Option<Fault>, AllocError> {
     let Ok(value) = Value::from_str(alloc, text) else {
         return Ok(None);
@@ -192,6 +198,21 @@ fn expected_number_fault(alloc: Global, text: &str) -> Result<Option<Fault>, All
         return Ok(None);
     };
     let Fault { pointer, said } = fault;
-    let said = format!(in alloc; "in the JSON of this text, at \"{pointer}\": {said}")?;
-    Ok(Some(Fault::saying(alloc, said)?))
+    let texts = [
+        "in the JSON of this text, at \"",
+        pointer.as_str(),
+        "\": ",
+        said.as_str(),
+    ];
+    Ok(Some(Fault::saying(alloc, joined(alloc, texts.as_slice())?)))
+}
+
+fn source_fault(alloc: Global, text: &str) -> Result<Option<Fault>, AllocError> {
+    match template_reason(alloc, text)? {
+        Some(reason) => {
+            let said = joined(alloc, ["wanted a template: ", reason.as_str()].as_slice())?;
+            Ok(Some(Fault::saying(alloc, said)))
+        }
+        None => Ok(None),
+    }
 }

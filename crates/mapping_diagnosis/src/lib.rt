@@ -4,14 +4,14 @@
 //! the order of the JSON tree, that explains the code. No contract says what is found; tables of cases do.
 #![tactic(auto)]
 
+mod combination;
 mod fault;
 mod leaf;
-mod mapping;
-mod matcher;
 pub mod notes;
 mod numbers;
-mod request;
-mod response;
-mod shown;
+mod part;
+mod reasons;
+mod search;
+pub mod shown;
 mod sought;
 mod warnings;

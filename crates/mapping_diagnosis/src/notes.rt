@@ -1,11 +1,15 @@
 //! The lines that follow the first line of an error on standard error, and warnings.
 use crate::fault::Fault;
-use crate::mapping::mapping_fault;
-use crate::shown::{quoted, shown};
+use crate::part::Part;
+use crate::reasons::json_reason;
+use crate::search::{mapping_fault, part_fault};
+use crate::shown::{joined, quoted, shown};
 use crate::sought::Sought;
 use crate::warnings::warnings_of;
+use itoa::Buffer;
 use mapping_json::error::{MappingError, MappingsError};
 use mapping_json::read::mapping_values;
+use mapping_json::request_error::RequestDocumentError;
 use serde_json::Value;
 use std::alloc::{AllocError, Global};
 
@@ -13,7 +17,7 @@ use std::alloc::{AllocError, Global};
 const LINE_LIMIT: u32 = 100;
 
 /// Lines about mappings, in the order in which they were found.
-#[derive(Debug, Drop)]
+#[derive(Drop)]
 pub struct Notes {
     text: String,
     /// How many lines may follow.
@@ -22,12 +26,13 @@ pub struct Notes {
     next: u64,
 }
 
-/// Which mapping of which file.
-#[derive(Clone, Copy, Debug)]
+/// Where a mapping stands.
+#[derive(Clone, Copy)]
 pub struct Place<'a> {
+    /// The file, or the call that it was posted with.
     pub file: &'a str,
     /// From 1 on, over all files of a command.
-    pub number: u64,
+    pub number: Option<u64>,
     /// Its index in the list `mappings` of its file, if that has one.
     pub index: Option<usize>,
 }
@@ -46,6 +51,15 @@ impl Notes {
         self.text.as_str()
     }
 
+    pub fn into_string(self) -> String {
+        let Notes {
+            text,
+            left: _left,
+            next: _next,
+        } = self;
+        text
+    }
+
     /// The warnings of a mapping, and where it is wrong, if it has an error.
     pub fn add_mapping(
         &mut self,
@@ -58,34 +72,23 @@ impl Notes {
             return Ok(());
         }
         if let Some(error) = error {
-            let name = name_of(alloc, value)?;
+            let mapping = named(alloc, place, value)?;
             let what = what_of(alloc, place, value, error)?;
-            let line = format!(in alloc;
-                "  {}, mapping {}{name}{what}\n",
-                place.file, place.number
-            )?;
-            self.add_line(line.as_str())?;
+            self.add_line(["  ", mapping.as_str(), what.as_str(), "\n"].as_slice())?;
         }
         let warnings = warnings_of(alloc, value)?;
-        for warning in warnings.iter() {
-            self.add_warning(alloc, place, value, warning.as_str())?;
+        if warnings.is_empty() {
+            return Ok(());
         }
-        Ok(())
+        let mapping = named(alloc, place, value)?;
+        self.add_warnings(mapping.as_str(), warnings.as_slice())
     }
 
-    fn add_warning(
-        &mut self,
-        alloc: Global,
-        place: Place<'_>,
-        value: &Value,
-        warning: &str,
-    ) -> Result<(), AllocError> {
-        let name = name_of(alloc, value)?;
-        let line = format!(in alloc;
-            "warning: {}, mapping {}{name}: {warning}\n",
-            place.file, place.number
-        )?;
-        self.add_line(line.as_str())
+    fn add_warnings(&mut self, mapping: &str, warnings: &[String]) -> Result<(), AllocError> {
+        for warning in warnings {
+            self.add_line(["warning: ", mapping, ": ", warning.as_str(), "\n"].as_slice())?;
+        }
+        Ok(())
     }
 
     /// Why a document has no mappings: it isn't JSON, or no object, or its `mappings` is no list.
@@ -97,14 +100,9 @@ impl Notes {
     ) -> Result<(), AllocError> {
         let what = match Value::from_slice(alloc, bytes) {
             Ok(document) => document_fault(alloc, &document)?,
-            Err(error) => if error.is_memory() {
-                return Err(AllocError);
-            } else {
-                format!(in alloc; "{error}")?
-            },
+            Err(_error) => json_reason(alloc, bytes)?.unwrap_or(String::new(alloc)),
         };
-        let line = format!(in alloc; "  {file}: {what}\n")?;
-        self.add_line(line.as_str())
+        self.add_line(["  ", file, ": ", what.as_str(), "\n"].as_slice())
     }
 
     /// All lines of the next document, of which the first error is this, if it has one. The numbers of its mappings
@@ -139,7 +137,7 @@ impl Notes {
         for (index, value) in values.iter().enumerate() {
             let place = Place {
                 file,
-                number: self.next,
+                number: Some(self.next),
                 index: if is_listed { Some(index) } else { None },
             };
             self.next = self.next.saturating_add(1);
@@ -148,16 +146,71 @@ impl Notes {
         Ok(())
     }
 
-    fn add_line(&mut self, line: &str) -> Result<(), AllocError> {
+    /// Why an admin call was refused: the body of its answer has a code and a title.
+    pub fn add_refusal(
+        &mut self,
+        alloc: Global,
+        call: &str,
+        answer: &[u8],
+    ) -> Result<(), AllocError> {
+        let reason = refusal_of(alloc, answer)?;
+        self.add_line(["refused ", call, ": ", reason.as_str(), "\n"].as_slice())
+    }
+
+    /// What there is to say of a mapping that was posted, and which has this error, if it has one.
+    pub fn add_posted(
+        &mut self,
+        alloc: Global,
+        call: &str,
+        bytes: &[u8],
+        error: Option<MappingError>,
+    ) -> Result<(), AllocError> {
+        let Ok(value) = Value::from_slice(alloc, bytes) else {
+            return self.add_document(alloc, call, bytes);
+        };
+        let place = Place {
+            file: call,
+            number: None,
+            index: None,
+        };
+        self.add_mapping(alloc, place, &value, error)
+    }
+
+    /// Where a request matcher that was posted is wrong, if it has an error.
+    pub fn add_matcher(
+        &mut self,
+        alloc: Global,
+        call: &str,
+        bytes: &[u8],
+        error: Option<RequestDocumentError>,
+    ) -> Result<(), AllocError> {
+        let Ok(value) = Value::from_slice(alloc, bytes) else {
+            return self.add_document(alloc, call, bytes);
+        };
+        let Some(sought) = Sought::of_matcher(error) else {
+            return Ok(());
+        };
+        match part_fault(alloc, Part::Request, &value, sought)? {
+            Some(fault) => {
+                let said = said_at(alloc, fault)?;
+                self.add_line(["  ", call, said.as_str(), "\n"].as_slice())
+            }
+            None => Ok(()),
+        }
+    }
+
+    fn add_line(&mut self, texts: &[&str]) -> Result<(), AllocError> {
         if self.left == 0 {
             return Ok(());
         }
         self.left -= 1;
         if self.left == 0 {
-            self.text.push_str("  .. there is more to say\n")
-        } else {
-            self.text.push_str(line)
+            return self.text.push_str("  .. there is more to say\n");
         }
+        for text in texts {
+            self.text.push_str(*text)?;
+        }
+        Ok(())
     }
 }
 
@@ -175,30 +228,65 @@ fn error_at(error: Option<MappingsError>, index: usize) -> Option<MappingError> 
 
 fn document_fault(alloc: Global, document: &Value) -> Result<String, AllocError> {
     match document.get("mappings") {
-        Some(mappings) => {
-            let found = shown(alloc, mappings)?;
-            format!(in alloc; "at /mappings: wanted a list of mappings, found {found}")
-        }
-        None => {
-            let found = shown(alloc, document)?;
-            format!(in alloc;
-                "wanted a mapping, or an object with a list `mappings`, found {found}"
-            )
-        }
+        Some(mappings) => found_instead(alloc, "at /mappings: wanted a list of mappings", mappings),
+        None => found_instead(
+            alloc,
+            "wanted a mapping, or an object with a list `mappings`",
+            document,
+        ),
     }
 }
 
-/// As ` (name "todo")`, or its id, or nothing.
-fn name_of(alloc: Global, value: &Value) -> Result<String, AllocError> {
+fn found_instead(alloc: Global, wanted: &str, value: &Value) -> Result<String, AllocError> {
+    let found = shown(alloc, value)?;
+    joined(alloc, [wanted, ", found ", found.as_str()].as_slice())
+}
+
+/// As `error 12: unsupported field`.
+fn refusal_of(alloc: Global, answer: &[u8]) -> Result<String, AllocError> {
+    let Ok(answer) = Value::from_slice(alloc, answer) else {
+        return String::from_str(alloc, "error");
+    };
+    let mut digits = Buffer::new();
+    match first_error(&answer) {
+        Some((code, title)) => {
+            joined(
+                alloc,
+                ["error ", digits.format(code), ": ", title].as_slice(),
+            )
+        }
+        None => String::from_str(alloc, "error"),
+    }
+}
+
+fn first_error(answer: &Value) -> Option<(u64, &str)> {
+    let error = answer.get("errors")?.as_array()?.first()?;
+    let code = error.get("code")?.as_u64()?;
+    let title = error.get("title")?.as_str()?;
+    Some((code, title))
+}
+
+/// As `todo.json, mapping 2 (name "todo")`; where it has no name, its id, or nothing.
+fn named(alloc: Global, place: Place<'_>, value: &Value) -> Result<String, AllocError> {
+    let mut text = String::from_str(alloc, place.file)?;
+    if let Some(number) = place.number {
+        let mut digits = Buffer::new();
+        text.push_str(", mapping ")?;
+        text.push_str(digits.format(number))?;
+    }
     if let Some(name) = text_at(value, "name") {
-        let name = quoted(alloc, name)?;
-        return format!(in alloc; " (name {name})");
+        push_name(alloc, &mut text, " (name ", name)?;
+    } else if let Some(id) = text_at(value, "id") {
+        push_name(alloc, &mut text, " (id ", id)?;
     }
-    if let Some(id) = text_at(value, "id") {
-        let id = quoted(alloc, id)?;
-        return format!(in alloc; " (id {id})");
-    }
-    Ok(String::new(alloc))
+    Ok(text)
+}
+
+fn push_name(alloc: Global, text: &mut String, front: &str, name: &str) -> Result<(), AllocError> {
+    let name = quoted(alloc, name)?;
+    text.push_str(front)?;
+    text.push_str(name.as_str())?;
+    text.push_str(")")
 }
 
 fn text_at<'a>(value: &'a Value, name: &str) -> Option<&'a str> {
@@ -220,23 +308,27 @@ fn what_of(
         None => None,
     };
     match found {
-        Some(fault) => said_at(alloc, place, fault),
-        None => {
-            let title = error.error_code().title();
-            format!(in alloc; ": {title}")
-        }
+        Some(fault) => said_at(alloc, listed(alloc, place, fault)?),
+        None => joined(alloc, [": ", error.error_code().title()].as_slice()),
     }
 }
 
-fn said_at(alloc: Global, place: Place<'_>, fault: Fault) -> Result<String, AllocError> {
-    let fault = match place.index {
-        Some(index) => fault.under_index(alloc, index)?.under(alloc, "mappings")?,
-        None => fault,
-    };
+/// The fault by its place in its file.
+fn listed(alloc: Global, place: Place<'_>, fault: Fault) -> Result<Fault, AllocError> {
+    match place.index {
+        Some(index) => fault.under_index(alloc, index)?.under(alloc, "mappings"),
+        None => Ok(fault),
+    }
+}
+
+fn said_at(alloc: Global, fault: Fault) -> Result<String, AllocError> {
     let Fault { pointer, said } = fault;
-    if pointer.as_str() == "" {
-        format!(in alloc; ": {said}")
+    if pointer.is_empty() {
+        joined(alloc, [": ", said.as_str()].as_slice())
     } else {
-        format!(in alloc; ", at {pointer}: {said}")
+        joined(
+            alloc,
+            [", at ", pointer.as_str(), ": ", said.as_str()].as_slice(),
+        )
     }
 }

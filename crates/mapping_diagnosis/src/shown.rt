@@ -1,4 +1,4 @@
-// Values and texts as they are shown in a message: on one line, and cut.
+//! Values and texts as they are shown in a message: on one line, and cut.
 use serde_json::Value;
 use std::alloc::{AllocError, Global};
 
@@ -8,28 +8,41 @@ const SHOWN: usize = 60;
 /// The compact text of a value.
 pub(crate) fn shown(alloc: Global, value: &Value) -> Result<String, AllocError> {
     let text = value.to_string(alloc)?;
-    cut(alloc, text.as_str())
+    cut(alloc, text.as_str(), SHOWN)
 }
 
 /// A text in quotation marks, escaped as in JSON.
-pub(crate) fn quoted(alloc: Global, text: &str) -> Result<String, AllocError> {
-    let front = front_of(alloc, text)?;
+pub fn quoted(alloc: Global, text: &str) -> Result<String, AllocError> {
+    let front = front_of(alloc, text, SHOWN)?;
     let value = Value::String(front);
     shown(alloc, &value)
 }
 
-fn cut(alloc: Global, text: &str) -> Result<String, AllocError> {
-    let mut front = front_of(alloc, text)?;
+/// The text, or its first characters, so many, and two dots.
+pub fn cut(alloc: Global, text: &str, characters: usize) -> Result<String, AllocError> {
+    let mut front = front_of(alloc, text, characters)?;
     if front.len() < text.len() {
         front.push_str("..")?;
     }
     Ok(front)
 }
 
-fn front_of(alloc: Global, text: &str) -> Result<String, AllocError> {
+fn front_of(alloc: Global, text: &str, characters: usize) -> Result<String, AllocError> {
+    if text.len() <= characters {
+        return String::from_str(alloc, text);
+    }
     let mut front = String::new(alloc);
-    for character in text.chars().take(SHOWN) {
+    for character in text.chars().take(characters) {
         front.push(character)?;
     }
     Ok(front)
+}
+
+/// The texts, one after the other. A proof takes less time for this than for a `format!`.
+pub(crate) fn joined(alloc: Global, texts: &[&str]) -> Result<String, AllocError> {
+    let mut all = String::new(alloc);
+    for text in texts {
+        all.push_str(*text)?;
+    }
+    Ok(all)
 }

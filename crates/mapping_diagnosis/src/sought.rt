@@ -2,9 +2,10 @@
 use error_code::error_code::ErrorCode;
 use json_reading::kind::Kind;
 use mapping_json::error::MappingError;
+use mapping_json::request_error::RequestDocumentError;
 
 /// In which way a value has to be wrong to explain an error.
-#[derive(Clone, Copy, Debug, PartialEq, Eq)]
+#[derive(Clone, Copy, PartialEq, Eq)]
 pub(crate) enum Sought {
     /// A number that isn't whole, or doesn't fit 64 bits.
     Number,
@@ -35,6 +36,15 @@ impl Sought {
             MappingError::Request(error) => Sought::of_request(error.error_code()),
             MappingError::Template(_) => Some(Sought::Template),
             MappingError::OutOfMemory => None,
+        }
+    }
+
+    /// What is sought in a request matcher that was posted alone.
+    pub(crate) fn of_matcher(error: Option<RequestDocumentError>) -> Option<Sought> {
+        match error {
+            Some(RequestDocumentError::Document(kind)) => Sought::of_kind(kind),
+            Some(RequestDocumentError::Matcher(error)) => Sought::of_request(error.error_code()),
+            _ => None,
         }
     }
 

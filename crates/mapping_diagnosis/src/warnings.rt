@@ -1,13 +1,15 @@
 // What is taken, and yet hasn't the effect that was probably meant.
-use crate::mapping::is_read;
-use crate::shown::quoted;
-use serde_json::Value;
+use crate::part::{Field, Part, field_of};
+use crate::shown::{joined, quoted};
+use serde_json::{Map, Value};
 use std::alloc::{AllocError, Global};
 
 /// The warnings of a mapping, each a sentence.
 pub(crate) fn warnings_of(alloc: Global, value: &Value) -> Result<Vec<String>, AllocError> {
     let mut warnings = Vec::new(alloc);
     add_ignored(alloc, value, &mut warnings)?;
+    add_lonely(alloc, value, "requiredScenarioState", &mut warnings)?;
+    add_lonely(alloc, value, "newScenarioState", &mut warnings)?;
     if let Some(request) = value.get("request") {
         add_url(alloc, request, &mut warnings)?;
     }
@@ -23,47 +25,85 @@ fn add_ignored(alloc: Global, value: &Value, warnings: &mut Vec<String>) -> Resu
         return Ok(());
     };
     for (name, _member) in members.iter() {
-        if !is_read(name.as_str()) && !is_written_by_wiremock(name.as_str()) {
-            warnings.push(ignored(alloc, name.as_str(), value)?)?;
+        if !is_known(name.as_str(), members) {
+            warnings.push(ignored(alloc, name.as_str(), members)?)?;
         }
     }
     Ok(())
 }
 
+/// Whether the field is read, or written by WireMock.
+fn is_known(name: &str, members: &Map<String, Value>) -> bool {
+    match field_of(Part::Mapping, name, members) {
+        Field::Known(_) => true,
+        _ => is_written_by_wiremock(name),
+    }
+}
+
 fn is_written_by_wiremock(name: &str) -> bool {
     matches!(
         name,
-        "persistent" | "insertionIndex" | "metadata" | "comments" | "$schema"
+        "uuid" | "persistent" | "insertionIndex" | "metadata" | "comments" | "$schema"
     )
 }
 
-fn ignored(alloc: Global, name: &str, value: &Value) -> Result<String, AllocError> {
+fn ignored(alloc: Global, name: &str, members: &Map<String, Value>) -> Result<String, AllocError> {
     let quoted = quoted(alloc, name)?;
-    let reason = match name {
-        "mappings" => "one mapping is wanted here, and not a list of them; ",
-        "method"
-        | "url"
-        | "urlPattern"
-        | "urlPath"
-        | "urlPathPattern"
-        | "urlPathTemplate"
-        | "queryParameters"
-        | "cookies"
-        | "pathParameters"
-        | "bodyPatterns" => { "it belongs into `request`; " }
-        "status" | "body" | "jsonBody" | "base64Body" | "transformers" => {
-            "it belongs into `response`; "
-        }
-        _ => "",
-    };
-    let effect = if value.get("request").is_none() {
+    let effect = if !members.contains_key("request") {
         "without `request` the mapping answers every request"
-    } else if value.get("response").is_none() {
+    } else if !members.contains_key("response") {
         "without `response` it answers 200 with no body"
     } else {
         "it has no effect"
     };
-    format!(in alloc; "the field {quoted} is ignored: {reason}{effect}")
+    let texts = [
+        "the field ",
+        quoted.as_str(),
+        " is ignored: ",
+        belonging(name, members),
+        effect,
+    ];
+    joined(alloc, texts.as_slice())
+}
+
+/// Where a field belongs that is meant for another object.
+fn belonging(name: &str, members: &Map<String, Value>) -> &'static str {
+    if name == "mappings" {
+        return "one mapping is wanted here, and not a list of them; ";
+    }
+    let is_requests = is_field(Part::Request, name, members);
+    let is_responses = is_field(Part::Response, name, members);
+    match (is_requests, is_responses) {
+        (true, false) => "it belongs into `request`; ",
+        (false, true) => "it belongs into `response`; ",
+        _ => "",
+    }
+}
+
+fn is_field(part: Part, name: &str, members: &Map<String, Value>) -> bool {
+    match field_of(part, name, members) {
+        Field::Unsupported(_) => false,
+        _ => true,
+    }
+}
+
+/// A state of no scenario.
+fn add_lonely(
+    alloc: Global,
+    value: &Value,
+    name: &str,
+    warnings: &mut Vec<String>,
+) -> Result<(), AllocError> {
+    if value.get(name).is_none() || value.get("scenarioName").is_some() {
+        return Ok(());
+    }
+    let texts = [
+        "the field `",
+        name,
+        "` has no effect without `scenarioName`",
+    ];
+    warnings.push(joined(alloc, texts.as_slice())?)?;
+    Ok(())
 }
 
 /// URLs that no request has: that of a request begins with a slash, and its path has no question mark.
@@ -93,7 +133,15 @@ fn text_at<'a>(value: &'a Value, name: &str) -> Option<&'a str> {
 
 fn unmatched(alloc: Global, name: &str, text: &str, reason: &str) -> Result<String, AllocError> {
     let text = quoted(alloc, text)?;
-    format!(in alloc; "no request matches the `{name}` {text}: {reason}")
+    let texts = [
+        "no request matches the `",
+        name,
+        "` ",
+        text.as_str(),
+        ": ",
+        reason,
+    ];
+    joined(alloc, texts.as_slice())
 }
 
 /// A JSON body is sent as it is, also beside `response-template`.

@@ -11,7 +11,7 @@ ghost use Rattle.template_tree.specs.declared.escape.Escape.TheVariants.{Off};
 
 use crate::error::{MappingError, MappingsError};
 pub use crate::judge::response_of;
-use crate::read_value::mapping_of;
+pub use crate::read_value::mapping_of;
 use json_reading::document::document_of;
 use json_reading::kind::Kind;
 use request_match::ready_mapping::ReadyMapping;

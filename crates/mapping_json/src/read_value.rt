@@ -29,7 +29,7 @@ use template_tree::escape::Escape;
 
 /// The mapping that a value spells, where the prints of its templates are escaped so.
 #[tactic(auto, using(crate::proofs::ErrorLemmas::draft_error, crate::proofs::ErrorLemmas::wrong_value))]
-pub(crate) fn mapping_of(
+pub fn mapping_of(
     alloc: Global,
     value: &Value,
     escape: Escape,

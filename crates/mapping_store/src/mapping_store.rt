@@ -18,6 +18,7 @@ use live_mappings::book_mapping::BookMapping;
 use live_mappings::defaults::{copies, lasts, named, put_defaults};
 use live_mappings::entries::{index_of, put_in, replace, take_out};
 use live_mappings::entry::Entry;
+use live_mappings::ids::are_new;
 use live_mappings::several::put_all;
 use mapping_model::mapping_id::MappingId;
 use plain_text::items::Items;
@@ -97,12 +98,16 @@ impl MappingStore {
         self.live.len()
     }
 
-    /// How many mappings will be live once these are added by one event.
+    /// How many mappings will be live once these are added by one event. It has memory for a while: where that is out,
+    /// each id is looked for among all.
     pub fn len_with(&self, mappings: &[BookMapping]) -> usize
         ensures { (number skipped : ℕ) → result
             ≡ length (left_by (event.StopRecording mappings.now skipped ∷ []) self.now.live
             ++ placed_from number 0 mappings.now) }
     {
+        if are_new(*self.live.allocator(), self.live.as_slice(), mappings) {
+            return self.live.len() + mappings.len();
+        }
         count_others(self.live.as_slice(), mappings) + count_ids(mappings)
     }
 
@@ -199,7 +204,7 @@ impl MappingStore {
         replace(&mut self.live, Entry::own(number, 0, mapping));
     }
 
-    /// Adds mappings, by one event. Takes no memory.
+    /// Adds mappings, by one event. It can't fail: memory that it has for a while only makes it quick.
     pub fn add_all(&mut self, number: u64, mappings: Vec<BookMapping>)
         requires { vec_len mappings ≤ self.old.room }
         ensures { (skipped : ℕ) → Follows self.old self.new number (event.StopRecording mappings.items skipped) }

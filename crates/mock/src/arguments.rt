@@ -17,7 +17,9 @@ POST /__admin/recordings/start to POST /__admin/recordings/stop, forwards what n
 another server, and makes mappings of its answers.
 With --connections it ends after N connections, and prints how many events its history has, as
 `settled 3 events`, if they are those that the connections have seen.
-What is wrong with a mapping, where, and warnings are written to standard error.
+What is wrong with a mapping, where, and warnings are written to standard error, also of mappings that
+are posted, and why an admin call was refused; with --verbose a line for each request, as
+`7 GET /todo unmatched 404`: the number of its event, the request, what answered it, and the status.
 
 Example, in the folder of this repository:
   mock serve --port 8080 --mappings examples/scenario.json
@@ -50,6 +52,10 @@ pub struct ServeArguments<'a> {
     pub connections: Option<u64>,
     /// How many connections are open at once.
     pub max_connections: u64,
+    /// At how many requests the journal is cleared.
+    pub journal_limit: Option<u64>,
+    /// Whether each request is told of.
+    pub verbose: bool,
 }
 
 /// What the arguments of `mock serve` ask for.
@@ -91,6 +97,8 @@ fn arguments_in<'a>(given: &ArgMatches<'a>, address: IpAddr) -> Option<ServeCall
         address,
         connections: given.get_one("connections"),
         max_connections: given.get_one("max-connections").unwrap_or(MAX_CONNECTIONS),
+        journal_limit: given.get_one("journal-limit"),
+        verbose: given.get_flag("verbose"),
     }))
 }
 
@@ -128,7 +136,9 @@ fn command<'a>(alloc: Global) -> Result<Command<'a>, AllocError> {
                 .help("The IP address to listen on [default: 127.0.0.1]"),
         )?
         .arg(connections(alloc))?
-        .arg(max_connections(alloc))?;
+        .arg(max_connections(alloc))?
+        .arg(journal_limit(alloc))?
+        .arg(verbose(alloc))?;
     Command::new(alloc, "mock")
         .version("1")
         .subcommand_required(true)
@@ -150,6 +160,21 @@ fn max_connections<'a>(alloc: Global) -> Arg<'a> {
         .value_name("N")
         .help("How many connections are open at once, while others wait [default: 900]")
         .value_parser(value_parser!(u64))
+}
+
+fn journal_limit<'a>(alloc: Global) -> Arg<'a> {
+    Arg::new(alloc, "journal-limit")
+        .long("journal-limit")
+        .value_name("N")
+        .help("Clears the journal of requests whenever it shows N of them")
+        .value_parser(value_parser!(u64))
+}
+
+fn verbose<'a>(alloc: Global) -> Arg<'a> {
+    Arg::new(alloc, "verbose")
+        .long("verbose")
+        .help("Writes a line to standard error for each request")
+        .action(ArgAction::SetTrue)
 }
 
 fn connections<'a>(alloc: Global) -> Arg<'a> {

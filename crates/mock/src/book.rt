@@ -2,10 +2,13 @@
 use command_output::error::CommandError;
 use command_output::files::{Documents, FileReader, read_documents};
 use command_output::output::put_notes;
-use mapping_diagnosis::notes::Notes;
-use mapping_json::read::read_mappings_with;
+use error_code::error_code::ErrorCode;
+use json_reading::document::document_of;
+use mapping_diagnosis::notes::{Notes, Place};
+use mapping_json::read::{mapping_of, mapping_values};
 use request_match::ready_mapping::ReadyMapping;
-use std::alloc::Global;
+use serde_json::Value;
+use std::alloc::{AllocError, Global};
 use std::io::Write;
 use stub_book::book::Book;
 use template_tree::escape::Escape;
@@ -74,16 +77,73 @@ fn read_each(
 ) -> Result<Vec<ReadyMapping>, CommandError> {
     let mut mappings = Vec::new(alloc);
     for (path, text) in documents.paths.iter().zip(documents.texts.iter()) {
-        match read_mappings_with(alloc, text.as_slice(), escape) {
-            Ok(mut more) => {
-                let _ = notes.add_all(alloc, path.as_str(), text.as_slice(), None);
-                mappings.append(&mut more)?;
-            }
-            Err(error) => {
-                let _ = notes.add_all(alloc, path.as_str(), text.as_slice(), Some(error));
-                return Err(CommandError::from(error.error.error_code()));
-            }
-        }
+        let text = text.as_slice();
+        add_document(alloc, &mut mappings, path.as_str(), text, escape, notes)?;
     }
     Ok(mappings)
+}
+
+// Adds the mappings of a document. Its JSON is read once.
+fn add_document(
+    alloc: Global,
+    mappings: &mut Vec<ReadyMapping>,
+    file: &str,
+    bytes: &[u8],
+    escape: Escape,
+    notes: &mut Notes,
+) -> Result<(), CommandError> {
+    if let Some(document) = document_of(alloc, bytes)? {
+        if let Some(values) = mapping_values(&document) {
+            let is_list = document.get("mappings").is_some();
+            return add_values(alloc, mappings, file, values, is_list, escape, notes);
+        }
+    }
+    let _ = notes.add_document(alloc, file, bytes);
+    Err(CommandError::from(ErrorCode::BadDocument))
+}
+
+fn add_values(
+    alloc: Global,
+    mappings: &mut Vec<ReadyMapping>,
+    file: &str,
+    values: &[Value],
+    is_list: bool,
+    escape: Escape,
+    notes: &mut Notes,
+) -> Result<(), CommandError> {
+    for (index, value) in values.iter().enumerate() {
+        let place = Place {
+            file,
+            number: Some((mappings.len() as u64).saturating_add(1)),
+            index: if is_list { Some(index) } else { None },
+        };
+        push(mappings, mapping_noted(alloc, place, value, escape, notes)?)?;
+    }
+    Ok(())
+}
+
+fn mapping_noted(
+    alloc: Global,
+    place: Place<'_>,
+    value: &Value,
+    escape: Escape,
+    notes: &mut Notes,
+) -> Result<ReadyMapping, CommandError> {
+    match mapping_of(alloc, value, escape) {
+        Ok(mapping) => {
+            let _ = notes.add_mapping(alloc, place, value, None);
+            Ok(mapping)
+        }
+        Err(error) => {
+            let _ = notes.add_mapping(alloc, place, value, Some(error));
+            Err(CommandError::from(error.error_code()))
+        }
+    }
+}
+
+fn push(mappings: &mut Vec<ReadyMapping>, mapping: ReadyMapping) -> Result<(), AllocError> {
+    match mappings.push(mapping) {
+        Ok(()) => Ok(()),
+        Err(_no_memory) => Err(AllocError),
+    }
 }

@@ -4,8 +4,8 @@ ghost use Rattle.command_output.specs.Output.{Followed, WritesOneStream};
 ghost use Rattle.mock_program.specs.CommandLine.{AreInvalid, Asked, AsksFor, CallsForHelp};
 ghost use Rattle.mock_program.specs.Commands.{Does};
 ghost use Rattle.template_tree.specs.declared.escape.Escape.{Escape};
-ghost use Rattle.mock.specs.CommandLine.{AskToServe};
-ghost use Rattle.mock.specs.Inner.Arguments.{ask_to_serve};
+ghost use Rattle.mock.specs.CommandLine.{AskToHelp, AskToServe};
+ghost use Rattle.mock.specs.Inner.Arguments.{ask_to_help, ask_to_serve};
 
 use crate::arguments::{ServeCall, serve_arguments};
 use crate::serve::serve;
@@ -20,24 +20,38 @@ use std::io::Write;
 use std::net::Net;
 use std::random::RandomSource;
 use std::sync::Wait;
+use std::thread::Threads;
 use std::time::Clock;
 
 /// Runs the command that the arguments name, the first of them being the program's name, and gives the exit status:
 /// 0; 1 for an error or output that can't be written; 2 for invalid arguments. The text of `clap` for invalid
-/// arguments goes to `err`, its help to `out`.
-pub fn run<R, O, E>(rt: R, arguments: &[String], out: &mut O, err: &mut E) -> u8
+/// arguments goes to `err`, its help to `out`. What a server tells of its requests goes to `log`, by a thread of its
+/// own.
+pub fn run<R, O, E, W>(rt: R, arguments: &[String], out: &mut O, err: &mut E, log: W) -> u8
 where
-    R: Wait + Net + Clock + RandomSource + AllocGlobal + FileReader + Copy + Drop,
+    R: Threads
+        + Wait
+        + Net
+        + Clock
+        + RandomSource
+        + AllocGlobal
+        + FileReader
+        + Copy
+        + Drop
+        + Send
+        + 'static,
     O: Write,
     E: Write,
+    W: Write + Drop + Send + 'static,
     // Arguments that ask for a command other than `serve` do what that command does, each argument taken as it is.
     ensures command { (escape : Escape) (asked : Asked) → AsksFor (map string_bytes arguments.now) escape asked
-        → Does O.contents E.contents (R.listed rt) (R.content rt) escape asked out.old out.new err.old err.new result }
+        → Does O.contents E.contents (R.listed rt) (R.content rt) escape asked
+        out.old out.new err.old err.new result }
 
     // Help is no mistake, and invalid arguments are one. Where the text can't be made or written, the status is 1.
     ensures help { CallsForHelp (map string_bytes arguments.now) → (result ≡ 0) ⊎ (result ≡ 1) }
     ensures invalid { AreInvalid (map string_bytes arguments.now) → ¬ (AskToServe (map string_bytes arguments.now))
-        → (result ≡ 2) ⊎ (result ≡ 1) }
+        → ¬ (AskToHelp (map string_bytes arguments.now)) → (result ≡ 2) ⊎ (result ≡ 1) }
     ensures range { result ≤ 2 }
 
     // Apart from lines on standard error that explain or warn, the other commands write to one of both streams.
@@ -45,7 +59,9 @@ where
         → Followed E.contents (λ e. WritesOneStream out.old out.new err.old e result) err.new }
 {
     if ask_to_serve(arguments) {
-        run_serve(rt, arguments, out, err)
+        run_serve(rt, arguments, out, err, log)
+    } else if ask_to_help(arguments) {
+        run_help(rt, arguments, out, err)
     } else {
         mock_program::command_line::run(rt.alloc(), &rt, arguments, out, err)
     }
@@ -60,11 +76,76 @@ fn ask_to_serve(arguments: &[String]) -> bool
     }
 }
 
-fn run_serve<R, O, E>(rt: R, arguments: &[String], out: &mut O, err: &mut E) -> u8
+fn ask_to_help(arguments: &[String]) -> bool
+    ensures { result ≡ ask_to_help (map string_bytes arguments.now) }
+{
+    match arguments {
+        [_program, command] | [_program, command, _] => command.as_str() == "help",
+        _ => false,
+    }
+}
+
+// The help of the program, or of the command that is named: what its flag for help writes.
+#[tactic(auto, using(command_output::proofs::PartsWritten::alone))]
+fn run_help<R, O, E>(rt: R, arguments: &[String], out: &mut O, err: &mut E) -> u8
 where
     R: Wait + Net + Clock + RandomSource + AllocGlobal + FileReader + Copy + Drop,
     O: Write,
     E: Write,
+    ensures range { result ≤ 2 }
+    ensures streams { Followed E.contents (λ e. WritesOneStream out.old out.new err.old e result) err.new }
+{
+    match help_arguments(rt.alloc(), arguments) {
+        Ok(words) => if ask_to_serve(words.as_slice()) {
+            serve_help(rt.alloc(), out, err)
+        } else {
+            mock_program::command_line::run(rt.alloc(), &rt, words.as_slice(), out, err)
+        },
+        Err(_error) => {
+            CommandError::from(ErrorCode::OutOfMemory).report(err);
+            FAILURE
+        }
+    }
+}
+
+#[tactic(auto, using(command_output::proofs::PartsWritten::alone))]
+fn serve_help<O: Write, E: Write>(alloc: Global, out: &mut O, err: &mut E) -> u8
+    ensures range { result ≤ 2 }
+    ensures streams { Followed E.contents (λ e. WritesOneStream out.old out.new err.old e result) err.new }
+{
+    match serve_arguments(alloc, &["mock", "serve", "--help"]) {
+        Ok(_given) => FAILURE,
+        Err(error) => write_parser_message(&error, out, err),
+    }
+}
+
+// `PROGRAM --help`, or `PROGRAM COMMAND --help`.
+fn help_arguments(alloc: Global, arguments: &[String]) -> Result<Vec<String>, AllocError> {
+    let mut words = Vec::new(alloc);
+    words.push(String::from_str(alloc, "mock")?)?;
+    if let [_program, _help, command] = arguments {
+        words.push(command.clone()?)?;
+    }
+    words.push(String::from_str(alloc, "--help")?)?;
+    Ok(words)
+}
+
+fn run_serve<R, O, E, W>(rt: R, arguments: &[String], out: &mut O, err: &mut E, log: W) -> u8
+where
+    R: Threads
+        + Wait
+        + Net
+        + Clock
+        + RandomSource
+        + AllocGlobal
+        + FileReader
+        + Copy
+        + Drop
+        + Send
+        + 'static,
+    O: Write,
+    E: Write,
+    W: Write + Drop + Send + 'static,
     ensures { result ≤ 2 }
 {
     let Ok(words) = words_of(rt.alloc(), arguments) else {
@@ -72,7 +153,7 @@ where
         return FAILURE;
     };
     match serve_arguments(rt.alloc(), words.as_slice()) {
-        Ok(Some(ServeCall::Serve(given))) => serve(rt, given, out, err),
+        Ok(Some(ServeCall::Serve(given))) => serve(rt, given, out, err, log),
         Ok(Some(ServeCall::BadAddress(text))) => report_address(text, err),
         Ok(None) => FAILURE,
         Err(error) => write_parser_message(&error, out, err),

@@ -7,6 +7,7 @@ mod arguments;
 mod book;
 mod command_line;
 mod serve;
+mod server_log;
 
 use command_line::run;
 use mock_program::arguments::report_unreadable;
@@ -15,7 +16,13 @@ use std::{env, io};
 
 fn main(rt: HostRuntime) -> ExitCode {
     ExitCode::from(match process_arguments(&rt) {
-        Ok(arguments) => run(rt, arguments.as_slice(), &mut rt.stdout(), &mut rt.stderr()),
+        Ok(arguments) => run(
+            rt,
+            arguments.as_slice(),
+            &mut rt.stdout(),
+            &mut rt.stderr(),
+            rt.stderr(),
+        ),
         Err(error) => report_unreadable(&error, &mut rt.stderr()),
     })
 }

@@ -3,6 +3,7 @@ ghost use Rattle.std.specs.Prelude.{◌≡◌, ◌<◌, ◌≤◌};
 
 use crate::arguments::ServeArguments;
 use crate::book::book_of;
+use crate::server_log::ServerLog;
 use answering::clock::SystemClock;
 use answering::site::Site;
 use command_output::error::CommandError;
@@ -11,21 +12,27 @@ use command_output::output::{put, put_notes};
 use command_output::status::FAILURE;
 use error_code::error_code::ErrorCode;
 use http_connections::settings::Settings;
+use hyper_service::journal_limit::JournalLimit;
 use hyper_service::serve_on::serve_on;
+use hyper_service::site_answers::SiteAnswers;
 use proxy_client::client::{Client, SILENCE_SECONDS};
 use proxy_client::counted::TURN_LIMIT;
 use proxy_client::forwarder::Forwarder;
+use request_log::lines::Lines;
+use request_log::request_log::RequestLog;
+use request_log::start::start;
 use shared_book::gate::NoGate;
 use shared_book::origin::Origin;
 use shared_book::shared_book::SharedBook;
-use std::alloc::{AllocGlobal, Global};
+use std::alloc::{AllocError, AllocGlobal, Global};
 use std::io;
 use std::io::{ErrorKind, Write};
 use std::marker::Brand;
 use std::net::{IpAddr, Net, SocketAddr};
 use std::random::RandomSource;
-use std::sync::Wait;
 use std::sync::ledger::Blank;
+use std::sync::{Arc, Wait};
+use std::thread::Threads;
 use std::time::{Clock, Duration};
 use stub_book::book::Book;
 use stub_response::limits::Limits;
@@ -35,21 +42,61 @@ use tokio::runtime::LocalRuntime;
 // Into how many parts the ledger is cut: as many connections may be open at once, less one.
 const PARTS: u64 = 4_294_967_296;
 
+// How long the end waits for what is told of requests to be written, in seconds.
+const LOG_SECONDS: u64 = 1;
+
 /// Serves as the arguments say, and gives the exit status: 0, or 1 with a line on `err`. First the file is judged, then
-/// its mappings, the book, and the port.
-pub fn serve<R, O, E>(rt: R, arguments: ServeArguments<'_>, out: &mut O, err: &mut E) -> u8
+/// its mappings, the book, and the port. What is told of requests is written to `log`, by a thread of its own.
+pub fn serve<R, O, E, W>(
+    rt: R,
+    arguments: ServeArguments<'_>,
+    out: &mut O,
+    err: &mut E,
+    log: W,
+) -> u8
 where
-    R: Wait + Net + Clock + RandomSource + AllocGlobal + FileReader + Copy + Drop,
+    R: Threads
+        + Wait
+        + Net
+        + Clock
+        + RandomSource
+        + AllocGlobal
+        + FileReader
+        + Copy
+        + Drop
+        + Send
+        + 'static,
     O: Write,
     E: Write,
+    W: Write + Drop + Send + 'static,
     ensures { result ≤ 1 }
 {
-    match book_of(rt.alloc(), &rt, arguments.mappings, arguments.escape, err) {
-        Some(book) => {
-            serve_book::<Brand, R, O, E>(rt, Blank::new(PARTS), PARTS, book, arguments, out, err)
-        }
-        None => FAILURE,
-    }
+    let Some(book) = book_of(rt.alloc(), &rt, arguments.mappings, arguments.escape, err) else {
+        return FAILURE;
+    };
+    let Ok((lines, log)) = log_to(rt, arguments, log) else {
+        CommandError::from(ErrorCode::OutOfMemory).report(err);
+        return FAILURE;
+    };
+    let blank = Blank::new(PARTS);
+    let status = serve_book::<Brand, R, O, E>(rt, blank, PARTS, book, arguments, log, out, err);
+    lines.close(&rt, Duration::from_secs(LOG_SECONDS));
+    status
+}
+
+// The lines that a thread writes to `out`, and what tells of requests by them.
+fn log_to<R, W>(
+    rt: R,
+    arguments: ServeArguments<'_>,
+    out: W,
+) -> Result<(Arc<Lines>, ServerLog), AllocError>
+where
+    R: Threads + Wait + AllocGlobal + Copy + Drop + Send + 'static,
+    W: Write + Drop + Send + 'static,
+{
+    let lines = start(rt, out)?;
+    let log = RequestLog::new(Arc::try_clone(&lines)?, arguments.verbose, arguments.escape);
+    Ok((lines, ServerLog::new(log)))
 }
 
 fn serve_book<L, R, O, E>(
@@ -58,6 +105,7 @@ fn serve_book<L, R, O, E>(
     parts: u64,
     book: Book,
     arguments: ServeArguments<'_>,
+    log: ServerLog,
     out: &mut O,
     err: &mut E,
 ) -> u8
@@ -92,12 +140,16 @@ where
         clock: SystemClock::new(rt),
         turns: TURN_LIMIT,
     };
+    let Ok(site) = Arc::new(rt.alloc(), site) else {
+        CommandError::from(ErrorCode::OutOfMemory).report(err);
+        return FAILURE;
+    };
+    let journal = JournalLimit::new(arguments.journal_limit);
     serve_on(
         rt,
         &mut runtime,
         listener,
-        site,
-        forwarder,
+        SiteAnswers::new(site, forwarder, log, journal),
         seat,
         Settings {
             connections: arguments.connections,

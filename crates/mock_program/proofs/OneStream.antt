@@ -59,7 +59,8 @@ module _ {O E : Type 0} (out_holds : O → Option (List ℕ)) (err_holds : E →
   of_checking escape documents out out' err err' status (inr (inr (one, begun, same))) =
       of_output out out' err err' status (inr one) same
 
-  of_file : (escape : Escape) (listed : Option (List (List ℕ))) (known : List ℕ → Option (List ℕ)) (path : List ℕ)
+  of_file : (escape : Escape) (listed : Option (List (List ℕ))) (known : List ℕ → Option (List ℕ))
+      (path : List ℕ)
       (out out' : O) (err err' : E) (status : ℕ)
       → ChecksFiles out_holds err_holds escape listed known path out out' err err' status
       → WritesOneStream out out' err err' status
@@ -89,7 +90,8 @@ module _ {O E : Type 0} (out_holds : O → Option (List ℕ)) (err_holds : E →
       (inr (error, is, one, as_reported, same)) =
       of_error out out' err err' status one same
 
-  pub of_command : (listed : List ℕ → Option (List (List ℕ))) (known : List ℕ → Option (List ℕ)) (escape : Escape)
+  pub of_command : (listed : List ℕ → Option (List (List ℕ))) (known : List ℕ → Option (List ℕ))
+      (escape : Escape)
       (asked : Asked) (out out' : O) (err err' : E) (status : ℕ)
       → Does out_holds err_holds listed known escape asked out out' err err' status
       → Followed err_holds (λ e. WritesOneStream out out' err e status) err'

@@ -11,7 +11,8 @@ use Rattle.mapping_check.specs.Checking.{ChecksFiles}
 use Rattle.command_output.specs.declared.files.FileError.TheVariants as file
 
 pub without_memory : {O E : Type 0} (out_holds : O → Option (List ℕ)) (err_holds : E → Option (List ℕ))
-    (listed : List ℕ → Option (List (List ℕ))) (known : List ℕ → Option (List ℕ)) (escape : Escape) (asked : Asked)
+    (listed : List ℕ → Option (List (List ℕ))) (known : List ℕ → Option (List ℕ))
+    (escape : Escape) (asked : Asked)
     (out out' : O) (err err' : E) (status : ℕ) → status ≡ 1
     → AppendsFront (err_holds err) (err_holds err') (error_line out_of_memory) → out' ≡ out
     → Does out_holds err_holds listed known escape asked out out' err err' status

@@ -69,6 +69,13 @@ impl Fields {
         self.block.len() / 2
     }
 
+    /// A law: the names are in lower case.
+    pub(crate) fn law_names(&self)
+        ensures { All (λ header. IsHeaderName header.name) self.now }
+    {
+        let _fields = &self.block;
+    }
+
     /// The name and the value of the header at that index.
     #[tactic(auto, using(crate::proofs::PartsLemmas::field_count, crate::proofs::PartsLemmas::header_at))]
     pub(crate) fn get(&self, index: usize) -> Option<(&str, &[u8])>

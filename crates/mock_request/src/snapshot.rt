@@ -204,6 +204,13 @@ impl Snapshot {
         self.headers.get(index)
     }
 
+    /// A law: the names of headers are in lower case, whichever request was received.
+    pub fn law_names(&self)
+        ensures { All (λ header. IsHeaderName header.name) self.now.headers }
+    {
+        self.headers.law_names()
+    }
+
     /// The body, `BODY_LIMIT` bytes at most.
     pub fn body(&self) -> &[u8]
         ensures value { result.now ≡ self.now.body }

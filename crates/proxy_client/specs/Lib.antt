@@ -1,5 +1,6 @@
 pub mod Errors
 pub mod Messages
 pub mod Address
+pub mod Own
 pub mod Content
 pub mod Turns

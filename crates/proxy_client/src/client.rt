@@ -1,6 +1,7 @@
 // What makes exchanges with targets.
 ghost use Rattle.std.specs.Prelude.{◌≡◌, IfOk, Some};
 ghost use Rattle.proxy_client.specs.Messages.{IsForwarded};
+ghost use Rattle.proxy_client.specs.declared.client.TheConstants.{HEADER_LINES};
 ghost use Rattle.proxy_client.specs.declared.stage.Stage.TheVariants.{Connecting};
 ghost use Rattle.proxy_client.specs.declared.stage.Start.{Start as Begun};
 
@@ -50,6 +51,7 @@ impl<R: AllocGlobal + RandomSource + Copy + Drop> Client<R> {
     pub fn new(rt: R, turns: u64, silence: Duration) -> io::Result<Client<R>>
         ensures turns { IfOk result (λ client. client.turns ≡ turns) }
         ensures silence { IfOk result (λ client. client.silence ≡ silence) }
+        ensures lines { IfOk result (λ client. client.builder.config.max_headers ≡ HEADER_LINES) }
     {
         let mut builder = Builder::new(rt.alloc(), RandomState::new(&rt)?);
         builder.max_headers(HEADER_LINES);
@@ -79,6 +81,7 @@ impl<R: Clock + AllocGlobal + Copy + Drop> Client<R> {
         ensures start { IfOk result (λ exchange. (start : Begun)
             × (exchange.inner ≡ Connecting connect (Some start))
             × IsForwarded target.now request.now start.message
+            × (start.builder ≡ self.now.builder)
             × (start.turns ≡ self.now.turns)) }
     {
         let alloc = self.rt.alloc();
@@ -108,6 +111,7 @@ impl<R: Clock + Net + AllocGlobal + Copy + Drop> Client<R> {
         ensures start { IfOk result (λ exchange. (connecting : _) × (start : Begun)
             × (exchange.inner ≡ Connecting connecting (Some start))
             × IsForwarded target.now request.now start.message
+            × (start.builder ≡ self.now.builder)
             × (start.turns ≡ self.now.turns)) }
     {
         let connect = TcpStream::connect(&self.rt, address_of(target), handle.reactor());

@@ -23,7 +23,9 @@ pub struct Counted<I> {
 impl<I> Counted<I> {
     /// Each poll of a read, a write, a flush or a shutdown is a turn. Whenever bytes move, `moved` is set.
     pub fn new(io: I, turns: u64, moved: Rc<Cell<bool>>) -> Counted<I>
-        ensures { result.turns ≡ min turns TURN_LIMIT }
+        ensures turns { result.turns ≡ min turns TURN_LIMIT }
+        ensures io { result.io ≡ io }
+        ensures moved { result.moved ≡ moved }
     {
         let turns = turns.min(TURN_LIMIT);
         Counted { io, turns, moved }

@@ -1,5 +1,8 @@
 // What forwards the requests of a server over connections.
-ghost use Rattle.std.specs.Prelude.{◌≡◌, Some};
+ghost use Rattle.std.specs.Prelude.{◌≡◌, ◌↔◌, IsTrue, true, false, Some};
+ghost use Rattle.std.specs.declared.net.socket_addr.SocketAddr.{SocketAddr};
+ghost use Rattle.proxy_client.specs.Address.{IsAddressOf};
+ghost use Rattle.proxy_client.specs.Own.{ComesTo, IsOwn, IsElsewhere};
 ghost use Rattle.proxy_client.specs.Messages.{IsForwarded};
 ghost use Rattle.proxy_client.specs.declared.stage.Stage.TheVariants.{Connecting};
 ghost use Rattle.proxy_client.specs.declared.stage.Start.{Start as Begun};
@@ -11,7 +14,7 @@ use crate::forwards::Forwards;
 use mock_request::snapshot::Snapshot;
 use recorder::target::Target;
 use std::alloc::AllocGlobal;
-use std::net::{Net, SocketAddr};
+use std::net::{IpAddr, Net, SocketAddr};
 use std::time::Clock;
 use tokio::net::{ConnectFuture, TcpStream};
 use tokio::runtime::Handle;
@@ -26,7 +29,11 @@ pub struct Forwarder<R> {
 
 impl<R> Forwarder<R> {
     /// `own` is where the server itself listens: a request that is forwarded there would be forwarded again and again.
-    pub fn new(client: Client<R>, handle: Handle, own: SocketAddr) -> Forwarder<R> {
+    pub fn new(client: Client<R>, handle: Handle, own: SocketAddr) -> Forwarder<R>
+        ensures client { result.client ≡ client }
+        ensures handle { result.handle ≡ handle }
+        ensures own { result.own ≡ own }
+    {
         Forwarder {
             client,
             handle,
@@ -41,6 +48,9 @@ impl<R: Clock + Net + AllocGlobal + Copy + Drop> Forwards for Forwarder<R> {
     ghost sends = { λ target request exchange. (connecting : _) × (start : Begun)
         × (exchange.inner ≡ Connecting connecting (Some start)) × IsForwarded target request start.message };
 
+    ghost reaches = { λ forwarder target. (address : SocketAddr)
+        × IsAddressOf target address × IsElsewhere forwarder.own address };
+
     fn exchange(
         &self,
         target: &Target,
@@ -53,9 +63,18 @@ impl<R: Clock + Net + AllocGlobal + Copy + Drop> Forwards for Forwarder<R> {
     }
 }
 
-// Whether a connection to that address comes to the server that listens there. One to an unspecified address, as
-// 0.0.0.0, comes to the machine itself, and one to an IPv4 address that is written as IPv6 to that IPv4 address.
-fn is_own(target: SocketAddr, own: SocketAddr) -> bool {
-    let ip = target.ip().to_canonical();
-    target.port() == own.port() && (ip == own.ip() || ip.is_unspecified())
+// Whether a connection to that address comes to the server that listens there.
+fn is_own(target: SocketAddr, own: SocketAddr) -> bool
+    ensures own { result ≡ true → IsOwn own target }
+    ensures elsewhere { result ≡ false → IsElsewhere own target }
+{
+    target.port() == own.port() && comes_to(target.ip().to_canonical(), own.ip().to_canonical())
+}
+
+// A connection to an unspecified address, as 0.0.0.0, comes to the machine itself, and a server that listens at one is
+// at the machine's loopback addresses, too.
+fn comes_to(ip: IpAddr, own: IpAddr) -> bool
+    ensures { IsTrue result ↔ ComesTo ip own }
+{
+    ip == own || ip.is_unspecified() || (ip.is_loopback() && own.is_unspecified())
 }

@@ -20,10 +20,14 @@ pub trait Forwards: Drop {
     /// By the exchange the request may be sent to the target.
     ghost sends: { List ℕ → Request → Self.Exchange → Type 0 } = { λ _ _ _. ⊤ };
 
+    /// Requests to that target are forwarded.
+    ghost reaches: { Self → List ℕ → Type 0 } = { λ _ _. ⊤ };
+
     /// The exchange for a request with its target. It is a future that never blocks.
     fn exchange(&self, target: &Target, request: &Snapshot) -> Result<Self::Exchange, ProxyError>
         ensures can_poll { IfOk result Self.Exchange.can_poll }
         ensures sends { IfOk result (sends target.now request.now) }
+        ensures reaches { IfOk result (λ exchange. reaches self.now target.now) }
         ensures gives { IfOk result (λ exchange. (given : _)
             → Self.Exchange.gives exchange given → IfOk given IsSomeReply) };
 }

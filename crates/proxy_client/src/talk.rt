@@ -1,7 +1,7 @@
 // One request and its reply over a connection.
-ghost use Rattle.std.specs.Prelude.{IfOk, IfSome, ⊤};
+ghost use Rattle.std.specs.Prelude.{◌≡◌, Some, IfOk, IfSome, ⊤};
 ghost use Rattle.futures.specs.Task.{Keeps};
-ghost use Rattle.hyper.specs.ClientDispatch.{Runs};
+ghost use Rattle.hyper.specs.ClientDispatch.{IsNewFor, Runs};
 
 use crate::answer::Answer;
 use crate::error::ProxyError;
@@ -68,7 +68,10 @@ pub fn http_talk<I: AsyncRead + AsyncWrite>(
     io: I,
     message: Request<Full<Bytes>>,
 ) -> Result<HttpTalk<I>, ProxyError>
-    ensures { IfOk result (λ talk. IfSome talk.connection (λ conn. Runs I.reads I.writes (λ _. ⊤) conn.inner)) }
+    ensures new { IfOk result (λ talk. (conn : _) × (talk.connection ≡ Some conn)
+        × IsNewFor conn.inner io × (conn.inner.link.core.config ≡ builder.now.config)) }
+    ensures runs { IfOk result (λ talk. IfSome talk.connection
+        (λ conn. Runs I.reads I.writes (λ _. ⊤) conn.inner)) }
 {
     let (mut sender, connection) = builder.handshake(io)?;
     let head = sender.send_request(message);

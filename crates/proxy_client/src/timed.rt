@@ -42,7 +42,10 @@ impl<R, F> Timed<R, F> {
         moved: Rc<Cell<bool>>,
         inner: F,
     ) -> Timed<R, F>
+        ensures clock { result.clock ≡ clock }
         ensures limit { result.limit ≡ limit }
+        ensures sleep { result.sleep ≡ sleep }
+        ensures moved { result.moved ≡ moved }
         ensures inner { result.inner ≡ inner }
     {
         Timed {

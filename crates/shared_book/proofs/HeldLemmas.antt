@@ -1,39 +1,207 @@
--- Lists of receipts, one after the other.
-use Rattle.std.proofs.Common.{◌≡◌, ℕ, ◌+◌, List, [], ◌∷◌, ◌++◌, map, length, refl, sym, ap}
-use Rattle.std.proofs.Common.{◌∙◌, append_assoc, append-nil, length-append, ◌<◌, ◌≤◌, arith}
-use Rattle.shared_book.specs.Held.{Held, all_parts, filled, receipts_of}
+-- Lines of receipts: what stays where they let go of events, and what is there once a seat took over another.
+use Rattle.std.proofs.Common.{◌≡◌, ℕ, ◌+◌, ◌<◌, ◌≤◌, Bool, true, false, cond, List, [], ◌∷◌, ◌++◌}
+use Rattle.std.proofs.Common.{drop, get_or, map, length, set, take, refl, sym, ap, ◌∙◌, subst}
+use Rattle.std.proofs.Common.{append_assoc, append-nil, length-append}
+use Rattle.std.proofs.Common.{arith}
+use Rattle.std.proofs.lemmas.List.{drop-drop, drop-set-lt, get_or-drop, map-append, take_more, take_more_set}
+use Rattle.std.proofs.lemmas.List.Concat.{flat_map-append}
+use Rattle.std.proofs.lemmas.List.Elements.{AllZip-push, All-append, All-nil, All-weaker, filter-append}
+use Rattle.std.specs.List.{AllZip}
+use Rattle.shared_book.specs.Held.{Held, LetsGo, all_numbers, all_parts, filled, is_filled}
+use Rattle.shared_book.specs.Inner.Gains.{Keeps}
+use Rattle.shared_book.specs.Inner.Seat.{line_of}
+use Rattle.shared_book.specs.Receipts.{Line, numbers, numbers_of}
 use Rattle.shared_book.specs.declared.receipt.Receipt.{Receipt}
+use Rattle.shared_book.specs.declared.receipt_list.ReceiptList.{ReceiptList}
 
-pub filled-append : (xs ys : List (List Receipt)) → filled (xs ++ ys) ≡ filled xs ++ filled ys
-filled-append [] ys = refl
-filled-append ([] ∷ xs) ys = filled-append xs ys
-filled-append ((r ∷ rs) ∷ xs) ys = ap (λ l. (r ∷ rs) ∷ l) (filled-append xs ys)
+-- ---- one line
 
-pub receipts_of-append : (xs ys : List (List Receipt)) → receipts_of (xs ++ ys) ≡ receipts_of xs ++ receipts_of ys
-receipts_of-append [] ys = refl
-receipts_of-append (l ∷ xs) ys =
-    ap (λ rest. l ++ rest) (receipts_of-append xs ys) ∙ sym (append_assoc l (receipts_of xs) (receipts_of ys))
+pub numbers-append : (xs ys : List Receipt) → numbers (xs ++ ys) ≡ numbers xs ++ numbers ys
+numbers-append xs ys = map-append (λ (r : Receipt). r.number) xs ys
 
-pub receipts_of-filled : (xs : List (List Receipt)) → receipts_of (filled xs) ≡ receipts_of xs
-receipts_of-filled [] = refl
-receipts_of-filled ([] ∷ xs) = receipts_of-filled xs
-receipts_of-filled ((r ∷ rs) ∷ xs) = ap (λ l. (r ∷ rs) ++ l) (receipts_of-filled xs)
+pub lets_go_numbers : (P : ℕ → Type 0) (x y : Line) → LetsGo P x y → numbers_of y ≡ numbers_of x
+lets_go_numbers P x y go =
+    ap (λ (l : List ℕ). l ++ numbers y.held) go.kept
+    ∙ append_assoc x.let_go (numbers go.gone) (numbers y.held)
+    ∙ ap (λ (l : List ℕ). x.let_go ++ l) (sym (numbers-append go.gone y.held))
+    ∙ ap (λ (l : List Receipt). x.let_go ++ numbers l) (sym go.held)
 
--- what one more list adds
-pub filled_more : (before lists : List (List Receipt)) (list : List Receipt) (own : List Receipt)
-    → (before ++ filled (own ∷ lists)) ++ filled (list ∷ []) ≡ before ++ filled (own ∷ (lists ++ list ∷ []))
-filled_more before lists list own =
-    append_assoc before (filled (own ∷ lists)) (filled (list ∷ []))
-    ∙ ap (λ l. before ++ l) (sym (filled-append (own ∷ lists) (list ∷ [])))
+pub lets_go_none : (P : ℕ → Type 0) (x : Line) → LetsGo P x x
+lets_go_none P x = record {
+  gone = [];
+  held = refl;
+  kept = sym (append-nil x.let_go);
+  allowed = All-nil (λ (r : Receipt). P r.number);
+}
 
--- how many receipts there are once lists were taken over
-pub receipts_joined : (lists other new : List (List Receipt)) (own : List Receipt) → new ≡ lists ++ filled other
-    → length (receipts_of (own ∷ new)) ≡ length (receipts_of (own ∷ lists)) + length (receipts_of other)
-receipts_joined lists other new own e =
-    ap (λ l. length (receipts_of l)) (ap (λ l. own ∷ l) e ∙ refl)
-    ∙ ap length (receipts_of-append (own ∷ lists) (filled other))
-    ∙ length-append (receipts_of (own ∷ lists)) (receipts_of (filled other))
-    ∙ ap (λ l. length (receipts_of (own ∷ lists)) + length l) (receipts_of-filled other)
+pub lets_go_twice : (P : ℕ → Type 0) (x y z : Line) → LetsGo P x y → LetsGo P y z → LetsGo P x z
+lets_go_twice P x y z one two = record {
+  gone = one.gone ++ two.gone;
+  held = one.held ∙ ap (λ (l : List Receipt). one.gone ++ l) two.held
+      ∙ sym (append_assoc one.gone two.gone z.held);
+  kept = two.kept ∙ ap (λ (l : List ℕ). l ++ numbers two.gone) one.kept
+      ∙ append_assoc x.let_go (numbers one.gone) (numbers two.gone)
+      ∙ ap (λ (l : List ℕ). x.let_go ++ l) (sym (numbers-append one.gone two.gone));
+  allowed = All-append (λ (r : Receipt). P r.number) one.gone two.gone one.allowed two.allowed;
+}
+
+pub lets_go_weaker : (P Q : ℕ → Type 0) → ((n : ℕ) → P n → Q n) → (x y : Line) → LetsGo P x y → LetsGo Q x y
+lets_go_weaker P Q f x y go = record {
+  gone = go.gone;
+  held = go.held;
+  kept = go.kept;
+  allowed = All-weaker (λ (r : Receipt). P r.number) (λ (r : Receipt). Q r.number) (λ r p. f r.number p)
+      go.gone go.allowed;
+}
+
+-- ---- several lines
+
+module _ (P : ℕ → Type 0) where
+  pub all_go_none : (xs : List Line) → AllZip (LetsGo P) xs xs
+  all_go_none [] = tt
+  all_go_none (x ∷ xs) = (lets_go_none P x, all_go_none xs)
+
+  pub all_go_twice : (xs ys zs : List Line) → AllZip (LetsGo P) xs ys → AllZip (LetsGo P) ys zs
+      → AllZip (LetsGo P) xs zs
+  all_go_twice [] [] [] one two = tt
+  all_go_twice [] [] (z ∷ zs) one two = absurd two
+  all_go_twice [] (y ∷ ys) zs one two = absurd one
+  all_go_twice (x ∷ xs) [] zs one two = absurd one
+  all_go_twice (x ∷ xs) (y ∷ ys) [] one two = absurd two
+  all_go_twice (x ∷ xs) (y ∷ ys) (z ∷ zs) one two =
+      (lets_go_twice P x y z one.0 two.0, all_go_twice xs ys zs one.1 two.1)
+
+  pub all_go_append : (xs ys us vs : List Line) → AllZip (LetsGo P) xs ys → AllZip (LetsGo P) us vs
+      → AllZip (LetsGo P) (xs ++ us) (ys ++ vs)
+  all_go_append [] [] us vs one two = two
+  all_go_append [] (y ∷ ys) us vs one two = absurd one
+  all_go_append (x ∷ xs) [] us vs one two = absurd one
+  all_go_append (x ∷ xs) (y ∷ ys) us vs one two = (one.0, all_go_append xs ys us vs one.1 two)
+
+  go_if : (b : Bool) (x y : Line) (xs ys : List Line) → LetsGo P x y → AllZip (LetsGo P) xs ys
+      → AllZip (LetsGo P) (cond b (x ∷ xs) xs) (cond b (y ∷ ys) ys)
+  go_if true x y xs ys one all = (one, all)
+  go_if false x y xs ys one all = all
+
+  pub all_go_filled : (xs ys : List Line) → AllZip (LetsGo P) xs ys → AllZip (LetsGo P) (filled xs) (filled ys)
+  all_go_filled [] [] go = tt
+  all_go_filled [] (y ∷ ys) go = absurd go
+  all_go_filled (x ∷ xs) [] go = absurd go
+  all_go_filled (x ∷ xs) (y ∷ ys) go =
+      subst (λ (ns : List ℕ). AllZip (LetsGo P) (cond (is_filled (numbers_of x)) (x ∷ filled xs) (filled xs))
+      (cond (is_filled ns) (y ∷ filled ys) (filled ys))) (sym (lets_go_numbers P x y go.0))
+      (go_if (is_filled (numbers_of x)) x y (filled xs) (filled ys) go.0 (all_go_filled xs ys go.1))
+
+  pub all_go_numbers : (xs ys : List Line) → AllZip (LetsGo P) xs ys → all_numbers ys ≡ all_numbers xs
+  all_go_numbers [] [] go = refl
+  all_go_numbers [] (y ∷ ys) go = absurd go
+  all_go_numbers (x ∷ xs) [] go = absurd go
+  all_go_numbers (x ∷ xs) (y ∷ ys) go =
+      ap (λ (l : List ℕ). l ++ all_numbers ys) (lets_go_numbers P x y go.0)
+      ∙ ap (λ (l : List ℕ). numbers_of x ++ l) (all_go_numbers xs ys go.1)
+
+pub all_go_weaker : (P Q : ℕ → Type 0) → ((n : ℕ) → P n → Q n) → (xs ys : List Line) → AllZip (LetsGo P) xs ys
+    → AllZip (LetsGo Q) xs ys
+all_go_weaker P Q f [] [] go = tt
+all_go_weaker P Q f [] (y ∷ ys) go = absurd go
+all_go_weaker P Q f (x ∷ xs) [] go = absurd go
+all_go_weaker P Q f (x ∷ xs) (y ∷ ys) go = (lets_go_weaker P Q f x y go.0, all_go_weaker P Q f xs ys go.1)
+
+-- one more list of a loop over several
+module _ (P : ℕ → Type 0) where
+  drop_step : (xs ys : List ReceiptList) (i : ℕ) → drop i xs ≡ drop i ys → drop (i + 1) xs ≡ drop (i + 1) ys
+  drop_step xs ys i e = sym (drop-drop 1 i xs) ∙ ap (drop 1) e ∙ drop-drop 1 i ys
+
+  item_step : (xs ys : List ReceiptList) (i : ℕ) (d : ReceiptList) → drop i xs ≡ drop i ys
+      → get_or xs i d ≡ get_or ys i d
+  item_step xs ys i d e =
+      let same : i + 0 ≡ i = omega arith in
+      subst (λ (k : ℕ). get_or xs k d ≡ get_or ys k d) same
+      (sym (get_or-drop i xs 0 d) ∙ ap (λ (l : List ReceiptList). get_or l 0 d) e ∙ get_or-drop i ys 0 d)
+
+  pub all_go_rest : (old new : List ReceiptList) (i : ℕ) (x : ReceiptList) → drop i new ≡ drop i old
+      → drop (i + 1) (set new i x) ≡ drop (i + 1) old
+  all_go_rest old new i x rest = drop-set-lt (i + 1) new i x (omega arith) ∙ drop_step new old i rest
+
+  pub all_go_more : (old new : List ReceiptList) (i : ℕ) (item x : ReceiptList) → i < length old → i < length new
+      → AllZip (LetsGo P) (map line_of (take i old)) (map line_of (take i new)) → drop i new ≡ drop i old
+      → LetsGo P (line_of (get_or new i item)) (line_of x)
+      → AllZip (LetsGo P) (map line_of (take (i + 1) old)) (map line_of (take (i + 1) (set new i x)))
+  all_go_more old new i item x l k all rest go =
+      subst (λ (ls : List Line). AllZip (LetsGo P) ls (map line_of (take (i + 1) (set new i x))))
+      (sym (ap (map line_of) (take_more old i item l) ∙ map-append line_of (take i old) (get_or old i item ∷ [])))
+      (subst (λ (ls : List Line).
+      AllZip (LetsGo P) (map line_of (take i old) ++ line_of (get_or old i item) ∷ []) ls)
+      (sym (ap (map line_of) (take_more_set new i x k) ∙ map-append line_of (take i new) (x ∷ [])))
+      (AllZip-push (LetsGo P) (map line_of (take i old)) (map line_of (take i new)) (line_of (get_or old i item))
+      (line_of x) all
+      (subst (λ (y : ReceiptList). LetsGo P (line_of y) (line_of x)) (item_step new old i item rest) go)))
+
+-- ---- lines that have a receipt
+
+pub filled-append : (xs ys : List Line) → filled (xs ++ ys) ≡ filled xs ++ filled ys
+filled-append xs ys = filter-append (λ (l : Line). is_filled (numbers_of l)) xs ys
+
+numbers_if : (ns : List ℕ) (x : Line) (xs : List Line) → numbers_of x ≡ ns
+    → all_numbers (cond (is_filled ns) (x ∷ xs) xs) ≡ ns ++ all_numbers xs
+numbers_if [] x xs e = refl
+numbers_if (n ∷ ns) x xs e = ap (λ (l : List ℕ). l ++ all_numbers xs) e
+
+pub all_numbers-filled : (xs : List Line) → all_numbers (filled xs) ≡ all_numbers xs
+all_numbers-filled [] = refl
+all_numbers-filled (x ∷ xs) =
+    numbers_if (numbers_of x) x (filled xs) refl
+    ∙ ap (λ (l : List ℕ). numbers_of x ++ l) (all_numbers-filled xs)
+
+-- what one more line adds
+pub filled_more : (before lines : List Line) (line own : Line)
+    → (before ++ filled (own ∷ lines)) ++ filled (line ∷ []) ≡ before ++ filled (own ∷ (lines ++ line ∷ []))
+filled_more before lines line own =
+    append_assoc before (filled (own ∷ lines)) (filled (line ∷ []))
+    ∙ ap (λ (l : List Line). before ++ l) (sym (filled-append (own ∷ lines) (line ∷ [])))
+
+-- ---- how many receipts there are
+
+-- once lines were taken over
+pub count_joined : (P : ℕ → Type 0) (own now : Line) (lines other new : List Line) → LetsGo P own now
+    → AllZip (LetsGo P) (lines ++ filled other) new
+    → length (all_numbers (now ∷ new)) ≡ length (all_numbers (own ∷ lines)) + length (all_numbers other)
+count_joined P own now lines other new go all =
+    ap length (all_go_numbers P (own ∷ (lines ++ filled other)) (now ∷ new) (go, all))
+    ∙ ap length (flat_map-append numbers_of (own ∷ lines) (filled other))
+    ∙ length-append (all_numbers (own ∷ lines)) (all_numbers (filled other))
+    ∙ ap (λ (l : List ℕ). length (all_numbers (own ∷ lines)) + length l) (all_numbers-filled other)
+
+length-numbers-more : (xs : List Receipt) (r : Receipt) → length (numbers (xs ++ r ∷ [])) ≡ length (numbers xs) + 1
+length-numbers-more xs r =
+    ap length (numbers-append xs (r ∷ [])) ∙ length-append (numbers xs) (r.number ∷ [])
+
+-- once a receipt was kept
+pub count_kept : (last : ℕ) (own now : Line) (receipt : Receipt) (lines new : List Line)
+    → Keeps last own now receipt → AllZip (LetsGo (λ n. n ≤ last)) lines new
+    → length (all_numbers (now ∷ new)) ≡ length (all_numbers (own ∷ lines)) + 1
+count_kept last own now receipt lines new keeps all =
+    let old : List ℕ = numbers_of own in
+    let rest : List ℕ = all_numbers new in
+    let same : numbers_of keeps.before ≡ old = lets_go_numbers (λ n. n ≤ last) own keeps.before keeps.let_go in
+    let others : all_numbers new ≡ all_numbers lines = all_go_numbers (λ n. n ≤ last) lines new all in
+    let added : length (numbers_of now) ≡ length (numbers_of keeps.before) + 1 =
+    ap (λ (l : Line). length (numbers_of l)) keeps.added
+    ∙ length-append keeps.before.let_go (numbers (keeps.before.held ++ receipt ∷ []))
+    ∙ ap (λ (n : ℕ). length keeps.before.let_go + n) (length-numbers-more keeps.before.held receipt)
+    ∙ more (length keeps.before.let_go) (length (numbers keeps.before.held))
+    ∙ ap (λ (n : ℕ). n + 1) (sym (length-append keeps.before.let_go (numbers keeps.before.held))) in
+    length-append (numbers_of now) (all_numbers new)
+    ∙ sums (length (numbers_of now)) (length (numbers_of keeps.before)) (length (all_numbers new)) added
+    ∙ ap (λ (n : ℕ). n + 1) (ap (λ (l : List ℕ). length l + length (all_numbers new)) same
+    ∙ ap (λ (l : List ℕ). length old + length l) others
+    ∙ sym (length-append old (all_numbers lines)))
+  where
+    more : (a b : ℕ) → a + (b + 1) ≡ a + b + 1
+    more a b = omega arith
+
+    sums : (a b c : ℕ) → a ≡ b + 1 → a + c ≡ b + c + 1
+    sums a b c e = omega (arith, e)
 
 -- seats that have a part together are one at least
 pub parts_some : (seats : List Held) → 0 < all_parts seats → 1 ≤ length seats

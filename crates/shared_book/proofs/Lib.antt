@@ -1,5 +1,6 @@
 pub mod ReachedLemmas
 pub mod HeldLemmas
+pub mod LetGoLemmas
 pub mod ReceiptLemmas
 pub mod CountLemmas
 pub mod RefusalLemmas

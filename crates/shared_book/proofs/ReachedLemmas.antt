@@ -1,6 +1,6 @@
 -- One more accepted call leads on.
-use Rattle.std.proofs.Common.{◌≡◌, ℕ, ◌+◌, Bool, true, false, List, [], ◌∷◌, ◌++◌, refl, sym, ap}
-use Rattle.std.proofs.Common.{subst, ◌∙◌}
+use Rattle.std.proofs.Common.{◌≡◌, ℕ, ◌+◌, ◌≤◌, Bool, true, false, List, [], ◌∷◌, ◌++◌, refl, sym, ap}
+use Rattle.std.proofs.Common.{subst, ◌∙◌, arith}
 use Rattle.std.specs.Prelude.{MatchBool}
 use Rattle.request_journal.specs.Journal.{clears}
 use Rattle.request_journal.specs.Legal.{IsCheckpoint}
@@ -8,8 +8,9 @@ use Rattle.request_journal.specs.Past.{Past, last_number, with_event}
 use Rattle.request_journal.specs.declared.event.Event.{Event}
 use Rattle.request_journal.proofs.CheckpointLemmas.{number_at_checkpoint}
 use Rattle.request_journal.proofs.SameLemmas.{number_after}
+use Rattle.shared_book.specs.Held.{IsDropped}
 use Rattle.shared_book.specs.Reached.{Lead, IsReached}
-use Rattle.stub_book.specs.Growth.{Grows, IsAfter}
+use Rattle.stub_book.specs.Growth.{Grows}
 
 lead_on : (events : List Event) (origin old new : Past) (event : Event) → Lead origin events old
     → Grows old new event → Lead origin (events ++ event ∷ []) new
@@ -37,3 +38,11 @@ number_by old new event false after = ap last_number after ∙ number_after old 
 
 pub number_grown : (old new : Past) (event : Event) → Grows old new event → last_number new ≡ last_number old + 1
 number_grown old new event grows = number_by old new event (clears event) grows.after
+
+-- ---- what a checkpoint has dropped
+
+pub dropped_none : (origin : Past) → IsDropped origin 0
+dropped_none origin = (origin, reached_itself origin, omega arith)
+
+pub dropped_before : (origin : Past) (n m : ℕ) → n ≤ m → IsDropped origin m → IsDropped origin n
+dropped_before origin n m le dropped = (dropped.0, dropped.1, (let up = dropped.2 in omega (arith, le, up)))

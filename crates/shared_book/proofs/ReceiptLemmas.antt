@@ -1,51 +1,42 @@
--- Receipts by their places in a list.
-use Rattle.std.proofs.Common.{◌≡◌, ◌≢◌, ℕ, zero, suc, ◌+◌, ◌-◌, ◌<◌, ◌≤◌, ◌⊎◌}
+-- What one list of receipts shows by itself, and what several do.
+use Rattle.std.proofs.Common.{◌≡◌, ℕ, suc, ◌+◌, ◌-◌, ◌<◌, ◌≤◌, ◌⊎◌}
 use Rattle.std.proofs.Common.{inl, inr, List, [], ◌∷◌, ◌++◌, map, length, get_or, take, All, refl, sym, ap}
 use Rattle.std.proofs.Common.{◌∙◌, subst, arith}
-use Rattle.std.proofs.lemmas.List.{get_or-map, map-append, take_more, take_all}
+use Rattle.std.proofs.lemmas.List.{map-append, take_more, take_all}
 use Rattle.std.proofs.lemmas.List.Concat.{get_or-flat_map, flat_map-append}
 use Rattle.std.proofs.lemmas.List.Elements.{All-append, All-cons, All-push}
 use Rattle.std.proofs.lemmas.List.Folds.{length-flat_map-take}
 use Rattle.std.specs.Prelude.{slice_index, Any, MatchOption, Option, Some, None}
 use Rattle.std.specs.List.{flat_map}
-use Rattle.shared_book.specs.Receipts.{numbers, IsRising, Falls}
-use Rattle.shared_book.specs.declared.receipt.Receipt.{Receipt}
-
-pub number_at : (xs : List Receipt) (i : ℕ) (d : Receipt) → i < length xs
-    → slice_index (numbers xs) i ≡ (get_or xs i d).number
-number_at xs i d l = get_or-map (λ r. r.number) xs i d 0 l
-
-pub length-numbers : (xs : List Receipt) → length (numbers xs) ≡ length xs
-length-numbers [] = refl
-length-numbers (x ∷ xs) = ap suc (length-numbers xs)
+use Rattle.shared_book.specs.Inner.Misplaced.{IsMisplaced, IsWellPlaced}
+use Rattle.shared_book.specs.Receipts.{Line, IsRising, Falls, LetGoAbove, LetGoUpTo, numbers_of}
 
 -- a number that isn't above the one before it
-pub falls_at : (xs : List Receipt) (i : ℕ) (here before : Receipt) → 1 ≤ i → i < length xs
-    → (get_or xs i here).number ≤ (get_or xs (i - 1) before).number → Falls (get_or xs i here).number xs
-falls_at xs i here before one l le =
-    let up : i ≡ i - 1 + 1 = omega arith in (
+pub falls_at : (line : Line) (i number before : ℕ) → 1 ≤ i → i < length (numbers_of line)
+    → number ≡ slice_index (numbers_of line) i → before ≡ slice_index (numbers_of line) (i - 1) → number ≤ before
+    → Falls number line
+falls_at line i number before one l at at_before le =
+    let up : i ≡ i - 1 + 1 = omega (arith, one) in (
       i - 1,
-      omega arith,
-      subst (λ (k : ℕ). slice_index (numbers xs) k ≡ (get_or xs i here).number) up (number_at xs i here l),
-      (let e = number_at xs (i - 1) before (omega arith) in omega (arith, e, le)),
+      omega (arith, one, l),
+      subst (λ (k : ℕ). slice_index (numbers_of line) k ≡ number) up (sym at),
+      omega (arith, at_before, le),
     )
 
 -- one more number, above the one before it
-pub rises_more : (xs : List Receipt) (i : ℕ) (here before : Receipt) → 1 ≤ i → i < length xs
-    → ((k : ℕ) → k + 1 < i → slice_index (numbers xs) k < slice_index (numbers xs) (k + 1))
-    → (get_or xs (i - 1) before).number < (get_or xs i here).number
-    → (k : ℕ) → k + 1 < i + 1 → slice_index (numbers xs) k < slice_index (numbers xs) (k + 1)
-rises_more xs i here before one l up lt k m =
-    elim (less_or_last k i m) as (λ _. slice_index (numbers xs) k < slice_index (numbers xs) (k + 1)) [
+pub rises_more : (xs : List ℕ) (i number before : ℕ) → 1 ≤ i
+    → ((k : ℕ) → k + 1 < i → slice_index xs k < slice_index xs (k + 1))
+    → number ≡ slice_index xs i → before ≡ slice_index xs (i - 1) → before < number
+    → (k : ℕ) → k + 1 < i + 1 → slice_index xs k < slice_index xs (k + 1)
+rises_more xs i number before one up at at_before lt k m =
+    elim (less_or_last k i m) as (λ _. slice_index xs k < slice_index xs (k + 1)) [
       | inl below ↦ up k below
       | inr last ↦
-          let e = number_at xs (i - 1) before (omega arith) in
-          let e' = number_at xs i here l in
           let same : i - 1 ≡ k = omega (arith, last) in
-          let up : i ≡ k + 1 = omega (arith, last) in
-          let at : slice_index (numbers xs) (i - 1) < slice_index (numbers xs) i = omega (arith, e, e', lt) in
-          subst (λ (j : ℕ). slice_index (numbers xs) j < slice_index (numbers xs) (k + 1)) same
-          (subst (λ (j : ℕ). slice_index (numbers xs) (i - 1) < slice_index (numbers xs) j) up at)
+          let next : i ≡ k + 1 = omega (arith, last) in
+          let here : slice_index xs (i - 1) < slice_index xs i = omega (arith, at, at_before, lt) in
+          subst (λ (j : ℕ). slice_index xs j < slice_index xs (k + 1)) same
+          (subst (λ (j : ℕ). slice_index xs (i - 1) < slice_index xs j) next here)
     ]
   where
     less_or_last : (k i : ℕ) → k + 1 < i + 1 → (k + 1 < i) ⊎ (k + 1 ≡ i)
@@ -87,10 +78,21 @@ pub all_taken : {X : Type 0} (P : List X → Type 0) (xs : List X) (i : ℕ) →
     → P (take i xs) → P xs
 all_taken P xs i l p = subst P (take_all i xs l) p
 
--- a seat's own list before those that it took over
-pub seat_fall : (r : Option ℕ) (own : List Receipt) (joined : List (List Receipt)) → IsRising own
-    → MatchOption r (All IsRising joined) (λ n. Any (Falls n) joined)
-    → MatchOption r (All IsRising (own ∷ joined)) (λ n. Any (Falls n) (own ∷ joined))
-seat_fall None own joined rising all = All-cons IsRising own joined rising all
-seat_fall (Some n) own joined rising any =
+-- a seat's own line before those that it took over
+pub own_misplaced : (last n : ℕ) (own : Line) (joined : List Line) → IsMisplaced last n own
+    → Any (IsMisplaced last n) (own ∷ joined)
+own_misplaced last n own joined wrong = (0, own, omega arith, refl, wrong)
+
+pub seat_misplaced : (r : Option ℕ) (last : ℕ) (own : Line) (joined : List Line) → IsWellPlaced last own
+    → MatchOption r (All (IsWellPlaced last) joined) (λ n. Any (IsMisplaced last n) joined)
+    → MatchOption r (All (IsWellPlaced last) (own ∷ joined)) (λ n. Any (IsMisplaced last n) (own ∷ joined))
+seat_misplaced None last own joined well all = All-cons (IsWellPlaced last) own joined well all
+seat_misplaced (Some n) last own joined well any =
     (suc any.0, any.1, (let short = any.2 in omega (arith, short)), any.3, any.4)
+
+-- one line, by both tests
+pub line_misplaced : (r : Option ℕ) (last : ℕ) (line : Line) → IsRising line
+    → MatchOption r (LetGoUpTo last line) (λ n. LetGoAbove last n line)
+    → MatchOption r (IsWellPlaced last line) (λ n. IsMisplaced last n line)
+line_misplaced None last line rising up_to = (rising, up_to)
+line_misplaced (Some n) last line rising above = inr above

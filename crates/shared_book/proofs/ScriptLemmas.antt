@@ -2,19 +2,22 @@
 use Rattle.std.proofs.Common.{◌≡◌, ◌⊎◌, ◌-◌, ℕ, inl, inr, List, [], ◌∷◌, ◌++◌, refl, sym}
 use Rattle.std.proofs.Common.{ap, ◌∙◌, subst, append_assoc, append-nil, arith, Option, None, Ok, Err, IfOk, IfErr}
 use Rattle.std.specs.Borrow.{Bor}
+use Rattle.std.specs.List.{AllZip}
 use Rattle.std.specs.Prelude.{Result}
+use Rattle.mock_request.specs.Request.{Request}
 use Rattle.request_journal.specs.Past.{Past}
-use Rattle.request_journal.specs.declared.event.Event.{Event}
 use Rattle.request_journal.specs.declared.input.BookInput.{BookInput}
-use Rattle.shared_book.specs.Held.{Held, all_lists, lists, new_seat, with_receipt}
-use Rattle.shared_book.specs.Lent.{LendsApplied}
+use Rattle.shared_book.proofs.LetGoLemmas.{has_let_go_none, has_let_go_twice, let_go_then}
+use Rattle.shared_book.specs.Held.{Gained, Held, HasLetGo, IsDropped, LetsGo, all_lists, lists, new_seat}
+use Rattle.shared_book.specs.Lent.{LendsApplied, LendsServed}
 use Rattle.shared_book.specs.Reached.{IsReached}
-use Rattle.shared_book.specs.Receipts.{IsReceipt}
-use Rattle.shared_book.specs.Script.{IsOf, IsPlayed, IsStopped, AreReceiptsOf, IsUnplayed, Plays}
+use Rattle.shared_book.specs.Receipts.{IsReceipt, Line}
+use Rattle.shared_book.specs.Script.{IsLineOf, IsOf, IsPlayed, IsStopped, AreReceiptsOf, IsUnplayed, Plays}
+use Rattle.shared_book.specs.Script.{with_receipts}
 use Rattle.shared_book.specs.Settled.{IsSettled, IsUnsettled}
 use Rattle.shared_book.specs.declared.receipt.Receipt.{Receipt}
 use Rattle.shared_book.specs.declared.script.Call.{Call}
-use Rattle.shared_book.specs.declared.script.Call.TheVariants.{Apply}
+use Rattle.shared_book.specs.declared.script.Call.TheVariants.{Apply, Serve}
 use Rattle.shared_book.specs.declared.settled.Settled.{Settled}
 use Rattle.shared_book.specs.declared.settled.SettleRefusal.{SettleRefusal}
 use Rattle.stub_book.specs.declared.error.BookError.{BookError}
@@ -27,28 +30,50 @@ told_on origin (c ∷ cs) call rs qs (inl told) more =
     inl (told.0, told.1 ++ qs, ap (λ l. l ++ qs) told.2, told.3, told.4, told_on origin cs call told.1 qs told.5 more)
 told_on origin (c ∷ cs) call rs qs (inr told) more = inr (told_on origin cs call rs qs told more)
 
+no_receipts : (origin : Past) (seat : Held) → HasLetGo origin (with_receipts seat []) seat
+no_receipts origin seat =
+    subst (λ (l : List Receipt).
+    HasLetGo origin (record seat { own = record { let_go = seat.own.let_go; held = l } }) seat)
+    (sym (append-nil seat.own.held)) (has_let_go_none origin seat)
+
 pub plays_none : (origin : Past) (seat : Held) → Plays origin seat seat []
-plays_none origin seat = ([], refl, ap (λ (l : List Receipt). record seat { own = l }) (sym (append-nil seat.own)))
+plays_none origin seat = ([], refl, no_receipts origin seat)
 
 pub plays_on : (origin : Past) (a b c : Held) (calls : List Call) (call : Call) → Plays origin a b calls
     → Plays origin b c (call ∷ []) → Plays origin a c (calls ++ call ∷ [])
 plays_on origin a b c calls call one two = (
   one.0 ++ two.0,
   told_on origin calls call one.0 two.0 one.1 two.1,
-  two.2 ∙ ap (λ (s : Held). record s { own = s.own ++ two.0 }) one.2
-      ∙ ap (λ (l : List Receipt). record a { own = l }) (append_assoc a.own one.0 two.0),
+  subst (λ (l : List Receipt).
+      HasLetGo origin (record a { own = record { let_go = a.own.let_go; held = l } }) c)
+      (append_assoc a.own.held one.0 two.0)
+      (has_let_go_twice origin (with_receipts (with_receipts a one.0) two.0) (with_receipts b two.0) c
+      (let_go_then origin (with_receipts a one.0) b two.0 one.2) two.2),
 )
 
 pub plays_accepted : (origin : Past) (old new : Held) (call : Call) (receipt : Receipt)
-    → new ≡ with_receipt old receipt
+    → Gained origin old receipt new
     → IsOf call receipt.event → IsReceipt origin receipt → Plays origin old new (call ∷ [])
-plays_accepted origin old new call receipt kept of genuine =
-    (receipt ∷ [], inl (receipt, [], refl, of, genuine, refl), kept)
+plays_accepted origin old new call receipt gained of genuine = (
+  receipt ∷ [],
+  inl (receipt, [], refl, of, genuine, refl),
+  subst (HasLetGo origin (with_receipts old (receipt ∷ []))) (sym gained.added)
+      (let_go_then origin old gained.before (receipt ∷ []) gained.let_go),
+)
 
 pub plays_refused : (origin : Past) (old new : Held) (call : Call) → new ≡ old
     → Plays origin old new (call ∷ [])
-plays_refused origin old new call same =
-    ([], inr refl, same ∙ ap (λ (l : List Receipt). record old { own = l }) (sym (append-nil old.own)))
+plays_refused origin old new call same = (
+  [],
+  inr refl,
+  subst (HasLetGo origin (with_receipts old [])) (sym same) (no_receipts origin old),
+)
+
+pub plays_served : (origin : Past) (old new : Held) (request : Request) (result : Result (Bor Receipt) BookError)
+    → LendsServed origin old new request result → Plays origin old new (Serve request ∷ [])
+plays_served origin old new request (Ok lent) told =
+    plays_accepted origin old new (Serve request) lent.now told.0 told.1 told.2
+plays_served origin old new request (Err error) told = plays_refused origin old new (Serve request) told
 
 pub plays_applied : (origin : Past) (old new : Held) (asked : BookInput) (result : Result (Bor Receipt) BookError)
     → LendsApplied origin old new asked result → Plays origin old new (Apply asked ∷ [])
@@ -57,17 +82,32 @@ plays_applied origin old new asked (Ok lent) told =
 plays_applied origin old new asked (Err error) told = plays_refused origin old new (Apply asked) told
 
 -- two seats that had made no call before their scripts, beside one that made its calls before
+filled_none : (origin : Past) (a : Held) (calls : List Call) → Plays origin (new_seat 1) a calls → a.joined ≡ []
+filled_none origin a calls plays = none a.joined plays.2.joined
+  where
+    none : (ls : List Line) → AllZip (LetsGo (IsDropped origin)) [] ls → ls ≡ []
+    none [] go = refl
+    none (l ∷ ls) go = absurd go
+
+lists_played : (origin : Past) (a : Held) (calls : List Call) → Plays origin (new_seat 1) a calls
+    → lists a ≡ a.own ∷ []
+lists_played origin a calls plays = ap (λ (l : List Line). a.own ∷ l) (filled_none origin a calls plays)
+
+line_played : (origin : Past) (a : Held) (calls : List Call) → Plays origin (new_seat 1) a calls
+    → IsLineOf origin calls a.own
+line_played origin a calls plays = (plays.0, plays.1, plays.2.own)
+
 played : (origin past : Past) (seat left a b : Held) (cs ds : List Call) (settled : Settled)
     → lists left ≡ lists seat → Plays origin (new_seat 1) a cs → Plays origin (new_seat 1) b ds
     → IsSettled origin past (all_lists (left ∷ a ∷ b ∷ [])) settled → IsPlayed origin seat cs ds settled
 played origin past seat left a b cs ds settled same one two all = record {
-  one = one.0;
-  two = two.0;
-  of_first = one.1;
-  of_second = two.1;
+  one = a.own;
+  two = b.own;
+  of_first = line_played origin a cs one;
+  of_second = line_played origin b ds two;
   past = past;
-  settled_all = subst (λ (ls : List (List Receipt)). IsSettled origin past ls settled)
-      (λ i. same i ++ (lists (one.2 i) ++ (lists (two.2 i) ++ []))) all;
+  settled_all = subst (λ (ls : List Line). IsSettled origin past ls settled)
+      (λ i. same i ++ (lists_played origin a cs one i ++ (lists_played origin b ds two i ++ []))) all;
 }
 
 pub played_by : {E : Type 0} (origin : Past) (seat left a b : Held) (cs ds : List Call) (seats : List Held)

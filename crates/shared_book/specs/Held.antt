@@ -1,45 +1,78 @@
 -- What a contract sees of a seat.
-use Rattle.std.specs.Prelude.{ℕ, ◌+◌, List, [], ◌∷◌, ◌++◌}
-use Rattle.std.specs.List.{flat_map, sum_by}
+use Rattle.std.specs.Prelude.{◌≡◌, ◌≤◌, ℕ, ◌+◌, Bool, true, false, List, [], ◌∷◌, ◌++◌, All, filter}
+use Rattle.std.specs.List.{AllZip, flat_map, sum_by}
+use Rattle.request_journal.specs.Past.{Past}
+use Rattle.shared_book.specs.Reached.{IsReached}
+use Rattle.shared_book.specs.Receipts.{Line, numbers, numbers_of}
 use Rattle.shared_book.specs.declared.receipt.Receipt.{Receipt}
 
--- how many parts of the ledger it has, the receipts of its own calls in their order, and the lists of receipts of the
--- seats that it took over
+-- how many parts of the ledger it has, the receipts of its own calls, and those of the seats that it took over
 pub record Held : Type 0 where
   pub parts : ℕ
-  pub own : List Receipt
-  pub joined : List (List Receipt)
+  pub own : Line
+  pub joined : List Line
 
 -- a seat that has made no call
 abbrev pub new_seat : ℕ → Held
-new_seat parts = record { parts = parts; own = []; joined = [] }
+new_seat parts = record { parts = parts; own = record { let_go = []; held = [] }; joined = [] }
 
--- its lists of receipts
-abbrev pub lists : Held → List (List Receipt)
+-- its lines of receipts
+abbrev pub lists : Held → List Line
 lists seat = seat.own ∷ seat.joined
 
 -- those of several seats, and their parts
-abbrev pub all_lists : List Held → List (List Receipt)
+abbrev pub all_lists : List Held → List Line
 all_lists seats = flat_map lists seats
 
 abbrev pub all_parts : List Held → ℕ
 all_parts seats = sum_by (λ s. s.parts) seats
 
--- the receipts of several lists
-abbrev pub receipts_of : List (List Receipt) → List Receipt
-receipts_of lists = flat_map (λ l. l) lists
+-- the receipts that several lines hold, and the numbers of all their receipts
+abbrev pub receipts_of : List Line → List Receipt
+receipts_of lines = flat_map (λ l. l.held) lines
 
--- the lists that have a receipt
-abbrev pub filled : List (List Receipt) → List (List Receipt)
-filled [] = []
-filled ([] ∷ rest) = filled rest
-filled ((r ∷ rs) ∷ rest) = (r ∷ rs) ∷ filled rest
+abbrev pub all_numbers : List Line → List ℕ
+all_numbers lines = flat_map numbers_of lines
+
+-- the lines that have a receipt
+abbrev pub is_filled : List ℕ → Bool
+is_filled [] = false
+is_filled (n ∷ ns) = true
+
+abbrev pub filled : List Line → List Line
+filled lines = filter (λ l. is_filled (numbers_of l)) lines
 
 -- a seat that has taken over another
 abbrev pub with_seat : Held → Held → Held
 with_seat seat other =
     record { parts = seat.parts + other.parts; own = seat.own; joined = seat.joined ++ filled (lists other) }
 
--- one more receipt at the end of its own list
+-- ---- letting go of events
+
+-- a checkpoint has dropped the event of this number: a past that was reached begins after it
+abbrev pub IsDropped : Past → ℕ → Type 0
+IsDropped origin number = (past : Past) × IsReached origin past × (number ≤ past.base.number)
+
+-- the line has let go of the events of its first receipts, which have numbers of this kind; the numbers stay
+pub record LetsGo (P : ℕ → Type 0) (old new : Line) : Type 0 where
+  pub gone : List Receipt
+  pub held : old.held ≡ gone ++ new.held
+  pub kept : new.let_go ≡ old.let_go ++ numbers gone
+  pub allowed : All (λ r. P r.number) gone
+
+-- the seat has let go of events that a checkpoint has dropped, or of none
+pub record HasLetGo (origin : Past) (old new : Held) : Type 0 where
+  pub parts : new.parts ≡ old.parts
+  pub own : LetsGo (IsDropped origin) old.own new.own
+  pub joined : AllZip (LetsGo (IsDropped origin)) old.joined new.joined
+
+-- one more receipt at the end of its own line
 abbrev pub with_receipt : Held → Receipt → Held
-with_receipt seat receipt = record seat { own = seat.own ++ receipt ∷ [] }
+with_receipt seat receipt =
+    record seat { own = record { let_go = seat.own.let_go; held = seat.own.held ++ receipt ∷ [] } }
+
+-- the seat has gained this receipt, and may have let go of events before
+pub record Gained (origin : Past) (old : Held) (receipt : Receipt) (new : Held) : Type 0 where
+  pub before : Held
+  pub let_go : HasLetGo origin old before
+  pub added : new ≡ with_receipt before receipt

@@ -3,3 +3,4 @@ pub mod Seat
 pub mod Gains
 pub mod Refusal
 pub mod Looked
+pub mod Misplaced

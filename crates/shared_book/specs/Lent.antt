@@ -1,12 +1,12 @@
--- What a call lends, and what it leaves of the seat: the receipt, which is then the last of the seat's own; or, where
--- it was refused, the seat as it was.
+-- What a call lends, and what it leaves of the seat: the receipt, which is then the last that the seat's own line
+-- holds; or, where it was refused, the seat as it was.
 use Rattle.std.specs.Prelude.{◌≡◌, MatchResult, Result}
 use Rattle.std.specs.Borrow.{Bor}
 use Rattle.mock_request.specs.Request.{Request}
 use Rattle.request_journal.specs.Input.{IsAsked}
 use Rattle.request_journal.specs.Past.{Past}
 use Rattle.request_journal.specs.declared.input.BookInput.{BookInput}
-use Rattle.shared_book.specs.Held.{Held, with_receipt}
+use Rattle.shared_book.specs.Held.{Held, Gained}
 use Rattle.shared_book.specs.Receipts.{IsReceipt}
 use Rattle.shared_book.specs.declared.receipt.Receipt.{Receipt}
 use Rattle.stub_book.specs.Growth.{IsServed}
@@ -16,12 +16,12 @@ use Rattle.stub_book.specs.declared.error.BookError.{BookError}
 abbrev pub LendsServed : Past → Held → Held → Request → Result (Bor Receipt) BookError → Type 0
 LendsServed origin old new request result =
     MatchResult result
-    (λ lent. (new ≡ with_receipt old lent.now) × IsServed request lent.now.event × IsReceipt origin lent.now)
+    (λ lent. Gained origin old lent.now new × IsServed request lent.now.event × IsReceipt origin lent.now)
     (λ error. new ≡ old)
 
 -- that of a change that was made
 abbrev pub LendsApplied : Past → Held → Held → BookInput → Result (Bor Receipt) BookError → Type 0
 LendsApplied origin old new asked result =
     MatchResult result
-    (λ lent. (new ≡ with_receipt old lent.now) × IsAsked asked lent.now.event × IsReceipt origin lent.now)
+    (λ lent. Gained origin old lent.now new × IsAsked asked lent.now.event × IsReceipt origin lent.now)
     (λ error. new ≡ old)

@@ -1,6 +1,6 @@
--- Receipts: what one says of its call, and how the numbers in a list of them go on.
+-- Receipts: what one says of its call, and how the numbers in a line of them go on.
 use Rattle.std.specs.Prelude.{◌≡◌, ◌+◌, ◌==◌, ◌≤◌, ◌<◌, ℕ, List, [], ◌∷◌, ◌++◌, map}
-use Rattle.std.specs.Prelude.{count_by, length, slice_index}
+use Rattle.std.specs.Prelude.{All, Contains, count_by, length, slice_index}
 use Rattle.std.specs.List.Sorted.{IsStrictlyIncreasing}
 use Rattle.request_journal.specs.Legal.{IsNext}
 use Rattle.request_journal.specs.Past.{Past, last_number}
@@ -18,19 +18,35 @@ pub record IsReceipt (origin : Past) (receipt : Receipt) : Type 0 where
 abbrev pub numbers : List Receipt → List ℕ
 numbers receipts = map (λ r. r.number) receipts
 
--- each receipt has a greater number than the one before it
-abbrev pub IsRising : List Receipt → Type 0
-IsRising receipts = IsStrictlyIncreasing (numbers receipts)
+-- receipts in the order of their calls: of the first, whose events were let go, the numbers; then those that are held
+pub record Line : Type 0 where
+  pub let_go : List ℕ
+  pub held : List Receipt
 
--- a receipt of the list has this number, which isn't above that of the one before it
-abbrev pub Falls : ℕ → List Receipt → Type 0
-Falls number receipts =
-    (k : ℕ) × (k + 1 < length receipts) × (slice_index (numbers receipts) (k + 1) ≡ number)
-    × (number ≤ slice_index (numbers receipts) k)
+abbrev pub numbers_of : Line → List ℕ
+numbers_of line = line.let_go ++ numbers line.held
 
--- how many receipts have this number
-abbrev pub count_of : ℕ → List Receipt → ℕ
-count_of number receipts = count_by (λ r. r.number == number) receipts
+-- each number is greater than the one before it
+abbrev pub IsRising : Line → Type 0
+IsRising line = IsStrictlyIncreasing (numbers_of line)
+
+-- this number of the line isn't above the one before it
+abbrev pub Falls : ℕ → Line → Type 0
+Falls number line =
+    (k : ℕ) × (k + 1 < length (numbers_of line)) × (slice_index (numbers_of line) (k + 1) ≡ number)
+    × (number ≤ slice_index (numbers_of line) k)
+
+-- the line has let go of events up to this number alone
+abbrev pub LetGoUpTo : ℕ → Line → Type 0
+LetGoUpTo last line = All (λ n. n ≤ last) line.let_go
+
+-- it has let go of the event of this number, which is greater
+abbrev pub LetGoAbove : ℕ → ℕ → Line → Type 0
+LetGoAbove last number line = Contains line.let_go number × (last < number)
+
+-- how often the number is there
+abbrev pub count_of : ℕ → List ℕ → ℕ
+count_of number numbers = count_by (λ n. n == number) numbers
 
 -- the receipt is the last of the list
 abbrev pub IsLast : Receipt → List Receipt → Type 0

@@ -3,9 +3,9 @@ use Rattle.std.specs.Prelude.{◌≡◌, ◌⊎◌, ◌-◌, ℕ, List, [], ◌�
 use Rattle.request_journal.specs.Input.{IsAsked}
 use Rattle.request_journal.specs.Past.{Past}
 use Rattle.request_journal.specs.declared.event.Event.{Event}
-use Rattle.shared_book.specs.Held.{Held, lists, new_seat}
+use Rattle.shared_book.specs.Held.{Held, HasLetGo, IsDropped, LetsGo, lists, new_seat}
 use Rattle.shared_book.specs.Reached.{IsReached}
-use Rattle.shared_book.specs.Receipts.{IsReceipt}
+use Rattle.shared_book.specs.Receipts.{IsReceipt, Line}
 use Rattle.shared_book.specs.Settled.{IsSettled, IsUnsettled}
 use Rattle.shared_book.specs.declared.receipt.Receipt.{Receipt}
 use Rattle.shared_book.specs.declared.script.Call.{Call}
@@ -28,19 +28,30 @@ AreReceiptsOf origin (call ∷ calls) receipts =
     × IsOf call receipt.event × IsReceipt origin receipt × AreReceiptsOf origin calls rest)
     ⊎ AreReceiptsOf origin calls receipts
 
--- a seat has made the calls: the receipts of those that were accepted are at the end of its own list
+-- these receipts at the end of its own line
+abbrev pub with_receipts : Held → List Receipt → Held
+with_receipts seat receipts =
+    record seat { own = record { let_go = seat.own.let_go; held = seat.own.held ++ receipts } }
+
+-- a seat has made the calls: the receipts of those that were accepted came to the end of its own line, and it may have
+-- let go of events
 abbrev pub Plays : Past → Held → Held → List Call → Type 0
 Plays origin old new calls =
-    (receipts : List Receipt) × AreReceiptsOf origin calls receipts
-    × (new ≡ record old { own = old.own ++ receipts })
+    (receipts : List Receipt) × AreReceiptsOf origin calls receipts × HasLetGo origin (with_receipts old receipts) new
 
--- two scripts were played beside a seat's earlier calls: each script's accepted calls have their receipts in a list of
--- their own, in its order, and all lists together are settled, so that the numbers rise in each
+-- the line has the receipts of the calls that were accepted, in their order, and may have let go of events
+abbrev pub IsLineOf : Past → List Call → Line → Type 0
+IsLineOf origin calls line =
+    (receipts : List Receipt) × AreReceiptsOf origin calls receipts
+    × LetsGo (IsDropped origin) (record { let_go = []; held = receipts }) line
+
+-- two scripts were played beside a seat's earlier calls: each script's accepted calls have their receipts in a line of
+-- their own, in its order, and all lines together are settled, so that the numbers rise in each
 pub record IsPlayed (origin : Past) (seat : Held) (first second : List Call) (settled : Settled) : Type 0 where
-  pub one : List Receipt
-  pub two : List Receipt
-  pub of_first : AreReceiptsOf origin first one
-  pub of_second : AreReceiptsOf origin second two
+  pub one : Line
+  pub two : Line
+  pub of_first : IsLineOf origin first one
+  pub of_second : IsLineOf origin second two
   pub past : Past
   pub settled_all : IsSettled origin past (lists seat ++ (one ∷ two ∷ [])) settled
 

@@ -1,6 +1,6 @@
 // What the ledger says of seats that have all its parts together.
 ghost use Rattle.std.specs.Prelude.{◌≡◌, ◌↔◌, ◌+◌, ◌<◌, IsTrue, length};
-ghost use Rattle.shared_book.specs.Held.{all_lists, all_parts, receipts_of};
+ghost use Rattle.shared_book.specs.Held.{all_lists, all_numbers, all_parts};
 
 use crate::origin::Origin;
 use crate::seat::Seat;
@@ -26,7 +26,7 @@ pub(crate) fn have_parts<L: Origin>(seats: &[Seat<L>], all: u64) -> bool
 pub(crate) fn audit<L: Origin>(entries: &mut ledger::Book<L>, seats: &mut [Seat<L>])
     requires whole { all_parts seats.old ≡ L.parts }
     requires some { 0 < L.parts }
-    ensures counted { entries.old.total ≡ length (receipts_of (all_lists seats.old)) }
+    ensures counted { entries.old.total ≡ length (all_numbers (all_lists seats.old)) }
     ensures same_entries { entries.new.total ≡ entries.old.total }
     ensures same_seats { seats.new ≡ seats.old }
 {
@@ -39,7 +39,7 @@ pub(crate) fn audit<L: Origin>(entries: &mut ledger::Book<L>, seats: &mut [Seat<
 fn audit_with<L: Origin>(entries: &mut ledger::Book<L>, share: &mut Share<L>, seats: &mut [Seat<L>])
     requires whole { share.old.parts + all_parts seats.old ≡ L.parts }
     requires some { 0 < share.old.parts }
-    ensures counted { entries.old.total ≡ share.old.amount + length (receipts_of (all_lists seats.old)) }
+    ensures counted { entries.old.total ≡ share.old.amount + length (all_numbers (all_lists seats.old)) }
     ensures same_entries { entries.new.total ≡ entries.old.total }
     ensures same_parts { share.new.parts ≡ share.old.parts }
     ensures same_amount { share.new.amount ≡ share.old.amount }

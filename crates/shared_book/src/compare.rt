@@ -5,13 +5,15 @@ ghost use Rattle.std.specs.List.{range_with_len};
 ghost use Rattle.std.specs.List.Sorted.{IsNonDecreasingBy};
 ghost use Rattle.request_journal.specs.Journal.{event_at};
 ghost use Rattle.request_journal.specs.Past.{last_number};
-ghost use Rattle.shared_book.specs.Held.{all_lists, all_parts, receipts_of};
+ghost use Rattle.shared_book.specs.Held.{all_lists, all_numbers, all_parts};
 ghost use Rattle.shared_book.specs.Inner.Refusal.{IsRefusalAt};
 ghost use Rattle.shared_book.specs.Reached.{IsReached};
-ghost use Rattle.shared_book.specs.Receipts.{numbers};
 ghost use Rattle.shared_book.specs.Settled.{IsMiscounted, IsSettled, IsUnsettled};
 
-use crate::gather::{fall, gather};
+use crate::base::base_of;
+use crate::counted::{miscounted, sorted_numbers};
+use crate::gather::{gather, gather_numbers};
+use crate::misplaced::misplaced;
 use crate::origin::Origin;
 use crate::receipt::Receipt;
 use crate::seat::Seat;
@@ -31,22 +33,24 @@ pub(crate) fn compare<L: Origin>(
 ) -> Result<Settled, SettleRefusal>
     requires reached { IsReached L.origin book.now }
     requires start { start ≡ last_number L.origin }
-    requires counted { last_number book.now ≡ start + length (receipts_of (all_lists seats.now)) }
+    requires counted { last_number book.now ≡ start + length (all_numbers (all_lists seats.now)) }
     requires whole { all_parts seats.now ≡ L.parts }
     ensures settled { IfOk result (IsSettled L.origin book.now (all_lists seats.now)) }
     ensures why { IfErr result (IsUnsettled L.origin L.parts book.now seats.now) }
 {
     let events = book.event_count();
-    if let Some(number) = fall(seats) {
+    if let Some(number) = misplaced(seats, base_of(book)) {
         return Err(mismatch(book, number));
+    }
+    match miscounted_in(alloc, seats, start) {
+        Ok(None) => {}
+        Ok(Some(number)) => return Err(mismatch(book, number)),
+        Err(_error) => return Err(SettleRefusal::OutOfMemory),
     }
     let receipts = match gather(alloc, seats) {
         Ok(receipts) => sorted(receipts),
         Err(_error) => return Err(SettleRefusal::OutOfMemory),
     };
-    if let Some(number) = miscounted(receipts.as_slice(), start) {
-        return Err(mismatch(book, number));
-    }
     if let Some(number) = differing(receipts.as_slice(), book.history()) {
         return Err(mismatch(book, number));
     }
@@ -81,26 +85,20 @@ fn sorted(receipts: Vec<Receipt>) -> Vec<Receipt>
     receipts
 }
 
-/// A number that doesn't have the one receipt, or none, that it should have, where receipts have the numbers after
-/// `start`.
-pub(crate) fn miscounted(receipts: &[Receipt], start: u64) -> Option<u64>
-    requires sorted { IsNonDecreasingBy (λ r. r.number) receipts.now }
-    requires fits { start + length receipts.now < 2 ^ 64 }
-    ensures { MatchOption result
-        (numbers receipts.now ≡ range_with_len (start + 1) (length receipts.now))
-        (IsMiscounted start receipts.now) }
+// A number that isn't there once, or not at all, as it should be, where receipts have the numbers after `start`.
+fn miscounted_in<L: Origin>(
+    alloc: Global,
+    seats: &[Seat<L>],
+    start: u64,
+) -> Result<Option<u64>, AllocError>
+    requires fits { start + length (all_numbers (all_lists seats.now)) < 2 ^ 64 }
+    ensures { IfOk result (λ found. MatchOption found
+        (IsPermutation (all_numbers (all_lists seats.now))
+        (range_with_len (start + 1) (length (all_numbers (all_lists seats.now)))))
+        (IsMiscounted start (all_numbers (all_lists seats.now)))) }
 {
-    for i in 0..receipts.len() {
-        let due = start + 1 + i as u64;
-        let number = receipts[i].number;
-        if number < due {
-            return Some(number);
-        }
-        if number > due {
-            return Some(due);
-        }
-    }
-    None
+    let numbers = sorted_numbers(gather_numbers(alloc, seats)?);
+    Ok(miscounted(numbers.as_slice(), start))
 }
 
 /// The number of a receipt that has another event than the history keeps.

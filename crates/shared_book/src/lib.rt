@@ -5,14 +5,20 @@
 #![tactic(auto)]
 
 mod audit;
+mod base;
 pub mod book_read;
 mod compare;
+mod counted;
+mod entered;
 pub mod gate;
 mod gather;
+mod lines;
 mod locked;
 mod look;
+mod misplaced;
 pub mod origin;
 pub mod receipt;
+mod receipt_list;
 pub mod script;
 pub mod seat;
 pub mod settle;

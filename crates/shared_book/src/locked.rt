@@ -6,14 +6,15 @@ ghost use Rattle.request_journal.specs.Past.{last_number};
 ghost use Rattle.request_journal.specs.declared.limits.TheConstants.{NUMBER_LIMIT};
 ghost use Rattle.shared_book.specs.Inner.Looked.{IsLooked};
 ghost use Rattle.shared_book.specs.Reached.{IsReached};
-ghost use Rattle.shared_book.specs.Receipts.{IsReceipt};
 ghost use Rattle.shared_book.specs.Settled.{IsSettled, IsUnsettled};
 ghost use Rattle.stub_book.specs.Growth.{Grows, IsServed};
 ghost use Rattle.stub_book.specs.Refusals.{IsRefusal, IsServeRefusal};
 
 use crate::audit::{audit, have_parts};
+use crate::base::base_of;
 use crate::book_read::{BookRead, Reading};
 use crate::compare::compare;
+use crate::entered::Entered;
 use crate::look::look;
 use crate::origin::Origin;
 use crate::receipt::Receipt;
@@ -21,6 +22,7 @@ use crate::seat::Seat;
 use crate::settled::{SettleRefusal, Settled};
 use request_journal::event_memory::EventMemory;
 use request_journal::input::BookInput;
+use request_journal::shared_event::SharedEvent;
 use request_journal::shared_request::SharedRequest;
 use request_match::parsed_request::ParsedRequest;
 use std::alloc::{AllocError, Global};
@@ -94,12 +96,13 @@ impl<L: Origin> Locked<L> {
         request: SharedRequest,
         parsed: &mut ParsedRequest<'_>,
         memory: EventMemory,
-    ) -> Result<Receipt, BookError>
+    ) -> Result<Entered, BookError>
         requires part { 0 < share.old.parts }
         requires read { parsed.old ≡ request }
         ensures reached { IsReached L.origin self.old }
-        ensures ok { IfOk result (λ receipt. IsServed request receipt.event × Grows self.old self.new receipt.event
-            × (receipt.number ≡ last_number self.old + 1)) }
+        ensures ok { IfOk result (λ entered. IsServed request entered.receipt.event
+            × Grows self.old self.new entered.receipt.event × (entered.receipt.number ≡ last_number self.old + 1)) }
+        ensures base { IfOk result (λ entered. entered.base ≡ self.new.base.number) }
         ensures err { OnErr result (self.new ≡ self.old) }
         ensures why { IfErr result (λ error. IsServeRefusal self.old error.code) }
         ensures parts { share.new.parts ≡ share.old.parts }
@@ -110,10 +113,7 @@ impl<L: Origin> Locked<L> {
         let event = self.book.serve_read(request, parsed, memory)?;
         self.entries.add(share, 1);
         self.entries.audit(share);
-        Ok(Receipt {
-            number: self.book.event_count(),
-            event,
-        })
+        Ok(entered(&self.book, event))
     }
 
     /// Makes the change, and enters that for the share.
@@ -122,11 +122,12 @@ impl<L: Origin> Locked<L> {
         &mut self,
         share: &mut Share<L>,
         input: BookInput,
-    ) -> Result<Receipt, BookError>
+    ) -> Result<Entered, BookError>
         requires { 0 < share.old.parts }
         ensures reached { IsReached L.origin self.old }
-        ensures ok { IfOk result (λ receipt. IsAsked input receipt.event × Grows self.old self.new receipt.event
-            × (receipt.number ≡ last_number self.old + 1)) }
+        ensures ok { IfOk result (λ entered. IsAsked input entered.receipt.event
+            × Grows self.old self.new entered.receipt.event × (entered.receipt.number ≡ last_number self.old + 1)) }
+        ensures base { IfOk result (λ entered. entered.base ≡ self.new.base.number) }
         ensures err { OnErr result (self.new ≡ self.old) }
         ensures why { IfErr result (λ error. IsRefusal self.old input error.code) }
         ensures parts { share.new.parts ≡ share.old.parts }
@@ -137,10 +138,7 @@ impl<L: Origin> Locked<L> {
         let event = self.book.apply_shared(input)?;
         self.entries.add(share, 1);
         self.entries.audit(share);
-        Ok(Receipt {
-            number: self.book.event_count(),
-            event,
-        })
+        Ok(entered(&self.book, event))
     }
 
     /// Looks up what is asked for.
@@ -173,5 +171,20 @@ impl<L: Origin> Locked<L> {
         }
         audit(&mut self.entries, seats);
         compare(&self.book, self.start, alloc, seats)
+    }
+}
+
+// What is told of the call whose event is the book's last.
+fn entered(book: &Book, event: SharedEvent) -> Entered
+    ensures event { result.receipt.event ≡ event }
+    ensures number { result.receipt.number ≡ last_number book.now }
+    ensures base { result.base ≡ book.now.base.number }
+{
+    Entered {
+        receipt: Receipt {
+            number: book.event_count(),
+            event,
+        },
+        base: base_of(book),
     }
 }

@@ -1,8 +1,7 @@
 // A seat, by which calls are made on a shared book.
-ghost use Rattle.std.specs.Prelude.{◌≡◌, ◌+◌, ◌-◌, ◌^◌, ◌<◌, ◌≤◌, ◌∷◌, ◌++◌, []};
-ghost use Rattle.std.specs.Prelude.{length, IfErr, IfOk, OnErr, OnOk, ⊤, map, vec_len, vec_capacity};
+ghost use Rattle.std.specs.Prelude.{◌≡◌, ◌-◌, ◌^◌, ◌<◌, length, IfErr, IfOk, OnErr, OnOk, ⊤};
 ghost use Rattle.request_journal.specs.Input.{IsAsked};
-ghost use Rattle.shared_book.specs.Held.{new_seat, filled, with_seat};
+ghost use Rattle.shared_book.specs.Held.{new_seat, HasLetGo, IsDropped, with_seat};
 ghost use Rattle.shared_book.specs.Inner.Gains.{Serves, Applies};
 ghost use Rattle.shared_book.specs.Lent.{LendsServed, LendsApplied};
 ghost use Rattle.shared_book.specs.Reading.{IsRead};
@@ -13,6 +12,7 @@ ghost use denote.Follow.{follows_so};
 ghost use mathlib.Core.Option.{none};
 
 use crate::book_read::{BookRead, Reading};
+use crate::lines::Lines;
 use crate::look::answer;
 use crate::origin::Origin;
 use crate::receipt::Receipt;
@@ -37,9 +37,7 @@ pub struct Seat<L: Origin> {
     pub(crate) parts: u64,
     /// How many receipts it has, in all lists.
     pub(crate) count: u64,
-    pub(crate) own: Vec<Receipt>,
-    /// The lists of the seats that it took over.
-    pub(crate) joined: Vec<Vec<Receipt>>,
+    pub(crate) lines: Lines,
     /// The headers that came last, for the next request to share. Contracts see nothing of them.
     headers: LastHeaders,
 }
@@ -51,8 +49,7 @@ impl<L: Origin> Drop for Seat<L> {
             share: _share,
             parts: _parts,
             count: _count,
-            own: _own,
-            joined: _joined,
+            lines: _lines,
             headers: _headers,
         } = self;
     }
@@ -61,23 +58,24 @@ impl<L: Origin> Drop for Seat<L> {
 impl<L: Origin> Model for Seat<L> {
     ghost use Rattle.std.specs.Prelude.{◌∷◌, map};
     ghost use Rattle.shared_book.specs.Held.{Held};
-    ghost use Rattle.shared_book.specs.Inner.Seat.{IsSeat};
+    ghost use Rattle.shared_book.specs.Inner.Seat.{IsSeat, line_of};
 
     ghost Value = { Held };
 
     ghost view = { λ s. record {
       parts = s.parts;
-      own = s.own.items;
-      joined = map (λ list. list.items) s.joined.items;
+      own = line_of s.lines.own;
+      joined = map line_of s.lines.joined.items;
     } };
 
-    ghost invariant = { λ s. IsSeat L.parts s.share.parts s.share.amount s.parts s.count
-        (s.own.items ∷ map (λ list. list.items) s.joined.items) };
+    ghost invariant = { λ s. IsSeat L.origin L.parts s.share.parts s.share.amount s.parts s.count s.lines.told
+        (line_of s.lines.own ∷ map line_of s.lines.joined.items) };
 }
 
 impl<L: Origin> Seat<L> {
     ghost use Rattle.shared_book.specs.contracts.seat.Seat.{the_row};
 
+    #[tactic(auto, using(crate::proofs::ReachedLemmas::dropped_none))]
     pub(crate) fn new(alloc: Global, share: Share<L>, parts: u64) -> Seat<L>
         requires parts { share.parts ≡ parts }
         requires some { 0 < parts }
@@ -89,8 +87,7 @@ impl<L: Origin> Seat<L> {
             share,
             parts,
             count: 0,
-            own: Vec::new(alloc),
-            joined: Vec::new(alloc),
+            lines: Lines::new(alloc),
             headers: LastHeaders::none(),
         }
     }
@@ -111,7 +108,7 @@ impl<L: Origin> Seat<L> {
     {
         let share = self.share.split_off(1, 0);
         self.parts -= 1;
-        let mut seat = Seat::new(*self.own.allocator(), share, 1);
+        let mut seat = Seat::new(*self.lines.joined.allocator(), share, 1);
         seat.headers = self.headers.share();
         seat
     }
@@ -130,19 +127,19 @@ impl<L: Origin> Seat<L> {
         self.headers = headers;
     }
 
-    /// The receipts of its own calls, in their order.
+    /// The receipts of its own calls that it holds, in their order.
     pub fn receipts(&self) -> &[Receipt]
-        ensures { result.now ≡ self.now.own }
+        ensures { result.now ≡ self.now.own.held }
     {
-        self.own.as_slice()
+        self.lines.own.held.as_slice()
     }
 
     /// The receipt of its last call.
     fn last(&self) -> &Receipt
-        requires { 0 < length self.now.own }
-        ensures { IsLast result.now self.now.own }
+        requires { 0 < length self.now.own.held }
+        ensures { IsLast result.now self.now.own.held }
     {
-        &self.own[self.own.len() - 1]
+        &self.lines.own.held[self.lines.own.held.len() - 1]
     }
 
     /// Serves a request, and lends the receipt that it keeps.
@@ -198,7 +195,7 @@ impl<L: Origin> Seat<L> {
     ) -> Result<Reading, AllocError>
         ensures { IfOk result (IsRead L.origin asked) }
     {
-        let alloc = *self.own.allocator();
+        let alloc = *self.lines.joined.allocator();
         let Reading {
             number,
             answer: found,
@@ -210,33 +207,33 @@ impl<L: Origin> Seat<L> {
     }
 
     /// Takes over the other seat: its parts, its lists of receipts beside the own ones, and its headers, if it has any.
-    /// Where memory runs out (or there are more receipts than a number has room for) the other seat is handed back.
+    /// Both let go of events. Where memory runs out (or there are more receipts than a number has room for) the other
+    /// seat is handed back.
     pub fn join(&mut self, other: Seat<L>) -> Result<(), Seat<L>>
-        ensures ok { OnOk result (self.new ≡ with_seat self.old other) }
+        ensures ok { OnOk result (HasLetGo L.origin (with_seat self.old other) self.new) }
         ensures err { IfErr result (λ seat. (seat ≡ other) × (self.new ≡ self.old)) }
     {
         let Some(count) = self.count.checked_add(other.count) else {
             return Err(other);
         };
-        let Some(more) = other.joined.len().checked_add(1) else {
+        let Some(more) = other.lines.joined.len().checked_add(1) else {
             return Err(other);
         };
-        if let Err(_error) = self.joined.reserve(more) {
+        if let Err(_error) = self.lines.joined.reserve(more) {
             return Err(other);
         }
         let Seat {
             share,
             parts,
             count: _,
-            own,
-            joined,
+            lines,
             headers,
         } = other;
         self.share.merge(share);
         self.parts += parts;
         self.count = count;
         keep_later(&mut self.headers, headers);
-        take_over(&mut self.joined, own, joined);
+        self.lines.take_over(lines);
         Ok(())
     }
 
@@ -252,11 +249,11 @@ impl<L: Origin> Seat<L> {
         ensures err { OnErr result (self.new ≡ self.old) }
         ensures why { IfErr result (λ error. IsServeRefused L.origin error.code) }
     {
-        self.own.reserve(1)?;
-        let request = SharedRequest::new(*self.own.allocator(), request)?;
-        let mut parsed = ParsedRequest::new(*self.own.allocator(), request.request());
-        let memory = EventMemory::new(*self.own.allocator())?;
-        let receipt = shared.serve(
+        self.lines.own.held.reserve(1)?;
+        let request = SharedRequest::new(*self.lines.joined.allocator(), request)?;
+        let mut parsed = ParsedRequest::new(*self.lines.joined.allocator(), request.request());
+        let memory = EventMemory::new(*self.lines.joined.allocator())?;
+        let entered = shared.serve(
             rt,
             &mut self.share,
             request.try_clone()?,
@@ -264,9 +261,7 @@ impl<L: Origin> Seat<L> {
             memory,
         )?;
         self.count += 1;
-        let Ok(()) = self.own.push(receipt) else {
-            unreachable!()
-        };
+        self.lines.keep(entered);
         Ok(())
     }
 
@@ -281,12 +276,10 @@ impl<L: Origin> Seat<L> {
         ensures err { OnErr result (self.new ≡ self.old) }
         ensures why { IfErr result (λ error. IsRefused L.origin input error.code) }
     {
-        self.own.reserve(1)?;
-        let receipt = shared.apply(rt, &mut self.share, input)?;
+        self.lines.own.held.reserve(1)?;
+        let entered = shared.apply(rt, &mut self.share, input)?;
         self.count += 1;
-        let Ok(()) = self.own.push(receipt) else {
-            unreachable!()
-        };
+        self.lines.keep(entered);
         Ok(())
     }
 }
@@ -295,33 +288,5 @@ impl<L: Origin> Seat<L> {
 fn keep_later(headers: &mut LastHeaders, later: LastHeaders) {
     if !later.is_none() {
         *headers = later;
-    }
-}
-
-// Adds a list to these, unless it is empty. Takes no memory.
-fn add_list(lists: &mut Vec<Vec<Receipt>>, list: Vec<Receipt>)
-    requires { vec_len lists.old < vec_capacity lists.old }
-    ensures items { map (λ l. l.items) lists.new.items
-        ≡ map (λ l. l.items) lists.old.items ++ filled (list.items ∷ []) }
-    ensures room { vec_capacity lists.old ≤ vec_capacity lists.new }
-    ensures length { vec_len lists.new ≤ vec_len lists.old + 1 }
-{
-    if list.is_empty() {
-        return;
-    }
-    let Ok(()) = lists.push(list) else {
-        unreachable!()
-    };
-}
-
-// Adds a seat's lists to these, but the empty ones. Takes no memory.
-fn take_over(lists: &mut Vec<Vec<Receipt>>, own: Vec<Receipt>, joined: Vec<Vec<Receipt>>)
-    requires { vec_len lists.old + (vec_len joined + 1) ≤ vec_capacity lists.old }
-    ensures { map (λ l. l.items) lists.new.items
-        ≡ map (λ l. l.items) lists.old.items ++ filled (own.items ∷ map (λ l. l.items) joined.items) }
-{
-    add_list(lists, own);
-    for list in joined {
-        add_list(lists, list);
     }
 }

@@ -3,7 +3,7 @@ ghost use Rattle.std.specs.Prelude.{◌≡◌, ◌+◌, ◌<◌, ◌≤◌, IfEr
 ghost use Rattle.request_journal.specs.Input.{IsAsked};
 ghost use Rattle.request_journal.specs.declared.limits.TheConstants.{NUMBER_LIMIT};
 ghost use Rattle.request_journal.specs.Past.{Past, last_number};
-ghost use Rattle.shared_book.specs.Held.{all_lists, new_seat};
+ghost use Rattle.shared_book.specs.Held.{IsDropped, all_lists, new_seat};
 ghost use Rattle.shared_book.specs.Inner.Looked.{IsLooked};
 ghost use Rattle.shared_book.specs.Reached.{IsReached};
 ghost use Rattle.shared_book.specs.Receipts.{IsReceipt};
@@ -12,9 +12,9 @@ ghost use Rattle.shared_book.specs.Settled.{IsSettled, IsUnsettled};
 ghost use Rattle.stub_book.specs.Growth.{IsServed};
 
 use crate::book_read::{BookRead, Reading};
+use crate::entered::Entered;
 use crate::locked::Locked;
 use crate::origin::Origin;
-use crate::receipt::Receipt;
 use crate::seat::Seat;
 use crate::settled::{SettleRefusal, Settled};
 use request_journal::event_memory::EventMemory;
@@ -89,10 +89,12 @@ impl<L: Origin> SharedBook<L> {
         request: SharedRequest,
         parsed: &mut ParsedRequest<'_>,
         memory: EventMemory,
-    ) -> Result<Receipt, BookError>
+    ) -> Result<Entered, BookError>
         requires part { 0 < share.old.parts }
         requires read { parsed.old ≡ request }
-        ensures ok { IfOk result (λ receipt. IsServed request receipt.event × IsReceipt L.origin receipt) }
+        ensures ok { IfOk result
+            (λ entered. IsServed request entered.receipt.event × IsReceipt L.origin entered.receipt) }
+        ensures base { IfOk result (λ entered. IsDropped L.origin entered.base) }
         ensures why { IfErr result (λ error. IsServeRefused L.origin error.code) }
         ensures parts { share.new.parts ≡ share.old.parts }
         ensures entered { OnOk result
@@ -108,9 +110,11 @@ impl<L: Origin> SharedBook<L> {
         rt: &R,
         share: &mut Share<L>,
         input: BookInput,
-    ) -> Result<Receipt, BookError>
+    ) -> Result<Entered, BookError>
         requires { 0 < share.old.parts }
-        ensures ok { IfOk result (λ receipt. IsAsked input receipt.event × IsReceipt L.origin receipt) }
+        ensures ok { IfOk result
+            (λ entered. IsAsked input entered.receipt.event × IsReceipt L.origin entered.receipt) }
+        ensures base { IfOk result (λ entered. IsDropped L.origin entered.base) }
         ensures why { IfErr result (λ error. IsRefused L.origin input error.code) }
         ensures parts { share.new.parts ≡ share.old.parts }
         ensures entered { OnOk result

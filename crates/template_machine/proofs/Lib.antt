@@ -3,6 +3,7 @@ pub mod Escapes
 pub mod Loops
 pub mod ItemTurns
 pub mod Calls
+pub mod Pushes
 pub mod Formed
 pub mod Running
 pub mod NeedFacts

@@ -6,6 +6,7 @@ use crate::books;
 use crate::cleared::cleared;
 use crate::counted::counted;
 use crate::full::full;
+use crate::let_go::let_go;
 use crate::scripts::scripts;
 use crate::two_threads::two_threads;
 use crate::versions::versions;
@@ -29,6 +30,7 @@ pub enum Case {
     Scripts,
     Versions,
     Cleared,
+    LetGo,
     Answered,
     Counted,
     Full,
@@ -41,6 +43,7 @@ impl Case {
             Case::Scripts => "scripts: ",
             Case::Versions => "versions: ",
             Case::Cleared => "cleared: ",
+            Case::LetGo => "let go: ",
             Case::Answered => "answered: ",
             Case::Counted => "counted: ",
             Case::Full => "full: ",
@@ -102,6 +105,7 @@ fn play_case<L: Origin + Send + Sync, R: Threads + Wait + Sync>(
         Case::Scripts => scripts(rt, alloc, cells, shared, seat),
         Case::Versions => versions(rt, alloc, cells, shared, seat),
         Case::Cleared => cleared(rt, alloc, cells, shared, seat),
+        Case::LetGo => let_go(rt, alloc, cells, shared, seat),
         Case::Answered => answered(rt, alloc, cells, shared, seat),
         Case::Counted => counted(rt, alloc, cells, shared, seat),
         Case::Full => full(rt, alloc, cells, shared, seat),

@@ -1,4 +1,4 @@
-//! Events that a cleared journal dropped are counted, and not compared; and what may be read.
+//! Events that a cleared journal dropped are counted, and their receipts let go; and what may be read.
 
 use crate::books::Change;
 use crate::calls;

@@ -15,6 +15,7 @@ mod books;
 mod calls;
 mod cleared;
 mod first_waits;
+mod let_go;
 mod one_seat;
 mod outcomes;
 mod scripts;
@@ -46,6 +47,7 @@ fn main(rt: HostRuntime) -> io::Result<ExitCode> {
         Case::Scripts,
         Case::Versions,
         Case::Cleared,
+        Case::LetGo,
         Case::Answered,
         Case::Counted,
         Case::Full,

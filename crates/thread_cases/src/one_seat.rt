@@ -9,7 +9,7 @@ use shared_book::shared_book::SharedBook;
 use std::alloc::{AllocError, Global};
 use std::sync::Wait;
 
-/// Adds how many events there are, and a word for each.
+/// Adds how many events there are and how many receipts are held, and a word for each of these.
 pub fn settle_seat<L: Origin, R: Wait>(
     rt: &R,
     alloc: Global,
@@ -18,6 +18,18 @@ pub fn settle_seat<L: Origin, R: Wait>(
     seat: Seat<L>,
 ) -> Result<(), AllocError> {
     let seats = calls::list(alloc, seat)?;
+    settle_seats(rt, alloc, cells, shared, seats);
+    Ok(())
+}
+
+/// The same of seats that have all parts together.
+pub fn settle_seats<L: Origin, R: Wait>(
+    rt: &R,
+    alloc: Global,
+    cells: &mut Cells,
+    shared: SharedBook<L>,
+    seats: Vec<Seat<L>>,
+) {
     match calls::settled(rt, alloc, shared, seats) {
         Ok(settled) => {
             add_counts(cells, &settled);
@@ -26,5 +38,4 @@ pub fn settle_seat<L: Origin, R: Wait>(
         }
         Err(error) => add_refusal(cells, &error.reason, error.seats.len()),
     }
-    Ok(())
 }

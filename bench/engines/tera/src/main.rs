@@ -1,6 +1,7 @@
 //! Renders the templates of `bench/templates` by Tera, as often as it is told. `engine FILE`: the file has the cases as
-//! JSON. Lines on standard input are `text CASE`, answered by the rendered text as JSON, and `run CASE COUNT`, answered by
-//! the length of so many rendered texts. Templates are compiled before the first line is read.
+//! JSON. Lines on standard input are `text CASE`, answered by the rendered text as JSON, and `run CASE COUNT` and
+//! `alone CASE COUNT`, answered by the length of so many rendered texts: `alone` reads no body, but renders over data that
+//! were read before. Templates are compiled before the first line is read.
 use serde_json::{Map, Value};
 use std::collections::HashMap;
 use std::error::Error;
@@ -35,29 +36,43 @@ fn context(request: Value) -> tera::Result<Context> {
     Context::from_value(object("request", request))
 }
 
-/// A template's name, and what it is rendered with: the request's data as it was parsed, and its body's text, if any.
+/// A template's name, and what it is rendered with: the request's data as it was read, with its body's, and the body's
+/// text, if any.
 struct Case {
     name: String,
     context: Context,
     body: Option<String>,
 }
 
+/// What a template sees of a request with that body.
+fn context_of_body(body: &str) -> Result<Context, Box<dyn Error>> {
+    Ok(context(object("body", serde_json::from_str(body)?))?)
+}
+
 impl Case {
-    fn of(name: &str, case: &Value) -> tera::Result<Case> {
+    fn of(name: &str, case: &Value) -> Result<Case, Box<dyn Error>> {
+        let body = case["body"].as_str();
         Ok(Case {
             name: name.to_owned(),
-            context: context(case["request"].clone())?,
-            body: case["body"].as_str().map(str::to_owned),
+            context: match body {
+                Some(text) => context_of_body(text)?,
+                None => context(case["request"].clone())?,
+            },
+            body: body.map(str::to_owned),
         })
     }
 
     /// One rendering; it begins with the body's text, if there is one.
     fn render(&self, tera: &Tera) -> Result<String, Box<dyn Error>> {
-        let Some(body) = &self.body else {
-            return Ok(tera.render(&self.name, &self.context)?);
-        };
-        let request = object("body", serde_json::from_str(body)?);
-        Ok(tera.render(&self.name, &context(request)?)?)
+        match &self.body {
+            Some(body) => Ok(tera.render(&self.name, &context_of_body(body)?)?),
+            None => self.render_alone(tera),
+        }
+    }
+
+    /// One rendering over data that were read before.
+    fn render_alone(&self, tera: &Tera) -> Result<String, Box<dyn Error>> {
+        Ok(tera.render(&self.name, &self.context)?)
     }
 }
 
@@ -84,7 +99,10 @@ fn main() -> Result<(), Box<dyn Error>> {
         } else {
             let mut length = 0;
             for _ in 0..words[2].parse::<u64>()? {
-                length += case.render(&tera)?.len();
+                length += match words[0] {
+                    "alone" => case.render_alone(&tera)?.len(),
+                    _ => case.render(&tera)?.len(),
+                };
             }
             writeln!(out, "{length}")?;
         }

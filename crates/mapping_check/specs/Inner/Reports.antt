@@ -33,7 +33,8 @@ pub record IsChecked (escape : Escape) (values : List Data) (c : Checked) : Type
 
 -- what was reported of some values is reported of these more
 abbrev pub Adds : Escape → List Data → Checked → Checked → Type 0
-Adds escape more old new = (values : List Data) → IsChecked escape values old → IsChecked escape (values ++ more) new
+Adds escape more old new =
+    (values : List Data) → IsChecked escape values old → IsChecked escape (values ++ more) new
 
 -- the same of those of a document
 pub record AddsDocument (escape : Escape) (bytes : List ℕ) (old new : Checked) : Type 0 where

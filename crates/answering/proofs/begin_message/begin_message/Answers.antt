@@ -9,7 +9,7 @@ pub returns-in-Ok : goal.returns-in-Ok
 returns-in-Ok g c =
     of_request g.L.Origin.origin c.args.site.now.limits c.args.site.now.escape c.args.seat.now c.request_of.new.seat
     c.begin_request.new.seat c.args.message.now c.in-Ok.request c.begin_request.result c.request_of.ensures.same
-    c.in-Ok.ensures.received c.in-Ok.ensures.within c.begin_request.ensures
+    c.in-Ok.ensures.received c.in-Ok.ensures.within c.law_names.ensures c.begin_request.ensures
 
 pub returns-in_ok-response-in-Err : goal.returns-in_ok-response-in-Err
 returns-in_ok-response-in-Err g c =

@@ -11,8 +11,8 @@ invariant-are_equal-loop-i l =
     are_equal l.flags (items_view l.fn.expected.items) (items_view l.actual.items)
     ≡ are_equal l.flags (items_view (drop l.i l.item-items)) (items_view (drop l.i l.actual.items))
 
-abbrev pub invariant-are_equal_in_any_order-loop-item : goal.invariant-are_equal_in_any_order-loop-item
-invariant-are_equal_in_any_order-loop-item l = record {
+abbrev pub invariant-each_takes_one-loop-item : goal.invariant-each_takes_one-loop-item
+invariant-each_takes_one-loop-item l = record {
   counted : vec_len l.taken ≡ vec_len l.actual;
   left : each_takes_one l.flags (items_view l.fn.expected.items) (items_view l.actual.items)
       ≡ each_takes_one l.flags (items_view (drop l.item-index l.item-items))

@@ -3,5 +3,10 @@ use Rattle.proxy_client.proofs.forwarder.ForwarderForwards.exchange.Goals as goa
 
 pub returns-clause-sends : goal.returns-clause-sends
 returns-clause-sends g c = IfOk-weaker c.connect.result _ _
-    (λ exchange (connecting, start, stage, sent, turns). (connecting, start, stage, sent))
+    (λ exchange (connecting, start, stage, sent, builder, turns). (connecting, start, stage, sent))
+    c.connect.ensures.start
+
+pub returns-clause-reaches : goal.returns-clause-reaches
+returns-clause-reaches g c = IfOk-weaker c.connect.result _ _
+    (λ exchange start. (c.address_of.result, c.address_of.ensures, c.is_own.ensures.elsewhere c.if-is_own.false))
     c.connect.ensures.start

@@ -1,24 +1,28 @@
-use Rattle.std.proofs.Common.{◌≡◌, ◌+◌, ◌<◌, ◌∷◌, ◌++◌, List, Vec, Global, arith, ap, ◌∙◌}
-use Rattle.std.proofs.Common.{sym, map, length, rules}
-use Rattle.shared_book.proofs.HeldLemmas.{receipts_joined}
-use Rattle.shared_book.specs.Held.{filled, receipts_of}
-use Rattle.shared_book.specs.declared.receipt.Receipt.{Receipt}
+use Rattle.std.proofs.Common.{◌≡◌, ◌+◌, ◌≤◌, ◌∷◌, ◌++◌, ℕ, List, arith, ap, subst, map, length, refl, rules}
+use Rattle.std.specs.List.{AllZip}
+use Rattle.shared_book.proofs.HeldLemmas.{count_joined}
+use Rattle.shared_book.proofs.LetGoLemmas.{dropped_either, let_go_joined}
+use Rattle.shared_book.specs.Held.{Held, HasLetGo, LetsGo, all_numbers, filled, with_seat}
+use Rattle.shared_book.specs.Inner.Seat.{line_of}
+use Rattle.shared_book.specs.Receipts.{Line}
 use Rattle.shared_book.proofs.seat.Seat.join.Goals as goal
 
 pub invariant_of-self-2 : goal.invariant_of-self-2
 invariant_of-self-2 g c =
     let mine = c.self.invariant in
     let others = c.other.invariant in
-    let lists : List (List Receipt) = map (λ (v : Vec Receipt Global). v.items) c.self.inside.joined.items in
-    let other : List (List Receipt) =
-    c.other.inside.own.items ∷ map (λ (v : Vec Receipt Global). v.items) c.other.inside.joined.items in
-    let new : List (List Receipt) = map (λ (v : Vec Receipt Global). v.items) c.take_over.new.lists.items in
-    let same : map (λ (v : Vec Receipt Global). v.items) c.reserve.new.self.items ≡ lists =
-    ap (λ (l : List (Vec Receipt Global)). map (λ (v : Vec Receipt Global). v.items) l) c.reserve.ensures.items in
-    let all : length (receipts_of (c.self.inside.own.items ∷ new))
-    ≡ length (receipts_of (c.self.inside.own.items ∷ lists)) + length (receipts_of other) =
-    receipts_joined lists other new c.self.inside.own.items
-    (c.take_over.ensures ∙ ap (λ (l : List (List Receipt)). l ++ filled other) same) in
+    let last : ℕ = c.take_over.new.self.told in
+    let lines : List Line = map line_of c.self.inside.lines.joined.items in
+    let other : List Line =
+    line_of c.other.inside.lines.own ∷ map line_of c.other.inside.lines.joined.items in
+    let new : List Line = map line_of c.take_over.new.self.joined.items in
+    let joined : AllZip (LetsGo (λ n. n ≤ last)) (lines ++ filled other) new =
+    subst (λ (ls : List Line). AllZip (LetsGo (λ n. n ≤ last)) (ls ++ filled other) new)
+    (ap (map line_of) c.reserve.ensures.items) c.take_over.ensures.joined in
+    let all : length (all_numbers (line_of c.take_over.new.self.own ∷ new))
+    ≡ length (all_numbers (line_of c.self.inside.lines.own ∷ lines)) + length (all_numbers other) =
+    count_joined (λ n. n ≤ last) (line_of c.self.inside.lines.own) (line_of c.take_over.new.self.own) lines other new
+    c.take_over.ensures.own joined in
     let sum : c.in-Some.count ≡ c.self.inside.count + c.other.inside.count = search rules in
     record {
       same_parts = omega (arith, mine.same_parts, others.same_parts, c.merge.ensures.parts);
@@ -26,4 +30,34 @@ invariant_of-self-2 g c =
       fits = mine.fits;
       same_count = omega (arith, mine.same_count, others.same_count, c.merge.ensures.amount, sum);
       counted = omega (arith, mine.counted, others.counted, all, sum);
+      dropped = dropped_either g.L.Origin.origin c.self.inside.lines.told c.other.inside.lines.told last
+          mine.dropped others.dropped c.take_over.ensures.told;
     }
+
+pub returns-clause-ok : goal.returns-clause-ok
+returns-clause-ok g c =
+    let last : ℕ = c.take_over.new.self.told in
+    let seat : Held = record {
+      parts = c.self.inside.parts;
+      own = line_of c.self.inside.lines.own;
+      joined = map line_of c.self.inside.lines.joined.items;
+    } in
+    let other : Held = record {
+      parts = c.other.inside.parts;
+      own = line_of c.other.inside.lines.own;
+      joined = map line_of c.other.inside.lines.joined.items;
+    } in
+    let new : Held = record {
+      parts = c.self.inside.parts + c.other.inside.parts;
+      own = line_of c.take_over.new.self.own;
+      joined = map line_of c.take_over.new.self.joined.items;
+    } in
+    subst (λ (s : Held). HasLetGo g.L.Origin.origin (with_seat s c.args.other) new) c.self.view_is
+    (subst (λ (o : Held). HasLetGo g.L.Origin.origin (with_seat seat o) new) c.other.view_is
+    (let_go_joined g.L.Origin.origin last seat other new
+    (dropped_either g.L.Origin.origin c.self.inside.lines.told c.other.inside.lines.told last
+    c.self.invariant.dropped c.other.invariant.dropped c.take_over.ensures.told)
+    refl c.take_over.ensures.own
+    (subst (λ (ls : List Line).
+    AllZip (LetsGo (λ n. n ≤ last)) (ls ++ filled (other.own ∷ other.joined)) new.joined)
+    (ap (map line_of) c.reserve.ensures.items) c.take_over.ensures.joined)))

@@ -1,0 +1,64 @@
+// A journal that the server itself clears once it shows as many requests as it may.
+use crate::gained::gained;
+use request_journal::event::Event;
+use request_journal::input::BookInput;
+use shared_book::origin::Origin;
+use shared_book::receipt::Receipt;
+use shared_book::seat::Seat;
+use shared_book::shared_book::SharedBook;
+use std::sync::{Mutex, Wait};
+
+/// How many requests the journal shows at most, if there is a limit, and how many it shows. The count has a lock of
+/// its own, since the calls of all connections are counted.
+#[derive(Drop)]
+pub struct JournalLimit {
+    limit: Option<u64>,
+    shown: Mutex<u64>,
+}
+
+impl JournalLimit {
+    /// The limit of a journal that shows no request.
+    pub fn new(limit: Option<u64>) -> JournalLimit {
+        JournalLimit {
+            limit,
+            shown: Mutex::new(0),
+        }
+    }
+
+    /// Counts what the seat has gained since its last receipt had that number. At the limit it clears the journal, by
+    /// the same call as a client would. Where that is refused, it tries again after the next request.
+    pub(crate) fn keep<L: Origin, R: Wait>(
+        &self,
+        rt: &R,
+        book: &SharedBook<L>,
+        seat: &mut Seat<L>,
+        before: Option<u64>,
+    ) {
+        let Some(limit) = self.limit else { return };
+        let shown = self.count(rt, gained(seat, before));
+        if shown == 0 || shown < limit {
+            return;
+        }
+        if seat.apply(rt, book, BookInput::ClearJournal).is_ok() {
+            *self.shown.lock(rt) = 0;
+        }
+    }
+
+    // How many requests the journal shows after that receipt.
+    fn count<R: Wait>(&self, rt: &R, gained: Option<&Receipt>) -> u64 {
+        let mut shown = self.shown.lock(rt);
+        if let Some(receipt) = gained {
+            *shown = shown_after(*shown, receipt.event.event());
+        }
+        *shown
+    }
+}
+
+// How many requests the journal shows after the event, where it showed that many before it.
+fn shown_after(shown: u64, event: &Event) -> u64 {
+    match event {
+        Event::Serve { .. } => shown.saturating_add(1),
+        Event::ClearJournal | Event::ResetAll => 0,
+        _ => shown,
+    }
+}

@@ -1,0 +1,56 @@
+// What is told of messages once they are answered.
+use answering::content::Content;
+use bytes::Bytes;
+use http::{Request, Response};
+use mock_request::snapshot::Snapshot;
+use shared_book::receipt::Receipt;
+use std::alloc::Global;
+use std::sync::Wait;
+
+/// Is told how messages are answered, outside of the book's lock and before the answer is sent. So it shouldn't take
+/// long.
+pub trait Log {
+    /// A message was answered at once. The receipt is that of the event that it made, if it made one.
+    fn answered<R: Wait>(
+        &self,
+        rt: &R,
+        alloc: Global,
+        message: &Request<Bytes>,
+        receipt: Option<&Receipt>,
+        response: &Response<Content>,
+    );
+
+    /// A request that was forwarded, and whose event has this number, was answered with this status.
+    fn forwarded<R: Wait>(
+        &self,
+        rt: &R,
+        alloc: Global,
+        number: u64,
+        request: &Snapshot,
+        status: u16,
+    );
+}
+
+/// Nothing is told.
+#[derive(Clone, Copy, Debug, Drop)]
+pub struct NoLog;
+
+impl Log for NoLog {
+    fn answered<R: Wait>(
+        &self,
+        _rt: &R,
+        _alloc: Global,
+        _message: &Request<Bytes>,
+        _receipt: Option<&Receipt>,
+        _response: &Response<Content>,
+    ) {}
+
+    fn forwarded<R: Wait>(
+        &self,
+        _rt: &R,
+        _alloc: Global,
+        _number: u64,
+        _request: &Snapshot,
+        _status: u16,
+    ) {}
+}

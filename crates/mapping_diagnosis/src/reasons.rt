@@ -1,0 +1,92 @@
+// Why a text isn't what it is meant to be, in the words of what reads it.
+use crate::shown::{joined, quoted};
+use error_code::error_code::ErrorCode;
+use itoa::Buffer;
+use regex::Regex;
+use serde_json::Value;
+use std::alloc::{AllocError, Global};
+use template_machine::error::ProgramError;
+use template_machine::program::Program;
+
+/// Why bytes aren't JSON, with the line and the column.
+pub(crate) fn json_reason(alloc: Global, bytes: &[u8]) -> Result<Option<String>, AllocError> {
+    match Value::from_slice(alloc, bytes) {
+        Ok(_value) => Ok(None),
+        Err(error) => if error.is_memory() {
+            Err(AllocError)
+        } else {
+            let mut reason = format!(in alloc; "{error}")?;
+            reason.push_str(json_hint(bytes))?;
+            Ok(Some(reason))
+        },
+    }
+}
+
+/// What line and column don't show.
+fn json_hint(bytes: &[u8]) -> &'static str {
+    if bytes.starts_with(&[0xef, 0xbb, 0xbf]) {
+        ", for the text begins with a byte order mark"
+    } else if str::from_utf8(bytes).is_err() {
+        ", for the text isn't UTF-8"
+    } else {
+        ""
+    }
+}
+
+/// Why a text is no regular expression.
+pub(crate) fn pattern_reason(alloc: Global, text: &str) -> Result<Option<String>, AllocError> {
+    match Regex::new(alloc, text) {
+        Ok(_regex) => Ok(None),
+        Err(regex::Error::OutOfMemory) => Err(AllocError),
+        Err(error) => Ok(Some(format!(in alloc; "{error}")?)),
+    }
+}
+
+/// Why a text is no template, with the offset of the tag and its text. How a template's prints are escaped has no part
+/// in which error it has.
+pub(crate) fn template_reason(alloc: Global, text: &str) -> Result<Option<String>, AllocError> {
+    match Program::from_text(alloc, text) {
+        Ok(_program) => Ok(None),
+        Err(ProgramError::OutOfMemory) => Err(AllocError),
+        Err(error) => Ok(Some(placed(alloc, text, &error)?)),
+    }
+}
+
+fn placed(alloc: Global, text: &str, error: &ProgramError) -> Result<String, AllocError> {
+    let title = title_of(error.error_code());
+    let Some(at) = error.at() else {
+        return String::from_str(alloc, title);
+    };
+    let mut digits = Buffer::new();
+    let offset = digits.format(at);
+    match text.get(at..) {
+        Some(rest) => {
+            let tag = quoted(alloc, tag_of(rest))?;
+            joined(
+                alloc,
+                [title, ", at byte ", offset, ", in ", tag.as_str()].as_slice(),
+            )
+        }
+        None => joined(alloc, [title, ", at byte ", offset].as_slice()),
+    }
+}
+
+fn title_of(code: ErrorCode) -> &'static str {
+    match code {
+        ErrorCode::UnclosedTag => {
+            "unclosed tag (there is no }}, or a quotation mark, or the {{/..}} of a block is missing)"
+        }
+        code => code.title(),
+    }
+}
+
+/// The tag at the start of the text.
+fn tag_of(text: &str) -> &str {
+    match text.find("}}") {
+        Some(at) => match text.get(..at.saturating_add(2)) {
+            Some(tag) => tag,
+            None => text,
+        },
+        None => text,
+    }
+}

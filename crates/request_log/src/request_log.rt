@@ -1,0 +1,214 @@
+// What is told of requests.
+use crate::lines::Lines;
+use crate::request_line::request_line;
+use admin_table::route::{Route, is_admin, route_of};
+use bytes::Bytes;
+use http::Request;
+use mapping_diagnosis::notes::Notes;
+use mapping_diagnosis::shown::{cut, quoted};
+use mapping_json::error::MappingError;
+use mapping_json::read::read_mapping_with;
+use mapping_json::read_request::read_request;
+use mock_request::snapshot::Snapshot;
+use request_journal::event::{Event, ServeAnswer};
+use request_journal::mapping::Mapping;
+use std::alloc::{AllocError, Global};
+use std::sync::{Arc, Wait};
+use template_tree::escape::Escape;
+
+/// How many characters of a method and of a URL are told.
+const SHOWN: usize = 1000;
+
+/// Tells of requests by lines that another thread writes.
+#[derive(Drop)]
+pub struct RequestLog {
+    lines: Arc<Lines>,
+    /// Whether it tells of each request, or of admin calls alone that were refused or have warnings.
+    is_verbose: bool,
+    /// How the prints of the templates of posted mappings are escaped.
+    escape: Escape,
+}
+
+impl RequestLog {
+    pub fn new(lines: Arc<Lines>, is_verbose: bool, escape: Escape) -> RequestLog {
+        RequestLog {
+            lines,
+            is_verbose,
+            escape,
+        }
+    }
+
+    /// Tells of a message that was answered with this status, and with this body if that is there as a whole. The event
+    /// with its number is the one that it made, if it made one.
+    pub fn answered<R: Wait>(
+        &self,
+        rt: &R,
+        alloc: Global,
+        message: &Request<Bytes>,
+        event: Option<(u64, &Event)>,
+        status: u16,
+        body: Option<&[u8]>,
+    ) {
+        let is_call = is_admin(message.uri().path());
+        if !self.is_verbose && !is_call {
+            return;
+        }
+        if self.is_verbose {
+            let line = line_of(alloc, message, event, is_call, status);
+            self.add(rt, line);
+        }
+        if is_call {
+            let notes = call_notes(alloc, message, status, body, self.escape);
+            self.add(rt, notes);
+        }
+    }
+
+    /// Tells of a request that was forwarded, and whose event has this number.
+    pub fn forwarded<R: Wait>(
+        &self,
+        rt: &R,
+        alloc: Global,
+        number: u64,
+        request: &Snapshot,
+        status: u16,
+    ) {
+        if self.is_verbose {
+            let line = forwarded_line(alloc, number, request, status);
+            self.add(rt, line);
+        }
+    }
+
+    // What there is no memory for isn't told.
+    fn add<R: Wait>(&self, rt: &R, told: Result<String, AllocError>) {
+        if let Ok(text) = told {
+            if !text.is_empty() {
+                self.lines.add(rt, text.as_str());
+            }
+        }
+    }
+}
+
+fn forwarded_line(
+    alloc: Global,
+    number: u64,
+    request: &Snapshot,
+    status: u16,
+) -> Result<String, AllocError> {
+    let method = cut(alloc, request.method(), SHOWN)?;
+    let url = cut(alloc, request.url(), SHOWN)?;
+    request_line(
+        alloc,
+        Some(number),
+        method.as_str(),
+        url.as_str(),
+        "proxied",
+        status,
+    )
+}
+
+fn line_of(
+    alloc: Global,
+    message: &Request<Bytes>,
+    event: Option<(u64, &Event)>,
+    is_call: bool,
+    status: u16,
+) -> Result<String, AllocError> {
+    let method = cut(alloc, message.method().as_str(), SHOWN)?;
+    let target = message.uri().to_string(alloc)?;
+    let url = cut(alloc, target.as_str(), SHOWN)?;
+    let (number, answerer) = match event {
+        Some((number, event)) => (Some(number), answerer_of(alloc, event)?),
+        None => (
+            None,
+            String::from_str(alloc, if is_call { "admin" } else { "refused" })?,
+        ),
+    };
+    request_line(
+        alloc,
+        number,
+        method.as_str(),
+        url.as_str(),
+        answerer.as_str(),
+        status,
+    )
+}
+
+// By what a request was answered that made this event.
+fn answerer_of(alloc: Global, event: &Event) -> Result<String, AllocError> {
+    let Event::Serve {
+        request: _request,
+        answer,
+    } = event
+    else {
+        return String::from_str(alloc, "admin");
+    };
+    match answer {
+        ServeAnswer::Stub(captured) => mapping_text(alloc, &captured.mapping),
+        ServeAnswer::Proxy(_target) => String::from_str(alloc, "proxied"),
+        ServeAnswer::Unmatched => String::from_str(alloc, "unmatched"),
+    }
+}
+
+// The id of the mapping, and its name, if it has one.
+fn mapping_text(alloc: Global, mapping: &Mapping) -> Result<String, AllocError> {
+    let mut text = mapping.id.hyphenated(alloc)?;
+    if let Some(name) = &mapping.spec.spec().name {
+        text.push_str(" ")?;
+        text.push_str(quoted(alloc, name.as_str())?.as_str())?;
+    }
+    Ok(text)
+}
+
+// Why an admin call was refused, and what there is to say of a document that was posted with it. Not inlined: a
+// function clears all its locals when it is entered, and most requests need none of these.
+#[inline(never)]
+fn call_notes(
+    alloc: Global,
+    message: &Request<Bytes>,
+    status: u16,
+    body: Option<&[u8]>,
+    escape: Escape,
+) -> Result<String, AllocError> {
+    let method = message.method().as_str();
+    let path = message.uri().path();
+    let call = call_of(alloc, method, path)?;
+    let is_refused = status >= 400;
+    let mut notes = Notes::new(alloc);
+    if is_refused {
+        notes.add_refusal(alloc, call.as_str(), body.unwrap_or(b""))?;
+    }
+    let posted = message.body().as_slice();
+    match route_of(method, path) {
+        Some(Route::AddMapping) | Some(Route::EditMapping(_)) => {
+            let error = mapping_error(alloc, posted, is_refused, escape);
+            notes.add_posted(alloc, call.as_str(), posted, error)?;
+        }
+        Some(Route::FindRequests) | Some(Route::CountRequests) if is_refused => {
+            let error = read_request(alloc, posted).err();
+            notes.add_matcher(alloc, call.as_str(), posted, error)?;
+        }
+        _ => {}
+    }
+    Ok(notes.into_string())
+}
+
+fn call_of(alloc: Global, method: &str, path: &str) -> Result<String, AllocError> {
+    let mut call = cut(alloc, method, SHOWN)?;
+    call.push_str(" ")?;
+    call.push_str(cut(alloc, path, SHOWN)?.as_str())?;
+    Ok(call)
+}
+
+// What is wrong with a posted mapping. One that was taken isn't read again.
+fn mapping_error(
+    alloc: Global,
+    posted: &[u8],
+    is_refused: bool,
+    escape: Escape,
+) -> Option<MappingError> {
+    if is_refused {
+        read_mapping_with(alloc, posted, escape).err()
+    } else {
+        None
+    }
+}

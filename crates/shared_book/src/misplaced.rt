@@ -1,0 +1,79 @@
+// What one list of receipts shows by itself.
+ghost use Rattle.std.specs.Prelude.{◌≡◌, ◌<◌, All, Any, Contains, MatchOption, map};
+ghost use Rattle.shared_book.specs.Held.{all_lists, lists};
+ghost use Rattle.shared_book.specs.Inner.Misplaced.{IsMisplaced, IsWellPlaced};
+ghost use Rattle.shared_book.specs.Inner.Seat.{line_of};
+ghost use Rattle.shared_book.specs.Receipts.{Falls, IsRising, LetGoAbove, LetGoUpTo};
+
+use crate::origin::Origin;
+use crate::receipt_list::ReceiptList;
+use crate::seat::Seat;
+
+/// A number that isn't above the one before it in a list of these seats, or that is above `last` and whose event a list
+/// has let go of, if there is one.
+pub(crate) fn misplaced<L: Origin>(seats: &[Seat<L>], last: u64) -> Option<u64>
+    ensures { MatchOption result
+        (All (IsWellPlaced last) (all_lists seats.now)) (λ n. Any (IsMisplaced last n) (all_lists seats.now)) }
+{
+    for seat in seats {
+        if let Some(number) = misplaced_in_seat(seat, last) {
+            return Some(number);
+        }
+    }
+    None
+}
+
+fn misplaced_in_seat<L: Origin>(seat: &Seat<L>, last: u64) -> Option<u64>
+    ensures { MatchOption result
+        (All (IsWellPlaced last) (lists seat.now)) (λ n. Any (IsMisplaced last n) (lists seat.now)) }
+{
+    match misplaced_in_list(&seat.lines.own, last) {
+        Some(number) => Some(number),
+        None => misplaced_in_lists(seat.lines.joined.as_slice(), last),
+    }
+}
+
+fn misplaced_in_lists(lists: &[ReceiptList], last: u64) -> Option<u64>
+    ensures { MatchOption result
+        (All (IsWellPlaced last) (map line_of lists.now)) (λ n. Any (IsMisplaced last n) (map line_of lists.now)) }
+{
+    for list in lists {
+        if let Some(number) = misplaced_in_list(list, last) {
+            return Some(number);
+        }
+    }
+    None
+}
+
+fn misplaced_in_list(list: &ReceiptList, last: u64) -> Option<u64>
+    ensures { MatchOption result
+        (IsWellPlaced last (line_of list.now)) (λ n. IsMisplaced last n (line_of list.now)) }
+{
+    match fall(list) {
+        Some(number) => Some(number),
+        None => let_go_above(list, last),
+    }
+}
+
+fn fall(list: &ReceiptList) -> Option<u64>
+    ensures { MatchOption result (IsRising (line_of list.now)) (λ n. Falls n (line_of list.now)) }
+{
+    for i in 1..list.len() {
+        let number = list.number_at(i);
+        if number <= list.number_at(i - 1) {
+            return Some(number);
+        }
+    }
+    None
+}
+
+fn let_go_above(list: &ReceiptList, last: u64) -> Option<u64>
+    ensures { MatchOption result (LetGoUpTo last (line_of list.now)) (λ n. LetGoAbove last n (line_of list.now)) }
+{
+    for number in list.let_go.as_slice() {
+        if *number > last {
+            return Some(*number);
+        }
+    }
+    None
+}
