@@ -4,7 +4,7 @@
 // Values, the data of requests, and helpers.
 mod error_codes;
 mod helpers;
-mod json;
+mod json_texts;
 mod requests;
 mod values;
 

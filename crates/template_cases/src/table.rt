@@ -1,6 +1,8 @@
 //! The tables, and which call each of them is about.
 
-use crate::{code, error_codes, helpers, json, programs, requests, templates, values, writes};
+use crate::{
+    code, error_codes, helpers, json_texts, programs, requests, templates, values, writes,
+};
 use case_table::compare::CaseTable;
 use case_table::row::Row;
 use std::alloc::{AllocError, Global};
@@ -76,8 +78,8 @@ impl CaseTable for Table {
             Table::Lookups => values::found(alloc, row.cell(0), row.cell(1)),
             Table::Items => values::item(alloc, row.cell(0), row.cell(1)),
             Table::Roots => values::root_size(alloc, row.cell(0)),
-            Table::Texts => json::value_of_text(alloc, row.cell(0)),
-            Table::Paths => json::steps_of_path(alloc, row.cell(0)),
+            Table::Texts => json_texts::value_of_text(alloc, row.cell(0)),
+            Table::Paths => json_texts::steps_of_path(alloc, row.cell(0)),
             Table::Parts => requests::part(alloc, row),
             Table::Printed => requests::printed_part(alloc, row),
             Table::Bindings => requests::bindings(alloc, row),
