@@ -9,9 +9,8 @@ use Rattle.admin_json.specs.Plain.{HasNoJson, IsNotJson, IsPlain}
 use Rattle.admin_json.specs.Recordings.{json_of_recorded}
 use Rattle.admin_json.specs.Written.{json_of_count, json_of_meta, only_member}
 use Rattle.admin_json.proofs.Regular.{IsRegular, AreRegular, FitsWord, has_put, is_whole, ordered_put, plain}
-use Rattle.json_match.specs.declared.json_spec.JsonSpec.{JsonSpec}
 use Rattle.json_match.specs.declared.json_spec.JsonSpec.TheVariants as json
-use Rattle.json_reading.specs.Written.{with_field, with_flag, unless_empty}
+use Rattle.json_reading.specs.Written.{with_field, with_flag}
 use Rattle.mapping_json.specs.Writing.{json_of_id, json_of_mapping, json_of_priority, with_names, with_scenario}
 use Rattle.mapping_model.specs.declared.body_pattern.BodyPattern.{BodyPattern}
 use Rattle.mapping_model.specs.declared.body_pattern.BodyPattern.TheVariants as pattern
@@ -27,13 +26,12 @@ use Rattle.mapping_model.specs.declared.scenario_spec.ScenarioSpec.{ScenarioSpec
 use Rattle.mapping_model.specs.declared.url_spec.UrlSpec.{UrlSpec}
 use Rattle.mapping_model.specs.declared.url_spec.UrlSpec.TheVariants as url
 use Rattle.request_journal.specs.declared.mapping.Mapping.{Mapping}
-use Rattle.request_json.specs.BodyWritten.{json_of_pattern, with_expected, with_pattern, written_expected}
+use Rattle.request_json.specs.BodyWritten.{json_of_pattern, with_pattern, written_expected}
 use Rattle.request_json.specs.RequestWritten.{json_of_body, json_of_named, json_of_request, with_named, with_url}
 use Rattle.request_json.specs.ValueWritten.{with_value}
 use Rattle.response_json.specs.Reading.{Line}
 use Rattle.response_json.specs.Writing as response
-use Rattle.serde_json.specs.Data.{Num, unsigned, Data, boolean, number, string, array, object, Members, no_members, put}
-use Rattle.serde_json.specs.Find.{of_integer}
+use Rattle.serde_json.specs.Data.{Num, unsigned, Data, boolean, number, string, object, Members, no_members, put}
 use Rattle.serde_json.specs.View.{items_of}
 use Rattle.serde_json.specs.Written.{has_float}
 use Rattle.template_tree.specs.Source.{Source}

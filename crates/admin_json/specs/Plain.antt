@@ -1,5 +1,5 @@
 -- Mappings in whose JSON each number is whole: their response has no `jsonBody`, which may have any number.
-use Rattle.std.specs.Prelude.{ℕ, ◌<◌, ◌^◌, IfSome, nat_abs}
+use Rattle.std.specs.Prelude.{◌<◌, ◌^◌, IfSome, nat_abs}
 use Rattle.mapping_model.specs.declared.response_spec.Body.{Body}
 use Rattle.mapping_model.specs.declared.response_spec.Body.TheVariants as body
 use Rattle.mapping_model.specs.declared.response_spec.Content.{Content}
