@@ -23,6 +23,10 @@ mod threads;
 mod two_threads;
 mod versions;
 
+// Connections that break off.
+mod broken;
+mod nowhere;
+
 // Messages that are answered over shared books, also by two threads.
 mod answered;
 mod answers;
@@ -32,6 +36,7 @@ mod message_threads;
 mod messages;
 mod no_clock;
 
+use broken::{Peer, broken};
 use case_table::compare::compare_all;
 use cases::{Case, play};
 use std::alloc::{AllocError, Global};
@@ -40,6 +45,7 @@ use std::process::ExitCode;
 use std::sync::Wait;
 use std::thread::Threads;
 use table::Schedules;
+use tokio::runtime::LocalRuntime;
 
 fn main(rt: HostRuntime) -> io::Result<ExitCode> {
     for case in [
@@ -55,6 +61,21 @@ fn main(rt: HostRuntime) -> io::Result<ExitCode> {
     .as_slice()
     {
         let line = play_again(&rt, rt.alloc(), *case)?;
+        println!(rt; "{line}")?;
+    }
+    let mut runtime = LocalRuntime::new(&rt)?;
+    for peer in [
+        Peer::Pieces,
+        Peer::StopsSending,
+        Peer::FallsSilent,
+        Peer::StopsTaking,
+        Peer::FailingReads,
+        Peer::FailingWrites,
+        Peer::Turns,
+    ]
+    .as_slice()
+    {
+        let line = broken(&rt, rt.alloc(), &mut runtime, *peer)?;
         println!(rt; "{line}")?;
     }
     compare_all(&rt, &[Schedules])
