@@ -1,8 +1,10 @@
-//! Compares what books and scenarios do with the tables in `data/`.
+//! Compares what mapping documents, requests, recordings, scenarios and books give with the tables in `data/`.
 #![tactic(auto)]
 
 // The tables.
 mod books;
+mod documents;
+mod recorded;
 mod scenarios;
 mod table;
 
@@ -19,5 +21,25 @@ use std::process::ExitCode;
 use table::Table;
 
 fn main(rt: HostRuntime) -> io::Result<ExitCode> {
-    compare_all(&rt, [Table::Scenarios, Table::Books].as_slice())
+    compare_all(
+        &rt,
+        [
+            Table::Requests,
+            Table::NamedValues,
+            Table::SameTemplates,
+            Table::Documents,
+            Table::Literals,
+            Table::Ready,
+            Table::Groups,
+            Table::Targets,
+            Table::RecordingCalls,
+            Table::Exchanges,
+            Table::Keys,
+            Table::Recordings,
+            Table::Hars,
+            Table::Scenarios,
+            Table::Books,
+        ]
+        .as_slice(),
+    )
 }

@@ -3,20 +3,17 @@ ghost use Rattle.std.specs.Prelude.{◌≡◌, IfSome};
 
 use crate::answers::Answers;
 use crate::connection_task::ConnectionTask;
-use crate::connects::Connects;
+use crate::connects::{Connects, connection};
 use crate::pause::Pause;
 use crate::seat_pool::{Assignment, SeatPool};
 use crate::seat_slot::SeatSlot;
 use crate::service::MessageService;
 use crate::settings::Settings;
-use crate::watched::Watched;
 use futures::task::{Context, Poll};
 use futures::{Future, Stream, ready};
 use std::alloc::AllocGlobal;
-use std::cell::Cell;
 use std::io;
 use std::io::ErrorKind;
-use std::rc::Rc;
 use std::sync::{Arc, Wait};
 use std::time::Clock;
 use tokio::net::{TcpListener, TcpStream};
@@ -99,29 +96,22 @@ where
     // The connection of a socket, whose requests are answered by the seat of the slot; `None` where there is no memory.
     fn connection<F>(&self, socket: TcpStream, slot: &Arc<SeatSlot<A>>) -> Option<F>
     where
-        M: Connects<MessageService<R, A>, Connection = F>,
+        M: Connects<TcpStream, MessageService<R, A>, Connection = F>,
         requires { (service : _) → M.can_connect self.now.connects service }
-        ensures { IfSome result (M.makes self.now.connects) }
+        ensures { IfSome result (M.makes self.now.connects socket) }
     {
         // Answers are written whole, so there is nothing to wait for.
         let _ = socket.set_nodelay(true);
-        let begun = Rc::new(self.rt.alloc(), Cell::new(false)).ok()?;
-        let service = MessageService::new(
-            self.rt,
-            Arc::try_clone(slot).ok()?,
-            self.pause.timers().clone().ok()?,
-            begun.clone().ok()?,
-        );
-        self.connects.connect(Watched::new(socket, begun), service)
+        connection(self.rt, &self.connects, self.pause.timers(), slot, socket)
     }
 
     // The task that serves the connection; `None` where it is closed at once.
     fn task<F>(&mut self, socket: TcpStream) -> Option<ConnectionTask<R, A, F>>
     where
-        M: Connects<MessageService<R, A>, Connection = F>,
+        M: Connects<TcpStream, MessageService<R, A>, Connection = F>,
         F: Future<Output = hyper::Result<()>>,
         requires can_connect { (service : _) → M.can_connect self.old.connects service }
-        requires makes { (made : F) → M.makes self.old.connects made → F.can_poll made }
+        requires makes { (io : _) (made : F) → M.makes self.old.connects io made → F.can_poll made }
         ensures can_poll { IfSome result (λ task. F.can_poll task.connection.value) }
         ensures same { self.new.connects ≡ self.old.connects }
     {
@@ -140,13 +130,13 @@ impl<R, A, M, F> Stream for Accepting<R, A, M>
 where
     R: Wait + Clock + AllocGlobal + Copy + Drop,
     A: Answers,
-    M: Connects<MessageService<R, A>, Connection = F>,
+    M: Connects<TcpStream, MessageService<R, A>, Connection = F>,
     F: Future<Output = hyper::Result<()>>,
 {
     type Item = ConnectionTask<R, A, F>;
 
     ghost can_poll = { λ accepting. ((service : _) → M.can_connect accepting.connects service)
-        × ((made : F) → M.makes accepting.connects made → F.can_poll made) };
+        × ((io : _) (made : F) → M.makes accepting.connects io made → F.can_poll made) };
 
     ghost yields = { λ _ _ last. IfSome last (λ task. F.can_poll task.connection.value) };
 

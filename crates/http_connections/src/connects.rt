@@ -1,72 +1,145 @@
-// What makes a connection of a socket.
-ghost use Rattle.std.specs.Prelude.{IfSome, ⊤};
+// What makes a connection of a reader and writer.
+ghost use Rattle.std.specs.Prelude.{◌≡◌, IfOk, IfSome, ⊤};
+ghost use Rattle.http_connections.specs.Turns.{IsOver};
 ghost use Rattle.hyper.specs.ServerDispatch.{Runs};
 
+use crate::answers::Answers;
+use crate::seat_slot::SeatSlot;
+use crate::service::MessageService;
 use crate::watched::{HeadTimer, Watched};
 use bytes::Bytes;
 use http::{Request, Response};
 use http_body::Body;
 use hyper::body::Incoming;
-use hyper::rt::Timer;
+use hyper::rt::{Timer, TokioTimer};
 use hyper::server::conn::http1::{Builder, Connection};
 use hyper::service::Service;
+use std::alloc::AllocGlobal;
+use std::cell::Cell;
+use std::hash::RandomState;
+use std::io;
+use std::random::RandomSource;
+use std::rc::Rc;
+use std::sync::Arc;
+use std::time::{Clock, Duration};
 use tokio::io::{AsyncRead, AsyncWrite};
-use tokio::net::TcpStream;
+use tokio::time::Handle;
 
-/// Makes the connection over a socket, whose requests the service answers.
-pub(crate) trait Connects<S>: Drop {
+/// How many lines of headers a request may have.
+pub const HEADER_LINES: usize = 256;
+
+/// How long the head of a request may take from its first byte, in seconds.
+pub const HEAD_TIME: u64 = 30;
+
+/// Makes the connection over a reader and writer, whose requests the service answers.
+pub(crate) trait Connects<I, S>: Drop {
     type Connection: Drop;
 
     /// It may be served by this service.
     ghost can_connect: { Self → S → Type 0 } = { λ _ _. ⊤ };
 
-    /// It may make this connection.
-    ghost makes: { Self → Self.Connection → Type 0 } = { λ _ _. ⊤ };
+    /// It may make this connection over this reader and writer.
+    ghost makes: { Self → I → Self.Connection → Type 0 } = { λ _ _ _. ⊤ };
 
-    /// `None` where there is no memory for it.
-    fn connect(&self, socket: Watched<TcpStream>, service: S) -> Option<Self::Connection>
+    /// `begun` is whether something of the next request has come. `None` where there is no memory for a connection.
+    fn connect(&self, io: I, begun: Rc<Cell<bool>>, service: S) -> Option<Self::Connection>
         requires { can_connect self.now service }
-        ensures { IfSome result (makes self.now) };
+        ensures { IfSome result (makes self.now io) };
 }
 
-/// The settings of connections, and what tells the time for their heads.
+/// The settings of connections, what tells the time for their heads, and how many turns each has.
 #[derive(Drop)]
 pub(crate) struct Connecting<T> {
     builder: Builder,
     timer: T,
+    turns: u64,
 }
 
-impl<T> Connecting<T> {
-    pub(crate) fn new(builder: Builder, timer: T) -> Connecting<T> {
-        Connecting { builder, timer }
-    }
-}
-
-impl<S, B, T> Connects<S> for Connecting<T>
+impl<I, S, B, T> Connects<I, S> for Connecting<T>
 where
-    S: Service<Request<Incoming<Watched<TcpStream>>>, Response = Response<B>>,
+    I: AsyncRead + AsyncWrite,
+    S: Service<Request<Incoming<Watched<I>>>, Response = Response<B>>,
     S::Error: Into<anyhow::Error>,
     B: Body,
     B::Data: Into<Bytes>,
     B::Error: Into<anyhow::Error>,
     T: Timer,
 {
-    type Connection = Connection<Watched<TcpStream>, S, B, HeadTimer<T>>;
+    type Connection = Connection<Watched<I>, S, B, HeadTimer<T>>;
 
     ghost can_connect = { λ _ service. S.can_call service × ((content : B) → B.can_poll content) };
 
-    ghost makes = { λ _ made.
-        Runs ⟦<Watched<TcpStream> as AsyncRead>⟧ ⟦<Watched<TcpStream> as AsyncWrite>⟧ S.Service S.Future.Future
-        B.Body B.Data.Into made.conn };
+    ghost makes = { λ connecting io made.
+        Runs ⟦<Watched<I> as AsyncRead>⟧ ⟦<Watched<I> as AsyncWrite>⟧ S.Service S.Future.Future
+        B.Body B.Data.Into made.conn × IsOver connecting.turns io made.conn.link.io };
 
     fn connect(
         &self,
-        socket: Watched<TcpStream>,
+        io: I,
+        begun: Rc<Cell<bool>>,
         service: S,
-    ) -> Option<Connection<Watched<TcpStream>, S, B, HeadTimer<T>>> {
-        let begun = socket.begun().clone().ok()?;
-        let timer = HeadTimer::new(self.timer.clone().ok()?, begun);
+    ) -> Option<Connection<Watched<I>, S, B, HeadTimer<T>>> {
+        let timer = HeadTimer::new(self.timer.clone().ok()?, begun.clone().ok()?);
         let builder = self.builder.clone().ok()?.timer(timer);
-        Some(builder.serve_connection(socket, service))
+        Some(builder.serve_connection(Watched::new(io, self.turns, begun), service))
     }
+}
+
+impl<R: Clock + Copy> Connecting<TokioTimer<R>> {
+    /// With the timers of a runtime.
+    pub(crate) fn with_timers(
+        rt: R,
+        timers: &Handle,
+        turns: u64,
+    ) -> io::Result<Connecting<TokioTimer<R>>>
+    where
+        R: RandomSource + AllocGlobal,
+        ensures { IfOk result (λ connecting. connecting.turns ≡ turns) }
+    {
+        let builder = builder(&rt)?;
+        let timer = TokioTimer::new(rt, timers.clone()?);
+        Ok(Connecting {
+            builder,
+            timer,
+            turns,
+        })
+    }
+}
+
+// The settings of a connection.
+fn builder<R: AllocGlobal + RandomSource>(rt: &R) -> io::Result<Builder> {
+    let mut builder = Builder::new(rt.alloc(), RandomState::new(rt)?);
+    builder.max_headers(HEADER_LINES);
+    builder.header_read_timeout(Some(Duration::from_secs(HEAD_TIME)));
+    builder.auto_date_header(false);
+    // A client that has said all of its requests is still answered, also where an answer is awaited.
+    builder.half_close(true);
+    Ok(builder)
+}
+
+/// The connection over a reader and writer whose requests are answered by the seat of the slot; `None` where there is
+/// no memory for it.
+pub(crate) fn connection<R, A, I, M, F>(
+    rt: R,
+    connects: &M,
+    timers: &Handle,
+    slot: &Arc<SeatSlot<A>>,
+    io: I,
+) -> Option<F>
+where
+    R: AllocGlobal + Copy,
+    A: Answers,
+    I: Drop,
+    M: Connects<I, MessageService<R, A>, Connection = F>,
+    requires { (service : _) → M.can_connect connects.now service }
+    ensures { IfSome result (M.makes connects.now io) }
+{
+    let begun = Rc::new(rt.alloc(), Cell::new(false)).ok()?;
+    let service = MessageService::new(
+        rt,
+        Arc::try_clone(slot).ok()?,
+        timers.clone().ok()?,
+        begun.clone().ok()?,
+    );
+    connects.connect(io, begun, service)
 }

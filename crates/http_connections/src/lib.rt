@@ -15,6 +15,7 @@ mod pause;
 mod refusal;
 pub mod seat_pool;
 pub mod seat_slot;
+pub mod serve_io;
 pub mod serve_on;
 pub mod service;
 pub mod settings;

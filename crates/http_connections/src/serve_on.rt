@@ -7,23 +7,14 @@ use crate::seat_pool::SeatPool;
 use crate::settings::Settings;
 use bytes::Bytes;
 use http_body::Body;
-use hyper::rt::TokioTimer;
-use hyper::server::conn::http1::Builder;
 use std::alloc::{AllocError, AllocGlobal, Global};
-use std::hash::RandomState;
 use std::io;
 use std::io::ErrorKind;
 use std::random::RandomSource;
 use std::sync::{Arc, Wait};
-use std::time::{Clock, Duration};
+use std::time::Clock;
 use tokio::net::TcpListener;
 use tokio::runtime::LocalRuntime;
-
-/// How many lines of headers a request may have.
-pub const HEADER_LINES: usize = 256;
-
-/// How long the head of a request may take from its first byte, in seconds.
-pub const HEAD_TIME: u64 = 30;
 
 /// The seats of all connections once they have been served, and why there were no more.
 #[derive(Drop)]
@@ -43,7 +34,7 @@ pub enum End {
 }
 
 /// Serves the connections of a listener, as many as are wanted, each with a seat of its own that is split off `seat`,
-/// all on the calling thread.
+/// all on the calling thread. `turns` is how often each connection's socket is polled at most.
 pub fn serve_all<R, A>(
     rt: R,
     runtime: &mut LocalRuntime,
@@ -51,6 +42,7 @@ pub fn serve_all<R, A>(
     site: &Arc<A>,
     seat: A::Seat,
     settings: Settings,
+    turns: u64,
 ) -> Result<Served<A::Seat>, AllocError>
 where
     R: Wait + Clock + RandomSource + AllocGlobal + Copy + Drop,
@@ -60,7 +52,7 @@ where
 {
     let pool = pool_of(rt.alloc(), site)?;
     pool.open(&rt, seat);
-    let ran = run(rt, runtime, listener, &pool, settings);
+    let ran = run(rt, runtime, listener, &pool, settings, turns);
     served_by(&rt, rt.alloc(), &pool, &ran)
 }
 
@@ -94,6 +86,7 @@ fn run<R, A>(
     listener: TcpListener,
     pool: &Arc<SeatPool<A>>,
     settings: Settings,
+    turns: u64,
 ) -> io::Result<()>
 where
     R: Wait + Clock + RandomSource + AllocGlobal + Copy + Drop,
@@ -102,7 +95,7 @@ where
     requires { (content : A.Content) → A.Content.can_poll content }
 {
     let timers = runtime.handle().time();
-    let connecting = Connecting::new(builder(&rt)?, TokioTimer::new(rt, timers.clone()?));
+    let connects = Connecting::with_timers(rt, timers, turns)?;
     let pause = Pause::new(rt, timers)?;
     let accepting = Accepting::new(
         rt,
@@ -110,18 +103,7 @@ where
         Arc::try_clone(pool)?,
         settings,
         pause,
-        connecting,
+        connects,
     );
     runtime.run_all(&rt, accepting)
-}
-
-// The settings of a connection.
-fn builder<R: AllocGlobal + RandomSource>(rt: &R) -> io::Result<Builder> {
-    let mut builder = Builder::new(rt.alloc(), RandomState::new(rt)?);
-    builder.max_headers(HEADER_LINES);
-    builder.header_read_timeout(Some(Duration::from_secs(HEAD_TIME)));
-    builder.auto_date_header(false);
-    // A client that has said all of its requests is still answered, also where an answer is awaited.
-    builder.half_close(true);
-    Ok(builder)
 }

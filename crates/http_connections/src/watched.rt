@@ -1,20 +1,26 @@
-// A socket that tells whether something has come.
-ghost use Rattle.std.specs.Prelude.{◌≡◌, ⊤};
+// A reader and writer that tells whether something has come, and is asked a limited number of times.
+ghost use Rattle.std.specs.Prelude.{◌≡◌, ◌+◌, OnErr, OnOk, ⊤};
+ghost use Rattle.http_connections.specs.Turns.{Costs, IsOver, costs_in_order, costs_nothing};
 
 use futures::task::{Context, Poll};
 use hyper::rt::Timer;
 use std::alloc::AllocError;
 use std::cell::Cell;
 use std::io;
+use std::io::ErrorKind;
 use std::rc::Rc;
 use std::time::{Instant, SystemTime};
 use tokio::io::{AsyncRead, AsyncWrite};
 use tokio::time::Sleep;
 
-/// A reader and writer that sets `begun` when a byte has come.
+/// The most turns that the loop over the bytes of a connection has.
+pub const TURN_LIMIT: u64 = 100_000_000;
+
+/// A reader and writer that sets `begun` when a byte has come, and that fails once it was polled as often as it may be.
 #[derive(Drop)]
 pub struct Watched<I> {
     io: I,
+    turns: u64,
     begun: Rc<Cell<bool>>,
 }
 
@@ -26,27 +32,44 @@ pub struct HeadTimer<T> {
 }
 
 impl<I> Watched<I> {
-    pub fn new(io: I, begun: Rc<Cell<bool>>) -> Watched<I> {
-        Watched { io, begun }
+    /// Each poll of a read, a write, a flush or a shutdown is a turn.
+    pub fn new(io: I, turns: u64, begun: Rc<Cell<bool>>) -> Watched<I>
+        ensures { IsOver turns io result }
+    {
+        let turns = turns.min(TURN_LIMIT);
+        Watched { io, turns, begun }
     }
 
-    pub fn begun(&self) -> &Rc<Cell<bool>> {
-        &self.begun
+    fn take_turn(&mut self) -> io::Result<()>
+        ensures counted { OnOk result (self.new.turns + 1 ≡ self.old.turns) }
+        ensures ended { OnErr result ((self.old.turns ≡ 0) × (self.new.turns ≡ 0)) }
+        ensures same { self.new.io ≡ self.old.io }
+    {
+        match self.turns.checked_sub(1) {
+            Some(left) => {
+                self.turns = left;
+                Ok(())
+            }
+            None => Err(io::Error::from(ErrorKind::QuotaExceeded)),
+        }
     }
 }
 
 impl<I: AsyncRead> AsyncRead for Watched<I> {
     ghost needs = { λ w. I.needs w.io };
 
-    ghost reads = { λ old bytes new. I.reads old.io bytes new.io };
+    ghost reads = { Costs I.reads };
 
     ghost is_at_end = { λ w. I.is_at_end w.io };
 
-    ghost reads_nothing = { λ w. I.reads_nothing w.io };
+    ghost reads_nothing = { costs_nothing I.reads I.reads_nothing };
 
-    ghost reads_in_order = { λ a xs b ys c first second. I.reads_in_order a.io xs b.io ys c.io first second };
+    ghost reads_in_order = { costs_in_order I.reads I.reads_in_order };
 
     fn poll_read(&mut self, cx: &mut Context<'_>, buf: &mut [u8]) -> Poll<io::Result<usize>> {
+        if let Err(error) = self.take_turn() {
+            return Poll::Ready(Err(error));
+        }
         let polled = self.io.poll_read(cx, buf);
         if let Poll::Ready(Ok(count)) = &polled
             && *count > 0
@@ -60,21 +83,30 @@ impl<I: AsyncRead> AsyncRead for Watched<I> {
 impl<I: AsyncWrite> AsyncWrite for Watched<I> {
     ghost needs = { λ w. I.needs w.io };
 
-    ghost writes = { λ old bytes new. I.writes old.io bytes new.io };
+    ghost writes = { Costs I.writes };
 
-    ghost writes_nothing = { λ w. I.writes_nothing w.io };
+    ghost writes_nothing = { costs_nothing I.writes I.writes_nothing };
 
-    ghost writes_in_order = { λ a xs b ys c first second. I.writes_in_order a.io xs b.io ys c.io first second };
+    ghost writes_in_order = { costs_in_order I.writes I.writes_in_order };
 
     fn poll_write(&mut self, cx: &mut Context<'_>, buf: &[u8]) -> Poll<io::Result<usize>> {
+        if let Err(error) = self.take_turn() {
+            return Poll::Ready(Err(error));
+        }
         self.io.poll_write(cx, buf)
     }
 
     fn poll_flush(&mut self, cx: &mut Context<'_>) -> Poll<io::Result<()>> {
+        if let Err(error) = self.take_turn() {
+            return Poll::Ready(Err(error));
+        }
         self.io.poll_flush(cx)
     }
 
     fn poll_shutdown(&mut self, cx: &mut Context<'_>) -> Poll<io::Result<()>> {
+        if let Err(error) = self.take_turn() {
+            return Poll::Ready(Err(error));
+        }
         self.io.poll_shutdown(cx)
     }
 }

@@ -6,6 +6,7 @@ mod gained;
 pub mod journal_limit;
 pub mod log;
 mod report;
+pub mod serve_io;
 pub mod serve_on;
 pub mod site_answers;
 pub mod site_exchange;

@@ -86,8 +86,9 @@ where
     N: Log + Drop,
 {
     let book = answers.book()?;
+    let turns = answers.turns();
     let answers = Arc::new(rt.alloc(), answers)?;
-    let Served { seats, end } = serve_all(rt, runtime, listener, &answers, seat, settings)?;
+    let Served { seats, end } = serve_all(rt, runtime, listener, &answers, seat, settings, turns)?;
     Ok((events(&rt, rt.alloc(), book, seats), end))
 }
 

@@ -27,7 +27,7 @@ use shared_book::shared_book::SharedBook;
 use std::alloc::{AllocError, Global};
 use std::sync::{Arc, Wait};
 
-/// A site, what forwards its requests, what is told of them, and how long its journal gets, as what the connections of a
+/// A site, what forwards its requests, what is told of them, and how long its journal gets: what the connections of a
 /// server are served by.
 #[derive(Drop)]
 pub struct SiteAnswers<L: Origin, G, C, F, N> {
@@ -55,6 +55,11 @@ impl<L: Origin, G, C, F, N> SiteAnswers<L, G, C, F, N> {
     /// The book of its site.
     pub(crate) fn book(&self) -> Result<SharedBook<L>, AllocError> {
         self.site.book.try_clone()
+    }
+
+    /// How many turns the loop over the bytes of a connection has.
+    pub(crate) fn turns(&self) -> u64 {
+        self.site.turns
     }
 }
 

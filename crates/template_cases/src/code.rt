@@ -2,9 +2,9 @@
 //! two, and texts and paths, with a `|` between two. The steps of a path have a dot between two: a number is an index,
 //! a name may stand between apostrophes, and `this` is a path without steps.
 
+use crate::numbers::{index, number};
+use crate::snapshots::{request, request_with_body};
 use crate::templates::{add_path, add_text};
-use case_snapshots::numbers::{index, number};
-use case_snapshots::requests::{request, request_with_body};
 use case_table::cells::Cells;
 use case_table::row::Row;
 use case_table::words::parts;

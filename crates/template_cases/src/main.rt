@@ -1,6 +1,18 @@
-//! Compares what templates and stack code give with the tables in `data/`.
+//! Compares what values, the data of requests, helpers, templates and stack code give with the tables in `data/`.
 #![tactic(auto)]
 
+// Values, the data of requests, and helpers.
+mod error_codes;
+mod helpers;
+mod json_texts;
+mod requests;
+mod values;
+
+// What rows give: numbers, and requests with the data that templates see of them.
+mod numbers;
+mod snapshots;
+
+// Templates and stack code.
 mod code;
 mod programs;
 mod table;
@@ -17,6 +29,20 @@ fn main(rt: HostRuntime) -> io::Result<ExitCode> {
     compare_all(
         &rt,
         [
+            Table::ErrorCodes,
+            Table::Values,
+            Table::Lookups,
+            Table::Items,
+            Table::Roots,
+            Table::Texts,
+            Table::Paths,
+            Table::Parts,
+            Table::Printed,
+            Table::Bindings,
+            Table::Sizes,
+            Table::Helpers,
+            Table::Signatures,
+            Table::Parameters,
             Table::Trees,
             Table::Compiled,
             Table::Listings,

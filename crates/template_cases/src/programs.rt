@@ -1,6 +1,6 @@
 //! Templates as programs: a row gives a request, with headers and a body, and the text of a template.
 
-use case_snapshots::requests::{data, snapshot};
+use crate::snapshots::{data, snapshot};
 use case_table::row::Row;
 use data_tree::request_data::RequestData;
 use std::alloc::{AllocError, Global};

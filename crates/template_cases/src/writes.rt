@@ -1,7 +1,7 @@
 //! What reaches a writer that takes little at a time.
 
+use crate::numbers::index;
 use crate::writer::SlowWriter;
-use case_snapshots::numbers::index;
 use case_table::row::Row;
 use command_output::output::put;
 use std::alloc::{AllocError, Global};

@@ -2,8 +2,10 @@ pub mod Printed
 pub mod Escapes
 pub mod Loops
 pub mod ItemTurns
+pub mod Cases
 pub mod Calls
 pub mod Pushes
+pub mod TextChanges
 pub mod Formed
 pub mod Running
 pub mod NeedFacts

@@ -4,15 +4,17 @@ ghost use Rattle.data_tree.specs.LookUp.{at};
 ghost use Rattle.data_tree.specs.Tree.{Tree, view};
 ghost use Rattle.data_tree.specs.WellFormed.{IsWellFormed};
 ghost use Rattle.helper_set.specs.Values.{kind_of, a_datum, text_of};
-ghost use Rattle.helper_set.specs.Helpers.{argument_kinds, fit, is_looked_up};
+ghost use Rattle.helper_set.specs.Helpers.{argument_kinds, fit, applied, is_looked_up};
+ghost use Rattle.helper_set.specs.declared.helper.Helper.TheVariants.{DefaultIfEmpty};
 ghost use Rattle.helper_set.specs.Views.{value_view, made_view};
 ghost use Rattle.helper_set.specs.declared.kind.Kind.{Kind};
 ghost use Rattle.json_bridge.specs.Path.{SpellsPath};
 ghost use Rattle.template_code.specs.Machine.{result_of, found_by, json_path};
+ghost use Rattle.template_machine.specs.Inner.Changes.{changes_text};
 ghost use Rattle.template_machine.specs.Inner.Slots.{slot_view, found_view, held_view};
 
 use crate::held::{Held, hold};
-use crate::slot::{Slot, Text};
+use crate::slot::{Slot, Text, changes_text};
 use crate::value::Value;
 use data_tree::data::Data;
 use data_tree::plain_text::PlainText;
@@ -35,9 +37,26 @@ pub fn result_of_one<'a>(
     ensures { IfOk result
         (λ made. (root : Tree) → result_of root helper (slot_view argument.entry ∷ []) ≡ Some (slot_view made)) }
 {
+    if changes_text(helper) {
+        return changed(alloc, helper, argument);
+    }
     let held = hold(alloc, &argument)?;
     let made = apply_to_one(alloc, helper, held.argument())?;
     slot_of(alloc, made)
+}
+
+// The result of a helper that changes a text alone.
+#[tactic(auto, using(crate::proofs::Calls::changed_result))]
+fn changed<'a>(alloc: Global, helper: Helper, argument: Slot<'a>) -> Result<Slot<'a>, AllocError>
+    requires changes { changes_text helper ≡ true }
+    requires fitting { fit (argument_kinds helper) (kind_of (slot_view argument) ∷ []) ≡ true }
+    ensures { IfOk result
+        (λ made. (root : Tree) → result_of root helper (slot_view argument.entry ∷ []) ≡ Some (slot_view made)) }
+{
+    match argument {
+        Slot::Text(text) => Ok(Slot::Text(text.changed(alloc, helper)?)),
+        Slot::Value(_) => unreachable!(),
+    }
 }
 
 /// The result of a helper that takes two arguments.
@@ -58,10 +77,24 @@ pub fn result_of_two<'a>(
     if let Helper::JsonPath = helper {
         return looked_up(alloc, root, second);
     }
+    if let Helper::DefaultIfEmpty = helper {
+        return Ok(or_default(first, second));
+    }
     let first = hold(alloc, &first)?;
     let second = hold(alloc, &second)?;
     let made = apply_to_two(alloc, helper, first.argument(), second.argument())?;
     slot_of(alloc, made)
+}
+
+// The first text, or the second where the first is empty. Each stays as it is.
+#[tactic(auto, using(crate::proofs::Calls::default_applied))]
+fn or_default<'a>(first: Slot<'a>, second: Slot<'a>) -> Slot<'a>
+    requires { fit (argument_kinds DefaultIfEmpty) (kind_of (slot_view first) ∷ kind_of (slot_view second) ∷ [])
+        ≡ true }
+    ensures { applied DefaultIfEmpty (slot_view first.entry ∷ slot_view second.entry ∷ [])
+        ≡ Some (slot_view result) }
+{
+    if first.is_true() { first } else { second }
 }
 
 fn apply_to_one<'a>(

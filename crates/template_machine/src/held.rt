@@ -1,5 +1,5 @@
 //! The arguments of a helper: values that it can read. What is borrowed already stays so; a text is made only where
-//! a number, a truth, a list or an object prints it.
+//! a number, a truth, a list or an object prints it, and where its letters are in another case.
 ghost use Rattle.std.specs.Prelude.{◌≡◌, IfOk};
 ghost use Rattle.std.specs.Cow.{cow_str_bytes};
 ghost use Rattle.helper_set.specs.Values.{text_of};
@@ -28,6 +28,12 @@ pub fn hold<'a>(alloc: Global, slot: &'a Slot<'a>) -> Result<Held<'a>, AllocErro
         Slot::Value(value) => Ok(Held::Value(*value)),
         Slot::Text(Text::Literal(text)) => Ok(Held::Text(CowStr::Borrowed(text.as_str()))),
         Slot::Text(Text::Borrowed(text)) => Ok(Held::Text(CowStr::Borrowed(text))),
+        Slot::Text(Text::Upper(text)) => {
+            Ok(Held::Text(CowStr::Owned(text.to_ascii_uppercase(alloc)?)))
+        }
+        Slot::Text(Text::Lower(text)) => {
+            Ok(Held::Text(CowStr::Owned(text.to_ascii_lowercase(alloc)?)))
+        }
         Slot::Text(Text::Made(text)) => Ok(Held::Text(CowStr::Borrowed(text.as_str()))),
         Slot::Text(Text::Rendered(value)) => Ok(Held::Text(printed(alloc, *value)?)),
     }

@@ -1,4 +1,5 @@
 pub mod AnsweredRuns
+pub mod ChosenRuns
 pub mod GroupLemmas
 pub mod Grown
 pub mod HeldLemmas

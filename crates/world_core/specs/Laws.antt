@@ -1,10 +1,11 @@
 -- What the laws over every schedule say.
-use Rattle.std.specs.Prelude.{◌≡◌, ◌≢◌, ◌⊎◌, ℕ, List, ◌∷◌, ◌++◌, filter_map, Option, Some}
+use Rattle.std.specs.Prelude.{◌≡◌, ◌≢◌, ◌⊎◌, ℕ, List, [], ◌∷◌, ◌++◌, filter_map, Option, Some}
 use Rattle.std.specs.Prelude.{None, MatchOption, unwrap_or}
 use Rattle.std.specs.List.{AllZip}
 use Rattle.mapping_model.specs.declared.reply.Reply.{Reply}
 use Rattle.mock_request.specs.Request.{Request}
 use Rattle.request_journal.specs.Choice.{IsChoice}
+use Rattle.request_journal.specs.Past.{Past, opening_base}
 use Rattle.request_journal.specs.State.{state, touch}
 use Rattle.request_journal.specs.declared.event.Captured.{Captured}
 use Rattle.request_journal.specs.declared.event.Event.{Event}
@@ -16,6 +17,12 @@ use Rattle.world_core.specs.Schedule.{Outcome, WorldState, IsRun}
 use Rattle.world_core.specs.declared.step.Call.TheVariants.{Serve}
 use Rattle.world_core.specs.declared.step.Step.{Step}
 use Rattle.world_core.specs.declared.step.Step.TheVariants.{Act, Finish}
+
+-- ---- choices
+
+-- nothing has happened to the book but its opening
+abbrev pub IsOpened : Past → Type 0
+IsOpened past = (past.base ≡ opening_base past.opening past.defaults) × (past.events ≡ [])
 
 -- ---- responses
 

@@ -4,11 +4,13 @@ ghost use Rattle.std.specs.Prelude.{◌≡◌, ℕ, List, [], ◌∷◌, ◌++�
 ghost use Rattle.mapping_model.specs.declared.reply.Reply.{Reply};
 ghost use Rattle.mock_request.specs.Request.{Request};
 ghost use Rattle.recorder.specs.declared.exchange.Exchange.{Exchange};
+ghost use Rattle.request_journal.specs.Choice.{IsChoice};
 ghost use Rattle.request_journal.specs.Events.{last_of};
 ghost use Rattle.request_journal.specs.Legal.{IsLegal};
 ghost use Rattle.request_journal.specs.State.{state, touch};
 ghost use Rattle.request_journal.specs.declared.event.Captured.{Captured};
-ghost use Rattle.world_core.specs.Laws.{IsAnswered, IsLastChoice, IsServedOnce, events_of, giving, silent};
+ghost use Rattle.request_journal.specs.declared.event.ServeAnswer.{ServeAnswer};
+ghost use Rattle.world_core.specs.Laws.{IsAnswered, IsLastChoice, IsOpened, IsServedOnce, events_of, giving, silent};
 ghost use Rattle.world_core.specs.Replay.{HasRecorded, IsReplayable, replies_of, sending};
 ghost use Rattle.world_core.specs.Schedule.{IsRun, IsStep, Outcome, WorldState};
 ghost use Rattle.world_core.specs.declared.step.Call.TheVariants.{Serve};
@@ -20,6 +22,15 @@ ghost use Rattle.world_core.specs.declared.step.Step.TheVariants.{Act, Finish};
 pub fn law_legal()
     ensures { (start end : WorldState) (steps : List Step) (outcomes : List Outcome)
         → IsLegal start.past → IsRun start steps outcomes end → IsLegal end.past }
+{}
+
+/// After each schedule of a book that was just opened there is one choice for a request and no other: no two mappings may
+/// be chosen for it.
+#[tactic(auto, using(crate::proofs::ChosenRuns::one_choice_after))]
+pub fn law_one_choice()
+    ensures { (start end : WorldState) (steps : List Step) (outcomes : List Outcome) (request : Request)
+        (one other : ServeAnswer) → IsOpened start.past → IsRun start steps outcomes end
+        → IsChoice end.past request one → IsChoice end.past request other → one ≡ other }
 {}
 
 /// Wherever in a schedule a finish gives a reply, it is the response of the version that was chosen at its actor's act,

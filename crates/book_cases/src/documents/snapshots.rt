@@ -1,6 +1,6 @@
 //! What requests have. A row gives a method, a target, headers and a body.
 
-use crate::requests::request_of;
+use crate::documents::requests::request_of;
 use case_table::cells::Cells;
 use case_table::row::Row;
 use mock_request::error::SnapshotError;

@@ -1,9 +1,9 @@
 //! Mappings that are ready to be served. A row gives a mapping's document, and then a request.
 
-use crate::answers::yes_or_no;
-use crate::literals::cells_of;
-use crate::mappings::{read, refused};
-use crate::requests::request_of;
+use crate::documents::answers::yes_or_no;
+use crate::documents::literals::cells_of;
+use crate::documents::mappings::{read, refused};
+use crate::documents::requests::request_of;
 use case_table::row::{Row, add_cell};
 use mapping_model::mapping_spec::MappingSpec;
 use mock_request::snapshot::Snapshot;

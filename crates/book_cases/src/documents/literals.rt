@@ -1,6 +1,6 @@
 //! The literal URLs of request matchers, which documents give.
 
-use crate::answers::refused;
+use crate::documents::answers::refused;
 use case_table::row::add_cell;
 use mapping_json::read_request::read_request;
 use mapping_json::request_error::RequestDocumentError;

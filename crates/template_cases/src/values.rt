@@ -5,7 +5,7 @@ ghost use Rattle.std.specs.Prelude.{IfOk};
 ghost use Rattle.data_tree.specs.Tree.{view};
 ghost use Rattle.data_tree.specs.WellFormed.{IsWellFormed};
 
-use case_snapshots::numbers;
+use crate::numbers;
 use case_table::cells::Cells;
 use data_tree::data::Data;
 use data_tree::plain_text::PlainText;

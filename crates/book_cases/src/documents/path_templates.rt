@@ -1,6 +1,6 @@
 //! Path templates. A row gives two.
 
-use crate::answers::{refused, yes_or_no};
+use crate::documents::answers::{refused, yes_or_no};
 use case_table::row::Row;
 use path_template::error::PathTemplateError;
 use path_template::path_template::PathTemplate;

@@ -1,6 +1,6 @@
 //! Keys of exchanges, and the mappings that recordings give.
 
-use crate::exchanges::{Given, read};
+use crate::recorded::exchanges::{Given, read};
 use case_requests::octets::add_octets;
 use case_table::cells::Cells;
 use case_table::row::Row;

@@ -1,6 +1,6 @@
 //! The codes of errors.
 
-use case_snapshots::numbers;
+use crate::numbers;
 use error_code::error_code::ErrorCode;
 use std::alloc::{AllocError, Global};
 

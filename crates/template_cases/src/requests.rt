@@ -1,7 +1,7 @@
 //! What is found in the data that templates see of requests.
 
+use crate::snapshots::{data, plain_request, snapshot};
 use crate::values::{cell_of, measured, path, printed_cell};
-use case_snapshots::requests::{data, plain_request, snapshot};
 use case_table::cells::Cells;
 use case_table::row::Row;
 use data_tree::request_data::RequestData;

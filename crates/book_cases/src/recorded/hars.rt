@@ -1,6 +1,6 @@
 //! The HAR documents of recordings.
 
-use crate::exchanges::read;
+use crate::recorded::exchanges::read;
 use case_table::cells::Cells;
 use case_table::row::Row;
 use har_export::error::HarError;

@@ -1,6 +1,6 @@
 //! Single mappings: what is written for the mapping that a document spells, or the code of its error.
 
-use crate::answers;
+use crate::documents::answers;
 use case_table::row::Row;
 use mapping_json::error::MappingError;
 use mapping_json::read::read_mapping;
