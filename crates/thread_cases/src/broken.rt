@@ -263,6 +263,7 @@ fn book(alloc: Global) -> Result<Book, AllocError> {
     book.ok().ok_or(AllocError)
 }
 
+// The same, over this book.
 fn serve_over<L: Origin, R>(
     rt: &R,
     alloc: Global,
@@ -329,6 +330,7 @@ fn events<L: Origin, R: Wait>(
     }
 }
 
+// What that many events, and the bytes that the peer has taken, say of a connection.
 fn judged(peer: Peer, index: usize, events: Option<u64>, taken: &[u8]) -> Left {
     let is_whole = peer.is_whole(index);
     match events {
