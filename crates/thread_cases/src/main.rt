@@ -23,6 +23,10 @@ mod threads;
 mod two_threads;
 mod versions;
 
+// Connections that break off.
+mod broken;
+mod nowhere;
+
 // Messages that are answered over shared books, also by two threads.
 mod answered;
 mod answers;
@@ -32,14 +36,27 @@ mod message_threads;
 mod messages;
 mod no_clock;
 
+// Recordings over shared books, whose target is a server on another thread.
+mod events;
+mod recorded;
+mod recording_clocks;
+mod recording_messages;
+mod recording_sites;
+mod recordings;
+mod unrecorded;
+mod upstream;
+
+use broken::{Peer, broken};
 use case_table::compare::compare_all;
 use cases::{Case, play};
+use recordings::{Recording, play_recording};
 use std::alloc::{AllocError, Global};
 use std::io;
 use std::process::ExitCode;
 use std::sync::Wait;
 use std::thread::Threads;
 use table::Schedules;
+use tokio::runtime::LocalRuntime;
 
 fn main(rt: HostRuntime) -> io::Result<ExitCode> {
     for case in [
@@ -55,6 +72,33 @@ fn main(rt: HostRuntime) -> io::Result<ExitCode> {
     .as_slice()
     {
         let line = play_again(&rt, rt.alloc(), *case)?;
+        println!(rt; "{line}")?;
+    }
+    for case in [
+        Recording::Recorded,
+        Recording::Failed,
+        Recording::Stopped,
+        Recording::Restarted,
+        Recording::Full,
+    ]
+    .as_slice()
+    {
+        let line = play_recording(&rt, *case)?;
+        println!(rt; "{line}")?;
+    }
+    let mut runtime = LocalRuntime::new(&rt)?;
+    for peer in [
+        Peer::Pieces,
+        Peer::StopsSending,
+        Peer::FallsSilent,
+        Peer::StopsTaking,
+        Peer::FailingReads,
+        Peer::FailingWrites,
+        Peer::Turns,
+    ]
+    .as_slice()
+    {
+        let line = broken(&rt, rt.alloc(), &mut runtime, *peer)?;
         println!(rt; "{line}")?;
     }
     compare_all(&rt, &[Schedules])
