@@ -1,1 +1,2 @@
 mod HelpAsked
+mod OtherCommands

@@ -148,16 +148,66 @@ where
     W: Write + Drop + Send + 'static,
     ensures { result ≤ 2 }
 {
-    let Ok(words) = words_of(rt.alloc(), arguments) else {
-        CommandError::from(ErrorCode::OutOfMemory).report(err);
-        return FAILURE;
-    };
-    match serve_arguments(rt.alloc(), words.as_slice()) {
-        Ok(Some(ServeCall::Serve(given))) => serve(rt, given, out, err, log),
-        Ok(Some(ServeCall::BadAddress(text))) => report_address(text, err),
+    match words_of(rt.alloc(), arguments) {
+        Ok(words) => serve_words(rt, words.as_slice(), out, err, log),
+        Err(_error) => report_memory(err),
+    }
+}
+
+fn serve_words<R, O, E, W>(rt: R, words: &[&str], out: &mut O, err: &mut E, log: W) -> u8
+where
+    R: Threads
+        + Wait
+        + Net
+        + Clock
+        + RandomSource
+        + AllocGlobal
+        + FileReader
+        + Copy
+        + Drop
+        + Send
+        + 'static,
+    O: Write,
+    E: Write,
+    W: Write + Drop + Send + 'static,
+    ensures { result ≤ 2 }
+{
+    match serve_arguments(rt.alloc(), words) {
+        Ok(Some(call)) => serve_call(rt, call, out, err, log),
         Ok(None) => FAILURE,
         Err(error) => write_parser_message(&error, out, err),
     }
+}
+
+fn serve_call<R, O, E, W>(rt: R, call: ServeCall<'_>, out: &mut O, err: &mut E, log: W) -> u8
+where
+    R: Threads
+        + Wait
+        + Net
+        + Clock
+        + RandomSource
+        + AllocGlobal
+        + FileReader
+        + Copy
+        + Drop
+        + Send
+        + 'static,
+    O: Write,
+    E: Write,
+    W: Write + Drop + Send + 'static,
+    ensures { result ≤ 2 }
+{
+    match call {
+        ServeCall::Serve(given) => serve(rt, given, out, err, log),
+        ServeCall::BadAddress(text) => report_address(text, err),
+    }
+}
+
+fn report_memory<E: Write>(err: &mut E) -> u8
+    ensures { result ≤ 2 }
+{
+    CommandError::from(ErrorCode::OutOfMemory).report(err);
+    FAILURE
 }
 
 // As `clap` says it of other values.

@@ -23,6 +23,7 @@ use request_log::request_log::RequestLog;
 use request_log::start::start;
 use shared_book::gate::NoGate;
 use shared_book::origin::Origin;
+use shared_book::seat::Seat;
 use shared_book::shared_book::SharedBook;
 use std::alloc::{AllocError, AllocGlobal, Global};
 use std::io;
@@ -74,14 +75,17 @@ where
     let Some(book) = book_of(rt.alloc(), &rt, arguments.mappings, arguments.escape, err) else {
         return FAILURE;
     };
-    let Ok((lines, log)) = log_to(rt, arguments, log) else {
-        CommandError::from(ErrorCode::OutOfMemory).report(err);
-        return FAILURE;
-    };
-    let blank = Blank::new(PARTS);
-    let status = serve_book::<Brand, R, O, E>(rt, blank, PARTS, book, arguments, log, out, err);
-    lines.close(&rt, Duration::from_secs(LOG_SECONDS));
-    status
+    match log_to(rt, arguments, log) {
+        Ok((lines, log)) => {
+            let blank = Blank::new(PARTS);
+            let status = serve_book::<Brand, R, O, E>(
+                rt, blank, PARTS, book, arguments, log, out, err,
+            );
+            lines.close(&rt, Duration::from_secs(LOG_SECONDS));
+            status
+        }
+        Err(_error) => out_of_memory(err),
+    }
 }
 
 // The lines that a thread writes to `out`, and what tells of requests by them.
@@ -121,17 +125,87 @@ where
     requires origin { book ≡ L.origin }
     ensures { result ≤ 1 }
 {
-    let Ok((book, seat)) = SharedBook::<L>::new(rt.alloc(), blank, parts, book) else {
-        CommandError::from(ErrorCode::OutOfMemory).report(err);
-        return FAILURE;
+    match SharedBook::<L>::new(rt.alloc(), blank, parts, book) {
+        Ok((book, seat)) => serve_shared(rt, book, seat, arguments, log, out, err),
+        Err(_error) => out_of_memory(err),
+    }
+}
+
+fn serve_shared<L, R, O, E>(
+    rt: R,
+    book: SharedBook<L>,
+    seat: Seat<L>,
+    arguments: ServeArguments<'_>,
+    log: ServerLog,
+    out: &mut O,
+    err: &mut E,
+) -> u8
+where
+    L: Origin,
+    R: Wait + Net + Clock + RandomSource + AllocGlobal + Copy + Drop,
+    O: Write,
+    E: Write,
+    ensures { result ≤ 1 }
+{
+    match listen(rt, arguments.address, arguments.port) {
+        Ok(listening) => serve_listening(rt, listening, book, seat, arguments, log, out, err),
+        Err(error) => report(rt.alloc(), &error, err),
+    }
+}
+
+fn serve_listening<L, R, O, E>(
+    rt: R,
+    listening: Listening<R>,
+    book: SharedBook<L>,
+    seat: Seat<L>,
+    arguments: ServeArguments<'_>,
+    log: ServerLog,
+    out: &mut O,
+    err: &mut E,
+) -> u8
+where
+    L: Origin,
+    R: Wait + Net + Clock + RandomSource + AllocGlobal + Copy + Drop,
+    O: Write,
+    E: Write,
+    ensures { result ≤ 1 }
+{
+    let Listening {
+        mut runtime,
+        listener,
+        forwarder,
+    } = listening;
+    let settings = Settings {
+        connections: arguments.connections,
+        max_connections: arguments.max_connections,
     };
-    let (mut runtime, listener, forwarder) = match listen(rt, arguments.address, arguments.port) {
-        Ok(listening) => listening,
-        Err(error) => {
-            report(rt.alloc(), &error, err);
-            return FAILURE;
-        }
-    };
+    match answers_of(rt, book, forwarder, arguments, log) {
+        Ok(answers) => serve_on(
+            rt,
+            &mut runtime,
+            listener,
+            answers,
+            seat,
+            settings,
+            out,
+            err,
+        ),
+        Err(_error) => out_of_memory(err),
+    }
+}
+
+// What the connections are served by.
+fn answers_of<L, R>(
+    rt: R,
+    book: SharedBook<L>,
+    forwarder: Forwarder<R>,
+    arguments: ServeArguments<'_>,
+    log: ServerLog,
+) -> Result<SiteAnswers<L, NoGate, SystemClock<R>, Forwarder<R>, ServerLog>, AllocError>
+where
+    L: Origin,
+    R: Clock + Net + AllocGlobal + Copy + Drop,
+{
     let site = Site {
         book,
         limits: Limits::usual(),
@@ -140,32 +214,27 @@ where
         clock: SystemClock::new(rt),
         turns: TURN_LIMIT,
     };
-    let Ok(site) = Arc::new(rt.alloc(), site) else {
-        CommandError::from(ErrorCode::OutOfMemory).report(err);
-        return FAILURE;
-    };
+    let site = Arc::new(rt.alloc(), site)?;
     let journal = JournalLimit::new(arguments.journal_limit);
-    serve_on(
-        rt,
-        &mut runtime,
-        listener,
-        SiteAnswers::new(site, forwarder, log, journal),
-        seat,
-        Settings {
-            connections: arguments.connections,
-            max_connections: arguments.max_connections,
-        },
-        out,
-        err,
-    )
+    Ok(SiteAnswers::new(site, forwarder, log, journal))
+}
+
+fn out_of_memory<E: Write>(err: &mut E) -> u8
+    ensures { result ≡ FAILURE }
+{
+    CommandError::from(ErrorCode::OutOfMemory).report(err);
+    FAILURE
 }
 
 // A listener of a runtime, and what forwards requests over it.
-fn listen<R>(
-    rt: R,
-    address: IpAddr,
-    port: u16,
-) -> io::Result<(LocalRuntime, TcpListener, Forwarder<R>)>
+#[derive(Drop)]
+struct Listening<R> {
+    runtime: LocalRuntime,
+    listener: TcpListener,
+    forwarder: Forwarder<R>,
+}
+
+fn listen<R>(rt: R, address: IpAddr, port: u16) -> io::Result<Listening<R>>
 where
     R: Net + Clock + RandomSource + AllocGlobal + Copy + Drop,
 {
@@ -175,16 +244,22 @@ where
     let client = Client::new(rt, TURN_LIMIT, Duration::from_secs(SILENCE_SECONDS))?;
     let handle = runtime.handle().clone()?;
     let forwarder = Forwarder::new(client, handle, listener.local_addr()?);
-    Ok((runtime, listener, forwarder))
+    Ok(Listening {
+        runtime,
+        listener,
+        forwarder,
+    })
 }
 
 // Why it can't listen.
-fn report<E: Write>(alloc: Global, error: &io::Error, err: &mut E) {
+fn report<E: Write>(alloc: Global, error: &io::Error, err: &mut E) -> u8
+    ensures { result ≡ FAILURE }
+{
     if error.kind() == ErrorKind::OutOfMemory {
-        CommandError::from(ErrorCode::OutOfMemory).report(err);
-    } else {
-        // The exit status is 1 in any case.
-        let _ = put(err, "error: cannot listen\n".as_bytes());
-        put_notes(err, reason_line(alloc, error).as_str());
+        return out_of_memory(err);
     }
+    // The exit status is 1 in any case.
+    let _ = put(err, "error: cannot listen\n".as_bytes());
+    put_notes(err, reason_line(alloc, error).as_str());
+    FAILURE
 }

@@ -1,0 +1,92 @@
+-- Arguments that the code takes for a call of the server, or for help, ask for no other command and no other help.
+use Rattle.std.proofs.Common.{◌≡◌, ℕ, List, [], ◌∷◌, ◌++◌, true, false, inl, inr, refl, subst, sym, ap, codes}
+use Rattle.std.proofs.Common.{◌∙◌}
+use Rattle.std.proofs.lemmas.Bool.{false≢true}
+use Rattle.std.proofs.lemmas.Slice.Eq.{bytes_eq-Decides}
+use Rattle.std.specs.Str.{bytes_eq}
+use Rattle.mock.specs.CommandLine.{AskToServe}
+use Rattle.mock.specs.Inner.Arguments.{ask_to_help, ask_to_serve}
+use Rattle.mock_program.specs.CommandLine.{Asked, AsksFor, CallsForHelp, Gives, IsCommand, flags_of}
+use Rattle.mock_program.specs.CommandLine.{render, check, answer}
+use Rattle.template_tree.specs.declared.escape.Escape.{Escape}
+
+pub serve_asked : (arguments : List (List ℕ)) → ask_to_serve arguments ≡ true → AskToServe arguments
+serve_asked [] e = absurd (false≢true e)
+serve_asked (program ∷ []) e = absurd (false≢true e)
+serve_asked (program ∷ command ∷ rest) e =
+    (program, rest, ap (λ word. program ∷ word ∷ rest) ((bytes_eq-Decides command (codes "serve")).0 e))
+
+-- the word after the program's name is neither `serve` nor `help`
+abbrev IsOther : List (List ℕ) → Type 0
+IsOther arguments = (ask_to_serve arguments ≡ false) × (ask_to_help arguments ≡ false)
+
+other : (program name : List ℕ) (rest : List (List ℕ)) → bytes_eq name (codes "serve") ≡ false
+    → bytes_eq name (codes "help") ≡ false → IsOther (program ∷ name ∷ rest)
+other program name [] no_serve no_help = (no_serve, no_help)
+other program name (x ∷ []) no_serve no_help = (no_serve, no_help)
+other program name (x ∷ y ∷ rest) no_serve no_help = (no_serve, refl)
+
+other_of : (arguments : List (List ℕ)) (program name : List ℕ) (rest : List (List ℕ))
+    → arguments ≡ program ∷ name ∷ rest → bytes_eq name (codes "serve") ≡ false
+    → bytes_eq name (codes "help") ≡ false → IsOther arguments
+other_of arguments program name rest e no_serve no_help =
+    subst (λ found. IsOther found) (sym e) (other program name rest no_serve no_help)
+
+gives_other : (arguments : List (List ℕ)) (name : List ℕ) (escape : Escape) (given : List (List ℕ))
+    → bytes_eq name (codes "serve") ≡ false → bytes_eq name (codes "help") ≡ false
+    → Gives arguments name escape given → IsOther arguments
+gives_other arguments name escape given no_serve no_help (program, inl (plain, e)) =
+    other_of arguments program name (flags_of escape ++ given) e no_serve no_help
+gives_other arguments name escape given no_serve no_help (program, inr e) =
+    other_of arguments program name (flags_of escape ++ codes "--" ∷ given) e no_serve no_help
+
+command_other : (arguments : List (List ℕ)) (escape : Escape) (asked : Asked)
+    → AsksFor arguments escape asked → IsOther arguments
+command_other arguments escape (render template method target) asks =
+    gives_other arguments (codes "render") escape (template ∷ method ∷ target ∷ []) refl refl asks
+command_other arguments escape (check file) asks =
+    gives_other arguments (codes "check") escape (file ∷ []) refl refl asks
+command_other arguments escape (answer file method target) asks =
+    gives_other arguments (codes "answer") escape (file ∷ method ∷ target ∷ []) refl refl asks
+
+flagged_other : (arguments : List (List ℕ)) (program name : List ℕ) (escape : Escape) (rest : List (List ℕ))
+    → (count : ℕ) → IsCommand name count → arguments ≡ program ∷ name ∷ (flags_of escape ++ rest)
+    → IsOther arguments
+flagged_other arguments program name escape rest count (inl (is, three)) e =
+    other_of arguments program name (flags_of escape ++ rest) e (ap (λ n. bytes_eq n (codes "serve")) is)
+    (ap (λ n. bytes_eq n (codes "help")) is)
+flagged_other arguments program name escape rest count (inr (inl (is, one))) e =
+    other_of arguments program name (flags_of escape ++ rest) e (ap (λ n. bytes_eq n (codes "serve")) is)
+    (ap (λ n. bytes_eq n (codes "help")) is)
+flagged_other arguments program name escape rest count (inr (inr (is, three))) e =
+    other_of arguments program name (flags_of escape ++ rest) e (ap (λ n. bytes_eq n (codes "serve")) is)
+    (ap (λ n. bytes_eq n (codes "help")) is)
+
+help_other : (arguments : List (List ℕ)) → CallsForHelp arguments → IsOther arguments
+help_other arguments (program, flag, rest, inl (inl (inl is), e)) =
+    other_of arguments program flag rest e (ap (λ n. bytes_eq n (codes "serve")) is)
+    (ap (λ n. bytes_eq n (codes "help")) is)
+help_other arguments (program, flag, rest, inl (inl (inr is), e)) =
+    other_of arguments program flag rest e (ap (λ n. bytes_eq n (codes "serve")) is)
+    (ap (λ n. bytes_eq n (codes "help")) is)
+help_other arguments (program, flag, rest, inl (inr is, e)) =
+    other_of arguments program flag rest e (ap (λ n. bytes_eq n (codes "serve")) is)
+    (ap (λ n. bytes_eq n (codes "help")) is)
+help_other arguments (program, flag, rest, inr (is, (name, count, escape, command, e))) =
+    flagged_other arguments program name escape (flag ∷ rest) count command e
+
+pub serves_no_command : (arguments : List (List ℕ)) → ask_to_serve arguments ≡ true
+    → (escape : Escape) (asked : Asked) → AsksFor arguments escape asked → ⊥
+serves_no_command arguments taken escape asked asks =
+    false≢true (sym (command_other arguments escape asked asks).0 ∙ taken)
+
+pub helps_no_command : (arguments : List (List ℕ)) → ask_to_help arguments ≡ true
+    → (escape : Escape) (asked : Asked) → AsksFor arguments escape asked → ⊥
+helps_no_command arguments taken escape asked asks =
+    false≢true (sym (command_other arguments escape asked asks).1 ∙ taken)
+
+pub serves_no_help : (arguments : List (List ℕ)) → ask_to_serve arguments ≡ true → CallsForHelp arguments → ⊥
+serves_no_help arguments taken calls = false≢true (sym (help_other arguments calls).0 ∙ taken)
+
+pub helps_no_flag : (arguments : List (List ℕ)) → ask_to_help arguments ≡ true → CallsForHelp arguments → ⊥
+helps_no_flag arguments taken calls = false≢true (sym (help_other arguments calls).1 ∙ taken)
