@@ -5,6 +5,8 @@ use Rattle.std.specs.declared.alloc.AllocError.{AllocError}
 use Rattle.std.specs.declared.alloc.Global.{Global}
 use Rattle.admin_answers.proofs.NumberLemmas.{AreBelow, below_more, visible_below}
 use Rattle.admin_answers.specs.Answers.{InPast, IsHeldReply, IsReadReply}
+use Rattle.admin_answers.specs.Replies.{reply_of}
+use Rattle.admin_answers.specs.declared.admin_answer.AdminAnswer.{AdminAnswer}
 use Rattle.admin_answers.specs.declared.error.SharedError.{SharedError}
 use Rattle.error_code.specs.declared.error_code.ErrorCode.TheVariants as code
 use Rattle.admin_answers.specs.JsonReply.{IsJsonReply}
@@ -40,11 +42,11 @@ pub said : (origin : Past) (asked : BookRead) (reading : Reading) (found : ReadA
 said origin asked reading found is e = subst (IsReadAnswer is.past asked) e is.answer
 
 pub mappings
-    : (origin : Past) (list : Vec Mapping Global) (reading : Reading) (result : Result Reply AllocError)
+    : (origin : Past) (list : Vec Mapping Global) (reading : Reading) (result : Result AdminAnswer AllocError)
     → IsRead origin read.Mappings reading → reading.answer ≡ answer.Mappings list
-    → IfOk result (IsJsonReply 200 (json_of_mappings list.items))
-    → IfOk result (λ reply. InPast origin (IsReadReply call.ListMappings reply))
-mappings origin list reading (Ok reply) is e json =
+    → IfOk result (λ made. IsJsonReply 200 (json_of_mappings list.items) (reply_of made))
+    → IfOk result (λ made. InPast origin (IsReadReply call.ListMappings (reply_of made)))
+mappings origin list reading (Ok made) is e json =
     (is.past, is.reached, (list.items, said origin read.Mappings reading _ is e, json))
 mappings origin list reading (Err why) is e json = tt
 

@@ -90,8 +90,7 @@ unfolding serde_json_on_literals
 mappings_text mappings =
     let items = items_text false (items_of (map json_of_held mappings)) in
     ap (λ s. codes "{\"mappings\":[" ++ s)
-    (append_assoc items _ (codes "}")
-    ∙ ap (λ s. items ++ (codes ",\"meta\":{\"total\":" ++ s))
+    (ap (λ s. items ++ (codes ",\"meta\":{\"total\":" ++ s))
     (append_assoc (decimal (length mappings)) (codes "}") (codes "}"))
     ∙ mappings_joined false mappings (end_of_mappings (length mappings)))
 
