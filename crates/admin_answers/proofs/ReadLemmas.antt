@@ -1,5 +1,5 @@
 -- What is answered from a reading is what the past that was read says.
-use Rattle.std.proofs.Common.{◌≡◌, ◌⊎◌, ℕ, List, Vec, Option, Some, None, Any, Result, Ok, Err, IfOk}
+use Rattle.std.proofs.Common.{◌≡◌, ◌⊎◌, ℕ, List, Vec, Option, Some, None, Any, Result, Ok, Err, IfOk, IfSome}
 use Rattle.std.proofs.Common.{IfErr, inl, inr, sym, subst, refl, ◌∙◌, ◌+◌, ◌^◌, ◌<◌, ◌≤◌, arith}
 use Rattle.std.specs.declared.alloc.AllocError.{AllocError}
 use Rattle.std.specs.declared.alloc.Global.{Global}
@@ -59,6 +59,21 @@ pub replied
 replied value P Q (Ok text) less same reads =
     λ q. (text, record { compact = λ whole. same; reads_back = reads (less q) }, refl)
 replied value P Q (Err why) less same reads = tt
+
+-- the same of a text that may not be there
+pub listed
+    : (value : Data) (made : Option (List ℕ)) (text : List ℕ) → made ≡ Some text
+    → IfSome made (λ t. t ≡ compact_text value)
+    → IfSome made (λ t. depth value ≤ max_depth → json.read t ≡ Some value)
+    → IsJsonReply 200 value (json_reply 200 text)
+listed value made text is same reads = (
+  text,
+  record {
+    compact = λ whole. subst (λ o. IfSome o (λ t. t ≡ compact_text value)) is same;
+    reads_back = subst (λ o. IfSome o (λ t. depth value ≤ max_depth → json.read t ≡ Some value)) is reads;
+  },
+  refl,
+)
 
 pub requests
     : (origin : Past) (list : Vec Entry Global) (reading : Reading) (result : Result (List ℕ) AllocError)
