@@ -219,11 +219,7 @@ fn end_of_recorded(alloc: Global, skipped: u64) -> Result<String, AllocError>
     Ok(end)
 }
 
-fn mapping_listing(
-    alloc: Global,
-    texts: MappingTexts,
-    end: String,
-) -> Result<Listing, AllocError>
+fn mapping_listing(alloc: Global, texts: MappingTexts, end: String) -> Result<Listing, AllocError>
     ensures { IfOk result (λ listing.
         listing ≡ codes "{\"mappings\":[" ++ joined (codes "]" ++ string_bytes end) false texts) }
 {

@@ -14,7 +14,7 @@ pub returns-clause-text : goal.returns-clause-text
 returns-clause-text c =
     let ms = c.args.mappings.now in
     let made = subst (λ o. IfSome o (λ texts. All IsPlain ms × (texts ≡ map text_of_mapping ms))) c.in-Some.is
-        c.in_ok-texts.ensures in
+    c.in_ok-texts.ensures in
     c.in_ok-mapping_listing.ensures
     ∙ ap (λ ts. codes "{\"mappings\":[" ++ joined (codes "]" ++ string_bytes c.in_ok-end.end) false ts) made.1
     ∙ ap (λ end. codes "{\"mappings\":[" ++ joined (codes "]" ++ end) false (map text_of_mapping ms))
@@ -25,7 +25,7 @@ pub returns-clause-reads_back : goal.returns-clause-reads_back
 returns-clause-reads_back c shallow =
     let ms = c.args.mappings.now in
     let made = subst (λ o. IfSome o (λ texts. All IsPlain ms × (texts ≡ map text_of_mapping ms))) c.in-Some.is
-        c.in_ok-texts.ensures in
+    c.in_ok-texts.ensures in
     let fits : length ms < 2 ^ 64 = omega arith in
     ap read (returns-clause-text c)
     ∙ reads_back (json_of_mappings ms)
