@@ -1,12 +1,12 @@
 -- The numbers of the requests that a journal shows are at most that of the last event.
-use Rattle.std.proofs.Common.{◌≡◌, ◌⊎◌, ℕ, ◌+◌, ◌≤◌, ◌<◌, arith, List, [], ◌∷◌, ◌++◌, Bool, true, false, cond, length}
-use Rattle.std.proofs.Common.{Option, Some, None, inl, inr, refl, sym, ap, subst, ◌∙◌}
+use Rattle.std.proofs.Common.{◌≡◌, ℕ, ◌+◌, ◌≤◌, ◌<◌, arith, List, [], ◌∷◌, ◌++◌, Bool, true, false, cond, length}
+use Rattle.std.proofs.Common.{Option, Some, None, refl, ap, ◌∙◌}
 use Rattle.std.specs.Prelude.{option_map, filter_map}
 use Rattle.std.specs.List.{AllByRecursion, list_any}
 use mathlib.Core.List.{reverse_aux}
 use Rattle.mock_request.specs.Request.{Request}
 use Rattle.request_journal.specs.Events.{Numbered, numbered, after_last}
-use Rattle.request_journal.specs.Journal.{Picks, clears, visible}
+use Rattle.request_journal.specs.Journal.{clears, visible}
 use Rattle.request_journal.specs.Past.{Past, last_number, numbered_events}
 use Rattle.request_journal.specs.declared.entry.Entry.{Entry}
 use Rattle.request_journal.specs.declared.event.Event.{Event}
@@ -74,10 +74,3 @@ visible_below bound found past less =
     (found_below bound found _
     (last_below bound (λ n. clears n.event) (numbered_events past)
     (numbered_below bound (past.base.number + 1) past.events (omega arith)))) tt
-
-pub picked_below
-    : (bound : ℕ) (P : Entry → Type 0) (xs ys : List Entry) → Picks P xs ys → AreBelow bound xs → AreBelow bound ys
-picked_below bound P [] ys picks all = subst (AreBelow bound) (sym picks) tt
-picked_below bound P (x ∷ xs) ys (inl taken) all =
-    subst (AreBelow bound) (sym taken.1) (all.0, picked_below bound P xs taken.0 taken.3 all.1)
-picked_below bound P (x ∷ xs) ys (inr left) all = picked_below bound P xs ys left.1 all.1

@@ -1,9 +1,9 @@
 -- What is answered from a reading is what the past that was read says.
 use Rattle.std.proofs.Common.{◌≡◌, ◌⊎◌, ℕ, List, Vec, Option, Some, None, Any, Result, Ok, Err, IfOk}
-use Rattle.std.proofs.Common.{IfErr, inl, inr, sym, subst, refl, ◌∙◌, ◌+◌, ◌<◌, ◌≤◌, arith}
+use Rattle.std.proofs.Common.{IfErr, inl, inr, sym, subst, refl, ◌∙◌, ◌+◌, ◌^◌, ◌<◌, ◌≤◌, arith}
 use Rattle.std.specs.declared.alloc.AllocError.{AllocError}
 use Rattle.std.specs.declared.alloc.Global.{Global}
-use Rattle.admin_answers.proofs.NumberLemmas.{AreBelow, picked_below, visible_below}
+use Rattle.admin_answers.proofs.NumberLemmas.{AreBelow, below_more, visible_below}
 use Rattle.admin_answers.specs.Answers.{InPast, IsHeldReply, IsReadReply}
 use Rattle.admin_answers.specs.declared.error.SharedError.{SharedError}
 use Rattle.error_code.specs.declared.error_code.ErrorCode.TheVariants as code
@@ -14,8 +14,7 @@ use Rattle.admin_json.specs.Scenarios.{json_of_scenarios}
 use Rattle.admin_routes.specs.declared.call.AdminCall.TheVariants as call
 use Rattle.mapping_model.specs.declared.reply.Reply.{Reply}
 use Rattle.mapping_model.specs.declared.request_spec.RequestSpec.{RequestSpec}
-use Rattle.request_journal.specs.Journal.{request_of, unmatched_of}
-use Rattle.request_journal.specs.Journal.{requests as requests_in}
+use Rattle.request_journal.specs.Journal.{request_of, unmatched_of, IsCount, Picks}
 use Rattle.request_journal.specs.Legal.{IsLive}
 use Rattle.request_journal.specs.Live.{live}
 use Rattle.request_journal.specs.Past.{Past, Placed}
@@ -91,28 +90,78 @@ unmatched origin list reading (Ok text) is e json =
     )
 unmatched origin list reading (Err why) is e json = tt
 
+-- what is found of entries below a bound is replied, as soon as it is known that they are
+pub searched
+    : (P : Entry → Type 0) (entries : List Entry) (bound : ℕ) (result : Result (List ℕ) AllocError) → bound ≤ 2 ^ 64
+    → IfOk result (λ text. (found : List Entry) × Picks P entries found × (text ≡ compact_text (json_of_found found))
+    × (AreBelow (2 ^ 64) entries → depth (json_of_found found) ≤ max_depth
+    → json.read text ≡ Some (json_of_found found)))
+    → IfOk result (λ text. AreBelow bound entries → (found : List Entry) × Picks P entries found
+    × IsJsonReply 200 (json_of_found found) (json_reply 200 text))
+searched P entries bound (Ok text) fits made = λ below. (
+  made.0,
+  made.1,
+  (
+    text,
+    record {
+      compact = λ whole. made.2;
+      reads_back = made.3 (below_more bound (2 ^ 64) entries fits below);
+    },
+    refl,
+  ),
+)
+searched P entries bound (Err why) fits made = tt
+
+pub numbered
+    : (P : Entry → Type 0) (entries : List Entry) (result : Result (List ℕ) AllocError)
+    → IfOk result (λ text. (count : ℕ) × IsCount P entries count × (text ≡ compact_text (json_of_number count))
+    × (json.read text ≡ Some (json_of_number count)))
+    → IfOk result (λ text. (count : ℕ) × IsCount P entries count
+    × IsJsonReply 200 (json_of_number count) (json_reply 200 text))
+numbered P entries (Ok text) made =
+    (made.0, made.1, (text, record { compact = λ whole. made.2; reads_back = λ shallow. made.3 }, refl))
+numbered P entries (Err why) made = tt
+
 pub found
     : (origin : Past) (matcher : RequestSpec) (list : Vec Entry Global) (reading : Reading)
     (result : Result (List ℕ) AllocError)
-    → IsRead origin (read.Find matcher) reading → reading.answer ≡ answer.Requests list
+    → IsRead origin read.Requests reading → reading.answer ≡ answer.Requests list
     → IfOk result (λ text. AreBelow (reading.number + 1) list.items
-    → IsJsonReply 200 (json_of_found list.items) (json_reply 200 text))
+    → (picked : List Entry) × Picks (λ entry. MeetsRequest matcher entry.request) list.items picked
+    × IsJsonReply 200 (json_of_found picked) (json_reply 200 text))
     → IfOk result (λ text. InPast origin (IsReadReply (call.FindRequests matcher) (json_reply 200 text)))
 found origin matcher list reading (Ok text) is e json =
-    let says = said origin (read.Find matcher) reading _ is e in
+    let says = said origin read.Requests reading _ is e in
     let below = visible_below (reading.number + 1) request_of is.past (omega (arith, is.number)) in
-    let all = picked_below (reading.number + 1) (λ entry. MeetsRequest matcher entry.request) (requests_in is.past)
-    list.items says below in (is.past, is.reached, (list.items, says, json all))
+    let made = json (subst (AreBelow (reading.number + 1)) (sym says) below) in (
+      is.past,
+      is.reached,
+      (
+        made.0,
+        subst (λ es. Picks (λ (entry : Entry). MeetsRequest matcher entry.request) es made.0) says made.1,
+        made.2,
+      ),
+    )
 found origin matcher list reading (Err why) is e json = tt
 
 pub counted
-    : (origin : Past) (matcher : RequestSpec) (count : ℕ) (reading : Reading) (result : Result Reply AllocError)
-    → IsRead origin (read.Count matcher) reading → reading.answer ≡ answer.Count count
-    → IfOk result (IsJsonReply 200 (json_of_number count))
-    → IfOk result (λ reply. InPast origin (IsReadReply (call.CountRequests matcher) reply))
-counted origin matcher count reading (Ok reply) is e json =
-    (is.past, is.reached, (count, said origin (read.Count matcher) reading _ is e, json))
-counted origin matcher count reading (Err why) is e json = tt
+    : (origin : Past) (matcher : RequestSpec) (list : Vec Entry Global) (reading : Reading)
+    (result : Result (List ℕ) AllocError)
+    → IsRead origin read.Requests reading → reading.answer ≡ answer.Requests list
+    → IfOk result (λ text. (count : ℕ) × IsCount (λ entry. MeetsRequest matcher entry.request) list.items count
+    × IsJsonReply 200 (json_of_number count) (json_reply 200 text))
+    → IfOk result (λ text. InPast origin (IsReadReply (call.CountRequests matcher) (json_reply 200 text)))
+counted origin matcher list reading (Ok text) is e json =
+    let says = said origin read.Requests reading _ is e in (
+      is.past,
+      is.reached,
+      (
+        json.0,
+        subst (λ es. IsCount (λ (entry : Entry). MeetsRequest matcher entry.request) es json.0) says json.1,
+        json.2,
+      ),
+    )
+counted origin matcher list reading (Err why) is e json = tt
 
 pub scenarios
     : (origin : Past) (states : States) (list : Vec Mapping Global) (reading : Reading)

@@ -7,10 +7,10 @@ ghost use Rattle.admin_routes.specs.declared.call.AdminCall.TheVariants.{StartRe
 use crate::admin_answer::AdminAnswer;
 use crate::change::change;
 use crate::error::SharedError;
-use crate::lists::{find_requests, list_requests, list_unmatched, read_recording_har};
-use crate::reads::{
-    count_requests, list_mappings, list_scenarios, read_mapping, read_recording_status,
+use crate::lists::{
+    count_requests, find_requests, list_requests, list_unmatched, read_recording_har,
 };
+use crate::reads::{list_mappings, list_scenarios, read_mapping, read_recording_status};
 use admin_json::start::RecordingStart;
 use admin_routes::call::AdminCall;
 use mapping_model::reply::Reply;
@@ -41,6 +41,9 @@ pub fn answer_admin<L: Origin, R: Wait>(
         AdminCall::FindRequests(matcher) => {
             Ok(AdminAnswer::Listed(find_requests(rt, alloc, shared, seat, matcher)?))
         }
+        AdminCall::CountRequests(matcher) => {
+            Ok(AdminAnswer::Listed(count_requests(rt, alloc, shared, seat, matcher)?))
+        }
         AdminCall::ReadRecordingHar => {
             Ok(AdminAnswer::Listed(read_recording_har(rt, alloc, shared, seat)?))
         }
@@ -48,7 +51,7 @@ pub fn answer_admin<L: Origin, R: Wait>(
     }
 }
 
-// The calls whose answers are short.
+// The calls whose answers are made at once.
 fn answer_whole<L: Origin, R: Wait>(
     rt: &R,
     alloc: Global,
@@ -84,7 +87,6 @@ fn answer_whole<L: Origin, R: Wait>(
         AdminCall::StopRecording => change(rt, alloc, shared, seat, BookInput::StopRecording),
         AdminCall::ListMappings => Ok(list_mappings(rt, alloc, shared, seat)?),
         AdminCall::ReadMapping(id) => read_mapping(rt, alloc, shared, seat, id),
-        AdminCall::CountRequests(matcher) => Ok(count_requests(rt, alloc, shared, seat, matcher)?),
         AdminCall::ListScenarios => Ok(list_scenarios(rt, alloc, shared, seat)?),
         AdminCall::ReadRecordingStatus => Ok(read_recording_status(rt, alloc, shared, seat)?),
         _ => unreachable!(),

@@ -1,15 +1,19 @@
-// Calls that read lists. The JSON is written piece by piece, after the lock was let go.
-ghost use Rattle.std.specs.Prelude.{◌≡◌, ◌⊎◌, ◌+◌, ◌<◌, IfErr, IfOk, Some};
+// Calls that read lists, or search among requests. The search is made, and the JSON written, piece by piece, after the
+// lock was let go.
+ghost use Rattle.std.specs.Prelude.{◌≡◌, ◌⊎◌, ◌+◌, ◌<◌, ℕ, List, IfErr, IfOk, Some};
 ghost use Rattle.std.specs.List.{AllByRecursion};
 ghost use Rattle.admin_answers.specs.Answers.{InPast, IsReadReply};
 ghost use Rattle.admin_answers.specs.JsonReply.{IsJsonReply};
 ghost use Rattle.admin_answers.specs.Recordings.{HasNoHar, IsHarReply};
-ghost use Rattle.admin_json.specs.Requests.{json_of_found, json_of_requests};
+ghost use Rattle.admin_json.specs.Requests.{json_of_found, json_of_number, json_of_requests};
 ghost use Rattle.admin_routes.specs.declared.call.AdminCall.TheVariants as call;
 ghost use Rattle.error_code.specs.declared.error_code.ErrorCode.TheVariants as code;
 ghost use Rattle.har_export.specs.Document.{IsHarText};
 ghost use Rattle.recorder.specs.Recording.{session_of};
+ghost use Rattle.request_journal.specs.Journal.{IsCount, Picks};
 ghost use Rattle.request_journal.specs.Recording.{recording};
+ghost use Rattle.request_journal.specs.declared.entry.Entry.{Entry};
+ghost use Rattle.request_match.specs.Matching.{MeetsRequest};
 ghost use Rattle.stub_response.specs.ErrorReply.{json_reply};
 
 use crate::error::SharedError;
@@ -69,10 +73,27 @@ pub(crate) fn find_requests<L: Origin, R: Wait>(
     ensures { IfOk result (λ listing.
         InPast L.origin (IsReadReply (call.FindRequests matcher) (json_reply 200 listing))) }
 {
-    let reading = seat.read(rt, shared, BookRead::Find(matcher))?;
+    let reading = seat.read(rt, shared, BookRead::Requests)?;
     let last = reading.number;
     match reading.answer {
-        ReadAnswer::Requests(entries) => found_listing(alloc, last, entries),
+        ReadAnswer::Requests(entries) => search_listing(alloc, last, entries, matcher),
+        _ => unreachable!(),
+    }
+}
+
+pub(crate) fn count_requests<L: Origin, R: Wait>(
+    rt: &R,
+    alloc: Global,
+    shared: &SharedBook<L>,
+    seat: &Seat<L>,
+    matcher: RequestMatcher,
+) -> Result<Listing, AllocError>
+    ensures { IfOk result (λ listing.
+        InPast L.origin (IsReadReply (call.CountRequests matcher) (json_reply 200 listing))) }
+{
+    let reading = seat.read(rt, shared, BookRead::Requests)?;
+    match reading.answer {
+        ReadAnswer::Requests(entries) => count_listing(alloc, entries, matcher),
         _ => unreachable!(),
     }
 }
@@ -110,6 +131,33 @@ fn found_listing(alloc: Global, last: u64, entries: Vec<Entry>) -> Result<Listin
         → IsJsonReply 200 (json_of_found entries.items) (json_reply 200 listing)) }
 {
     Listing::of_found(alloc, entries)
+}
+
+// Those of them that meet the matcher.
+fn search_listing(
+    alloc: Global,
+    last: u64,
+    entries: Vec<Entry>,
+    matcher: RequestMatcher,
+) -> Result<Listing, AllocError>
+    ensures { IfOk result (λ listing.
+        AllByRecursion (λ entry. entry.number < last + 1) entries.items
+        → (found : List Entry) × Picks (λ entry. MeetsRequest matcher entry.request) entries.items found
+        × IsJsonReply 200 (json_of_found found) (json_reply 200 listing)) }
+{
+    Listing::of_search(alloc, entries, matcher)
+}
+
+fn count_listing(
+    alloc: Global,
+    entries: Vec<Entry>,
+    matcher: RequestMatcher,
+) -> Result<Listing, AllocError>
+    ensures { IfOk result (λ listing.
+        (count : ℕ) × IsCount (λ entry. MeetsRequest matcher entry.request) entries.items count
+        × IsJsonReply 200 (json_of_number count) (json_reply 200 listing)) }
+{
+    Listing::of_count(alloc, entries, matcher)
 }
 
 fn har_listing(alloc: Global, recording: &Recording) -> Result<Listing, SharedError>

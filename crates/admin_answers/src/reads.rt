@@ -4,7 +4,6 @@ ghost use Rattle.admin_answers.specs.Answers.{InPast, IsHeldReply, IsReadReply};
 ghost use Rattle.admin_answers.specs.JsonReply.{IsJsonReply};
 ghost use Rattle.admin_json.specs.Mappings.{json_of_held, json_of_mappings};
 ghost use Rattle.admin_json.specs.Recordings.{json_of_status};
-ghost use Rattle.admin_json.specs.Requests.{json_of_number};
 ghost use Rattle.admin_json.specs.Scenarios.{json_of_scenarios};
 ghost use Rattle.admin_routes.specs.declared.call.AdminCall.TheVariants as call;
 ghost use Rattle.error_code.specs.declared.error_code.ErrorCode.TheVariants as code;
@@ -14,14 +13,12 @@ use crate::error::SharedError;
 use crate::json_reply::value_reply;
 use admin_json::mappings::{mapping_value, mappings_value};
 use admin_json::recordings::status_value;
-use admin_json::requests::count_value;
 use admin_json::scenarios::scenarios_value;
 use error_code::error_code::ErrorCode;
 use mapping_model::mapping_id::MappingId;
 use mapping_model::reply::Reply;
 use recorder::recording::RecordingStatus;
 use request_journal::mapping::Mapping;
-use request_match::request_matcher::RequestMatcher;
 use scenario_core::scenarios::Scenarios;
 use shared_book::book_read::{BookRead, ReadAnswer};
 use shared_book::origin::Origin;
@@ -59,22 +56,6 @@ pub(crate) fn read_mapping<L: Origin, R: Wait>(
     let reading = seat.read(rt, shared, BookRead::Mapping(id))?;
     match &reading.answer {
         ReadAnswer::Mapping(held) => held_reply(alloc, held),
-        _ => unreachable!(),
-    }
-}
-
-pub(crate) fn count_requests<L: Origin, R: Wait>(
-    rt: &R,
-    alloc: Global,
-    shared: &SharedBook<L>,
-    seat: &Seat<L>,
-    matcher: RequestMatcher,
-) -> Result<Reply, AllocError>
-    ensures { IfOk result (λ reply. InPast L.origin (IsReadReply (call.CountRequests matcher) reply)) }
-{
-    let reading = seat.read(rt, shared, BookRead::Count(matcher))?;
-    match &reading.answer {
-        ReadAnswer::Count(count) => count_reply(alloc, *count),
         _ => unreachable!(),
     }
 }
@@ -132,12 +113,6 @@ fn mapping_reply(alloc: Global, mapping: &Mapping) -> Result<Reply, AllocError>
     ensures { IfOk result (IsJsonReply 200 (json_of_held mapping.now)) }
 {
     value_reply(alloc, 200, &mapping_value(alloc, mapping)?)
-}
-
-fn count_reply(alloc: Global, count: usize) -> Result<Reply, AllocError>
-    ensures { IfOk result (IsJsonReply 200 (json_of_number count)) }
-{
-    value_reply(alloc, 200, &count_value(alloc, count)?)
 }
 
 fn scenarios_reply(

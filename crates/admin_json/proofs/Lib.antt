@@ -2,3 +2,4 @@ pub mod NameLemmas
 pub mod GroupLemmas
 pub mod Regular
 pub mod RequestLemmas
+pub mod MappingLemmas

@@ -1,16 +1,15 @@
 -- Values whose objects have their names in order: their text has no float where no number is one, and reads back.
-use Rattle.std.proofs.Common.{◌≡◌, ℕ, suc, max, ◌≤◌, ◌<◌, ◌^◌, List, [], ◌∷◌, ◌++◌}
-use Rattle.std.proofs.Common.{Bool, true, false, Some, Ordering, Less, Equal, Greater, nat_cmp, refl, sym, ap, ap₂}
-use Rattle.std.proofs.Common.{◌∙◌, subst, arith, append-nil}
+use Rattle.std.proofs.Common.{◌≡◌, ℕ, pos, negsuc, suc, max, ◌≤◌, ◌<◌, ◌^◌, List, []}
+use Rattle.std.proofs.Common.{false, Some, Ordering, Less, Equal, Greater, nat_cmp, refl, sym, ap, ap₂}
+use Rattle.std.proofs.Common.{◌∙◌, subst, append-nil}
 use Rattle.std.specs.Prelude.{⊤, option_map, option_and_then}
 use Rattle.std.specs.Cmp.Lexicographic.{slice_cmp}
 use Rattle.std.specs.Ordering.{match_ordering, ordering_reverse}
 use Rattle.std.proofs.lemmas.Cmp.{nat_list_cmp_total}
 use Rattle.json.specs.Lex.{tokens}
-use Rattle.json.specs.Print.{print}
 use Rattle.json.specs.Json as json
 use Rattle.json.specs.Tree as tree
-use Rattle.json.proofs.Printed.Decimals.{IsNumber-decimal}
+use Rattle.json.proofs.Printed.Decimals.{IsNumber-decimal, IsNumber-signed_decimal}
 use Rattle.json.proofs.Printed.Tokens.{tokens-print}
 use Rattle.json.proofs.Printed.Trees.{value-json_tokens, ArePrintable-json_tokens}
 use Rattle.serde_json.specs.Data.{Num, unsigned, negative, float, Data, null, boolean, number, string, array, object}
@@ -20,7 +19,7 @@ use Rattle.serde_json.specs.Find.{is_float}
 use Rattle.serde_json.specs.Read.{read, of_json, of_items, of_members, max_depth}
 use Rattle.serde_json.specs.Written.{outline, items_outline, members_outline, has_float, items_have_float}
 use Rattle.serde_json.specs.Written.{members_have_float, compact_text}
-use Rattle.serde_json.proofs.Numbers.{number_of-decimal}
+use Rattle.serde_json.proofs.Numbers.{number_of-decimal, number_of-negative}
 use Rattle.serde_json.proofs.Texts.{print-outline}
 
 abbrev pub is_below : List ℕ → List ℕ → Type 0
@@ -131,7 +130,8 @@ mutual
 -- a number of 64 bits
 abbrev pub FitsWord : Num → Type 0
 FitsWord (unsigned n) = n < 2 ^ 64
-FitsWord (negative z) = ⊥
+FitsWord (negative (pos n)) = ⊥
+FitsWord (negative (negsuc n)) = n < 2 ^ 63
 FitsWord (float x) = ⊥
 
 abbrev after : Members → Members → Members
@@ -165,7 +165,8 @@ mutual
   reads null is = refl
   reads (boolean b) is = refl
   reads (number (unsigned n)) is = ap (option_map number) (number_of-decimal n is)
-  reads (number (negative z)) is = absurd is
+  reads (number (negative (pos n))) is = absurd is
+  reads (number (negative (negsuc n))) is = ap (option_map number) (number_of-negative n is)
   reads (number (float x)) is = absurd is
   reads (string s) is = refl
   reads (array ds) is = ap (option_map array) (items_read ds is)
@@ -192,7 +193,8 @@ mutual
   numbered null is = tt
   numbered (boolean b) is = tt
   numbered (number (unsigned n)) is = IsNumber-decimal n is
-  numbered (number (negative z)) is = absurd is
+  numbered (number (negative (pos n))) is = absurd is
+  numbered (number (negative (negsuc n))) is = IsNumber-signed_decimal (negsuc n) is
   numbered (number (float x)) is = absurd is
   numbered (string s) is = tt
   numbered (array ds) is = items_numbered ds is

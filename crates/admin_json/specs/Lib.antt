@@ -11,3 +11,4 @@ pub mod State
 pub mod Start
 pub mod Errors
 pub mod Inner
+pub mod Plain

@@ -1,9 +1,10 @@
 -- Texts of entries that are joined are the compact text of the list.
-use Rattle.std.proofs.Common.{◌≡◌, ◌≢◌, ℕ, zero, suc, ◌+◌, List, [], ◌∷◌, ◌++◌, Bool, true}
+use Rattle.std.proofs.Common.{◌≡◌, ℕ, zero, suc, List, [], ◌∷◌, ◌++◌, Bool, true}
 use Rattle.std.proofs.Common.{false, Some, length, map, drop, refl, ap, ◌∙◌, slice_get, codes, decimal}
 use Rattle.std.proofs.Common.{append_assoc}
 use Rattle.std.specs.Prelude.{unwrap_or}
-use Rattle.admin_json.specs.Requests.{json_of_entry, json_of_entries, json_of_found, json_of_requests}
+use Rattle.admin_json.specs.Requests.{json_of_entry, json_of_found, json_of_number}
+use Rattle.admin_json.specs.Requests.{json_of_requests}
 use Rattle.admin_listing.specs.Inner.Joined.{joined, text_of}
 use Rattle.har_export.specs.Document.{json_of_har, texts_of}
 use Rattle.request_journal.specs.declared.entry.Entry.{Entry}
@@ -45,6 +46,13 @@ pub found_text
     ≡ codes "{\"requests\":[" ++ joined (codes "]}") false (map text_of entries)
 unfolding serde_json_on_literals
 found_text entries = ap (λ s. codes "{\"requests\":[" ++ s) (entries_joined false entries (codes "}"))
+
+pub count_text
+    : (count : ℕ)
+    → compact_text (json_of_number count)
+    ≡ codes "{\"count\":" ++ joined (codes "}") false (decimal count ∷ [])
+unfolding serde_json_on_literals
+count_text count = refl
 
 pub requests_text
     : (entries : List Entry)

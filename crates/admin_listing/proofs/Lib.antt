@@ -1,1 +1,3 @@
 mod JoinedLemmas
+mod MeetsLemmas
+mod SearchLemmas

@@ -1,2 +1,4 @@
 -- Words of private clauses.
 pub mod Joined
+pub mod Meets
+pub mod Searched

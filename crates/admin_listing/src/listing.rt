@@ -1,21 +1,26 @@
 // The text of a list, written piece by piece.
-ghost use Rattle.std.specs.Prelude.{◌≡◌, ◌≢◌, ◌↔◌, ◌+◌, ◌^◌, ◌<◌, ◌≤◌, ◌++◌};
+ghost use Rattle.std.specs.Prelude.{◌≡◌, ◌≢◌, ◌↔◌, ◌+◌, ◌^◌, ◌<◌, ◌≤◌, ◌++◌, ℕ, List};
 ghost use Rattle.std.specs.Prelude.{[], Some, length, string_bytes, IfOk, OnOk, OnErr, IsErrOf, MatchOption};
 ghost use Rattle.std.specs.List.{AllByRecursion};
-ghost use Rattle.admin_json.specs.Requests.{json_of_found, json_of_requests};
-ghost use Rattle.admin_listing.specs.Inner.Joined.{head_of_requests, left_of, texts_in};
+ghost use Rattle.admin_json.specs.Requests.{json_of_found, json_of_number, json_of_requests};
+ghost use Rattle.admin_listing.specs.Inner.Joined.{head_of_requests, left_of, texts_in, IsReady};
 ghost use Rattle.har_export.specs.Document.{AreInRange, IsHarText};
+ghost use Rattle.request_journal.specs.Journal.{IsCount, Picks};
+ghost use Rattle.request_match.specs.Matching.{MeetsRequest};
 ghost use Rattle.serde_json.specs.Data.{depth};
 ghost use Rattle.serde_json.specs.Read.{max_depth, read};
 ghost use Rattle.serde_json.specs.Written.{comma_if, compact_text};
+ghost use Rattle.request_journal.specs.declared.entry.Entry.{Entry};
 
 use crate::entries::Entries;
+use crate::search::Search;
 use har_export::entries::HarEntries;
 use har_export::error::HarError;
 use itoa::Buffer;
 use recorder::exchange::SharedExchange;
 use recorder::target::Target;
 use request_journal::entry::Entry;
+use request_match::request_matcher::RequestMatcher;
 use std::alloc::{AllocError, Global};
 use std::marker::Model;
 
@@ -67,6 +72,39 @@ impl Listing {
         Ok(new_listing(head, Entries::Requests(entries)))
     }
 
+    /// The requests that meet the matcher, in the order that is given.
+    pub fn of_search(
+        alloc: Global,
+        entries: Vec<Entry>,
+        matcher: RequestMatcher,
+    ) -> Result<Listing, AllocError>
+        ensures text { IfOk result (λ listing. (found : List Entry)
+            × Picks (λ entry. MeetsRequest matcher entry.request) entries.items found
+            × (listing ≡ compact_text (json_of_found found))
+            × (AllByRecursion (λ entry. entry.number < 2 ^ 64) entries.items
+            → depth (json_of_found found) ≤ max_depth → read listing ≡ Some (json_of_found found))) }
+    {
+        let head = String::from_str(alloc, "{\"requests\":[")?;
+        Ok(new_listing(head, Entries::Found(Search::new(alloc, entries, matcher))))
+    }
+
+    /// How many of the requests meet the matcher.
+    pub fn of_count(
+        alloc: Global,
+        entries: Vec<Entry>,
+        matcher: RequestMatcher,
+    ) -> Result<Listing, AllocError>
+        ensures text { IfOk result (λ listing. (count : ℕ)
+            × IsCount (λ entry. MeetsRequest matcher entry.request) entries.items count
+            × (listing ≡ compact_text (json_of_number count))
+            × (read listing ≡ Some (json_of_number count))) }
+    {
+        // For its clause: a number of 64 bits has room for the count.
+        let _total = entries.len();
+        let head = String::from_str(alloc, "{\"count\":")?;
+        Ok(new_listing(head, Entries::Count(Search::new(alloc, entries, matcher))))
+    }
+
     /// The HAR document of exchanges with the target. An exchange that started too late is reported before any memory
     /// is taken.
     pub fn of_exchanges(
@@ -85,6 +123,15 @@ impl Listing {
         Ok(new_listing(head, Entries::Exchanges(entries)))
     }
 
+    /// Searches a portion of the requests that are left to be searched, and says whether there are more. What is to
+    /// be given stays: who asks this until there are no more can serve others in between, where `next` searches them
+    /// all at once.
+    pub fn search(&mut self, alloc: Global) -> Result<bool, AllocError>
+        ensures { self.new ≡ self.old }
+    {
+        self.entries.search(alloc)
+    }
+
     /// The next piece, which is not empty, or `None` where all was given. After an error nothing was given.
     pub fn next(&mut self, alloc: Global) -> Result<Option<String>, AllocError>
         ensures given { IfOk result (λ given. MatchOption given ((self.old ≡ []) × (self.new ≡ []))
@@ -94,6 +141,7 @@ impl Listing {
         let Some(first) = self.next else {
             return Ok(None);
         };
+        self.entries.search_all(alloc)?;
         let (piece, next) = piece_from(alloc, self.head.as_str(), &self.entries, first)?;
         self.head.clear();
         self.next = next;
@@ -128,6 +176,7 @@ fn piece_from(
     entries: &Entries,
     first: usize,
 ) -> Result<(String, Option<usize>), AllocError>
+    requires { IsReady entries.now }
     ensures some { IfOk result (λ made. string_bytes made.0 ≢ []) }
     ensures text { IfOk result (λ made. left_of head.now entries.now (Some first)
         ≡ string_bytes made.0 ++ left_of [] entries.now made.1) }
@@ -151,7 +200,8 @@ fn push_entry(
     entries: &Entries,
     index: usize,
 ) -> Result<(), AllocError>
-    requires { index < length (texts_in entries.now) }
+    requires ready { IsReady entries.now }
+    requires within { index < length (texts_in entries.now) }
     ensures { OnOk result (string_bytes piece.old ++ left_of [] entries.now (Some index)
         ≡ string_bytes piece.new ++ left_of [] entries.now (Some (index + 1))) }
 {

@@ -1,5 +1,5 @@
 // The body of a response.
-ghost use Rattle.std.specs.Prelude.{◌≡◌, [], IfOk, IfSome, string_bytes, ⊤};
+ghost use Rattle.std.specs.Prelude.{◌≡◌, [], IfNone, IfOk, IfSome, string_bytes, ⊤};
 ghost use Rattle.answering.specs.Content.{Yields};
 ghost use Rattle.futures.specs.Poll.{IfReady, OnPending};
 ghost use Rattle.futures.specs.Runs.{After, Within};
@@ -15,8 +15,8 @@ use std::alloc::{AllocError, Global};
 use std::marker::Model;
 use std::mem;
 
-/// Between two pieces of a list. While a task asks to be polled again, the runtime looks for what others have sent
-/// after 64 polls, so it does so after each fourth piece.
+/// Between two pieces of a list, or two portions of a search. While a task asks to be polled again, the runtime looks
+/// for what others have sent after 64 polls, so it does so after each fourth piece or portion.
 const PAUSES: u32 = 16;
 
 /// The body of a response: bytes, or a list whose text is written piece by piece while it is sent.
@@ -123,7 +123,8 @@ impl Body for Content {
 }
 
 impl Listed {
-    // The next piece. Between two of them it says some times that none is ready yet, and asks to be polled again.
+    // The next piece. Between two of them, and between two portions of a search, it says some times that none is ready
+    // yet, and asks to be polled again.
     fn poll_frame(
         &mut self,
         cx: &mut Context<'_>,
@@ -140,7 +141,10 @@ impl Listed {
             return cx.yield_now();
         }
         self.pauses = PAUSES;
-        Poll::Ready(listed_frame(self.alloc, &mut self.listing))
+        match searched_frame(self.alloc, &mut self.listing) {
+            Some(frame) => Poll::Ready(frame),
+            None => cx.yield_now(),
+        }
     }
 }
 
@@ -154,6 +158,23 @@ fn whole_frame(bytes: &mut Bytes) -> Option<Result<Frame<Bytes>, ServiceError>>
     }
     let whole = mem::replace(bytes, Bytes::new());
     Some(Ok(Frame::data(whole)))
+}
+
+// What the next piece gives, once nothing is left to be searched. It searches one portion.
+fn searched_frame(
+    alloc: Global,
+    listing: &mut Listing,
+) -> Option<Option<Result<Frame<Bytes>, ServiceError>>>
+    ensures value { IfSome result (Yields listing.old []) }
+    ensures rest { IfSome result
+        (λ o. IfSome o (λ x. After (Yields listing.old) x (Yields listing.new))) }
+    ensures same { IfNone result (listing.new ≡ listing.old) }
+{
+    match listing.search(alloc) {
+        Ok(true) => None,
+        Ok(false) => Some(listed_frame(alloc, listing)),
+        Err(AllocError) => Some(Some(Err(ServiceError::OutOfMemory))),
+    }
 }
 
 fn listed_frame(alloc: Global, listing: &mut Listing) -> Option<Result<Frame<Bytes>, ServiceError>>

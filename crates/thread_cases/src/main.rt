@@ -23,6 +23,10 @@ mod threads;
 mod two_threads;
 mod versions;
 
+// Connections that break off.
+mod broken;
+mod nowhere;
+
 // Messages that are answered over shared books, also by two threads.
 mod answered;
 mod answers;
@@ -42,6 +46,7 @@ mod recordings;
 mod unrecorded;
 mod upstream;
 
+use broken::{Peer, broken};
 use case_table::compare::compare_all;
 use cases::{Case, play};
 use recordings::{Recording, play_recording};
@@ -51,6 +56,7 @@ use std::process::ExitCode;
 use std::sync::Wait;
 use std::thread::Threads;
 use table::Schedules;
+use tokio::runtime::LocalRuntime;
 
 fn main(rt: HostRuntime) -> io::Result<ExitCode> {
     for case in [
@@ -78,6 +84,21 @@ fn main(rt: HostRuntime) -> io::Result<ExitCode> {
     .as_slice()
     {
         let line = play_recording(&rt, *case)?;
+        println!(rt; "{line}")?;
+    }
+    let mut runtime = LocalRuntime::new(&rt)?;
+    for peer in [
+        Peer::Pieces,
+        Peer::StopsSending,
+        Peer::FallsSilent,
+        Peer::StopsTaking,
+        Peer::FailingReads,
+        Peer::FailingWrites,
+        Peer::Turns,
+    ]
+    .as_slice()
+    {
+        let line = broken(&rt, rt.alloc(), &mut runtime, *peer)?;
         println!(rt; "{line}")?;
     }
     compare_all(&rt, &[Schedules])

@@ -1,9 +1,10 @@
 -- The text of a list from an entry on: the texts of the entries, with commas between them, and what stands after them.
-use Rattle.std.specs.Prelude.{ℕ, List, [], ◌∷◌, ◌++◌, Bool, true, nat_lt, drop, map, Option, Some, None}
+use Rattle.std.specs.Prelude.{ℕ, List, [], ◌∷◌, ◌++◌, Bool, true, nat_lt, drop, length, map, Option, Some, None}
 use Rattle.std.specs.Prelude.{codes, decimal}
 use Rattle.admin_json.specs.Requests.{json_of_entry}
+use Rattle.admin_listing.specs.Inner.Searched.{found_in, IsSearched}
 use Rattle.admin_listing.specs.declared.entries.Entries.{Entries}
-use Rattle.admin_listing.specs.declared.entries.Entries.TheVariants.{Requests, Exchanges}
+use Rattle.admin_listing.specs.declared.entries.Entries.TheVariants.{Requests, Found, Count, Exchanges}
 use Rattle.request_journal.specs.declared.entry.Entry.{Entry}
 use Rattle.serde_json.specs.Written.{comma_if, compact_text}
 
@@ -12,11 +13,22 @@ text_of entry = compact_text (json_of_entry entry)
 
 abbrev pub texts_in : Entries → List (List ℕ)
 texts_in (Requests entries) = map text_of entries.items
+texts_in (Found search) = map text_of (found_in search)
+texts_in (Count search) = decimal (length (found_in search)) ∷ []
 texts_in (Exchanges texts) = texts
 
 abbrev pub end_of : Entries → List ℕ
 end_of (Requests entries) = codes "]}"
+end_of (Found search) = codes "]}"
+end_of (Count search) = codes "}"
 end_of (Exchanges texts) = codes "],\"version\":\"1.2\"}}"
+
+-- nothing is left to be searched
+abbrev pub IsReady : Entries → Type 0
+IsReady (Requests entries) = Unit {0}
+IsReady (Found search) = IsSearched search
+IsReady (Count search) = IsSearched search
+IsReady (Exchanges texts) = Unit {0}
 
 -- what stands before a list of so many requests
 abbrev pub head_of_requests : ℕ → List ℕ

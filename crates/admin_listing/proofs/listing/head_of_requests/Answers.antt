@@ -1,4 +1,4 @@
-use Rattle.std.proofs.Common.{◌≡◌, ◌++◌, ◌∙◌, ap, append_assoc, codes, decimal}
+use Rattle.std.proofs.Common.{◌++◌, ◌∙◌, ap, append_assoc, codes, decimal}
 use Rattle.admin_listing.proofs.listing.head_of_requests.Goals as goal
 
 pub returns : goal.returns

@@ -1,4 +1,4 @@
-use Rattle.std.proofs.Common.{◌≡◌, ◌++◌, ◌∙◌, sym, ap, codes, false, map}
+use Rattle.std.proofs.Common.{◌++◌, ◌∙◌, sym, ap, codes, false, map}
 use Rattle.admin_json.specs.Requests.{json_of_found}
 use Rattle.admin_json.proofs.Regular.{FitsWord, reads_back}
 use Rattle.admin_json.proofs.RequestLemmas.{found_regular}

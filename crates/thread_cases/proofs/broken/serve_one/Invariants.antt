@@ -1,0 +1,7 @@
+use Rattle.thread_cases.proofs.broken.serve_one.Given as goal
+
+abbrev pub ghosts-serve_over-L-Origin : goal.ghosts-serve_over-L-Origin
+ghosts-serve_over-L-Origin g a = record { origin = a.book }
+
+abbrev pub ghosts-serve_over-L-Ledger : goal.ghosts-serve_over-L-Ledger
+ghosts-serve_over-L-Ledger g a = record { name = a.blank.name; parts = a.blank.parts }
