@@ -81,7 +81,13 @@ impl<L: Origin, R: Wait> Clock for Changing<L, R> {
     fn now_ms(&self) -> u64 {
         if self.is_read.replace(true) {
             if let Some(mut seat) = self.seat.take() {
-                let _accepted = change(&self.rt, self.alloc, &self.book, &mut seat, self.change);
+                let _accepted = make_change(
+                    &self.rt,
+                    self.alloc,
+                    &self.book,
+                    &mut seat,
+                    self.change,
+                );
                 self.seat.set(Some(seat));
             }
         }
@@ -89,7 +95,7 @@ impl<L: Origin, R: Wait> Clock for Changing<L, R> {
     }
 }
 
-fn change<L: Origin, R: Wait>(
+fn make_change<L: Origin, R: Wait>(
     rt: &R,
     alloc: Global,
     book: &SharedBook<L>,

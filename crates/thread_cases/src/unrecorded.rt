@@ -18,6 +18,8 @@ use std::sync::Wait;
 use std::thread::Threads;
 use std::time::Clock;
 
+const HELLO: &[u8] = b"HTTP/1.1 203 X\r\nContent-Length: 5\r\n\r\nhello";
+
 /// A target that gives half a head and then is gone.
 pub fn failed<L: Origin, R>(
     rt: &R,
@@ -38,7 +40,7 @@ where
     let alloc = rt.alloc();
     let mut seat = seat;
     let site = site_of(shared, Ticking::new(1000));
-    let upstream = upstream(rt, alloc, b"HTTP/1.1 200 O")?;
+    let upstream = replying(rt, alloc, b"HTTP/1.1 200 O")?;
     let port = upstream.port;
     let started = ask(rt, cells, &site, &mut seat, Asked::Start(port));
     let cut = ask(rt, cells, &site, &mut seat, Asked::Get);
@@ -73,7 +75,7 @@ where
     let alloc = rt.alloc();
     let mut seat = seat;
     let site = site_of(shared, Ticking::new(1000));
-    let upstream = upstream(rt, alloc, HELLO)?;
+    let upstream = replying(rt, alloc, HELLO)?;
     let port = upstream.port;
     let started = ask(rt, cells, &site, &mut seat, Asked::Start(port));
     let replied = ask(rt, cells, &site, &mut seat, Asked::Get);
@@ -108,7 +110,7 @@ where
     let other = seat.split();
     let clock = Changing::new(*rt, alloc, shared.try_clone()?, change, other);
     let site = site_of(shared, clock);
-    let upstream = upstream(rt, alloc, HELLO)?;
+    let upstream = replying(rt, alloc, HELLO)?;
     let port = upstream.port;
     let started = ask(rt, cells, &site, &mut seat, Asked::Start(port));
     let replied = ask(rt, cells, &site, &mut seat, Asked::Get);
@@ -124,10 +126,8 @@ where
     settle_all(rt, alloc, cells, book, seats, 0)
 }
 
-const HELLO: &[u8] = b"HTTP/1.1 203 X\r\nContent-Length: 5\r\n\r\nhello";
-
-// One that awaits a request.
-fn upstream<R>(rt: &R, alloc: Global, reply: &'static [u8]) -> Result<Upstream, AllocError>
+// One that awaits a request, and gives that reply.
+fn replying<R>(rt: &R, alloc: Global, reply: &'static [u8]) -> Result<Upstream, AllocError>
 where
     R: Threads + Net<Listener = TcpListener, Stream = TcpStream>,
 {
