@@ -13,7 +13,6 @@ use crate::lists::{
 use crate::reads::{list_mappings, list_scenarios, read_mapping, read_recording_status};
 use admin_json::start::RecordingStart;
 use admin_routes::call::AdminCall;
-use mapping_model::reply::Reply;
 use request_journal::input::BookInput;
 use shared_book::origin::Origin;
 use shared_book::seat::Seat;
@@ -47,20 +46,20 @@ pub fn answer_admin<L: Origin, R: Wait>(
         AdminCall::ReadRecordingHar => {
             Ok(AdminAnswer::Listed(read_recording_har(rt, alloc, shared, seat)?))
         }
-        other => Ok(AdminAnswer::Whole(answer_whole(rt, alloc, shared, seat, other)?)),
+        other => answer_other(rt, alloc, shared, seat, other),
     }
 }
 
-// The calls whose answers are made at once.
-fn answer_whole<L: Origin, R: Wait>(
+// The other calls.
+fn answer_other<L: Origin, R: Wait>(
     rt: &R,
     alloc: Global,
     shared: &SharedBook<L>,
     seat: &mut Seat<L>,
     call: AdminCall,
-) -> Result<Reply, SharedError>
+) -> Result<AdminAnswer, SharedError>
     requires { ¬ (IsListed call) }
-    ensures ok { IfOk result (IsAnswered L.origin seat.old seat.new call) }
+    ensures ok { IfOk result (λ answer. IsAnswered L.origin seat.old seat.new call (reply_of answer)) }
     ensures refused { IfErr result (λ error. IsNotAnswered L.origin seat.old seat.new call error.code) }
 {
     match call {
@@ -86,9 +85,15 @@ fn answer_whole<L: Origin, R: Wait>(
         AdminCall::StartRecording(start) => start_recording(rt, alloc, shared, seat, start),
         AdminCall::StopRecording => change(rt, alloc, shared, seat, BookInput::StopRecording),
         AdminCall::ListMappings => Ok(list_mappings(rt, alloc, shared, seat)?),
-        AdminCall::ReadMapping(id) => read_mapping(rt, alloc, shared, seat, id),
-        AdminCall::ListScenarios => Ok(list_scenarios(rt, alloc, shared, seat)?),
-        AdminCall::ReadRecordingStatus => Ok(read_recording_status(rt, alloc, shared, seat)?),
+        AdminCall::ReadMapping(id) => {
+            Ok(AdminAnswer::Whole(read_mapping(rt, alloc, shared, seat, id)?))
+        }
+        AdminCall::ListScenarios => {
+            Ok(AdminAnswer::Whole(list_scenarios(rt, alloc, shared, seat)?))
+        }
+        AdminCall::ReadRecordingStatus => {
+            Ok(AdminAnswer::Whole(read_recording_status(rt, alloc, shared, seat)?))
+        }
         _ => unreachable!(),
     }
 }
@@ -99,8 +104,9 @@ fn start_recording<L: Origin, R: Wait>(
     shared: &SharedBook<L>,
     seat: &mut Seat<L>,
     start: RecordingStart,
-) -> Result<Reply, SharedError>
-    ensures ok { IfOk result (IsAnswered L.origin seat.old seat.new (StartRecording start)) }
+) -> Result<AdminAnswer, SharedError>
+    ensures ok { IfOk result (λ answer.
+        IsAnswered L.origin seat.old seat.new (StartRecording start) (reply_of answer)) }
     ensures refused { IfErr result (λ error.
         IsNotAnswered L.origin seat.old seat.new (StartRecording start) error.code) }
 {

@@ -4,11 +4,15 @@ ghost use Rattle.admin_answers.specs.Answers.{IsChanged, IsNotChanged, IsEventRe
 ghost use Rattle.admin_answers.specs.JsonReply.{IsJsonReply};
 ghost use Rattle.admin_json.specs.Mappings.{json_of_held};
 ghost use Rattle.admin_json.specs.Recordings.{json_of_recorded};
+ghost use Rattle.admin_answers.specs.Replies.{reply_of};
+ghost use Rattle.serde_json.specs.Data.{object, no_members};
 
+use crate::admin_answer::AdminAnswer;
 use crate::error::SharedError;
 use crate::json_reply::value_reply;
 use admin_json::mappings::mapping_value;
 use admin_json::recordings::recorded_value;
+use admin_listing::listing::Listing;
 use mapping_model::mapping_id::MappingId;
 use mapping_model::reply::Reply;
 use request_journal::event::Event;
@@ -22,35 +26,47 @@ use shared_book::shared_book::SharedBook;
 use std::alloc::{AllocError, Global};
 use std::sync::Wait;
 
-/// Makes the change, and answers it. The JSON is written after the lock was let go, from the event that
-/// the receipt has.
+/// Makes the change, and answers it. The JSON is written after the lock was let go, from the event that the receipt
+/// has; that of a list of mappings piece by piece.
 pub(crate) fn change<L: Origin, R: Wait>(
     rt: &R,
     alloc: Global,
     shared: &SharedBook<L>,
     seat: &mut Seat<L>,
     asked: BookInput,
-) -> Result<Reply, SharedError>
-    ensures ok { IfOk result (IsChanged L.origin seat.old seat.new asked) }
+) -> Result<AdminAnswer, SharedError>
+    ensures ok { IfOk result (λ answer. IsChanged L.origin seat.old seat.new asked (reply_of answer)) }
     ensures refused { IfErr result (λ error. IsNotChanged L.origin seat.old seat.new asked error.code) }
 {
     match seat.apply(rt, shared, asked) {
-        Ok(receipt) => Ok(event_reply(alloc, receipt.event.event())?),
+        Ok(receipt) => Ok(event_answer(alloc, receipt.event.event())?),
         Err(error) => Err(SharedError::from(error)),
     }
 }
 
-fn event_reply(alloc: Global, event: &Event) -> Result<Reply, AllocError>
-    ensures { IfOk result (IsEventReply event.now) }
+fn event_answer(alloc: Global, event: &Event) -> Result<AdminAnswer, AllocError>
+    ensures { IfOk result (λ answer. IsEventReply event.now (reply_of answer)) }
 {
     match event {
-        Event::Add(mapping) => value_reply(alloc, 201, &mapping_value(alloc, mapping)?),
-        Event::Edit { id, spec } => edited_reply(alloc, *id, spec),
         Event::StopRecording { mappings, skipped } => {
-            recorded_reply(alloc, mappings.as_slice(), *skipped)
+            recorded_answer(alloc, mappings.as_slice(), *skipped)
         }
-        _ => value_reply(alloc, 200, &Value::Object(Map::new(alloc))),
+        Event::Add(mapping) => Ok(AdminAnswer::Whole(added_reply(alloc, mapping)?)),
+        Event::Edit { id, spec } => Ok(AdminAnswer::Whole(edited_reply(alloc, *id, spec)?)),
+        _ => Ok(AdminAnswer::Whole(empty_reply(alloc)?)),
     }
+}
+
+fn added_reply(alloc: Global, mapping: &Mapping) -> Result<Reply, AllocError>
+    ensures { IfOk result (IsJsonReply 201 (json_of_held mapping.now)) }
+{
+    value_reply(alloc, 201, &mapping_value(alloc, mapping)?)
+}
+
+fn empty_reply(alloc: Global) -> Result<Reply, AllocError>
+    ensures { IfOk result (IsJsonReply 200 (object no_members)) }
+{
+    value_reply(alloc, 200, &Value::Object(Map::new(alloc)))
 }
 
 fn edited_reply(alloc: Global, id: MappingId, spec: &SharedSpec) -> Result<Reply, AllocError>
@@ -58,6 +74,19 @@ fn edited_reply(alloc: Global, id: MappingId, spec: &SharedSpec) -> Result<Reply
 {
     let spec = spec.try_clone()?;
     value_reply(alloc, 200, &mapping_value(alloc, &Mapping { id, spec })?)
+}
+
+fn recorded_answer(
+    alloc: Global,
+    mappings: &[Mapping],
+    skipped: u64,
+) -> Result<AdminAnswer, AllocError>
+    ensures { IfOk result (λ answer. IsJsonReply 200 (json_of_recorded mappings.now skipped) (reply_of answer)) }
+{
+    match Listing::of_recorded(alloc, mappings, skipped)? {
+        Some(listing) => Ok(AdminAnswer::Listed(listing)),
+        None => Ok(AdminAnswer::Whole(recorded_reply(alloc, mappings, skipped)?)),
+    }
 }
 
 fn recorded_reply(alloc: Global, mappings: &[Mapping], skipped: u64) -> Result<Reply, AllocError>

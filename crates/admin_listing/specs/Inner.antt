@@ -1,4 +1,5 @@
 -- Words of private clauses.
 pub mod Joined
+pub mod Mapped
 pub mod Meets
 pub mod Searched

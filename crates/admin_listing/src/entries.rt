@@ -1,7 +1,8 @@
 // The entries of a list, and what stands after them.
-ghost use Rattle.std.specs.Prelude.{◌≡◌, ◌<◌, false, Some, length, IfOk, OnOk, slice_get, string_bytes};
+ghost use Rattle.std.specs.Prelude.{◌≡◌, ◌<◌, ◌++◌, false, Some, length, IfOk, OnOk, slice_get, string_bytes};
 ghost use Rattle.admin_listing.specs.Inner.Joined.{end_of, texts_in, IsReady};
 
+use crate::mapping_texts::MappingTexts;
 use crate::search::Search;
 use admin_json::requests::entry_text;
 use har_export::entries::HarEntries;
@@ -17,6 +18,11 @@ pub(crate) enum Entries {
     Found(Search),
     /// How many are found, which is the one entry.
     Count(Search),
+    Mappings {
+        texts: MappingTexts,
+        /// What stands after their list.
+        end: String,
+    },
     Exchanges(HarEntries),
 }
 
@@ -55,6 +61,7 @@ impl Entries {
             Entries::Requests(entries) => entries.len(),
             Entries::Found(search) => search.found().len(),
             Entries::Count(_) => 1,
+            Entries::Mappings { texts, .. } => texts.len(),
             Entries::Exchanges(entries) => entries.len(),
         }
     }
@@ -71,18 +78,23 @@ impl Entries {
             Entries::Count(search) => {
                 String::from_str(alloc, Buffer::new().format(search.found().len()))
             }
+            Entries::Mappings { texts, .. } => texts.text(alloc, index),
             Entries::Exchanges(entries) => entries.text(alloc, index),
         }
     }
 
-    /// What stands after the last entry.
-    pub fn end(&self) -> &'static str
-        ensures { result.now ≡ end_of self.now }
+    /// Appends what stands after the last entry.
+    pub fn push_end(&self, piece: &mut String) -> Result<(), AllocError>
+        ensures { OnOk result (string_bytes piece.new ≡ string_bytes piece.old ++ end_of self.now) }
     {
         match self {
-            Entries::Requests(_) | Entries::Found(_) => "]}",
-            Entries::Count(_) => "}",
-            Entries::Exchanges(_) => "],\"version\":\"1.2\"}}",
+            Entries::Requests(_) | Entries::Found(_) => piece.push_str("]}"),
+            Entries::Count(_) => piece.push_str("}"),
+            Entries::Mappings { end, .. } => {
+                piece.push_str("]")?;
+                piece.push_str(end.as_str())
+            }
+            Entries::Exchanges(_) => piece.push_str("],\"version\":\"1.2\"}}"),
         }
     }
 }

@@ -1,9 +1,13 @@
 // The text of a list, written piece by piece.
 ghost use Rattle.std.specs.Prelude.{◌≡◌, ◌≢◌, ◌↔◌, ◌+◌, ◌^◌, ◌<◌, ◌≤◌, ◌++◌, ℕ, List};
-ghost use Rattle.std.specs.Prelude.{[], Some, length, string_bytes, IfOk, OnOk, OnErr, IsErrOf, MatchOption};
+ghost use Rattle.std.specs.Prelude.{[], false, Some, codes, length, string_bytes, IfOk, IfSome, OnOk, OnErr, IsErrOf};
+ghost use Rattle.std.specs.Prelude.{MatchOption};
 ghost use Rattle.std.specs.List.{AllByRecursion};
+ghost use Rattle.admin_json.specs.Mappings.{json_of_mappings};
+ghost use Rattle.admin_json.specs.Recordings.{json_of_recorded};
 ghost use Rattle.admin_json.specs.Requests.{json_of_found, json_of_number, json_of_requests};
-ghost use Rattle.admin_listing.specs.Inner.Joined.{head_of_requests, left_of, texts_in, IsReady};
+ghost use Rattle.admin_listing.specs.Inner.Joined.{end_of_mappings, end_of_recorded, head_of_requests, joined};
+ghost use Rattle.admin_listing.specs.Inner.Joined.{left_of, texts_in, IsReady};
 ghost use Rattle.har_export.specs.Document.{AreInRange, IsHarText};
 ghost use Rattle.request_journal.specs.Journal.{IsCount, Picks};
 ghost use Rattle.request_match.specs.Matching.{MeetsRequest};
@@ -13,6 +17,7 @@ ghost use Rattle.serde_json.specs.Written.{comma_if, compact_text};
 ghost use Rattle.request_journal.specs.declared.entry.Entry.{Entry};
 
 use crate::entries::Entries;
+use crate::mapping_texts::MappingTexts;
 use crate::search::Search;
 use har_export::entries::HarEntries;
 use har_export::error::HarError;
@@ -20,6 +25,7 @@ use itoa::Buffer;
 use recorder::exchange::SharedExchange;
 use recorder::target::Target;
 use request_journal::entry::Entry;
+use request_journal::mapping::Mapping;
 use request_match::request_matcher::RequestMatcher;
 use std::alloc::{AllocError, Global};
 use std::marker::Model;
@@ -105,6 +111,43 @@ impl Listing {
         Ok(new_listing(head, Entries::Count(Search::new(alloc, entries, matcher))))
     }
 
+    /// The mappings, in the order that is given, and how many there are. `None` where the response of one has a
+    /// `jsonBody`: the text of its numbers isn't known before it is written.
+    pub fn of_mappings(alloc: Global, mappings: &[Mapping]) -> Result<Option<Listing>, AllocError>
+        ensures text { IfOk result (λ made. IfSome made (λ listing.
+            listing ≡ compact_text (json_of_mappings mappings.now))) }
+        ensures reads_back { IfOk result (λ made. IfSome made (λ listing.
+            depth (json_of_mappings mappings.now) ≤ max_depth
+            → read listing ≡ Some (json_of_mappings mappings.now))) }
+    {
+        let Some(texts) = MappingTexts::new(alloc, mappings)? else {
+            return Ok(None);
+        };
+        let total = mappings.len();
+        let end = end_of_mappings(alloc, total)?;
+        Ok(Some(mapping_listing(alloc, texts, end)?))
+    }
+
+    /// The mappings that were recorded, in the order that is given, and how many exchanges were skipped. `None` as for
+    /// `of_mappings`.
+    pub fn of_recorded(
+        alloc: Global,
+        mappings: &[Mapping],
+        skipped: u64,
+    ) -> Result<Option<Listing>, AllocError>
+        ensures text { IfOk result (λ made. IfSome made (λ listing.
+            listing ≡ compact_text (json_of_recorded mappings.now skipped))) }
+        ensures reads_back { IfOk result (λ made. IfSome made (λ listing.
+            depth (json_of_recorded mappings.now skipped) ≤ max_depth
+            → read listing ≡ Some (json_of_recorded mappings.now skipped))) }
+    {
+        let Some(texts) = MappingTexts::new(alloc, mappings)? else {
+            return Ok(None);
+        };
+        let end = end_of_recorded(alloc, skipped)?;
+        Ok(Some(mapping_listing(alloc, texts, end)?))
+    }
+
     /// The HAR document of exchanges with the target. An exchange that started too late is reported before any memory
     /// is taken.
     pub fn of_exchanges(
@@ -158,6 +201,32 @@ fn head_of_requests(alloc: Global, total: usize) -> Result<String, AllocError>
     Ok(head)
 }
 
+fn end_of_mappings(alloc: Global, total: usize) -> Result<String, AllocError>
+    ensures { IfOk result (λ end. string_bytes end ≡ end_of_mappings total) }
+{
+    let mut end = String::from_str(alloc, ",\"meta\":{\"total\":")?;
+    end.push_str(Buffer::new().format(total))?;
+    end.push_str("}}")?;
+    Ok(end)
+}
+
+fn end_of_recorded(alloc: Global, skipped: u64) -> Result<String, AllocError>
+    ensures { IfOk result (λ end. string_bytes end ≡ end_of_recorded skipped) }
+{
+    let mut end = String::from_str(alloc, ",\"skipped\":")?;
+    end.push_str(Buffer::new().format(skipped))?;
+    end.push_str("}")?;
+    Ok(end)
+}
+
+fn mapping_listing(alloc: Global, texts: MappingTexts, end: String) -> Result<Listing, AllocError>
+    ensures { IfOk result (λ listing.
+        listing ≡ codes "{\"mappings\":[" ++ joined (codes "]" ++ string_bytes end) false texts) }
+{
+    let head = String::from_str(alloc, "{\"mappings\":[")?;
+    Ok(new_listing(head, Entries::Mappings { texts, end }))
+}
+
 fn new_listing(head: String, entries: Entries) -> Listing
     ensures { result ≡ left_of (string_bytes head) entries (Some 0) }
 {
@@ -189,7 +258,7 @@ fn piece_from(
         }
         push_entry(alloc, &mut piece, entries, index)?;
     }
-    piece.push_str(entries.end())?;
+    entries.push_end(&mut piece)?;
     Ok((piece, None))
 }
 

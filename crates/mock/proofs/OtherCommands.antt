@@ -1,6 +1,6 @@
 -- Arguments that the code takes for a call of the server, or for help, ask for no other command and no other help.
-use Rattle.std.proofs.Common.{◌≡◌, ℕ, List, [], ◌∷◌, ◌++◌, true, false, inl, inr, refl, subst, sym, ap, codes}
-use Rattle.std.proofs.Common.{◌∙◌}
+use Rattle.std.proofs.Common.{◌≡◌, ℕ, List, [], ◌∷◌, ◌++◌, true, false, inl, inr}
+use Rattle.std.proofs.Common.{◌∙◌, ap, codes, refl, subst, sym}
 use Rattle.std.proofs.lemmas.Bool.{false≢true}
 use Rattle.std.proofs.lemmas.Slice.Eq.{bytes_eq-Decides}
 use Rattle.std.specs.Str.{bytes_eq}
@@ -85,8 +85,10 @@ pub helps_no_command : (arguments : List (List ℕ)) → ask_to_help arguments �
 helps_no_command arguments taken escape asked asks =
     false≢true (sym (command_other arguments escape asked asks).1 ∙ taken)
 
-pub serves_no_help : (arguments : List (List ℕ)) → ask_to_serve arguments ≡ true → CallsForHelp arguments → ⊥
+pub serves_no_help : (arguments : List (List ℕ)) → ask_to_serve arguments ≡ true → CallsForHelp arguments
+    → ⊥
 serves_no_help arguments taken calls = false≢true (sym (help_other arguments calls).0 ∙ taken)
 
-pub helps_no_flag : (arguments : List (List ℕ)) → ask_to_help arguments ≡ true → CallsForHelp arguments → ⊥
+pub helps_no_flag : (arguments : List (List ℕ)) → ask_to_help arguments ≡ true → CallsForHelp arguments
+    → ⊥
 helps_no_flag arguments taken calls = false≢true (sym (help_other arguments calls).1 ∙ taken)

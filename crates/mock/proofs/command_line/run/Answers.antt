@@ -1,5 +1,4 @@
-use Rattle.std.proofs.Common.{◌≡◌, ◌∙◌, true, map, string_bytes, sym}
-use Rattle.mock.specs.Inner.Arguments.{ask_to_help, ask_to_serve}
+use Rattle.std.proofs.Common.{◌∙◌, map, string_bytes, sym}
 use Rattle.mock.proofs.HelpAsked.{help_asked}
 use Rattle.mock.proofs.OtherCommands.{helps_no_command, helps_no_flag, serve_asked, serves_no_command, serves_no_help}
 use Rattle.mock.proofs.command_line.run.Goals as goal

@@ -1,0 +1,77 @@
+// Mappings, each of which is written by itself.
+ghost use Rattle.std.specs.Prelude.{◌≡◌, ◌<◌, All, Some, length, map, IfOk, IfSome, IsTrue, slice_get, string_bytes};
+ghost use Rattle.admin_json.specs.Plain.{IsPlain};
+ghost use Rattle.admin_listing.specs.Inner.Mapped.{text_of_mapping};
+
+use admin_json::mappings::{is_plain, mapping_text};
+use plain_text::plain::TryClone;
+use request_journal::mapping::Mapping;
+use std::alloc::{AllocError, Global};
+use std::marker::Model;
+
+/// Mappings without a `jsonBody`, which contracts see as their compact texts. Only references are kept.
+#[derive(Drop)]
+pub(crate) struct MappingTexts {
+    mappings: Vec<Mapping>,
+}
+
+impl Model for MappingTexts {
+    ghost use Rattle.std.specs.Prelude.{ℕ, All, List, map};
+    ghost use Rattle.admin_json.specs.Plain.{IsPlain};
+    ghost use Rattle.admin_listing.specs.Inner.Mapped.{text_of_mapping};
+
+    ghost Value = { List (List ℕ) };
+
+    ghost view = { λ t. map text_of_mapping t.mappings.items };
+
+    ghost invariant = { λ t. All IsPlain t.mappings.items };
+}
+
+impl MappingTexts {
+    /// `None` where the response of one has a `jsonBody`, which may have numbers whose text isn't known beforehand.
+    pub fn new(alloc: Global, mappings: &[Mapping]) -> Result<Option<MappingTexts>, AllocError>
+        ensures { IfOk result (λ made. IfSome made (λ texts.
+            All IsPlain mappings.now × (texts ≡ map text_of_mapping mappings.now))) }
+    {
+        if !are_plain(mappings) {
+            return Ok(None);
+        }
+        let mappings = shared(alloc, mappings)?;
+        Ok(Some(MappingTexts { mappings }))
+    }
+
+    pub fn len(&self) -> usize
+        ensures { result ≡ length self.now }
+    {
+        self.mappings.len()
+    }
+
+    /// The compact text of the mapping.
+    pub fn text(&self, alloc: Global, index: usize) -> Result<String, AllocError>
+        requires { index < length self.now }
+        ensures { IfOk result (λ text. slice_get self.now index ≡ Some (string_bytes text)) }
+    {
+        mapping_text(alloc, &self.mappings[index])
+    }
+}
+
+fn are_plain(mappings: &[Mapping]) -> bool
+    ensures { IsTrue result → All IsPlain mappings.now }
+{
+    for mapping in mappings {
+        if !is_plain(mapping) {
+            return false;
+        }
+    }
+    true
+}
+
+fn shared(alloc: Global, mappings: &[Mapping]) -> Result<Vec<Mapping>, AllocError>
+    ensures { IfOk result (λ shared. shared.items ≡ mappings.now) }
+{
+    let mut shared = Vec::with_capacity(alloc, mappings.len())?;
+    for mapping in mappings {
+        shared.push(mapping.try_clone()?)?;
+    }
+    Ok(shared)
+}
