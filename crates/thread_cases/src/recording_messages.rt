@@ -6,7 +6,9 @@ use answering::content::Content;
 use answering::site::Site;
 use bytes::Bytes;
 use case_table::cells::Cells;
+use futures::executor::block_on;
 use http::{Method, Request, Response, Uri};
+use http_body_util::BodyExt;
 use shared_book::gate::NoGate;
 use shared_book::origin::Origin;
 use shared_book::seat::Seat;
@@ -90,19 +92,35 @@ where
     *message.method_mut() = asked.method();
     *message.uri_mut() = Uri::from_static(asked.target()).ok().ok_or(AllocError)?;
     match answer(rt, alloc, site, seat, &message) {
-        Ok(response) => add(alloc, cells, &response),
+        Ok(response) => add(rt, cells, response),
         Err(_error) => Err(AllocError),
     }
 }
 
-fn add(alloc: Global, cells: &mut Cells, response: &Response<Content>) -> Result<(), AllocError> {
-    let content = response.body().as_whole().ok_or(AllocError)?;
-    if content == OUT_OF_MEMORY {
+fn add<R>(rt: &R, cells: &mut Cells, response: Response<Content>) -> Result<(), AllocError>
+where
+    R: Wait + RandomSource + AllocGlobal,
+{
+    let status = response.status().as_u16();
+    let content = joined(rt, response.into_body())?;
+    if content.as_slice() == OUT_OF_MEMORY {
         return Err(AllocError);
     }
-    cells.add_number(u32::from(response.status().as_u16()));
+    cells.add_number(u32::from(status));
     cells.add(" ");
-    cells.add(String::from_utf8_lossy(alloc, content)?.as_str());
+    cells.add(String::from_utf8_lossy(rt.alloc(), content.as_slice())?.as_str());
     cells.add("; ");
     Ok(())
+}
+
+// The bytes of all its frames: what a stop answers is a list, which is written piece by piece.
+fn joined<R>(rt: &R, content: Content) -> Result<Bytes, AllocError>
+where
+    R: Wait + RandomSource + AllocGlobal,
+{
+    match block_on(rt, content.collect(rt.alloc())) {
+        Ok(Ok(collected)) => collected.to_bytes(),
+        Ok(Err(_error)) => Err(AllocError),
+        Err(_error) => Err(AllocError),
+    }
 }
