@@ -1,6 +1,6 @@
 -- The JSON of a mapping without a `jsonBody` has its names in order, and its status and its priority as its numbers.
-use Rattle.std.proofs.Common.{◌≡◌, ◌<◌, ◌^◌, ℕ, ℤ, pos, negsuc, nat_abs, List, [], ◌∷◌, length, map, refl, arith}
-use Rattle.std.proofs.Common.{Bool, true, false, cond, Option, Some, None, IfSome, option_map, codes, bytes_eq}
+use Rattle.std.proofs.Common.{◌≡◌, ◌<◌, ◌^◌, ℕ, ℤ, pos, negsuc, nat_abs, List, [], ◌∷◌, length, map, refl}
+use Rattle.std.proofs.Common.{Bool, true, false, cond, Option, Some, None, IfSome, option_map, codes, bytes_eq, arith}
 use Rattle.std.specs.List.{AllByRecursion}
 use Rattle.base64.specs.Engines.{standard}
 use Rattle.base64.specs.GeneralPurpose.{encode_of}
@@ -45,11 +45,15 @@ module _ (P : Num → Type 0) where
   one_more : (k : List ℕ) (d : Data) (ms : Members) → IsRegular P d → Are ms → Are (put k d ms)
   one_more k d ms here rest = (ordered_put k d ms rest.0, has_put P k d ms here rest.1)
 
-  field : (k : List ℕ) (o : Option Data) (ms : Members) → IfSome o (IsRegular P) → Are ms → Are (with_field k o ms)
+  field
+      : (k : List ℕ) (o : Option Data) (ms : Members) → IfSome o (IsRegular P) → Are ms
+      → Are (with_field k o ms)
   field k None ms here rest = rest
   field k (Some d) ms here rest = one_more k d ms here rest
 
-  text : (k : List ℕ) (o : Option (List ℕ)) (ms : Members) → Are ms → Are (with_field k (option_map string o) ms)
+  text
+      : (k : List ℕ) (o : Option (List ℕ)) (ms : Members) → Are ms
+      → Are (with_field k (option_map string o) ms)
   text k None ms rest = rest
   text k (Some s) ms rest = one_more k (string s) ms tt rest
 
@@ -159,7 +163,9 @@ module _ (P : Num → Type 0) where
   of_text [] ms rest = rest
   of_text (b ∷ bs) ms rest = one_more (codes "body") (string (b ∷ bs)) ms tt rest
 
-  of_found : (found : Body (List ℕ)) (ms : Members) → IsNotJson found → Are ms → Are (response.with_body found ms)
+  of_found
+      : (found : Body (List ℕ)) (ms : Members) → IsNotJson found → Are ms
+      → Are (response.with_body found ms)
   of_found body.Empty ms plain rest = rest
   of_found (body.Text s) ms plain rest = of_text s ms rest
   of_found (body.Json s) ms plain rest = absurd plain
@@ -179,7 +185,9 @@ module _ (P : Num → Type 0) where
       of_found found (with_field (codes "headers") (response.json_of_headers lines) ms) plain
       (field (codes "headers") (response.json_of_headers lines) ms (of_headers lines) rest)
 
-  of_content : (content : Content) (ms : Members) → HasNoJson content → Are ms → Are (response.with_content content ms)
+  of_content
+      : (content : Content) (ms : Members) → HasNoJson content → Are ms
+      → Are (response.with_content content ms)
   of_content (Plain headers found) ms plain rest = of_parts headers found ms plain rest
   of_content (Templated headers found) ms plain rest =
       one_more (codes "transformers") response.template_transformers _ (tt, tt)
@@ -206,7 +214,9 @@ module _ (P : Num → Type 0) where
   of_id None = tt
   of_id (Some id) = tt
 
-  priority_of : (m : MappingSpec) → IfSome (option_map json_of_priority m.priority) (IsRegular P) → Are (with_names m no_members)
+  priority_of
+      : (m : MappingSpec) → IfSome (option_map json_of_priority m.priority) (IsRegular P)
+      → Are (with_names m no_members)
   priority_of m priority =
       of_scenario m.scenario _
       (field (codes "priority") (option_map json_of_priority m.priority) _ priority
@@ -223,7 +233,8 @@ module _ (P : Num → Type 0) where
       let requested = put (codes "request") (json_of_request m.request) named in
       let answered = put (codes "response") (response.json_of_response m.response) requested in
       one_more (codes "id") (json_of_id id) answered tt
-      (one_more (codes "response") (response.json_of_response m.response) requested (of_response m.response status plain)
+      (one_more (codes "response") (response.json_of_response m.response) requested
+      (of_response m.response status plain)
       (one_more (codes "request") (json_of_request m.request) named (of_request m.request) (priority_of m priority)))
 
 -- ---- plain mappings
@@ -240,7 +251,8 @@ no_float mapping is =
     (of_spec is_whole mapping.spec is.no_json refl (whole_priority mapping.spec.priority) mapping.id)
 
 word_priority
-    : (o : Option ℤ) → IfSome o (λ p. nat_abs p < 2 ^ 63) → IfSome (option_map json_of_priority o) (IsRegular FitsWord)
+    : (o : Option ℤ) → IfSome o (λ p. nat_abs p < 2 ^ 63)
+    → IfSome (option_map json_of_priority o) (IsRegular FitsWord)
 word_priority None fits = tt
 word_priority (Some (pos n)) fits = omega (arith, fits)
 word_priority (Some (negsuc n)) fits = omega (arith, fits)
@@ -249,7 +261,9 @@ word_mapping : (mapping : Mapping) → IsPlain mapping → IsRegular FitsWord (j
 word_mapping mapping is =
     of_spec FitsWord mapping.spec is.no_json is.status (word_priority mapping.spec.priority is.priority) mapping.id
 
-word_list : (mappings : List Mapping) → AllByRecursion IsPlain mappings → AreRegular FitsWord (items_of (map json_of_held mappings))
+word_list
+    : (mappings : List Mapping) → AllByRecursion IsPlain mappings
+    → AreRegular FitsWord (items_of (map json_of_held mappings))
 word_list [] all = tt
 word_list (mapping ∷ mappings) all = (word_mapping mapping all.0, word_list mappings all.1)
 

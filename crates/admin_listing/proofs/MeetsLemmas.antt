@@ -1,6 +1,6 @@
 -- A request passes the test of a matcher exactly where it meets the matcher.
-use Rattle.std.proofs.Common.{◌≡◌, ℕ, List, [], ◌∷◌, ◌++◌, ◌⊎◌, inl, inr, length, map, drop, refl, sym}
-use Rattle.std.proofs.Common.{ap, subst, Bool, true, false, true≢false, Option, Some, None, IsTrue, ◌==◌}
+use Rattle.std.proofs.Common.{◌≡◌, ℕ, List, [], ◌∷◌, ◌++◌, ◌⊎◌, inl, inr, length, map, drop, refl}
+use Rattle.std.proofs.Common.{sym, ap, subst, Bool, true, false, true≢false, Option, Some, None, IsTrue, ◌==◌}
 use Rattle.std.proofs.Common.{codes, chars, is_some, Decides, All, Any, IsSomeAnd, ◌||◌}
 use Rattle.std.specs.Char.{to_ascii_lowercase}
 use Rattle.std.specs.List.{list_all, list_any, starts_with}
@@ -94,13 +94,16 @@ within_from : (text : List ℕ) (b : ℕ) (bs before after : List ℕ) → b ∷
 within_from text b bs [] after is = inl (after, is)
 within_from text b bs (c ∷ before) after is = inr (before, after, ap (drop 1) is)
 
-only_start : (text before after : List ℕ) → [] ≡ before ++ (text ++ after) → (rest : List ℕ) × ([] ≡ text ++ rest)
+only_start
+    : (text before after : List ℕ) → [] ≡ before ++ (text ++ after)
+    → (rest : List ℕ) × ([] ≡ text ++ rest)
 only_start text [] after is = (after, is)
 only_start text (c ∷ before) after is = absurd cc
 
 occurs : (text bs : List ℕ) → Decides (test.occurs text bs) (HasSubslice bs text)
 occurs text [] =
-    Decides-like (starts_with ◌==◌ [] text) (λ h. ([], h.0, h.1)) (λ h. only_start text h.0 h.1 h.2) (starts text [])
+    Decides-like (starts_with ◌==◌ [] text) (λ h. ([], h.0, h.1)) (λ h. only_start text h.0 h.1 h.2)
+    (starts text [])
 occurs text (b ∷ bs) =
     Decides-like (starts_with ◌==◌ (b ∷ bs) text || test.occurs text bs) (within text b bs)
     (λ h. within_from text b bs h.0 h.1 h.2)
@@ -158,7 +161,9 @@ meet_headers ms request =
 
 -- ---- parts of a request
 
-meets_method : (m : Option (List ℕ)) (method : List ℕ) → Decides (test.meets_method m method) (MeetsMethod m method)
+meets_method
+    : (m : Option (List ℕ)) (method : List ℕ)
+    → Decides (test.meets_method m method) (MeetsMethod m method)
 meets_method None method = always
 meets_method (Some wanted) method =
     Decides-or (bytes_eq wanted (codes "ANY")) (bytes_eq wanted method) (same_bytes wanted (codes "ANY"))
@@ -175,7 +180,8 @@ meets_url (url.UrlPathTemplate template parameters) text =
     (bindings_of template (path_of text))
 
 -- what a path finds passes, where the path's text spells one
-module _ (p : List Step → Bool) (P : List Step → Type 0) (each : (steps : List Step) → Decides (p steps) (P steps)) where
+module _
+    (p : List Step → Bool) (P : List Step → Type 0) (each : (steps : List Step) → Decides (p steps) (P steps)) where
   spelled_from
       : (path : List ℕ) (o : Option (List Step)) → steps_of_path path ≡ o → IsSomeAnd o P
       → (steps : List Step) × SpellsPath path steps × P steps
