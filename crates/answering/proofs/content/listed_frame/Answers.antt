@@ -1,4 +1,4 @@
-use Rattle.std.proofs.Common.{rules, string_bytes}
+use Rattle.std.proofs.Common.{rules}
 use Rattle.answering.proofs.YieldLemmas.{front, after, ended, failed, after_failed}
 use Rattle.answering.proofs.content.listed_frame.Goals as goal
 

@@ -1,4 +1,4 @@
-use Rattle.std.proofs.Common.{rules, List, ℕ, [], append-nil, sym, refl}
+use Rattle.std.proofs.Common.{rules, [], append-nil, sym}
 use Rattle.answering.proofs.YieldLemmas.{front, after, is_ended}
 use Rattle.answering.proofs.content.whole_frame.Goals as goal
 
