@@ -14,6 +14,6 @@ pub struct Site<L: Origin, G, C> {
     pub gate: G,
     /// By which the exchanges of a recording are timed.
     pub clock: C,
-    /// How often an exchange with a target may read or write.
+    /// How often a connection, or an exchange with a target, may read or write.
     pub turns: u64,
 }
