@@ -1,8 +1,9 @@
 //! The arguments of a helper: values that it can read. What is borrowed already stays so; a text is made only where
 //! a number, a truth, a list or an object prints it, and where its letters are in another case.
-ghost use Rattle.std.specs.Prelude.{◌≡◌, IfOk};
+ghost use Rattle.std.specs.Prelude.{◌≡◌, IfOk, map};
+ghost use Rattle.std.specs.Char.{to_ascii_uppercase, to_ascii_lowercase};
 ghost use Rattle.std.specs.Cow.{cow_str_bytes};
-ghost use Rattle.helper_set.specs.Values.{text_of};
+ghost use Rattle.helper_set.specs.Values.{a_text, text_of};
 ghost use Rattle.helper_set.specs.Views as helpers;
 ghost use Rattle.template_machine.specs.Inner.Slots.{value_view, text_view, slot_view, held_view};
 
@@ -28,15 +29,27 @@ pub fn hold<'a>(alloc: Global, slot: &'a Slot<'a>) -> Result<Held<'a>, AllocErro
         Slot::Value(value) => Ok(Held::Value(*value)),
         Slot::Text(Text::Literal(text)) => Ok(Held::Text(CowStr::Borrowed(text.as_str()))),
         Slot::Text(Text::Borrowed(text)) => Ok(Held::Text(CowStr::Borrowed(text))),
-        Slot::Text(Text::Upper(text)) => {
-            Ok(Held::Text(CowStr::Owned(text.to_ascii_uppercase(alloc)?)))
-        }
-        Slot::Text(Text::Lower(text)) => {
-            Ok(Held::Text(CowStr::Owned(text.to_ascii_lowercase(alloc)?)))
-        }
+        Slot::Text(Text::Upper(text)) => upper_case(alloc, text),
+        Slot::Text(Text::Lower(text)) => lower_case(alloc, text),
         Slot::Text(Text::Made(text)) => Ok(Held::Text(CowStr::Borrowed(text.as_str()))),
         Slot::Text(Text::Rendered(value)) => Ok(Held::Text(printed(alloc, *value)?)),
     }
+}
+
+// A text with its letters in upper case. Apart, so that `hold` is small enough to be inlined.
+#[inline(never)]
+fn upper_case<'a>(alloc: Global, text: &'a str) -> Result<Held<'a>, AllocError>
+    ensures { IfOk result (λ held. held_view held ≡ a_text (map to_ascii_uppercase text.now)) }
+{
+    Ok(Held::Text(CowStr::Owned(text.to_ascii_uppercase(alloc)?)))
+}
+
+// A text with its letters in lower case.
+#[inline(never)]
+fn lower_case<'a>(alloc: Global, text: &'a str) -> Result<Held<'a>, AllocError>
+    ensures { IfOk result (λ held. held_view held ≡ a_text (map to_ascii_lowercase text.now)) }
+{
+    Ok(Held::Text(CowStr::Owned(text.to_ascii_lowercase(alloc)?)))
 }
 
 /// The text that a value prints as. Takes no memory for a text of the data.

@@ -3,6 +3,7 @@
 //! true of a text; `safe_code` says what holds of all code that the verifier accepts.
 #![tactic(auto)]
 
+mod append;
 mod call;
 pub mod error;
 mod escape;

@@ -46,7 +46,6 @@ impl<'a> Value<'a> {
     }
 
     /// Appends what it prints as.
-    #[inline(always)]
     pub fn print_into(self, alloc: Global, out: &mut String) -> Result<(), AllocError>
         ensures { OnOk result (string_bytes out.new ≡ string_bytes out.old ++ text_of (value_view self.entry)) }
     {
