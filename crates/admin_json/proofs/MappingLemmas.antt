@@ -1,6 +1,7 @@
 -- The JSON of a mapping without a `jsonBody` has its names in order, and its status and its priority as its numbers.
-use Rattle.std.proofs.Common.{◌≡◌, ◌<◌, ◌^◌, ℕ, ℤ, pos, negsuc, nat_abs, List, [], ◌∷◌, length, map, refl}
-use Rattle.std.proofs.Common.{Bool, true, false, cond, Option, Some, None, IfSome, option_map, codes, bytes_eq, arith}
+use Rattle.std.proofs.Common.{◌≡◌, ◌<◌, ◌^◌, ℕ, ℤ, pos, negsuc, nat_abs, List, [], ◌∷◌, length}
+use Rattle.std.proofs.Common.{Bool, true, false, cond, Option, Some, None, IfSome, option_map, codes, bytes_eq}
+use Rattle.std.proofs.Common.{map, refl, arith}
 use Rattle.std.specs.List.{AllByRecursion}
 use Rattle.base64.specs.Engines.{standard}
 use Rattle.base64.specs.GeneralPurpose.{encode_of}

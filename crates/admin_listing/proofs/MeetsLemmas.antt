@@ -1,7 +1,7 @@
 -- A request passes the test of a matcher exactly where it meets the matcher.
-use Rattle.std.proofs.Common.{◌≡◌, ℕ, List, [], ◌∷◌, ◌++◌, ◌⊎◌, inl, inr, length, map, drop, refl}
-use Rattle.std.proofs.Common.{sym, ap, subst, Bool, true, false, true≢false, Option, Some, None, IsTrue, ◌==◌}
-use Rattle.std.proofs.Common.{codes, chars, is_some, Decides, All, Any, IsSomeAnd, ◌||◌}
+use Rattle.std.proofs.Common.{◌≡◌, ℕ, List, [], ◌∷◌, ◌++◌, ◌⊎◌, inl, inr, length, map, drop}
+use Rattle.std.proofs.Common.{ap, subst, Bool, true, false, true≢false, Option, Some, None, IsTrue, ◌==◌}
+use Rattle.std.proofs.Common.{refl, sym, codes, chars, is_some, Decides, All, Any, IsSomeAnd, ◌||◌}
 use Rattle.std.specs.Char.{to_ascii_lowercase}
 use Rattle.std.specs.List.{list_all, list_any, starts_with}
 use Rattle.std.specs.Str.{bytes_eq}
@@ -181,7 +181,8 @@ meets_url (url.UrlPathTemplate template parameters) text =
 
 -- what a path finds passes, where the path's text spells one
 module _
-    (p : List Step → Bool) (P : List Step → Type 0) (each : (steps : List Step) → Decides (p steps) (P steps)) where
+    (p : List Step → Bool) (P : List Step → Type 0)
+    (each : (steps : List Step) → Decides (p steps) (P steps)) where
   spelled_from
       : (path : List ℕ) (o : Option (List Step)) → steps_of_path path ≡ o → IsSomeAnd o P
       → (steps : List Step) × SpellsPath path steps × P steps
