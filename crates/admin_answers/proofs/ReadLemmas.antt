@@ -1,6 +1,6 @@
 -- What is answered from a reading is what the past that was read says.
-use Rattle.std.proofs.Common.{◌≡◌, ◌⊎◌, ℕ, List, Vec, Option, Some, None, Any, Result, Ok, Err, IfOk, IfSome}
-use Rattle.std.proofs.Common.{IfErr, inl, inr, sym, subst, refl, ◌∙◌, ◌+◌, ◌^◌, ◌<◌, ◌≤◌, arith}
+use Rattle.std.proofs.Common.{◌≡◌, ◌⊎◌, ℕ, List, Vec, Option, Some, None, Result, Ok, Err, IfOk, IfSome}
+use Rattle.std.proofs.Common.{IfErr, inl, inr, sym, subst, refl, ◌∙◌, ◌+◌, ◌^◌, ◌≤◌, arith}
 use Rattle.std.specs.declared.alloc.AllocError.{AllocError}
 use Rattle.std.specs.declared.alloc.Global.{Global}
 use Rattle.admin_answers.proofs.NumberLemmas.{AreBelow, below_more, visible_below}
@@ -18,8 +18,7 @@ use Rattle.mapping_model.specs.declared.reply.Reply.{Reply}
 use Rattle.mapping_model.specs.declared.request_spec.RequestSpec.{RequestSpec}
 use Rattle.request_journal.specs.Journal.{request_of, unmatched_of, IsCount, Picks}
 use Rattle.request_journal.specs.Legal.{IsLive}
-use Rattle.request_journal.specs.Live.{live}
-use Rattle.request_journal.specs.Past.{Past, Placed}
+use Rattle.request_journal.specs.Past.{Past}
 use Rattle.request_journal.specs.declared.entry.Entry.{Entry}
 use Rattle.request_journal.specs.declared.mapping.Mapping.{Mapping}
 use Rattle.request_match.specs.Matching.{MeetsRequest}

@@ -13,7 +13,7 @@ use Rattle.request_data.specs.Grouped.{names_in}
 use Rattle.request_journal.specs.declared.entry.Entry.{Entry}
 use Rattle.serde_json.specs.Data.{Num, unsigned, Data, string, object, Members, no_members, put}
 use Rattle.serde_json.specs.View.{items_of}
-use Rattle.admin_json.proofs.Regular.{IsRegular, AreRegular, HasRegular, AreOrdered, has_put, ordered_put}
+use Rattle.admin_json.proofs.Regular.{IsRegular, AreRegular, has_put, ordered_put}
 
 module _ (P : Num → Type 0) where
   put_regular

@@ -14,7 +14,7 @@ use Rattle.admin_listing.specs.Inner.Mapped.{text_of_mapping}
 use Rattle.har_export.specs.Document.{json_of_har, texts_of}
 use Rattle.request_journal.specs.declared.entry.Entry.{Entry}
 use Rattle.request_journal.specs.declared.mapping.Mapping.{Mapping}
-use Rattle.serde_json.specs.Data.{Data, Items, no_items, item}
+use Rattle.serde_json.specs.Data.{Items, no_items, item}
 use Rattle.serde_json.specs.View.{items_of}
 use Rattle.serde_json.specs.Written.{comma_if, compact_text, items_text}
 use Rattle.serde_json.proofs.OnLiterals.{serde_json_on_literals}

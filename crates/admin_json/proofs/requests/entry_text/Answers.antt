@@ -1,4 +1,4 @@
-use Rattle.std.proofs.Common.{refl, subst, sym, ap, ◌∙◌}
+use Rattle.std.proofs.Common.{refl, ap, ◌∙◌}
 use Rattle.admin_json.specs.Requests.{json_of_entry}
 use Rattle.admin_json.proofs.Regular.{plain, is_whole}
 use Rattle.admin_json.proofs.RequestLemmas.{entry_regular}

@@ -1,4 +1,4 @@
-use Rattle.std.proofs.Common.{◌≡◌, ◌<◌, ◌≤◌, length, get_or, sym, subst, take, take_all, refl}
+use Rattle.std.proofs.Common.{subst, take_all}
 use Rattle.std.proofs.lemmas.List.Elements.{All-more}
 use Rattle.std.proofs.Common.{All}
 use Rattle.admin_json.specs.Plain.{IsPlain}

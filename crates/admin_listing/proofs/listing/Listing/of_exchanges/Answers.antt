@@ -1,4 +1,4 @@
-use Rattle.std.proofs.Common.{◌≡◌, ◌++◌, ◌∙◌, sym, ap, codes, false, refl}
+use Rattle.std.proofs.Common.{◌++◌, ◌∙◌, sym, ap, codes, false, refl}
 use Rattle.admin_listing.specs.Inner.Joined.{joined}
 use Rattle.admin_listing.proofs.JoinedLemmas.{har_text}
 use Rattle.har_export.specs.Document.{json_of_har}

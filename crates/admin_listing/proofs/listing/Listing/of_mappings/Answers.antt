@@ -4,7 +4,7 @@ use Rattle.admin_json.specs.Mappings.{json_of_mappings}
 use Rattle.admin_json.specs.Plain.{IsPlain}
 use Rattle.admin_json.proofs.MappingLemmas.{mappings_regular}
 use Rattle.admin_json.proofs.Regular.{reads_back}
-use Rattle.admin_listing.specs.Inner.Joined.{end_of_mappings, joined}
+use Rattle.admin_listing.specs.Inner.Joined.{joined}
 use Rattle.admin_listing.specs.Inner.Mapped.{text_of_mapping}
 use Rattle.admin_listing.proofs.JoinedLemmas.{mappings_text}
 use Rattle.serde_json.specs.Read.{read}

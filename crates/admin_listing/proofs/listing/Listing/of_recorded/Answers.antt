@@ -1,10 +1,10 @@
-use Rattle.std.proofs.Common.{◌≡◌, ◌<◌, ◌^◌, ◌++◌, ◌∙◌, sym, ap, subst, arith, codes, false, length, map, All, IfSome, string_bytes}
+use Rattle.std.proofs.Common.{◌≡◌, ◌<◌, ◌^◌, ◌++◌, ◌∙◌, sym, ap, subst, arith, codes, false, map, All, IfSome, string_bytes}
 use Rattle.std.proofs.lemmas.List.Elements.{recursion_from_All}
 use Rattle.admin_json.specs.Recordings.{json_of_recorded}
 use Rattle.admin_json.specs.Plain.{IsPlain}
 use Rattle.admin_json.proofs.MappingLemmas.{recorded_regular}
 use Rattle.admin_json.proofs.Regular.{reads_back}
-use Rattle.admin_listing.specs.Inner.Joined.{end_of_recorded, joined}
+use Rattle.admin_listing.specs.Inner.Joined.{joined}
 use Rattle.admin_listing.specs.Inner.Mapped.{text_of_mapping}
 use Rattle.admin_listing.proofs.JoinedLemmas.{recorded_text}
 use Rattle.serde_json.specs.Read.{read}
