@@ -15,9 +15,13 @@ use std::alloc::{AllocError, Global};
 use std::marker::Model;
 use std::mem;
 
-/// Between two pieces of a list, or two portions of a search. While a task asks to be polled again, the runtime looks
-/// for what others have sent after 64 polls, so it does so after each fourth piece or portion.
-const PAUSES: u32 = 16;
+/// Between two pieces of a list. While a task asks to be polled again, the runtime looks for what others have sent after
+/// 64 polls, so it does so after each fourth piece.
+const PIECE_PAUSES: u32 = 16;
+
+/// Between two portions of a search. One with a large body takes much longer than a piece, so the runtime looks after
+/// each.
+const PORTION_PAUSES: u32 = 64;
 
 /// The body of a response: bytes, or a list whose text is written piece by piece while it is sent.
 #[derive(Drop)]
@@ -36,7 +40,7 @@ enum Kind {
 struct Listed {
     alloc: Global,
     listing: Listing,
-    /// How often it says that no piece is ready, before the next one.
+    /// How often it says that no piece is ready, before the next piece or portion.
     pauses: u32,
 }
 
@@ -140,10 +144,13 @@ impl Listed {
             self.pauses -= 1;
             return cx.yield_now();
         }
-        self.pauses = PAUSES;
+        self.pauses = PIECE_PAUSES;
         match searched_frame(self.alloc, &mut self.listing) {
             Some(frame) => Poll::Ready(frame),
-            None => cx.yield_now(),
+            None => {
+                self.pauses = PORTION_PAUSES;
+                cx.yield_now()
+            }
         }
     }
 }
