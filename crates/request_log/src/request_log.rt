@@ -182,12 +182,14 @@ fn call_notes(
     }
     // A call that was refused for something else may be there without its body, or with one that is right.
     if !is_refused || status == UNPROCESSABLE {
+        let answer = body.unwrap_or(b"");
         add_body(
             alloc,
             &mut notes,
             call.as_str(),
             message,
             is_refused,
+            answer,
             escape,
         )?;
     }
@@ -201,6 +203,7 @@ fn add_body(
     call: &str,
     message: &Request<Bytes>,
     is_refused: bool,
+    answer: &[u8],
     escape: Escape,
 ) -> Result<(), AllocError> {
     let posted = message.body().as_slice();
@@ -213,6 +216,10 @@ fn add_body(
             let error = read_request(alloc, posted).err();
             notes.add_matcher(alloc, call, posted, error)
         }
+        Some(Route::StartRecording) if is_refused => {
+            notes.add_recording(alloc, call, posted, answer)
+        }
+        Some(Route::SetScenario(_)) if is_refused => notes.add_state(alloc, call, posted),
         _ => Ok(()),
     }
 }
