@@ -29,6 +29,8 @@ pub(crate) fn combination_fault(
         ),
         (Part::BodyMatcher, Sought::Shape) => body_fault(alloc, value),
         (Part::PathMatcher, Sought::Shape) => path_fault(alloc, value),
+        (Part::Recording, Sought::Shape) => lacking(alloc, value, "targetBaseUrl"),
+        (Part::ScenarioState, Sought::Shape) => lacking(alloc, value, "state"),
         _ => Ok(None),
     }
 }
@@ -123,6 +125,15 @@ fn path_fault(alloc: Global, value: &Value) -> Result<Option<Fault>, AllocError>
         return Ok(Some(Fault::of(alloc, "a JSON path as `expression`", value)?));
     }
     words_fault(alloc, value, VALUE_WORDS, VALUE_FIELDS.as_slice())
+}
+
+/// A field that has to be there.
+fn lacking(alloc: Global, value: &Value, name: &str) -> Result<Option<Fault>, AllocError> {
+    if value.get(name).is_some() {
+        return Ok(None);
+    }
+    let wanted = joined(alloc, ["the field ", name].as_slice())?;
+    Ok(Some(Fault::of(alloc, wanted.as_str(), value)?))
 }
 
 /// A field that has no meaning without another.

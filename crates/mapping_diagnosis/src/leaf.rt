@@ -37,6 +37,9 @@ pub(crate) enum Leaf {
     EmptyList,
     Transformer,
     Json,
+    EmptyObject,
+    /// Where a recording forwards requests to.
+    Target,
 }
 
 /// What is wrong in the sought way with the value of a field.
@@ -61,6 +64,7 @@ fn is_supported(leaf: Leaf, value: &Value) -> bool {
     match leaf {
         Leaf::EmptyList => is_empty_list(value),
         Leaf::Transformer => value.as_str() == Some("response-template"),
+        Leaf::EmptyObject => !has_members(value),
         _ => true,
     }
 }
@@ -74,6 +78,7 @@ fn has_shape(alloc: Global, leaf: Leaf, value: &Value) -> Result<bool, AllocErro
         Leaf::Uuid => is_uuid(value),
         Leaf::Base64 => matches!(bytes_of(alloc, value)?, Reading::Read(_)),
         Leaf::ExpectedJson | Leaf::EmptyList | Leaf::Json => true,
+        Leaf::EmptyObject => value.is_object(),
         _ => value.is_string(),
     })
 }
@@ -88,6 +93,7 @@ fn wanted(leaf: Leaf, sought: Sought) -> &'static str {
         Leaf::Base64 => "a text in base64, with padding",
         Leaf::EmptyList => "no such field, or an empty list",
         Leaf::ExpectedJson | Leaf::Json => "JSON",
+        Leaf::EmptyObject => "an empty object",
         Leaf::Transformer if sought == Sought::Field =>
             "\"response-template\", the one transformer",
         _ => "a text",
@@ -115,6 +121,13 @@ fn is_empty_list(value: &Value) -> bool {
     }
 }
 
+fn has_members(value: &Value) -> bool {
+    match value.as_object() {
+        Some(members) => !members.is_empty(),
+        None => false,
+    }
+}
+
 /// What is wrong with a text that has the shape of a text.
 fn text_fault(
     alloc: Global,
@@ -136,11 +149,16 @@ fn text_fault(
         (Leaf::ExpectedJson, Sought::ExpectedNumber) => expected_number_fault(alloc, text),
         (Leaf::JsonPath, Sought::Path) => path_fault(alloc, text, value),
         (Leaf::Source, Sought::Template) => source_fault(alloc, text),
+        // There is one, so that the error is its.
+        (Leaf::Target, Sought::Target) => Ok(Some(Fault::of(alloc, TARGET, value)?)),
         _ => Ok(None),
     }
 }
 
 const PATTERN: &str = "a regular expression";
+
+const TARGET: &str =
+    "http://host[:port][/prefix] with localhost, an IPv4 address or an IPv6 address in brackets as its host";
 
 const EXPECTED: &str = "JSON or the text of JSON";
 

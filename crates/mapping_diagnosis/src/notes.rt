@@ -187,10 +187,54 @@ impl Notes {
         let Ok(value) = Value::from_slice(alloc, bytes) else {
             return self.add_document(alloc, call, bytes);
         };
-        let Some(sought) = Sought::of_matcher(error) else {
-            return Ok(());
+        match Sought::of_matcher(error) {
+            Some(sought) => {
+                let found = part_fault(alloc, Part::Request, &value, sought)?;
+                self.add_found(alloc, call, found)
+            }
+            None => Ok(()),
+        }
+    }
+
+    /// Where a document that was to start a recording is wrong: the body of the answer has the code of its error.
+    pub fn add_recording(
+        &mut self,
+        alloc: Global,
+        call: &str,
+        bytes: &[u8],
+        answer: &[u8],
+    ) -> Result<(), AllocError> {
+        let Ok(value) = Value::from_slice(alloc, bytes) else {
+            return self.add_document(alloc, call, bytes);
         };
-        match part_fault(alloc, Part::Request, &value, sought)? {
+        match recording_sought(alloc, answer) {
+            Some(sought) => {
+                let found = part_fault(alloc, Part::Recording, &value, sought)?;
+                self.add_found(alloc, call, found)
+            }
+            None => Ok(()),
+        }
+    }
+
+    /// Where a document that was to set the state of a scenario is wrong, if it is.
+    pub fn add_state(&mut self, alloc: Global, call: &str, bytes: &[u8]) -> Result<(), AllocError> {
+        if bytes.is_empty() {
+            return Ok(());
+        }
+        let Ok(value) = Value::from_slice(alloc, bytes) else {
+            return self.add_document(alloc, call, bytes);
+        };
+        let found = state_fault(alloc, &value)?;
+        self.add_found(alloc, call, found)
+    }
+
+    fn add_found(
+        &mut self,
+        alloc: Global,
+        call: &str,
+        found: Option<Fault>,
+    ) -> Result<(), AllocError> {
+        match found {
             Some(fault) => {
                 let said = said_at(alloc, fault)?;
                 self.add_line(["  ", call, said.as_str(), "\n"].as_slice())
@@ -212,6 +256,23 @@ impl Notes {
         }
         Ok(())
     }
+}
+
+fn recording_sought(alloc: Global, answer: &[u8]) -> Option<Sought> {
+    let Ok(answer) = Value::from_slice(alloc, answer) else {
+        return None;
+    };
+    let (number, _title) = first_error(&answer)?;
+    Sought::of_recording(number)
+}
+
+/// Each fault of it has the same code.
+fn state_fault(alloc: Global, value: &Value) -> Result<Option<Fault>, AllocError> {
+    let found = part_fault(alloc, Part::ScenarioState, value, Sought::Field)?;
+    if found.is_some() {
+        return Ok(found);
+    }
+    part_fault(alloc, Part::ScenarioState, value, Sought::Shape)
 }
 
 fn error_at(error: Option<MappingsError>, index: usize) -> Option<MappingError> {

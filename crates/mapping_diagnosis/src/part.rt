@@ -1,9 +1,9 @@
-// The parts of a mapping document.
+// The parts of the documents that are read.
 use crate::leaf::Leaf;
 use crate::sought::Sought;
 use serde_json::{Map, Value};
 
-/// What a value in a mapping document is there for.
+/// What a value in a document is there for.
 #[derive(Clone, Copy)]
 pub(crate) enum Part {
     Mapping,
@@ -21,6 +21,12 @@ pub(crate) enum Part {
     /// A text, or a list of texts.
     Header,
     Transformers,
+    /// What starts a recording.
+    Recording,
+    /// An object with an empty object at the name of each header.
+    CapturedHeaders,
+    /// What sets the state of a scenario.
+    ScenarioState,
     Leaf(Leaf),
 }
 
@@ -47,6 +53,8 @@ const REQUEST_WORDS: &str =
 
 const RESPONSE_WORDS: &str =
     "status, statusMessage, headers, body, jsonBody, base64Body, transformers";
+
+const RECORDING_WORDS: &str = "targetBaseUrl, captureHeaders, repeatsAsScenarios, persist";
 
 impl Part {
     /// Whether it is an object, or may be one.
@@ -89,6 +97,7 @@ impl Part {
             Part::Headers => "an object with a text, or a list of texts, at each name",
             Part::Header => "a text, or a list of texts",
             Part::Transformers => "a list of transformers, as [\"response-template\"]",
+            Part::CapturedHeaders => "an object with an empty object at the name of each header",
             _ => "an object",
         }
     }
@@ -120,6 +129,9 @@ pub(crate) fn field_of(part: Part, name: &str, members: &Map<String, Value>) -> 
         Part::Headers => Field::Known(Part::Header),
         Part::BodyMatcher => body_field(name),
         Part::PathMatcher => path_field(name),
+        Part::Recording => recording_field(name),
+        Part::CapturedHeaders => Field::Known(Part::Leaf(Leaf::EmptyObject)),
+        Part::ScenarioState => state_field(name),
         _ => value_field(name, VALUE_WORDS),
     }
 }
@@ -194,5 +206,22 @@ fn path_field(name: &str) -> Field {
     match name {
         "expression" => Field::Known(Part::Leaf(Leaf::JsonPath)),
         name => value_field(name, VALUE_WORDS),
+    }
+}
+
+fn recording_field(name: &str) -> Field {
+    match name {
+        "targetBaseUrl" => Field::Known(Part::Leaf(Leaf::Target)),
+        "captureHeaders" => Field::Known(Part::CapturedHeaders),
+        "repeatsAsScenarios" => Field::Known(Part::Leaf(Leaf::Truth)),
+        "persist" => Field::Ignored,
+        _ => Field::Unsupported(RECORDING_WORDS),
+    }
+}
+
+fn state_field(name: &str) -> Field {
+    match name {
+        "state" => Field::Known(Part::Leaf(Leaf::Text)),
+        _ => Field::Unsupported("state"),
     }
 }

@@ -16,21 +16,65 @@ pub(crate) fn json_reason(alloc: Global, bytes: &[u8]) -> Result<Option<String>,
             Err(AllocError)
         } else {
             let mut reason = format!(in alloc; "{error}")?;
-            reason.push_str(json_hint(bytes))?;
+            reason.push_str(json_hint(alloc, bytes))?;
             Ok(Some(reason))
         },
     }
 }
 
 /// What line and column don't show.
-fn json_hint(bytes: &[u8]) -> &'static str {
+fn json_hint(alloc: Global, bytes: &[u8]) -> &'static str {
     if bytes.starts_with(&[0xef, 0xbb, 0xbf]) {
         ", for the text begins with a byte order mark"
     } else if str::from_utf8(bytes).is_err() {
         ", for the text isn't UTF-8"
+    } else if is_too_deep(alloc, bytes) {
+        ", for lists and objects nest over 127 deep"
     } else {
         ""
     }
+}
+
+/// How deep lists and objects may nest.
+const DEPTH_LIMIT: usize = 127;
+
+/// Whether the text is JSON as far as to a list or an object that nests too deep.
+fn is_too_deep(alloc: Global, bytes: &[u8]) -> bool {
+    let Some(front) = front_within_depth(bytes) else {
+        return false;
+    };
+    match Value::from_slice(alloc, front) {
+        Ok(_value) => false,
+        Err(error) => error.is_eof(),
+    }
+}
+
+/// What is before the first bracket that nests too deep, if there is one.
+fn front_within_depth(bytes: &[u8]) -> Option<&[u8]> {
+    let mut depth = 0usize;
+    let mut is_in_text = false;
+    let mut is_escaped = false;
+    for (at, byte) in bytes.iter().enumerate() {
+        if is_escaped {
+            is_escaped = false;
+        } else if is_in_text {
+            is_escaped = *byte == b'\\';
+            is_in_text = *byte != b'"';
+        } else {
+            match *byte {
+                b'"' => is_in_text = true,
+                b'[' | b'{' => {
+                    if depth == DEPTH_LIMIT {
+                        return bytes.get(..at);
+                    }
+                    depth = depth.saturating_add(1);
+                }
+                b']' | b'}' => depth = depth.saturating_sub(1),
+                _ => {}
+            }
+        }
+    }
+    None
 }
 
 /// Why a text is no regular expression.

@@ -27,6 +27,8 @@ pub(crate) enum Sought {
     Path,
     /// A template that isn't one.
     Template,
+    /// A target of a recording that isn't one.
+    Target,
 }
 
 impl Sought {
@@ -46,6 +48,22 @@ impl Sought {
             Some(RequestDocumentError::Matcher(error)) => Sought::of_request(error.error_code()),
             _ => None,
         }
+    }
+
+    /// What is sought in what was to start a recording, by the number of its error.
+    pub(crate) fn of_recording(number: u64) -> Option<Sought> {
+        let errors = [
+            (ErrorCode::BadDocument, Sought::Shape),
+            (ErrorCode::NumberNotWhole, Sought::Number),
+            (ErrorCode::UnsupportedField, Sought::Field),
+            (ErrorCode::BadTarget, Sought::Target),
+        ];
+        for (code, sought) in errors {
+            if u64::from(code.number()) == number {
+                return Some(sought);
+            }
+        }
+        None
     }
 
     fn of_kind(kind: Kind) -> Option<Sought> {

@@ -159,7 +159,7 @@ fn max_connections<'a>(alloc: Global) -> Arg<'a> {
         .long("max-connections")
         .value_name("N")
         .help("How many connections are open at once, while others wait [default: 900]")
-        .value_parser(value_parser!(u64))
+        .value_parser(value_parser!(u64).range(1..))
 }
 
 fn journal_limit<'a>(alloc: Global) -> Arg<'a> {

@@ -19,6 +19,9 @@ use template_tree::escape::Escape;
 /// How many characters of a method and of a URL are told.
 const SHOWN: usize = 1000;
 
+/// The status of each answer that refuses a call for its body. (RFC 9110, section 15.5.21)
+const UNPROCESSABLE: u16 = 422;
+
 /// Tells of requests by lines that another thread writes.
 #[derive(Drop)]
 pub struct RequestLog {
@@ -177,19 +180,48 @@ fn call_notes(
     if is_refused {
         notes.add_refusal(alloc, call.as_str(), body.unwrap_or(b""))?;
     }
+    // A call that was refused for something else may be there without its body, or with one that is right.
+    if !is_refused || status == UNPROCESSABLE {
+        let answer = body.unwrap_or(b"");
+        add_body(
+            alloc,
+            &mut notes,
+            call.as_str(),
+            message,
+            is_refused,
+            answer,
+            escape,
+        )?;
+    }
+    Ok(notes.into_string())
+}
+
+// What there is to say of the body of a call that was taken, or refused for its body.
+fn add_body(
+    alloc: Global,
+    notes: &mut Notes,
+    call: &str,
+    message: &Request<Bytes>,
+    is_refused: bool,
+    answer: &[u8],
+    escape: Escape,
+) -> Result<(), AllocError> {
     let posted = message.body().as_slice();
-    match route_of(method, path) {
+    match route_of(message.method().as_str(), message.uri().path()) {
         Some(Route::AddMapping) | Some(Route::EditMapping(_)) => {
             let error = mapping_error(alloc, posted, is_refused, escape);
-            notes.add_posted(alloc, call.as_str(), posted, error)?;
+            notes.add_posted(alloc, call, posted, error)
         }
         Some(Route::FindRequests) | Some(Route::CountRequests) if is_refused => {
             let error = read_request(alloc, posted).err();
-            notes.add_matcher(alloc, call.as_str(), posted, error)?;
+            notes.add_matcher(alloc, call, posted, error)
         }
-        _ => {}
+        Some(Route::StartRecording) if is_refused => {
+            notes.add_recording(alloc, call, posted, answer)
+        }
+        Some(Route::SetScenario(_)) if is_refused => notes.add_state(alloc, call, posted),
+        _ => Ok(()),
     }
-    Ok(notes.into_string())
 }
 
 fn call_of(alloc: Global, method: &str, path: &str) -> Result<String, AllocError> {
