@@ -96,7 +96,7 @@ pub fn answer_file<F: FileReader, O: Write, E: Write>(
 /// Where and why the first wrong document is wrong, and warnings, as far as there is memory. Only where the status says
 /// so has one an error.
 fn notes_of(alloc: Global, documents: &Documents, status: u8, escape: Escape) -> Notes {
-    let mut notes = Notes::new(alloc);
+    let mut notes = Notes::of_files(alloc, documents.paths.len());
     for (path, text) in documents.paths.iter().zip(documents.texts.iter()) {
         let error = if status == SUCCESS {
             None

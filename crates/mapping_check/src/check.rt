@@ -209,7 +209,7 @@ pub fn check_to<O: Write, E: Write>(
     ensures { Followed E.contents (λ e. Checks O.contents E.contents escape
         (map (λ text. text.items) documents.now.texts.items) out.old out.new err.old e result) err.new }
 {
-    let mut notes = Notes::new(alloc);
+    let mut notes = Notes::of_files(alloc, documents.paths.len());
     let status = check_noting(alloc, documents, out, err, escape, &mut notes);
     put_notes(err, notes.as_str());
     status

@@ -16,6 +16,9 @@ use std::alloc::{AllocError, Global};
 /// How many lines are written for a command: who mends a document mends the first.
 const LINE_LIMIT: u32 = 100;
 
+/// What is said of a folder with no file of mappings.
+const NO_FILES: &str = "warning: the folder has no file whose name ends in .json\n";
+
 /// Lines about mappings, in the order in which they were found.
 #[derive(Drop)]
 pub struct Notes {
@@ -44,6 +47,16 @@ impl Notes {
             left: LINE_LIMIT,
             next: 1,
         }
+    }
+
+    /// Those of a command that reads so many files: of a folder there may be none.
+    pub fn of_files(alloc: Global, count: usize) -> Notes {
+        let mut notes = Notes::new(alloc);
+        if count == 0 {
+            // A warning is said if there is memory for it.
+            let _ = notes.add_line([NO_FILES].as_slice());
+        }
+        notes
     }
 
     /// Whole lines; nothing where there is nothing to say.

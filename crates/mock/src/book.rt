@@ -58,7 +58,7 @@ fn mappings_of<E: Write>(
     escape: Escape,
     err: &mut E,
 ) -> Option<Vec<ReadyMapping>> {
-    let mut notes = Notes::new(alloc);
+    let mut notes = Notes::of_files(alloc, documents.paths.len());
     let read = read_each(alloc, documents, escape, &mut notes);
     if let Err(error) = &read {
         error.report(err);
