@@ -1,5 +1,5 @@
 -- Which numbers a document may have, and the text of a value.
-use Rattle.std.specs.Prelude.{ℕ, List, Bool, is_some, if◌then◌else◌}
+use Rattle.std.specs.Prelude.{◌≡◌, ℕ, List, Bool, true, is_some, if◌then◌else◌}
 use Rattle.json_bridge.specs.Reading.{tree_of_value}
 use Rattle.json_reading.specs.Reading.{wrong_also}
 use Rattle.json_reading.specs.declared.kind.Kind.TheVariants.{NumberNotWhole}
@@ -19,3 +19,7 @@ taken d part = if is_taken d then part else wrong_also NumberNotWhole part
 -- the value's compact text
 abbrev pub json_text_of : Data → Reading (List ℕ)
 json_text_of d = if is_taken d then Read (compact_text d) else Wrong NumberNotWhole
+
+-- the compact text of a value of which each number is taken
+abbrev pub IsWholeJson : List ℕ → Type 0
+IsWholeJson text = (d : Data) × (is_taken d ≡ true) × (text ≡ compact_text d)

@@ -4,6 +4,7 @@ ghost use Rattle.json_bridge.specs.Reading.{items_of, members_of};
 ghost use Rattle.json_reading.specs.Numbers.{is_taken, taken, json_text_of};
 ghost use Rattle.serde_json.specs.View.{view, items_view, members_view};
 
+use crate::json_text::JsonText;
 use crate::kind::Kind;
 use crate::reading::{Reading, wrong_also};
 use plain_text::text::Text;
@@ -59,11 +60,12 @@ pub fn taken<T: Drop>(value: &Value, part: Reading<T>) -> Reading<T>
 }
 
 /// The value's compact text, with names in byte order.
-pub fn json_text_of(alloc: Global, value: &Value) -> Result<Reading<Text>, AllocError>
+pub fn json_text_of(alloc: Global, value: &Value) -> Result<Reading<JsonText>, AllocError>
     ensures { IfOk result (λ text. text ≡ json_text_of (view value.now)) }
 {
     if !is_taken(value) {
         return Ok(Reading::Wrong(Kind::NumberNotWhole));
     }
-    Ok(Reading::Read(Text::from(value.to_string(alloc)?)))
+    let text = Text::from(value.to_string(alloc)?);
+    Ok(Reading::Read(JsonText::new(text)))
 }

@@ -176,7 +176,10 @@ fn expected_of(alloc: Global, value: &Value) -> Result<Reading<Text>, AllocError
 {
     match value {
         Value::String(text) => Ok(Reading::Read(Text::from(text.clone()?))),
-        _ => json_text_of(alloc, value),
+        _ => match json_text_of(alloc, value)? {
+            Reading::Read(text) => Ok(Reading::Read(text.into_text())),
+            Reading::Wrong(kind) => Ok(Reading::Wrong(kind)),
+        },
     }
 }
 

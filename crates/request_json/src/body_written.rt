@@ -108,7 +108,7 @@ fn written_expected(alloc: Global, expected: &Text) -> Result<Value, AllocError>
 {
     match Value::from_str(alloc, expected.as_str()) {
         Ok(value) => match json_text_of(alloc, &value)? {
-            Reading::Read(text) => Ok(Value::String(text.into_string())),
+            Reading::Read(text) => Ok(Value::String(text.into_text().into_string())),
             Reading::Wrong(_) => Value::try_from_str(alloc, expected.as_str()),
         },
         Err(error) => if error.is_memory() {

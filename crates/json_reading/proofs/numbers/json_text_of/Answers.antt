@@ -5,9 +5,16 @@ use Rattle.serde_json.specs.View.{view}
 use Rattle.serde_json.specs.Written.{compact_text}
 use Rattle.json_reading.proofs.numbers.json_text_of.Goals as goal
 
+pub new-requires : goal.new-requires
+new-requires c =
+    let taken : is_some (tree_of_value (view c.args.value.now)) ≡ true = search rules in
+    let text : string_bytes c.in_ok-to_string.field-0 ≡ compact_text (view c.args.value.now) =
+    c.in_ok-to_string.ensures.text (no_float (view c.args.value.now) taken) in
+    (view c.args.value.now, taken, rw (c.from-text.ensures, text) refl)
+
 pub returns : goal.returns
 returns c =
     let taken : is_some (tree_of_value (view c.args.value.now)) ≡ true = search rules in
     let text : string_bytes c.in_ok-to_string.field-0 ≡ compact_text (view c.args.value.now) =
     c.in_ok-to_string.ensures.text (no_float (view c.args.value.now) taken) in
-    rw (taken, c.from.ensures, text) refl
+    rw (taken, c.new.ensures, c.from-text.ensures, text) refl
