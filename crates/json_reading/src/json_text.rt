@@ -6,8 +6,7 @@ use plain_text::plain::Same;
 use plain_text::text::Text;
 use std::marker::Model;
 
-/// The compact text of a value of which each number is whole and fits 64 bits, which contracts see as its bytes. Whoever
-/// holds one knows what it reads as without reading it.
+/// The compact text of a value of which each number is whole and fits 64 bits, which contracts see as its bytes.
 #[derive(Drop)]
 pub struct JsonText {
     text: Text,
