@@ -4,6 +4,7 @@ ghost use Rattle.std.specs.Prelude.{◌≡◌, ◌↔◌, IsTrue};
 use crate::header_lines::HeaderLines;
 use crate::status::Status;
 use crate::template_text::TemplateText;
+use json_reading::json_text::JsonText;
 use plain_text::octets::Octets;
 use plain_text::plain::Same;
 use plain_text::text::Text;
@@ -16,7 +17,7 @@ pub enum Body<V> {
     /// `body`.
     Text(V),
     /// `jsonBody`: its compact text.
-    Json(Text),
+    Json(JsonText),
     /// `base64Body`: the bytes.
     Base64(Octets),
 }

@@ -10,6 +10,7 @@ ghost use Rattle.serde_json.specs.Data.{put, string, object, no_members};
 ghost use Rattle.serde_json.specs.View.{view, members_view};
 
 use base64::engine::general_purpose::STANDARD;
+use json_reading::json_text::JsonText;
 use mapping_model::header_lines::HeaderLine;
 use mapping_model::response_spec::{Body, Content, ResponseSpec};
 use mapping_model::template_text::TemplateText;
@@ -181,7 +182,7 @@ fn put_text_body(
     serde_json::put(members, alloc, "body", Value::try_from_str(alloc, text)?)
 }
 
-fn put_json(alloc: Global, members: &mut Map<String, Value>, text: &Text) -> Result<(), AllocError>
+fn put_json(alloc: Global, members: &mut Map<String, Value>, text: &JsonText) -> Result<(), AllocError>
     ensures { OnOk result (members_view members.new.entries
         ≡ put (codes "jsonBody") (json_of_text text.now) (members_view members.old.entries)) }
 {

@@ -67,9 +67,8 @@ pub(crate) fn plain_body(alloc: Global, body: &Body<Text>) -> Result<Bytes, Allo
 {
     match body {
         Body::Empty => Ok(Bytes::new()),
-        Body::Text(text) | Body::Json(text) => {
-            Bytes::copy_from_slice(alloc, text.as_str().as_bytes())
-        }
+        Body::Text(text) => Bytes::copy_from_slice(alloc, text.as_str().as_bytes()),
+        Body::Json(text) => Bytes::copy_from_slice(alloc, text.as_str().as_bytes()),
         Body::Base64(bytes) => Bytes::copy_from_slice(alloc, bytes.as_slice()),
     }
 }
