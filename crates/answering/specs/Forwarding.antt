@@ -71,7 +71,7 @@ IsRecordReply origin old new asked sent reply =
 
 -- the reply to the client where the target gave none
 abbrev pub failure_reply : ProxyError → Reply
-failure_reply UpstreamFailed = error_reply 502 code.UpstreamFailed
+failure_reply (UpstreamFailed failure) = error_reply 502 code.UpstreamFailed
 failure_reply OutOfMemory = error_reply 503 code.OutOfMemory
 
 -- the reply to what was forwarded. Where none came, nothing is recorded; there, too, memory may run out.

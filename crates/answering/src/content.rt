@@ -15,8 +15,8 @@ use std::alloc::{AllocError, Global};
 use std::marker::Model;
 use std::mem;
 
-/// Between two pieces of a list. While a task asks to be polled again, the runtime looks for what others have sent after
-/// 64 polls, so it does so after each fourth piece.
+/// Between two pieces of a list. While a task asks to be polled again, the runtime looks for what others have sent
+/// after 64 polls, so it does so after each fourth piece.
 const PIECE_PAUSES: u32 = 16;
 
 /// Between two portions of a search. One with a large body takes much longer than a piece, so the runtime looks after

@@ -53,7 +53,7 @@ fn forwarded_response<L: Origin, R: Wait, G, C: Clock>(
 {
     match forwarded {
         Ok(reply) => relay(rt, alloc, site, seat, forward, reply),
-        Err(ProxyError::UpstreamFailed) => error_response(alloc, 502, ErrorCode::UpstreamFailed),
+        Err(ProxyError::UpstreamFailed(_)) => error_response(alloc, 502, ErrorCode::UpstreamFailed),
         Err(ProxyError::OutOfMemory) => error_response(alloc, 503, ErrorCode::OutOfMemory),
     }
 }

@@ -3,6 +3,7 @@ use answering::content::Content;
 use bytes::Bytes;
 use http::{Request, Response};
 use mock_request::snapshot::Snapshot;
+use proxy_client::failure::Failure;
 use shared_book::receipt::Receipt;
 use std::alloc::Global;
 use std::sync::Wait;
@@ -20,7 +21,8 @@ pub trait Log {
         response: &Response<Content>,
     );
 
-    /// A request that was forwarded, and whose event has this number, was answered with this status.
+    /// A request that was forwarded, and whose event has this number, was answered with this status; the failure is why
+    /// it has no reply, if it has none.
     fn forwarded<R: Wait>(
         &self,
         rt: &R,
@@ -28,6 +30,7 @@ pub trait Log {
         number: u64,
         request: &Snapshot,
         status: u16,
+        failure: Option<Failure>,
     );
 }
 
@@ -52,5 +55,6 @@ impl Log for NoLog {
         _number: u64,
         _request: &Snapshot,
         _status: u16,
+        _failure: Option<Failure>,
     ) {}
 }

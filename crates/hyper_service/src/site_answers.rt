@@ -19,6 +19,7 @@ use http_connections::answers::Answers;
 use http_connections::begun::Begun;
 use http_messages::error::ServiceError;
 use proxy_client::error::ProxyError;
+use proxy_client::failure::Failure;
 use proxy_client::forwards::Forwards;
 use shared_book::gate::Gate;
 use shared_book::origin::Origin;
@@ -184,12 +185,13 @@ where
     {
         let Forwarded { forward, reply } = forwarded;
         let number = forward.number;
+        let failure = failure_in(&reply);
         let request = forward.request.try_clone();
         let response = answering::finish::finish(rt, alloc, &self.site, seat, forward, reply)?;
         if let Ok(request) = &request {
             let status = response.status().as_u16();
             self.log
-                .forwarded(rt, alloc, number, request.request(), status);
+                .forwarded(rt, alloc, number, request.request(), status, failure);
         }
         Ok(response)
     }
@@ -214,5 +216,13 @@ where
                 reply: Err(error),
             }),
         }
+    }
+}
+
+// Why the target gave no reply.
+fn failure_in<T>(reply: &Result<T, ProxyError>) -> Option<Failure> {
+    match reply {
+        Err(ProxyError::UpstreamFailed(failure)) => Some(*failure),
+        _ => None,
     }
 }

@@ -1,6 +1,7 @@
 // What is taken, and yet hasn't the effect that was probably meant.
 use crate::part::{Field, Part, field_of};
 use crate::shown::{joined, quoted};
+use path_template::path_template::PathTemplate;
 use serde_json::{Map, Value};
 use std::alloc::{AllocError, Global};
 
@@ -11,9 +12,12 @@ pub(crate) fn warnings_of(alloc: Global, value: &Value) -> Result<Vec<String>, A
     add_lonely(alloc, value, "requiredScenarioState", &mut warnings)?;
     add_lonely(alloc, value, "newScenarioState", &mut warnings)?;
     if let Some(request) = value.get("request") {
+        add_method(alloc, request, &mut warnings)?;
         add_url(alloc, request, &mut warnings)?;
+        add_path_template(alloc, request, &mut warnings)?;
     }
     if let Some(response) = value.get("response") {
+        add_body(alloc, response, &mut warnings)?;
         add_json_body(alloc, response, &mut warnings)?;
     }
     Ok(warnings)
@@ -106,6 +110,27 @@ fn add_lonely(
     Ok(())
 }
 
+/// A method with a small letter: clients send methods in capitals, and they are compared as they stand.
+fn add_method(
+    alloc: Global,
+    request: &Value,
+    warnings: &mut Vec<String>,
+) -> Result<(), AllocError> {
+    let Some(method) = text_at(request, "method") else {
+        return Ok(());
+    };
+    if method.as_bytes().iter().any(|byte| byte.is_ascii_lowercase()) {
+        let method = quoted(alloc, method)?;
+        let texts = [
+            "the `method` ",
+            method.as_str(),
+            " is compared as it stands, and clients send methods in capitals",
+        ];
+        warnings.push(joined(alloc, texts.as_slice())?)?;
+    }
+    Ok(())
+}
+
 /// URLs that no request has: that of a request begins with a slash, and its path has no question mark.
 fn add_url(alloc: Global, request: &Value, warnings: &mut Vec<String>) -> Result<(), AllocError> {
     if let Some(url) = text_at(request, "url") {
@@ -142,6 +167,56 @@ fn unmatched(alloc: Global, name: &str, text: &str, reason: &str) -> Result<Stri
         reason,
     ];
     joined(alloc, texts.as_slice())
+}
+
+/// Segments of a path template that look like more than a text, and are none but a text.
+fn add_path_template(
+    alloc: Global,
+    request: &Value,
+    warnings: &mut Vec<String>,
+) -> Result<(), AllocError> {
+    let Some(template) = text_at(request, "urlPathTemplate") else {
+        return Ok(());
+    };
+    for segment in template.split('/') {
+        if looks_bound(segment) && !is_bound(alloc, segment)? {
+            let segment = quoted(alloc, segment)?;
+            let texts = [
+                "the segment ",
+                segment.as_str(),
+                " of `urlPathTemplate` is compared as it stands: only a whole segment {name} takes any text",
+            ];
+            warnings.push(joined(alloc, texts.as_slice())?)?;
+        }
+    }
+    Ok(())
+}
+
+fn looks_bound(segment: &str) -> bool {
+    segment.contains('{') || segment.contains('}') || segment == "**"
+}
+
+/// Whether the segment takes any text.
+fn is_bound(alloc: Global, segment: &str) -> Result<bool, AllocError> {
+    let path = joined(alloc, ["/", segment].as_slice())?;
+    match PathTemplate::parse(alloc, path.as_str()) {
+        Ok(template) => Ok(template.matches("/any")),
+        Err(_error) => Ok(false),
+    }
+}
+
+/// A text with tags that is no template.
+fn add_body(alloc: Global, response: &Value, warnings: &mut Vec<String>) -> Result<(), AllocError> {
+    let Some(body) = text_at(response, "body") else {
+        return Ok(());
+    };
+    if is_templated(response) || !body.contains("{{") {
+        return Ok(());
+    }
+    let warning =
+        "`body` is no template, its {{ is sent as it is: `transformers` is to name `response-template`";
+    warnings.push(String::from_str(alloc, warning)?)?;
+    Ok(())
 }
 
 /// A JSON body is sent as it is, also beside `response-template`.

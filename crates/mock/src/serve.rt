@@ -149,7 +149,7 @@ where
 {
     match listen(rt, arguments.address, arguments.port) {
         Ok(listening) => serve_listening(rt, listening, book, seat, arguments, log, out, err),
-        Err(error) => report(rt.alloc(), &error, err),
+        Err(error) => report(rt.alloc(), arguments, &error, err),
     }
 }
 
@@ -251,8 +251,13 @@ where
     })
 }
 
-// Why it can't listen.
-fn report<E: Write>(alloc: Global, error: &io::Error, err: &mut E) -> u8
+// Where it can't listen, and why.
+fn report<E: Write>(
+    alloc: Global,
+    arguments: ServeArguments<'_>,
+    error: &io::Error,
+    err: &mut E,
+) -> u8
     ensures { result ≡ FAILURE }
 {
     if error.kind() == ErrorKind::OutOfMemory {
@@ -260,6 +265,10 @@ fn report<E: Write>(alloc: Global, error: &io::Error, err: &mut E) -> u8
     }
     // The exit status is 1 in any case.
     let _ = put(err, "error: cannot listen\n".as_bytes());
-    put_notes(err, reason_line(alloc, error).as_str());
+    let address = SocketAddr::from((arguments.address, arguments.port));
+    // The reason is said if there is memory for it.
+    if let Ok(line) = format!(in alloc; "  {address}: {error}\n") {
+        put_notes(err, line.as_str());
+    }
     FAILURE
 }

@@ -4,6 +4,7 @@ use bytes::Bytes;
 use http::{Request, Response};
 use hyper_service::log::Log;
 use mock_request::snapshot::Snapshot;
+use proxy_client::failure::Failure;
 use request_log::request_log::RequestLog;
 use shared_book::receipt::Receipt;
 use std::alloc::Global;
@@ -46,7 +47,13 @@ impl Log for ServerLog {
         number: u64,
         request: &Snapshot,
         status: u16,
+        failure: Option<Failure>,
     ) {
-        self.log.forwarded(rt, alloc, number, request, status);
+        let failure = match failure {
+            Some(failure) => Some(failure.reason()),
+            None => None,
+        };
+        self.log
+            .forwarded(rt, alloc, number, request, status, failure);
     }
 }

@@ -48,7 +48,7 @@ fn print(rt: &HostRuntime, printed: &Printed) -> io::Result<ExitCode> {
             length,
             sum,
         } => println!(rt; "{status}{headers} {length} bytes, sum {sum}")?,
-        Printed::Failed(code) => println!(rt; "error {code}")?,
+        Printed::Failed { code, reason } => println!(rt; "error {code}: {reason}")?,
         Printed::BadArguments => return Ok(ExitCode::from(2)),
     }
     Ok(ExitCode::SUCCESS)

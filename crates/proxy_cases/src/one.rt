@@ -24,7 +24,10 @@ pub enum Printed {
         length: usize,
         sum: u64,
     },
-    Failed(u16),
+    Failed {
+        code: u16,
+        reason: &'static str,
+    },
     BadArguments,
 }
 
@@ -54,7 +57,17 @@ where
     };
     match result {
         Ok(reply) => shown(alloc, &reply),
-        Err(error) => Ok(Printed::Failed(error.error_code().number())),
+        Err(error) => Ok(Printed::Failed {
+            code: error.error_code().number(),
+            reason: reason_of(error),
+        }),
+    }
+}
+
+fn reason_of(error: ProxyError) -> &'static str {
+    match error {
+        ProxyError::UpstreamFailed(failure) => failure.reason(),
+        ProxyError::OutOfMemory => "out of memory",
     }
 }
 

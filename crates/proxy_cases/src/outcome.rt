@@ -51,7 +51,7 @@ where
     let taken = io.taken()?;
     let outcome = match forward_over(rt, io, turns, &target, &request) {
         Ok(reply) => outcome_of(alloc, &reply)?,
-        Err(ProxyError::UpstreamFailed) => Outcome::Failed,
+        Err(ProxyError::UpstreamFailed(_)) => Outcome::Failed,
         Err(ProxyError::OutOfMemory) => return Err(AllocError),
     };
     let is_sent = SENT.as_bytes().starts_with(taken.take(alloc).as_slice());

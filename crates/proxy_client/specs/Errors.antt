@@ -5,5 +5,5 @@ use Rattle.proxy_client.specs.declared.error.ProxyError.{ProxyError}
 use Rattle.proxy_client.specs.declared.error.ProxyError.TheVariants.{UpstreamFailed, OutOfMemory}
 
 abbrev pub error_code_of : ProxyError → ErrorCode
-error_code_of UpstreamFailed = code.UpstreamFailed
+error_code_of (UpstreamFailed failure) = code.UpstreamFailed
 error_code_of OutOfMemory = code.OutOfMemory

@@ -4,6 +4,7 @@ ghost use Rattle.http_body.specs.Frame.{MapsData, bytes_in};
 ghost use Rattle.proxy_client.specs.Content.{Gathers};
 
 use crate::error::ProxyError;
+use crate::failure::Failure;
 use bytes::{Buf, Bytes, BytesMut};
 use futures::task::{Context, Poll};
 use futures::{Future, ready};
@@ -73,7 +74,7 @@ impl<B> Content<B> {
             return Ok(());
         };
         if data.len() > CONTENT_LIMIT.saturating_sub(self.gathered.len()) {
-            return Err(ProxyError::UpstreamFailed);
+            return Err(ProxyError::UpstreamFailed(Failure::TooLong));
         }
         Ok(self.gathered.extend_from_slice(data.as_slice())?)
     }
@@ -83,7 +84,7 @@ impl<B> Content<B> {
         ensures within { IfOk result (λ content. length content ≤ CONTENT_LIMIT) }
     {
         if self.gathered.len() > CONTENT_LIMIT {
-            return Err(ProxyError::UpstreamFailed);
+            return Err(ProxyError::UpstreamFailed(Failure::TooLong));
         }
         let gathered = mem::replace(&mut self.gathered, BytesMut::new(self.alloc));
         match gathered.freeze() {

@@ -3,6 +3,7 @@ ghost use Rattle.std.specs.Prelude.{◌≡◌};
 ghost use Rattle.proxy_client.specs.Errors.{error_code_of};
 ghost use Rattle.proxy_client.specs.declared.error.ProxyError.TheVariants.{OutOfMemory};
 
+use crate::failure::Failure;
 use error_code::error_code::ErrorCode;
 use recorder::forwarding::ForwardError;
 use std::alloc::AllocError;
@@ -14,7 +15,7 @@ use std::io::ErrorKind;
 pub enum ProxyError {
     /// The target can't be reached, its reply isn't whole, isn't HTTP or is too long, it was silent for too long, or
     /// the request can't be sent.
-    UpstreamFailed,
+    UpstreamFailed(Failure),
     OutOfMemory,
 }
 
@@ -23,7 +24,7 @@ impl ProxyError {
         ensures { result ≡ error_code_of self }
     {
         match self {
-            ProxyError::UpstreamFailed => ErrorCode::UpstreamFailed,
+            ProxyError::UpstreamFailed(_) => ErrorCode::UpstreamFailed,
             ProxyError::OutOfMemory => ErrorCode::OutOfMemory,
         }
     }
@@ -45,7 +46,7 @@ impl From<ForwardError> for ProxyError {
 
     fn from(error: ForwardError) -> ProxyError {
         match error {
-            ForwardError::Unsendable => ProxyError::UpstreamFailed,
+            ForwardError::Unsendable => ProxyError::UpstreamFailed(Failure::Unsendable),
             ForwardError::OutOfMemory => ProxyError::OutOfMemory,
         }
     }
@@ -60,7 +61,7 @@ impl From<http::Error> for ProxyError {
     fn from(error: http::Error) -> ProxyError {
         match error {
             http::Error::OutOfMemory => ProxyError::OutOfMemory,
-            _ => ProxyError::UpstreamFailed,
+            _ => ProxyError::UpstreamFailed(Failure::Unsendable),
         }
     }
 }
@@ -76,8 +77,18 @@ impl From<hyper::Error> for ProxyError {
         if error.is_out_of_memory() {
             ProxyError::OutOfMemory
         } else {
-            ProxyError::UpstreamFailed
+            ProxyError::UpstreamFailed(failure_of(&error))
         }
+    }
+}
+
+fn failure_of(error: &hyper::Error) -> Failure {
+    if error.is_parse_too_large() {
+        Failure::TooLong
+    } else if error.is_parse() {
+        Failure::NotHttp
+    } else {
+        Failure::Broken
     }
 }
 
@@ -92,7 +103,7 @@ impl From<io::Error> for ProxyError {
         if error.kind() == ErrorKind::OutOfMemory {
             ProxyError::OutOfMemory
         } else {
-            ProxyError::UpstreamFailed
+            ProxyError::UpstreamFailed(Failure::NotConnected)
         }
     }
 }

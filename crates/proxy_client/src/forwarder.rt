@@ -10,6 +10,7 @@ ghost use Rattle.proxy_client.specs.declared.stage.Start.{Start as Begun};
 use crate::address::address_of;
 use crate::client::{Client, Exchange};
 use crate::error::ProxyError;
+use crate::failure::Failure;
 use crate::forwards::Forwards;
 use mock_request::snapshot::Snapshot;
 use recorder::target::Target;
@@ -57,7 +58,7 @@ impl<R: Clock + Net + AllocGlobal + Copy + Drop> Forwards for Forwarder<R> {
         request: &Snapshot,
     ) -> Result<Exchange<R, ConnectFuture, TcpStream>, ProxyError> {
         if is_own(address_of(target), self.own) {
-            return Err(ProxyError::UpstreamFailed);
+            return Err(ProxyError::UpstreamFailed(Failure::OwnTarget));
         }
         self.client.connect(&self.handle, target, request)
     }

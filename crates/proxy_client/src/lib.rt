@@ -9,6 +9,7 @@ pub mod client;
 pub mod content;
 pub mod counted;
 pub mod error;
+pub mod failure;
 pub mod forward;
 pub mod forwarder;
 pub mod forwards;

@@ -9,6 +9,7 @@ ghost use Rattle.proxy_client.specs.declared.stage.Stage.TheVariants.{Connecting
 
 use crate::counted::Counted;
 use crate::error::ProxyError;
+use crate::failure::Failure;
 use crate::talk::{HttpTalk, http_talk};
 use bytes::Bytes;
 use futures::task::{Context, Poll};
@@ -93,7 +94,7 @@ where
                     Err(error) => return Poll::Ready(Err(error.into())),
                 };
                 let Some(start) = start.take() else {
-                    return Poll::Ready(Err(ProxyError::UpstreamFailed));
+                    return Poll::Ready(Err(ProxyError::UpstreamFailed(Failure::Broken)));
                 };
                 let mut talk = match start.talk(io) {
                     Ok(talk) => talk,

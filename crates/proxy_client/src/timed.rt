@@ -4,6 +4,7 @@ ghost use Rattle.futures.specs.Poll.{IfReady, OnPending};
 ghost use Rattle.futures.specs.Task.{IsArmed, Keeps};
 
 use crate::error::ProxyError;
+use crate::failure::Failure;
 use futures::task::{Context, Poll};
 use futures::{Future, ready};
 use std::cell::Cell;
@@ -74,7 +75,7 @@ where
             return Poll::Ready(output);
         }
         ready!(self.poll_silence(cx));
-        Poll::Ready(Err(ProxyError::UpstreamFailed))
+        Poll::Ready(Err(ProxyError::UpstreamFailed(Failure::Silent)))
     }
 }
 

@@ -66,7 +66,8 @@ impl RequestLog {
         }
     }
 
-    /// Tells of a request that was forwarded, and whose event has this number.
+    /// Tells of a request that was forwarded, and whose event has this number. `failure` is why the target gave no
+    /// reply, in words.
     pub fn forwarded<R: Wait>(
         &self,
         rt: &R,
@@ -74,9 +75,14 @@ impl RequestLog {
         number: u64,
         request: &Snapshot,
         status: u16,
+        failure: Option<&str>,
     ) {
         if self.is_verbose {
             let line = forwarded_line(alloc, number, request, status);
+            self.add(rt, line);
+        }
+        if let Some(failure) = failure {
+            let line = failed_line(alloc, request, failure);
             self.add(rt, line);
         }
     }
@@ -107,6 +113,18 @@ fn forwarded_line(
         "proxied",
         status,
     )
+}
+
+// Why a request was forwarded in vain.
+fn failed_line(alloc: Global, request: &Snapshot, failure: &str) -> Result<String, AllocError> {
+    let mut line = String::from_str(alloc, "failed ")?;
+    line.push_str(cut(alloc, request.method(), SHOWN)?.as_str())?;
+    line.push_str(" ")?;
+    line.push_str(cut(alloc, request.url(), SHOWN)?.as_str())?;
+    line.push_str(": error 53: upstream failed: ")?;
+    line.push_str(failure)?;
+    line.push_str("\n")?;
+    Ok(line)
 }
 
 fn line_of(

@@ -4,6 +4,7 @@ use futures::future::Ready;
 use mapping_model::reply::Reply;
 use mock_request::snapshot::Snapshot;
 use proxy_client::error::ProxyError;
+use proxy_client::failure::Failure;
 use proxy_client::forwards::Forwards;
 use recorder::target::Target;
 
@@ -19,6 +20,6 @@ impl Forwards for Nowhere {
         _target: &Target,
         _request: &Snapshot,
     ) -> Result<Ready<Result<Reply, ProxyError>>, ProxyError> {
-        Err(ProxyError::UpstreamFailed)
+        Err(ProxyError::UpstreamFailed(Failure::NotConnected))
     }
 }
