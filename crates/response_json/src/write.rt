@@ -182,7 +182,11 @@ fn put_text_body(
     serde_json::put(members, alloc, "body", Value::try_from_str(alloc, text)?)
 }
 
-fn put_json(alloc: Global, members: &mut Map<String, Value>, text: &JsonText) -> Result<(), AllocError>
+fn put_json(
+    alloc: Global,
+    members: &mut Map<String, Value>,
+    text: &JsonText,
+) -> Result<(), AllocError>
     ensures { OnOk result (members_view members.new.entries
         ≡ put (codes "jsonBody") (json_of_text text.now) (members_view members.old.entries)) }
 {
