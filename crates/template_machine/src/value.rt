@@ -46,19 +46,26 @@ impl<'a> Value<'a> {
     }
 
     /// Appends what it prints as.
+    #[inline(always)]
     pub fn print_into(self, alloc: Global, out: &mut String) -> Result<(), AllocError>
         ensures { OnOk result (string_bytes out.new ≡ string_bytes out.old ++ text_of (value_view self.entry)) }
     {
         match self {
             Value::Datum(found) => print_datum(alloc, found, out),
-            Value::Number(number) => {
-                let mut buffer = itoa::Buffer::new();
-                out.push_str(buffer.format(number))
-            }
+            Value::Number(number) => print_number(number, out),
             Value::Truth(true) => out.push_str("true"),
             Value::Truth(false) => out.push_str("false"),
         }
     }
+}
+
+// Appends a number. Apart, so that what prints no number needs no room for its digits.
+#[inline(never)]
+fn print_number(number: i64, out: &mut String) -> Result<(), AllocError>
+    ensures { OnOk result (string_bytes out.new ≡ string_bytes out.old ++ signed_decimal number) }
+{
+    let mut buffer = itoa::Buffer::new();
+    out.push_str(buffer.format(number))
 }
 
 /// Appends what a value of the data prints as. A text, as most are, is appended here, without a call.
