@@ -5,6 +5,7 @@ ghost use Rattle.data_tree.specs.Print.{print, is_not_empty};
 ghost use Rattle.data_tree.specs.Tree.{view};
 ghost use Rattle.template_machine.specs.Inner.Slots.{found_view};
 
+use crate::append::push_ascii;
 use data_tree::data::Data;
 use std::alloc::{AllocError, Global};
 
@@ -59,9 +60,22 @@ impl<'a> Value<'a> {
     }
 }
 
-// Appends a number. Apart, so that what prints no number needs no room for its digits.
+// Appends a number. Apart, so that what prints no number needs no room for its digits. One digit, as the first indexes
+// are, needs no such room either.
 #[inline(never)]
+#[tactic(auto, using(std::proofs::lemmas::Fmt::decimal_digit))]
 fn print_number(number: i64, out: &mut String) -> Result<(), AllocError>
+    ensures { OnOk result (string_bytes out.new ≡ string_bytes out.old ++ signed_decimal number) }
+{
+    if 0 <= number && number < 10 {
+        return push_ascii(48 + number as u8, out);
+    }
+    print_digits(number, out)
+}
+
+// Appends a number of any length.
+#[inline(never)]
+fn print_digits(number: i64, out: &mut String) -> Result<(), AllocError>
     ensures { OnOk result (string_bytes out.new ≡ string_bytes out.old ++ signed_decimal number) }
 {
     let mut buffer = itoa::Buffer::new();
