@@ -22,6 +22,7 @@ pub enum Held<'a> {
 }
 
 /// A slot's value, or its text.
+#[inline(always)]
 pub fn hold<'a>(alloc: Global, slot: &'a Slot<'a>) -> Result<Held<'a>, AllocError>
     ensures { IfOk result (λ held. held_view held ≡ slot_view slot.now) }
 {
@@ -36,7 +37,7 @@ pub fn hold<'a>(alloc: Global, slot: &'a Slot<'a>) -> Result<Held<'a>, AllocErro
     }
 }
 
-// A text with its letters in upper case. Apart, so that `hold` is small enough to be inlined.
+// A text with its letters in upper case. Apart, so that `hold` is small where it is inlined.
 #[inline(never)]
 fn upper_case<'a>(alloc: Global, text: &'a str) -> Result<Held<'a>, AllocError>
     ensures { IfOk result (λ held. held_view held ≡ a_text (map to_ascii_uppercase text.now)) }

@@ -5,6 +5,7 @@ ghost use Rattle.data_tree.specs.Print.{print, is_not_empty};
 ghost use Rattle.data_tree.specs.Tree.{view};
 ghost use Rattle.template_machine.specs.Inner.Slots.{found_view};
 
+use crate::append::push_ascii;
 use data_tree::data::Data;
 use std::alloc::{AllocError, Global};
 
@@ -46,19 +47,39 @@ impl<'a> Value<'a> {
     }
 
     /// Appends what it prints as.
+    #[inline(always)]
     pub fn print_into(self, alloc: Global, out: &mut String) -> Result<(), AllocError>
         ensures { OnOk result (string_bytes out.new ≡ string_bytes out.old ++ text_of (value_view self.entry)) }
     {
         match self {
             Value::Datum(found) => print_datum(alloc, found, out),
-            Value::Number(number) => {
-                let mut buffer = itoa::Buffer::new();
-                out.push_str(buffer.format(number))
-            }
+            Value::Number(number) => print_number(number, out),
             Value::Truth(true) => out.push_str("true"),
             Value::Truth(false) => out.push_str("false"),
         }
     }
+}
+
+// Appends a number. Apart, so that what prints no number needs no room for its digits. One digit, as the first indexes
+// are, needs no such room either.
+#[inline(never)]
+#[tactic(auto, using(std::proofs::lemmas::Fmt::decimal_digit))]
+fn print_number(number: i64, out: &mut String) -> Result<(), AllocError>
+    ensures { OnOk result (string_bytes out.new ≡ string_bytes out.old ++ signed_decimal number) }
+{
+    if 0 <= number && number < 10 {
+        return push_ascii(48 + number as u8, out);
+    }
+    print_digits(number, out)
+}
+
+// Appends a number of any length.
+#[inline(never)]
+fn print_digits(number: i64, out: &mut String) -> Result<(), AllocError>
+    ensures { OnOk result (string_bytes out.new ≡ string_bytes out.old ++ signed_decimal number) }
+{
+    let mut buffer = itoa::Buffer::new();
+    out.push_str(buffer.format(number))
 }
 
 /// Appends what a value of the data prints as. A text, as most are, is appended here, without a call.
