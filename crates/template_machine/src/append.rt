@@ -14,7 +14,7 @@ pub fn append_literal(text: &str, out: &mut String) -> Result<(), AllocError>
     }
 }
 
-/// Appends an ASCII character. LLVM inlines what it takes for a frequent way of a function, which pushing is of this one
+/// Appends an ASCII character. LLVM inlines what it takes for a frequent way of a function, as pushing is of this one,
 /// and wouldn't be of one that looks first what there is to append.
 pub fn push_ascii(byte: u8, out: &mut String) -> Result<(), AllocError>
     requires { byte < 128 }

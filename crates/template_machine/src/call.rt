@@ -193,10 +193,8 @@ pub fn found_in<'a>(value: Option<&'a Data>, steps: &[Step]) -> Option<&'a Data>
     requires { IfSome value (λ d. IsWellFormed (view d.now)) }
     ensures { found_view result ≡ at steps.now (found_view value.entry) }
 {
-    if steps.is_empty() {
-        return value;
-    }
     match value {
+        Some(value) if steps.is_empty() => Some(value),
         Some(value) => value.at(steps),
         None => None,
     }

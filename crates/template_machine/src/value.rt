@@ -22,11 +22,13 @@ impl<'a> Value<'a> {
     ghost use Rattle.helper_set.specs.Values.{text_of, truth_of};
     ghost use Rattle.template_machine.specs.Inner.Slots.{value_view};
 
-    /// Whether it counts as true.
+    /// Whether it counts as true. A text, as most values are, is asked here, without a call.
+    #[inline(always)]
     pub fn is_true(self) -> bool
         ensures { result ≡ truth_of (value_view self.entry) }
     {
         match self {
+            Value::Datum(Some(Data::Text(text))) => !text.is_empty(),
             Value::Datum(Some(found)) => found.is_true(),
             Value::Datum(None) => false,
             Value::Number(number) => number != 0,
