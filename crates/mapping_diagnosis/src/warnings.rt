@@ -119,7 +119,11 @@ fn add_method(
     let Some(method) = text_at(request, "method") else {
         return Ok(());
     };
-    if method.as_bytes().iter().any(|byte| byte.is_ascii_lowercase()) {
+    if method
+        .as_bytes()
+        .iter()
+        .any(|byte| byte.is_ascii_lowercase())
+    {
         let method = quoted(alloc, method)?;
         let texts = [
             "the `method` ",

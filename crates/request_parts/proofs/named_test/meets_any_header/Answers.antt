@@ -11,7 +11,9 @@ use Rattle.request_parts.proofs.RestLemmas.{at_end}
 use Rattle.request_parts.specs.Inner.Rest.{MeetsRest}
 use Rattle.request_parts.proofs.named_test.meets_any_header.Goals as goal
 use Rattle.request_parts.proofs.named_test.meets_any_header.Goals.{
-  in-Some+then-is_lower_case_of+in_ok-matches+else-branch, in-Some+else-is_lower_case_of, in_default
+  in-Some+then-is_lower_case_of+in_ok-matches+else-branch,
+  in-Some+else-is_lower_case_of,
+  in_default,
 }
 
 pub returns-then-branch-clause-answer : goal.returns-then-branch-clause-answer
