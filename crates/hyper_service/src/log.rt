@@ -22,7 +22,7 @@ pub trait Log {
     );
 
     /// A request that was forwarded, and whose event has this number, was answered with this status; the failure is why
-    /// it has no reply, if it has none.
+    /// the target gave no reply, if it gave none.
     fn forwarded<R: Wait>(
         &self,
         rt: &R,

@@ -219,7 +219,7 @@ where
     }
 }
 
-// Why the target gave no reply.
+// Why the target gave no reply; nothing where it gave one, or where memory ran out.
 fn failure_in<T>(reply: &Result<T, ProxyError>) -> Option<Failure> {
     match reply {
         Err(ProxyError::UpstreamFailed(failure)) => Some(*failure),

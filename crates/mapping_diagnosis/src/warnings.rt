@@ -1,6 +1,7 @@
 // What is taken, and yet hasn't the effect that was probably meant.
 use crate::part::{Field, Part, field_of};
 use crate::shown::{joined, quoted};
+use path_template::error::PathTemplateError;
 use path_template::path_template::PathTemplate;
 use serde_json::{Map, Value};
 use std::alloc::{AllocError, Global};
@@ -182,6 +183,10 @@ fn add_path_template(
     let Some(template) = text_at(request, "urlPathTemplate") else {
         return Ok(());
     };
+    // It is refused.
+    if template.contains('?') {
+        return Ok(());
+    }
     for segment in template.split('/') {
         if looks_bound(segment) && !is_bound(alloc, segment)? {
             let segment = quoted(alloc, segment)?;
@@ -205,7 +210,8 @@ fn is_bound(alloc: Global, segment: &str) -> Result<bool, AllocError> {
     let path = joined(alloc, ["/", segment].as_slice())?;
     match PathTemplate::parse(alloc, path.as_str()) {
         Ok(template) => Ok(template.matches("/any")),
-        Err(_error) => Ok(false),
+        Err(PathTemplateError::BadUrl) => Ok(false),
+        Err(PathTemplateError::OutOfMemory) => Err(AllocError),
     }
 }
 
@@ -218,7 +224,7 @@ fn add_body(alloc: Global, response: &Value, warnings: &mut Vec<String>) -> Resu
         return Ok(());
     }
     let warning =
-        "`body` is no template, its {{ is sent as it is: `transformers` is to name `response-template`";
+        "`body` is no template, its {{ is sent as it is: it is one where `transformers` names `response-template`";
     warnings.push(String::from_str(alloc, warning)?)?;
     Ok(())
 }

@@ -18,8 +18,9 @@ another server, and makes mappings of its answers.
 With --connections it ends after N connections, and prints how many events its history has, as
 `settled 3 events`, if they are those that the connections have seen.
 What is wrong with a mapping, where, and warnings are written to standard error, also of mappings that
-are posted, and why an admin call was refused; with --verbose a line for each request, as
-`7 GET /todo unmatched 404`: the number of its event, the request, what answered it, and the status.
+are posted, and why an admin call was refused or a request was forwarded in vain; with --verbose a
+line for each request, as `7 GET /todo unmatched 404`: the number of its event, the request, what
+answered it, and the status.
 
 Example, in the folder of this repository:
   mock serve --port 8080 --mappings examples/scenario.json

@@ -7,7 +7,7 @@ use crate::server_log::ServerLog;
 use answering::clock::SystemClock;
 use answering::site::Site;
 use command_output::error::CommandError;
-use command_output::files::{FileReader, reason_line};
+use command_output::files::FileReader;
 use command_output::output::{put, put_notes};
 use command_output::status::FAILURE;
 use error_code::error_code::ErrorCode;

@@ -13,8 +13,7 @@ use std::io::ErrorKind;
 /// Why a request has no reply.
 #[derive(Clone, Copy, Debug, PartialEq, Eq)]
 pub enum ProxyError {
-    /// The target can't be reached, its reply isn't whole, isn't HTTP or is too long, it was silent for too long, or
-    /// the request can't be sent.
+    /// There is no whole reply, for this reason.
     UpstreamFailed(Failure),
     OutOfMemory,
 }
@@ -92,6 +91,7 @@ fn failure_of(error: &hyper::Error) -> Failure {
     }
 }
 
+// What fails before there is a connection: the socket, or the clock.
 impl From<io::Error> for ProxyError {
     ghost use Rattle.std.specs.Prelude.{◌↔◌};
     ghost use Rattle.std.specs.IoError.{error_kind};

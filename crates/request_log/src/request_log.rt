@@ -26,7 +26,8 @@ const UNPROCESSABLE: u16 = 422;
 #[derive(Drop)]
 pub struct RequestLog {
     lines: Arc<Lines>,
-    /// Whether it tells of each request, or of admin calls alone that were refused or have warnings.
+    /// Whether it tells of each request, or of those alone that were forwarded in vain, and of admin calls that were
+    /// refused or have warnings.
     is_verbose: bool,
     /// How the prints of the templates of posted mappings are escaped.
     escape: Escape,
