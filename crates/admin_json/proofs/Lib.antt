@@ -3,3 +3,4 @@ pub mod GroupLemmas
 pub mod Regular
 pub mod RequestLemmas
 pub mod MappingLemmas
+pub mod WholeJson

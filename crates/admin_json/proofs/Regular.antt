@@ -1,6 +1,6 @@
 -- Values whose objects have their names in order: their text has no float where no number is one, and reads back.
-use Rattle.std.proofs.Common.{◌≡◌, ℕ, pos, negsuc, suc, max, ◌≤◌, ◌<◌, ◌^◌, List, []}
-use Rattle.std.proofs.Common.{false, Some, Ordering, Less, Equal, Greater, nat_cmp, refl, sym, ap, ap₂}
+use Rattle.std.proofs.Common.{◌≡◌, ℕ, pos, negsuc, ◌≤◌, ◌<◌, ◌^◌, List, []}
+use Rattle.std.proofs.Common.{false, Some, Ordering, Less, Equal, Greater, nat_cmp, refl, sym, ap}
 use Rattle.std.proofs.Common.{◌∙◌, subst, append-nil}
 use Rattle.std.specs.Prelude.{⊤, option_map, option_and_then}
 use Rattle.std.specs.Cmp.Lexicographic.{slice_cmp}
@@ -12,9 +12,9 @@ use Rattle.json.specs.Tree as tree
 use Rattle.json.proofs.Printed.Decimals.{IsNumber-decimal, IsNumber-signed_decimal}
 use Rattle.json.proofs.Printed.Tokens.{tokens-print}
 use Rattle.json.proofs.Printed.Trees.{value-json_tokens, ArePrintable-json_tokens}
+use Rattle.json_reading.proofs.Whole.{same_depth}
 use Rattle.serde_json.specs.Data.{Num, unsigned, negative, float, Data, null, boolean, number, string, array, object}
-use Rattle.serde_json.specs.Data.{Items, no_items, item, Members, no_members, member, put, depth, items_depth}
-use Rattle.serde_json.specs.Data.{members_depth}
+use Rattle.serde_json.specs.Data.{Items, no_items, item, Members, no_members, member, put, depth}
 use Rattle.serde_json.specs.Find.{is_float}
 use Rattle.serde_json.specs.Read.{read, of_json, of_items, of_members, max_depth}
 use Rattle.serde_json.specs.Written.{outline, items_outline, members_outline, has_float, items_have_float}
@@ -108,22 +108,23 @@ ordered_put k d (member l e ms) rest =
 abbrev pub is_whole : Num → Type 0
 is_whole n = is_float n ≡ false
 
-mutual
-  pub plain : (d : Data) → IsRegular is_whole d → has_float d ≡ false
-  plain null is = refl
-  plain (boolean b) is = refl
-  plain (number n) is = is
-  plain (string s) is = refl
-  plain (array ds) is = items_plain ds is
-  plain (object ms) is = members_plain ms is.1
+module _ (P : Num → Type 0) (whole : (n : Num) → P n → is_whole n) where
+  mutual
+    pub plain : (d : Data) → IsRegular P d → has_float d ≡ false
+    plain null is = refl
+    plain (boolean b) is = refl
+    plain (number n) is = whole n is
+    plain (string s) is = refl
+    plain (array ds) is = items_plain ds is
+    plain (object ms) is = members_plain ms is.1
 
-  items_plain : (ds : Items) → AreRegular is_whole ds → items_have_float ds ≡ false
-  items_plain no_items are = refl
-  items_plain (item d ds) are = rw (plain d are.0, items_plain ds are.1) refl
+    items_plain : (ds : Items) → AreRegular P ds → items_have_float ds ≡ false
+    items_plain no_items are = refl
+    items_plain (item d ds) are = rw (plain d are.0, items_plain ds are.1) refl
 
-  members_plain : (ms : Members) → HasRegular is_whole ms → members_have_float ms ≡ false
-  members_plain no_members are = refl
-  members_plain (member k d ms) are = rw (plain d are.0, members_plain ms are.1) refl
+    members_plain : (ms : Members) → HasRegular P ms → members_have_float ms ≡ false
+    members_plain no_members are = refl
+    members_plain (member k d ms) are = rw (plain d are.0, members_plain ms are.1) refl
 
 -- ---- read back
 
@@ -133,6 +134,11 @@ FitsWord (unsigned n) = n < 2 ^ 64
 FitsWord (negative (pos n)) = ⊥
 FitsWord (negative (negsuc n)) = n < 2 ^ 63
 FitsWord (float x) = ⊥
+
+pub word_is_whole : (n : Num) → FitsWord n → is_whole n
+word_is_whole (unsigned n) fits = refl
+word_is_whole (negative z) fits = refl
+word_is_whole (float x) fits = absurd fits
 
 abbrev after : Members → Members → Members
 after no_members ms = ms
@@ -207,23 +213,6 @@ mutual
   members_numbered : (ms : Members) → HasRegular FitsWord ms → tree.MembersHaveNumbers (members_outline ms)
   members_numbered no_members are = tt
   members_numbered (member k d ms) are = (numbered d are.0, members_numbered ms are.1)
-
-mutual
-  same_depth : (d : Data) → tree.depth (outline d) ≡ depth d
-  same_depth null = refl
-  same_depth (boolean b) = refl
-  same_depth (number n) = refl
-  same_depth (string s) = refl
-  same_depth (array ds) = ap suc (items_same_depth ds)
-  same_depth (object ms) = ap suc (members_same_depth ms)
-
-  items_same_depth : (ds : Items) → tree.items_depth (items_outline ds) ≡ items_depth ds
-  items_same_depth no_items = refl
-  items_same_depth (item d ds) = ap₂ max (same_depth d) (items_same_depth ds)
-
-  members_same_depth : (ms : Members) → tree.members_depth (members_outline ms) ≡ members_depth ms
-  members_same_depth no_members = refl
-  members_same_depth (member k d ms) = ap₂ max (same_depth d) (members_same_depth ms)
 
 -- its compact text reads back
 pub reads_back : (d : Data) → IsRegular FitsWord d → depth d ≤ max_depth → read (compact_text d) ≡ Some d

@@ -11,4 +11,4 @@ pub mod State
 pub mod Start
 pub mod Errors
 pub mod Inner
-pub mod Plain
+pub mod WholeNumbers

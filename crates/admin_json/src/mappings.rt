@@ -1,11 +1,11 @@
 // Mappings of the book, as values.
-ghost use Rattle.std.specs.Prelude.{◌≡◌, ◌<◌, ◌^◌, IfOk, IfSome, IsTrue, codes, nat_abs, string_bytes};
+ghost use Rattle.std.specs.Prelude.{◌≡◌, ◌<◌, ◌^◌, false, All, IfOk, IfSome, codes, nat_abs, string_bytes};
 ghost use Rattle.admin_json.specs.Mappings.{with_id, json_of_held, json_of_list, json_of_mappings};
-ghost use Rattle.admin_json.specs.Plain.{HasNoJson, IsNotJson, IsPlain};
+ghost use Rattle.admin_json.specs.WholeNumbers.{HasWholeBody, HasWholeJson, HasWholeNumbers};
 ghost use Rattle.mapping_json.specs.Writing.{json_of_id};
 ghost use Rattle.serde_json.specs.Data.{object, put};
 ghost use Rattle.serde_json.specs.View.{view, members_view};
-ghost use Rattle.serde_json.specs.Written.{compact_text};
+ghost use Rattle.serde_json.specs.Written.{compact_text, has_float};
 
 use crate::written::meta_value;
 use mapping_json::write::write_mapping;
@@ -22,55 +22,6 @@ pub fn mapping_value(alloc: Global, mapping: &Mapping) -> Result<Value, AllocErr
 {
     let value = write_mapping(alloc, mapping.spec.spec())?;
     with_id(alloc, mapping.id, value)
-}
-
-/// The compact text of a mapping under its id.
-pub fn mapping_text(alloc: Global, mapping: &Mapping) -> Result<String, AllocError>
-    requires { IsPlain mapping.now }
-    ensures { IfOk result (λ text. string_bytes text ≡ compact_text (json_of_held mapping.now)) }
-{
-    mapping_value(alloc, mapping)?.to_string(alloc)
-}
-
-/// Whether its text is known: whether its response has no `jsonBody`.
-pub fn is_plain(mapping: &Mapping) -> bool
-    ensures { IsTrue result → IsPlain mapping.now }
-{
-    let spec = mapping.spec.spec();
-    let response = spec.response.response();
-    has_no_json(&response.content) && is_small(response.status) && is_near(spec.priority)
-}
-
-fn has_no_json(content: &Content) -> bool
-    ensures { IsTrue result → HasNoJson content.now }
-{
-    match content {
-        Content::Plain { body, .. } => is_not_json(body),
-        Content::Templated { body, .. } => is_not_json(body),
-    }
-}
-
-fn is_not_json<V>(body: &Body<V>) -> bool
-    ensures { IsTrue result → IsNotJson body.now }
-{
-    !matches!(body, Body::Json(_))
-}
-
-// As each status is.
-fn is_small(status: Status) -> bool
-    ensures { IsTrue result → (status < 2 ^ 64) }
-{
-    status.code() < 600
-}
-
-// As each priority is.
-fn is_near(priority: Option<i32>) -> bool
-    ensures { IsTrue result → IfSome priority (λ priority. nat_abs priority < 2 ^ 63) }
-{
-    match priority {
-        Some(priority) => priority.unsigned_abs() <= 2_147_483_648,
-        None => true,
-    }
 }
 
 /// The mappings, in the order that is given, and how many there are.
@@ -94,6 +45,67 @@ pub(crate) fn list_value(alloc: Global, mappings: &[Mapping]) -> Result<Value, A
         values.push(mapping_value(alloc, mapping)?)?;
     }
     Ok(Value::Array(values))
+}
+
+/// The compact text of a mapping under its id.
+pub fn mapping_text(alloc: Global, mapping: &Mapping) -> Result<String, AllocError>
+    ensures { IfOk result (λ text. string_bytes text ≡ compact_text (json_of_held mapping.now)) }
+{
+    law_numbers_are_whole(mapping);
+    mapping_value(alloc, mapping)?.to_string(alloc)
+}
+
+/// A law: whatever the mapping has, each number of its JSON is whole and fits 64 bits.
+pub fn law_numbers_are_whole(mapping: &Mapping)
+    ensures numbers { HasWholeNumbers mapping.now }
+    ensures no_float { has_float (json_of_held mapping.now) ≡ false }
+{
+    // Each part is looked at so that the prover knows what its type keeps; nothing is done with it.
+    let spec = mapping.spec.spec();
+    let response = spec.response.response();
+    law_body_is_whole(&response.content);
+    law_status_is_word(response.status);
+    law_priority_is_word(spec.priority);
+}
+
+/// The same of each of the mappings.
+pub fn law_each_is_whole(mappings: &[Mapping])
+    ensures { All HasWholeNumbers mappings.now }
+{
+    for mapping in mappings {
+        law_numbers_are_whole(mapping);
+    }
+}
+
+fn law_body_is_whole(content: &Content)
+    ensures { HasWholeBody content.now }
+{
+    match content {
+        Content::Plain { body, .. } => law_json_is_whole(body),
+        Content::Templated { body, .. } => law_json_is_whole(body),
+    }
+}
+
+fn law_json_is_whole<V>(body: &Body<V>)
+    ensures { HasWholeJson body.now }
+{
+    if let Body::Json(text) = body {
+        let _text = text.as_str();
+    }
+}
+
+fn law_status_is_word(status: Status)
+    ensures { status < 2 ^ 64 }
+{
+    let _code = status.code();
+}
+
+fn law_priority_is_word(priority: Option<i32>)
+    ensures { IfSome priority (λ priority. nat_abs priority < 2 ^ 63) }
+{
+    if let Some(priority) = priority {
+        let _distance = priority.unsigned_abs();
+    }
 }
 
 /// The object with the id in place of the one that it has.

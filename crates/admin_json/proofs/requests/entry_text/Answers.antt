@@ -10,6 +10,6 @@ pub returns : goal.returns
 returns c =
     let entry = c.args.entry.now in
     let same = c.in_ok-entry_value.ensures in
-    let whole = plain (json_of_entry entry) (entry_regular is_whole entry refl) in
+    let whole = plain is_whole (λ n is. is) (json_of_entry entry) (entry_regular is_whole entry refl) in
     IfOk-weaker c.to_string.result _ _
     (λ text made. made (ap has_float same ∙ whole) ∙ ap compact_text same) c.to_string.ensures.text
