@@ -19,6 +19,7 @@ ghost use Rattle.request_journal.specs.declared.entry.Entry.{Entry};
 use crate::entries::Entries;
 use crate::mapping_texts::MappingTexts;
 use crate::search::Search;
+use admin_json::mappings::law_each_is_whole;
 use har_export::entries::HarEntries;
 use har_export::error::HarError;
 use itoa::Buffer;
@@ -111,41 +112,35 @@ impl Listing {
         Ok(new_listing(head, Entries::Count(Search::new(alloc, entries, matcher))))
     }
 
-    /// The mappings, in the order that is given, and how many there are. `None` where the response of one has a
-    /// `jsonBody`: the text of its numbers isn't known before it is written.
-    pub fn of_mappings(alloc: Global, mappings: &[Mapping]) -> Result<Option<Listing>, AllocError>
-        ensures text { IfOk result (λ made. IfSome made (λ listing.
-            listing ≡ compact_text (json_of_mappings mappings.now))) }
-        ensures reads_back { IfOk result (λ made. IfSome made (λ listing.
-            depth (json_of_mappings mappings.now) ≤ max_depth
-            → read listing ≡ Some (json_of_mappings mappings.now))) }
+    /// The mappings, in the order that is given, and how many there are.
+    pub fn of_mappings(alloc: Global, mappings: &[Mapping]) -> Result<Listing, AllocError>
+        ensures text { IfOk result (λ listing. listing ≡ compact_text (json_of_mappings mappings.now)) }
+        ensures reads_back { IfOk result (λ listing. depth (json_of_mappings mappings.now) ≤ max_depth
+            → read listing ≡ Some (json_of_mappings mappings.now)) }
     {
-        let Some(texts) = MappingTexts::new(alloc, mappings)? else {
-            return Ok(None);
-        };
+        // For the proof alone: the text of each is known.
+        law_each_is_whole(mappings);
+        let texts = MappingTexts::new(alloc, mappings)?;
         let total = mappings.len();
         let end = end_of_mappings(alloc, total)?;
-        Ok(Some(mapping_listing(alloc, texts, end)?))
+        mapping_listing(alloc, texts, end)
     }
 
-    /// The mappings that were recorded, in the order that is given, and how many exchanges were skipped. `None` as for
-    /// `of_mappings`.
+    /// The mappings that were recorded, in the order that is given, and how many exchanges were skipped.
     pub fn of_recorded(
         alloc: Global,
         mappings: &[Mapping],
         skipped: u64,
-    ) -> Result<Option<Listing>, AllocError>
-        ensures text { IfOk result (λ made. IfSome made (λ listing.
-            listing ≡ compact_text (json_of_recorded mappings.now skipped))) }
-        ensures reads_back { IfOk result (λ made. IfSome made (λ listing.
-            depth (json_of_recorded mappings.now skipped) ≤ max_depth
-            → read listing ≡ Some (json_of_recorded mappings.now skipped))) }
+    ) -> Result<Listing, AllocError>
+        ensures text { IfOk result (λ listing. listing ≡ compact_text (json_of_recorded mappings.now skipped)) }
+        ensures reads_back { IfOk result (λ listing. depth (json_of_recorded mappings.now skipped) ≤ max_depth
+            → read listing ≡ Some (json_of_recorded mappings.now skipped)) }
     {
-        let Some(texts) = MappingTexts::new(alloc, mappings)? else {
-            return Ok(None);
-        };
+        // For the proof alone: the text of each is known.
+        law_each_is_whole(mappings);
+        let texts = MappingTexts::new(alloc, mappings)?;
         let end = end_of_recorded(alloc, skipped)?;
-        Ok(Some(mapping_listing(alloc, texts, end)?))
+        mapping_listing(alloc, texts, end)
     }
 
     /// The HAR document of exchanges with the target. An exchange that started too late is reported before any memory

@@ -1,43 +1,35 @@
 // Mappings, each of which is written by itself.
-ghost use Rattle.std.specs.Prelude.{◌≡◌, ◌<◌, All, Some, length, map, IfOk, IfSome, IsTrue, slice_get, string_bytes};
-ghost use Rattle.admin_json.specs.Plain.{IsPlain};
+ghost use Rattle.std.specs.Prelude.{◌≡◌, ◌<◌, Some, length, map, IfOk, slice_get, string_bytes};
 ghost use Rattle.admin_listing.specs.Inner.Mapped.{text_of_mapping};
 
-use admin_json::mappings::{is_plain, mapping_text};
+use admin_json::mappings::mapping_text;
 use plain_text::plain::TryClone;
 use request_journal::mapping::Mapping;
 use std::alloc::{AllocError, Global};
 use std::marker::Model;
 
-/// Mappings without a `jsonBody`, which contracts see as their compact texts. Only references are kept.
+/// Mappings, which contracts see as their compact texts. Only references are kept.
 #[derive(Drop)]
 pub(crate) struct MappingTexts {
     mappings: Vec<Mapping>,
 }
 
 impl Model for MappingTexts {
-    ghost use Rattle.std.specs.Prelude.{ℕ, All, List, map};
-    ghost use Rattle.admin_json.specs.Plain.{IsPlain};
+    ghost use Rattle.std.specs.Prelude.{ℕ, List, map};
     ghost use Rattle.admin_listing.specs.Inner.Mapped.{text_of_mapping};
 
     ghost Value = { List (List ℕ) };
 
     ghost view = { λ t. map text_of_mapping t.mappings.items };
-
-    ghost invariant = { λ t. All IsPlain t.mappings.items };
 }
 
 impl MappingTexts {
-    /// `None` where the response of one has a `jsonBody`, which may have numbers whose text isn't known beforehand.
-    pub fn new(alloc: Global, mappings: &[Mapping]) -> Result<Option<MappingTexts>, AllocError>
-        ensures { IfOk result (λ made. IfSome made (λ texts.
-            All IsPlain mappings.now × (texts ≡ map text_of_mapping mappings.now))) }
+    pub fn new(alloc: Global, mappings: &[Mapping]) -> Result<MappingTexts, AllocError>
+        ensures { IfOk result (λ texts. texts ≡ map text_of_mapping mappings.now) }
     {
-        if !are_plain(mappings) {
-            return Ok(None);
-        }
-        let mappings = shared(alloc, mappings)?;
-        Ok(Some(MappingTexts { mappings }))
+        Ok(MappingTexts {
+            mappings: shared(alloc, mappings)?,
+        })
     }
 
     pub fn len(&self) -> usize
@@ -53,17 +45,6 @@ impl MappingTexts {
     {
         mapping_text(alloc, &self.mappings[index])
     }
-}
-
-fn are_plain(mappings: &[Mapping]) -> bool
-    ensures { IsTrue result → All IsPlain mappings.now }
-{
-    for mapping in mappings {
-        if !is_plain(mapping) {
-            return false;
-        }
-    }
-    true
 }
 
 fn shared(alloc: Global, mappings: &[Mapping]) -> Result<Vec<Mapping>, AllocError>

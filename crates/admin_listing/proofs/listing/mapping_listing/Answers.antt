@@ -4,4 +4,5 @@ use Rattle.admin_listing.proofs.listing.mapping_listing.Goals as goal
 
 pub returns : goal.returns
 returns c =
-    c.new_listing.ensures ∙ ap (λ s. s ++ joined (codes "]" ++ string_bytes c.args.end) false c.args.texts) c.in_ok-head.ensures.ok
+    c.new_listing.ensures
+    ∙ ap (λ s. s ++ joined (codes "]" ++ string_bytes c.args.end) false c.args.texts) c.in_ok-head.ensures.ok
