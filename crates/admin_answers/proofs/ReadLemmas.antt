@@ -1,12 +1,10 @@
 -- What is answered from a reading is what the past that was read says.
-use Rattle.std.proofs.Common.{◌≡◌, ◌⊎◌, ℕ, List, Vec, Option, Some, None, Result, Ok, Err, IfOk, IfSome}
+use Rattle.std.proofs.Common.{◌≡◌, ◌⊎◌, ℕ, List, Vec, Option, Some, None, Result, Ok, Err, IfOk}
 use Rattle.std.proofs.Common.{IfErr, inl, inr, sym, subst, refl, ◌∙◌, ◌+◌, ◌^◌, ◌≤◌, arith}
 use Rattle.std.specs.declared.alloc.AllocError.{AllocError}
 use Rattle.std.specs.declared.alloc.Global.{Global}
 use Rattle.admin_answers.proofs.NumberLemmas.{AreBelow, below_more, visible_below}
 use Rattle.admin_answers.specs.Answers.{InPast, IsHeldReply, IsReadReply}
-use Rattle.admin_answers.specs.Replies.{reply_of}
-use Rattle.admin_answers.specs.declared.admin_answer.AdminAnswer.{AdminAnswer}
 use Rattle.admin_answers.specs.declared.error.SharedError.{SharedError}
 use Rattle.error_code.specs.declared.error_code.ErrorCode.TheVariants as code
 use Rattle.admin_answers.specs.JsonReply.{IsJsonReply}
@@ -41,11 +39,11 @@ pub said : (origin : Past) (asked : BookRead) (reading : Reading) (found : ReadA
 said origin asked reading found is e = subst (IsReadAnswer is.past asked) e is.answer
 
 pub mappings
-    : (origin : Past) (list : Vec Mapping Global) (reading : Reading) (result : Result AdminAnswer AllocError)
+    : (origin : Past) (list : Vec Mapping Global) (reading : Reading) (result : Result (List ℕ) AllocError)
     → IsRead origin read.Mappings reading → reading.answer ≡ answer.Mappings list
-    → IfOk result (λ made. IsJsonReply 200 (json_of_mappings list.items) (reply_of made))
-    → IfOk result (λ made. InPast origin (IsReadReply call.ListMappings (reply_of made)))
-mappings origin list reading (Ok made) is e json =
+    → IfOk result (λ text. IsJsonReply 200 (json_of_mappings list.items) (json_reply 200 text))
+    → IfOk result (λ text. InPast origin (IsReadReply call.ListMappings (json_reply 200 text)))
+mappings origin list reading (Ok text) is e json =
     (is.past, is.reached, (list.items, said origin read.Mappings reading _ is e, json))
 mappings origin list reading (Err why) is e json = tt
 
@@ -59,20 +57,14 @@ replied value P Q (Ok text) less same reads =
     λ q. (text, record { compact = λ whole. same; reads_back = reads (less q) }, refl)
 replied value P Q (Err why) less same reads = tt
 
--- the same of a text that may not be there
+-- the same, whatever the value has
 pub listed
-    : (value : Data) (made : Option (List ℕ)) (text : List ℕ) → made ≡ Some text
-    → IfSome made (λ t. t ≡ compact_text value)
-    → IfSome made (λ t. depth value ≤ max_depth → json.read t ≡ Some value)
-    → IsJsonReply 200 value (json_reply 200 text)
-listed value made text is same reads = (
-  text,
-  record {
-    compact = λ whole. subst (λ o. IfSome o (λ t. t ≡ compact_text value)) is same;
-    reads_back = subst (λ o. IfSome o (λ t. depth value ≤ max_depth → json.read t ≡ Some value)) is reads;
-  },
-  refl,
-)
+    : (value : Data) (result : Result (List ℕ) AllocError)
+    → IfOk result (λ text. text ≡ compact_text value)
+    → IfOk result (λ text. depth value ≤ max_depth → json.read text ≡ Some value)
+    → IfOk result (λ text. IsJsonReply 200 value (json_reply 200 text))
+listed value (Ok text) same reads = (text, record { compact = λ whole. same; reads_back = reads }, refl)
+listed value (Err why) same reads = tt
 
 pub requests
     : (origin : Past) (list : Vec Entry Global) (reading : Reading) (result : Result (List ℕ) AllocError)

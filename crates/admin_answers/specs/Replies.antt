@@ -11,8 +11,9 @@ abbrev pub reply_of : AdminAnswer → Reply
 reply_of (Whole reply) = reply
 reply_of (Listed text) = json_reply 200 text
 
--- the call is answered with a text that is written piece by piece
+-- the call reads, and is answered with a text that is written piece by piece
 abbrev pub IsListed : AdminCall → Type 0
+IsListed call.ListMappings = Unit {0}
 IsListed call.ListRequests = Unit {0}
 IsListed call.ListUnmatched = Unit {0}
 IsListed (call.FindRequests matcher) = Unit {0}

@@ -8,9 +8,9 @@ use crate::admin_answer::AdminAnswer;
 use crate::change::change;
 use crate::error::SharedError;
 use crate::lists::{
-    count_requests, find_requests, list_requests, list_unmatched, read_recording_har,
+    count_requests, find_requests, list_mappings, list_requests, list_unmatched, read_recording_har,
 };
-use crate::reads::{list_mappings, list_scenarios, read_mapping, read_recording_status};
+use crate::reads::{list_scenarios, read_mapping, read_recording_status};
 use admin_json::start::RecordingStart;
 use admin_routes::call::AdminCall;
 use request_journal::input::BookInput;
@@ -33,6 +33,7 @@ pub fn answer_admin<L: Origin, R: Wait>(
     ensures refused { IfErr result (λ error. IsNotAnswered L.origin seat.old seat.new call error.code) }
 {
     match call {
+        AdminCall::ListMappings => Ok(AdminAnswer::Listed(list_mappings(rt, alloc, shared, seat)?)),
         AdminCall::ListRequests => Ok(AdminAnswer::Listed(list_requests(rt, alloc, shared, seat)?)),
         AdminCall::ListUnmatched => {
             Ok(AdminAnswer::Listed(list_unmatched(rt, alloc, shared, seat)?))
@@ -84,7 +85,6 @@ fn answer_other<L: Origin, R: Wait>(
         }
         AdminCall::StartRecording(start) => start_recording(rt, alloc, shared, seat, start),
         AdminCall::StopRecording => change(rt, alloc, shared, seat, BookInput::StopRecording),
-        AdminCall::ListMappings => Ok(list_mappings(rt, alloc, shared, seat)?),
         AdminCall::ReadMapping(id) => {
             Ok(AdminAnswer::Whole(read_mapping(rt, alloc, shared, seat, id)?))
         }

@@ -6,12 +6,12 @@ ghost use Rattle.admin_json.specs.Mappings.{json_of_held};
 ghost use Rattle.admin_json.specs.Recordings.{json_of_recorded};
 ghost use Rattle.admin_answers.specs.Replies.{reply_of};
 ghost use Rattle.serde_json.specs.Data.{object, no_members};
+ghost use Rattle.stub_response.specs.ErrorReply.{json_reply};
 
 use crate::admin_answer::AdminAnswer;
 use crate::error::SharedError;
 use crate::json_reply::value_reply;
 use admin_json::mappings::mapping_value;
-use admin_json::recordings::recorded_value;
 use admin_listing::listing::Listing;
 use mapping_model::mapping_id::MappingId;
 use mapping_model::reply::Reply;
@@ -49,7 +49,8 @@ fn event_answer(alloc: Global, event: &Event) -> Result<AdminAnswer, AllocError>
 {
     match event {
         Event::StopRecording { mappings, skipped } => {
-            recorded_answer(alloc, mappings.as_slice(), *skipped)
+            let listing = recorded_listing(alloc, mappings.as_slice(), *skipped)?;
+            Ok(AdminAnswer::Listed(listing))
         }
         Event::Add(mapping) => Ok(AdminAnswer::Whole(added_reply(alloc, mapping)?)),
         Event::Edit { id, spec } => Ok(AdminAnswer::Whole(edited_reply(alloc, *id, spec)?)),
@@ -76,21 +77,13 @@ fn edited_reply(alloc: Global, id: MappingId, spec: &SharedSpec) -> Result<Reply
     value_reply(alloc, 200, &mapping_value(alloc, &Mapping { id, spec })?)
 }
 
-fn recorded_answer(
+fn recorded_listing(
     alloc: Global,
     mappings: &[Mapping],
     skipped: u64,
-) -> Result<AdminAnswer, AllocError>
-    ensures { IfOk result (λ answer. IsJsonReply 200 (json_of_recorded mappings.now skipped) (reply_of answer)) }
+) -> Result<Listing, AllocError>
+    ensures { IfOk result (λ listing.
+        IsJsonReply 200 (json_of_recorded mappings.now skipped) (json_reply 200 listing)) }
 {
-    match Listing::of_recorded(alloc, mappings, skipped)? {
-        Some(listing) => Ok(AdminAnswer::Listed(listing)),
-        None => Ok(AdminAnswer::Whole(recorded_reply(alloc, mappings, skipped)?)),
-    }
-}
-
-fn recorded_reply(alloc: Global, mappings: &[Mapping], skipped: u64) -> Result<Reply, AllocError>
-    ensures { IfOk result (IsJsonReply 200 (json_of_recorded mappings.now skipped)) }
-{
-    value_reply(alloc, 200, &recorded_value(alloc, mappings, skipped)?)
+    Listing::of_recorded(alloc, mappings, skipped)
 }

@@ -5,6 +5,7 @@ ghost use Rattle.std.specs.List.{AllByRecursion};
 ghost use Rattle.admin_answers.specs.Answers.{InPast, IsReadReply};
 ghost use Rattle.admin_answers.specs.JsonReply.{IsJsonReply};
 ghost use Rattle.admin_answers.specs.Recordings.{HasNoHar, IsHarReply};
+ghost use Rattle.admin_json.specs.Mappings.{json_of_mappings};
 ghost use Rattle.admin_json.specs.Requests.{json_of_found, json_of_number, json_of_requests};
 ghost use Rattle.admin_routes.specs.declared.call.AdminCall.TheVariants as call;
 ghost use Rattle.error_code.specs.declared.error_code.ErrorCode.TheVariants as code;
@@ -21,6 +22,7 @@ use admin_listing::listing::Listing;
 use error_code::error_code::ErrorCode;
 use recorder::recording::{Recording, Session};
 use request_journal::entry::Entry;
+use request_journal::mapping::Mapping;
 use request_match::request_matcher::RequestMatcher;
 use shared_book::book_read::{BookRead, ReadAnswer};
 use shared_book::origin::Origin;
@@ -28,6 +30,22 @@ use shared_book::seat::Seat;
 use shared_book::shared_book::SharedBook;
 use std::alloc::{AllocError, Global};
 use std::sync::Wait;
+
+pub(crate) fn list_mappings<L: Origin, R: Wait>(
+    rt: &R,
+    alloc: Global,
+    shared: &SharedBook<L>,
+    seat: &Seat<L>,
+) -> Result<Listing, AllocError>
+    ensures { IfOk result (λ listing.
+        InPast L.origin (IsReadReply call.ListMappings (json_reply 200 listing))) }
+{
+    let reading = seat.read(rt, shared, BookRead::Mappings)?;
+    match &reading.answer {
+        ReadAnswer::Mappings(mappings) => mappings_listing(alloc, mappings.as_slice()),
+        _ => unreachable!(),
+    }
+}
 
 pub(crate) fn list_requests<L: Origin, R: Wait>(
     rt: &R,
@@ -114,6 +132,13 @@ pub(crate) fn read_recording_har<L: Origin, R: Wait>(
         ReadAnswer::Recording(recording) => har_listing(alloc, recording),
         _ => unreachable!(),
     }
+}
+
+fn mappings_listing(alloc: Global, mappings: &[Mapping]) -> Result<Listing, AllocError>
+    ensures { IfOk result (λ listing.
+        IsJsonReply 200 (json_of_mappings mappings.now) (json_reply 200 listing)) }
+{
+    Listing::of_mappings(alloc, mappings)
 }
 
 // Requests whose events have numbers up to the last.

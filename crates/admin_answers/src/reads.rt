@@ -1,22 +1,19 @@
-// Calls that read the book. The JSON is written after the lock was let go; that of a list of mappings piece by piece.
+// Calls that read the book. The JSON is written after the lock was let go.
 ghost use Rattle.std.specs.Prelude.{◌≡◌, ◌⊎◌, IfErr, IfOk, None, Some};
 ghost use Rattle.admin_answers.specs.Answers.{InPast, IsHeldReply, IsReadReply};
 ghost use Rattle.admin_answers.specs.JsonReply.{IsJsonReply};
-ghost use Rattle.admin_answers.specs.Replies.{reply_of};
-ghost use Rattle.admin_json.specs.Mappings.{json_of_held, json_of_mappings};
+ghost use Rattle.admin_json.specs.Mappings.{json_of_held};
 ghost use Rattle.admin_json.specs.Recordings.{json_of_status};
 ghost use Rattle.admin_json.specs.Scenarios.{json_of_scenarios};
 ghost use Rattle.admin_routes.specs.declared.call.AdminCall.TheVariants as call;
 ghost use Rattle.error_code.specs.declared.error_code.ErrorCode.TheVariants as code;
 ghost use Rattle.request_journal.specs.Legal.{IsLive};
 
-use crate::admin_answer::AdminAnswer;
 use crate::error::SharedError;
 use crate::json_reply::value_reply;
-use admin_json::mappings::{mapping_value, mappings_value};
+use admin_json::mappings::mapping_value;
 use admin_json::recordings::status_value;
 use admin_json::scenarios::scenarios_value;
-use admin_listing::listing::Listing;
 use error_code::error_code::ErrorCode;
 use mapping_model::mapping_id::MappingId;
 use mapping_model::reply::Reply;
@@ -29,21 +26,6 @@ use shared_book::seat::Seat;
 use shared_book::shared_book::SharedBook;
 use std::alloc::{AllocError, Global};
 use std::sync::Wait;
-
-pub(crate) fn list_mappings<L: Origin, R: Wait>(
-    rt: &R,
-    alloc: Global,
-    shared: &SharedBook<L>,
-    seat: &Seat<L>,
-) -> Result<AdminAnswer, AllocError>
-    ensures { IfOk result (λ answer. InPast L.origin (IsReadReply call.ListMappings (reply_of answer))) }
-{
-    let reading = seat.read(rt, shared, BookRead::Mappings)?;
-    match &reading.answer {
-        ReadAnswer::Mappings(mappings) => { mappings_answer(alloc, mappings.as_slice()) }
-        _ => unreachable!(),
-    }
-}
 
 pub(crate) fn read_mapping<L: Origin, R: Wait>(
     rt: &R,
@@ -93,21 +75,6 @@ pub(crate) fn read_recording_status<L: Origin, R: Wait>(
         ReadAnswer::RecordingStatus(status) => status_reply(alloc, *status),
         _ => unreachable!(),
     }
-}
-
-fn mappings_answer(alloc: Global, mappings: &[Mapping]) -> Result<AdminAnswer, AllocError>
-    ensures { IfOk result (λ answer. IsJsonReply 200 (json_of_mappings mappings.now) (reply_of answer)) }
-{
-    match Listing::of_mappings(alloc, mappings)? {
-        Some(listing) => Ok(AdminAnswer::Listed(listing)),
-        None => Ok(AdminAnswer::Whole(mappings_reply(alloc, mappings)?)),
-    }
-}
-
-fn mappings_reply(alloc: Global, mappings: &[Mapping]) -> Result<Reply, AllocError>
-    ensures { IfOk result (IsJsonReply 200 (json_of_mappings mappings.now)) }
-{
-    value_reply(alloc, 200, &mappings_value(alloc, mappings)?)
 }
 
 fn held_reply(alloc: Global, held: &Option<Mapping>) -> Result<Reply, SharedError>

@@ -10,4 +10,5 @@ returns c =
     let last = c.args.last in
     let fits : last + 1 ≤ 2 ^ 64 = omega arith in
     replied (json_of_requests entries) (AreBelow (2 ^ 64) entries) (AreBelow (last + 1) entries) c.of_requests.result
-    (λ below. below_more (last + 1) (2 ^ 64) entries fits below) c.of_requests.ensures.text c.of_requests.ensures.reads_back
+    (λ below. below_more (last + 1) (2 ^ 64) entries fits below) c.of_requests.ensures.text
+    c.of_requests.ensures.reads_back
