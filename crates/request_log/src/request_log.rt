@@ -3,7 +3,9 @@ use crate::lines::Lines;
 use crate::request_line::request_line;
 use admin_table::route::{Route, is_admin, route_of};
 use bytes::Bytes;
+use error_code::error_code::ErrorCode;
 use http::Request;
+use itoa::Buffer;
 use mapping_diagnosis::notes::Notes;
 use mapping_diagnosis::shown::{cut, quoted};
 use mapping_json::error::MappingError;
@@ -122,7 +124,11 @@ fn failed_line(alloc: Global, request: &Snapshot, failure: &str) -> Result<Strin
     line.push_str(cut(alloc, request.method(), SHOWN)?.as_str())?;
     line.push_str(" ")?;
     line.push_str(cut(alloc, request.url(), SHOWN)?.as_str())?;
-    line.push_str(": error 53: upstream failed: ")?;
+    line.push_str(": error ")?;
+    line.push_str(Buffer::new().format(ErrorCode::UpstreamFailed.number()))?;
+    line.push_str(": ")?;
+    line.push_str(ErrorCode::UpstreamFailed.title())?;
+    line.push_str(": ")?;
     line.push_str(failure)?;
     line.push_str("\n")?;
     Ok(line)
