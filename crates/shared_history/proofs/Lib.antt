@@ -1,2 +1,4 @@
 pub mod Prefixes
 pub mod Lines
+pub mod Cells
+pub mod KeptSteps

@@ -1,5 +1,5 @@
 // The steps on the word.
-ghost use Rattle.std.specs.Prelude.{◌≡◌, ◌+◌, ◌∷◌, ◌++◌, [], length};
+ghost use Rattle.std.specs.Prelude.{◌≡◌, ◌+◌, ◌≤◌, ◌∷◌, ◌++◌, [], length};
 ghost use mathlib.Core.List.{IsPrefix};
 ghost use Rattle.logbook.specs.Pages.{may_write};
 ghost use Rattle.shared_history.specs.Inner.Drafts.{deed_of};
@@ -71,6 +71,7 @@ pub(crate) fn add<O, E, C: Course<O, E>, R: Wait>(
     requires name { head.now ≡ head_of seen.old.book }
     requires pen { turn.old.book ≡ seen.old.book }
     requires right { turn.old.nib.right ≡ may_write }
+    requires long { count ≤ length seen.old.log }
     requires allowed { length seen.old.log ≡ count → IsUnused turn.old.nib.key seen.old.log → IsLegal C.may (seen.old.log ++ line seat (deed_of ask) turn.old.nib.key next.now.nib.key child.now.nib.key ∷ []) }
     ensures count { result ≡ count + 1 }
     ensures book { seen.new.book ≡ seen.old.book }
