@@ -1,5 +1,6 @@
 // The history itself, which lies under the lock of what it is of.
 ghost use Rattle.std.specs.Prelude.{◌≡◌};
+ghost use mathlib.Core.List.{IsPrefix};
 ghost use Rattle.shared_history.specs.History.{HasLeft, IsHistory, MayCall};
 ghost use Rattle.shared_history.specs.Seal.{IsSeen};
 ghost use Rattle.shared_history.specs.Sight.{Calls, CatchesUp, Leaves, Splits};
@@ -53,6 +54,18 @@ impl<O, E, C: Course<O, E>, J: Naming> History<O, E, C, J> {
             count: self.count,
             seen: self.seen.again(),
             of: PhantomData,
+        }
+    }
+
+    /// What the front has begins the history.
+    pub fn covers<R: Wait>(&self, rt: &R, front: &Front<O, E, C, J>)
+        ensures begins { IsPrefix front.now self.now }
+        ensures legal { IsHistory C.may self.now }
+    {
+        let mut both = self.seen.again();
+        both.learn(&front.seen);
+        if self.count < front.count {
+            stuck(rt);
         }
     }
 
