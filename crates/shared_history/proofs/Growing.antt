@@ -7,7 +7,8 @@ use mathlib.Core.List.{IsPrefix}
 use Rattle.shared_history.specs.Entries.{entry, opening, own, is_left, makes_seat, IsSeat}
 use Rattle.shared_history.specs.History.{MayDo, GoesOn, IsHistory, MayFollow, HasLeft}
 use Rattle.shared_history.specs.Inner.Lines.{entries_of, line, turn_of, AreTurns, IsUnused, IsLegal, HasTurn}
-use Rattle.shared_history.specs.Sight.{Sight, IsIn}
+use Rattle.shared_history.specs.Inner.Kept.{IsWritten}
+use Rattle.shared_history.specs.Sight.{IsIn}
 use Rattle.shared_history.specs.declared.entry.Deed.{Deed}
 use Rattle.shared_history.specs.declared.entry.Deed.TheVariants.{Opened, Called, Split, Left}
 use Rattle.shared_history.specs.declared.entry.Entry.{Entry}
@@ -172,3 +173,38 @@ module _ {O E : Type 0} (may : O → List E → E → Type 0) where
         let P : Entry O E → Type 0 = λ e. is_left e.deed ≡ false in
         has_left (entries_of (xs ++ l ∷ [])) number legal.history
             (λ stay. absurd (cc (All-head P (entry number Left) [] (all_rest P (own number (entries_of xs)) (entry number Left ∷ []) (subst (λ (w : List (Entry O E)). All P w) mine stay)))))
+
+  split : (xs : List (Line O E)) (number key next child : ℕ) → HasTurn may xs number key → (deed : Deed O E) → deed ≡ Split → IsLegal may (xs ++ line number deed key next child ∷ [])
+      → HasTurn may (xs ++ line number deed key next child ∷ []) (length xs) child × (own (length xs) (entries_of (xs ++ line number deed key next child ∷ [])) ≡ [])
+  split xs number key next child has deed is legal =
+      let it : IsLegal may (xs ++ line number Split key next child ∷ []) = subst (λ (d : Deed O E). IsLegal may (xs ++ line number d key next child ∷ [])) is legal in
+      subst (λ (d : Deed O E). HasTurn may (xs ++ line number d key next child ∷ []) (length xs) child × (own (length xs) (entries_of (xs ++ line number d key next child ∷ [])) ≡ [])) (sym is)
+          (has_child xs number key next child has it, no_own xs number key next child has it)
+
+  leave : (xs : List (Line O E)) (number key next child : ℕ) → HasTurn may xs number key → (deed : Deed O E) → deed ≡ Left → IsLegal may (xs ++ line number deed key next child ∷ [])
+      → HasLeft may (entries_of (xs ++ line number deed key next child ∷ [])) number
+  leave xs number key next child has deed is legal =
+      subst (λ (d : Deed O E). HasLeft may (entries_of (xs ++ line number d key next child ∷ [])) number) (sym is)
+          (gone xs number key next child has (subst (λ (d : Deed O E). IsLegal may (xs ++ line number d key next child ∷ [])) is legal))
+
+  module _ (seen old all new : List (Line O E)) (count number key next child : ℕ) (deed : Deed O E) (counted : count ≡ length old) (legal : IsLegal may old) (has : HasTurn may seen number key)
+      (pre : IsPrefix old all) (sees : IsPrefix seen all) (follow : MayFollow may (entries_of old) deed) (long : length all ≡ count) (unused : IsUnused key all)
+      (added : new ≡ all ++ line number deed key next child ∷ []) where
+    pub written : IsWritten may seen old new number next child deed
+    written =
+        let same : all ≡ old = sym (prefix_whole old all pre (omega (arith, counted, long))) in
+        let add : old ++ line number deed key next child ∷ [] ≡ new = sym (added ∙ ap (λ w. w ++ line number deed key next child ∷ []) same) in
+        let grown : IsLegal may (old ++ line number deed key next child ∷ []) =
+            subst (λ (w : List (Line O E)). IsLegal may (w ++ line number deed key next child ∷ [])) same (may_add old seen all count number key next child deed counted legal has pre sees follow long unused) in
+        let begins : IsPrefix seen old = subst (λ (w : List (Line O E)). IsPrefix seen w) same sees in
+        let free : IsUnused key old = subst (λ (w : List (Line O E)). IsUnused key w) same unused in
+        let here : HasTurn may old number key = (has_kept seen old number key has legal begins free).0 in
+        subst (λ (w : List (Line O E)). IsWritten may seen old w number next child deed) add
+        (record {
+          before = is_in seen old number key has legal begins free;
+          added = entries_append old (line number deed key next child ∷ []);
+          legal = grown;
+          has_next = λ stays. has_next old number key next child here deed stays grown;
+          has_child = λ is. split old number key next child here deed is grown;
+          has_left = λ is. leave old number key next child here deed is grown
+        })

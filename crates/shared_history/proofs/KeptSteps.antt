@@ -51,7 +51,7 @@ module _ {O E : Type 0} (may : O → List E → E → Type 0) where
   look_moves v ask pen right cs log kept pre away =
       let kept' = same_kept cs log 0 kept in
       let free : IsUnused pen.key (log ++ []) = subst (IsUnused pen.key) (sym (append-nil log)) (unused cs pen.key (away right).1 log kept.home) in
-      (kept.some, ap (λ c. c.1) kept.head, (keeps, [], None, tt, kept', inl (refl, refl), (refl, kept'.begun, free)))
+      (kept.some, ap (λ c. c.1) kept.head, (keeps, [], None, tt, kept', inl (refl, refl), (refl, free)))
 
   module _ (v : List (Line O E)) (l : Line O E) (count : ℕ) (pen : Nib) (right : pen.right ≡ may_write) (turn : l.turn ≡ pen.key) (long : count ≤ length v)
       (allowed : length v ≡ count → IsUnused pen.key v → IsLegal may (v ++ l ∷ [])) where

@@ -12,7 +12,7 @@ use crate::naming::Naming;
 use crate::rule::Law;
 use crate::seat::Seat;
 use crate::steps::{draw, look, stuck};
-use crate::write::write;
+use crate::write::{ask_to_leave, ask_to_split, write};
 use logbook::{Seen, Word};
 use std::marker::{Model, PhantomData};
 use std::sync::Wait;
@@ -131,7 +131,7 @@ impl<O, E, C: Course<O, E>, J: Naming> History<O, E, C, J> {
             &mut seat.turn,
             &next,
             &turn,
-            Ask::split(&seat.seen),
+            ask_to_split(&seat.seen),
         );
         seat.count = self.count;
         seat.seen = self.seen.again();
@@ -170,7 +170,7 @@ impl<O, E, C: Course<O, E>, J: Naming> History<O, E, C, J> {
             &mut turn,
             &next,
             &next,
-            Ask::left(&seen),
+            ask_to_leave(&seen),
         );
     }
 }

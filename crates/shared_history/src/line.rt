@@ -1,10 +1,6 @@
 // What the log keeps of an entry, and what a step asks for.
-ghost use Rattle.std.specs.Prelude.{◌≡◌};
-
-use crate::course::Course;
 use crate::entry::{Deed, Entry};
-use crate::rule::Law;
-use logbook::{Pen, Seen};
+use logbook::Pen;
 
 /// An entry, the turn that it uses up, the turn that its seat has next, and that of the seat that it makes.
 pub struct Line<O, E> {
@@ -31,15 +27,4 @@ pub(crate) struct Draft<'a, O, E> {
     pub(crate) turn: &'a Pen,
     pub(crate) next: &'a Pen,
     pub(crate) child: &'a Pen,
-}
-
-impl<'a, O, E> Ask<'a, O, E> {
-    // The checker of borrows wants a value that the lifetime is of.
-    pub(crate) fn split<C: Course<O, E>>(_seen: &'a Seen<Line<O, E>, u64, Law<O, E, C>>) -> Ask<'a, O, E> {
-        Ask::Split
-    }
-
-    pub(crate) fn left<C: Course<O, E>>(_seen: &'a Seen<Line<O, E>, u64, Law<O, E, C>>) -> Ask<'a, O, E> {
-        Ask::Left
-    }
 }

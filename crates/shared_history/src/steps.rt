@@ -4,7 +4,7 @@ ghost use mathlib.Core.List.{IsPrefix};
 ghost use Rattle.logbook.specs.Pages.{may_write};
 ghost use Rattle.shared_history.specs.Inner.Drafts.{deed_of};
 ghost use Rattle.shared_history.specs.Inner.Lines.{IsLegal, IsUnused, line};
-ghost use Rattle.shared_history.specs.Inner.Rules.{IsBegun, head_of};
+ghost use Rattle.shared_history.specs.Inner.Rules.{head_of};
 
 use crate::course::Course;
 use crate::line::{Ask, Draft, Line};
@@ -49,7 +49,6 @@ pub(crate) fn look<O, E, C: Course<O, E>>(
     ensures pen { turn.new.book ≡ turn.old.book }
     ensures nib { turn.new.nib ≡ turn.old.nib }
     ensures begins { IsPrefix seen.old.log seen.new.log }
-    ensures begun { IsBegun C.may seen.new.log }
     ensures unused { IsUnused turn.old.nib.key seen.new.log }
 {
     let mut offer: Offer<Line<O, E>, u64, Law<O, E, C>, Nothing> = seen.plain::<Nothing, (), Nothing>(&());

@@ -1,12 +1,12 @@
 // An entry of a seat.
-ghost use Rattle.std.specs.Prelude.{◌≡◌, ◌∷◌, ◌++◌, [], length};
-ghost use mathlib.Core.List.{IsPrefix};
+ghost use Rattle.std.specs.Prelude.{◌≡◌, length};
 ghost use Rattle.logbook.specs.Pages.{may_write};
 ghost use Rattle.shared_history.specs.History.{MayFollow};
 ghost use Rattle.shared_history.specs.Inner.Drafts.{deed_of};
-ghost use Rattle.shared_history.specs.Inner.Lines.{HasTurn, IsLegal, IsUnused, entries_of, line};
+ghost use Rattle.shared_history.specs.Inner.Kept.{IsWritten};
+ghost use Rattle.shared_history.specs.Inner.Lines.{HasTurn, IsLegal, entries_of};
 ghost use Rattle.shared_history.specs.Inner.Rules.{head_of};
-ghost use Rattle.shared_history.specs.Sight.{IsIn};
+ghost use Rattle.shared_history.specs.declared.entry.Deed.TheVariants.{Left, Split};
 
 use crate::course::Course;
 use crate::line::{Ask, Line};
@@ -38,14 +38,28 @@ pub(crate) fn write<O, E, C: Course<O, E>, R: Wait>(
     requires allowed { MayFollow C.may (entries_of whole.old.log) (deed_of ask) }
     ensures count { result ≡ length whole.new.log }
     ensures book { whole.new.book ≡ whole.old.book }
-    ensures begins { IsPrefix seen.now.log whole.old.log }
-    ensures unused { IsUnused turn.old.nib.key whole.old.log }
-    ensures added { whole.new.log ≡ whole.old.log ++ line seat (deed_of ask.entry) turn.old.nib.key next.now.nib.key child.now.nib.key ∷ [] }
-    ensures legal { IsLegal C.may whole.new.log }
+    ensures written { IsWritten C.may seen.now.log whole.old.log whole.new.log seat next.now.nib.key child.now.nib.key (deed_of ask.entry) }
 {
     let mut all = whole.again();
     all.learn(seen);
     let count = add(rt, head, count, &mut all, seat, ask, turn, next, child);
     *whole = all;
     count
+}
+
+// The checker of borrows wants a value that lives as long as the references in `Ask`.
+pub(crate) fn ask_to_split<'a, O, E, C: Course<O, E>>(
+    _seen: &'a Seen<Line<O, E>, u64, Law<O, E, C>>,
+) -> Ask<'a, O, E>
+    ensures { deed_of result ≡ Split }
+{
+    Ask::Split
+}
+
+pub(crate) fn ask_to_leave<'a, O, E, C: Course<O, E>>(
+    _seen: &'a Seen<Line<O, E>, u64, Law<O, E, C>>,
+) -> Ask<'a, O, E>
+    ensures { deed_of result ≡ Left }
+{
+    Ask::Left
 }

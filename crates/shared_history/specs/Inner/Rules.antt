@@ -25,7 +25,7 @@ module _ {O E : Type 0} (may : O → List E → E → Type 0) where
 
   -- the lines so far were seen, none of which uses up the turn that the caller has
   abbrev pub Looks : Step (Line O E) → View (Line O E) ℕ → ℕ → View (Line O E) ℕ → Type 0
-  Looks s v found w = (w.1.0 ≡ v.1.0) × IsBegun w.0 × IsUnused v.1.0.key w.0
+  Looks s v found w = (w.1.0 ≡ v.1.0) × IsUnused v.1.0.key w.0
 
   -- the line was added to all that had been seen, none of which uses up its turn; or there were other lines
   abbrev pub Adds : Step (Line O E) → View (Line O E) ℕ → ℕ → View (Line O E) ℕ → Type 0

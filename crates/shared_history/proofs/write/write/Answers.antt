@@ -3,7 +3,7 @@ use mathlib.Core.List.{IsPrefix}
 use Rattle.shared_history.specs.Inner.Drafts.{deed_of}
 use Rattle.shared_history.specs.Inner.Lines.{IsLegal, IsUnused, line}
 use Rattle.shared_history.specs.declared.line.Line.{Line}
-use Rattle.shared_history.proofs.Growing.{may_add}
+use Rattle.shared_history.proofs.Growing.{may_add, written}
 use Rattle.shared_history.proofs.Prefixes.{prefix_length, prefix_whole}
 use Rattle.shared_history.proofs.write.write.Goals as goal
 
@@ -22,11 +22,10 @@ add-count-requires g c =
           c.requires.counted c.requires.legal c.requires.has begins c.learn.ensures.3 c.requires.allowed
     }
 
-pub returns-clause-legal : goal.returns-clause-legal
-returns-clause-legal g c =
+pub returns-clause-written : goal.returns-clause-written
+returns-clause-written g c =
     let all = c.learn.new.self.log in
     let whole = c.args.whole.now.log in
     let begins : IsPrefix whole all = subst (λ (l : List (Line g.row.O.Denot g.row.E.Denot)). IsPrefix l all) (ap (λ s. s.log) c.again-all.ensures) c.learn.ensures.2 in
-    rw c.add-count.ensures.added
-        (may_add g.C.Course.may whole c.args.seen.now.log all c.args.count c.args.seat c.args.turn.now.nib.key c.args.next.now.nib.key c.args.child.now.nib.key (deed_of c.args.ask)
-          c.requires.counted c.requires.legal c.requires.has begins c.learn.ensures.3 c.requires.allowed c.add-count.ensures.whole c.add-count.ensures.unused)
+    written g.C.Course.may c.args.seen.now.log whole all c.add-count.new.seen.log c.args.count c.args.seat c.args.turn.now.nib.key c.args.next.now.nib.key c.args.child.now.nib.key (deed_of c.args.ask)
+        c.requires.counted c.requires.legal c.requires.has begins c.learn.ensures.3 c.requires.allowed c.add-count.ensures.whole c.add-count.ensures.unused c.add-count.ensures.added
