@@ -14,8 +14,8 @@ use Rattle.shared_history.specs.declared.entry.Deed.TheVariants.{Opened, Called,
 use Rattle.shared_history.specs.declared.entry.Entry.{Entry}
 use Rattle.shared_history.specs.declared.line.Line.{Line}
 use Rattle.shared_history.proofs.Entries.{own_append, own_it, own_other, seat_kept, seat_after, seat_made}
-use Rattle.shared_history.proofs.Lines.{entries_append, prefix_entries, entries_length, all_rest}
-use Rattle.shared_history.proofs.Prefixes.{prefix_whole, prefix_length}
+use Rattle.shared_history.proofs.Lines.{entries_append, prefix_entries, entries_length, all_rest, all_front}
+use Rattle.shared_history.proofs.Prefixes.{prefix_whole, prefix_trans, prefix_shorter}
 use Rattle.shared_history.proofs.Turns.{turn_kept, turns_push, turn_next, turn_child}
 
 module _ {O E : Type 0} (may : O → List E → E → Type 0) where
@@ -208,3 +208,20 @@ module _ {O E : Type 0} (may : O → List E → E → Type 0) where
           has_child = λ is. split old number key next child here deed is grown;
           has_left = λ is. leave old number key next child here deed is grown
         })
+
+  -- the whole history, where it is as long as what the seat had seen
+  pub caught_up : (seen whole both now : List (Line O E)) (number key : ℕ) → HasTurn may seen number key → IsLegal may whole → IsPrefix whole both → IsPrefix seen both → IsPrefix both now
+      → IsUnused key now → length seen ≤ length whole → HasTurn may whole number key × IsIn (entries_of whole) (record { number = number; seen = entries_of seen })
+  caught_up seen whole both now number key has legal pre sees later unused less =
+      let begins : IsPrefix seen whole = prefix_shorter seen whole both sees pre less in
+      let all : IsPrefix whole now = prefix_trans whole both now pre later in
+      let free : IsUnused key whole = all_front (λ (l : Line O E). l.turn ≢ key) whole all.0 (subst (IsUnused key) (sym all.1) unused) in
+      ((has_kept seen whole number key has legal begins free).0, is_in seen whole number key has legal begins free)
+
+  pub may_split : (log : List (Entry O E)) (deed : Deed O E) → IsHistory may log → deed ≡ Split → MayFollow may log deed
+  may_split log deed history is =
+      record { origin = history.origin; after = history.after; opens = history.opens; allowed = subst (λ (d : Deed O E). MayDo may history.origin log d) (sym is) tt }
+
+  pub may_leave : (log : List (Entry O E)) (deed : Deed O E) → IsHistory may log → deed ≡ Left → MayFollow may log deed
+  may_leave log deed history is =
+      record { origin = history.origin; after = history.after; opens = history.opens; allowed = subst (λ (d : Deed O E). MayDo may history.origin log d) (sym is) tt }
