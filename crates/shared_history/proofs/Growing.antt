@@ -1,7 +1,7 @@
 -- Legal histories grow by an entry of a seat that takes its turn.
 use Rattle.std.proofs.Common.{◌≡◌, ◌≢◌, ℕ, suc, ◌+◌, ◌<◌, ◌≤◌, ◌==◌, Bool, true, false, List, [], ◌∷◌, ◌++◌, length, All, refl, ap, sym, ◌∙◌, subst, arith, eqb-true, append-nil, append_assoc, length-append}
 use Rattle.std.proofs.lemmas.Bool.{eqb-false}
-use Rattle.std.proofs.lemmas.List.Elements.{All-head}
+use Rattle.std.proofs.lemmas.List.Elements.{All-nil, All-cons, All-head}
 use Rattle.std.proofs.lemmas.Option.{slice_get_within}
 use mathlib.Core.List.{IsPrefix}
 use Rattle.shared_history.specs.Entries.{entry, opening, own, is_left, makes_seat, IsSeat}
@@ -225,3 +225,17 @@ module _ {O E : Type 0} (may : O → List E → E → Type 0) where
   pub may_leave : (log : List (Entry O E)) (deed : Deed O E) → IsHistory may log → deed ≡ Left → MayFollow may log deed
   may_leave log deed history is =
       record { origin = history.origin; after = history.after; opens = history.opens; allowed = subst (λ (d : Deed O E). MayDo may history.origin log d) (sym is) tt }
+
+  -- the first line, and the turn that its seat has then
+  pub first_legal : (origin : O) (key next : ℕ) → IsLegal may (line 0 (Opened origin) key next next ∷ [])
+  first_legal origin key next =
+      record { history = record { origin = origin; after = []; opens = refl; goes_on = tt }; turns = λ number. tt }
+
+  pub first_turn : (origin : O) (key next : ℕ) → HasTurn may (line 0 (Opened origin) key next next ∷ []) 0 next
+  first_turn origin key next =
+      let P : Entry O E → Type 0 = λ e. is_left e.deed ≡ false in
+      record {
+        legal = first_legal origin key next;
+        seat = record { maker = opening origin; stands = refl; makes = refl; stays = All-cons P (opening origin) [] refl (All-nil P) };
+        turn = refl
+      }
