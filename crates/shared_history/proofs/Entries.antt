@@ -38,7 +38,7 @@ module _ {O E : Type 0} where
         maker = seat.maker;
         stands = prefix_get xs ys number seat.maker pre seat.stands;
         makes = seat.makes;
-        stays = subst (λ (w : List (Entry O E)). All (λ e. is_left e.deed ≡ false) w) (sym same) seat.stays
+        stays = subst (λ (w : List (Entry O E)). All (λ e. is_left e.deed ≡ false) w) (sym same) seat.stays;
       }
 
   -- and after an entry by which it does not leave
@@ -50,7 +50,7 @@ module _ {O E : Type 0} where
         makes = seat.makes;
         stays = subst (λ (w : List (Entry O E)). All (λ e. is_left e.deed ≡ false) w)
             (sym (own_append number xs (entry number deed ∷ []) ∙ ap (λ w. own number xs ++ w) (own_it number (entry number deed) refl)))
-            (All-push (λ (e : Entry O E). is_left e.deed ≡ false) (own number xs) (entry number deed) seat.stays stays)
+            (All-push (λ (e : Entry O E). is_left e.deed ≡ false) (own number xs) (entry number deed) seat.stays stays);
       }
 
   -- the seat that an entry has made
@@ -60,5 +60,5 @@ module _ {O E : Type 0} where
         maker = e;
         stands = get_last xs e;
         makes = makes;
-        stays = subst (λ (w : List (Entry O E)). All (λ e. is_left e.deed ≡ false) w) (sym none) (All-nil (λ (e : Entry O E). is_left e.deed ≡ false))
+        stays = subst (λ (w : List (Entry O E)). All (λ e. is_left e.deed ≡ false) w) (sym none) (All-nil (λ (e : Entry O E). is_left e.deed ≡ false));
       }

@@ -24,10 +24,13 @@ module _ {O E : Type 0} (may : O → List E → E → Type 0) where
   goes_push origin before [] e goes seat may_do =
       (subst (λ (w : List (Entry O E)). IsSeat w e.seat) (append-nil before) seat, subst (λ (w : List (Entry O E)). MayDo may origin w e.deed) (append-nil before) may_do, tt)
   goes_push origin before (x ∷ after) e goes seat may_do =
-      let all : (before ++ x ∷ []) ++ after ≡ before ++ x ∷ after = append_assoc before (x ∷ []) after in
-      (goes.0, goes.1, goes_push origin (before ++ x ∷ []) after e goes.2
-        (subst (λ (w : List (Entry O E)). IsSeat w e.seat) (sym all) seat)
-        (subst (λ (w : List (Entry O E)). MayDo may origin w e.deed) (sym all) may_do))
+      let all : (before ++ x ∷ []) ++ after ≡ before ++ x ∷ after = append_assoc before (x ∷ []) after in (
+        goes.0,
+        goes.1,
+        goes_push origin (before ++ x ∷ []) after e goes.2
+            (subst (λ (w : List (Entry O E)). IsSeat w e.seat) (sym all) seat)
+            (subst (λ (w : List (Entry O E)). MayDo may origin w e.deed) (sym all) may_do),
+      )
 
   goes_rest : (origin : O) (before xs ys : List (Entry O E)) → GoesOn may origin before (xs ++ ys) → GoesOn may origin (before ++ xs) ys
   goes_rest origin before [] ys goes = subst (λ (w : List (Entry O E)). GoesOn may origin w ys) (sym (append-nil before)) goes
@@ -51,7 +54,7 @@ module _ {O E : Type 0} (may : O → List E → E → Type 0) where
         opens = ap (λ w. w ++ e ∷ []) history.opens;
         goes_on = goes_push history.origin (opening history.origin ∷ []) history.after e history.goes_on
             (subst (λ (w : List (Entry O E)). IsSeat w e.seat) history.opens seat)
-            (subst (λ (w : List (Entry O E)). MayDo may history.origin w e.deed) history.opens (subst (λ (o : O). MayDo may o log e.deed) same follow.allowed))
+            (subst (λ (w : List (Entry O E)). MayDo may history.origin w e.deed) history.opens (subst (λ (o : O). MayDo may o log e.deed) same follow.allowed));
       }
 
   -- entries are of seats that were made before
@@ -102,7 +105,7 @@ module _ {O E : Type 0} (may : O → List E → E → Type 0) where
         record {
           legal = legal;
           seat = seat_kept (entries_of xs) (entries_of ys) number has.seat (prefix_entries xs ys pre) same;
-          turn = ap (λ w. turn_of w number) (sym pre.1) ∙ (kept.1 ∙ has.turn)
+          turn = ap (λ w. turn_of w number) (sym pre.1) ∙ (kept.1 ∙ has.turn);
         },
         same,
       )
@@ -113,7 +116,7 @@ module _ {O E : Type 0} (may : O → List E → E → Type 0) where
       let there : l.entry.seat < length xs = omega (arith, entries_length xs, slice_get_within (entries_of xs) l.entry.seat has.seat.maker has.seat.stands) in
       record {
         history = subst (IsHistory may) (sym (entries_append xs (l ∷ []))) (history_push (entries_of xs) l.entry has.legal.history has.seat follow);
-        turns = turns_push xs l (omega (arith, there)) has.legal.turns (takes ∙ sym has.turn)
+        turns = turns_push xs l (omega (arith, there)) has.legal.turns (takes ∙ sym has.turn);
       }
 
   -- a line of a seat that takes its turn, after all that there is
@@ -140,7 +143,7 @@ module _ {O E : Type 0} (may : O → List E → E → Type 0) where
         record {
           legal = legal;
           seat = subst (λ (w : List (Entry O E)). IsSeat w number) (sym (entries_append xs (l ∷ []))) (seat_after (entries_of xs) number deed has.seat stays);
-          turn = turn_next xs l
+          turn = turn_next xs l;
         }
 
     -- the seat that it makes has made no entry
@@ -161,7 +164,7 @@ module _ {O E : Type 0} (may : O → List E → E → Type 0) where
         record {
           legal = legal;
           seat = subst (λ (w : List (Entry O E)). IsSeat w (length xs)) (sym all) (subst (λ (n : ℕ). IsSeat (entries_of xs ++ entry number Split ∷ []) n) count (seat_made (entries_of xs) (entry number Split) refl none));
-          turn = turn_child xs l there
+          turn = turn_child xs l there;
         }
 
     -- it has left for good
@@ -169,23 +172,23 @@ module _ {O E : Type 0} (may : O → List E → E → Type 0) where
     gone legal =
         let l : Line O E = line number Left key next child in
         let mine : own number (entries_of (xs ++ l ∷ [])) ≡ own number (entries_of xs) ++ entry number Left ∷ [] =
-            ap (own number) (entries_append xs (l ∷ [])) ∙ (own_append number (entries_of xs) (entry number Left ∷ []) ∙ ap (λ w. own number (entries_of xs) ++ w) (own_it number (entry number Left) refl)) in
+        ap (own number) (entries_append xs (l ∷ [])) ∙ (own_append number (entries_of xs) (entry number Left ∷ []) ∙ ap (λ w. own number (entries_of xs) ++ w) (own_it number (entry number Left) refl)) in
         let P : Entry O E → Type 0 = λ e. is_left e.deed ≡ false in
         has_left (entries_of (xs ++ l ∷ [])) number legal.history
-            (λ stay. absurd (cc (All-head P (entry number Left) [] (all_rest P (own number (entries_of xs)) (entry number Left ∷ []) (subst (λ (w : List (Entry O E)). All P w) mine stay)))))
+        (λ stay. absurd (cc (All-head P (entry number Left) [] (all_rest P (own number (entries_of xs)) (entry number Left ∷ []) (subst (λ (w : List (Entry O E)). All P w) mine stay)))))
 
   split : (xs : List (Line O E)) (number key next child : ℕ) → HasTurn may xs number key → (deed : Deed O E) → deed ≡ Split → IsLegal may (xs ++ line number deed key next child ∷ [])
       → HasTurn may (xs ++ line number deed key next child ∷ []) (length xs) child × (own (length xs) (entries_of (xs ++ line number deed key next child ∷ [])) ≡ [])
   split xs number key next child has deed is legal =
       let it : IsLegal may (xs ++ line number Split key next child ∷ []) = subst (λ (d : Deed O E). IsLegal may (xs ++ line number d key next child ∷ [])) is legal in
       subst (λ (d : Deed O E). HasTurn may (xs ++ line number d key next child ∷ []) (length xs) child × (own (length xs) (entries_of (xs ++ line number d key next child ∷ [])) ≡ [])) (sym is)
-          (has_child xs number key next child has it, no_own xs number key next child has it)
+      (has_child xs number key next child has it, no_own xs number key next child has it)
 
   leave : (xs : List (Line O E)) (number key next child : ℕ) → HasTurn may xs number key → (deed : Deed O E) → deed ≡ Left → IsLegal may (xs ++ line number deed key next child ∷ [])
       → HasLeft may (entries_of (xs ++ line number deed key next child ∷ [])) number
   leave xs number key next child has deed is legal =
       subst (λ (d : Deed O E). HasLeft may (entries_of (xs ++ line number d key next child ∷ [])) number) (sym is)
-          (gone xs number key next child has (subst (λ (d : Deed O E). IsLegal may (xs ++ line number d key next child ∷ [])) is legal))
+      (gone xs number key next child has (subst (λ (d : Deed O E). IsLegal may (xs ++ line number d key next child ∷ [])) is legal))
 
   module _ (seen old all new : List (Line O E)) (count number key next child : ℕ) (deed : Deed O E) (counted : count ≡ length old) (legal : IsLegal may old) (has : HasTurn may seen number key)
       (pre : IsPrefix old all) (sees : IsPrefix seen all) (follow : MayFollow may (entries_of old) deed) (long : length all ≡ count) (unused : IsUnused key all)
@@ -195,7 +198,7 @@ module _ {O E : Type 0} (may : O → List E → E → Type 0) where
         let same : all ≡ old = sym (prefix_whole old all pre (omega (arith, counted, long))) in
         let add : old ++ line number deed key next child ∷ [] ≡ new = sym (added ∙ ap (λ w. w ++ line number deed key next child ∷ []) same) in
         let grown : IsLegal may (old ++ line number deed key next child ∷ []) =
-            subst (λ (w : List (Line O E)). IsLegal may (w ++ line number deed key next child ∷ [])) same (may_add old seen all count number key next child deed counted legal has pre sees follow long unused) in
+        subst (λ (w : List (Line O E)). IsLegal may (w ++ line number deed key next child ∷ [])) same (may_add old seen all count number key next child deed counted legal has pre sees follow long unused) in
         let begins : IsPrefix seen old = subst (λ (w : List (Line O E)). IsPrefix seen w) same sees in
         let free : IsUnused key old = subst (λ (w : List (Line O E)). IsUnused key w) same unused in
         let here : HasTurn may old number key = (has_kept seen old number key has legal begins free).0 in
@@ -206,7 +209,7 @@ module _ {O E : Type 0} (may : O → List E → E → Type 0) where
           legal = grown;
           has_next = λ stays. has_next old number key next child here deed stays grown;
           has_child = λ is. split old number key next child here deed is grown;
-          has_left = λ is. leave old number key next child here deed is grown
+          has_left = λ is. leave old number key next child here deed is grown;
         })
 
   -- the whole history, where it is as long as what the seat had seen
@@ -237,5 +240,5 @@ module _ {O E : Type 0} (may : O → List E → E → Type 0) where
       record {
         legal = first_legal origin key next;
         seat = record { maker = opening origin; stands = refl; makes = refl; stays = All-cons P (opening origin) [] refl (All-nil P) };
-        turn = refl
+        turn = refl;
       }

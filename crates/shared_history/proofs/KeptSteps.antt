@@ -30,7 +30,7 @@ module _ {O E : Type 0} (may : O → List E → E → Type 0) where
         some = rw (length-set) kept.some;
         head = head_set cs (either ((cell cs 0).0 == m) m (cell cs 0).0, true) kept.some ∙ (ap (λ n. (n, true)) (either_same (cell cs 0).0 m ∙ ap (λ c. c.0) kept.head));
         home = homes cs (same cs m) (λ k. home_set cs 0 k (either ((cell cs 0).0 == m) m (cell cs 0).0)) log kept.home;
-        begun = kept.begun
+        begun = kept.begun;
       })
 
   grown_kept : (cs : List Cell) (log : List (Line O E)) → IsKept may cs log → IsKept may (cs ++ (0, false) ∷ []) log
@@ -39,7 +39,7 @@ module _ {O E : Type 0} (may : O → List E → E → Type 0) where
         some = omega (arith, length-append cs ((0, false) ∷ []), kept.some);
         head = head_grown cs (0, false) kept.some ∙ kept.head;
         home = homes cs (cs ++ (0, false) ∷ []) (home_grown cs) log kept.home;
-        begun = kept.begun
+        begun = kept.begun;
       }
 
   pub draw_moves : (v : List (Line O E)) (ask : Line O E) → Moves (IsKept may) shown moved 0 (v, (no_nib, None)) (λ n. either (n == 0) 0 n) (Draws may (step 0 0 0 ask) (v, (no_nib, None)))
@@ -67,22 +67,22 @@ module _ {O E : Type 0} (may : O → List E → E → Type 0) where
         let home : List Cell = slice_set set pen.key (pen.value, true) in
         let other : pen.key ≢ 0 = λ zero_key. absurd (cc (ap (λ k. (cell cs k).1) zero_key, away.1, ap (λ c. c.1) kept.head)) in
         let all : IsKept may home (log ++ l ∷ []) =
-            record {
-              some = rw (length-set) (rw (length-set) kept.some);
-              head = head_kept set pen.key (pen.value, true) other ∙ (head_set cs (count + 1, true) kept.some ∙ ap (λ n. (n, true)) (omega (arith, so_long, length-append log (l ∷ []))));
-              home = All-push (λ (m : Line O E). IsHome home m.turn) log l (homes cs home (λ k h. home_set set pen.key k pen.value (home_set cs 0 k (count + 1) h)) log kept.home)
-                  (subst (IsHome home) (sym turn) (home_there set pen.key pen.value (rw (length-set) away.0)));
-              begun = inr (subst (λ (w : List (Line O E)). IsLegal may (w ++ l ∷ [])) whole (allowed (ap length whole ∙ so_long) free))
-            } in
+        record {
+          some = rw (length-set) (rw (length-set) kept.some);
+          head = head_kept set pen.key (pen.value, true) other ∙ (head_set cs (count + 1, true) kept.some ∙ ap (λ n. (n, true)) (omega (arith, so_long, length-append log (l ∷ []))));
+          home = All-push (λ (m : Line O E). IsHome home m.turn) log l (homes cs home (λ k h. home_set set pen.key k pen.value (home_set cs 0 k (count + 1) h)) log kept.home)
+              (subst (IsHome home) (sym turn) (home_there set pen.key pen.value (rw (length-set) away.0)));
+          begun = inr (subst (λ (w : List (Line O E)). IsLegal may (w ++ l ∷ [])) whole (allowed (ap length whole ∙ so_long) free));
+        } in
         (gives, l ∷ [], None, right, rw is all, inl (refl, refl), rw is (ap length whole ∙ so_long, free, ap (λ w. w ++ l ∷ []) (sym whole)))
     added cs log kept pre away false is =
         let kept' : IsKept may (slice_set cs 0 ((cell cs 0).0, true)) log =
-            record {
-              some = rw (length-set) kept.some;
-              head = head_set cs ((cell cs 0).0, true) kept.some ∙ ap (λ n. (n, true)) (ap (λ c. c.0) kept.head);
-              home = homes cs (slice_set cs 0 ((cell cs 0).0, true)) (λ k. home_set cs 0 k (cell cs 0).0) log kept.home;
-              begun = kept.begun
-            } in
+        record {
+          some = rw (length-set) kept.some;
+          head = head_set cs ((cell cs 0).0, true) kept.some ∙ ap (λ n. (n, true)) (ap (λ c. c.0) kept.head);
+          home = homes cs (slice_set cs 0 ((cell cs 0).0, true)) (λ k. home_set cs 0 k (cell cs 0).0) log kept.home;
+          begun = kept.begun;
+        } in
         (keeps, [], None, tt, rw is (subst (IsKept may (slice_set cs 0 ((cell cs 0).0, true))) (sym (append-nil log)) kept'), inl (refl, refl), rw is tt)
 
     pub add_moves : Moves (IsKept may) shown moved 0 (v, (pen, None)) (λ n. either (n == count) (count + 1) n) (Adds may (step 0 count (count + 1) l) (v, (pen, None)))

@@ -27,7 +27,7 @@ module _ {O E : Type 0} where
   takes_rest number index turn [] ys takes = subst (λ (i : ℕ). TakesTurns number i turn ys) (omega arith) takes
   takes_rest number index turn (x ∷ xs) ys takes =
       subst (λ (i : ℕ). TakesTurns number i (turn_from number (suc index) (next_turn number index turn x) xs) ys) (omega arith)
-          (takes_rest number (suc index) (next_turn number index turn x) xs ys takes.1)
+      (takes_rest number (suc index) (next_turn number index turn x) xs ys takes.1)
 
   turn_append : (number index turn : ℕ) (xs ys : List (Line O E))
       → turn_from number index turn (xs ++ ys) ≡ turn_from number (index + length xs) (turn_from number index turn xs) ys

@@ -5,17 +5,15 @@ ghost use Rattle.shared_history.specs.History.{IsHistory};
 ghost use Rattle.shared_history.specs.Seal.{IsSeen};
 
 use crate::course::Course;
-use crate::line::Line;
 use crate::naming::Naming;
-use crate::rule::Law;
-use logbook::Seen;
+use crate::rule::Log;
 use std::marker::{Model, PhantomData};
 
 /// A beginning of the history that was seen. Contracts see its entries.
 #[derive(Drop)]
 pub struct Front<O, E, C: Course<O, E>, J: Naming> {
     pub(crate) count: u64,
-    pub(crate) seen: Seen<Line<O, E>, u64, Law<O, E, C>>,
+    pub(crate) seen: Log<O, E, C>,
     pub(crate) of: PhantomData<J>,
 }
 

@@ -7,22 +7,21 @@ ghost use Rattle.shared_history.specs.Sight.{Calls, CatchesUp, Leaves, Splits};
 
 use crate::course::Course;
 use crate::front::Front;
-use crate::line::{Ask, Line};
+use crate::line::Ask;
 use crate::naming::Naming;
-use crate::rule::Law;
+use crate::rule::{Head, Log};
 use crate::seat::Seat;
 use crate::steps::{draw, look, stuck};
 use crate::write::{ask_to_leave, ask_to_split, write};
-use logbook::{Seen, Word};
 use std::marker::{Model, PhantomData};
 use std::sync::Wait;
 
 /// The history: the word that is its length, and the whole of it as it was last seen. Contracts see all entries.
 #[derive(Drop)]
 pub struct History<O, E, C: Course<O, E>, J: Naming> {
-    pub(crate) head: Word<Line<O, E>, u64, Law<O, E, C>>,
+    pub(crate) head: Head<O, E, C>,
     pub(crate) count: u64,
-    pub(crate) seen: Seen<Line<O, E>, u64, Law<O, E, C>>,
+    pub(crate) seen: Log<O, E, C>,
     pub(crate) of: PhantomData<J>,
 }
 

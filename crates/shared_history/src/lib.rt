@@ -2,14 +2,14 @@
 //! and what it did. At run time it is a word, its length.
 #![tactic(auto)]
 
-pub mod entry;
-pub mod naming;
 pub mod course;
-pub mod line;
-pub mod rule;
-mod steps;
+pub mod entry;
 pub mod front;
-pub mod seat;
-mod write;
 pub mod history;
+pub mod line;
+pub mod naming;
 pub mod opened;
+pub mod rule;
+pub mod seat;
+mod steps;
+mod write;

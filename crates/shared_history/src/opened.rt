@@ -6,9 +6,9 @@ ghost use Rattle.shared_history.specs.Seal.{IsSeen};
 
 use crate::course::Course;
 use crate::history::History;
-use crate::line::{Ask, Line};
+use crate::line::Ask;
 use crate::naming::Naming;
-use crate::rule::Law;
+use crate::rule::{Head, Log};
 use crate::seat::Seat;
 use crate::steps::{add, draw};
 use logbook::{Pen, Seen, Start, Word};
@@ -18,8 +18,8 @@ use std::sync::Wait;
 /// A history that was just opened, which has no name yet. Contracts see which book it is, and the origin.
 #[derive(Drop)]
 pub struct Opened<O, E, C: Course<O, E>> {
-    head: Word<Line<O, E>, u64, Law<O, E, C>>,
-    seen: Seen<Line<O, E>, u64, Law<O, E, C>>,
+    head: Head<O, E, C>,
+    seen: Log<O, E, C>,
     turn: Pen,
 }
 
@@ -50,7 +50,17 @@ impl<O, E, C: Course<O, E>> Opened<O, E, C> {
         let head = Word::tracked(0, &mut first);
         let mut turn = draw(&head, &seen);
         let next = draw(&head, &seen);
-        add(rt, &head, 0, &mut seen, 0, Ask::Opened(origin), &mut turn, &next, &next);
+        add(
+            rt,
+            &head,
+            0,
+            &mut seen,
+            0,
+            Ask::Opened(origin),
+            &mut turn,
+            &next,
+            &next,
+        );
         Opened {
             head,
             seen,

@@ -1,13 +1,22 @@
 // The rule of the log, and its steps.
 use crate::course::Course;
 use crate::line::{Draft, Line};
-use logbook::{Gain, Plain, Play, Rule};
+use logbook::{Gain, Offer, Plain, Play, Rule, Seen, Word};
 use std::marker::PhantomData;
 
 /// The rule of the log.
 pub struct Law<O, E, C: Course<O, E>> {
     of: PhantomData<(O, E, C)>,
 }
+
+/// The word that all share: the length of the history.
+pub(crate) type Head<O, E, C> = Word<Line<O, E>, u64, Law<O, E, C>>;
+
+/// Lines that were seen.
+pub(crate) type Log<O, E, C> = Seen<Line<O, E>, u64, Law<O, E, C>>;
+
+/// What a step asks for.
+pub(crate) type Asked<O, E, C> = Offer<Line<O, E>, u64, Law<O, E, C>, Nothing>;
 
 impl<O, E, C: Course<O, E>> Rule<Line<O, E>, u64> for Law<O, E, C> {
     ghost use Rattle.std.specs.Prelude.{[]};

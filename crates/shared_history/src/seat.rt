@@ -5,10 +5,9 @@ ghost use Rattle.shared_history.specs.Seal.{IsSeen};
 
 use crate::course::Course;
 use crate::front::Front;
-use crate::line::Line;
 use crate::naming::Naming;
-use crate::rule::Law;
-use logbook::{Pen, Seen};
+use crate::rule::Log;
+use logbook::Pen;
 use std::marker::{Model, PhantomData};
 
 /// A seat of the history: its number, what it has seen, and its turn, which its next entry uses up.
@@ -16,7 +15,7 @@ use std::marker::{Model, PhantomData};
 pub struct Seat<O, E, C: Course<O, E>, J: Naming> {
     pub(crate) number: u64,
     pub(crate) count: u64,
-    pub(crate) seen: Seen<Line<O, E>, u64, Law<O, E, C>>,
+    pub(crate) seen: Log<O, E, C>,
     pub(crate) turn: Pen,
     pub(crate) of: PhantomData<J>,
 }

@@ -7,9 +7,9 @@ ghost use Rattle.shared_history.specs.Inner.Lines.{IsLegal, IsUnused, line};
 ghost use Rattle.shared_history.specs.Inner.Rules.{head_of};
 
 use crate::course::Course;
-use crate::line::{Ask, Draft, Line};
-use crate::rule::{Add, Draw, Law, Look, Nothing};
-use logbook::{Offer, Pen, Seen, Word};
+use crate::line::{Ask, Draft};
+use crate::rule::{Add, Asked, Draw, Head, Log, Look, Nothing};
+use logbook::{Pen, Word};
 use std::sync::Wait;
 
 /// It does not return.
@@ -20,26 +20,23 @@ pub(crate) fn stuck<R: Wait>(rt: &R)
 }
 
 /// A turn: the right to a cell that is away.
-pub(crate) fn draw<O, E, C: Course<O, E>>(
-    head: &Word<Line<O, E>, u64, Law<O, E, C>>,
-    seen: &Seen<Line<O, E>, u64, Law<O, E, C>>,
-) -> Pen
+pub(crate) fn draw<O, E, C: Course<O, E>>(head: &Head<O, E, C>, seen: &Log<O, E, C>) -> Pen
     requires { head.now ≡ head_of seen.now.book }
     ensures book { result.book ≡ seen.now.book }
     ensures right { result.nib.right ≡ may_write }
 {
     let mut seen = seen.again();
-    let mut offer: Offer<Line<O, E>, u64, Law<O, E, C>, Nothing> = seen.plain::<Nothing, (), Nothing>(&());
+    let mut offer: Asked<O, E, C> = seen.plain::<Nothing, (), Nothing>(&());
     let mut pen = seen.no_pen();
     head.compare_exchange::<Draw<O, E, C>, Nothing>(0, 0, &mut seen, &mut offer, &mut pen);
-    let _word: Word<Line<O, E>, u64, Law<O, E, C>> = Word::tracked(0, &mut pen);
+    let _word: Head<O, E, C> = Word::tracked(0, &mut pen);
     pen
 }
 
 /// Sees the history as it is, in which nobody has used up this turn.
 pub(crate) fn look<O, E, C: Course<O, E>>(
-    head: &Word<Line<O, E>, u64, Law<O, E, C>>,
-    seen: &mut Seen<Line<O, E>, u64, Law<O, E, C>>,
+    head: &Head<O, E, C>,
+    seen: &mut Log<O, E, C>,
     turn: &mut Pen,
 )
     requires name { head.now ≡ head_of seen.old.book }
@@ -51,16 +48,16 @@ pub(crate) fn look<O, E, C: Course<O, E>>(
     ensures begins { IsPrefix seen.old.log seen.new.log }
     ensures unused { IsUnused turn.old.nib.key seen.new.log }
 {
-    let mut offer: Offer<Line<O, E>, u64, Law<O, E, C>, Nothing> = seen.plain::<Nothing, (), Nothing>(&());
+    let mut offer: Asked<O, E, C> = seen.plain::<Nothing, (), Nothing>(&());
     head.compare_exchange::<Look<O, E, C>, Nothing>(0, 0, seen, &mut offer, turn);
 }
 
 /// Adds a line to all that was seen, and counts it. Where there were other lines it does not return.
 pub(crate) fn add<O, E, C: Course<O, E>, R: Wait>(
     rt: &R,
-    head: &Word<Line<O, E>, u64, Law<O, E, C>>,
+    head: &Head<O, E, C>,
     count: u64,
-    seen: &mut Seen<Line<O, E>, u64, Law<O, E, C>>,
+    seen: &mut Log<O, E, C>,
     seat: u64,
     ask: Ask<'_, O, E>,
     turn: &mut Pen,
@@ -88,8 +85,14 @@ pub(crate) fn add<O, E, C: Course<O, E>, R: Wait>(
         next,
         child,
     };
-    let mut offer: Offer<Line<O, E>, u64, Law<O, E, C>, Nothing> = seen.plain::<Nothing, Draft<'_, O, E>, Nothing>(&draft);
-    let found = head.compare_exchange::<Add<O, E, C>, Nothing>(count, count + 1, seen, &mut offer, turn);
+    let mut offer: Asked<O, E, C> = seen.plain::<Nothing, Draft<'_, O, E>, Nothing>(&draft);
+    let found = head.compare_exchange::<Add<O, E, C>, Nothing>(
+        count,
+        count + 1,
+        seen,
+        &mut offer,
+        turn,
+    );
     if found != count {
         stuck(rt);
     }

@@ -9,19 +9,19 @@ ghost use Rattle.shared_history.specs.Inner.Rules.{head_of};
 ghost use Rattle.shared_history.specs.declared.entry.Deed.TheVariants.{Left, Split};
 
 use crate::course::Course;
-use crate::line::{Ask, Line};
-use crate::rule::Law;
+use crate::line::Ask;
+use crate::rule::{Head, Log};
 use crate::steps::add;
-use logbook::{Pen, Seen, Word};
+use logbook::Pen;
 use std::sync::Wait;
 
 /// Adds an entry of a seat to the whole history, and counts it.
 pub(crate) fn write<O, E, C: Course<O, E>, R: Wait>(
     rt: &R,
-    head: &Word<Line<O, E>, u64, Law<O, E, C>>,
-    whole: &mut Seen<Line<O, E>, u64, Law<O, E, C>>,
+    head: &Head<O, E, C>,
+    whole: &mut Log<O, E, C>,
     count: u64,
-    seen: &Seen<Line<O, E>, u64, Law<O, E, C>>,
+    seen: &Log<O, E, C>,
     seat: u64,
     turn: &mut Pen,
     next: &Pen,
@@ -48,17 +48,13 @@ pub(crate) fn write<O, E, C: Course<O, E>, R: Wait>(
 }
 
 // The checker of borrows wants a value that lives as long as the references in `Ask`.
-pub(crate) fn ask_to_split<'a, O, E, C: Course<O, E>>(
-    _seen: &'a Seen<Line<O, E>, u64, Law<O, E, C>>,
-) -> Ask<'a, O, E>
+pub(crate) fn ask_to_split<'a, O, E, C: Course<O, E>>(_seen: &'a Log<O, E, C>) -> Ask<'a, O, E>
     ensures { deed_of result ≡ Split }
 {
     Ask::Split
 }
 
-pub(crate) fn ask_to_leave<'a, O, E, C: Course<O, E>>(
-    _seen: &'a Seen<Line<O, E>, u64, Law<O, E, C>>,
-) -> Ask<'a, O, E>
+pub(crate) fn ask_to_leave<'a, O, E, C: Course<O, E>>(_seen: &'a Log<O, E, C>) -> Ask<'a, O, E>
     ensures { deed_of result ≡ Left }
 {
     Ask::Left

@@ -19,7 +19,7 @@ add-count-requires g c =
       right = c.requires.right;
       long = omega (arith, prefix_length whole all begins, c.requires.counted);
       allowed = may_add g.C.Course.may whole c.args.seen.now.log all c.args.count c.args.seat c.args.turn.now.nib.key c.args.next.now.nib.key c.args.child.now.nib.key (deed_of c.args.ask)
-          c.requires.counted c.requires.legal c.requires.has begins c.learn.ensures.3 c.requires.allowed
+          c.requires.counted c.requires.legal c.requires.has begins c.learn.ensures.3 c.requires.allowed;
     }
 
 pub returns-clause-written : goal.returns-clause-written
@@ -28,4 +28,4 @@ returns-clause-written g c =
     let whole = c.args.whole.now.log in
     let begins : IsPrefix whole all = subst (λ (l : List (Line g.row.O.Denot g.row.E.Denot)). IsPrefix l all) (ap (λ s. s.log) c.again-all.ensures) c.learn.ensures.2 in
     written g.C.Course.may c.args.seen.now.log whole all c.add-count.new.seen.log c.args.count c.args.seat c.args.turn.now.nib.key c.args.next.now.nib.key c.args.child.now.nib.key (deed_of c.args.ask)
-        c.requires.counted c.requires.legal c.requires.has begins c.learn.ensures.3 c.requires.allowed c.add-count.ensures.whole c.add-count.ensures.unused c.add-count.ensures.added
+    c.requires.counted c.requires.legal c.requires.has begins c.learn.ensures.3 c.requires.allowed c.add-count.ensures.whole c.add-count.ensures.unused c.add-count.ensures.added

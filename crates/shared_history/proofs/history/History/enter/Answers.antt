@@ -8,12 +8,12 @@ invariant_of-seat g c =
     let w = c.write-self-inside.ensures in
     let name = c.self.invariant.1.name in
     rw c.again.ensures
-        (record {
-          front = record { name = w.book ∙ name; counted = w.count; legal = w.written.legal };
-          pen_name = c.draw-next.ensures.book ∙ name;
-          right = c.draw-next.ensures.right;
-          has = w.written.has_next refl
-        })
+    (record {
+      front = record { name = w.book ∙ name; counted = w.count; legal = w.written.legal };
+      pen_name = c.draw-next.ensures.book ∙ name;
+      right = c.draw-next.ensures.right;
+      has = w.written.has_next refl;
+    })
 
 pub returns-clause-calls : goal.returns-clause-calls
 returns-clause-calls g c =
