@@ -1,8 +1,8 @@
 -- Lists of entries: what a seat made, and the events.
-use Rattle.std.proofs.Common.{◌≡◌, ◌≢◌, ℕ, ◌+◌, ◌<◌, ◌==◌, Bool, true, false, List, [], ◌∷◌, ◌++◌, length, All, Some, slice_get, refl, ap, sym, ◌∙◌, subst, arith, eq-eqb, ne_eqb, eqb-true, append-nil, append_assoc}
+use Rattle.std.proofs.Common.{◌≡◌, ◌≢◌, ℕ, ◌==◌, true, false, List, [], ◌∷◌, ◌++◌, length, All, Some, slice_get, refl, ap, sym, ◌∙◌, subst, eq-eqb, ne_eqb}
 use Rattle.std.proofs.lemmas.List.Elements.{filter-append, All-push, All-nil}
 use mathlib.Core.List.{IsPrefix}
-use Rattle.shared_history.specs.Entries.{entry, opening, own, events, makes_seat, is_left, IsSeat}
+use Rattle.shared_history.specs.Entries.{entry, own, events, makes_seat, is_left, IsSeat}
 use Rattle.shared_history.specs.declared.entry.Deed.{Deed}
 use Rattle.shared_history.specs.declared.entry.Deed.TheVariants.{Opened, Called, Split, Left}
 use Rattle.shared_history.specs.declared.entry.Entry.{Entry}

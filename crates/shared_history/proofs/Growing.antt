@@ -4,7 +4,7 @@ use Rattle.std.proofs.lemmas.Bool.{eqb-false}
 use Rattle.std.proofs.lemmas.List.Elements.{All-nil, All-cons, All-head}
 use Rattle.std.proofs.lemmas.Option.{slice_get_within}
 use mathlib.Core.List.{IsPrefix}
-use Rattle.shared_history.specs.Entries.{entry, opening, own, is_left, makes_seat, IsSeat}
+use Rattle.shared_history.specs.Entries.{entry, opening, own, is_left, IsSeat}
 use Rattle.shared_history.specs.History.{MayDo, GoesOn, IsHistory, MayFollow, HasLeft}
 use Rattle.shared_history.specs.Inner.Lines.{entries_of, line, turn_of, AreTurns, IsUnused, IsLegal, HasTurn}
 use Rattle.shared_history.specs.Inner.Kept.{IsWritten}

@@ -1,5 +1,5 @@
 -- The steps keep the rule.
-use Rattle.std.proofs.Common.{◌≡◌, ◌≢◌, ℕ, ◌+◌, ◌<◌, ◌≤◌, ◌==◌, Bool, true, false, List, [], ◌∷◌, ◌++◌, length, All, slice_set, refl, ap, sym, subst, ◌∙◌, arith, inl, inr, length-append, None}
+use Rattle.std.proofs.Common.{◌≡◌, ◌≢◌, ℕ, ◌+◌, ◌<◌, ◌≤◌, ◌==◌, Bool, true, false, List, [], ◌∷◌, ◌++◌, length, slice_set, refl, ap, sym, subst, ◌∙◌, arith, inl, inr, length-append, None}
 use Rattle.std.proofs.lemmas.Bool.Decides.{nat_tests}
 use Rattle.std.proofs.lemmas.List.{append-nil, length-set}
 use Rattle.std.proofs.lemmas.List.Elements.{All-push}
@@ -8,7 +8,7 @@ use prog.Atomic.{either}
 use Rattle.logbook.specs.Pages.{Cell, cell, Nib, keeps, gives, adds, no_nib, may_write, step, Moves, Goes}
 use Rattle.shared_history.specs.declared.line.Line.{Line}
 use Rattle.shared_history.specs.Inner.Lines.{IsLegal, IsUnused}
-use Rattle.shared_history.specs.Inner.Rules.{IsBegun, IsKept, Draws, Looks, Adds}
+use Rattle.shared_history.specs.Inner.Rules.{IsKept, Draws, Looks, Adds}
 use Rattle.shared_history.proofs.Cells.{IsHome, home_set, home_grown, home_there, head_set, head_kept, head_grown, either_same, homes, unused}
 use Rattle.shared_history.proofs.Prefixes.{prefix_whole}
 

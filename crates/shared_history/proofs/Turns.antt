@@ -1,8 +1,7 @@
 -- Turns: a seat whose turn nobody has used up has made no entry.
-use Rattle.std.proofs.Common.{◌≡◌, ◌≢◌, ℕ, suc, ◌+◌, ◌<◌, ◌==◌, Bool, true, false, cond, List, [], ◌∷◌, ◌++◌, length, refl, ap, sym, ◌∙◌, subst, arith, eq-eqb, ne_eqb, eqb-true, append-nil, add-zero}
+use Rattle.std.proofs.Common.{◌≡◌, ◌≢◌, ℕ, suc, ◌+◌, ◌<◌, ◌==◌, Bool, true, false, List, [], ◌∷◌, ◌++◌, length, refl, ap, ◌∙◌, subst, arith, eq-eqb, ne_eqb, eqb-true, append-nil}
 use Rattle.std.proofs.lemmas.Bool.{eqb-false}
 use Rattle.std.proofs.lemmas.List.Elements.{All-head, All-tail}
-use mathlib.Core.List.{IsPrefix}
 use Rattle.shared_history.specs.Entries.{own}
 use Rattle.shared_history.specs.Inner.Lines.{entries_of, next_turn, turn_from, turn_of, TakesTurns, AreTurns, IsUnused}
 use Rattle.shared_history.specs.declared.line.Line.{Line}

@@ -1,5 +1,5 @@
 -- The entries of a history: which seat made each, and what it did.
-use Rattle.std.specs.Prelude.{◌≡◌, ℕ, ◌==◌, Bool, true, false, IsTrue, List, [], ◌∷◌, ◌++◌, All, filter, Some, slice_get}
+use Rattle.std.specs.Prelude.{◌≡◌, ℕ, ◌==◌, Bool, true, false, List, [], ◌∷◌, All, filter, Some, slice_get}
 use Rattle.shared_history.specs.declared.entry.Deed.{Deed}
 use Rattle.shared_history.specs.declared.entry.Deed.TheVariants.{Opened, Called, Split, Left}
 use Rattle.shared_history.specs.declared.entry.Entry.{Entry}

@@ -1,5 +1,5 @@
 -- The lines that the log keeps: entries, each with the turn that it uses up and the turn that its seat has next.
-use Rattle.std.specs.Prelude.{◌≡◌, ◌≢◌, ℕ, zero, suc, ◌==◌, Bool, cond, List, [], ◌∷◌, ◌++◌, All, map}
+use Rattle.std.specs.Prelude.{◌≡◌, ◌≢◌, ℕ, suc, ◌==◌, cond, List, [], ◌∷◌, All, map}
 use Rattle.shared_history.specs.Entries.{entry, IsSeat}
 use Rattle.shared_history.specs.History.{IsHistory}
 use Rattle.shared_history.specs.declared.entry.Deed.{Deed}

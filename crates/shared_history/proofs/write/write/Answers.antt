@@ -1,10 +1,9 @@
-use Rattle.std.proofs.Common.{ap, sym, ◌∙◌, refl, subst, arith, ◌≤◌, List, length, ◌∷◌, ◌++◌, []}
+use Rattle.std.proofs.Common.{ap, sym, ◌∙◌, subst, arith, List}
 use mathlib.Core.List.{IsPrefix}
 use Rattle.shared_history.specs.Inner.Drafts.{deed_of}
-use Rattle.shared_history.specs.Inner.Lines.{IsLegal, IsUnused, line}
 use Rattle.shared_history.specs.declared.line.Line.{Line}
 use Rattle.shared_history.proofs.Growing.{may_add, written}
-use Rattle.shared_history.proofs.Prefixes.{prefix_length, prefix_whole}
+use Rattle.shared_history.proofs.Prefixes.{prefix_length}
 use Rattle.shared_history.proofs.write.write.Goals as goal
 
 pub add-count-requires : goal.add-count-requires

@@ -1,6 +1,5 @@
 use Rattle.std.proofs.Common.{◌≤◌, ap, subst, arith, length, List}
 use mathlib.Core.List.{IsPrefix}
-use Rattle.shared_history.specs.Inner.Lines.{entries_of}
 use Rattle.shared_history.specs.declared.line.Line.{Line}
 use Rattle.shared_history.proofs.Prefixes.{prefix_shorter}
 use Rattle.shared_history.proofs.Lines.{prefix_entries}

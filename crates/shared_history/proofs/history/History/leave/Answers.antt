@@ -1,4 +1,3 @@
-use Rattle.std.proofs.Common.{refl, ap, ◌∙◌}
 use Rattle.shared_history.specs.Inner.Drafts.{deed_of}
 use Rattle.shared_history.specs.Inner.Lines.{entries_of}
 use Rattle.shared_history.specs.Seal.{seal}
