@@ -1,7 +1,6 @@
 mod FinishLemmas
 mod HeaderLemmas
 mod MessageLemmas
-mod RenderingLemmas
 mod ResultLemmas
 mod ServeLemmas
 pub mod YieldLemmas
