@@ -7,12 +7,7 @@ use template_tree::escape::Escape;
 
 /// Where and why the first wrong document is wrong, and warnings, as far as there is memory. Where no document was
 /// refused, none is read again for an error.
-pub fn notes_of(
-    alloc: Global,
-    documents: &Documents,
-    is_refused: bool,
-    escape: Escape,
-) -> Notes {
+pub fn notes_of(alloc: Global, documents: &Documents, is_refused: bool, escape: Escape) -> Notes {
     let mut notes = Notes::of_files(alloc, documents.paths.len());
     for (path, text) in documents.paths.iter().zip(documents.texts.iter()) {
         let error = if is_refused {
