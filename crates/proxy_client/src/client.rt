@@ -114,18 +114,12 @@ impl<R: Clock + Net + AllocGlobal + Copy + Drop> Client<R> {
             × (start.builder ≡ self.now.builder)
             × (start.turns ≡ self.now.turns)) }
     {
-        self.exchange(
-            handle,
-            self.start(handle, address_of(target)),
-            target,
-            request,
-        )
+        let connect = TcpStream::connect(&self.rt, address_of(target), handle.reactor());
+        self.exchange(handle, connect, target, request)
     }
 
     /// Begins to connect to the address.
-    pub(crate) fn start(&self, handle: &Handle, address: SocketAddr) -> ConnectFuture
-        ensures { ConnectFuture.can_poll result }
-    {
+    pub(crate) fn start(&self, handle: &Handle, address: SocketAddr) -> ConnectFuture {
         TcpStream::connect(&self.rt, address, handle.reactor())
     }
 }
