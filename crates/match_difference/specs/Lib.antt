@@ -1,0 +1,3 @@
+pub mod Conditions
+pub mod Unmet
+pub mod Refusal
