@@ -12,6 +12,3 @@ mod met;
 mod not_json;
 pub mod said;
 
-#[test]
-fn nothing(_rt: HostRuntime) {
-}

@@ -15,7 +15,6 @@ use mapping_model::named_matcher::NamedMatcher;
 use mapping_model::scenario_spec::ScenarioSpec;
 use mapping_model::url_spec::UrlSpec;
 use path_template::path_template::PathTemplate;
-use plain_text::plain::TryClone;
 use plain_text::text::Text;
 use request_parts::body_test::{build_body, meet_body};
 use request_parts::error::RequestMatchError;
@@ -23,7 +22,8 @@ use request_parts::named_test::{NamedTest, build_tests, meet_pairs};
 use request_parts::parsed_request::ParsedRequest;
 use request_parts::url_test::UrlTest;
 use scenario_core::scenarios::Scenarios;
-use std::alloc::{AllocError, Global};
+use std::alloc::Global;
+use std::slice;
 
 /// Whether the request, or the state of the scenario, meets it.
 pub(crate) fn is_met(
@@ -91,16 +91,7 @@ fn tests_of(alloc: Global, matcher: &NamedMatcher) -> Result<Vec<NamedTest>, Req
     ensures ok { IfOk result (λ tests. tests.items ≡ matcher.now ∷ []) }
     ensures refusal { IfErr result (IsNamedRefusal matcher.now) }
 {
-    let one = one_matcher(alloc, matcher)?;
-    Ok(build_tests(alloc, one.as_slice())?)
-}
-
-fn one_matcher(alloc: Global, matcher: &NamedMatcher) -> Result<Vec<NamedMatcher>, AllocError>
-    ensures { IfOk result (λ one. one.items ≡ matcher.now ∷ []) }
-{
-    let mut one = Vec::new(alloc);
-    one.push(matcher.try_clone()?)?;
-    Ok(one)
+    Ok(build_tests(alloc, slice::from_ref(matcher))?)
 }
 
 fn meets_parameter(
@@ -129,17 +120,8 @@ fn meets_pattern(
     ensures same_request { request.new ≡ request.old }
     ensures refusal { IfErr result (IsBodyRefusal (pattern.now ∷ [])) }
 {
-    let one = one_pattern(alloc, pattern)?;
-    let mut tests = build_body(alloc, one.as_slice())?;
+    let mut tests = build_body(alloc, slice::from_ref(pattern))?;
     Ok(meet_body(tests.as_mut_slice(), request)?)
-}
-
-fn one_pattern(alloc: Global, pattern: &BodyPattern) -> Result<Vec<BodyPattern>, AllocError>
-    ensures { IfOk result (λ one. one.items ≡ pattern.now ∷ []) }
-{
-    let mut one = Vec::new(alloc);
-    one.push(pattern.try_clone()?)?;
-    Ok(one)
 }
 
 fn is_ready(scenario: &ScenarioSpec, scenarios: &Scenarios) -> bool

@@ -11,6 +11,8 @@ mod server_log;
 
 use command_line::run;
 use mock_program::arguments::report_unreadable;
+use std::env::VarError;
+use std::io::IsTerminal;
 use std::process::ExitCode;
 use std::{env, io};
 
@@ -22,9 +24,18 @@ fn main(rt: HostRuntime) -> ExitCode {
             &mut rt.stdout(),
             &mut rt.stderr(),
             rt.stderr(),
+            takes_colours(&rt),
         ),
         Err(error) => report_unreadable(&error, &mut rt.stderr()),
     })
+}
+
+// A terminal does, unless the environment asks for none (https://no-color.org).
+fn takes_colours(rt: &HostRuntime) -> bool {
+    match env::var(rt, "NO_COLOR") {
+        Err(VarError::NotPresent) => rt.stdout().is_terminal(),
+        _ => false,
+    }
 }
 
 fn process_arguments(rt: &HostRuntime) -> io::Result<Vec<String>> {
