@@ -1,3 +1,4 @@
 pub mod Conditions
 pub mod Unmet
 pub mod Refusal
+pub mod Inner

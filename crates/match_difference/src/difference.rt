@@ -1,9 +1,11 @@
 // The conditions of a mapping that a request doesn't meet.
-ghost use Rattle.std.specs.Prelude.{◌≡◌, ◌↔◌, ◌∷◌, ◌++◌, [], Any, IfErr, IfOk, OnOk, map};
+ghost use Rattle.std.specs.Prelude.{◌≡◌, ◌↔◌, ◌⊎◌, ◌∷◌, ◌++◌, [], IfErr, IfOk, OnOk, map};
 ghost use Rattle.match_difference.specs.Conditions.{conditions_of};
 ghost use Rattle.match_difference.specs.Refusal.{IsConditionRefusal, IsDifferenceRefusal};
+ghost use Rattle.match_difference.specs.Inner.Added.{IsAdded};
 ghost use Rattle.match_difference.specs.Unmet.{AreUnmet};
 ghost use Rattle.request_journal.specs.Choice.{IsEligible};
+ghost use Rattle.request_parts.specs.declared.error.RequestMatchError.TheVariants.{OutOfMemory as NoMemory};
 ghost use Rattle.scenario_core.specs.Scenarios.{state_of};
 
 use crate::condition::Condition;
@@ -65,12 +67,30 @@ fn unmet(
 {
     let mut list = Vec::new(alloc);
     for condition in conditions {
-        if !is_met(alloc, &condition, request, scenarios)? {
-            let found = found_of(alloc, &condition, request.snapshot(), scenarios)?;
-            push(&mut list, Difference { condition, found })?;
-        }
+        add_unmet(alloc, &mut list, condition, request, scenarios)?;
     }
     Ok(list)
+}
+
+/// Adds the condition, unless it is met.
+fn add_unmet(
+    alloc: Global,
+    list: &mut Vec<Difference>,
+    condition: Condition,
+    request: &mut ParsedRequest<'_>,
+    scenarios: &Scenarios,
+) -> Result<(), RequestMatchError>
+    ensures added { OnOk result (IsAdded (state_of scenarios.now) request.old condition
+        (map (λ d. d.condition) list.old.items) (map (λ d. d.condition) list.new.items)) }
+    ensures same_request { request.new ≡ request.old }
+    ensures refusal { IfErr result (λ error. (error ≡ NoMemory) ⊎ IsConditionRefusal condition error) }
+{
+    if is_met(alloc, &condition, request, scenarios)? {
+        return Ok(());
+    }
+    let found = found_of(alloc, &condition, request.snapshot(), scenarios)?;
+    push(list, Difference { condition, found })?;
+    Ok(())
 }
 
 fn push(list: &mut Vec<Difference>, difference: Difference) -> Result<(), AllocError>

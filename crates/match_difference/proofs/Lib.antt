@@ -1,0 +1,3 @@
+pub mod AllLemmas
+pub mod EligibleLemmas
+pub mod UnmetLemmas
