@@ -11,7 +11,7 @@ use command_output::files::{Documents, FileReader, read_documents};
 use command_output::output::{put, put_notes};
 use command_output::status::{FAILURE, SUCCESS};
 use mapping_answer::notes::notes_of;
-use mapping_answer::sent::{SentRequest, snapshot_of};
+use mapping_answer::sent::SentRequest;
 use std::alloc::{AllocError, Global};
 use std::io::Write;
 use template_tree::escape::Escape;
@@ -91,8 +91,7 @@ fn printed(
     question: Question<'_>,
     escape: Escape,
 ) -> Result<(String, bool), CommandError> {
-    let request = snapshot_of(alloc, question.request)?;
-    let found = explanation_of(alloc, documents, question.states, &request, escape)?;
+    let found = explanation_of(alloc, documents, question.request, question.states, escape)?;
     let is_answered = found.chosen().is_some();
     Ok((printed_as(alloc, &found, question.form)?, is_answered))
 }

@@ -3,6 +3,7 @@ use command_output::error::CommandError;
 use command_output::files::Documents;
 use error_code::error_code::ErrorCode;
 use mapping_answer::fresh::mappings_of;
+use mapping_answer::sent::{SentRequest, snapshot_of};
 use mapping_model::mapping_id::MappingId;
 use match_difference::difference::{Difference, differences};
 use mock_request::snapshot::Snapshot;
@@ -82,15 +83,16 @@ pub struct GivenState<'a> {
 pub(crate) fn explanation_of(
     alloc: Global,
     documents: &Documents,
+    sent: SentRequest<'_>,
     states: &[GivenState<'_>],
-    request: &Snapshot,
     escape: Escape,
 ) -> Result<Explanation, CommandError> {
     let mappings = mappings_of(alloc, documents.texts.as_slice(), escape)?;
     let ids = ids_of(alloc, mappings.as_slice())?;
     let mut book = opened(alloc, mappings)?;
     set_states(alloc, &mut book, states)?;
-    let mut listed = explained(alloc, &book, ids.as_slice(), request)?;
+    let request = snapshot_of(alloc, sent)?;
+    let mut listed = explained(alloc, &book, ids.as_slice(), &request)?;
     let answer = match book.serve(request.try_clone()?) {
         Ok(answer) => answer,
         Err(error) => return Err(CommandError::from(error.code)),
@@ -99,7 +101,7 @@ pub(crate) fn explanation_of(
     let mappings = in_order(alloc, listed)?;
     Ok(Explanation {
         mappings,
-        status: status_of(alloc, &answer, request)?,
+        status: status_of(alloc, &answer, &request)?,
     })
 }
 

@@ -90,7 +90,7 @@ prints
 
 const ANSWER_HELP: &str = "Prints what a server with the mappings of a file replies to one request
 
-Usage: mock answer [--html-escape] <MAPPINGS> <METHOD> <URL> [OPTIONS]
+Usage: mock answer [OPTIONS] <MAPPINGS> <METHOD> <URL>
 
 Arguments:
   <MAPPINGS>  A JSON file: one mapping, or an object with a list `mappings`; or a folder of such files
@@ -125,7 +125,7 @@ prints
 const EXPLAIN_HELP: &str =
     "Says which mapping of a file answers a request, and why each other one doesn't
 
-Usage: mock explain [--html-escape] <MAPPINGS> <METHOD> <URL> [OPTIONS]
+Usage: mock explain [OPTIONS] <MAPPINGS> <METHOD> <URL>
 
 Arguments:
   <MAPPINGS>  A JSON file: one mapping, or an object with a list `mappings`; or a folder of such files
@@ -156,7 +156,7 @@ Example, in the folder of this repository:
 
 prints
   no mapping answers: status 404
-  mapping 1: doesn't match
+  mapping 1 (name \"a plain answer\"): doesn't match
     method \"GET\", found \"POST\"
 ";
 

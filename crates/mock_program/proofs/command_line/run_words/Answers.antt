@@ -15,18 +15,18 @@ use Rattle.mock_program.proofs.OneStream.{nothing_written, of_command}
 use Rattle.mock_program.proofs.Refused.{without_memory}
 use Rattle.mock_program.proofs.ParserCalls.{asked_is_found, asked_is_taken}
 use Rattle.mock_program.proofs.ParserErrors.{fails_by_help, fails_by_mistake}
-use Rattle.mock_program.proofs.command_line.run.Goals as goal
+use Rattle.mock_program.proofs.command_line.run_words.Goals as goal
 
 pub returns-in-Ok-Some-clause-command : goal.returns-in-Ok-Some-clause-command
 returns-in-Ok-Some-clause-command g c = λ escape asked asks.
     let arguments : map (λ argument. argument.now) c.as_slice.result.now ≡ arguments_of asked =
-    ap (map (λ argument. argument.now)) c.as_slice.ensures.value ∙ c.in-Ok.ensures
-    ∙ parser_arguments-asked (map string_bytes c.args.arguments.now) escape asked asks in
+    ap (map (λ argument. argument.now)) c.as_slice-2.ensures.value ∙ c.in-Ok.ensures
+    ∙ parser_arguments-asked (words c.args.given.now) escape asked asks in
     let same : asked_of c.in-Ok-Some.call ≡ asked =
     same_Some _ _ (sym (ap (option_map asked_of) c.in-Ok-Some.field-0-is) ∙ c.in-Ok-Some.ensures.ok
     ∙ ap asked_by arguments ∙ asked_is_found asked) in
     let same_escape : c.escape_asked-escape.result ≡ escape =
-    c.escape_asked-escape.ensures ∙ escape_asked-asked (map string_bytes c.args.arguments.now) escape asked asks in
+    c.escape_asked-escape.ensures ∙ escape_asked-asked (words c.args.given.now) escape asked asks in
     let done =
     subst (λ (a : Asked). Does g.O.Write.contents g.E.Write.contents (g.F.FileReader.listed c.args.files.now)
     (g.F.FileReader.content c.args.files.now)
@@ -39,16 +39,16 @@ returns-in-Ok-Some-clause-command g c = λ escape asked asks.
 pub returns-in-Ok-None-clause-command : goal.returns-in-Ok-None-clause-command
 returns-in-Ok-None-clause-command g c = λ escape asked asks.
     let arguments : map (λ argument. argument.now) c.as_slice.result.now ≡ arguments_of asked =
-    ap (map (λ argument. argument.now)) c.as_slice.ensures.value ∙ c.in-Ok.ensures
-    ∙ parser_arguments-asked (map string_bytes c.args.arguments.now) escape asked asks in
+    ap (map (λ argument. argument.now)) c.as_slice-2.ensures.value ∙ c.in-Ok.ensures
+    ∙ parser_arguments-asked (words c.args.given.now) escape asked asks in
     absurd (none-some asked (sym (ap (option_map asked_of) c.in-Ok-None.field-0-is) ∙ c.in-Ok-None.ensures.ok
     ∙ ap asked_by arguments ∙ asked_is_found asked))
 
 pub returns-clause-command : goal.returns-clause-command
 returns-clause-command g c = λ escape asked asks.
     let arguments : map (λ argument. argument.now) c.as_slice.result.now ≡ arguments_of asked =
-    ap (map (λ argument. argument.now)) c.as_slice.ensures.value ∙ c.in-Ok.ensures
-    ∙ parser_arguments-asked (map string_bytes c.args.arguments.now) escape asked asks in
+    ap (map (λ argument. argument.now)) c.as_slice-2.ensures.value ∙ c.in-Ok.ensures
+    ∙ parser_arguments-asked (words c.args.given.now) escape asked asks in
     let (one, as_reported, same) =
     c.write_parser_message.ensures.no_memory (c.in-Err.ensures.err (ap is_taken arguments ∙ asked_is_taken asked)) in
     without_memory _ _ _ _ escape asked _ _ _ _ _ one as_reported same
@@ -75,17 +75,17 @@ returns-in-Ok-None-clause-streams g c =
 pub returns-in-Ok-Some-clause-invalid : goal.returns-in-Ok-Some-clause-invalid
 returns-in-Ok-Some-clause-invalid g c = λ invalid.
     let arguments : map (λ argument. argument.now) c.as_slice.result.now
-    ≡ parser_arguments (map string_bytes c.args.arguments.now) =
-    ap (map (λ argument. argument.now)) c.as_slice.ensures.value ∙ c.in-Ok.ensures in
-    absurd ((fails_by_mistake (map string_bytes c.args.arguments.now) invalid).0
+    ≡ parser_arguments (words c.args.given.now) =
+    ap (map (λ argument. argument.now)) c.as_slice-2.ensures.value ∙ c.in-Ok.ensures in
+    absurd ((fails_by_mistake (words c.args.given.now) invalid).0
     (ap answers_to (sym arguments) ∙ c.in-Ok-Some.ensures.kinds))
 
 pub returns-clause-help : goal.returns-clause-help
 returns-clause-help g c = λ calls.
     let arguments : map (λ argument. argument.now) c.as_slice.result.now
-    ≡ parser_arguments (map string_bytes c.args.arguments.now) =
-    ap (map (λ argument. argument.now)) c.as_slice.ensures.value ∙ c.in-Ok.ensures in
-    let (k, help, alone) = fails_by_help (map string_bytes c.args.arguments.now) calls in
+    ≡ parser_arguments (words c.args.given.now) =
+    ap (map (λ argument. argument.now)) c.as_slice-2.ensures.value ∙ c.in-Ok.ensures in
+    let (k, help, alone) = fails_by_help (words c.args.given.now) calls in
     let has : HasKind (k ∷ []) c.in-Err.error =
     subst (λ ks. HasKind ks c.in-Err.error) (ap answers_to arguments ∙ alone) c.in-Err.ensures.kinds in
     elim has [
@@ -97,12 +97,12 @@ returns-clause-help g c = λ calls.
 pub returns-clause-invalid : goal.returns-clause-invalid
 returns-clause-invalid g c = λ invalid.
     let arguments : map (λ argument. argument.now) c.as_slice.result.now
-    ≡ parser_arguments (map string_bytes c.args.arguments.now) =
-    ap (map (λ argument. argument.now)) c.as_slice.ensures.value ∙ c.in-Ok.ensures in
-    let has : HasKind (answers_to (parser_arguments (map string_bytes c.args.arguments.now))) c.in-Err.error =
+    ≡ parser_arguments (words c.args.given.now) =
+    ap (map (λ argument. argument.now)) c.as_slice-2.ensures.value ∙ c.in-Ok.ensures in
+    let has : HasKind (answers_to (parser_arguments (words c.args.given.now))) c.in-Err.error =
     subst (λ given. HasKind (answers_to given) c.in-Err.error) arguments c.in-Err.ensures.kinds in
     elim has [
       | inl none ↦ inr (c.write_parser_message.ensures.no_memory none).0
       | inr among ↦ c.write_parser_message.ensures.mistake
-          ((fails_by_mistake (map string_bytes c.args.arguments.now) invalid).1 (kind_of c.in-Err.error) among)
+          ((fails_by_mistake (words c.args.given.now) invalid).1 (kind_of c.in-Err.error) among)
     ]
