@@ -53,6 +53,7 @@ pub fn explain_file<F: FileReader, O: Write, E: Write>(
         Ok(documents) => {
             let (status, is_refused) = explain_to(alloc, &documents, question, out, err, escape);
             let notes = notes_of(alloc, &documents, is_refused, escape);
+            put_notes(err, documents.passed_over.as_str());
             put_notes(err, notes.as_str());
             status
         }
