@@ -1,5 +1,5 @@
 -- `All` of parts of a list.
-use Rattle.std.proofs.Common.{List, [], ◌∷◌, ◌++◌, map, All}
+use Rattle.std.proofs.Common.{◌↔◌, List, [], ◌∷◌, ◌++◌, map, All}
 use Rattle.std.proofs.lemmas.List.Elements.{All-cons, All-head, All-nil, All-tail}
 
 module _ {X : Type 0} (P : X → Type 0) where
@@ -20,3 +20,7 @@ module _ {X : Type 0} (P : X → Type 0) where
 
   pub all_of_one : (x : X) → P x → All P (x ∷ [])
   all_of_one x p = All-cons P x [] p (All-nil P)
+
+  -- what is decided of a list of one is decided of that one
+  pub by_one : (T : Type 0) (x : X) → T ↔ All P (x ∷ []) → T ↔ P x
+  by_one T x decided = (λ t. All-head P x [] (decided.0 t), λ p. decided.1 (all_of_one x p))

@@ -1,5 +1,5 @@
 -- A mapping is eligible exactly where all of its conditions are met.
-use Rattle.std.proofs.Common.{◌↔◌, ℕ, List, [], ◌∷◌, ◌++◌, map, All, Option, None, Some}
+use Rattle.std.proofs.Common.{◌↔◌, ℕ, List, [], map, All, Option, None, Some}
 use Rattle.std.specs.Prelude.{IfSome, IsSomeAnd}
 use Rattle.std.proofs.lemmas.List.Elements.{All-append, All-head, All-map, All-nil}
 use Rattle.mapping_model.specs.declared.named_matcher.NamedMatcher.{NamedMatcher}

@@ -1,3 +1,4 @@
 pub mod AllLemmas
 pub mod EligibleLemmas
+pub mod MetLemmas
 pub mod UnmetLemmas

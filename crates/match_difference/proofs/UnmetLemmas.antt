@@ -1,13 +1,15 @@
 -- The filter of conditions by "isn't met": none is left exactly where all are met.
-use Rattle.std.proofs.Common.{◌≡◌, ◌↔◌, ℕ, List, [], ◌∷◌, ◌++◌, All, ap, append_assoc, inl, inr, refl, subst, sym}
-use Rattle.std.proofs.Common.{◌∙◌}
-use Rattle.std.proofs.lemmas.List.{append-nil}
+use Rattle.std.proofs.Common.{◌≡◌, ◌↔◌, ℕ, List, [], ◌∷◌, ◌++◌, All, ap, append_assoc, inl, inr, map, refl}
+use Rattle.std.proofs.Common.{◌∙◌, subst, sym}
 use Rattle.std.proofs.lemmas.List.Elements.{All-cons, All-head, All-nil, All-tail}
-use Rattle.match_difference.specs.Conditions.{IsMet}
+use Rattle.match_difference.proofs.EligibleLemmas.{eligible_where_all_are_met}
+use Rattle.match_difference.specs.Conditions.{IsMet, conditions_of}
 use Rattle.match_difference.specs.Inner.Added.{IsAdded}
 use Rattle.match_difference.specs.Unmet.{AreUnmet}
 use Rattle.match_difference.specs.declared.condition.Condition.{Condition}
 use Rattle.mock_request.specs.Request.{Request}
+use Rattle.request_journal.specs.Choice.{IsEligible}
+use Rattle.request_journal.specs.declared.mapping.Mapping.{Mapping}
 
 no_first : (c : Condition) (cs : List Condition) → ¬ ([] ≡ c ∷ cs)
 no_first c cs e = cc
@@ -30,6 +32,21 @@ module _ (state_of : List ℕ → List ℕ) (request : Request) where
       → (found ≡ []) ↔ All Met cs
   none_where_all_met cs found h =
       (λ e. all_met cs (subst (AreUnmet state_of request cs) e h), none_found cs found h)
+
+  map_none : {X : Type 0} (f : X → Condition) (xs : List X) → (xs ≡ []) ↔ (map f xs ≡ [])
+  map_none f [] = (λ e. refl, λ e. refl)
+  map_none f (x ∷ xs) = (λ e. cc, λ e. cc)
+
+  pub eligible_by : {X : Type 0} (f : X → Condition) (xs : List X) (mapping : Mapping) (cs : List Condition)
+      → cs ≡ conditions_of mapping.spec → AreUnmet state_of request cs (map f xs)
+      → (xs ≡ []) ↔ IsEligible state_of request mapping
+  eligible_by f xs mapping cs e h =
+      let none = map_none f xs in
+      let met = none_where_all_met cs (map f xs) h in
+      let eligible = eligible_where_all_are_met state_of request mapping in (
+        λ is. eligible.0 (subst (All Met) e (met.0 (none.0 is))),
+        λ may. none.1 (met.1 (subst (All Met) (sym e) (eligible.1 may))),
+      )
 
   -- what is found of the conditions so far, and what will be found of the rest
   abbrev pub Unmet_from : List Condition → List Condition → List Condition → Type 0

@@ -1,6 +1,6 @@
 -- The conditions of a mapping, one by one, and when each is met: all of them exactly where the mapping is eligible
 -- (`IsEligible` of `request_journal`, which is `MeetsRequest` and the state of the scenario). All texts are their bytes.
-use Rattle.std.specs.Prelude.{ℕ, List, [], ◌∷◌, ◌++◌, All, Option, None, Some, map, IfSome}
+use Rattle.std.specs.Prelude.{ℕ, List, [], ◌∷◌, ◌++◌, Option, None, Some, map, IfSome}
 use Rattle.std.specs.Char.{to_ascii_lowercase}
 use Rattle.mapping_model.specs.declared.mapping_spec.MappingSpec.{MappingSpec}
 use Rattle.mapping_model.specs.declared.named_matcher.NamedMatcher.{NamedMatcher}

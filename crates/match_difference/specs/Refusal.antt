@@ -1,6 +1,6 @@
 -- With which error a condition may be refused: its pattern, path template, JSON or path isn't one, or memory is out. Of a
 -- mapping that was built the first come only for a pattern that is too big, of which no contract of `regex` speaks.
-use Rattle.std.specs.Prelude.{◌≡◌, ◌⊎◌, ℕ, List, [], ◌∷◌, Any}
+use Rattle.std.specs.Prelude.{◌≡◌, ◌⊎◌, List, [], ◌∷◌, Any}
 use Rattle.mapping_model.specs.declared.named_matcher.NamedMatcher.{NamedMatcher}
 use Rattle.match_difference.specs.declared.condition.Condition.{Condition}
 use Rattle.match_difference.specs.declared.condition.Condition.TheVariants as condition

@@ -6,7 +6,7 @@ use mapping_model::url_spec::UrlSpec;
 use plain_text::text::Text;
 
 /// Where the values of a name are.
-#[derive(Clone, Copy, Debug, PartialEq, Eq)]
+#[derive(Clone, Copy)]
 pub enum Source {
     Header,
     Query,

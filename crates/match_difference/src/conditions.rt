@@ -1,5 +1,5 @@
 // The conditions of a mapping.
-ghost use Rattle.std.specs.Prelude.{◌≡◌, ◌↔◌, ◌++◌, All, IfOk, List, OnOk, ℕ, map};
+ghost use Rattle.std.specs.Prelude.{◌≡◌, ◌↔◌, ◌∷◌, ◌++◌, [], All, IfOk, List, OnOk, ℕ, map};
 ghost use Rattle.match_difference.specs.Conditions.{IsMet, conditions_of, method_conditions, url_conditions};
 ghost use Rattle.match_difference.specs.Conditions.{parameter_conditions, scenario_conditions};
 ghost use Rattle.match_difference.specs.declared.condition.Condition.TheVariants as condition;
@@ -22,8 +22,7 @@ use std::alloc::{AllocError, Global};
 pub fn eligible_where_all_are_met()
     ensures { (state_of : List ℕ → List ℕ) (request : Request) (mapping : Mapping)
         → All (IsMet state_of request) (conditions_of mapping.spec) ↔ IsEligible state_of request mapping }
-{
-}
+{}
 
 /// The conditions, in the order of the parts of a request.
 pub(crate) fn conditions_of(
@@ -35,9 +34,17 @@ pub(crate) fn conditions_of(
     let mut list = Vec::new(alloc);
     push_method(&mut list, &mapping.request.method)?;
     push_url(alloc, &mut list, &mapping.request.url)?;
-    push_values(&mut list, Source::Header, mapping.request.headers.as_slice())?;
+    push_values(
+        &mut list,
+        Source::Header,
+        mapping.request.headers.as_slice(),
+    )?;
     push_values(&mut list, Source::Query, mapping.request.query.as_slice())?;
-    push_values(&mut list, Source::Cookie, mapping.request.cookies.as_slice())?;
+    push_values(
+        &mut list,
+        Source::Cookie,
+        mapping.request.cookies.as_slice(),
+    )?;
     push_parameters(&mut list, &mapping.request.url)?;
     push_body(&mut list, mapping.request.body.as_slice())?;
     push_scenario(&mut list, &mapping.scenario)?;

@@ -11,4 +11,3 @@ mod look_up;
 mod met;
 mod not_json;
 pub mod said;
-

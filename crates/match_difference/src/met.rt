@@ -79,11 +79,11 @@ fn meets_value(
     ensures refusal { IfErr result (IsNamedRefusal matcher.now) }
 {
     let mut tests = tests_of(alloc, matcher)?;
-    Ok(match source {
-        Source::Header => request.meets_headers(tests.as_mut_slice())?,
-        Source::Query => request.meets_query(tests.as_mut_slice())?,
-        Source::Cookie => request.meets_cookies(tests.as_mut_slice())?,
-    })
+    match source {
+        Source::Header => Ok(request.meets_headers(tests.as_mut_slice())?),
+        Source::Query => Ok(request.meets_query(tests.as_mut_slice())?),
+        Source::Cookie => Ok(request.meets_cookies(tests.as_mut_slice())?),
+    }
 }
 
 /// Its test alone.

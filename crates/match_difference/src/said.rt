@@ -18,6 +18,7 @@ const SHOWN: usize = 60;
 
 /// How many of the first characters of a longer text are shown, and how many of its last ones.
 const SHOWN_FIRST: usize = 40;
+
 const SHOWN_LAST: usize = 18;
 
 /// As `header "accept" equalTo "text/plain", found "text/html"`, without a line feed.
@@ -72,11 +73,7 @@ fn push_condition(
     }
 }
 
-fn push_state(
-    alloc: Global,
-    line: &mut String,
-    required: &Option<Text>,
-) -> Result<(), AllocError> {
+fn push_state(alloc: Global, line: &mut String, required: &Option<Text>) -> Result<(), AllocError> {
     match required {
         Some(required) => push_quoted(alloc, line, " in state ", required.as_str()),
         None => Ok(()),

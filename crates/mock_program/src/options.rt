@@ -1,5 +1,7 @@
 //! The options of `answer` and `explain`: anywhere before a `--`, and each with the argument that follows it as its value.
-ghost use Rattle.std.specs.Prelude.{◌≡◌, ◌↔◌, ◌++◌, IfOk, IsTrue, OnOk, map, string_bytes, None, option_map};
+ghost use Rattle.std.specs.Prelude.{◌≡◌, ◌++◌, ◌∷◌, [], ℕ, List, IfOk, OnOk, map, string_bytes, None, codes, false};
+ghost use Rattle.std.specs.Prelude.{option_copied};
+ghost use Rattle.std.specs.Str.{bytes_eq};
 ghost use Rattle.mock_program.specs.Options.{given_of, is_option, is_switch, options_in, options_of, takes_options};
 ghost use Rattle.mock_program.specs.Options.{words_in, words_of};
 
@@ -64,24 +66,56 @@ fn split_rest<'a>(split: &mut Split<'a>, arguments: &'a [String]) -> Result<(), 
 {
     // The name of an option whose value is next.
     let mut name = None;
-    for (index, argument) in arguments.iter().enumerate() {
+    let mut rest = arguments;
+    while let [argument, tail @ ..] = rest {
         let argument = argument.as_str();
-        if let Some(known) = name {
-            push_option(split, known, argument)?;
-            name = None;
-        } else if argument == "--" {
-            return push_words(&mut split.words, &arguments[index..]);
-        } else if is_switch(argument) {
-            push_option(split, argument, "")?;
-        } else if is_option(argument) {
-            name = Some(argument);
-        } else {
-            split.words.push(argument)?;
+        if name.is_none() && argument == "--" {
+            return push_words(&mut split.words, rest);
         }
+        name = split_next(split, name, argument)?;
+        rest = tail;
     }
-    if let Some(alone) = name {
-        split.words.push(alone)?;
+    match name {
+        Some(alone) => push_word(split, alone),
+        None => Ok(()),
     }
+}
+
+/// Takes the next argument, and gives the name of an option whose value comes after it.
+fn split_next<'a>(
+    split: &mut Split<'a>,
+    name: Option<&'a str>,
+    argument: &'a str,
+) -> Result<Option<&'a str>, AllocError>
+    requires { option_copied name ≡ None → bytes_eq argument.now (codes "--") ≡ false }
+    ensures words { IfOk result (λ next. (rest : List (List ℕ))
+        → map (λ word. word.now) split.new.words.items ++ words_in (option_copied next) rest
+        ≡ map (λ word. word.now) split.old.words.items ++ words_in (option_copied name) (argument.now ∷ rest)) }
+    ensures options { IfOk result (λ next. (rest : List (List ℕ))
+        → map given_of split.new.options.items ++ options_in (option_copied next) rest
+        ≡ map given_of split.old.options.items ++ options_in (option_copied name) (argument.now ∷ rest)) }
+{
+    if let Some(known) = name {
+        push_option(split, known, argument)?;
+        return Ok(None);
+    }
+    if is_switch(argument) {
+        push_option(split, argument, "")?;
+        return Ok(None);
+    }
+    if is_option(argument) {
+        return Ok(Some(argument));
+    }
+    push_word(split, argument)?;
+    Ok(None)
+}
+
+fn push_word<'a>(split: &mut Split<'a>, word: &'a str) -> Result<(), AllocError>
+    ensures words { OnOk result (map (λ word. word.now) split.new.words.items
+        ≡ map (λ word. word.now) split.old.words.items ++ word.now ∷ []) }
+    ensures options { OnOk result (split.new.options ≡ split.old.options) }
+{
+    split.words.push(word)?;
     Ok(())
 }
 
