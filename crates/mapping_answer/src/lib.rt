@@ -7,3 +7,4 @@ pub mod answer;
 pub mod fresh;
 pub mod notes;
 mod printed;
+pub mod sent;

@@ -12,7 +12,8 @@ mod streams;
 
 use command_line::run;
 use mock_program::arguments::report_unreadable;
-use std::io::Write;
+use std::env::VarError;
+use std::io::{IsTerminal, Write};
 use std::process::ExitCode;
 use std::{env, io};
 use streams::{Output, Visible};
@@ -27,6 +28,7 @@ fn main(rt: HostRuntime) -> ExitCode {
             &mut out,
             &mut err,
             Visible::new(rt.stderr()),
+            takes_colours(&rt),
         ),
         Err(error) => report_unreadable(&error, &mut err),
     };
@@ -39,6 +41,14 @@ fn main(rt: HostRuntime) -> ExitCode {
 // Why standard output doesn't have all that was to be written. The exit status is 1 already.
 fn report_output<E: Write>(error: io::Error, err: &mut E) {
     let _ = write!(err, "error: cannot write to standard output\n  {error}\n");
+}
+
+// A terminal does, unless the environment asks for none (https://no-color.org).
+fn takes_colours(rt: &HostRuntime) -> bool {
+    match env::var(rt, "NO_COLOR") {
+        Err(VarError::NotPresent) => rt.stdout().is_terminal(),
+        _ => false,
+    }
 }
 
 fn process_arguments(rt: &HostRuntime) -> io::Result<Vec<String>> {
