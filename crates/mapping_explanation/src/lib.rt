@@ -7,4 +7,3 @@ pub mod explain;
 mod explanation;
 mod json;
 mod text;
-

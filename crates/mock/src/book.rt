@@ -5,7 +5,6 @@ ghost use Rattle.request_journal.specs.Past.{opened};
 
 use command_output::error::CommandError;
 use command_output::files::{FileReader, read_documents};
-use command_output::output::put_notes;
 use mapping_answer::fresh::fresh_book;
 use mapping_answer::notes::notes_of;
 use std::alloc::Global;
@@ -60,8 +59,7 @@ fn book_at<F: FileReader, E: Write>(
                 error.report(err);
             }
             let notes = notes_of(alloc, &documents, book.is_err(), escape);
-            put_notes(err, documents.passed_over.as_str());
-            put_notes(err, notes.as_str());
+            documents.put_notes(notes.as_str(), err);
             book.ok()
         }
         Err(error) => {

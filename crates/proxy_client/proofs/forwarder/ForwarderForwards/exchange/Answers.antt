@@ -2,11 +2,11 @@ use Rattle.std.proofs.lemmas.Result.{IfOk-weaker}
 use Rattle.proxy_client.proofs.forwarder.ForwarderForwards.exchange.Goals as goal
 
 pub returns-clause-sends : goal.returns-clause-sends
-returns-clause-sends g c = IfOk-weaker c.connect.result _ _
-    (λ exchange (connecting, start, stage, sent, builder, turns). (connecting, start, stage, sent))
-    c.connect.ensures.start
+returns-clause-sends g c = IfOk-weaker c.exchange.result _ _
+    (λ exchange (start, stage, sent, builder, turns). (c.new-elsewhere.result, start, stage, sent))
+    c.exchange.ensures.start
 
 pub returns-clause-reaches : goal.returns-clause-reaches
-returns-clause-reaches g c = IfOk-weaker c.connect.result _ _
+returns-clause-reaches g c = IfOk-weaker c.exchange.result _ _
     (λ exchange start. (c.address_of.result, c.address_of.ensures, c.is_own.ensures.elsewhere c.if-is_own.false))
-    c.connect.ensures.start
+    c.exchange.ensures.start
