@@ -20,12 +20,6 @@ pub continued : {T E : Type 0} (r : Result T E) (old new : Option (List ℕ)) (b
 continued (Ok done) old new bytes written = (bytes, written)
 continued (Err error) old new bytes part = (part.front, part.written)
 
--- some was written, and then more
-pub continued_on : (old middle new : Option (List ℕ)) → Continues old middle → Continues middle new
-    → Continues old new
-continued_on old middle new first second =
-    (first.0 ++ second.0, Appends-trans old middle new first.0 second.0 first.1 second.1)
-
 -- what was done, and then more; or nothing more
 pub followed : {W : Type 0} (holds : W → Option (List ℕ)) (done : W → Type 0) (middle new : W) → done middle
     → Continues (holds middle) (holds new) → Followed holds done new

@@ -241,19 +241,6 @@ pub struct Documents {
     pub passed_over: String,
 }
 
-impl Documents {
-    ghost use Rattle.command_output.specs.Output.{Continues};
-
-    /// Writes lines on what was passed over, and then these, as far as the writer takes them.
-    #[tactic(auto, using(crate::proofs::PartsWritten::continued_on))]
-    pub fn put_notes<W: Write>(&self, lines: &str, err: &mut W)
-        ensures { Continues (W.contents err.old) (W.contents err.new) }
-    {
-        put_notes(err, self.passed_over.as_str());
-        put_notes(err, lines);
-    }
-}
-
 /// Why documents aren't read, and at which file of a folder.
 #[derive(Debug, Drop)]
 pub struct Unread {

@@ -9,7 +9,7 @@ use crate::printed::reply_text;
 use crate::sent::{SentRequest, snapshot_of};
 use command_output::error::CommandError;
 use command_output::files::{Documents, FileReader, read_documents};
-use command_output::output::put;
+use command_output::output::{put, put_notes};
 use command_output::status::{FAILURE, SUCCESS};
 use std::alloc::Global;
 use std::io::Write;
@@ -80,7 +80,8 @@ pub fn answer_file<F: FileReader, O: Write, E: Write>(
         Ok(documents) => {
             let status = answer_to(alloc, &documents, sent, out, err, escape);
             let notes = notes_of(alloc, &documents, status != SUCCESS, escape);
-            documents.put_notes(notes.as_str(), err);
+            put_notes(err, documents.passed_over.as_str());
+            put_notes(err, notes.as_str());
             status
         }
         Err(error) => {

@@ -22,5 +22,11 @@ pub fn snapshot_of(alloc: Global, sent: SentRequest<'_>) -> Result<Snapshot, Com
     ensures ok { IfOk result (IsRequest (sent_of sent)) }
     ensures refusal { IfErr result (λ error. RefusesRequest (sent_of sent) error ⊎ (error ≡ out_of_memory)) }
 {
-    Ok(Snapshot::new(alloc, sent.method, sent.target, sent.headers, sent.body)?)
+    Ok(Snapshot::new(
+        alloc,
+        sent.method,
+        sent.target,
+        sent.headers,
+        sent.body,
+    )?)
 }

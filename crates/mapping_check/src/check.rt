@@ -13,7 +13,7 @@ use crate::budgets::total_of;
 use command_output::error::CommandError;
 use command_output::files::{Documents, FileReader, read_documents};
 use command_output::lines::total_text;
-use command_output::output::put;
+use command_output::output::{put, put_notes};
 use command_output::status::{FAILURE, SUCCESS};
 use error_code::error_code::ErrorCode;
 use itoa::Buffer;
@@ -211,7 +211,8 @@ pub fn check_to<O: Write, E: Write>(
 {
     let mut notes = Notes::of_files(alloc, documents.paths.len());
     let status = check_noting(alloc, documents, out, err, escape, &mut notes);
-    documents.put_notes(notes.as_str(), err);
+    put_notes(err, documents.passed_over.as_str());
+    put_notes(err, notes.as_str());
     status
 }
 

@@ -2,13 +2,13 @@
 ghost use Rattle.std.specs.Prelude.{◌≡◌, ◌≤◌};
 ghost use Rattle.command_output.specs.Output.{Followed, WritesOneStream};
 
-pub use crate::explanation::GivenState;
 use crate::explanation::{Explanation, explanation_of};
+pub use crate::explanation::GivenState;
 use crate::json::json_of;
 use crate::text::text_of;
 use command_output::error::CommandError;
 use command_output::files::{Documents, FileReader, read_documents};
-use command_output::output::put;
+use command_output::output::{put, put_notes};
 use command_output::status::{FAILURE, SUCCESS};
 use mapping_answer::notes::notes_of;
 use mapping_answer::sent::SentRequest;
@@ -53,7 +53,8 @@ pub fn explain_file<F: FileReader, O: Write, E: Write>(
         Ok(documents) => {
             let (status, is_refused) = explain_to(alloc, &documents, question, out, err, escape);
             let notes = notes_of(alloc, &documents, is_refused, escape);
-            documents.put_notes(notes.as_str(), err);
+            put_notes(err, documents.passed_over.as_str());
+            put_notes(err, notes.as_str());
             status
         }
         Err(error) => {
@@ -96,7 +97,11 @@ fn printed(
     Ok((printed_as(alloc, &found, question.form)?, is_answered))
 }
 
-fn printed_as(alloc: Global, found: &Explanation, form: Form) -> Result<String, AllocError> {
+fn printed_as(
+    alloc: Global,
+    found: &Explanation,
+    form: Form,
+) -> Result<String, AllocError> {
     match form {
         Form::Text => text_of(alloc, found, false),
         Form::Coloured => text_of(alloc, found, true),

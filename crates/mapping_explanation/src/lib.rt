@@ -7,3 +7,4 @@ pub mod explain;
 mod explanation;
 mod json;
 mod text;
+

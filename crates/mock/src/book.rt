@@ -5,6 +5,7 @@ ghost use Rattle.request_journal.specs.Past.{opened};
 
 use command_output::error::CommandError;
 use command_output::files::{FileReader, read_documents};
+use command_output::output::put_notes;
 use mapping_answer::fresh::fresh_book;
 use mapping_answer::notes::notes_of;
 use std::alloc::Global;
@@ -59,7 +60,8 @@ fn book_at<F: FileReader, E: Write>(
                 error.report(err);
             }
             let notes = notes_of(alloc, &documents, book.is_err(), escape);
-            documents.put_notes(notes.as_str(), err);
+            put_notes(err, documents.passed_over.as_str());
+            put_notes(err, notes.as_str());
             book.ok()
         }
         Err(error) => {
