@@ -4,7 +4,7 @@ ghost use Rattle.command_output.specs.Output.{Followed, WritesOneStream};
 
 use crate::explanation::{Explanation, explanation_of};
 pub use crate::explanation::GivenState;
-use crate::json::json_of;
+use crate::as_json::json_of;
 use crate::text::text_of;
 use command_output::error::CommandError;
 use command_output::files::{Documents, FileReader, read_documents};
