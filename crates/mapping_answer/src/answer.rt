@@ -4,12 +4,12 @@ ghost use Rattle.command_output.specs.Output.{Followed};
 ghost use Rattle.mapping_answer.specs.Answering.{Answers, AnswersFiles, IsRefusal, IsReplyText, sent_of};
 
 use crate::fresh::{answer_of, fresh_book, reply_by};
-use crate::notes::notes_of;
+use crate::notes::{notes_of, put_all_notes};
 use crate::printed::reply_text;
 use crate::sent::{SentRequest, snapshot_of};
 use command_output::error::CommandError;
 use command_output::files::{Documents, FileReader, read_documents};
-use command_output::output::{put, put_notes};
+use command_output::output::put;
 use command_output::status::{FAILURE, SUCCESS};
 use std::alloc::Global;
 use std::io::Write;
@@ -24,9 +24,9 @@ pub fn answer_request(
     escape: Escape,
 ) -> Result<Vec<u8>, CommandError>
     ensures reply { IfOk result (λ printed. IsReplyText escape (map (λ text. text.items) documents.now.texts.items)
-        (sent_of sent) printed.items) }
+        (sent_of sent.entry) printed.items) }
     ensures refusal { IfErr result
-        (IsRefusal escape (map (λ text. text.items) documents.now.texts.items) (sent_of sent)) }
+        (IsRefusal escape (map (λ text. text.items) documents.now.texts.items) (sent_of sent.entry)) }
 {
     let mut book = fresh_book(alloc, documents, escape)?;
     let request = snapshot_of(alloc, sent)?;
@@ -46,7 +46,7 @@ pub fn answer_to<O: Write, E: Write>(
     escape: Escape,
 ) -> u8
     ensures { Answers O.contents E.contents escape (map (λ text. text.items) documents.now.texts.items)
-        (sent_of sent) out.old out.new err.old err.new result }
+        (sent_of sent.entry) out.old out.new err.old err.new result }
 {
     match answer_request(alloc, documents, sent, escape) {
         Ok(printed) => match put(out, printed.as_slice()) {
@@ -74,14 +74,13 @@ pub fn answer_file<F: FileReader, O: Write, E: Write>(
 ) -> u8
     ensures { Followed E.contents
         (λ e. AnswersFiles O.contents E.contents escape (F.listed files.now path.now) (F.content files.now) path.now
-        (sent_of sent) out.old out.new err.old e result) err.new }
+        (sent_of sent.entry) out.old out.new err.old e result) err.new }
 {
     match read_documents(alloc, files, path) {
         Ok(documents) => {
             let status = answer_to(alloc, &documents, sent, out, err, escape);
             let notes = notes_of(alloc, &documents, status != SUCCESS, escape);
-            put_notes(err, documents.passed_over.as_str());
-            put_notes(err, notes.as_str());
+            put_all_notes(err, &documents, &notes);
             status
         }
         Err(error) => {

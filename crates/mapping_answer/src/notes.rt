@@ -1,8 +1,12 @@
 // What is said of documents besides what they give.
+ghost use Rattle.command_output.specs.Output.{Continues};
+
 use command_output::files::Documents;
+use command_output::output::put_notes;
 use mapping_diagnosis::notes::Notes;
 use mapping_json::read::read_mappings_with;
 use std::alloc::Global;
+use std::io::Write;
 use template_tree::escape::Escape;
 
 /// Where and why the first wrong document is wrong, and warnings, as far as there is memory. Where no document was
@@ -22,4 +26,12 @@ pub fn notes_of(alloc: Global, documents: &Documents, is_refused: bool, escape: 
         }
     }
     notes
+}
+
+/// Writes which files were passed over, and then the notes, as far as the writer takes them.
+pub fn put_all_notes<W: Write>(out: &mut W, documents: &Documents, notes: &Notes)
+    ensures { Continues (W.contents out.old) (W.contents out.new) }
+{
+    put_notes(out, documents.passed_over.as_str());
+    put_notes(out, notes.as_str());
 }

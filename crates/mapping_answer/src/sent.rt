@@ -19,8 +19,8 @@ pub struct SentRequest<'a> {
 
 /// The request for the URL of its target.
 pub fn snapshot_of(alloc: Global, sent: SentRequest<'_>) -> Result<Snapshot, CommandError>
-    ensures ok { IfOk result (IsRequest (sent_of sent)) }
-    ensures refusal { IfErr result (λ error. RefusesRequest (sent_of sent) error ⊎ (error ≡ out_of_memory)) }
+    ensures ok { IfOk result (IsRequest (sent_of sent.entry)) }
+    ensures refusal { IfErr result (λ error. RefusesRequest (sent_of sent.entry) error ⊎ (error ≡ out_of_memory)) }
 {
     Ok(Snapshot::new(
         alloc,

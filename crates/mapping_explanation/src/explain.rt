@@ -4,13 +4,13 @@ ghost use Rattle.command_output.specs.Output.{Followed, WritesOneStream};
 
 use crate::explanation::{Explanation, explanation_of};
 pub use crate::explanation::GivenState;
-use crate::json::json_of;
+use crate::as_json::json_of;
 use crate::text::text_of;
 use command_output::error::CommandError;
 use command_output::files::{Documents, FileReader, read_documents};
-use command_output::output::{put, put_notes};
+use command_output::output::put;
 use command_output::status::{FAILURE, SUCCESS};
-use mapping_answer::notes::notes_of;
+use mapping_answer::notes::{notes_of, put_all_notes};
 use mapping_answer::sent::SentRequest;
 use std::alloc::{AllocError, Global};
 use std::io::Write;
@@ -53,8 +53,7 @@ pub fn explain_file<F: FileReader, O: Write, E: Write>(
         Ok(documents) => {
             let (status, is_refused) = explain_to(alloc, &documents, question, out, err, escape);
             let notes = notes_of(alloc, &documents, is_refused, escape);
-            put_notes(err, documents.passed_over.as_str());
-            put_notes(err, notes.as_str());
+            put_all_notes(err, &documents, &notes);
             status
         }
         Err(error) => {

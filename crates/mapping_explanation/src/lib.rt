@@ -3,8 +3,8 @@
 //! differences are those of `match_difference`.
 #![tactic(auto)]
 
+mod as_json;
 pub mod explain;
 mod explanation;
-mod json;
 mod text;
 

@@ -113,8 +113,8 @@ fn run_call<F: FileReader, O: Write, E: Write>(
     out: &mut O,
     err: &mut E,
 ) -> u8
-    ensures { Does O.contents E.contents (F.listed files.now) (F.content files.now) asked.escape
-        (asked_of asked.call) (map given_of asked.options.now) out.old out.new err.old err.new result }
+    ensures { Does O.contents E.contents (F.listed files.now) (F.content files.now) asked.entry.escape
+        (asked_of asked.entry.call) (map given_of asked.entry.options.now) out.old out.new err.old err.new result }
 {
     let escape = asked.escape;
     match asked.call {
@@ -147,8 +147,8 @@ fn run_answer<F: FileReader, O: Write, E: Write>(
     out: &mut O,
     err: &mut E,
 ) -> u8
-    ensures { Does O.contents E.contents (F.listed files.now) (F.content files.now) asked.escape
-        (answer file.now method.now target.now) (map given_of asked.options.now)
+    ensures { Does O.contents E.contents (F.listed files.now) (F.content files.now) asked.entry.escape
+        (answer file.now method.now target.now) (map given_of asked.entry.options.now)
         out.old out.new err.old err.new result }
 {
     match request_options(alloc, files, asked.options, false) {
