@@ -1,5 +1,5 @@
 -- Which site answers.
-use Rattle.std.specs.Prelude.{◌≡◌, ℕ}
+use Rattle.std.specs.Prelude.{◌≡◌}
 use Rattle.std.specs.Arc.{arc_value}
 use Rattle.std.specs.declared.sync.Arc.{Arc}
 use Rattle.http_connections.specs.declared.seat_pool.SeatPool.{SeatPool}

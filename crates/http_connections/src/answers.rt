@@ -30,12 +30,10 @@ pub trait Answers: Drop {
 
     /// It may give this answer to the message, by the call that ends with that: of a message that was forwarded, the
     /// seats are those of the second call.
-    ghost gives: { Self → Self.Seat → Self.Seat → Message (List ℕ) → Answer Self.Content → Type 0 }
-        = { λ _ _ _ _ _. ⊤ };
+    ghost gives: { Self → Self.Seat → Self.Seat → Message (List ℕ) → Answer Self.Content → Type 0 } = { λ _ _ _ _ _. ⊤ };
 
     /// It may forward the message by this exchange.
-    ghost forwards: { Self → Self.Seat → Self.Seat → Message (List ℕ) → Self.Exchange → Type 0 }
-        = { λ _ _ _ _ _. ⊤ };
+    ghost forwards: { Self → Self.Seat → Self.Seat → Message (List ℕ) → Self.Exchange → Type 0 } = { λ _ _ _ _ _. ⊤ };
 
     /// It may leave the seat so where there is no answer to the message.
     ghost unanswered: { Self → Self.Seat → Self.Seat → Message (List ℕ) → Type 0 } = { λ _ _ _ _. ⊤ };
@@ -47,8 +45,7 @@ pub trait Answers: Drop {
     ghost splits: { Self → Self.Seat → Self.Seat → Option Self.Seat → Type 0 } = { λ _ _ _ _. ⊤ };
 
     /// The seat may take over another one so.
-    ghost joins: { Self → Self.Seat → Self.Seat → Self.Seat → Result (Unit {0}) Self.Seat → Type 0 }
-        = { λ _ _ _ _ _. ⊤ };
+    ghost joins: { Self → Self.Seat → Self.Seat → Self.Seat → Result (Unit {0}) Self.Seat → Type 0 } = { λ _ _ _ _ _. ⊤ };
 
     /// The answer to a request whose body has come, or the exchange that forwards it. An error is out of memory for the
     /// answer itself.

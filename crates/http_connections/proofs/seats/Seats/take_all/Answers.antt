@@ -1,4 +1,3 @@
-use Rattle.std.proofs.Common.{ap, ◌∙◌}
 use Rattle.http_connections.proofs.SeatLemmas.{first_stays}
 use Rattle.http_connections.proofs.seats.Seats.take_all.Goals as goal
 use Rattle.http_connections.proofs.seats.Seats.take_all.Goals.{in-Some-take+in_ok-push-2, in_default-take}
