@@ -1,5 +1,6 @@
 -- The tasks of the connections that are accepted, after one more of them.
-use Rattle.std.proofs.Common.{◌≡◌, ◌-◌, ◌<◌, ℕ, List, ◌∷◌, Option, None, Some, IfSome, length, option_map, arith, subst, sym}
+use Rattle.std.proofs.Common.{◌≡◌, ◌-◌, ◌<◌, ℕ, List, ◌∷◌, Option, None, Some, IfSome, length, option_map, arith}
+use Rattle.std.proofs.Common.{subst, sym}
 use Rattle.http_connections.specs.Inner.Accepted.{AreWanted}
 use Rattle.http_connections.specs.Site.{IsConnectionFor, site_of}
 use Rattle.http_connections.specs.declared.service.MessageService.{MessageService}
@@ -43,7 +44,8 @@ module _ {T C P : Type 0} (IsTask : C → P → T → Type 0) (connects connects
   none_accepted same_connects same_pool same_left wanted = rw (same_connects, same_pool, same_left) at wanted
 
 module _ {M I F R A Seat Reply Exchange Content : Type 0}
-    (makes : M → I → MessageService R A Seat Reply Exchange Content → F → Type 0) (connects : M) (io : I) (site : A) where
+    (makes : M → I → MessageService R A Seat Reply Exchange Content → F → Type 0) (connects : M) (io : I)
+    (site : A) where
   pub made_for : (result : Option F) (service : MessageService R A Seat Reply Exchange Content)
       → site_of service.slot ≡ site → IfSome result (makes connects io service)
       → IfSome result (IsConnectionFor makes connects io site)

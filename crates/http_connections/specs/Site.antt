@@ -16,8 +16,8 @@ module _ {A Seat Reply Exchange Content : Type 0} where
   site_in pool = arc_value (arc_value pool).site
 
   -- a connection was made so over this reader and writer, and its requests are answered by a service of the site
-  abbrev pub IsConnectionFor : {M I F R : Type 0} → (M → I → MessageService R A Seat Reply Exchange Content → F → Type 0)
-      → M → I → A → F → Type 0
+  abbrev pub IsConnectionFor : {M I F R : Type 0}
+      → (M → I → MessageService R A Seat Reply Exchange Content → F → Type 0) → M → I → A → F → Type 0
   IsConnectionFor {R = R} makes connects io site made =
       (service : MessageService R A Seat Reply Exchange Content) × (site_of service.slot ≡ site)
       × makes connects io service made

@@ -103,7 +103,7 @@ where
         }
     }
 
-    // The connection of a socket, whose requests are answered by the seat of the place; `None` where there is no memory.
+    // The connection of a socket, whose requests are answered by the seat of the place; `None` where memory runs out.
     fn connection<F>(&self, socket: TcpStream, place: &Arc<SeatPlace<A::Seat>>) -> Option<F>
     where
         M: Connects<TcpStream, MessageService<R, A>, Connection = F>,

@@ -1,5 +1,5 @@
 // What the connections of a server are served by.
-ghost use Rattle.std.specs.Prelude.{◌≡◌, List, ℕ, Option, Result, IfErr, IfOk, ⊤};
+ghost use Rattle.std.specs.Prelude.{◌≡◌, List, ℕ, Option, Result, IfErr, IfOk};
 ghost use Rattle.http.specs.declared.request.Request.{Request as Message};
 ghost use Rattle.http.specs.declared.response.Response.{Response as Answer};
 ghost use Rattle.http_connections.specs.Sent.{IsBegun};
@@ -30,22 +30,22 @@ pub trait Answers: Drop {
 
     /// It may give this answer to the message, by the call that ends with that: of a message that was forwarded, the
     /// seats are those of the second call.
-    ghost gives: { Self → Self.Seat → Self.Seat → Message (List ℕ) → Answer Self.Content → Type 0 } = { λ _ _ _ _ _. ⊤ };
+    ghost gives: { Self → Self.Seat → Self.Seat → Message (List ℕ) → Answer Self.Content → Type 0 };
 
     /// It may forward the message by this exchange.
-    ghost forwards: { Self → Self.Seat → Self.Seat → Message (List ℕ) → Self.Exchange → Type 0 } = { λ _ _ _ _ _. ⊤ };
+    ghost forwards: { Self → Self.Seat → Self.Seat → Message (List ℕ) → Self.Exchange → Type 0 };
 
     /// It may leave the seat so where there is no answer to the message.
-    ghost unanswered: { Self → Self.Seat → Self.Seat → Message (List ℕ) → Type 0 } = { λ _ _ _ _. ⊤ };
+    ghost unanswered: { Self → Self.Seat → Self.Seat → Message (List ℕ) → Type 0 };
 
     /// It may leave the seat so where there is no answer to a message that was forwarded.
-    ghost unfinished: { Self → Self.Seat → Self.Seat → Type 0 } = { λ _ _ _. ⊤ };
+    ghost unfinished: { Self → Self.Seat → Self.Seat → Type 0 };
 
     /// The seat may be split so.
-    ghost splits: { Self → Self.Seat → Self.Seat → Option Self.Seat → Type 0 } = { λ _ _ _ _. ⊤ };
+    ghost splits: { Self → Self.Seat → Self.Seat → Option Self.Seat → Type 0 };
 
     /// The seat may take over another one so.
-    ghost joins: { Self → Self.Seat → Self.Seat → Self.Seat → Result (Unit {0}) Self.Seat → Type 0 } = { λ _ _ _ _ _. ⊤ };
+    ghost joins: { Self → Self.Seat → Self.Seat → Self.Seat → Result (Unit {0}) Self.Seat → Type 0 };
 
     /// The answer to a request whose body has come, or the exchange that forwards it. An error is out of memory for the
     /// answer itself.

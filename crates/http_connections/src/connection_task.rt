@@ -9,8 +9,8 @@ use futures::{Future, ready};
 use std::alloc::AllocGlobal;
 use std::sync::{Arc, Wait};
 
-/// Serves a connection until it ends, and then releases the place of its seat. The connection is in a box, since an executor
-/// moves its tasks.
+/// Serves a connection until it ends, and then releases the place of its seat. The connection is in a box, since an
+/// executor moves its tasks.
 #[derive(Drop)]
 pub struct ConnectionTask<R, A: Answers, C> {
     rt: R,

@@ -22,7 +22,7 @@ returns-in-None-clause-same g c = rw c.yield_now-in-None.ensures.pending (λ tas
 
 pub returns-in-Err-clause-same : goal.returns-in-Err-clause-same
 returns-in-Err-clause-same g c = rw c.yield_now-in-Err.ensures.pending (λ tasks last wanted.
-    none_accepted (λ connects pool task. (socket : _) × IsConnectionFor g.M.Connects.makes connects socket (site_in pool)
-    task.connection.value) c.args.self.now.connects c.refused.new.self.connects c.args.self.now.pool
+    none_accepted (λ connects pool task. (socket : _) × IsConnectionFor g.M.Connects.makes connects socket
+    (site_in pool) task.connection.value) c.args.self.now.connects c.refused.new.self.connects c.args.self.now.pool
     c.refused.new.self.pool c.args.self.now.left c.refused.new.self.left tasks last c.refused.ensures.connects
     c.refused.ensures.pool c.refused.ensures.left wanted)
