@@ -1,6 +1,7 @@
 mod FinishLemmas
 mod HeaderLemmas
 mod MessageLemmas
+mod RenderingLemmas
 mod ResultLemmas
 mod ServeLemmas
 pub mod YieldLemmas

@@ -15,13 +15,13 @@ use Rattle.shared_book.specs.Refused.{IsServeRefused}
 use Rattle.shared_book.specs.declared.receipt.Receipt.{Receipt}
 use Rattle.stub_book.specs.Growth.{IsServed}
 use Rattle.stub_response.specs.ErrorReply.{unmatched_reply}
-use Rattle.stub_response.specs.Response.{IsResponse}
+use Rattle.stub_response.specs.Response.{IsRendering}
 use Rattle.stub_response.specs.declared.limits.Limits.{Limits}
 
 -- the reply to a request that the book answered so: the response of the version that was captured then. One that is to
 -- be forwarded has none without its target.
 abbrev pub IsServeReply : Limits → Request → ServeAnswer → Reply → Type 0
-IsServeReply limits request (Stub captured) reply = IsResponse limits captured.mapping.spec request reply
+IsServeReply limits request (Stub captured) reply = IsRendering limits captured.mapping.spec request reply
 IsServeReply limits request (Proxy target) reply = ⊥
 IsServeReply limits request Unmatched reply = reply ≡ unmatched_reply
 

@@ -2,7 +2,7 @@
 ghost use Rattle.std.specs.Prelude.{IfOk};
 ghost use Rattle.answering.specs.Inner.Sent.{HasReply};
 ghost use Rattle.stub_response.specs.Prepared.{IsPrepared};
-ghost use Rattle.stub_response.specs.Response.{IsResponse};
+ghost use Rattle.stub_response.specs.Response.{IsRendering};
 ghost use Rattle.stub_response.specs.declared.prepared.Prepared.TheVariants.{Headers};
 
 use crate::content::Content;
@@ -25,7 +25,7 @@ pub(crate) fn mapping_response(
     request: &Snapshot,
     limits: Limits,
 ) -> Result<Response<Content>, AllocError>
-    ensures { IfOk result (HasReply (IsResponse limits mapping.now request.now)) }
+    ensures { IfOk result (HasReply (IsRendering limits mapping.now request.now)) }
 {
     match mapping.prepared() {
         Prepared::Response(plain) => {
@@ -49,7 +49,7 @@ fn templated_response(
     request: &Snapshot,
     limits: Limits,
 ) -> Result<Response<Content>, AllocError>
-    ensures { IfOk result (HasReply (IsResponse limits mapping.now request.now)) }
+    ensures { IfOk result (HasReply (IsRendering limits mapping.now request.now)) }
 {
     let reply = respond(alloc, mapping, request, limits)?;
     response_of(alloc, reply)
@@ -65,7 +65,7 @@ fn templated_body_response(
     limits: Limits,
 ) -> Result<Response<Content>, AllocError>
     requires { IsPrepared mapping.now.response (Headers headers.now) }
-    ensures { IfOk result (HasReply (IsResponse limits mapping.now request.now)) }
+    ensures { IfOk result (HasReply (IsRendering limits mapping.now request.now)) }
 {
     let status = mapping.response.response().status.code();
     match respond_body(alloc, mapping, request, limits)? {

@@ -4,13 +4,12 @@ ghost use Rattle.command_output.specs.Output.{Followed};
 ghost use Rattle.mapping_answer.specs.Answering.{Answers, AnswersFiles, IsRefusal, IsReplyText};
 
 use crate::fresh::{answer_of, fresh_book, plain_request, reply_by};
+use crate::notes::notes_of;
 use crate::printed::reply_text;
 use command_output::error::CommandError;
 use command_output::files::{Documents, FileReader, read_documents};
 use command_output::output::{put, put_notes};
 use command_output::status::{FAILURE, SUCCESS};
-use mapping_diagnosis::notes::Notes;
-use mapping_json::read::read_mappings_with;
 use std::alloc::Global;
 use std::io::Write;
 use template_tree::escape::Escape;
@@ -82,7 +81,8 @@ pub fn answer_file<F: FileReader, O: Write, E: Write>(
     match read_documents(alloc, files, path) {
         Ok(documents) => {
             let status = answer_to(alloc, &documents, method, target, out, err, escape);
-            let notes = notes_of(alloc, &documents, status, escape);
+            let notes = notes_of(alloc, &documents, status != SUCCESS, escape);
+            put_notes(err, documents.passed_over.as_str());
             put_notes(err, notes.as_str());
             status
         }
@@ -91,23 +91,4 @@ pub fn answer_file<F: FileReader, O: Write, E: Write>(
             FAILURE
         }
     }
-}
-
-/// Where and why the first wrong document is wrong, and warnings, as far as there is memory. Only where the status says
-/// so has one an error.
-fn notes_of(alloc: Global, documents: &Documents, status: u8, escape: Escape) -> Notes {
-    let mut notes = Notes::of_files(alloc, documents.paths.len());
-    for (path, text) in documents.paths.iter().zip(documents.texts.iter()) {
-        let error = if status == SUCCESS {
-            None
-        } else {
-            read_mappings_with(alloc, text.as_slice(), escape).err()
-        };
-        let is_last = error.is_some();
-        let _ = notes.add_all(alloc, path.as_str(), text.as_slice(), error);
-        if is_last {
-            break;
-        }
-    }
-    notes
 }

@@ -3,7 +3,8 @@ ghost use Rattle.std.specs.Prelude.{◌≡◌, ◌⊎◌, ◌<◌, ◌≤◌, If
 ghost use Rattle.command_output.specs.Lines.{out_of_memory};
 ghost use Rattle.mapping_answer.specs.Answering.{HasBook, IsReplyBy, IsRequest, RefusesBook, RefusesDocument};
 ghost use Rattle.mapping_answer.specs.Answering.{RefusesUrl, SpellDocuments};
-ghost use Rattle.mapping_answer.specs.Inner.Fresh.{IsFresh, IsOwn};
+ghost use Rattle.mapping_answer.specs.Fresh.{IsFresh};
+ghost use Rattle.mapping_answer.specs.Inner.Own.{IsOwn};
 ghost use Rattle.request_journal.specs.Choice.{IsChoice};
 ghost use Rattle.request_journal.specs.Past.{opened};
 ghost use Rattle.stub_book.specs.Refusals.{IsFull};
@@ -22,8 +23,9 @@ use stub_response::respond::respond;
 use stub_response::unmatched_reply::unmatched_reply;
 use template_tree::escape::Escape;
 
-/// A book whose first event has the number 1.
-pub(crate) fn fresh_book(
+/// A book with the mappings of the documents, one document after another, whose templates' prints are escaped so. Its
+/// first event has the number 1.
+pub fn fresh_book(
     alloc: Global,
     documents: &Documents,
     escape: Escape,

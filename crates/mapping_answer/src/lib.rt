@@ -4,5 +4,6 @@
 #![tactic(auto)]
 
 pub mod answer;
-mod fresh;
+pub mod fresh;
+pub mod notes;
 mod printed;

@@ -2,14 +2,14 @@ use Rattle.std.proofs.Common.{ap, subst, ◌∙◌}
 use Rattle.answering.specs.Reply.{response_status}
 use Rattle.answering.proofs.HeaderLemmas.{headers_same}
 use Rattle.answering.proofs.mapping_response.mapping_response.Goals as goal
-use Rattle.stub_response.proofs.PreparedLemmas.{is_response}
+use Rattle.answering.proofs.RenderingLemmas.{is_rendering}
 use Rattle.stub_response.specs.Prepared.{IsPrepared}
 
 pub returns-in_ok-body-in-Response : goal.returns-in_ok-body-in-Response
 returns-in_ok-body-in-Response c =
     let plain = c.in-Response.plain in
     let prepared = subst (IsPrepared c.args.mapping.now.response) c.in-Response.is c.prepared.ensures in
-    let is = is_response c.args.limits c.args.mapping.now c.args.request.now plain prepared in (
+    let is = is_rendering c.args.limits c.args.mapping.now c.args.request.now plain prepared in (
       is.0,
       is.1,
       record {

@@ -5,16 +5,16 @@ use Rattle.answering.proofs.ResultLemmas.{of_right}
 use Rattle.answering.proofs.mapping_response.templated_body_response.Goals as goal
 use Rattle.error_code.specs.declared.error_code.ErrorCode.TheVariants.{OverBudget}
 use Rattle.mapping_model.specs.declared.response_spec.ResponseSpec.{ResponseSpec}
-use Rattle.stub_response.proofs.PreparedLemmas.{is_over, is_response_with}
+use Rattle.answering.proofs.RenderingLemmas.{is_over, is_rendering_with}
 use Rattle.stub_response.specs.ErrorReply.{error_reply}
-use Rattle.stub_response.specs.Response.{IsRenderedBody, IsResponse}
+use Rattle.stub_response.specs.Response.{IsRenderedBody, IsRendering}
 
 pub returns-in_ok-clone-in-Some : goal.returns-in_ok-clone-in-Some
 returns-in_ok-clone-in-Some c =
     let headers = c.args.headers.now in
     let made = subst (IsRenderedBody c.args.limits c.args.mapping.now c.args.request.now) c.in-Some.is
     c.in_ok-body.ensures in
-    let is = is_response_with c.args.limits c.args.mapping.now c.args.request.now headers c.in-Some.body
+    let is = is_rendering_with c.args.limits c.args.mapping.now c.args.request.now headers c.in-Some.body
     c.requires made in (
       is.0,
       is.1,
@@ -33,7 +33,7 @@ pub returns-in-None : goal.returns-in-None
 returns-in-None c =
     let made = subst (IsRenderedBody c.args.limits c.args.mapping.now c.args.request.now) c.in-None.is
     c.in_ok-body.ensures in
-    of_right (IsResponse c.args.limits c.args.mapping.now c.args.request.now) (error_reply 500 OverBudget)
+    of_right (IsRendering c.args.limits c.args.mapping.now c.args.request.now) (error_reply 500 OverBudget)
     c.error_response.result
     (is_over c.args.limits c.args.mapping.now c.args.request.now c.args.headers.now c.requires made)
     c.error_response.ensures
