@@ -87,21 +87,21 @@ module _ (rules : SiteRules) {E : Type 0} (reaches : List ℕ → Type 0) (sends
       (left.0, record { middle = middle; left = left.1; kept = kept })
 
   -- the exchange has given what came of it
-  pub given_later : (old new : Held) (message : Message (List ℕ)) (first then : Held) (exchange : SiteExchange E)
-      → IsForwardedBy rules reaches sends exchanged first then message exchange → (forward : Forward)
+  pub given_later : (old new : Held) (message : Message (List ℕ)) (first_old first_new : Held) (exchange : SiteExchange E)
+      → IsForwardedBy rules reaches sends exchanged first_old first_new message exchange → (forward : Forward)
       → (forwarded : Result Reply ProxyError) → exchange.forward ≡ Some forward → exchanged exchange.exchange forwarded
       → {Refusal : Type 0} (result : Result (Response (List ℕ)) Refusal)
       → IfOk result (IsFinished rules.origin old new forward forwarded)
       → IfOk result (IsGiven rules reaches sends exchanged old new message)
-  given_later old new message first then exchange by forward forwarded held came (Ok response) finished =
+  given_later old new message first_old first_new exchange by forward forwarded held came (Ok response) finished =
       let same = some_same by.forward forward (sym by.held ∙ held) in
       inr (inr (record {
         exchange = exchange;
-        first = first;
-        then = then;
+        first_old = first_old;
+        first_new = first_new;
         by = by;
         forwarded = forwarded;
         came = came;
         finished = subst (λ f. IsFinished rules.origin old new f forwarded response) (sym same) finished;
       }))
-  given_later old new message first then exchange by forward forwarded held came (Err error) finished = tt
+  given_later old new message first_old first_new exchange by forward forwarded held came (Err error) finished = tt

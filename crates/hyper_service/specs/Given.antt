@@ -16,11 +16,12 @@ use Rattle.proxy_client.specs.declared.error.ProxyError.{ProxyError}
 use Rattle.request_journal.specs.Past.{Past}
 use Rattle.request_journal.specs.declared.input.BookInput.TheVariants.{ClearJournal}
 use Rattle.shared_book.specs.Held.{Held}
+use Rattle.shared_book.specs.declared.receipt.Receipt.{Receipt}
 use Rattle.stub_response.specs.declared.limits.Limits.{Limits}
 use Rattle.template_tree.specs.declared.escape.Escape.{Escape}
 
 -- what the answers of a site depend on, beside its book: the past that this had when it was shared, and how many
--- requests the journal shows at most, where it is cleared then
+-- requests its journal shows at most, if there is a limit
 pub record SiteRules : Type 0 where
   pub origin : Past
   pub limits : Limits
@@ -37,10 +38,10 @@ rules_of origin answers =
       journal = answers.journal.limit;
     }
 
--- the seat is as before; or the journal was cleared at its limit, and the seat has gained the receipt of that
+-- the seat is as before; or, where its journal has a limit, it was cleared, and the seat has gained the receipt of that
 abbrev pub IsKept : Option ℕ → Past → Held → Held → Type 0
 IsKept limit origin old new =
-    (new ≡ old) ⊎ (IsSome limit × ((receipt : _) × Gains origin old new ClearJournal receipt))
+    (new ≡ old) ⊎ (IsSome limit × ((receipt : Receipt) × Gains origin old new ClearJournal receipt))
 
 -- the seat after an answer that there was no memory for
 abbrev pub IsUnfinished : Held → Held → Type 0
@@ -101,9 +102,9 @@ module _ (rules : SiteRules) where
     -- meanwhile, so before this it need not be as the first of both calls left it.
     pub record IsGivenLater (old new : Held) (message : Message (List ℕ)) (response : Response (List ℕ)) : Type 0 where
       pub exchange : SiteExchange E
-      pub first : Held
-      pub then : Held
-      pub by : IsForwardedBy first then message exchange
+      pub first_old : Held
+      pub first_new : Held
+      pub by : IsForwardedBy first_old first_new message exchange
       pub forwarded : Result Reply ProxyError
       pub came : exchanged exchange.exchange forwarded
       pub finished : IsFinished rules.origin old new by.forward forwarded response

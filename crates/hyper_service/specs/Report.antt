@@ -42,10 +42,10 @@ Reports out_holds err_holds (Err refused) why out out' err err' status =
     (status ≡ 1) × AppendsFront (err_holds err) (err_holds err') (refusal_line refused) × (out' ≡ out)
 
 -- the number of events in the one history of these seats; or why they have none
-abbrev pub AreSettled : Past → ℕ → List Held → Result ℕ SettleRefusal → Type 0
-AreSettled origin parts seats (Ok events) =
+abbrev pub IsSettling : Past → ℕ → List Held → Result ℕ SettleRefusal → Type 0
+IsSettling origin parts seats (Ok events) =
     (past : Past) × (settled : Settled) × IsSettled origin past (all_lists seats) settled × (settled.events ≡ events)
-AreSettled origin parts seats (Err reason) =
+IsSettling origin parts seats (Err reason) =
     (past : Past) × IsReached origin past × IsUnsettled origin parts past seats reason
 
 -- some seats were settled, and that is reported, and the end
@@ -53,7 +53,7 @@ pub record ReportsSettled {O E : Type 0} (out_holds : O → Option (List ℕ)) (
     (origin : Past) (parts : ℕ) (out out' : O) (err err' : E) (status : ℕ) : Type 0 where
   pub seats : List Held
   pub settled : Result ℕ SettleRefusal
-  pub are_settled : AreSettled origin parts seats settled
+  pub settling : IsSettling origin parts seats settled
   pub why : End
   pub reported : Reports out_holds err_holds settled why out out' err err' status
 

@@ -23,7 +23,9 @@ pub struct JournalLimit {
 
 impl JournalLimit {
     /// The limit of a journal that shows no request.
-    pub fn new(limit: Option<u64>) -> JournalLimit {
+    pub fn new(limit: Option<u64>) -> JournalLimit
+        ensures { result.limit ≡ limit }
+    {
         JournalLimit {
             limit,
             shown: Mutex::new(0),

@@ -1,6 +1,6 @@
 // The connections of a listener, until as many as are wanted were served.
 ghost use Rattle.std.specs.Prelude.{◌≤◌, IfOk, List};
-ghost use Rattle.hyper_service.specs.Report.{AreSettled, ReportsServed};
+ghost use Rattle.hyper_service.specs.Report.{IsSettling, ReportsServed};
 ghost use Rattle.shared_book.specs.Held.{Held};
 
 use crate::log::Log;
@@ -87,7 +87,7 @@ where
     C: Clock + Drop,
     F: Forwards,
     N: Log + Drop,
-    ensures { IfOk result (λ served. (seats : List Held) × AreSettled L.origin L.parts seats served.0) }
+    ensures { IfOk result (λ served. (seats : List Held) × IsSettling L.origin L.parts seats served.0) }
 {
     let book = answers.book()?;
     let turns = answers.turns();
@@ -103,7 +103,7 @@ fn events<L: Origin, R: Wait>(
     book: SharedBook<L>,
     seats: Vec<Seat<L>>,
 ) -> Result<u64, SettleRefusal>
-    ensures { AreSettled L.origin L.parts seats.items result }
+    ensures { IsSettling L.origin L.parts seats.items result }
 {
     match settle(rt, alloc, book, seats) {
         Ok(settled) => Ok(settled.events),
