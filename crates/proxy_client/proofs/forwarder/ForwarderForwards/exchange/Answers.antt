@@ -8,5 +8,5 @@ returns-clause-sends g c = IfOk-weaker c.exchange.result _ _
 
 pub returns-clause-reaches : goal.returns-clause-reaches
 returns-clause-reaches g c = IfOk-weaker c.exchange.result _ _
-    (λ exchange start. (c.address_of.result, c.address_of.ensures, c.is_own.ensures.elsewhere c.if-is_own.false))
+    (λ exchange start. (c.address_of-address.result, c.address_of-address.ensures, c.is_own.ensures.elsewhere c.if-is_own.false))
     c.exchange.ensures.start
