@@ -8,7 +8,7 @@ ghost use Rattle.command_output.specs.declared.files.FileError.TheVariants.{OutO
 use crate::error::CommandError;
 use crate::output::{put_all, put_notes};
 use error_code::error_code::ErrorCode;
-use std::alloc::Global;
+use std::alloc::{AllocError, Global};
 use std::fs::File;
 use std::io::{ErrorKind, Read, Write};
 use std::path::AsPath;
@@ -36,10 +36,11 @@ pub trait FileReader {
         ensures error { IfErr result (λ error. IfSome (content self.now path.now)
             (λ _. error_kind error ≡ ErrorKind.OutOfMemory)) };
 
-    /// The files that a path names: itself; or, of a folder, those in it whose names end in `.json`, in byte order.
-    fn files_at(&self, alloc: Global, path: &str) -> io::Result<Vec<String>>
+    /// The files that a path names: itself; or, of a folder, the regular files in it whose names end in `.json` and
+    /// don't begin with a dot, in byte order.
+    fn files_at(&self, alloc: Global, path: &str) -> io::Result<Listed>
         ensures all { IfOk result
-            (λ files. IfSome (listed self.now path.now) (λ all. map string_bytes files.items ≡ all)) }
+            (λ found. IfSome (listed self.now path.now) (λ all. map string_bytes found.files.items ≡ all)) }
         ensures error { IfErr result (λ error. IfSome (listed self.now path.now)
             (λ _. error_kind error ≡ ErrorKind.OutOfMemory)) };
 }
@@ -51,13 +52,30 @@ impl FileReader for HostRuntime {
         Ok(front)
     }
 
-    fn files_at(&self, alloc: Global, path: &str) -> io::Result<Vec<String>> {
+    fn files_at(&self, alloc: Global, path: &str) -> io::Result<Listed> {
         if is_folder(self, path) {
             return files_in(self, alloc, path);
         }
-        let mut files = Vec::new(alloc);
-        files.push(String::from_str(alloc, path)?)?;
-        Ok(files)
+        let mut found = Listed::new(alloc);
+        found.files.push(String::from_str(alloc, path)?)?;
+        Ok(found)
+    }
+}
+
+/// The files that a path names.
+#[derive(Debug, Drop)]
+pub struct Listed {
+    pub files: Vec<String>,
+    /// Lines that name what is passed over in a folder, and say why.
+    pub passed_over: String,
+}
+
+impl Listed {
+    fn new(alloc: Global) -> Listed {
+        Listed {
+            files: Vec::new(alloc),
+            passed_over: String::new(alloc),
+        }
     }
 }
 
@@ -69,16 +87,87 @@ fn is_folder(rt: &HostRuntime, path: &str) -> bool {
     }
 }
 
-fn files_in(rt: &HostRuntime, alloc: Global, folder: &str) -> io::Result<Vec<String>> {
+fn files_in(rt: &HostRuntime, alloc: Global, folder: &str) -> io::Result<Listed> {
     let mut files: Vec<String> = Vec::new(alloc);
+    let mut passed_over: Vec<String> = Vec::new(alloc);
     for entry in fs::read_dir(rt, folder)? {
-        let path = String::from_str(alloc, entry?.path().path_text())?;
-        if path.as_str().ends_with(".json") && !is_folder(rt, path.as_str()) {
-            files.push(path)?;
+        match entry {
+            Ok(entry) if is_of_mappings(entry.file_name()) => {
+                let path = String::from_str(alloc, entry.path().path_text())?;
+                match passed_over_for(rt, alloc, path.as_str())? {
+                    Some(line) => passed_over.push(line)?,
+                    None => files.push(path)?,
+                }
+            }
+            Ok(_entry) => {}
+            Err(error) if error.kind() == ErrorKind::InvalidFilename => {
+                passed_over.push(line_of_unreadable_name(alloc, folder)?)?;
+            }
+            Err(error) => return Err(error),
         }
     }
     files.sort()?;
-    Ok(files)
+    passed_over.sort()?;
+    Ok(Listed {
+        files,
+        passed_over: joined(alloc, passed_over.as_slice())?,
+    })
+}
+
+// A name that begins with a dot is hidden, as an editor's copy is.
+fn is_of_mappings(name: &str) -> bool {
+    name.ends_with(".json") && !name.starts_with('.')
+}
+
+// The line on what can't be read as a file, if it can't: it is no regular file, or a link to nothing.
+fn passed_over_for(
+    rt: &HostRuntime,
+    alloc: Global,
+    path: &str,
+) -> Result<Option<String>, AllocError> {
+    match fs::metadata(rt, path) {
+        Ok(metadata) if metadata.is_file() => Ok(None),
+        Ok(_metadata) => Ok(Some(line_on(alloc, path, "it is no regular file")?)),
+        Err(error) => {
+            let reason = error.to_string(alloc)?;
+            Ok(Some(line_on(alloc, path, reason.as_str())?))
+        }
+    }
+}
+
+fn line_of_unreadable_name(alloc: Global, folder: &str) -> Result<String, AllocError> {
+    joined_texts(
+        alloc,
+        [
+            "warning: in ",
+            folder,
+            " a file is passed over: its name isn't UTF-8\n",
+        ]
+        .as_slice(),
+    )
+}
+
+fn line_on(alloc: Global, path: &str, why: &str) -> Result<String, AllocError> {
+    joined_texts(
+        alloc,
+        ["warning: ", path, " is passed over: ", why, "\n"].as_slice(),
+    )
+}
+
+fn joined_texts(alloc: Global, texts: &[&str]) -> Result<String, AllocError> {
+    let mut all = String::new(alloc);
+    for text in texts {
+        all.push_str(*text)?;
+    }
+    Ok(all)
+}
+
+fn joined(alloc: Global, lines: &[String]) -> Result<String, AllocError> {
+    let mut all = String::new(alloc);
+    for line in lines {
+        all.push_str(line.as_str())?;
+    }
+    Ok(all)
 }
 
 /// Why no file is read.
@@ -148,6 +237,8 @@ pub struct Documents {
     pub paths: Vec<String>,
     /// The bytes of each.
     pub texts: Vec<Vec<u8>>,
+    /// Lines that name what was passed over in a folder, and say why.
+    pub passed_over: String,
 }
 
 /// Why documents aren't read, and at which file of a folder.
@@ -199,18 +290,18 @@ pub fn read_documents<F: FileReader>(
         (λ unread. IsDocumentsError (F.listed files.now path.now) (F.content files.now) unread.error) }
 {
     match list_files(alloc, files, path) {
-        Ok(paths) => read_listed(alloc, files, path, paths),
+        Ok(found) => read_listed(alloc, files, path, found),
         Err(error) => Err(Unread { error, file: None }),
     }
 }
 
-fn list_files<F: FileReader>(alloc: Global, files: &F, path: &str) -> Result<Vec<String>, FileError>
+fn list_files<F: FileReader>(alloc: Global, files: &F, path: &str) -> Result<Listed, FileError>
     ensures ok { IfOk result
-        (λ paths. IfSome (F.listed files.now path.now) (λ all. map string_bytes paths.items ≡ all)) }
+        (λ found. IfSome (F.listed files.now path.now) (λ all. map string_bytes found.files.items ≡ all)) }
     ensures err { IfErr result (IsDocumentsError (F.listed files.now path.now) (F.content files.now)) }
 {
     match files.files_at(alloc, path) {
-        Ok(paths) => Ok(paths),
+        Ok(found) => Ok(found),
         Err(error) => Err(match error.kind() {
             ErrorKind::OutOfMemory => FileError::OutOfMemory,
             _ => FileError::CannotRead(error),
@@ -222,16 +313,24 @@ fn read_listed<F: FileReader>(
     alloc: Global,
     files: &F,
     path: &str,
-    paths: Vec<String>,
+    found: Listed,
 ) -> Result<Documents, Unread>
-    requires { IfSome (F.listed files.now path.now) (λ all. map string_bytes paths.items ≡ all) }
+    requires { IfSome (F.listed files.now path.now) (λ all. map string_bytes found.files.items ≡ all) }
     ensures ok { IfOk result (λ found. AreDocuments (F.listed files.now path.now) (F.content files.now)
         (map (λ text. text.items) found.texts.items)) }
     ensures err { IfErr result
         (λ unread. IsDocumentsError (F.listed files.now path.now) (F.content files.now) unread.error) }
 {
+    let Listed {
+        files: paths,
+        passed_over,
+    } = found;
     match read_each(alloc, files, paths.as_slice()) {
-        Ok(texts) => Ok(Documents { paths, texts }),
+        Ok(texts) => Ok(Documents {
+            paths,
+            texts,
+            passed_over,
+        }),
         Err((error, file)) => Err(Unread {
             error,
             file: if file.as_str() == path {

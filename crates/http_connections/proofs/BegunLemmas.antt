@@ -1,11 +1,14 @@
 -- What is sent of what a request has become.
-use Rattle.std.proofs.Common.{ℕ, List, Result, Ok, Err, IfOk, sym, subst}
+use Rattle.std.proofs.Common.{ℕ, List, Result, Ok, Err, IfOk, inl, sym, subst}
+use Rattle.http.specs.declared.request.Parts.{Parts}
 use Rattle.http.specs.declared.request.Request.{Request}
 use Rattle.http.specs.declared.response.Response.{Response}
-use Rattle.http_connections.specs.Inner.Begun.{IsSentOf}
+use Rattle.http_connections.specs.Content.{IsContentOf}
+use Rattle.http_connections.specs.Inner.Begun.{IsBegunWith, IsSentOf}
 use Rattle.http_connections.specs.Sent.{IsBegun, IsSentFor}
 use Rattle.http_connections.specs.declared.begun.Begun.{Begun}
 use Rattle.http_connections.specs.declared.begun.Begun.TheVariants.{Answered, Forwarding}
+use Rattle.http_connections.specs.declared.content_error.ContentError.{ContentError}
 
 module _ {E C : Type 0} (IsEmpty : C → Type 0) (gives : Request (List ℕ) → Response C → Type 0)
     (forwards : Request (List ℕ) → E → Type 0) (can_poll : E → Type 0) (message : Request (List ℕ)) where
@@ -28,3 +31,14 @@ module _ {E C : Type 0} (IsEmpty : C → Type 0) (gives : Request (List ℕ) →
       → IfOk result (IsBegun (IsSentFor IsEmpty gives) forwards can_poll message)
   sent_anew begun given (Ok made) sent = sent_begun begun made given sent
   sent_anew begun given (Err refusal) sent = tt
+
+module _ {E C : Type 0} (IsEmpty : C → Type 0) (gives : Request (List ℕ) → Response C → Type 0)
+    (forwards : Request (List ℕ) → E → Type 0) (can_poll : E → Type 0) (head : Parts)
+    (gathered : Result (List ℕ) ContentError) (content : List ℕ) (is : IsContentOf gathered content) where
+  -- a request was begun with the content that was gathered
+  pub begun_with : {Refusal : Type 0} (result : Result (Begun E C) Refusal)
+      → IfOk result (IsBegun (IsSentFor IsEmpty gives) forwards can_poll (record { head = head; body = content }))
+      → IfOk result (IsBegunWith IsEmpty gives forwards can_poll head gathered)
+  begun_with (Ok (Answered made)) given = inl (content, is, given)
+  begun_with (Ok (Forwarding exchange)) given = ((content, is, given.0), given.1)
+  begun_with (Err refusal) given = tt

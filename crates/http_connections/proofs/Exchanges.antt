@@ -68,10 +68,20 @@ module _ {Refusal C : Type 0} (IsEmpty : C → Type 0) (gives : Request (List �
       given_at_once (Ready result) given = given_with result given
       given_at_once Pending given = tt
 
-      pub given_later : (polled : Poll (Result (Response C) Refusal)) (new : E)
+      pub given_later : (polled : Poll (Result (Response C) Refusal)) (MayGive : Result (Response C) Refusal → Type 0)
+          → OnPending polled ((result : Result (Response C) Refusal) → MayGive result → IsGivenBy exchange result)
           → OnPending polled ((result : Result (Response C) Refusal)
-          → IsGivenBy new result → IsGivenBy exchange result)
-          → OnPending polled ((result : Result (Response C) Refusal)
-          → IsGivenBy new result → IsGivenWith head comes result)
-      given_later (Ready result) new same = tt
-      given_later Pending new same = λ result given. given_with result (same result given)
+          → MayGive result → IsGivenWith head comes result)
+      given_later (Ready result) MayGive same = tt
+      given_later Pending MayGive same = λ result given. given_with result (same result given)
+
+module _ {Refusal C A : Type 0} (IsEmpty : C → Type 0) (gives : A → Request (List ℕ) → Response C → Type 0)
+    (site site' : A) where
+  -- the same, where it is given by the same site
+  pub given_by_site : site' ≡ site → (head head' : Parts) (comes comes' : Result (List ℕ) ContentError → Type 0)
+      → head' ≡ head → ((gathered : Result (List ℕ) ContentError) → comes' gathered → comes gathered)
+      → (result : Result (Response C) Refusal) → IsGivenWith IsEmpty (gives site') head' comes' result
+      → IsGivenWith IsEmpty (gives site) head comes result
+  given_by_site same_site head head' comes comes' same more result given =
+      given_within IsEmpty (gives site) head head' comes comes' same more result
+      (subst (λ s. IsGivenWith IsEmpty (gives s) head' comes' result) same_site given)

@@ -1,3 +1,5 @@
+mod Accepted
 mod BegunLemmas
 mod ContentLemmas
 mod Exchanges
+mod SeatLemmas

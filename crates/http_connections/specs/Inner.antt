@@ -1,3 +1,5 @@
 -- Words of private clauses.
+pub mod Accepted
 pub mod Begun
 pub mod Pushed
+pub mod Seat

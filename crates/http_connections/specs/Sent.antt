@@ -24,3 +24,14 @@ abbrev pub IsExchangeFor : {E Reply : Type 0} → (Request (List ℕ) → E → 
     → Request (List ℕ) → E → Type 0
 IsExchangeFor {E} {Reply} forwards gives message exchange =
     (begun : E) × forwards message begun × ((reply : Reply) → gives exchange reply → gives begun reply)
+
+module _ {A Seat : Type 0} where
+  -- the answer may be given to the message, by some seat of the site
+  abbrev pub IsGivenBy : {C : Type 0} → (A → Seat → Seat → Request (List ℕ) → Response C → Type 0) → A
+      → Request (List ℕ) → Response C → Type 0
+  IsGivenBy gives site message answer = (old : Seat) × (new : Seat) × gives site old new message answer
+
+  -- the message may be forwarded by the exchange, by some seat of the site
+  abbrev pub IsForwardedBy : {E : Type 0} → (A → Seat → Seat → Request (List ℕ) → E → Type 0) → A
+      → Request (List ℕ) → E → Type 0
+  IsForwardedBy forwards site message exchange = (old : Seat) × (new : Seat) × forwards site old new message exchange

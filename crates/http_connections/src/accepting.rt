@@ -1,34 +1,36 @@
 // The connections that a listener accepts, each a task.
-ghost use Rattle.std.specs.Prelude.{◌≡◌, IfSome};
+ghost use Rattle.std.specs.Prelude.{◌≡◌, ◌⊎◌, ◌↔◌, ◌-◌, ◌<◌, IfSome, IsTrue, option_map, true};
+ghost use Rattle.std.specs.IoError.{raw_os_error};
+ghost use Rattle.http_connections.specs.Inner.Accepted.{AreWanted, IsOfListener};
+ghost use Rattle.http_connections.specs.Site.{IsConnectionFor, site_in};
 
 use crate::answers::Answers;
 use crate::connection_task::ConnectionTask;
 use crate::connects::{Connects, connection};
 use crate::pause::Pause;
-use crate::seat_pool::{Assignment, SeatPool};
-use crate::seat_slot::SeatSlot;
+use crate::seat_place::SeatPlace;
+use crate::seat_pool::SeatPool;
+use crate::seats::Assignment;
 use crate::service::MessageService;
 use crate::settings::Settings;
 use futures::task::{Context, Poll};
 use futures::{Future, Stream, ready};
 use std::alloc::AllocGlobal;
 use std::io;
-use std::io::ErrorKind;
 use std::sync::{Arc, Wait};
 use std::time::Clock;
 use tokio::net::{TcpListener, TcpStream};
 
-/// The numbers of Linux for errors that have no kind of their own: too many open files in the system and in the
-/// process, a protocol error, no buffer space.
-const ENFILE: i32 = 23;
+/// The numbers of Linux for what is wrong with a listener itself (accept(2)).
+const EBADF: i32 = 9;
 
-const EMFILE: i32 = 24;
+const EFAULT: i32 = 14;
 
-const EPROTO: i32 = 71;
+const EINVAL: i32 = 22;
 
-const ENOBUFS: i32 = 105;
+const ENOTSOCK: i32 = 88;
 
-/// Makes a task of each connection, as many as are wanted, with a slot of the pool.
+/// Makes a task of each connection, as many as are wanted, with a place of the pool.
 #[derive(Drop)]
 pub(crate) struct Accepting<R, A: Answers, M> {
     rt: R,
@@ -53,7 +55,9 @@ where
         pause: Pause<R>,
         connects: M,
     ) -> Accepting<R, A, M>
-        ensures { result.connects ≡ connects }
+        ensures connects { result.connects ≡ connects }
+        ensures pool { result.pool ≡ pool }
+        ensures left { result.left ≡ settings.connections }
     {
         Accepting {
             rt,
@@ -66,15 +70,17 @@ where
         }
     }
 
-    fn wants_more(&self) -> bool {
+    fn wants_more(&self) -> bool
+        ensures { IsTrue result → IfSome self.now.left (λ left. 0 < left) }
+    {
         self.left != Some(0) && self.pool.is_open(&self.rt)
     }
 
-    // A slot with a seat, if the connection can be served.
-    fn slot(&self) -> Option<Arc<SeatSlot<A>>> {
+    // A place with a seat, if the connection can be served.
+    fn place(&self) -> Option<Arc<SeatPlace<A::Seat>>> {
         match self.pool.assign(&self.rt, self.rt.alloc()) {
-            Assignment::Slot(slot) => Some(slot),
-            Assignment::NoSlot => None,
+            Assignment::Place(place) => Some(place),
+            Assignment::NoPlace => None,
             Assignment::NoSeat => {
                 self.pool.close(&self.rt);
                 None
@@ -82,26 +88,31 @@ where
         }
     }
 
-    // What was wrong for a moment, or with one connection, ends nothing.
+    // Where the listener itself is wrong, no more are accepted. Any other error is waited out: it is of one connection,
+    // or of the moment.
     fn refused(&mut self, error: &io::Error)
-        ensures { self.new.connects ≡ self.old.connects }
+        ensures waits { IsOfListener (raw_os_error error.now) ⊎ (self.new.pause.has_begun ≡ true) }
+        ensures connects { self.new.connects ≡ self.old.connects }
+        ensures pool { self.new.pool ≡ self.old.pool }
+        ensures left { self.new.left ≡ self.old.left }
     {
-        if is_passing(error) {
-            self.pause.begin();
-        } else {
+        if is_of_listener(error) {
             self.pool.close(&self.rt);
+        } else {
+            self.pause.begin();
         }
     }
 
-    // The connection of a socket, whose requests are answered by the seat of the slot; `None` where there is no memory.
-    fn connection<F>(&self, socket: TcpStream, slot: &Arc<SeatSlot<A>>) -> Option<F>
+    // The connection of a socket, whose requests are answered by the seat of the place; `None` where memory runs out.
+    fn connection<F>(&self, socket: TcpStream, place: &Arc<SeatPlace<A::Seat>>) -> Option<F>
     where
         M: Connects<TcpStream, MessageService<R, A>, Connection = F>,
         requires { (service : _) → M.can_connect self.now.connects service }
-        ensures { IfSome result (M.makes self.now.connects socket) }
+        ensures { IfSome result (IsConnectionFor M.makes self.now.connects socket (site_in self.now.pool)) }
     {
         // Answers are written whole, so there is nothing to wait for.
         let _ = socket.set_nodelay(true);
+        let slot = self.pool.slot(self.rt.alloc(), place).ok()?;
         connection(self.rt, &self.connects, self.pause.timers(), slot, socket)
     }
 
@@ -110,19 +121,21 @@ where
     where
         M: Connects<TcpStream, MessageService<R, A>, Connection = F>,
         F: Future<Output = hyper::Result<()>>,
-        requires can_connect { (service : _) → M.can_connect self.old.connects service }
-        requires makes { (io : _) (made : F) → M.makes self.old.connects io made → F.can_poll made }
-        ensures can_poll { IfSome result (λ task. F.can_poll task.connection.value) }
-        ensures same { self.new.connects ≡ self.old.connects }
+        requires { (service : _) → M.can_connect self.old.connects service }
+        ensures made { IfSome result (λ task. IsConnectionFor M.makes self.old.connects socket
+            (site_in self.old.pool) task.connection.value) }
+        ensures connects { self.new.connects ≡ self.old.connects }
+        ensures pool { self.new.pool ≡ self.old.pool }
+        ensures left { self.new.left ≡ option_map (λ left. left - 1) self.old.left }
     {
         self.left = self.left.map(|left| left.saturating_sub(1));
         let pool = Arc::try_clone(&self.pool).ok()?;
-        let slot = self.slot()?;
-        let Some(connection) = self.connection(socket, &slot) else {
-            pool.release(&self.rt, slot);
+        let place = self.place()?;
+        let Some(connection) = self.connection(socket, &place) else {
+            pool.release(&self.rt, place);
             return None;
         };
-        ConnectionTask::new(self.rt, pool, slot, connection)
+        ConnectionTask::new(self.rt, pool, place, connection)
     }
 }
 
@@ -136,9 +149,12 @@ where
     type Item = ConnectionTask<R, A, F>;
 
     ghost can_poll = { λ accepting. ((service : _) → M.can_connect accepting.connects service)
-        × ((io : _) (made : F) → M.makes accepting.connects io made → F.can_poll made) };
+        × ((io : _) (service : _) (made : F) → M.makes accepting.connects io service made → F.can_poll made) };
 
-    ghost yields = { λ _ _ last. IfSome last (λ task. F.can_poll task.connection.value) };
+    // Each task is of a connection over some socket, whose requests the site of the pool answers; and there are no more
+    // of them than are wanted.
+    ghost yields = { λ accepting. AreWanted (λ task. (socket : _) × IsConnectionFor M.makes accepting.connects socket
+        (site_in accepting.pool) task.connection.value) accepting.left };
 
     fn poll_next(&mut self, cx: &mut Context<'_>) -> Poll<Option<ConnectionTask<R, A, F>>> {
         if !self.wants_more() {
@@ -167,15 +183,12 @@ where
     }
 }
 
-// Whether the process or the system has no descriptor or memory at the moment, or the peer has gone.
-fn is_passing(error: &io::Error) -> bool {
-    let by_kind = matches!(
-        error.kind(),
-        ErrorKind::OutOfMemory | ErrorKind::Interrupted | ErrorKind::ConnectionAborted
-    );
-    by_kind
-        || matches!(
-            error.raw_os_error(),
-            Some(ENFILE | EMFILE | EPROTO | ENOBUFS)
-        )
+// Whether it is of the listener itself.
+fn is_of_listener(error: &io::Error) -> bool
+    ensures { IsTrue result ↔ IsOfListener (raw_os_error error.now) }
+{
+    matches!(
+        error.raw_os_error(),
+        Some(EBADF | EFAULT | EINVAL | ENOTSOCK)
+    )
 }

@@ -1,21 +1,21 @@
 // A connection as a task.
-ghost use Rattle.std.specs.Prelude.{IfSome};
+ghost use Rattle.std.specs.Prelude.{◌≡◌, IfSome};
 
 use crate::answers::Answers;
+use crate::seat_place::SeatPlace;
 use crate::seat_pool::SeatPool;
-use crate::seat_slot::SeatSlot;
 use futures::task::{Context, Poll};
 use futures::{Future, ready};
 use std::alloc::AllocGlobal;
 use std::sync::{Arc, Wait};
 
-/// Serves a connection until it ends, and then releases its slot. The connection is in a box, since an executor
-/// moves its tasks.
+/// Serves a connection until it ends, and then releases the place of its seat. The connection is in a box, since an
+/// executor moves its tasks.
 #[derive(Drop)]
 pub struct ConnectionTask<R, A: Answers, C> {
     rt: R,
     pool: Arc<SeatPool<A>>,
-    slot: Option<Arc<SeatSlot<A>>>,
+    place: Option<Arc<SeatPlace<A::Seat>>>,
     connection: Box<C>,
 }
 
@@ -25,24 +25,23 @@ where
     A: Answers,
     C: Future,
 {
-    /// The task of a connection. Where there is no memory for it the slot is released.
+    /// The task of a connection. Where there is no memory for it the place is released.
     pub fn new(
         rt: R,
         pool: Arc<SeatPool<A>>,
-        slot: Arc<SeatSlot<A>>,
+        place: Arc<SeatPlace<A::Seat>>,
         connection: C,
     ) -> Option<ConnectionTask<R, A, C>>
-        requires { C.can_poll connection }
-        ensures { IfSome result (λ task. C.can_poll task.connection.value) }
+        ensures { IfSome result (λ task. task.connection.value ≡ connection) }
     {
         let Ok(connection) = Box::new(rt.alloc(), connection) else {
-            pool.release(&rt, slot);
+            pool.release(&rt, place);
             return None;
         };
         Some(ConnectionTask {
             rt,
             pool,
-            slot: Some(slot),
+            place: Some(place),
             connection,
         })
     }
@@ -58,11 +57,14 @@ where
 
     ghost can_poll = { λ f. C.can_poll f.connection.value };
 
+    // The connection has ended so.
+    ghost gives = { λ f _. (ended : _) × C.gives f.connection.value ended };
+
     fn poll(&mut self, cx: &mut Context<'_>) -> Poll<()> {
         // How it ended concerns its peer alone.
         let _ended = ready!(self.connection.poll(cx));
-        if let Some(slot) = self.slot.take() {
-            self.pool.release(&self.rt, slot);
+        if let Some(place) = self.place.take() {
+            self.pool.release(&self.rt, place);
         }
         Poll::Ready(())
     }

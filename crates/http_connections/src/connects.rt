@@ -1,5 +1,6 @@
 // What makes a connection of a reader and writer.
 ghost use Rattle.std.specs.Prelude.{◌≡◌, IfOk, IfSome, ⊤};
+ghost use Rattle.http_connections.specs.Site.{IsConnectionFor, site_of};
 ghost use Rattle.http_connections.specs.Turns.{IsOver};
 ghost use Rattle.hyper.specs.ServerDispatch.{Runs};
 
@@ -38,13 +39,13 @@ pub(crate) trait Connects<I, S>: Drop {
     /// It may be served by this service.
     ghost can_connect: { Self → S → Type 0 } = { λ _ _. ⊤ };
 
-    /// It may make this connection over this reader and writer.
-    ghost makes: { Self → I → Self.Connection → Type 0 } = { λ _ _ _. ⊤ };
+    /// It may make this connection over this reader and writer, with this service.
+    ghost makes: { Self → I → S → Self.Connection → Type 0 } = { λ _ _ _ _. ⊤ };
 
     /// `begun` is whether something of the next request has come. `None` where there is no memory for a connection.
     fn connect(&self, io: I, begun: Rc<Cell<bool>>, service: S) -> Option<Self::Connection>
         requires { can_connect self.now service }
-        ensures { IfSome result (makes self.now io) };
+        ensures { IfSome result (makes self.now io service) };
 }
 
 /// The settings of connections, what tells the time for their heads, and how many turns each has.
@@ -69,9 +70,10 @@ where
 
     ghost can_connect = { λ _ service. S.can_call service × ((content : B) → B.can_poll content) };
 
-    ghost makes = { λ connecting io made.
+    ghost makes = { λ connecting io service made.
         Runs ⟦<Watched<I> as AsyncRead>⟧ ⟦<Watched<I> as AsyncWrite>⟧ S.Service S.Future.Future
-        B.Body B.Data.Into made.conn × IsOver connecting.turns io made.conn.link.io };
+        B.Body B.Data.Into made.conn × IsOver connecting.turns io made.conn.link.io
+        × (made.conn.service ≡ service) };
 
     fn connect(
         &self,
@@ -123,7 +125,7 @@ pub(crate) fn connection<R, A, I, M, F>(
     rt: R,
     connects: &M,
     timers: &Handle,
-    slot: &Arc<SeatSlot<A>>,
+    slot: Arc<SeatSlot<A>>,
     io: I,
 ) -> Option<F>
 where
@@ -132,14 +134,9 @@ where
     I: Drop,
     M: Connects<I, MessageService<R, A>, Connection = F>,
     requires { (service : _) → M.can_connect connects.now service }
-    ensures { IfSome result (M.makes connects.now io) }
+    ensures { IfSome result (IsConnectionFor M.makes connects.now io (site_of slot)) }
 {
     let begun = Rc::new(rt.alloc(), Cell::new(false)).ok()?;
-    let service = MessageService::new(
-        rt,
-        Arc::try_clone(slot).ok()?,
-        timers.clone().ok()?,
-        begun.clone().ok()?,
-    );
+    let service = MessageService::new(rt, slot, timers.clone().ok()?, begun.clone().ok()?);
     connects.connect(io, begun, service)
 }

@@ -1,7 +1,8 @@
 // Requests that are forwarded.
 ghost use Rattle.std.specs.Prelude.{◌≡◌, IfOk};
 ghost use Rattle.http_connections.specs.Content.{IsAnswerFor};
-ghost use Rattle.http_connections.specs.Sent.{IsExchangeFor};
+ghost use Rattle.http_connections.specs.Sent.{IsExchangeFor, IsForwardedBy, IsGivenBy};
+ghost use Rattle.http_connections.specs.Site.{site_of};
 
 use crate::answers::Answers;
 use crate::refusal::out_of_memory;
@@ -24,7 +25,8 @@ pub struct Forwarding<R, A: Answers> {
 
 impl<R, A: Answers> Forwarding<R, A> {
     pub fn new(rt: R, slot: Arc<SeatSlot<A>>, exchange: Box<A::Exchange>) -> Forwarding<R, A>
-        ensures { result.exchange ≡ exchange }
+        ensures exchange { result.exchange ≡ exchange }
+        ensures site { result.slot ≡ slot }
     {
         Forwarding { rt, slot, exchange }
     }
@@ -40,8 +42,8 @@ where
     ghost can_poll = { λ f. A.Exchange.can_poll f.exchange.value };
 
     ghost gives = { λ f result. (message : _)
-        → IsExchangeFor A.forwards A.Exchange.gives message f.exchange.value
-        → IfOk result (IsAnswerFor A.Content.is_default A.gives message) };
+        → IsExchangeFor (IsForwardedBy A.forwards (site_of f.slot)) A.Exchange.gives message f.exchange.value
+        → IfOk result (IsAnswerFor A.Content.is_default (IsGivenBy A.gives (site_of f.slot)) message) };
 
     fn poll(&mut self, cx: &mut Context<'_>) -> Poll<Result<Response<A::Content>, ServiceError>> {
         let reply = ready!(self.exchange.poll(cx));

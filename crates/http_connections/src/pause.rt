@@ -1,4 +1,5 @@
 // A moment in which no connection is accepted.
+ghost use Rattle.std.specs.Prelude.{◌≡◌, true};
 ghost use Rattle.futures.specs.Poll.{OnPending};
 ghost use Rattle.futures.specs.Task.{IsArmed, Keeps};
 
@@ -36,7 +37,9 @@ impl<R: Clock + Drop> Pause<R> {
         &self.timers
     }
 
-    pub(crate) fn begin(&mut self) {
+    pub(crate) fn begin(&mut self)
+        ensures { self.new.has_begun ≡ true }
+    {
         if let Some(deadline) = self.deadline() {
             self.sleep.reset(deadline);
         }

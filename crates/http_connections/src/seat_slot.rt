@@ -1,43 +1,35 @@
-// Where a connection's seat lies, beside the site that it answers for.
-ghost use Rattle.std.specs.Prelude.{IfOk, IsTrue};
-ghost use Rattle.http_connections.specs.Sent.{IsBegun, IsSentFor};
+// A site, beside the place of a connection's seat.
+ghost use Rattle.std.specs.Prelude.{◌≡◌, IfErr, IfOk, IsTrue, None};
+ghost use Rattle.std.specs.Arc.{arc_value};
+ghost use Rattle.http_connections.specs.Sent.{IsBegun, IsForwardedBy, IsGivenBy, IsSentFor};
 ghost use Rattle.http_connections.specs.Inner.Begun.{IsSentOf};
+ghost use Rattle.http_connections.specs.Inner.Seat.{OnSeat};
 ghost use Rattle.http_messages.specs.Wire.{IsSent};
+ghost use Rattle.http_messages.specs.declared.error.ServiceError.TheVariants.{Broken, OutOfMemory as NoMemory};
 
 use crate::answers::Answers;
 use crate::begun::Begun;
+use crate::seat_place::SeatPlace;
 use bytes::Bytes;
 use http::{Request, Response};
 use http_messages::error::ServiceError;
 use http_messages::wire::{is_as_sent, sent};
 use std::alloc::{AllocError, Global};
-use std::sync::{Arc, Mutex, Wait};
+use std::sync::{Arc, Wait};
 
-/// A site, and the place of one connection's seat. The seat stays in it. It is locked in each call, and not
-/// between the two calls for a request that is forwarded.
+/// A site, and the place of the seat by which it answers the requests of one connection. The seat stays there. It is
+/// locked in each call, and not between the two calls for a request that is forwarded.
 #[derive(Drop)]
 pub struct SeatSlot<A: Answers> {
-    site: Arc<A>,
-    seat: Mutex<Option<A::Seat>>,
+    pub site: Arc<A>,
+    place: Arc<SeatPlace<A::Seat>>,
 }
 
 impl<A: Answers> SeatSlot<A> {
-    /// A slot without a seat.
-    pub fn new(site: Arc<A>) -> SeatSlot<A> {
-        SeatSlot {
-            site,
-            seat: Mutex::new(None),
-        }
-    }
-
-    /// Puts a seat into its place.
-    pub fn put<R: Wait>(&self, rt: &R, seat: A::Seat) {
-        *self.seat.lock(rt) = Some(seat);
-    }
-
-    /// Takes the seat out of its place.
-    pub fn take<R: Wait>(&self, rt: &R) -> Option<A::Seat> {
-        self.seat.lock(rt).take()
+    pub fn new(site: Arc<A>, place: Arc<SeatPlace<A::Seat>>) -> SeatSlot<A>
+        ensures { arc_value result.site ≡ arc_value site }
+    {
+        SeatSlot { site, place }
     }
 
     /// What is sent of the answer to a request, or the exchange that forwards it, by the seat.
@@ -48,7 +40,8 @@ impl<A: Answers> SeatSlot<A> {
         request: &Request<Bytes>,
     ) -> Result<Begun<A::Exchange, A::Content>, ServiceError>
         ensures { IfOk result
-            (IsBegun (IsSentFor A.Content.is_default A.gives) A.forwards A.Exchange.can_poll request.now) }
+            (IsBegun (IsSentFor A.Content.is_default (IsGivenBy A.gives (arc_value self.now.site)))
+            (IsForwardedBy A.forwards (arc_value self.now.site)) A.Exchange.can_poll request.now) }
     {
         let begun = self.begin_at_seat(rt, alloc, request);
         // Most answers are sent as they are, and aren't moved to see that.
@@ -65,8 +58,9 @@ impl<A: Answers> SeatSlot<A> {
         alloc: Global,
         reply: A::Reply,
     ) -> Result<Response<A::Content>, ServiceError>
-        ensures { (message : _) (exchange : _) → A.forwards message exchange
-            → A.Exchange.gives exchange reply → IfOk result (IsSentFor A.Content.is_default A.gives message) }
+        ensures { (message : _) (exchange : _) → IsForwardedBy A.forwards (arc_value self.now.site) message exchange
+            → A.Exchange.gives exchange reply
+            → IfOk result (IsSentFor A.Content.is_default (IsGivenBy A.gives (arc_value self.now.site)) message) }
     {
         let response = self.finish_at_seat(rt, alloc, reply)?;
         Ok(as_sent(alloc, response)?)
@@ -78,13 +72,11 @@ impl<A: Answers> SeatSlot<A> {
         alloc: Global,
         request: &Request<Bytes>,
     ) -> Result<Begun<A::Exchange, A::Content>, ServiceError>
-        ensures { IfOk result (IsBegun A.gives A.forwards A.Exchange.can_poll request.now) }
+        ensures { IfOk result (IsBegun (IsGivenBy A.gives (arc_value self.now.site))
+            (IsForwardedBy A.forwards (arc_value self.now.site)) A.Exchange.can_poll request.now) }
     {
-        let mut held = self.seat.lock(rt);
-        match &mut *held {
-            Some(seat) => self.site.begin(rt, alloc, seat, request),
-            None => Err(ServiceError::Broken),
-        }
+        let mut held = self.place.seat.lock(rt);
+        begin_by(rt, alloc, &*self.site, &mut *held, request)
     }
 
     fn finish_at_seat<R: Wait>(
@@ -93,14 +85,54 @@ impl<A: Answers> SeatSlot<A> {
         alloc: Global,
         reply: A::Reply,
     ) -> Result<Response<A::Content>, ServiceError>
-        ensures { (message : _) (exchange : _) → A.forwards message exchange
-            → A.Exchange.gives exchange reply → IfOk result (A.gives message) }
+        ensures { (message : _) (exchange : _) → IsForwardedBy A.forwards (arc_value self.now.site) message exchange
+            → A.Exchange.gives exchange reply → IfOk result (IsGivenBy A.gives (arc_value self.now.site) message) }
     {
-        let mut held = self.seat.lock(rt);
-        match &mut *held {
-            Some(seat) => self.site.finish(rt, alloc, seat, reply),
-            None => Err(ServiceError::Broken),
-        }
+        let mut held = self.place.seat.lock(rt);
+        finish_by(rt, alloc, &*self.site, &mut *held, reply)
+    }
+}
+
+// What the site says by the seat of a place; `Broken` where that has none.
+fn begin_by<R: Wait, A: Answers>(
+    rt: &R,
+    alloc: Global,
+    site: &A,
+    held: &mut Option<A::Seat>,
+    request: &Request<Bytes>,
+) -> Result<Begun<A::Exchange, A::Content>, ServiceError>
+    ensures ok { IfOk result (λ begun. OnSeat held.old held.new (λ old new. IsBegun (A.gives site.now old new)
+        (A.forwards site.now old new) A.Exchange.can_poll request.now begun)) }
+    ensures err { IfErr result (elim [
+      | NoMemory ↦ OnSeat held.old held.new (λ old new. A.unanswered site.now old new request.now)
+      | Broken ↦ (held.old ≡ None) × (held.new ≡ None)
+    ]) }
+{
+    match held {
+        Some(seat) => site.begin(rt, alloc, seat, request),
+        None => Err(ServiceError::Broken),
+    }
+}
+
+// What the site says to what came of forwarding a request, by the seat of a place; `Broken` where that has none.
+fn finish_by<R: Wait, A: Answers>(
+    rt: &R,
+    alloc: Global,
+    site: &A,
+    held: &mut Option<A::Seat>,
+    reply: A::Reply,
+) -> Result<Response<A::Content>, ServiceError>
+    ensures ok { (message : _) (old : _) (new : _) (exchange : _) → A.forwards site.now old new message exchange
+        → A.Exchange.gives exchange reply → IfOk result (λ made. OnSeat held.old held.new
+        (λ old new. A.gives site.now old new message made)) }
+    ensures err { IfErr result (elim [
+      | NoMemory ↦ OnSeat held.old held.new (A.unfinished site.now)
+      | Broken ↦ (held.old ≡ None) × (held.new ≡ None)
+    ]) }
+{
+    match held {
+        Some(seat) => site.finish(rt, alloc, seat, reply),
+        None => Err(ServiceError::Broken),
     }
 }
 

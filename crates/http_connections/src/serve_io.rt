@@ -1,8 +1,15 @@
 // One connection by itself.
+ghost use Rattle.std.specs.Prelude.{◌≡◌, IfOk, Ok};
+ghost use Rattle.std.specs.Arc.{arc_value};
+ghost use Rattle.http_connections.specs.Site.{IsConnectionFor, site_of};
+
 use crate::answers::Answers;
-use crate::connects::{Connecting, connection};
+use crate::connects::{Connecting, Connects, connection};
+use crate::seat_place::SeatPlace;
 use crate::seat_slot::SeatSlot;
+use crate::service::MessageService;
 use bytes::Bytes;
+use futures::Future;
 use http_body::Body;
 use http_messages::error::ServiceError;
 use std::alloc::{AllocError, AllocGlobal, Global};
@@ -13,6 +20,7 @@ use std::sync::{Arc, Wait};
 use std::time::Clock;
 use tokio::io::{AsyncRead, AsyncWrite};
 use tokio::runtime::LocalRuntime;
+use tokio::time::Handle;
 
 /// Serves one connection over a reader and writer until it ends, as `serve_all` does each of those that it accepts, and
 /// gives its seat back, however it ends. `turns` is how often the reader and writer are polled at most.
@@ -31,24 +39,32 @@ where
     I: AsyncRead + AsyncWrite,
     requires { (content : A.Content) → A.Content.can_poll content }
 {
-    let slot = match slot_of(rt.alloc(), site) {
-        Ok(slot) => slot,
-        Err(error) => return (Some(seat), Err(error.into())),
+    let place = match Arc::new(rt.alloc(), SeatPlace::new()) {
+        Ok(place) => place,
+        Err(_error) => return (Some(seat), Err(ServiceError::OutOfMemory)),
     };
-    slot.put(&rt, seat);
-    let served = serve_at(rt, runtime, &slot, turns, io);
-    (slot.take(&rt), served)
+    place.put(&rt, seat);
+    let served = serve_at(rt, runtime, site, &place, turns, io);
+    (place.take(&rt), served)
 }
 
-fn slot_of<A: Answers>(alloc: Global, site: &Arc<A>) -> Result<Arc<SeatSlot<A>>, AllocError> {
-    Ok(Arc::new(alloc, SeatSlot::new(Arc::try_clone(site)?))?)
+fn slot_of<A: Answers>(
+    alloc: Global,
+    site: &Arc<A>,
+    place: &Arc<SeatPlace<A::Seat>>,
+) -> Result<Arc<SeatSlot<A>>, AllocError>
+    ensures { IfOk result (λ slot. site_of slot ≡ arc_value site.now) }
+{
+    let site = Arc::try_clone(site)?;
+    Ok(Arc::new(alloc, SeatSlot::new(site, Arc::try_clone(place)?))?)
 }
 
-// Serves one connection by the seat of the slot.
+// Serves one connection by the seat of the place.
 fn serve_at<R, A, I>(
     rt: R,
     runtime: &mut LocalRuntime,
-    slot: &Arc<SeatSlot<A>>,
+    site: &Arc<A>,
+    place: &Arc<SeatPlace<A::Seat>>,
     turns: u64,
     io: I,
 ) -> Result<(), ServiceError>
@@ -64,7 +80,31 @@ where
         Ok(connects) => connects,
         Err(error) => return Err(refused(&error)),
     };
-    let Some(connection) = connection(rt, &connects, &timers, slot, io) else {
+    let slot = slot_of(rt.alloc(), site, place)?;
+    run(rt, runtime, &connects, &timers, slot, io)
+}
+
+// Runs a connection to its end, whose requests are answered by the seat of the slot.
+fn run<R, A, I, M, F>(
+    rt: R,
+    runtime: &mut LocalRuntime,
+    connects: &M,
+    timers: &Handle,
+    slot: Arc<SeatSlot<A>>,
+    io: I,
+) -> Result<(), ServiceError>
+where
+    R: Wait + Clock + RandomSource + AllocGlobal + Copy + Drop,
+    A: Answers,
+    I: Drop,
+    M: Connects<I, MessageService<R, A>, Connection = F>,
+    F: Future<Output = hyper::Result<()>>,
+    requires can_connect { (service : _) → M.can_connect connects.now service }
+    requires can_poll { (io : _) (service : _) (made : F) → M.makes connects.now io service made → F.can_poll made }
+    ensures { IfOk result (λ _. (made : F) × IsConnectionFor M.makes connects.now io (site_of slot) made
+        × F.gives made (Ok tt)) }
+{
+    let Some(connection) = connection(rt, connects, timers, slot, io) else {
         return Err(ServiceError::OutOfMemory);
     };
     match runtime.block_on(&rt, connection) {

@@ -1,4 +1,8 @@
 // The connections of a listener, each a task.
+ghost use Rattle.std.specs.Prelude.{◌≡◌, IfOk};
+ghost use Rattle.std.specs.Arc.{arc_value};
+ghost use Rattle.http_connections.specs.Site.{site_in};
+
 use crate::accepting::Accepting;
 use crate::answers::Answers;
 use crate::connects::Connecting;
@@ -68,7 +72,9 @@ fn served_by<R: Wait, A: Answers>(
     Ok(Served { seats, end })
 }
 
-fn pool_of<A: Answers>(alloc: Global, site: &Arc<A>) -> Result<Arc<SeatPool<A>>, AllocError> {
+fn pool_of<A: Answers>(alloc: Global, site: &Arc<A>) -> Result<Arc<SeatPool<A>>, AllocError>
+    ensures { IfOk result (λ pool. site_in pool ≡ arc_value site.now) }
+{
     Ok(Arc::new(alloc, SeatPool::new(alloc, Arc::try_clone(site)?))?)
 }
 

@@ -10,7 +10,8 @@ ghost use Rattle.http.specs.Request.{body_of, head_of};
 ghost use Rattle.http_connections.specs.Content.{HasOtherCoding, IsAnswerFor, IsAnswerTo, IsAnsweredAtOnce};
 ghost use Rattle.http_connections.specs.Content.{IsContentAtOnce, IsNewFor, IsTooLong};
 ghost use Rattle.http_connections.specs.Inner.Begun.{IsBegunWith};
-ghost use Rattle.http_connections.specs.Sent.{IsExchangeFor};
+ghost use Rattle.http_connections.specs.Sent.{IsExchangeFor, IsForwardedBy, IsGivenBy};
+ghost use Rattle.http_connections.specs.Site.{site_of};
 ghost use Rattle.mock_request.specs.declared.snapshot.TheConstants.{BODY_LIMIT};
 
 use crate::answers::Answers;
@@ -75,7 +76,9 @@ impl<R, A: Answers> MessageService<R, A> {
         slot: Arc<SeatSlot<A>>,
         timers: Handle,
         begun: Rc<Cell<bool>>,
-    ) -> MessageService<R, A> {
+    ) -> MessageService<R, A>
+        ensures { result.slot ≡ slot }
+    {
         MessageService {
             rt,
             slot,
@@ -97,12 +100,15 @@ where
 
     type Future = Answering<R, A, Gathering<R, Incoming<I>>>;
 
-    ghost calls = { λ _ request future. elim future [
-      | Made made ↦ IfSome made (λ result. IfOk result (IsAnsweredAtOnce A.Content.is_default A.gives request))
+    ghost calls = { λ service request future. elim future [
+      | Made made ↦ IfSome made (λ result. IfOk result (IsAnsweredAtOnce A.Content.is_default
+          (IsGivenBy A.gives (site_of service.slot)) request))
       | Waits waiting ↦ (head_of waiting.value.request ≡ head_of request)
           × IsNewFor waiting.value.content (body_of request) × ¬ (HasOtherCoding (head_of request).headers)
-      | Forwards forwarding ↦ (content : List ℕ) × IsContentAtOnce (body_of request) content
-          × A.forwards (record { head = head_of request; body = content }) forwarding.exchange.value
+          × (site_of waiting.value.slot ≡ site_of service.slot)
+      | Forwards forwarding ↦ ((content : List ℕ) × IsContentAtOnce (body_of request) content
+          × IsForwardedBy A.forwards (site_of service.slot) (record { head = head_of request; body = content })
+          forwarding.exchange.value) × (site_of forwarding.slot ≡ site_of service.slot)
     ] };
 
     // A request without content is answered at once, or forwarded.
@@ -128,12 +134,14 @@ where
     ) -> Answering<R, A, Gathering<R, Incoming<I>>>
         requires { IsContentAtOnce (body_of request) content }
         ensures called { elim result [
-          | Made made ↦ IfSome made (λ result. IfOk result
-              (IsAnsweredAtOnce A.Content.is_default A.gives request))
+          | Made made ↦ IfSome made (λ result. IfOk result (IsAnsweredAtOnce A.Content.is_default
+              (IsGivenBy A.gives (site_of self.now.slot)) request))
           | Waits waiting ↦ (head_of waiting.value.request ≡ head_of request)
               × IsNewFor waiting.value.content (body_of request) × ¬ (HasOtherCoding (head_of request).headers)
-          | Forwards forwarding ↦ (content : List ℕ) × IsContentAtOnce (body_of request) content
-              × A.forwards (record { head = head_of request; body = content }) forwarding.exchange.value
+              × (site_of waiting.value.slot ≡ site_of self.now.slot)
+          | Forwards forwarding ↦ ((content : List ℕ) × IsContentAtOnce (body_of request) content
+              × IsForwardedBy A.forwards (site_of self.now.slot) (record { head = head_of request; body = content })
+              forwarding.exchange.value) × (site_of forwarding.slot ≡ site_of self.now.slot)
         ] }
         ensures can_poll { elim result [
           | Made made ↦ IsSome made
@@ -156,7 +164,8 @@ where
     }
 
     fn forwarding(&self, exchange: Box<A::Exchange>) -> Result<Forwarding<R, A>, AllocError>
-        ensures { IfOk result (λ forwarding. forwarding.exchange ≡ exchange) }
+        ensures exchange { IfOk result (λ forwarding. forwarding.exchange ≡ exchange) }
+        ensures site { IfOk result (λ forwarding. site_of forwarding.slot ≡ site_of self.now.slot) }
     {
         Ok(Forwarding::new(self.rt, Arc::try_clone(&self.slot)?, exchange))
     }
@@ -170,12 +179,14 @@ where
         request: Request<Incoming<I>>,
     ) -> Answering<R, A, Gathering<R, Incoming<I>>>
         ensures called { elim result [
-          | Made made ↦ IfSome made (λ result. IfOk result
-              (IsAnsweredAtOnce A.Content.is_default A.gives request))
+          | Made made ↦ IfSome made (λ result. IfOk result (IsAnsweredAtOnce A.Content.is_default
+              (IsGivenBy A.gives (site_of self.now.slot)) request))
           | Waits waiting ↦ (head_of waiting.value.request ≡ head_of request)
               × IsNewFor waiting.value.content (body_of request) × ¬ (HasOtherCoding (head_of request).headers)
-          | Forwards forwarding ↦ (content : List ℕ) × IsContentAtOnce (body_of request) content
-              × A.forwards (record { head = head_of request; body = content }) forwarding.exchange.value
+              × (site_of waiting.value.slot ≡ site_of self.now.slot)
+          | Forwards forwarding ↦ ((content : List ℕ) × IsContentAtOnce (body_of request) content
+              × IsForwardedBy A.forwards (site_of self.now.slot) (record { head = head_of request; body = content })
+              forwarding.exchange.value) × (site_of forwarding.slot ≡ site_of self.now.slot)
         ] }
         ensures can_poll { elim result [
           | Made made ↦ IsSome made
@@ -202,12 +213,14 @@ where
     ) -> Answering<R, A, Gathering<R, Incoming<I>>>
         requires { IsTooLong (body_of request) }
         ensures called { elim result [
-          | Made made ↦ IfSome made (λ result. IfOk result
-              (IsAnsweredAtOnce A.Content.is_default A.gives request))
+          | Made made ↦ IfSome made (λ result. IfOk result (IsAnsweredAtOnce A.Content.is_default
+              (IsGivenBy A.gives (site_of self.now.slot)) request))
           | Waits waiting ↦ (head_of waiting.value.request ≡ head_of request)
               × IsNewFor waiting.value.content (body_of request) × ¬ (HasOtherCoding (head_of request).headers)
-          | Forwards forwarding ↦ (content : List ℕ) × IsContentAtOnce (body_of request) content
-              × A.forwards (record { head = head_of request; body = content }) forwarding.exchange.value
+              × (site_of waiting.value.slot ≡ site_of self.now.slot)
+          | Forwards forwarding ↦ ((content : List ℕ) × IsContentAtOnce (body_of request) content
+              × IsForwardedBy A.forwards (site_of self.now.slot) (record { head = head_of request; body = content })
+              forwarding.exchange.value) × (site_of forwarding.slot ≡ site_of self.now.slot)
         ] }
         ensures can_poll { elim result [
           | Made made ↦ IsSome made
@@ -228,6 +241,7 @@ where
     ) -> Result<Box<Waiting<R, A, Gathering<R, Incoming<I>>>>, AllocError>
         ensures head { IfOk result (λ waiting. head_of waiting.value.request ≡ head_of request) }
         ensures content { IfOk result (λ waiting. IsNewFor waiting.value.content (body_of request)) }
+        ensures site { IfOk result (λ waiting. site_of waiting.value.slot ≡ site_of self.now.slot) }
     {
         let alloc = self.rt.alloc();
         let (head, body) = request.into_parts();
@@ -260,10 +274,12 @@ where
       | Made made ↦ made ≡ Some result
       | Waits waiting ↦ IfOk result (λ made. (gathered : Result (List ℕ) GatherError)
           × G.gives waiting.value.content gathered
-          × IsAnswerTo A.Content.is_default A.gives (head_of waiting.value.request) gathered made)
+          × IsAnswerTo A.Content.is_default (IsGivenBy A.gives (site_of waiting.value.slot))
+          (head_of waiting.value.request) gathered made)
       | Forwards forwarding ↦ (message : _)
-          → IsExchangeFor A.forwards A.Exchange.gives message forwarding.exchange.value
-          → IfOk result (IsAnswerFor A.Content.is_default A.gives message)
+          → IsExchangeFor (IsForwardedBy A.forwards (site_of forwarding.slot)) A.Exchange.gives message
+          forwarding.exchange.value
+          → IfOk result (IsAnswerFor A.Content.is_default (IsGivenBy A.gives (site_of forwarding.slot)) message)
     ] };
 
     fn poll(&mut self, cx: &mut Context<'_>) -> Poll<Result<Response<A::Content>, ServiceError>> {
@@ -304,10 +320,12 @@ where
         requires { G.can_poll self.old.content }
         ensures value { IfReady result (λ result. IfOk result (λ begun. (gathered : Result (List ℕ) GatherError)
             × G.gives self.old.content gathered
-            × IsBegunWith A.Content.is_default A.gives A.forwards A.Exchange.can_poll
+            × IsBegunWith A.Content.is_default (IsGivenBy A.gives (site_of self.old.slot))
+            (IsForwardedBy A.forwards (site_of self.old.slot)) A.Exchange.can_poll
             (head_of self.old.request) gathered begun)) }
         ensures again { OnPending result (G.can_poll self.new.content) }
         ensures same { OnPending result (head_of self.new.request ≡ head_of self.old.request) }
+        ensures slot { self.new.slot ≡ self.old.slot }
         ensures rest { OnPending result ((gathered : Result (List ℕ) GatherError)
             → G.gives self.new.content gathered → G.gives self.old.content gathered) }
         ensures registered { OnPending result (IsArmed cx.new) }
@@ -321,8 +339,10 @@ where
         &mut self,
         gathered: Result<Bytes, ContentError>,
     ) -> Result<Begun<A::Exchange, A::Content>, ServiceError>
-        ensures { IfOk result (IsBegunWith A.Content.is_default A.gives A.forwards A.Exchange.can_poll
+        ensures begun { IfOk result (IsBegunWith A.Content.is_default (IsGivenBy A.gives (site_of self.old.slot))
+            (IsForwardedBy A.forwards (site_of self.old.slot)) A.Exchange.can_poll
             (head_of self.old.request) gathered) }
+        ensures slot { self.new.slot ≡ self.old.slot }
     {
         self.begun.set(false);
         let alloc = self.rt.alloc();
@@ -345,7 +365,8 @@ where
     }
 
     fn forwarding(&self, exchange: Box<A::Exchange>) -> Result<Forwarding<R, A>, AllocError>
-        ensures { IfOk result (λ forwarding. forwarding.exchange ≡ exchange) }
+        ensures exchange { IfOk result (λ forwarding. forwarding.exchange ≡ exchange) }
+        ensures site { IfOk result (λ forwarding. site_of forwarding.slot ≡ site_of self.now.slot) }
     {
         Ok(Forwarding::new(self.rt, Arc::try_clone(&self.slot)?, exchange))
     }

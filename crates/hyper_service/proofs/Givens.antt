@@ -1,63 +1,107 @@
--- What is given to a message that was forwarded.
-use Rattle.std.proofs.Common.{◌≡◌, ◌∙◌, ℕ, List, Some, Result, Ok, Err, IfOk, IsErr, inl, inr, sym, subst}
+-- What is given to a message, once the journal's limit is kept, and once an exchange has given what came of it.
+use Rattle.std.proofs.Common.{◌≡◌, ◌∙◌, ◌×◌, ℕ, List, Some, IsSome, Result, Ok, Err, IfErr, IfOk, IsErr, inl, inr, sym, subst}
+use Rattle.answering.specs.Answering.{Begins as SiteBegins, IsBegun, IsNotBegun}
 use Rattle.answering.specs.Forwarding.{IsFinished, IsToForward}
 use Rattle.answering.specs.declared.forward.Forward.{Forward}
 use Rattle.http.specs.declared.request.Request.{Request as Message}
 use Rattle.http.specs.declared.response.Response.{Response}
-use Rattle.hyper_service.specs.Given.{IsForwardedBy, IsGiven}
+use Rattle.http_connections.specs.Sent.{IsBegun as IsBegunBy}
+use Rattle.http_connections.specs.declared.begun.Begun.{Begun}
+use Rattle.http_connections.specs.declared.begun.Begun.TheVariants.{Answered, Forwarding}
+use Rattle.hyper_service.specs.Given.{IsForwardedBy, IsGiven, IsKept, IsLeft, IsUnanswered, IsUnfinished, SiteRules}
+use Rattle.hyper_service.specs.Inner.Begins.{Begins, IsForwardBegun}
 use Rattle.hyper_service.specs.declared.site_exchange.SiteExchange.{SiteExchange}
 use Rattle.mapping_model.specs.declared.reply.Reply.{Reply}
 use Rattle.mock_request.specs.Request.{Request}
 use Rattle.proxy_client.specs.declared.error.ProxyError.{ProxyError}
-use Rattle.request_journal.specs.Past.{Past}
 use Rattle.shared_book.specs.Held.{Held}
 
 some_same : {A : Type 0} (a b : A) → Some a ≡ Some b → a ≡ b
 some_same a b e = cc
 
-module _ {E : Type 0} (sends : List ℕ → Request → E → Type 0)
-    (exchanged : E → Result Reply ProxyError → Type 0)
-    (origin : Past) (message : Message (List ℕ)) (forward : Forward) (forwarded : Result Reply ProxyError)
-    (old_then new_then : Held) where
-  -- there was no exchange
-  pub given_without : (response : Response (List ℕ))
-      → IsFinished origin old_then new_then forward forwarded response → (old new : Held)
-      → IsToForward origin old new message forward → IsErr forwarded
-      → IsGiven sends exchanged origin message response
-  given_without response finished old new begun failed = inr (record {
-    forward = forward;
-    old = old;
-    new = new;
-    begun = begun;
-    forwarded = forwarded;
-    came = inr failed;
-    old_then = old_then;
-    new_then = new_then;
-    finished = finished;
-  })
+module _ (rules : SiteRules) {E : Type 0} (reaches : List ℕ → Type 0) (sends : List ℕ → Request → E → Type 0)
+    (exchanged : E → Result Reply ProxyError → Type 0) where
+  module _ (can_poll : E → Type 0) where
+    -- what may be polled of a request that is forwarded
+    abbrev CanPoll : SiteExchange E → Type 0
+    CanPoll exchange = IsSome exchange.forward × can_poll exchange.exchange
 
-  module _ (exchange : SiteExchange E) (by : IsForwardedBy sends exchanged origin message exchange)
-      (kept : exchange.forward ≡ Some forward) (came : exchanged exchange.exchange forwarded) where
-    given_by : (response : Response (List ℕ))
-        → IsFinished origin old_then new_then forward forwarded response
-        → IsGiven sends exchanged origin message response
-    given_by response finished =
-        let same = some_same by.forward forward (sym by.kept ∙ kept) in
-        inr (record {
-          forward = by.forward;
-          old = by.old;
-          new = by.new;
-          begun = by.begun;
-          forwarded = forwarded;
-          came = inl (exchange.exchange, by.sent, came);
-          old_then = old_then;
-          new_then = new_then;
-          finished = subst (λ f. IsFinished origin old_then new_then f forwarded response) (sym same) finished;
-        })
+    begun_with : (old middle new : Held) (message : Message (List ℕ)) → IsKept rules.journal rules.origin middle new
+        → (begun : Begun (SiteExchange E) (List ℕ)) → Begins rules reaches sends exchanged can_poll old middle message begun
+        → IsBegunBy (IsGiven rules reaches sends exchanged old new) (IsForwardedBy rules reaches sends exchanged old new)
+        CanPoll message begun
+    begun_with old middle new message kept (Answered response) (inl begun) =
+        inl (record { middle = middle; begun = begun; kept = kept })
+    begun_with old middle new message kept (Answered response) (inr given) = inr (inl (record {
+      forward = given.0;
+      begun = given.1;
+      to_forward = given.2;
+      forwarded = given.3.0;
+      failed = given.3.1;
+      middle = middle;
+      finished = given.3.2;
+      kept = kept;
+    }))
+    begun_with old middle new message kept (Forwarding exchange) given =
+        let held = given.3.1 in
+        (
+          record {
+            forward = given.0;
+            held = held;
+            middle = given.1;
+            begun = given.2;
+            kept = subst (λ held. IsKept rules.journal rules.origin held new) given.3.0 kept;
+            sent = given.3.2;
+          },
+          rw held tt,
+          given.3.3,
+        )
 
-    -- the exchange has given what came of it
-    pub given_later : {Refusal : Type 0} (result : Result (Response (List ℕ)) Refusal)
-        → IfOk result (IsFinished origin old_then new_then forward forwarded)
-        → IfOk result (IsGiven sends exchanged origin message)
-    given_later (Ok response) finished = given_by response finished
-    given_later (Err refusal) finished = tt
+    pub kept_with : {Refusal : Type 0} (old middle new : Held) (message : Message (List ℕ))
+        → IsKept rules.journal rules.origin middle new → (result : Result (Begun (SiteExchange E) (List ℕ)) Refusal)
+        → IfOk result (Begins rules reaches sends exchanged can_poll old middle message)
+        → IfOk result (IsBegunBy (IsGiven rules reaches sends exchanged old new)
+        (IsForwardedBy rules reaches sends exchanged old new) CanPoll message)
+    kept_with old middle new message kept (Ok begun) given = begun_with old middle new message kept begun given
+    kept_with old middle new message kept (Err error) given = tt
+
+    -- it is to be forwarded, and that was begun
+    pub forward_begun : (old middle new : Held) (message : Message (List ℕ)) (forward : Forward)
+        → IsToForward rules.origin old middle message forward → {Refusal : Type 0}
+        → (result : Result (Begun (SiteExchange E) (List ℕ)) Refusal)
+        → IfOk result (IsForwardBegun rules reaches sends exchanged can_poll middle new forward)
+        → IfOk result (Begins rules reaches sends exchanged can_poll old new message)
+    forward_begun old middle new message forward to_forward (Ok (Answered response)) begun =
+        inr (forward, middle, to_forward, begun)
+    forward_begun old middle new message forward to_forward (Ok (Forwarding exchange)) begun =
+        (forward, middle, to_forward, begun)
+    forward_begun old middle new message forward to_forward (Err error) begun = tt
+
+  -- there is no answer, and the journal's limit is kept
+  pub left_with : {Refusal T : Type 0} (P : Refusal → Type 0) (old middle new : Held) (message : Message (List ℕ))
+      → IsKept rules.journal rules.origin middle new → (result : Result T Refusal)
+      → IfErr result (λ error. P error × IsLeft rules old middle message)
+      → IfErr result (λ error. P error × IsUnanswered rules old new message)
+  left_with P old middle new message kept (Ok begun) left = tt
+  left_with P old middle new message kept (Err error) left =
+      (left.0, record { middle = middle; left = left.1; kept = kept })
+
+  -- the exchange has given what came of it
+  pub given_later : (old new : Held) (message : Message (List ℕ)) (first_old first_new : Held) (exchange : SiteExchange E)
+      → IsForwardedBy rules reaches sends exchanged first_old first_new message exchange → (forward : Forward)
+      → (forwarded : Result Reply ProxyError) → exchange.forward ≡ Some forward → exchanged exchange.exchange forwarded
+      → {Refusal : Type 0} (result : Result (Response (List ℕ)) Refusal)
+      → IfOk result (IsFinished rules.origin old new forward forwarded)
+      → IfOk result (IsGiven rules reaches sends exchanged old new message)
+  given_later old new message first_old first_new exchange by forward forwarded held came (Ok response) finished =
+      let same = some_same by.forward forward (sym by.held ∙ held) in
+      inr (inr (record {
+        exchange = exchange;
+        first_old = first_old;
+        first_new = first_new;
+        by = by;
+        forwarded = forwarded;
+        came = came;
+        finished = subst (λ f. IsFinished rules.origin old new f forwarded response) (sym same) finished;
+      }))
+  given_later old new message first_old first_new exchange by forward forwarded held came (Err error) finished = tt

@@ -1,65 +1,115 @@
--- What a site may answer to a message, at once or after it was forwarded.
-use Rattle.std.specs.Prelude.{◌≡◌, ◌⊎◌, ℕ, List, IfOk, IsErr, Result, Some}
-use Rattle.answering.specs.Answering.{IsBegun}
+-- What a site may answer to a message, at once or after it was forwarded, and what its seat is before and after that.
+use Rattle.std.specs.Prelude.{◌≡◌, ◌⊎◌, ℕ, List, IfOk, IsErr, IsSome, Option, Result, Some}
+use Rattle.std.specs.Arc.{arc_value}
+use Rattle.admin_answers.specs.Answers.{Gains}
+use Rattle.answering.specs.Answering.{IsBegun, IsNotBegun}
 use Rattle.answering.specs.Forwarding.{IsFinished, IsToForward}
 use Rattle.answering.specs.declared.forward.Forward.{Forward}
 use Rattle.http.specs.declared.request.Request.{Request as Message}
 use Rattle.http.specs.declared.response.Response.{Response}
+use Rattle.hyper_service.specs.declared.site_answers.SiteAnswers.{SiteAnswers}
 use Rattle.hyper_service.specs.declared.site_exchange.SiteExchange.{SiteExchange}
 use Rattle.mapping_model.specs.declared.reply.Reply.{Reply}
 use Rattle.mock_request.specs.Request.{Request}
 use Rattle.proxy_client.specs.Messages.{IsSomeReply}
 use Rattle.proxy_client.specs.declared.error.ProxyError.{ProxyError}
 use Rattle.request_journal.specs.Past.{Past}
+use Rattle.request_journal.specs.declared.input.BookInput.TheVariants.{ClearJournal}
 use Rattle.shared_book.specs.Held.{Held}
+use Rattle.shared_book.specs.declared.receipt.Receipt.{Receipt}
 use Rattle.stub_response.specs.declared.limits.Limits.{Limits}
 use Rattle.template_tree.specs.declared.escape.Escape.{Escape}
 
--- the message was answered at once
-pub record IsGivenAtOnce (origin : Past) (message : Message (List ℕ)) (response : Response (List ℕ))
-    : Type 0 where
+-- what the answers of a site depend on, beside its book: the past that this had when it was shared, and how many
+-- requests its journal shows at most, if there is a limit
+pub record SiteRules : Type 0 where
+  pub origin : Past
   pub limits : Limits
   pub escape : Escape
-  pub old : Held
-  pub new : Held
-  pub begun : IsBegun origin limits escape old new message response
+  pub journal : Option ℕ
 
--- `sends` says which request an exchange sends to which target, and `exchanged` what an exchange may give: those of
--- what forwards the requests of a server.
-module _ {E : Type 0} (sends : List ℕ → Request → E → Type 0)
-    (exchanged : E → Result Reply ProxyError → Type 0) where
-  -- an exchange that sends the request of what is to be forwarded to the target of it
-  pub record IsSentBy (forward : Forward) (exchange : E) : Type 0 where
-    pub sent : sends forward.target forward.request exchange
-    pub genuine : (forwarded : Result Reply ProxyError) → exchanged exchange forwarded → IfOk forwarded IsSomeReply
+-- those of the site that answers
+abbrev pub rules_of : {L G C F N : Type 0} → Past → SiteAnswers L G C F N → SiteRules
+rules_of origin answers =
+    record {
+      origin = origin;
+      limits = (arc_value answers.site).limits;
+      escape = (arc_value answers.site).escape;
+      journal = answers.journal.limit;
+    }
 
-  -- such an exchange gave this; or there was none, which is a failure
-  abbrev pub CameOf : Forward → Result Reply ProxyError → Type 0
-  CameOf forward forwarded =
-      ((exchange : E) × IsSentBy forward exchange × exchanged exchange forwarded) ⊎ IsErr forwarded
+-- the seat is as before; or, where its journal has a limit, it was cleared, and the seat has gained the receipt of that
+abbrev pub IsKept : Option ℕ → Past → Held → Held → Type 0
+IsKept limit origin old new =
+    (new ≡ old) ⊎ (IsSome limit × ((receipt : Receipt) × Gains origin old new ClearJournal receipt))
 
-  module _ (origin : Past) where
-    -- The message was forwarded, and this is the response to what came of that. The seat isn't held meanwhile, so it
-    -- need not be as the first of both events left it.
-    pub record IsGivenLater (message : Message (List ℕ)) (response : Response (List ℕ)) : Type 0 where
-      pub forward : Forward
-      pub old : Held
-      pub new : Held
-      pub begun : IsToForward origin old new message forward
-      pub forwarded : Result Reply ProxyError
-      pub came : CameOf forward forwarded
-      pub old_then : Held
-      pub new_then : Held
-      pub finished : IsFinished origin old_then new_then forward forwarded response
+-- the seat after an answer that there was no memory for
+abbrev pub IsUnfinished : Held → Held → Type 0
+IsUnfinished old new = new ≡ old
 
-    abbrev pub IsGiven : Message (List ℕ) → Response (List ℕ) → Type 0
-    IsGiven message response = IsGivenAtOnce origin message response ⊎ IsGivenLater message response
+module _ (rules : SiteRules) where
+  -- the message was answered at once
+  pub record IsGivenAtOnce (old new : Held) (message : Message (List ℕ)) (response : Response (List ℕ)) : Type 0 where
+    pub middle : Held
+    pub begun : IsBegun rules.origin rules.limits rules.escape old middle message response
+    pub kept : IsKept rules.journal rules.origin middle new
+
+  -- there is no memory for an answer; or for that to a message that couldn't be forwarded
+  abbrev pub IsLeft : Held → Held → Message (List ℕ) → Type 0
+  IsLeft old new message =
+      IsNotBegun rules.origin rules.limits rules.escape old new message
+      ⊎ ((forward : Forward) × (begun : Held) × IsToForward rules.origin old begun message forward
+      × IsUnfinished begun new)
+
+  -- what that leaves of the seat
+  pub record IsUnanswered (old new : Held) (message : Message (List ℕ)) : Type 0 where
+    pub middle : Held
+    pub left : IsLeft old middle message
+    pub kept : IsKept rules.journal rules.origin middle new
+
+  -- `reaches` says which targets requests are forwarded to, `sends` which request an exchange sends to which target, and
+  -- `exchanged` what an exchange may give: those of what forwards the requests of the site.
+  module _ {E : Type 0} (reaches : List ℕ → Type 0) (sends : List ℕ → Request → E → Type 0)
+      (exchanged : E → Result Reply ProxyError → Type 0) where
+    -- an exchange that sends the request of what is to be forwarded to the target of it
+    pub record IsSentBy (forward : Forward) (exchange : E) : Type 0 where
+      pub reached : reaches forward.target
+      pub sent : sends forward.target forward.request exchange
+      pub genuine : (forwarded : Result Reply ProxyError) → exchanged exchange forwarded → IfOk forwarded IsSomeReply
 
     -- the message was begun to be forwarded by the exchange, which holds what is kept of it
-    pub record IsForwardedBy (message : Message (List ℕ)) (exchange : SiteExchange E) : Type 0 where
+    pub record IsForwardedBy (old new : Held) (message : Message (List ℕ)) (exchange : SiteExchange E) : Type 0 where
       pub forward : Forward
-      pub kept : exchange.forward ≡ Some forward
-      pub old : Held
-      pub new : Held
-      pub begun : IsToForward origin old new message forward
+      pub held : exchange.forward ≡ Some forward
+      pub middle : Held
+      pub begun : IsToForward rules.origin old middle message forward
+      pub kept : IsKept rules.journal rules.origin middle new
       pub sent : IsSentBy forward exchange.exchange
+
+    -- the message was to be forwarded, there was no exchange, and this is the response to that
+    pub record IsGivenWithout (old new : Held) (message : Message (List ℕ)) (response : Response (List ℕ))
+        : Type 0 where
+      pub forward : Forward
+      pub begun : Held
+      pub to_forward : IsToForward rules.origin old begun message forward
+      pub forwarded : Result Reply ProxyError
+      pub failed : IsErr forwarded
+      pub middle : Held
+      pub finished : IsFinished rules.origin begun middle forward forwarded response
+      pub kept : IsKept rules.journal rules.origin middle new
+
+    -- The message was forwarded, the exchange gave this, and the response is the one to that. The seat isn't held
+    -- meanwhile, so before this it need not be as the first of both calls left it.
+    pub record IsGivenLater (old new : Held) (message : Message (List ℕ)) (response : Response (List ℕ)) : Type 0 where
+      pub exchange : SiteExchange E
+      pub first_old : Held
+      pub first_new : Held
+      pub by : IsForwardedBy first_old first_new message exchange
+      pub forwarded : Result Reply ProxyError
+      pub came : exchanged exchange.exchange forwarded
+      pub finished : IsFinished rules.origin old new by.forward forwarded response
+
+    abbrev pub IsGiven : Held → Held → Message (List ℕ) → Response (List ℕ) → Type 0
+    IsGiven old new message response =
+        IsGivenAtOnce old new message response
+        ⊎ (IsGivenWithout old new message response ⊎ IsGivenLater old new message response)

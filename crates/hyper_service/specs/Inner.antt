@@ -1,2 +1,3 @@
 -- Words of private clauses.
+pub mod Begins
 pub mod Failure

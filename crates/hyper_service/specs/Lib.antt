@@ -1,3 +1,4 @@
 pub mod Given
 pub mod Inner
 pub mod Report
+pub mod Seats

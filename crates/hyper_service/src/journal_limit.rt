@@ -1,4 +1,9 @@
 // A journal that the server itself clears once it shows as many requests as it may.
+ghost use Rattle.std.specs.Prelude.{◌≡◌, IsFalse, IsTrue};
+ghost use Rattle.admin_answers.specs.Answers.{Gains};
+ghost use Rattle.hyper_service.specs.Given.{IsKept};
+ghost use Rattle.request_journal.specs.declared.input.BookInput.TheVariants.{ClearJournal as Cleared};
+
 use crate::gained::gained;
 use request_journal::event::Event;
 use request_journal::input::BookInput;
@@ -18,7 +23,9 @@ pub struct JournalLimit {
 
 impl JournalLimit {
     /// The limit of a journal that shows no request.
-    pub fn new(limit: Option<u64>) -> JournalLimit {
+    pub fn new(limit: Option<u64>) -> JournalLimit
+        ensures { result.limit ≡ limit }
+    {
         JournalLimit {
             limit,
             shown: Mutex::new(0),
@@ -33,13 +40,15 @@ impl JournalLimit {
         book: &SharedBook<L>,
         seat: &mut Seat<L>,
         before: Option<u64>,
-    ) {
+    )
+        ensures { IsKept self.now.limit L.origin seat.old seat.new }
+    {
         let Some(limit) = self.limit else { return };
         let shown = self.count(rt, gained(seat, before));
         if shown == 0 || shown < limit {
             return;
         }
-        if seat.apply(rt, book, BookInput::ClearJournal).is_ok() {
+        if clear(rt, book, seat) {
             *self.shown.lock(rt) = 0;
         }
     }
@@ -51,6 +60,17 @@ impl JournalLimit {
             *shown = shown_after(*shown, receipt.event.event());
         }
         *shown
+    }
+}
+
+// Clears the journal, if that isn't refused.
+fn clear<L: Origin, R: Wait>(rt: &R, book: &SharedBook<L>, seat: &mut Seat<L>) -> bool
+    ensures cleared { IsTrue result → (receipt : _) × Gains L.origin seat.old seat.new Cleared receipt }
+    ensures refused { IsFalse result → seat.new ≡ seat.old }
+{
+    match seat.apply(rt, book, BookInput::ClearJournal) {
+        Ok(_receipt) => true,
+        Err(_error) => false,
     }
 }
 

@@ -1,5 +1,7 @@
 // The connections of a listener, until as many as are wanted were served.
-ghost use Rattle.std.specs.Prelude.{◌≤◌};
+ghost use Rattle.std.specs.Prelude.{◌≤◌, IfOk, List};
+ghost use Rattle.hyper_service.specs.Report.{IsSettling, ReportsServed};
+ghost use Rattle.shared_book.specs.Held.{Held};
 
 use crate::log::Log;
 use crate::report::report;
@@ -47,7 +49,8 @@ where
     N: Log + Drop,
     O: Write,
     E: Write,
-    ensures { result ≤ 1 }
+    ensures written { ReportsServed O.contents E.contents L.origin L.parts out.new err.old err.new result }
+    ensures status { result ≤ 1 }
 {
     if announce(&listener, out).is_err() {
         return FAILURE;
@@ -84,6 +87,7 @@ where
     C: Clock + Drop,
     F: Forwards,
     N: Log + Drop,
+    ensures { IfOk result (λ served. (seats : List Held) × IsSettling L.origin L.parts seats served.0) }
 {
     let book = answers.book()?;
     let turns = answers.turns();
@@ -98,7 +102,9 @@ fn events<L: Origin, R: Wait>(
     alloc: Global,
     book: SharedBook<L>,
     seats: Vec<Seat<L>>,
-) -> Result<u64, SettleRefusal> {
+) -> Result<u64, SettleRefusal>
+    ensures { IsSettling L.origin L.parts seats.items result }
+{
     match settle(rt, alloc, book, seats) {
         Ok(settled) => Ok(settled.events),
         Err(error) => Err(error.reason),

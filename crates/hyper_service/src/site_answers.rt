@@ -1,9 +1,12 @@
 // A site answers the requests of connections.
 ghost use Rattle.std.specs.Prelude.{◌≡◌, IfErr, IfOk, IsSome, Some};
 ghost use Rattle.answering.specs.Forwarding.{IsFinished, IsToForward};
-ghost use Rattle.http_connections.specs.Sent.{IsBegun};
-ghost use Rattle.hyper_service.specs.Given.{IsForwardedBy, IsGiven, IsSentBy};
+ghost use Rattle.http_messages.specs.declared.error.ServiceError.TheVariants.{OutOfMemory as NoMemory};
+ghost use Rattle.hyper_service.specs.Given.{IsForwardedBy, IsGiven, IsLeft, IsSentBy, IsUnanswered};
+ghost use Rattle.hyper_service.specs.Given.{IsUnfinished, rules_of};
+ghost use Rattle.hyper_service.specs.Inner.Begins.{Begins, IsForwardBegun};
 ghost use Rattle.hyper_service.specs.Inner.Failure.{IsFailure};
+ghost use Rattle.hyper_service.specs.Seats.{IsJoined, IsSplit};
 
 use crate::gained::{gained, last_number};
 use crate::journal_limit::JournalLimit;
@@ -44,7 +47,9 @@ impl<L: Origin, G, C, F, N> SiteAnswers<L, G, C, F, N> {
         forwarder: F,
         log: N,
         journal: JournalLimit,
-    ) -> SiteAnswers<L, G, C, F, N> {
+    ) -> SiteAnswers<L, G, C, F, N>
+        ensures { result ≡ record { site = site; forwarder = forwarder; log = log; journal = journal } }
+    {
         SiteAnswers {
             site,
             forwarder,
@@ -80,9 +85,19 @@ where
 
     type Content = Content;
 
-    ghost gives = { IsGiven F.sends F.Exchange.gives L.origin };
+    ghost gives = { λ answers.
+        IsGiven (rules_of L.origin answers) (F.reaches answers.forwarder) F.sends F.Exchange.gives };
 
-    ghost forwards = { IsForwardedBy F.sends F.Exchange.gives L.origin };
+    ghost forwards = { λ answers.
+        IsForwardedBy (rules_of L.origin answers) (F.reaches answers.forwarder) F.sends F.Exchange.gives };
+
+    ghost unanswered = { λ answers. IsUnanswered (rules_of L.origin answers) };
+
+    ghost unfinished = { λ _. IsUnfinished };
+
+    ghost splits = { λ _. IsSplit };
+
+    ghost joins = { λ _. IsJoined L.origin };
 
     fn begin<R: Wait>(
         &self,
@@ -107,14 +122,14 @@ where
         self.finish_forwarded(rt, alloc, seat, reply)
     }
 
-    fn split(seat: &mut Seat<L>) -> Option<Seat<L>> {
+    fn split<R: Wait>(&self, _rt: &R, seat: &mut Seat<L>) -> Option<Seat<L>> {
         if seat.parts() == 1 {
             return None;
         }
         Some(seat.split())
     }
 
-    fn join(seat: &mut Seat<L>, other: Seat<L>) -> Result<(), Seat<L>> {
+    fn join<R: Wait>(&self, _rt: &R, seat: &mut Seat<L>, other: Seat<L>) -> Result<(), Seat<L>> {
         seat.join(other)
     }
 }
@@ -136,9 +151,10 @@ where
         before: Option<u64>,
         request: &Request<Bytes>,
     ) -> Result<Begun<SiteExchange<F::Exchange>, Content>, ServiceError>
-        ensures { IfOk result (IsBegun (IsGiven F.sends F.Exchange.gives L.origin)
-            (IsForwardedBy F.sends F.Exchange.gives L.origin)
-            (λ exchange. IsSome exchange.forward × F.Exchange.can_poll exchange.exchange) request.now) }
+        ensures ok { IfOk result (Begins (rules_of L.origin self.now) (F.reaches self.now.forwarder) F.sends
+            F.Exchange.gives F.Exchange.can_poll seat.old seat.new request.now) }
+        ensures err { IfErr result (λ error. (error ≡ NoMemory)
+            × IsLeft (rules_of L.origin self.now) seat.old seat.new request.now) }
     {
         match answering::begin::begin(rt, alloc, &self.site, seat, request)? {
             answering::begun::Begun::Answered(response) => {
@@ -160,10 +176,9 @@ where
         seat: &mut Seat<L>,
         forward: Forward,
     ) -> Result<Begun<SiteExchange<F::Exchange>, Content>, ServiceError>
-        ensures { (message : _) (old : _) → IsToForward L.origin old seat.old message forward
-            → IfOk result (IsBegun (IsGiven F.sends F.Exchange.gives L.origin)
-            (IsForwardedBy F.sends F.Exchange.gives L.origin)
-            (λ exchange. IsSome exchange.forward × F.Exchange.can_poll exchange.exchange) message) }
+        ensures ok { IfOk result (IsForwardBegun (rules_of L.origin self.now) (F.reaches self.now.forwarder) F.sends
+            F.Exchange.gives F.Exchange.can_poll seat.old seat.new forward) }
+        ensures err { IfErr result (λ error. (error ≡ NoMemory) × IsUnfinished seat.old seat.new) }
     {
         match self.exchange(alloc, forward) {
             Ok(exchange) => Ok(Begun::Forwarding(exchange)),
@@ -181,7 +196,8 @@ where
         seat: &mut Seat<L>,
         forwarded: Forwarded,
     ) -> Result<Response<Content>, ServiceError>
-        ensures { IfOk result (IsFinished L.origin seat.old seat.new forwarded.forward forwarded.reply) }
+        ensures ok { IfOk result (IsFinished L.origin seat.old seat.new forwarded.forward forwarded.reply) }
+        ensures err { IfErr result (λ error. (error ≡ NoMemory) × IsUnfinished seat.old seat.new) }
     {
         let Forwarded { forward, reply } = forwarded;
         let number = forward.number;
@@ -202,7 +218,8 @@ where
         forward: Forward,
     ) -> Result<Box<SiteExchange<F::Exchange>>, Forwarded>
         ensures kept { IfOk result (λ made. made.value.forward ≡ Some forward) }
-        ensures sent { IfOk result (λ made. IsSentBy F.sends F.Exchange.gives forward made.value.exchange) }
+        ensures sent { IfOk result (λ made. IsSentBy (F.reaches self.now.forwarder) F.sends F.Exchange.gives forward
+            made.value.exchange) }
         ensures can_poll { IfOk result (λ made. F.Exchange.can_poll made.value.exchange) }
         ensures none { IfErr result (IsFailure forward) }
     {

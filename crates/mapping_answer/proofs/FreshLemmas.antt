@@ -8,7 +8,8 @@ use Rattle.request_journal.specs.declared.event.ServeAnswer.{ServeAnswer}
 use Rattle.request_journal.specs.declared.event.ServeAnswer.TheVariants.{Stub, Proxy, Unmatched}
 use Rattle.stub_book.specs.Refusals.{IsFull}
 use Rattle.template_tree.specs.declared.escape.Escape.{Escape}
-use Rattle.mapping_answer.specs.Inner.Fresh.{IsFresh, IsOwn}
+use Rattle.mapping_answer.specs.Fresh.{IsFresh}
+use Rattle.mapping_answer.specs.Inner.Own.{IsOwn}
 
 pub has_room : (escape : Escape) (documents : List (List ℕ)) (past : Past) → IsFresh escape documents past
     → ¬ (IsFull past)

@@ -1,4 +1,4 @@
--- What `mock answer` prints for documents, a method and a target: the reply of a book that was just opened with the
+-- What `mock answer` prints for documents and a request: the reply of a book that was just opened with the
 -- documents' mappings. And which errors it reports, and how it ends.
 use Rattle.std.specs.Prelude.{◌≡◌, ◌⊎◌, ◌<◌, ◌≤◌, ℕ, List, [], ◌∷◌, ◌++◌}
 use Rattle.std.specs.Prelude.{length, codes, decimal}
@@ -10,14 +10,16 @@ use Rattle.command_output.specs.Output.{AppendsPart, AppendsFront}
 use Rattle.command_output.specs.declared.error.CommandError.{CommandError}
 use Rattle.command_output.specs.declared.files.FileError.{FileError}
 use Rattle.error_code.specs.declared.error_code.ErrorCode.{ErrorCode}
+use Rattle.mapping_answer.specs.declared.sent.SentRequest.{SentRequest}
 use Rattle.mapping_json.specs.Documents.{SpellMappings, IsMappingsError}
 use Rattle.mapping_json.specs.Errors.{error_code_of}
 use Rattle.mapping_json.specs.declared.error.MappingsError.{MappingsError}
 use Rattle.mapping_model.specs.declared.mapping_spec.MappingSpec.{MappingSpec}
 use Rattle.mapping_model.specs.declared.reply.Reply.{Reply}
 use Rattle.mapping_model.specs.declared.reply.ReplyHeader.{ReplyHeader}
-use Rattle.mock_request.specs.Request.{Request}
+use Rattle.mock_request.specs.Request.{Header, Request, headers_of}
 use Rattle.mock_request.specs.Target.{IsTarget, HasUrl}
+use Rattle.mock_request.specs.declared.snapshot.TheConstants.{BODY_LIMIT}
 use Rattle.request_journal.specs.Choice.{IsChoice}
 use Rattle.request_journal.specs.Live.{live}
 use Rattle.request_journal.specs.Past.{opened}
@@ -56,11 +58,26 @@ IsReplyBy (Stub captured) request reply =
 IsReplyBy (Proxy target) request reply = ⊥
 IsReplyBy Unmatched request reply = reply ≡ unmatched_reply
 
--- the request of that method for the URL that the target asks for, without headers and body
-abbrev pub IsRequest : List ℕ → List ℕ → Request → Type 0
-IsRequest method target request =
-    (url : List ℕ) × IsTarget target url
-    × (request ≡ record { method = method; url = url; headers = []; body = [] })
+-- a request that is asked for: its target is yet to be read
+pub record Sent : Type 0 where
+  pub method : List ℕ
+  pub target : List ℕ
+  pub headers : List Header
+  pub body : List ℕ
+
+abbrev pub sent_of : SentRequest → Sent
+sent_of given = record {
+  method = given.method.now;
+  target = given.target.now;
+  headers = headers_of given.headers.now;
+  body = given.body.now;
+}
+
+-- that request, for the URL that its target asks for
+abbrev pub IsRequest : Sent → Request → Type 0
+IsRequest sent request =
+    (url : List ℕ) × IsTarget sent.target url
+    × (request ≡ record { method = sent.method; url = url; headers = sent.headers; body = sent.body })
 
 -- each value in the documents spells its mapping: those of one document after those of the one before
 abbrev pub SpellDocuments : Escape → List (List ℕ) → List MappingSpec → Type 0
@@ -71,22 +88,22 @@ SpellDocuments escape (bytes ∷ documents) mappings =
 
 -- the reply to that request of a book that was just opened with the documents' mappings, whose templates' prints are
 -- escaped so
-pub record IsReply (escape : Escape) (documents : List (List ℕ)) (method target : List ℕ) (reply : Reply)
+pub record IsReply (escape : Escape) (documents : List (List ℕ)) (sent : Sent) (reply : Reply)
     : Type 0 where
   pub mappings : List MappingSpec
   pub spelled : SpellDocuments escape documents mappings
   -- a book can be opened with them
   pub few : length (live (opened 0 mappings)) ≤ LIVE_LIMIT
   pub request : Request
-  pub asked : IsRequest method target request
+  pub asked : IsRequest sent request
   pub answer : ServeAnswer
   pub chosen : IsChoice (opened 0 mappings) request answer
   pub replied : IsReplyBy answer request reply
 
 -- such a reply as it is printed
-abbrev pub IsReplyText : Escape → List (List ℕ) → List ℕ → List ℕ → List ℕ → Type 0
-IsReplyText escape documents method target text =
-    (reply : Reply) × IsReply escape documents method target reply × (text ≡ reply_text reply)
+abbrev pub IsReplyText : Escape → List (List ℕ) → Sent → List ℕ → Type 0
+IsReplyText escape documents sent text =
+    (reply : Reply) × IsReply escape documents sent reply × (text ≡ reply_text reply)
 
 -- ---- errors
 
@@ -115,58 +132,61 @@ HasBook escape documents =
     (mappings : List MappingSpec) × SpellDocuments escape documents mappings
     × (length (live (opened 0 mappings)) ≤ LIVE_LIMIT)
 
--- the target asks for no URL
-abbrev pub RefusesUrl : List ℕ → CommandError → Type 0
-RefusesUrl target error = (¬ (HasUrl target)) × (error ≡ record { code = ErrorCode.BadUrl; at = None })
+-- the target asks for no URL, or else the body is too large
+abbrev pub RefusesRequest : Sent → CommandError → Type 0
+RefusesRequest sent error =
+    ((¬ (HasUrl sent.target)) × (error ≡ record { code = ErrorCode.BadUrl; at = None }))
+    ⊎ (HasUrl sent.target × (BODY_LIMIT < length sent.body)
+    × (error ≡ record { code = ErrorCode.TooLarge; at = None }))
 
--- the first error, where the documents are judged first, then the book, then the target; memory may run out at any
+-- the first error, where the documents are judged first, then the book, then the request; memory may run out at any
 -- moment
-abbrev pub IsRefusal : Escape → List (List ℕ) → List ℕ → CommandError → Type 0
-IsRefusal escape documents target error =
+abbrev pub IsRefusal : Escape → List (List ℕ) → Sent → CommandError → Type 0
+IsRefusal escape documents sent error =
     RefusesDocument escape documents error
     ⊎ RefusesBook escape documents error
-    ⊎ (HasBook escape documents × RefusesUrl target error)
+    ⊎ (HasBook escape documents × RefusesRequest sent error)
     ⊎ (error ≡ out_of_memory)
 
 -- ---- the whole
 
 -- the whole reply was written
-abbrev pub ShowsReply : Escape → List (List ℕ) → List ℕ → List ℕ → Option (List ℕ)
+abbrev pub ShowsReply : Escape → List (List ℕ) → Sent → Option (List ℕ)
     → Option (List ℕ) → Type 0
-ShowsReply escape documents method target old new =
-    (text : List ℕ) × IsReplyText escape documents method target text × Appends old new text
+ShowsReply escape documents sent old new =
+    (text : List ℕ) × IsReplyText escape documents sent text × Appends old new text
 
 -- the reply was begun, and the writer refused the rest
-abbrev pub BreaksReplyOff : Escape → List (List ℕ) → List ℕ → List ℕ → Option (List ℕ)
+abbrev pub BreaksReplyOff : Escape → List (List ℕ) → Sent → Option (List ℕ)
     → Option (List ℕ) → Type 0
-BreaksReplyOff escape documents method target old new =
-    (text : List ℕ) × IsReplyText escape documents method target text × AppendsPart old new text
+BreaksReplyOff escape documents sent old new =
+    (text : List ℕ) × IsReplyText escape documents sent text × AppendsPart old new text
 
 -- an error was reported, as far as the writer took its line
-abbrev pub ReportsRefusal : Escape → List (List ℕ) → List ℕ
+abbrev pub ReportsRefusal : Escape → List (List ℕ) → Sent
     → Option (List ℕ) → Option (List ℕ) → Type 0
-ReportsRefusal escape documents target old new =
-    (error : CommandError) × IsRefusal escape documents target error × AppendsFront old new (error_line error)
+ReportsRefusal escape documents sent old new =
+    (error : CommandError) × IsRefusal escape documents sent error × AppendsFront old new (error_line error)
 
 -- How an answer ends, by what standard output and standard error hold before and after it, and the exit status: the
 -- reply is on standard output (0), an error is on standard error (1), or standard output took a part of the reply (1).
 -- Each time the other of both is as it was.
 abbrev pub Answers : {O E : Type 0} → (O → Option (List ℕ)) → (E → Option (List ℕ)) → Escape
-    → List (List ℕ) → List ℕ → List ℕ → O → O → E → E → ℕ → Type 0
-Answers out_holds err_holds escape documents method target out out' err err' status =
-    ((status ≡ 0) × ShowsReply escape documents method target (out_holds out) (out_holds out') × (err' ≡ err))
-    ⊎ ((status ≡ 1) × ReportsRefusal escape documents target (err_holds err) (err_holds err') × (out' ≡ out))
-    ⊎ ((status ≡ 1) × BreaksReplyOff escape documents method target (out_holds out) (out_holds out')
+    → List (List ℕ) → Sent → O → O → E → E → ℕ → Type 0
+Answers out_holds err_holds escape documents sent out out' err err' status =
+    ((status ≡ 0) × ShowsReply escape documents sent (out_holds out) (out_holds out') × (err' ≡ err))
+    ⊎ ((status ≡ 1) × ReportsRefusal escape documents sent (err_holds err) (err_holds err') × (out' ≡ out))
+    ⊎ ((status ≡ 1) × BreaksReplyOff escape documents sent (out_holds out) (out_holds out')
     × (err' ≡ err))
 
 -- How `mock answer` ends: the files that the path names are read and the request answered, or an error in reading them
 -- is on standard error (1), as far as the writer took its line, and standard output is as it was. The files are known,
 -- or they aren't.
 abbrev pub AnswersFiles : {O E : Type 0} → (O → Option (List ℕ)) → (E → Option (List ℕ)) → Escape
-    → Option (List (List ℕ)) → (List ℕ → Option (List ℕ)) → List ℕ → List ℕ → List ℕ
+    → Option (List (List ℕ)) → (List ℕ → Option (List ℕ)) → List ℕ → Sent
     → O → O → E → E → ℕ → Type 0
-AnswersFiles out_holds err_holds escape listed known path method target out out' err err' status =
+AnswersFiles out_holds err_holds escape listed known path sent out out' err err' status =
     ((documents : List (List ℕ)) × AreDocuments listed known documents
-    × Answers out_holds err_holds escape documents method target out out' err err' status)
+    × Answers out_holds err_holds escape documents sent out out' err err' status)
     ⊎ ((error : FileError) × IsDocumentsError listed known error × (status ≡ 1)
     × AppendsFront (err_holds err) (err_holds err') (file_error_line path error) × (out' ≡ out))

@@ -1,2 +1,2 @@
 -- Words for private clauses; no public contract cites them.
-pub mod Fresh
+pub mod Own

@@ -1,36 +1,35 @@
 //! `mock answer`: the reply to one request.
 ghost use Rattle.std.specs.Prelude.{IfErr, IfOk, map};
 ghost use Rattle.command_output.specs.Output.{Followed};
-ghost use Rattle.mapping_answer.specs.Answering.{Answers, AnswersFiles, IsRefusal, IsReplyText};
+ghost use Rattle.mapping_answer.specs.Answering.{Answers, AnswersFiles, IsRefusal, IsReplyText, sent_of};
 
-use crate::fresh::{answer_of, fresh_book, plain_request, reply_by};
+use crate::fresh::{answer_of, fresh_book, reply_by};
+use crate::notes::{notes_of, put_all_notes};
 use crate::printed::reply_text;
+use crate::sent::{SentRequest, snapshot_of};
 use command_output::error::CommandError;
 use command_output::files::{Documents, FileReader, read_documents};
-use command_output::output::{put, put_notes};
+use command_output::output::put;
 use command_output::status::{FAILURE, SUCCESS};
-use mapping_diagnosis::notes::Notes;
-use mapping_json::read::read_mappings_with;
 use std::alloc::Global;
 use std::io::Write;
 use template_tree::escape::Escape;
 
-/// What `mock answer` prints for a request of that method and target, without headers and body: the reply of a book
-/// that was just opened with the documents' mappings, whose templates' prints are escaped so.
+/// What `mock answer` prints for a request: the reply of a book that was just opened with the documents' mappings,
+/// whose templates' prints are escaped so.
 pub fn answer_request(
     alloc: Global,
     documents: &Documents,
-    method: &str,
-    target: &str,
+    sent: SentRequest<'_>,
     escape: Escape,
 ) -> Result<Vec<u8>, CommandError>
     ensures reply { IfOk result (λ printed. IsReplyText escape (map (λ text. text.items) documents.now.texts.items)
-        method.now target.now printed.items) }
+        (sent_of sent.entry) printed.items) }
     ensures refusal { IfErr result
-        (IsRefusal escape (map (λ text. text.items) documents.now.texts.items) target.now) }
+        (IsRefusal escape (map (λ text. text.items) documents.now.texts.items) (sent_of sent.entry)) }
 {
     let mut book = fresh_book(alloc, documents, escape)?;
-    let request = plain_request(alloc, method, target)?;
+    let request = snapshot_of(alloc, sent)?;
     let answer = answer_of(&mut book, &request)?;
     let reply = reply_by(alloc, &answer, &request)?;
     Ok(reply_text(alloc, &reply)?)
@@ -41,16 +40,15 @@ pub fn answer_request(
 pub fn answer_to<O: Write, E: Write>(
     alloc: Global,
     documents: &Documents,
-    method: &str,
-    target: &str,
+    sent: SentRequest<'_>,
     out: &mut O,
     err: &mut E,
     escape: Escape,
 ) -> u8
     ensures { Answers O.contents E.contents escape (map (λ text. text.items) documents.now.texts.items)
-        method.now target.now out.old out.new err.old err.new result }
+        (sent_of sent.entry) out.old out.new err.old err.new result }
 {
-    match answer_request(alloc, documents, method, target, escape) {
+    match answer_request(alloc, documents, sent, escape) {
         Ok(printed) => match put(out, printed.as_slice()) {
             Ok(()) => SUCCESS,
             Err(_error) => FAILURE,
@@ -69,21 +67,20 @@ pub fn answer_file<F: FileReader, O: Write, E: Write>(
     alloc: Global,
     files: &F,
     path: &str,
-    method: &str,
-    target: &str,
+    sent: SentRequest<'_>,
     out: &mut O,
     err: &mut E,
     escape: Escape,
 ) -> u8
     ensures { Followed E.contents
         (λ e. AnswersFiles O.contents E.contents escape (F.listed files.now path.now) (F.content files.now) path.now
-        method.now target.now out.old out.new err.old e result) err.new }
+        (sent_of sent.entry) out.old out.new err.old e result) err.new }
 {
     match read_documents(alloc, files, path) {
         Ok(documents) => {
-            let status = answer_to(alloc, &documents, method, target, out, err, escape);
-            let notes = notes_of(alloc, &documents, status, escape);
-            put_notes(err, notes.as_str());
+            let status = answer_to(alloc, &documents, sent, out, err, escape);
+            let notes = notes_of(alloc, &documents, status != SUCCESS, escape);
+            put_all_notes(err, &documents, &notes);
             status
         }
         Err(error) => {
@@ -91,23 +88,4 @@ pub fn answer_file<F: FileReader, O: Write, E: Write>(
             FAILURE
         }
     }
-}
-
-/// Where and why the first wrong document is wrong, and warnings, as far as there is memory. Only where the status says
-/// so has one an error.
-fn notes_of(alloc: Global, documents: &Documents, status: u8, escape: Escape) -> Notes {
-    let mut notes = Notes::of_files(alloc, documents.paths.len());
-    for (path, text) in documents.paths.iter().zip(documents.texts.iter()) {
-        let error = if status == SUCCESS {
-            None
-        } else {
-            read_mappings_with(alloc, text.as_slice(), escape).err()
-        };
-        let is_last = error.is_some();
-        let _ = notes.add_all(alloc, path.as_str(), text.as_slice(), error);
-        if is_last {
-            break;
-        }
-    }
-    notes
 }

@@ -1,9 +1,10 @@
 // A book that was just opened with the mappings of a document, and what it answers a request with.
 ghost use Rattle.std.specs.Prelude.{◌≡◌, ◌⊎◌, ◌<◌, ◌≤◌, IfErr, IfOk, OnOk, length, map};
 ghost use Rattle.command_output.specs.Lines.{out_of_memory};
-ghost use Rattle.mapping_answer.specs.Answering.{HasBook, IsReplyBy, IsRequest, RefusesBook, RefusesDocument};
-ghost use Rattle.mapping_answer.specs.Answering.{RefusesUrl, SpellDocuments};
-ghost use Rattle.mapping_answer.specs.Inner.Fresh.{IsFresh, IsOwn};
+ghost use Rattle.mapping_answer.specs.Answering.{HasBook, IsReplyBy, RefusesBook, RefusesDocument};
+ghost use Rattle.mapping_answer.specs.Answering.{SpellDocuments};
+ghost use Rattle.mapping_answer.specs.Fresh.{IsFresh};
+ghost use Rattle.mapping_answer.specs.Inner.Own.{IsOwn};
 ghost use Rattle.request_journal.specs.Choice.{IsChoice};
 ghost use Rattle.request_journal.specs.Past.{opened};
 ghost use Rattle.stub_book.specs.Refusals.{IsFull};
@@ -22,8 +23,9 @@ use stub_response::respond::respond;
 use stub_response::unmatched_reply::unmatched_reply;
 use template_tree::escape::Escape;
 
-/// A book whose first event has the number 1.
-pub(crate) fn fresh_book(
+/// A book with the mappings of the documents, one document after another, whose templates' prints are escaped so. Its
+/// first event has the number 1.
+pub fn fresh_book(
     alloc: Global,
     documents: &Documents,
     escape: Escape,
@@ -46,7 +48,8 @@ pub(crate) fn fresh_book(
     }
 }
 
-fn mappings_of(
+/// The mappings of the documents, one document after another.
+pub fn mappings_of(
     alloc: Global,
     texts: &[Vec<u8>],
     escape: Escape,
@@ -64,18 +67,6 @@ fn mappings_of(
         }
     }
     Ok(mappings)
-}
-
-/// The request of that method for the target's URL, without headers and body.
-pub(crate) fn plain_request(
-    alloc: Global,
-    method: &str,
-    target: &str,
-) -> Result<Snapshot, CommandError>
-    ensures ok { IfOk result (IsRequest method.now target.now) }
-    ensures refusal { IfErr result (λ error. RefusesUrl target.now error ⊎ (error ≡ out_of_memory)) }
-{
-    Ok(Snapshot::new(alloc, method, target, &[], &[])?)
 }
 
 /// What the book answers the request with.

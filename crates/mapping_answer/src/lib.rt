@@ -4,5 +4,7 @@
 #![tactic(auto)]
 
 pub mod answer;
-mod fresh;
+pub mod fresh;
+pub mod notes;
 mod printed;
+pub mod sent;

@@ -2,7 +2,7 @@
 ghost use Rattle.std.specs.Prelude.{◌≡◌, ◌+◌, ◌++◌, List, ℕ, map, decimal, IfOk, IfErr, OnOk};
 ghost use Rattle.std.specs.Prelude.{if◌then◌else◌, string_bytes};
 ghost use Rattle.mapping_check.specs.Checking.{IsContentLine, IsBudgetLine, IsDocumentsRefusal, IsReportOf};
-ghost use Rattle.command_output.specs.Output.{Followed};
+ghost use Rattle.command_output.specs.Output.{Continues, Followed};
 ghost use Rattle.mapping_check.specs.Checking.{Checks, ChecksFiles, plain_line, refused_line};
 ghost use Rattle.mapping_check.specs.Inner.Reports.{Adds, AddsDocument, Reports};
 ghost use Rattle.mapping_json.specs.Documents.{IsOuterError};
@@ -211,8 +211,16 @@ pub fn check_to<O: Write, E: Write>(
 {
     let mut notes = Notes::of_files(alloc, documents.paths.len());
     let status = check_noting(alloc, documents, out, err, escape, &mut notes);
-    put_notes(err, notes.as_str());
+    put_all_notes(err, documents, &notes);
     status
+}
+
+// Which files were passed over, and then the notes, as far as the writer takes them.
+fn put_all_notes<E: Write>(err: &mut E, documents: &Documents, notes: &Notes)
+    ensures { Continues (E.contents err.old) (E.contents err.new) }
+{
+    put_notes(err, documents.passed_over.as_str());
+    put_notes(err, notes.as_str());
 }
 
 fn check_noting<O: Write, E: Write>(

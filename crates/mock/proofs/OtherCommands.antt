@@ -7,7 +7,8 @@ use Rattle.std.specs.Str.{bytes_eq}
 use Rattle.mock.specs.CommandLine.{AskToServe}
 use Rattle.mock.specs.Inner.Arguments.{ask_to_help, ask_to_serve}
 use Rattle.mock_program.specs.CommandLine.{Asked, AsksFor, CallsForHelp, Gives, IsCommand, flags_of}
-use Rattle.mock_program.specs.CommandLine.{render, check, answer}
+use Rattle.mock_program.specs.CommandLine.{render, check, answer, explain}
+use Rattle.mock_program.specs.Options.{takes_options, words_of}
 use Rattle.template_tree.specs.declared.escape.Escape.{Escape}
 
 pub serve_asked : (arguments : List (List ℕ)) → ask_to_serve arguments ≡ true → AskToServe arguments
@@ -48,6 +49,8 @@ command_other arguments escape (check file) asks =
     gives_other arguments (codes "check") escape (file ∷ []) refl refl asks
 command_other arguments escape (answer file method target) asks =
     gives_other arguments (codes "answer") escape (file ∷ method ∷ target ∷ []) refl refl asks
+command_other arguments escape (explain file method target) asks =
+    gives_other arguments (codes "explain") escape (file ∷ method ∷ target ∷ []) refl refl asks
 
 flagged_other : (arguments : List (List ℕ)) (program name : List ℕ) (escape : Escape) (rest : List (List ℕ))
     → (count : ℕ) → IsCommand name count → arguments ≡ program ∷ name ∷ (flags_of escape ++ rest)
@@ -58,7 +61,10 @@ flagged_other arguments program name escape rest count (inl (is, three)) e =
 flagged_other arguments program name escape rest count (inr (inl (is, one))) e =
     other_of arguments program name (flags_of escape ++ rest) e (ap (λ n. bytes_eq n (codes "serve")) is)
     (ap (λ n. bytes_eq n (codes "help")) is)
-flagged_other arguments program name escape rest count (inr (inr (is, three))) e =
+flagged_other arguments program name escape rest count (inr (inr (inl (is, three)))) e =
+    other_of arguments program name (flags_of escape ++ rest) e (ap (λ n. bytes_eq n (codes "serve")) is)
+    (ap (λ n. bytes_eq n (codes "help")) is)
+flagged_other arguments program name escape rest count (inr (inr (inr (is, three)))) e =
     other_of arguments program name (flags_of escape ++ rest) e (ap (λ n. bytes_eq n (codes "serve")) is)
     (ap (λ n. bytes_eq n (codes "help")) is)
 
@@ -75,20 +81,39 @@ help_other arguments (program, flag, rest, inl (inr is, e)) =
 help_other arguments (program, flag, rest, inr (is, (name, count, escape, command, e))) =
     flagged_other arguments program name escape (flag ∷ rest) count command e
 
+-- ---- options are taken out of neither
+
+serve_words : (arguments : List (List ℕ)) → ask_to_serve arguments ≡ true → ask_to_serve (words_of arguments) ≡ true
+serve_words [] e = e
+serve_words (program ∷ []) e = e
+serve_words (program ∷ command ∷ rest) e = e
+
+no_options : (command : List ℕ) → bytes_eq command (codes "help") ≡ true → takes_options command ≡ false
+no_options command e = ap takes_options ((bytes_eq-Decides command (codes "help")).0 e)
+
+help_words : (arguments : List (List ℕ)) → ask_to_help arguments ≡ true → ask_to_help (words_of arguments) ≡ true
+help_words [] e = e
+help_words (program ∷ []) e = e
+help_words (program ∷ command ∷ []) e = rw (no_options command e) e
+help_words (program ∷ command ∷ name ∷ []) e = rw (no_options command e) e
+help_words (program ∷ command ∷ name ∷ next ∷ rest) e = absurd (false≢true e)
+
 pub serves_no_command : (arguments : List (List ℕ)) → ask_to_serve arguments ≡ true
-    → (escape : Escape) (asked : Asked) → AsksFor arguments escape asked → ⊥
+    → (escape : Escape) (asked : Asked) → AsksFor (words_of arguments) escape asked → ⊥
 serves_no_command arguments taken escape asked asks =
-    false≢true (sym (command_other arguments escape asked asks).0 ∙ taken)
+    false≢true (sym (command_other (words_of arguments) escape asked asks).0 ∙ serve_words arguments taken)
 
 pub helps_no_command : (arguments : List (List ℕ)) → ask_to_help arguments ≡ true
-    → (escape : Escape) (asked : Asked) → AsksFor arguments escape asked → ⊥
+    → (escape : Escape) (asked : Asked) → AsksFor (words_of arguments) escape asked → ⊥
 helps_no_command arguments taken escape asked asks =
-    false≢true (sym (command_other arguments escape asked asks).1 ∙ taken)
+    false≢true (sym (command_other (words_of arguments) escape asked asks).1 ∙ help_words arguments taken)
 
-pub serves_no_help : (arguments : List (List ℕ)) → ask_to_serve arguments ≡ true → CallsForHelp arguments
-    → ⊥
-serves_no_help arguments taken calls = false≢true (sym (help_other arguments calls).0 ∙ taken)
+pub serves_no_help : (arguments : List (List ℕ)) → ask_to_serve arguments ≡ true
+    → CallsForHelp (words_of arguments) → ⊥
+serves_no_help arguments taken calls =
+    false≢true (sym (help_other (words_of arguments) calls).0 ∙ serve_words arguments taken)
 
-pub helps_no_flag : (arguments : List (List ℕ)) → ask_to_help arguments ≡ true → CallsForHelp arguments
-    → ⊥
-helps_no_flag arguments taken calls = false≢true (sym (help_other arguments calls).1 ∙ taken)
+pub helps_no_flag : (arguments : List (List ℕ)) → ask_to_help arguments ≡ true
+    → CallsForHelp (words_of arguments) → ⊥
+helps_no_flag arguments taken calls =
+    false≢true (sym (help_other (words_of arguments) calls).1 ∙ help_words arguments taken)

@@ -1,14 +1,14 @@
 // The book that is served.
+ghost use Rattle.std.specs.Prelude.{◌≡◌, [], IfSome, Some, option_map};
+ghost use Rattle.mock.specs.Served.{IsServedBook};
+ghost use Rattle.request_journal.specs.Past.{opened};
+
 use command_output::error::CommandError;
-use command_output::files::{Documents, FileReader, read_documents};
+use command_output::files::{FileReader, read_documents};
 use command_output::output::put_notes;
-use error_code::error_code::ErrorCode;
-use json_reading::document::document_of;
-use mapping_diagnosis::notes::{Notes, Place};
-use mapping_json::read::{mapping_of, mapping_values};
-use request_match::ready_mapping::ReadyMapping;
-use serde_json::Value;
-use std::alloc::{AllocError, Global};
+use mapping_answer::fresh::fresh_book;
+use mapping_answer::notes::notes_of;
+use std::alloc::Global;
 use std::io::Write;
 use stub_book::book::Book;
 use template_tree::escape::Escape;
@@ -22,12 +22,20 @@ pub(crate) fn book_of<F: FileReader, E: Write>(
     path: Option<&str>,
     escape: Escape,
     err: &mut E,
-) -> Option<Book> {
-    let mappings = match path {
-        Some(path) => mappings_at(alloc, files, path, escape, err)?,
-        None => Vec::new(alloc),
-    };
-    match Book::new(alloc, mappings, 0) {
+) -> Option<Book>
+    ensures { IfSome result (IsServedBook escape (option_map (λ path. path.now) path)
+        (F.listed files.now) (F.content files.now)) }
+{
+    match path {
+        Some(path) => book_at(alloc, files, path, escape, err),
+        None => empty_book(alloc, err),
+    }
+}
+
+fn empty_book<E: Write>(alloc: Global, err: &mut E) -> Option<Book>
+    ensures { IfSome result (λ book. book ≡ opened 0 []) }
+{
+    match Book::new(alloc, Vec::new(alloc), 0) {
         Ok(book) => Some(book),
         Err(error) => {
             CommandError::from(error.code).report(err);
@@ -36,114 +44,29 @@ pub(crate) fn book_of<F: FileReader, E: Write>(
     }
 }
 
-fn mappings_at<F: FileReader, E: Write>(
+fn book_at<F: FileReader, E: Write>(
     alloc: Global,
     files: &F,
     path: &str,
     escape: Escape,
     err: &mut E,
-) -> Option<Vec<ReadyMapping>> {
+) -> Option<Book>
+    ensures { IfSome result (IsServedBook escape (Some path.now) (F.listed files.now) (F.content files.now)) }
+{
     match read_documents(alloc, files, path) {
-        Ok(documents) => mappings_of(alloc, &documents, escape, err),
+        Ok(documents) => {
+            let book = fresh_book(alloc, &documents, escape);
+            if let Err(error) = &book {
+                error.report(err);
+            }
+            let notes = notes_of(alloc, &documents, book.is_err(), escape);
+            put_notes(err, documents.passed_over.as_str());
+            put_notes(err, notes.as_str());
+            book.ok()
+        }
         Err(error) => {
             error.report(alloc, path, err);
             None
         }
-    }
-}
-
-fn mappings_of<E: Write>(
-    alloc: Global,
-    documents: &Documents,
-    escape: Escape,
-    err: &mut E,
-) -> Option<Vec<ReadyMapping>> {
-    let mut notes = Notes::of_files(alloc, documents.paths.len());
-    let read = read_each(alloc, documents, escape, &mut notes);
-    if let Err(error) = &read {
-        error.report(err);
-    }
-    put_notes(err, notes.as_str());
-    read.ok()
-}
-
-// The mappings of the documents, one after another, or the first error. What there is to say of each is noted, as far
-// as there is memory for it.
-fn read_each(
-    alloc: Global,
-    documents: &Documents,
-    escape: Escape,
-    notes: &mut Notes,
-) -> Result<Vec<ReadyMapping>, CommandError> {
-    let mut mappings = Vec::new(alloc);
-    for (path, text) in documents.paths.iter().zip(documents.texts.iter()) {
-        let text = text.as_slice();
-        add_document(alloc, &mut mappings, path.as_str(), text, escape, notes)?;
-    }
-    Ok(mappings)
-}
-
-// Adds the mappings of a document. Its JSON is read once.
-fn add_document(
-    alloc: Global,
-    mappings: &mut Vec<ReadyMapping>,
-    file: &str,
-    bytes: &[u8],
-    escape: Escape,
-    notes: &mut Notes,
-) -> Result<(), CommandError> {
-    if let Some(document) = document_of(alloc, bytes)? {
-        if let Some(values) = mapping_values(&document) {
-            let is_list = document.get("mappings").is_some();
-            return add_values(alloc, mappings, file, values, is_list, escape, notes);
-        }
-    }
-    let _ = notes.add_document(alloc, file, bytes);
-    Err(CommandError::from(ErrorCode::BadDocument))
-}
-
-fn add_values(
-    alloc: Global,
-    mappings: &mut Vec<ReadyMapping>,
-    file: &str,
-    values: &[Value],
-    is_list: bool,
-    escape: Escape,
-    notes: &mut Notes,
-) -> Result<(), CommandError> {
-    for (index, value) in values.iter().enumerate() {
-        let place = Place {
-            file,
-            number: Some((mappings.len() as u64).saturating_add(1)),
-            index: if is_list { Some(index) } else { None },
-        };
-        push(mappings, mapping_noted(alloc, place, value, escape, notes)?)?;
-    }
-    Ok(())
-}
-
-fn mapping_noted(
-    alloc: Global,
-    place: Place<'_>,
-    value: &Value,
-    escape: Escape,
-    notes: &mut Notes,
-) -> Result<ReadyMapping, CommandError> {
-    match mapping_of(alloc, value, escape) {
-        Ok(mapping) => {
-            let _ = notes.add_mapping(alloc, place, value, None);
-            Ok(mapping)
-        }
-        Err(error) => {
-            let _ = notes.add_mapping(alloc, place, value, Some(error));
-            Err(CommandError::from(error.error_code()))
-        }
-    }
-}
-
-fn push(mappings: &mut Vec<ReadyMapping>, mapping: ReadyMapping) -> Result<(), AllocError> {
-    match mappings.push(mapping) {
-        Ok(()) => Ok(()),
-        Err(_no_memory) => Err(AllocError),
     }
 }

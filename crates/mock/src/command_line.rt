@@ -3,6 +3,7 @@ ghost use Rattle.std.specs.Prelude.{◌≡◌, ◌⊎◌, ◌≤◌, map, string
 ghost use Rattle.command_output.specs.Output.{Followed, WritesOneStream};
 ghost use Rattle.mock_program.specs.CommandLine.{AreInvalid, Asked, AsksFor, CallsForHelp};
 ghost use Rattle.mock_program.specs.Commands.{Does};
+ghost use Rattle.mock_program.specs.Options.{options_of, words_of};
 ghost use Rattle.template_tree.specs.declared.escape.Escape.{Escape};
 ghost use Rattle.mock.specs.CommandLine.{AskToHelp, AskToServe};
 ghost use Rattle.mock.specs.Inner.Arguments.{ask_to_help, ask_to_serve};
@@ -27,7 +28,14 @@ use std::time::Clock;
 /// 0; 1 for an error or output that can't be written; 2 for invalid arguments. The text of `clap` for invalid
 /// arguments goes to `err`, its help to `out`. What a server tells of its requests goes to `log`, by a thread of its
 /// own.
-pub fn run<R, O, E, W>(rt: R, arguments: &[String], out: &mut O, err: &mut E, log: W) -> u8
+pub fn run<R, O, E, W>(
+    rt: R,
+    arguments: &[String],
+    out: &mut O,
+    err: &mut E,
+    log: W,
+    is_coloured: bool,
+) -> u8
 where
     R: Threads
         + Wait
@@ -44,13 +52,14 @@ where
     E: Write,
     W: Write + Drop + Send + 'static,
     // Arguments that ask for a command other than `serve` do what that command does, each argument taken as it is.
-    ensures command { (escape : Escape) (asked : Asked) → AsksFor (map string_bytes arguments.now) escape asked
+    ensures command { (escape : Escape) (asked : Asked)
+        → AsksFor (words_of (map string_bytes arguments.now)) escape asked
         → Does O.contents E.contents (R.listed rt) (R.content rt) escape asked
-        out.old out.new err.old err.new result }
+        (options_of (map string_bytes arguments.now)) out.old out.new err.old err.new result }
 
     // Help is no mistake, and invalid arguments are one. Where the text can't be made or written, the status is 1.
-    ensures help { CallsForHelp (map string_bytes arguments.now) → (result ≡ 0) ⊎ (result ≡ 1) }
-    ensures invalid { AreInvalid (map string_bytes arguments.now) → ¬ (AskToServe (map string_bytes arguments.now))
+    ensures help { CallsForHelp (words_of (map string_bytes arguments.now)) → (result ≡ 0) ⊎ (result ≡ 1) }
+    ensures invalid { AreInvalid (words_of (map string_bytes arguments.now)) → ¬ (AskToServe (map string_bytes arguments.now))
         → ¬ (AskToHelp (map string_bytes arguments.now)) → (result ≡ 2) ⊎ (result ≡ 1) }
     ensures range { result ≤ 2 }
 
@@ -63,7 +72,7 @@ where
     } else if ask_to_help(arguments) {
         run_help(rt, arguments, out, err)
     } else {
-        mock_program::command_line::run(rt.alloc(), &rt, arguments, out, err)
+        mock_program::command_line::run(rt.alloc(), &rt, arguments, out, err, is_coloured)
     }
 }
 
@@ -99,7 +108,7 @@ where
         Ok(words) => if ask_to_serve(words.as_slice()) {
             serve_help(rt.alloc(), out, err)
         } else {
-            mock_program::command_line::run(rt.alloc(), &rt, words.as_slice(), out, err)
+            mock_program::command_line::run(rt.alloc(), &rt, words.as_slice(), out, err, false)
         },
         Err(_error) => {
             CommandError::from(ErrorCode::OutOfMemory).report(err);

@@ -8,23 +8,47 @@ mod book;
 mod command_line;
 mod serve;
 mod server_log;
+mod streams;
 
 use command_line::run;
 use mock_program::arguments::report_unreadable;
+use std::env::VarError;
+use std::io::{IsTerminal, Write};
 use std::process::ExitCode;
 use std::{env, io};
+use streams::{Output, Visible};
 
 fn main(rt: HostRuntime) -> ExitCode {
-    ExitCode::from(match process_arguments(&rt) {
+    let mut out = Output::new(rt.stdout());
+    let mut err = Visible::new(rt.stderr());
+    let status = match process_arguments(&rt) {
         Ok(arguments) => run(
             rt,
             arguments.as_slice(),
-            &mut rt.stdout(),
-            &mut rt.stderr(),
-            rt.stderr(),
+            &mut out,
+            &mut err,
+            Visible::new(rt.stderr()),
+            takes_colours(&rt),
         ),
-        Err(error) => report_unreadable(&error, &mut rt.stderr()),
-    })
+        Err(error) => report_unreadable(&error, &mut err),
+    };
+    if let Some(error) = out.failure() {
+        report_output(error, &mut err);
+    }
+    ExitCode::from(status)
+}
+
+// Why standard output doesn't have all that was to be written. The exit status is 1 already.
+fn report_output<E: Write>(error: io::Error, err: &mut E) {
+    let _ = write!(err, "error: cannot write to standard output\n  {error}\n");
+}
+
+// A terminal does, unless the environment asks for none (https://no-color.org).
+fn takes_colours(rt: &HostRuntime) -> bool {
+    match env::var(rt, "NO_COLOR") {
+        Err(VarError::NotPresent) => rt.stdout().is_terminal(),
+        _ => false,
+    }
 }
 
 fn process_arguments(rt: &HostRuntime) -> io::Result<Vec<String>> {

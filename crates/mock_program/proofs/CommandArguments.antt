@@ -3,7 +3,7 @@ use Rattle.std.proofs.Common.{◌≡◌, ℕ, Bool, true, false, List, [], ◌�
 use Rattle.std.proofs.Common.{◌∙◌, inl, inr}
 use Rattle.std.specs.Str.{bytes_eq}
 use Rattle.std.proofs.lemmas.Slice.Eq.{bytes_eq-Decides}
-use Rattle.mock_program.specs.CommandLine.{Asked, render, check, answer, AsksFor, Gives, IsPlainArgument}
+use Rattle.mock_program.specs.CommandLine.{Asked, render, check, answer, explain, AsksFor, Gives, IsPlainArgument}
 use Rattle.mock_program.specs.Inner.Arguments.{is_flag, delimiter, unflagged, escape_before, escape_asked}
 use Rattle.mock_program.specs.Inner.Arguments.{arguments_of, parser_arguments}
 use Rattle.template_tree.specs.declared.escape.Escape.{Escape}
@@ -74,6 +74,8 @@ parser_arguments-asked arguments escape (check file) asks =
     parser_arguments-given arguments (codes "check") escape file [] asks
 parser_arguments-asked arguments escape (answer file method target) asks =
     parser_arguments-given arguments (codes "answer") escape file (method ∷ target ∷ []) asks
+parser_arguments-asked arguments escape (explain file method target) asks =
+    parser_arguments-given arguments (codes "explain") escape file (method ∷ target ∷ []) asks
 
 pub escape_asked-asked : (arguments : List (List ℕ)) (escape : Escape) (asked : Asked)
     → AsksFor arguments escape asked → escape_asked arguments ≡ escape
@@ -83,3 +85,5 @@ escape_asked-asked arguments escape (check file) asks =
     escape_asked-given arguments (codes "check") escape file [] asks
 escape_asked-asked arguments escape (answer file method target) asks =
     escape_asked-given arguments (codes "answer") escape file (method ∷ target ∷ []) asks
+escape_asked-asked arguments escape (explain file method target) asks =
+    escape_asked-given arguments (codes "explain") escape file (method ∷ target ∷ []) asks

@@ -1,9 +1,9 @@
 -- A command leaves one of both writers as it was, but for lines that follow on standard error.
 use Rattle.std.proofs.Common.{◌≡◌, ◌⊎◌, ℕ, List, Option, inl, inr, arith, Bool, true, false, refl}
 use Rattle.std.proofs.Common.{if◌then◌else◌}
-use Rattle.mapping_answer.specs.Answering.{Answers, AnswersFiles}
+use Rattle.mapping_answer.specs.Answering.{Answers, AnswersFiles, Sent}
 use Rattle.mapping_check.specs.Checking.{Checks, ChecksFiles}
-use Rattle.mock_program.specs.CommandLine.{Asked, render, check, answer}
+use Rattle.mock_program.specs.CommandLine.{Asked, render, check, answer, explain}
 use Rattle.mock_program.specs.Commands.{Does}
 use Rattle.command_output.proofs.PartsWritten.{alone, followed_map}
 use Rattle.command_output.specs.Output.{Followed, WritesOneStream}
@@ -21,11 +21,21 @@ module _ {O E : Type 0} (out_holds : O → Option (List ℕ)) (err_holds : E →
     one_of_both = inr same;
   }
 
-  of_error : (out out' : O) (err err' : E) (status : ℕ) → status ≡ 1 → out' ≡ out
+  pub of_error : (out out' : O) (err err' : E) (status : ℕ) → status ≡ 1 → out' ≡ out
       → WritesOneStream out out' err err' status
   of_error out out' err err' status one same = record {
     range = omega arith;
     success = λ zero. absurd (omega arith);
+    invalid = λ _. same;
+    one_of_both = inl same;
+  }
+
+  -- invalid options, or a file that can't be read
+  pub of_refusal : (out out' : O) (err err' : E) (status : ℕ) → status ≡ 1 ⊎ status ≡ 2 → out' ≡ out
+      → WritesOneStream out out' err err' status
+  of_refusal out out' err err' status either same = record {
+    range = elim either [ inl one ↦ omega arith | inr two ↦ omega arith ];
+    success = λ zero. elim either [ inl one ↦ absurd (omega arith) | inr two ↦ absurd (omega arith) ];
     invalid = λ _. same;
     one_of_both = inl same;
   }
@@ -69,42 +79,47 @@ module _ {O E : Type 0} (out_holds : O → Option (List ℕ)) (err_holds : E →
   of_file escape listed known path out out' err err' status (inr (error, is, one, as_reported, same)) =
       of_error out out' err err' status one same
 
-  of_answering : (escape : Escape) (documents : List (List ℕ)) (method target : List ℕ) (out out' : O)
+  of_answering : (escape : Escape) (documents : List (List ℕ)) (sent : Sent) (out out' : O)
       (err err' : E) (status : ℕ)
-      → Answers out_holds err_holds escape documents method target out out' err err' status
+      → Answers out_holds err_holds escape documents sent out out' err err' status
       → WritesOneStream out out' err err' status
-  of_answering escape documents method target out out' err err' status (inl (zero, shown, same)) =
+  of_answering escape documents sent out out' err err' status (inl (zero, shown, same)) =
       of_output out out' err err' status (inl zero) same
-  of_answering escape documents method target out out' err err' status (inr (inl (one, as_reported, same))) =
+  of_answering escape documents sent out out' err err' status (inr (inl (one, as_reported, same))) =
       of_error out out' err err' status one same
-  of_answering escape documents method target out out' err err' status (inr (inr (one, begun, same))) =
+  of_answering escape documents sent out out' err err' status (inr (inr (one, begun, same))) =
       of_output out out' err err' status (inr one) same
 
   of_mappings : (escape : Escape) (listed : Option (List (List ℕ))) (known : List ℕ → Option (List ℕ))
-      (path method target : List ℕ) (out out' : O) (err err' : E) (status : ℕ)
-      → AnswersFiles out_holds err_holds escape listed known path method target out out' err err' status
+      (path : List ℕ) (sent : Sent) (out out' : O) (err err' : E) (status : ℕ)
+      → AnswersFiles out_holds err_holds escape listed known path sent out out' err err' status
       → WritesOneStream out out' err err' status
-  of_mappings escape listed known path method target out out' err err' status (inl (documents, are, answered)) =
-      of_answering escape documents method target out out' err err' status answered
-  of_mappings escape listed known path method target out out' err err' status
+  of_mappings escape listed known path sent out out' err err' status (inl (documents, are, answered)) =
+      of_answering escape documents sent out out' err err' status answered
+  of_mappings escape listed known path sent out out' err err' status
       (inr (error, is, one, as_reported, same)) =
       of_error out out' err err' status one same
 
   pub of_command : (listed : List ℕ → Option (List (List ℕ))) (known : List ℕ → Option (List ℕ))
       (escape : Escape)
-      (asked : Asked) (out out' : O) (err err' : E) (status : ℕ)
-      → Does out_holds err_holds listed known escape asked out out' err err' status
+      (asked : Asked) (options : List (List ℕ × List ℕ)) (out out' : O) (err err' : E) (status : ℕ)
+      → Does out_holds err_holds listed known escape asked options out out' err err' status
       → Followed err_holds (λ e. WritesOneStream out out' err e status) err'
-  of_command listed known escape (render template method target) out out' err err' status done =
+  of_command listed known escape (render template method target) options out out' err err' status done =
       alone err_holds (λ e. WritesOneStream out out' err e status) err'
       (of_rendering (with_escape escape template) method target out out' err err' status done)
-  of_command listed known escape (check path) out out' err err' status done =
+  of_command listed known escape (check path) options out out' err err' status done =
       followed_map err_holds
       (λ e. ChecksFiles out_holds err_holds escape (listed path) known path out out' err e status)
       (λ e. WritesOneStream out out' err e status) err'
       (λ e. of_file escape (listed path) known path out out' err e status) done
-  of_command listed known escape (answer path method target) out out' err err' status done =
+  of_command listed known escape (answer path method target) options out out' err err' status
+      (inl (sent, is, done)) =
       followed_map err_holds
-      (λ e. AnswersFiles out_holds err_holds escape (listed path) known path method target out out' err e status)
+      (λ e. AnswersFiles out_holds err_holds escape (listed path) known path sent out out' err e status)
       (λ e. WritesOneStream out out' err e status) err'
-      (λ e. of_mappings escape (listed path) known path method target out out' err e status) done
+      (λ e. of_mappings escape (listed path) known path sent out out' err e status) done
+  of_command listed known escape (answer path method target) options out out' err err' status (inr refused) =
+      alone err_holds (λ e. WritesOneStream out out' err e status) err'
+      (of_refusal out out' err err' status refused.failure refused.same)
+  of_command listed known escape (explain path method target) options out out' err err' status done = done

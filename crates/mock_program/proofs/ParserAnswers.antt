@@ -75,12 +75,13 @@ first_fault argument met = or_else (other_fault app.top met argument nothing_hel
 
 names_none : (argument : Text) → bytes_eq (codes "render") argument ≡ false
     → bytes_eq (codes "check") argument ≡ false → bytes_eq (codes "answer") argument ≡ false
-    → subcommand_met (names_of app) idle argument ≡ None
-names_none argument no_render no_check no_answer = λ i.
+    → bytes_eq (codes "explain") argument ≡ false → subcommand_met (names_of app) idle argument ≡ None
+names_none argument no_render no_check no_answer no_explain = λ i.
     option_map (λ (s : Text × List Text). s.0)
     (if no_render i || false then Some (codes "render", [])
     else (if no_check i || false then Some (codes "check", [])
-    else (if no_answer i || false then Some (codes "answer", []) else None)))
+    else (if no_answer i || false then Some (codes "answer", [])
+    else (if no_explain i || false then Some (codes "explain", []) else None))))
 
 -- the same, by whether the argument is two dashes, and by what it is as a long flag
 abbrev flag_fault : Text → Bool → Option (Text × Option Text) → Kinds
@@ -114,16 +115,16 @@ is_stray c cs dash =
 
 pub other_command : (c : ℕ) (cs : List ℕ) (rest : List Text) → bytes_eq (codes "render") (c ∷ cs) ≡ false
     → bytes_eq (codes "check") (c ∷ cs) ≡ false → bytes_eq (codes "answer") (c ∷ cs) ≡ false
-    → c == 45 ≡ false
+    → bytes_eq (codes "explain") (c ∷ cs) ≡ false → c == 45 ≡ false
     → fault_of mock_app (codes "mock" ∷ (c ∷ cs) ∷ rest)
     ≡ kind.UnknownArgument ∷ kind.InvalidSubcommand ∷ []
 unfolding clap_on_literals
-other_command c cs rest no_render no_check no_answer dash =
+other_command c cs rest no_render no_check no_answer no_explain dash =
     ap (λ (k : Kinds). or_else
     (or_else k (walk_fault app.top (names_of app)
     (walked app.top.rules (names_of app) (walk_from nothing_held) (c ∷ cs)) rest))
     (below (walk app.top.rules (names_of app) nothing_held ((c ∷ cs) ∷ rest))))
-    (ap (first_fault (c ∷ cs)) (names_none (c ∷ cs) no_render no_check no_answer) ∙ is_stray c cs dash)
+    (ap (first_fault (c ∷ cs)) (names_none (c ∷ cs) no_render no_check no_answer no_explain) ∙ is_stray c cs dash)
 
 -- ---- arguments of a command
 
@@ -151,6 +152,14 @@ of_answer arguments =
     (stopped_fault app.top (names_of app) (walk_from nothing_held) (codes "answer", []) arguments)
     (sym (walk_stopped app.top.rules (names_of app) (walk_from nothing_held) (codes "answer") [] arguments))
 
+of_explain : (arguments : List Text)
+    → fault_of mock_app (codes "mock" ∷ codes "explain" ∷ arguments) ≡ below (at (codes "explain") arguments)
+unfolding clap_on_literals
+of_explain arguments =
+    ap₂ (λ (k : Kinds) (end : Walk). or_else k (below end))
+    (stopped_fault app.top (names_of app) (walk_from nothing_held) (codes "explain", []) arguments)
+    (sym (walk_stopped app.top.rules (names_of app) (walk_from nothing_held) (codes "explain") [] arguments))
+
 pub help_of_render : (rest : List Text)
     → fault_of mock_app (codes "mock" ∷ codes "render" ∷ codes "--help" ∷ rest) ≡ kind.DisplayHelp ∷ []
 unfolding clap_on_literals
@@ -176,10 +185,20 @@ pub help_of_answer : (rest : List Text)
 unfolding clap_on_literals
 help_of_answer rest = of_answer (codes "--help" ∷ rest)
 
+pub help_of_explain : (rest : List Text)
+    → fault_of mock_app (codes "mock" ∷ codes "explain" ∷ codes "--help" ∷ rest) ≡ kind.DisplayHelp ∷ []
+unfolding clap_on_literals
+help_of_explain rest = of_explain (codes "--help" ∷ rest)
+
 pub short_help_of_answer : (rest : List Text)
     → fault_of mock_app (codes "mock" ∷ codes "answer" ∷ codes "-h" ∷ rest) ≡ kind.DisplayHelp ∷ []
 unfolding clap_on_literals
 short_help_of_answer rest = of_answer (codes "-h" ∷ rest)
+
+pub short_help_of_explain : (rest : List Text)
+    → fault_of mock_app (codes "mock" ∷ codes "explain" ∷ codes "-h" ∷ rest) ≡ kind.DisplayHelp ∷ []
+unfolding clap_on_literals
+short_help_of_explain rest = of_explain (codes "-h" ∷ rest)
 
 pub nothing_to_render : fault_of mock_app (codes "mock" ∷ codes "render" ∷ [])
     ≡ kind.MissingRequiredArgument ∷ []
@@ -194,6 +213,11 @@ pub nothing_to_answer : fault_of mock_app (codes "mock" ∷ codes "answer" ∷ [
     ≡ kind.MissingRequiredArgument ∷ []
 unfolding clap_on_literals
 nothing_to_answer = refl
+
+pub nothing_to_explain : fault_of mock_app (codes "mock" ∷ codes "explain" ∷ [])
+    ≡ kind.MissingRequiredArgument ∷ []
+unfolding clap_on_literals
+nothing_to_explain = refl
 
 -- an argument is missing, or one is too many
 abbrev pub IsMiscounted : Kinds → Type 0
@@ -223,3 +247,12 @@ miscounted_answer (a ∷ []) count = inl refl
 miscounted_answer (a ∷ b ∷ []) count = inl refl
 miscounted_answer (a ∷ b ∷ c ∷ []) count = absurd (count refl)
 miscounted_answer (a ∷ b ∷ c ∷ d ∷ rest) count = inr (of_answer (codes "--" ∷ a ∷ b ∷ c ∷ d ∷ rest))
+
+pub miscounted_explain : (given : List Text) → length given ≢ 3
+    → IsMiscounted (fault_of mock_app (codes "mock" ∷ codes "explain" ∷ codes "--" ∷ given))
+unfolding clap_on_literals
+miscounted_explain [] count = inl refl
+miscounted_explain (a ∷ []) count = inl refl
+miscounted_explain (a ∷ b ∷ []) count = inl refl
+miscounted_explain (a ∷ b ∷ c ∷ []) count = absurd (count refl)
+miscounted_explain (a ∷ b ∷ c ∷ d ∷ rest) count = inr (of_explain (codes "--" ∷ a ∷ b ∷ c ∷ d ∷ rest))

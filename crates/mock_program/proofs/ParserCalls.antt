@@ -8,7 +8,7 @@ use Rattle.clap.specs.declared.parser.matches.ArgMatches.{ArgMatches}
 use Rattle.clap.specs.declared.parser.matches.ArgMatches.TheViews.{out-ArgMatches, out-SubCommand}
 use Rattle.clap.specs.declared.parser.matches.SubCommand.{SubCommand}
 use Rattle.clap.proofs.OnLiterals.{clap_on_literals}
-use Rattle.mock_program.specs.CommandLine.{Asked, render, check, answer}
+use Rattle.mock_program.specs.CommandLine.{Asked, render, check, answer, explain}
 use Rattle.mock_program.specs.Inner.Arguments.{arguments_of}
 use Rattle.mock_program.specs.Inner.Parser.{asked_by, asked_in, is_taken, mock_app}
 
@@ -17,12 +17,14 @@ unfolding is_taken clap_on_literals
 asked_is_taken (render template method target) = refl
 asked_is_taken (check file) = refl
 asked_is_taken (answer file method target) = refl
+asked_is_taken (explain file method target) = refl
 
 pub asked_is_found : (asked : Asked) → asked_by (arguments_of asked) ≡ Some asked
 unfolding asked_by clap_on_literals
 asked_is_found (render template method target) = refl
 asked_is_found (check file) = refl
 asked_is_found (answer file method target) = refl
+asked_is_found (explain file method target) = refl
 
 pub mock_is_simple : (a : App) → a ≡ mock_app → is_simple a ≡ true
 mock_is_simple a e = ap is_simple e ∙ refl

@@ -17,7 +17,8 @@ use Rattle.mock_program.proofs.ParserAnswers.{help_of_mock, help_of_render, misc
 use Rattle.mock_program.proofs.ParserAnswers.{miscounted_render, no_command, nothing_to_answer, nothing_to_check}
 use Rattle.mock_program.proofs.ParserAnswers.{nothing_to_render, other_command, short_help_of_answer}
 use Rattle.mock_program.proofs.ParserAnswers.{short_help_of_check, short_help_of_mock, short_help_of_render}
-use Rattle.mock_program.proofs.ParserAnswers.{version_of_mock}
+use Rattle.mock_program.proofs.ParserAnswers.{help_of_explain, miscounted_explain, nothing_to_explain}
+use Rattle.mock_program.proofs.ParserAnswers.{short_help_of_explain, version_of_mock}
 
 -- what the parser makes of the arguments that it is given for these
 abbrev fault : List Text → Kinds
@@ -61,9 +62,12 @@ help_at name flag count rest (inl render) help =
 help_at name flag count rest (inr (inl check)) help =
     ap (λ (n : Text). fault (codes "mock" ∷ n ∷ flag ∷ rest)) check.0
     ∙ command_help_of (codes "check") flag rest help (short_help_of_check rest) (help_of_check rest)
-help_at name flag count rest (inr (inr answer)) help =
+help_at name flag count rest (inr (inr (inl answer))) help =
     ap (λ (n : Text). fault (codes "mock" ∷ n ∷ flag ∷ rest)) answer.0
     ∙ command_help_of (codes "answer") flag rest help (short_help_of_answer rest) (help_of_answer rest)
+help_at name flag count rest (inr (inr (inr explain))) help =
+    ap (λ (n : Text). fault (codes "mock" ∷ n ∷ flag ∷ rest)) explain.0
+    ∙ command_help_of (codes "explain") flag rest help (short_help_of_explain rest) (help_of_explain rest)
 
 -- a call for help after the flag for escapes
 unflagged_help : (program name flag : Text) (rest : List Text) → IsHelpFlag flag
@@ -164,7 +168,8 @@ other_argument program (c ∷ cs) rest none plain =
     (sym (other_command c cs (delimiter (unflagged rest) ++ unflagged rest)
     (no_command_named (c ∷ cs) (codes "render") none 3 (λ e. inl (e, refl)))
     (no_command_named (c ∷ cs) (codes "check") none 1 (λ e. inr (inl (e, refl))))
-    (no_command_named (c ∷ cs) (codes "answer") none 3 (λ e. inr (inr (e, refl))))
+    (no_command_named (c ∷ cs) (codes "answer") none 3 (λ e. inr (inr (inl (e, refl)))))
+    (no_command_named (c ∷ cs) (codes "explain") none 3 (λ e. inr (inr (inr (e, refl)))))
     (begins_otherwise c cs plain))) stray_argument
 
 by_count : (kinds : Kinds) → IsMiscounted kinds → FailsByMistake kinds
@@ -204,9 +209,12 @@ miscounted_at arguments name count escape given (inl (render, three)) gives wron
 miscounted_at arguments name count escape given (inr (inl (check, one))) gives wrong =
     command_fails arguments (codes "check") escape given (subst (λ n. Gives arguments n escape given) check gives)
     (miscounted_check given (λ e. wrong (e ∙ sym one))) nothing_to_check
-miscounted_at arguments name count escape given (inr (inr (answer, three))) gives wrong =
+miscounted_at arguments name count escape given (inr (inr (inl (answer, three)))) gives wrong =
     command_fails arguments (codes "answer") escape given (subst (λ n. Gives arguments n escape given) answer gives)
     (miscounted_answer given (λ e. wrong (e ∙ sym three))) nothing_to_answer
+miscounted_at arguments name count escape given (inr (inr (inr (explain, three)))) gives wrong =
+    command_fails arguments (codes "explain") escape given (subst (λ n. Gives arguments n escape given) explain gives)
+    (miscounted_explain given (λ e. wrong (e ∙ sym three))) nothing_to_explain
 
 by_mistake : (arguments : List Text) → AreInvalid arguments → FailsByMistake (fault arguments)
 by_mistake arguments (inl short) = too_short arguments short

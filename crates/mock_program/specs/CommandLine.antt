@@ -1,5 +1,6 @@
 -- Which arguments of the command line ask for which command, which call for help and which are invalid. The first of
--- them is the program's name.
+-- them is the program's name. They are those that are left when the options of `answer` and `explain` are taken out
+-- (`words_of`).
 use Rattle.std.specs.Prelude.{◌≡◌, ◌≢◌, ◌⊎◌, ◌<◌, ⊤, ℕ, List, [], ◌∷◌, ◌++◌, length}
 use Rattle.std.specs.Prelude.{codes}
 use Rattle.template_tree.specs.declared.escape.Escape.{Escape}
@@ -13,22 +14,26 @@ pub data Asked : Type 0 where
   check : List ℕ → Asked
   -- `answer MAPPINGS METHOD URL`, where the first may be a folder
   answer : List ℕ → List ℕ → List ℕ → Asked
+  -- `explain MAPPINGS METHOD URL`, likewise
+  explain : List ℕ → List ℕ → List ℕ → Asked
 
 abbrev pub name_of : Asked → List ℕ
 name_of (render template method target) = codes "render"
 name_of (check file) = codes "check"
 name_of (answer file method target) = codes "answer"
+name_of (explain file method target) = codes "explain"
 
 abbrev pub given_to : Asked → List (List ℕ)
 given_to (render template method target) = template ∷ method ∷ target ∷ []
 given_to (check file) = file ∷ []
 given_to (answer file method target) = file ∷ method ∷ target ∷ []
+given_to (explain file method target) = file ∷ method ∷ target ∷ []
 
 -- a command's name, and how many arguments it has
 abbrev pub IsCommand : List ℕ → ℕ → Type 0
 IsCommand name count =
     ((name ≡ codes "render") × (count ≡ 3)) ⊎ ((name ≡ codes "check") × (count ≡ 1))
-    ⊎ ((name ≡ codes "answer") × (count ≡ 3))
+    ⊎ ((name ≡ codes "answer") × (count ≡ 3)) ⊎ ((name ≡ codes "explain") × (count ≡ 3))
 
 -- an argument that is taken as it is where a command's first one is expected: no call for help, not the flag for
 -- escapes, and not the end of the flags

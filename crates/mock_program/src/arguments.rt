@@ -1,7 +1,6 @@
 //! The arguments of the command line: those that the parser is given for them, and what is reported where the system
 //! gives none.
 ghost use Rattle.std.specs.Prelude.{◌≡◌, ◌≢◌, ◌⊎◌, [], ◌∷◌, ◌++◌, IfOk, OnOk, map};
-ghost use Rattle.std.specs.Prelude.{string_bytes};
 ghost use Rattle.std.specs.IoError.{error_kind};
 ghost use Rattle.std.specs.Io.KnownBytes.{Appends};
 ghost use Rattle.mock_program.specs.Inner.Arguments.{delimiter, escape_asked, escape_before, is_flag, needs_delimiter};
@@ -41,26 +40,26 @@ pub fn report_unreadable<E: Write>(error: &io::Error, err: &mut E) -> u8
 /// after it is read as a flag.
 pub(crate) fn parser_arguments<'a>(
     alloc: Global,
-    arguments: &'a [String],
+    arguments: &[&'a str],
 ) -> Result<Vec<&'a str>, AllocError>
     ensures { IfOk result (λ made. map (λ argument. argument.now) made.items
-        ≡ parser_arguments (map string_bytes arguments.now)) }
+        ≡ parser_arguments (map (λ argument. argument.now) arguments.now)) }
 {
     let mut made = Vec::new(alloc);
     made.push("mock")?;
     if let [_, command, rest @ ..] = arguments {
-        made.push(command.as_str())?;
+        made.push(*command)?;
         push_delimited(&mut made, unflagged(rest))?;
     }
     Ok(made)
 }
 
 /// Whether the flag for escapes stands before the arguments of the command.
-pub(crate) fn escape_asked(arguments: &[String]) -> Escape
-    ensures { result ≡ escape_asked (map string_bytes arguments.now) }
+pub(crate) fn escape_asked(arguments: &[&str]) -> Escape
+    ensures { result ≡ escape_asked (map (λ argument. argument.now) arguments.now) }
 {
     match arguments {
-        [_, _, first, ..] => escape_of(first.as_str()),
+        [_, _, first, ..] => escape_of(*first),
         _ => Escape::Off,
     }
 }
@@ -75,37 +74,38 @@ fn escape_of(argument: &str) -> Escape
     }
 }
 
-fn unflagged(arguments: &[String]) -> &[String]
-    ensures { map string_bytes result.now ≡ unflagged (map string_bytes arguments.now) }
+fn unflagged<'a, 's>(arguments: &'s [&'a str]) -> &'s [&'a str]
+    ensures { map (λ argument. argument.now) result.now ≡ unflagged (map (λ argument. argument.now) arguments.now) }
 {
     if let [first, rest @ ..] = arguments {
-        if first.as_str() == "--html-escape" {
+        if *first == "--html-escape" {
             return rest;
         }
     }
     arguments
 }
 
-fn push_delimited<'a>(made: &mut Vec<&'a str>, arguments: &'a [String]) -> Result<(), AllocError>
+fn push_delimited<'a>(made: &mut Vec<&'a str>, arguments: &[&'a str]) -> Result<(), AllocError>
     ensures { OnOk result (map (λ argument. argument.now) made.new.items
         ≡ map (λ argument. argument.now) made.old.items
-        ++ (delimiter (map string_bytes arguments.now) ++ map string_bytes arguments.now)) }
+        ++ (delimiter (map (λ argument. argument.now) arguments.now)
+        ++ map (λ argument. argument.now) arguments.now)) }
 {
     if needs_delimiter(arguments) {
         made.push("--")?;
     }
     for argument in arguments {
-        made.push(argument.as_str())?;
+        made.push(*argument)?;
     }
     Ok(())
 }
 
-fn needs_delimiter(arguments: &[String]) -> bool
-    ensures { result ≡ needs_delimiter (map string_bytes arguments.now) }
+fn needs_delimiter(arguments: &[&str]) -> bool
+    ensures { result ≡ needs_delimiter (map (λ argument. argument.now) arguments.now) }
 {
     match arguments {
         [] => false,
-        [first, ..] => !is_flag(first.as_str()),
+        [first, ..] => !is_flag(*first),
     }
 }
 

@@ -2,16 +2,19 @@
 ghost use Rattle.std.specs.Prelude.{◌≡◌, ◌⊎◌, map, string_bytes};
 ghost use Rattle.clap.specs.Words.{kind_of};
 ghost use Rattle.clap.specs.declared.error.kind.ErrorKind.{ErrorKind};
-ghost use Rattle.mock_program.specs.CommandLine.{AreInvalid, Asked, AsksFor, CallsForHelp};
+ghost use Rattle.mock_program.specs.CommandLine.{AreInvalid, Asked, AsksFor, CallsForHelp, answer};
 ghost use Rattle.mock_program.specs.Commands.{Does};
 ghost use Rattle.mock_program.specs.Inner.Parser.{IsHelp, asked_of};
+ghost use Rattle.mock_program.specs.Options.{given_of, options_of, words_of};
 ghost use Rattle.command_output.specs.Lines.{error_line, out_of_memory};
 ghost use Rattle.command_output.specs.Output.{AppendsFront, Followed, WritesOneStream};
 ghost use Rattle.template_tree.specs.declared.escape.Escape.{Escape};
 
 use crate::arguments::{escape_asked, parser_arguments};
+use crate::options::{GivenOption, Split, split};
 use crate::parser::{Call, call_of};
 use crate::render::render_to;
+use crate::request_options::request_options;
 use clap::Error;
 use clap::error::ErrorKind;
 use command_output::error::CommandError;
@@ -19,7 +22,9 @@ use command_output::files::FileReader;
 use command_output::status::{FAILURE, INVALID_ARGUMENTS, SUCCESS};
 use error_code::error_code::ErrorCode;
 use mapping_answer::answer::answer_file;
+use mapping_answer::sent::SentRequest;
 use mapping_check::check::check_file;
+use mapping_explanation::explain::{Form, Question, explain_file};
 use std::alloc::Global;
 use std::io::Write;
 use template_tree::escape::Escape;
@@ -33,42 +38,86 @@ pub fn run<F: FileReader, O: Write, E: Write>(
     arguments: &[String],
     out: &mut O,
     err: &mut E,
+    is_coloured: bool,
 ) -> u8
     // Arguments that ask for a command do what that command does, each argument taken as it is.
-    ensures command { (escape : Escape) (asked : Asked) → AsksFor (map string_bytes arguments.now) escape asked
+    ensures command { (escape : Escape) (asked : Asked)
+        → AsksFor (words_of (map string_bytes arguments.now)) escape asked
         → Does O.contents E.contents (F.listed files.now) (F.content files.now) escape asked
-        out.old out.new err.old err.new result }
+        (options_of (map string_bytes arguments.now)) out.old out.new err.old err.new result }
 
     // Help is no mistake, and invalid arguments are one. Where the text can't be made or written, the status is 1.
-    ensures help { CallsForHelp (map string_bytes arguments.now) → (result ≡ 0) ⊎ (result ≡ 1) }
-    ensures invalid { AreInvalid (map string_bytes arguments.now) → (result ≡ 2) ⊎ (result ≡ 1) }
+    ensures help { CallsForHelp (words_of (map string_bytes arguments.now)) → (result ≡ 0) ⊎ (result ≡ 1) }
+    ensures invalid { AreInvalid (words_of (map string_bytes arguments.now)) → (result ≡ 2) ⊎ (result ≡ 1) }
     // Apart from lines on standard error that explain or warn, a command writes to one of both streams.
     ensures streams { Followed E.contents (λ e. WritesOneStream out.old out.new err.old e result) err.new }
 {
-    let escape = escape_asked(arguments);
-    let Ok(arguments) = parser_arguments(alloc, arguments) else {
+    let Ok(split) = split(alloc, arguments) else {
+        CommandError::from(ErrorCode::OutOfMemory).report(err);
+        return FAILURE;
+    };
+    run_words(alloc, files, &split, out, err, is_coloured)
+}
+
+fn run_words<F: FileReader, O: Write, E: Write>(
+    alloc: Global,
+    files: &F,
+    given: &Split<'_>,
+    out: &mut O,
+    err: &mut E,
+    is_coloured: bool,
+) -> u8
+    ensures command { (escape : Escape) (asked : Asked)
+        → AsksFor (map (λ word. word.now) given.now.words.items) escape asked
+        → Does O.contents E.contents (F.listed files.now) (F.content files.now) escape asked
+        (map given_of given.now.options.items) out.old out.new err.old err.new result }
+    ensures help { CallsForHelp (map (λ word. word.now) given.now.words.items) → (result ≡ 0) ⊎ (result ≡ 1) }
+    ensures invalid { AreInvalid (map (λ word. word.now) given.now.words.items) → (result ≡ 2) ⊎ (result ≡ 1) }
+    ensures streams { Followed E.contents (λ e. WritesOneStream out.old out.new err.old e result) err.new }
+{
+    let words = given.words.as_slice();
+    let escape = escape_asked(words);
+    let Ok(arguments) = parser_arguments(alloc, words) else {
         CommandError::from(ErrorCode::OutOfMemory).report(err);
         return FAILURE;
     };
     match call_of(alloc, arguments.as_slice()) {
-        Ok(Some(call)) => run_call(alloc, files, escape, call, out, err),
+        Ok(Some(call)) => {
+            let asked = AskedCall {
+                call,
+                options: given.options.as_slice(),
+                escape,
+                is_coloured,
+            };
+            run_call(alloc, files, asked, out, err)
+        }
         Ok(None) => FAILURE,
         Err(error) => write_parser_message(&error, out, err),
     }
 }
 
+/// A command with its options.
+#[derive(Clone, Copy)]
+struct AskedCall<'a> {
+    call: Call<'a>,
+    options: &'a [GivenOption<'a>],
+    escape: Escape,
+    /// Whether standard output takes colours.
+    is_coloured: bool,
+}
+
 fn run_call<F: FileReader, O: Write, E: Write>(
     alloc: Global,
     files: &F,
-    escape: Escape,
-    call: Call<'_>,
+    asked: AskedCall<'_>,
     out: &mut O,
     err: &mut E,
 ) -> u8
-    ensures { Does O.contents E.contents (F.listed files.now) (F.content files.now) escape (asked_of call.entry)
-        out.old out.new err.old err.new result }
+    ensures { Does O.contents E.contents (F.listed files.now) (F.content files.now) asked.entry.escape
+        (asked_of asked.entry.call) (map given_of asked.entry.options.now) out.old out.new err.old err.new result }
 {
-    match call {
+    let escape = asked.escape;
+    match asked.call {
         Call::Render {
             template,
             method,
@@ -79,7 +128,78 @@ fn run_call<F: FileReader, O: Write, E: Write>(
             file,
             method,
             target,
-        } => answer_file(alloc, files, file, method, target, out, err, escape),
+        } => run_answer(alloc, files, asked, file, method, target, out, err),
+        Call::Explain {
+            file,
+            method,
+            target,
+        } => run_explain(alloc, files, asked, file, method, target, out, err),
+    }
+}
+
+fn run_answer<F: FileReader, O: Write, E: Write>(
+    alloc: Global,
+    files: &F,
+    asked: AskedCall<'_>,
+    file: &str,
+    method: &str,
+    target: &str,
+    out: &mut O,
+    err: &mut E,
+) -> u8
+    ensures { Does O.contents E.contents (F.listed files.now) (F.content files.now) asked.entry.escape
+        (answer file.now method.now target.now) (map given_of asked.entry.options.now)
+        out.old out.new err.old err.new result }
+{
+    match request_options(alloc, files, asked.options, false) {
+        Ok(options) => {
+            let sent = SentRequest {
+                method,
+                target,
+                headers: options.headers.as_slice(),
+                body: options.body.as_slice(),
+            };
+            answer_file(alloc, files, file, sent, out, err, asked.escape)
+        }
+        Err(error) => error.report(alloc, err),
+    }
+}
+
+fn run_explain<F: FileReader, O: Write, E: Write>(
+    alloc: Global,
+    files: &F,
+    asked: AskedCall<'_>,
+    file: &str,
+    method: &str,
+    target: &str,
+    out: &mut O,
+    err: &mut E,
+) -> u8
+    ensures { Followed E.contents (λ e. WritesOneStream out.old out.new err.old e result) err.new }
+{
+    match request_options(alloc, files, asked.options, true) {
+        Ok(options) => {
+            let question = Question {
+                request: SentRequest {
+                    method,
+                    target,
+                    headers: options.headers.as_slice(),
+                    body: options.body.as_slice(),
+                },
+                states: options.states.as_slice(),
+                form: form_of(options.is_json, asked.is_coloured),
+            };
+            explain_file(alloc, files, file, question, out, err, asked.escape)
+        }
+        Err(error) => error.report(alloc, err),
+    }
+}
+
+fn form_of(is_json: bool, is_coloured: bool) -> Form {
+    match (is_json, is_coloured) {
+        (true, _) => Form::Json,
+        (false, true) => Form::Coloured,
+        (false, false) => Form::Text,
     }
 }
 

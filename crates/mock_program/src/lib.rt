@@ -6,5 +6,7 @@
 
 pub mod arguments;
 pub mod command_line;
+mod options;
 mod parser;
 pub mod render;
+mod request_options;

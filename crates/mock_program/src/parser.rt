@@ -3,7 +3,7 @@ ghost use Rattle.std.specs.Prelude.{◌≡◌, IfOk, IfErr, false, map, option_m
 ghost use Rattle.clap.specs.Words.{FailsBy, app_of, first_of, found_of, kind_of, rows_of, rule_of};
 ghost use Rattle.clap.specs.declared.error.kind.ErrorKind.{ErrorKind};
 ghost use Rattle.mock_program.specs.Inner.Parser.{answer_in, answers_to, asked_by, asked_in, asked_of, check_in};
-ghost use Rattle.mock_program.specs.Inner.Parser.{is_taken, mock_app, render_in, required_rule};
+ghost use Rattle.mock_program.specs.Inner.Parser.{explain_in, is_taken, mock_app, render_in, required_rule};
 
 use clap::{Arg, ArgMatches, Command, Error};
 use std::alloc::{AllocError, Global};
@@ -14,10 +14,11 @@ const MOCK_HELP: &str = "A stub server for HTTP, like WireMock, whose answers ar
 Usage: mock <COMMAND>
 
 Commands:
-  serve   Serves the mappings of a file, and takes admin calls
-  check   Says which mappings of a file are accepted, and what their templates may cost
-  answer  Prints what a server with the mappings of a file replies to one request
-  render  Renders a response template for one request
+  serve    Serves the mappings of a file, and takes admin calls
+  check    Says which mappings of a file are accepted, and what their templates may cost
+  answer   Prints what a server with the mappings of a file replies to one request
+  explain  Says which mapping of a file answers a request, and why each other one doesn't
+  render   Renders a response template for one request
 
 Options:
   -h, --help     Print help
@@ -100,11 +101,16 @@ Options, before MAPPINGS:
       --html-escape  Escapes what {{x}} prints in templates for HTML, but not what {{{x}}} prints
   -h, --help         Print help
 
-It prints the reply of a server that has just started: the status, the headers, an empty line and
-the body. The request has no headers and no body. Where and why a mapping is refused, and warnings,
-are written to standard error.
+Options, anywhere:
+      --header <NAME: VALUE>  A header of the request; may be given several times
+      --body <TEXT>           Its body
+      --body-file <FILE>      A file with its body
 
-Where MAPPINGS is `-h`, `--help`, `--html-escape` or `--`, a `--` has to precede it.
+It prints the reply of a server that has just started: the status, the headers, an empty line and
+the body. Where and why a mapping is refused, and warnings, are written to standard error.
+
+Where an argument is the name of an option, or MAPPINGS is `-h`, `--help`, `--html-escape` or `--`, a
+`--` has to precede MAPPINGS.
 
 Example, in the folder of this repository:
   mock answer examples/plain.json GET /hello
@@ -114,6 +120,44 @@ prints
   Content-Type: text/plain
 
   Hello
+";
+
+const EXPLAIN_HELP: &str =
+    "Says which mapping of a file answers a request, and why each other one doesn't
+
+Usage: mock explain [OPTIONS] <MAPPINGS> <METHOD> <URL>
+
+Arguments:
+  <MAPPINGS>  A JSON file: one mapping, or an object with a list `mappings`; or a folder of such files
+  <METHOD>    The method of the request, as GET
+  <URL>       The target of the request, as /hi/Ann?q=1 or http://host/hi/Ann
+
+Options, before MAPPINGS:
+      --html-escape  Escapes what {{x}} prints in templates for HTML, but not what {{{x}}} prints
+  -h, --help         Print help
+
+Options, anywhere:
+      --header <NAME: VALUE>    A header of the request; may be given several times
+      --body <TEXT>             Its body
+      --body-file <FILE>        A file with its body
+      --state <SCENARIO=STATE>  The state that a scenario is set to first; may be given several times
+      --json                    Prints the same as JSON
+
+Its first line says which mapping of a server that has just started answers, and with which status, or
+that none does. Then come the mappings, in the order in which they are chosen; below one that doesn't
+match, a line for each of its conditions that the request doesn't meet, and what was found. The status
+is 0 where a mapping answers, and 1 where none does.
+
+Where an argument is the name of an option, or MAPPINGS is `-h`, `--help`, `--html-escape` or `--`, a
+`--` has to precede MAPPINGS.
+
+Example, in the folder of this repository:
+  mock explain examples/plain.json POST /hello
+
+prints
+  no mapping answers: status 404
+  mapping 1 (name \"a plain answer\"): doesn't match
+    method \"GET\", found \"POST\"
 ";
 
 /// A command that is asked for, with its arguments as they are on the command line.
@@ -128,6 +172,11 @@ pub(crate) enum Call<'a> {
         file: &'a str,
     },
     Answer {
+        file: &'a str,
+        method: &'a str,
+        target: &'a str,
+    },
+    Explain {
         file: &'a str,
         method: &'a str,
         target: &'a str,
@@ -160,6 +209,7 @@ fn call_in<'a>(name: &str, arguments: &ArgMatches<'a>) -> Option<Call<'a>>
         "render" => render_call(arguments),
         "check" => check_call(arguments),
         "answer" => answer_call(arguments),
+        "explain" => explain_call(arguments),
         _ => None,
     }
 }
@@ -186,6 +236,16 @@ fn answer_call<'a>(arguments: &ArgMatches<'a>) -> Option<Call<'a>>
     ensures { option_map asked_of result ≡ answer_in (rows_of (found_of arguments.now)) }
 {
     Some(Call::Answer {
+        file: value(arguments, "mappings")?,
+        method: value(arguments, "method")?,
+        target: value(arguments, "url")?,
+    })
+}
+
+fn explain_call<'a>(arguments: &ArgMatches<'a>) -> Option<Call<'a>>
+    ensures { option_map asked_of result ≡ explain_in (rows_of (found_of arguments.now)) }
+{
+    Some(Call::Explain {
         file: value(arguments, "mappings")?,
         method: value(arguments, "method")?,
         target: value(arguments, "url")?,
@@ -247,6 +307,27 @@ fn command<'a>(alloc: Global) -> Result<Command<'a>, AllocError>
             "URL",
             "The target of the request, as /hi/Ann?q=1 or http://host/hi/Ann",
         ))?;
+    let explain = Command::new(alloc, "explain")
+        .about("Says which mapping of a file answers a request, and why each other one doesn't")
+        .override_help(EXPLAIN_HELP)
+        .arg(required(
+            alloc,
+            "mappings",
+            "MAPPINGS",
+            "A JSON file: one mapping, or an object with a list `mappings`",
+        ))?
+        .arg(required(
+            alloc,
+            "method",
+            "METHOD",
+            "The method of the request, as GET",
+        ))?
+        .arg(required(
+            alloc,
+            "url",
+            "URL",
+            "The target of the request, as /hi/Ann?q=1 or http://host/hi/Ann",
+        ))?;
     Command::new(alloc, "mock")
         .version("1")
         .override_help(MOCK_HELP)
@@ -255,7 +336,8 @@ fn command<'a>(alloc: Global) -> Result<Command<'a>, AllocError>
         .disable_help_subcommand(true)
         .subcommand(render)?
         .subcommand(check)?
-        .subcommand(answer)
+        .subcommand(answer)?
+        .subcommand(explain)
 }
 
 fn required<'a>(alloc: Global, id: &'a str, name: &'a str, help: &'a str) -> Arg<'a>

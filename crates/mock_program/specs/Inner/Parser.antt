@@ -5,7 +5,7 @@ use Rattle.std.specs.Str.{bytes_eq}
 use Rattle.clap.specs.Words.{App, Kinds, Row, Rule, Text, fault_of, first_of, new_app, new_rule, subcommand_of, takes}
 use Rattle.clap.specs.Words.{with_rule, with_subcommand}
 use Rattle.clap.specs.declared.error.kind.ErrorKind.{ErrorKind}
-use Rattle.mock_program.specs.CommandLine.{Asked, render, check, answer}
+use Rattle.mock_program.specs.CommandLine.{Asked, render, check, answer, explain}
 use Rattle.mock_program.specs.declared.parser.Call.{Call}
 use Rattle.mock_program.specs.declared.parser.Call.TheVariants as call
 
@@ -24,6 +24,10 @@ abbrev pub answer_app : App
 answer_app = with_rule (with_rule (with_rule (new_app (codes "answer"))
     (required_rule (codes "mappings"))) (required_rule (codes "method"))) (required_rule (codes "url"))
 
+abbrev pub explain_app : App
+explain_app = with_rule (with_rule (with_rule (new_app (codes "explain"))
+    (required_rule (codes "mappings"))) (required_rule (codes "method"))) (required_rule (codes "url"))
+
 -- the program without its commands
 abbrev pub program_app : App
 program_app = record (new_app (codes "mock")) {
@@ -36,7 +40,9 @@ program_app = record (new_app (codes "mock")) {
 }
 
 abbrev pub mock_app : App
-mock_app = with_subcommand (with_subcommand (with_subcommand program_app render_app.top) check_app.top) answer_app.top
+mock_app =
+    with_subcommand (with_subcommand (with_subcommand (with_subcommand program_app render_app.top) check_app.top)
+    answer_app.top) explain_app.top
 
 -- the parser's answer is no mistake, but a text that was called for
 abbrev pub IsHelp : ErrorKind → Type 0
@@ -66,11 +72,17 @@ answer_in rows =
     option_and_then (λ file. option_and_then (λ method. option_map (λ target. answer file method target)
     (first_of (codes "url") rows)) (first_of (codes "method") rows)) (first_of (codes "mappings") rows)
 
+abbrev pub explain_in : List Row → Option Asked
+explain_in rows =
+    option_and_then (λ file. option_and_then (λ method. option_map (λ target. explain file method target)
+    (first_of (codes "url") rows)) (first_of (codes "method") rows)) (first_of (codes "mappings") rows)
+
 abbrev pub asked_in : Text → List Row → Option Asked
 asked_in name rows =
     if bytes_eq name (codes "render") then render_in rows
     else (if bytes_eq name (codes "check") then check_in rows
-    else (if bytes_eq name (codes "answer") then answer_in rows else None))
+    else (if bytes_eq name (codes "answer") then answer_in rows
+    else (if bytes_eq name (codes "explain") then explain_in rows else None)))
 
 -- the command that these arguments name, with its own
 unfoldable pub asked_by : List Text → Option Asked
@@ -80,3 +92,4 @@ abbrev pub asked_of : Call → Asked
 asked_of (call.Render template method target) = render template.now method.now target.now
 asked_of (call.Check file) = check file.now
 asked_of (call.Answer file method target) = answer file.now method.now target.now
+asked_of (call.Explain file method target) = explain file.now method.now target.now

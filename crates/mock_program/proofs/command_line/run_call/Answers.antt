@@ -4,4 +4,4 @@ pub returns-in-Render : goal.returns-in-Render
 returns-in-Render g c = rw c.in-Render.is c.render_to.ensures
 
 pub returns-in-Answer : goal.returns-in-Answer
-returns-in-Answer g c = rw c.in-Answer.is c.answer_file.ensures
+returns-in-Answer g c = rw c.in-Answer.is c.run_answer.ensures

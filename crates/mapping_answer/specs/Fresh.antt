@@ -1,22 +1,14 @@
--- A book that was just opened, and what it answers.
+-- A book that was just opened with the mappings of documents.
 use Rattle.std.specs.Prelude.{◌≡◌, ◌≤◌, ℕ, List, length}
 use Rattle.mapping_answer.specs.Answering.{SpellDocuments}
 use Rattle.mapping_model.specs.declared.mapping_spec.MappingSpec.{MappingSpec}
 use Rattle.request_journal.specs.Live.{live}
 use Rattle.request_journal.specs.Past.{Past, opened}
-use Rattle.request_journal.specs.declared.event.ServeAnswer.{ServeAnswer}
-use Rattle.request_journal.specs.declared.event.ServeAnswer.TheVariants.{Stub, Proxy, Unmatched}
 use Rattle.request_journal.specs.declared.limits.TheConstants.{LIVE_LIMIT}
 use Rattle.template_tree.specs.declared.escape.Escape.{Escape}
 
--- the past of a book that was just opened with the documents' mappings
+-- the past of a book that was just opened with the documents' mappings, whose templates' prints are escaped so
 abbrev pub IsFresh : Escape → List (List ℕ) → Past → Type 0
 IsFresh escape documents past =
     (mappings : List MappingSpec) × SpellDocuments escape documents mappings × (past ≡ opened 0 mappings)
     × (length (live past) ≤ LIVE_LIMIT)
-
--- the answer doesn't send the request on
-abbrev pub IsOwn : ServeAnswer → Type 0
-IsOwn (Stub captured) = Unit {0}
-IsOwn (Proxy target) = ⊥
-IsOwn Unmatched = Unit {0}

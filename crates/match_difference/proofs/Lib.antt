@@ -1,0 +1,4 @@
+pub mod AllLemmas
+pub mod EligibleLemmas
+pub mod MetLemmas
+pub mod UnmetLemmas

@@ -1,0 +1,4 @@
+pub mod Conditions
+pub mod Unmet
+pub mod Refusal
+pub mod Inner

@@ -1,0 +1,101 @@
+// The conditions of a mapping that a request doesn't meet.
+ghost use Rattle.std.specs.Prelude.{◌≡◌, ◌↔◌, ◌⊎◌, ◌∷◌, ◌++◌, [], IfErr, IfOk, OnOk, map};
+ghost use Rattle.match_difference.specs.Conditions.{conditions_of};
+ghost use Rattle.match_difference.specs.Refusal.{IsConditionRefusal, IsDifferenceRefusal};
+ghost use Rattle.match_difference.specs.Inner.Added.{IsAdded};
+ghost use Rattle.match_difference.specs.Unmet.{AreUnmet};
+ghost use Rattle.request_journal.specs.Choice.{IsEligible};
+ghost use Rattle.request_parts.specs.declared.error.RequestMatchError.TheVariants.{OutOfMemory as NoMemory};
+ghost use Rattle.scenario_core.specs.Scenarios.{state_of};
+
+use crate::condition::Condition;
+use crate::conditions::conditions_of;
+use crate::found::Found;
+use crate::look_up::found_of;
+use crate::met::is_met;
+use request_journal::mapping::Mapping;
+use request_parts::error::RequestMatchError;
+use request_parts::parsed_request::ParsedRequest;
+use scenario_core::scenarios::Scenarios;
+use std::alloc::{AllocError, Global};
+
+/// A condition that isn't met, and what there is in its place.
+pub struct Difference {
+    pub condition: Condition,
+    pub found: Found,
+}
+
+// Written out, so that a caller's proof sees one call and not the drop of each part.
+impl Drop for Difference {
+    fn drop(self) {
+        let Difference {
+            condition: _condition,
+            found: _found,
+        } = self;
+    }
+}
+
+/// The conditions of the mapping that the request doesn't meet, where its scenario is in the state that it has there.
+/// There are none exactly where the mapping may be chosen.
+pub fn differences(
+    alloc: Global,
+    mapping: &Mapping,
+    request: &mut ParsedRequest<'_>,
+    scenarios: &Scenarios,
+) -> Result<Vec<Difference>, RequestMatchError>
+    ensures unmet { IfOk result (λ found. AreUnmet (state_of scenarios.now) request.old
+        (conditions_of mapping.now.spec) (map (λ d. d.condition) found.items)) }
+    ensures eligible { IfOk result
+        (λ found. (found.items ≡ []) ↔ IsEligible (state_of scenarios.now) request.old mapping.now) }
+    ensures same_request { request.new ≡ request.old }
+    ensures refusal { IfErr result (IsDifferenceRefusal (conditions_of mapping.now.spec)) }
+{
+    let conditions = conditions_of(alloc, mapping.spec.spec())?;
+    unmet(alloc, conditions, request, scenarios)
+}
+
+fn unmet(
+    alloc: Global,
+    conditions: Vec<Condition>,
+    request: &mut ParsedRequest<'_>,
+    scenarios: &Scenarios,
+) -> Result<Vec<Difference>, RequestMatchError>
+    ensures unmet { IfOk result (λ found. AreUnmet (state_of scenarios.now) request.old
+        conditions.items (map (λ d. d.condition) found.items)) }
+    ensures same_request { request.new ≡ request.old }
+    ensures refusal { IfErr result (IsDifferenceRefusal conditions.items) }
+{
+    let mut list = Vec::new(alloc);
+    for condition in conditions {
+        add_unmet(alloc, &mut list, condition, request, scenarios)?;
+    }
+    Ok(list)
+}
+
+/// Adds the condition, unless it is met.
+fn add_unmet(
+    alloc: Global,
+    list: &mut Vec<Difference>,
+    condition: Condition,
+    request: &mut ParsedRequest<'_>,
+    scenarios: &Scenarios,
+) -> Result<(), RequestMatchError>
+    ensures added { OnOk result (IsAdded (state_of scenarios.now) request.old condition
+        (map (λ d. d.condition) list.old.items) (map (λ d. d.condition) list.new.items)) }
+    ensures same_request { request.new ≡ request.old }
+    ensures refusal { IfErr result (λ error. (error ≡ NoMemory) ⊎ IsConditionRefusal condition error) }
+{
+    if is_met(alloc, &condition, request, scenarios)? {
+        return Ok(());
+    }
+    let found = found_of(alloc, &condition, request.snapshot(), scenarios)?;
+    push(list, Difference { condition, found })?;
+    Ok(())
+}
+
+fn push(list: &mut Vec<Difference>, difference: Difference) -> Result<(), AllocError>
+    ensures { OnOk result (list.new.items ≡ list.old.items ++ difference ∷ []) }
+{
+    list.push(difference)?;
+    Ok(())
+}
