@@ -11,7 +11,7 @@ ghost use Rattle.command_output.specs.Output.{AppendsFront, Followed, WritesOneS
 ghost use Rattle.template_tree.specs.declared.escape.Escape.{Escape};
 
 use crate::arguments::{escape_asked, parser_arguments};
-use crate::options::{GivenOption, Split, split};
+use crate::options::{GivenOption, Split, split_arguments};
 use crate::parser::{Call, call_of};
 use crate::render::render_to;
 use crate::request_options::request_options;
@@ -52,7 +52,7 @@ pub fn run<F: FileReader, O: Write, E: Write>(
     // Apart from lines on standard error that explain or warn, a command writes to one of both streams.
     ensures streams { Followed E.contents (λ e. WritesOneStream out.old out.new err.old e result) err.new }
 {
-    let Ok(split) = split(alloc, arguments) else {
+    let Ok(split) = split_arguments(alloc, arguments) else {
         CommandError::from(ErrorCode::OutOfMemory).report(err);
         return FAILURE;
     };
