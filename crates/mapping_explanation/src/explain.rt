@@ -1,5 +1,5 @@
 //! `mock explain`: what it prints, and how it ends.
-ghost use Rattle.std.specs.Prelude.{◌≡◌, ◌≤◌};
+ghost use Rattle.std.specs.Prelude.{◌≡◌, ◌⊎◌};
 ghost use Rattle.command_output.specs.Output.{Followed, WritesOneStream};
 
 use crate::explanation::{Explanation, explanation_of};
@@ -71,12 +71,11 @@ fn explain_to<O: Write, E: Write>(
     out: &mut O,
     err: &mut E,
     escape: Escape,
-) -> (u8, bool) {
-    match printed(alloc, documents, question, escape) {
-        Ok((text, is_answered)) => match put(out, text.as_str().as_bytes()) {
-            Ok(()) if is_answered => (SUCCESS, false),
-            _ => (FAILURE, false),
-        },
+) -> (u8, bool)
+    ensures { WritesOneStream out.old out.new err.old err.new result.0 }
+{
+    match text_and_answer(alloc, documents, question, escape) {
+        Ok(made) => (write_to(out, &made), false),
         Err(error) => {
             error.report(err);
             (FAILURE, true)
@@ -84,16 +83,33 @@ fn explain_to<O: Write, E: Write>(
     }
 }
 
-/// What is printed, and whether a mapping answers.
-fn printed(
+fn write_to<O: Write>(out: &mut O, made: &Printed) -> u8
+    ensures { (result ≡ 0) ⊎ (result ≡ 1) }
+{
+    match put(out, made.text.as_str().as_bytes()) {
+        Ok(()) if made.is_answered => SUCCESS,
+        _ => FAILURE,
+    }
+}
+
+#[derive(Drop)]
+struct Printed {
+    text: String,
+    /// Whether a mapping answers.
+    is_answered: bool,
+}
+
+fn text_and_answer(
     alloc: Global,
     documents: &Documents,
     question: Question<'_>,
     escape: Escape,
-) -> Result<(String, bool), CommandError> {
+) -> Result<Printed, CommandError> {
     let found = explanation_of(alloc, documents, question.request, question.states, escape)?;
-    let is_answered = found.chosen().is_some();
-    Ok((printed_as(alloc, &found, question.form)?, is_answered))
+    Ok(Printed {
+        is_answered: found.chosen().is_some(),
+        text: printed_as(alloc, &found, question.form)?,
+    })
 }
 
 fn printed_as(

@@ -92,7 +92,7 @@ pub(crate) fn explanation_of(
     let mut book = opened(alloc, mappings)?;
     set_states(alloc, &mut book, states)?;
     let request = snapshot_of(alloc, sent)?;
-    let mut listed = explained(alloc, &book, ids.as_slice(), &request)?;
+    let mut listed = each_explained(alloc, &book, ids.as_slice(), &request)?;
     let answer = match book.serve(request.try_clone()?) {
         Ok(answer) => answer,
         Err(error) => return Err(CommandError::from(error.code)),
@@ -141,7 +141,7 @@ fn set_states(
 }
 
 /// Each mapping of the book, the newest first, with its differences.
-fn explained(
+fn each_explained(
     alloc: Global,
     book: &Book,
     ids: &[MappingId],

@@ -11,7 +11,7 @@ ghost use Rattle.command_output.specs.Output.{AppendsFront, Followed, WritesOneS
 ghost use Rattle.template_tree.specs.declared.escape.Escape.{Escape};
 
 use crate::arguments::{escape_asked, parser_arguments};
-use crate::options::{GivenOption, Split, split};
+use crate::options::{GivenOption, Split, split_arguments};
 use crate::parser::{Call, call_of};
 use crate::render::render_to;
 use crate::request_options::request_options;
@@ -52,7 +52,7 @@ pub fn run<F: FileReader, O: Write, E: Write>(
     // Apart from lines on standard error that explain or warn, a command writes to one of both streams.
     ensures streams { Followed E.contents (λ e. WritesOneStream out.old out.new err.old e result) err.new }
 {
-    let Ok(split) = split(alloc, arguments) else {
+    let Ok(split) = split_arguments(alloc, arguments) else {
         CommandError::from(ErrorCode::OutOfMemory).report(err);
         return FAILURE;
     };
@@ -83,41 +83,28 @@ fn run_words<F: FileReader, O: Write, E: Write>(
     };
     match call_of(alloc, arguments.as_slice()) {
         Ok(Some(call)) => {
-            let asked = AskedCall {
-                call,
-                options: given.options.as_slice(),
-                escape,
-                is_coloured,
-            };
-            run_call(alloc, files, asked, out, err)
+            let options = given.options.as_slice();
+            run_call(alloc, files, escape, call, options, out, err, is_coloured)
         }
         Ok(None) => FAILURE,
         Err(error) => write_parser_message(&error, out, err),
     }
 }
 
-/// A command with its options.
-#[derive(Clone, Copy)]
-struct AskedCall<'a> {
-    call: Call<'a>,
-    options: &'a [GivenOption<'a>],
-    escape: Escape,
-    /// Whether standard output takes colours.
-    is_coloured: bool,
-}
-
 fn run_call<F: FileReader, O: Write, E: Write>(
     alloc: Global,
     files: &F,
-    asked: AskedCall<'_>,
+    escape: Escape,
+    call: Call<'_>,
+    options: &[GivenOption<'_>],
     out: &mut O,
     err: &mut E,
+    is_coloured: bool,
 ) -> u8
-    ensures { Does O.contents E.contents (F.listed files.now) (F.content files.now) asked.entry.escape
-        (asked_of asked.entry.call) (map given_of asked.entry.options.now) out.old out.new err.old err.new result }
+    ensures { Does O.contents E.contents (F.listed files.now) (F.content files.now) escape
+        (asked_of call.entry) (map given_of options.now) out.old out.new err.old err.new result }
 {
-    let escape = asked.escape;
-    match asked.call {
+    match call {
         Call::Render {
             template,
             method,
@@ -128,38 +115,43 @@ fn run_call<F: FileReader, O: Write, E: Write>(
             file,
             method,
             target,
-        } => run_answer(alloc, files, asked, file, method, target, out, err),
+        } => run_answer(
+            alloc, files, escape, options, file, method, target, out, err,
+        ),
         Call::Explain {
             file,
             method,
             target,
-        } => run_explain(alloc, files, asked, file, method, target, out, err),
+        } => run_explain(
+            alloc, files, escape, options, file, method, target, out, err, is_coloured,
+        ),
     }
 }
 
 fn run_answer<F: FileReader, O: Write, E: Write>(
     alloc: Global,
     files: &F,
-    asked: AskedCall<'_>,
+    escape: Escape,
+    options: &[GivenOption<'_>],
     file: &str,
     method: &str,
     target: &str,
     out: &mut O,
     err: &mut E,
 ) -> u8
-    ensures { Does O.contents E.contents (F.listed files.now) (F.content files.now) asked.entry.escape
-        (answer file.now method.now target.now) (map given_of asked.entry.options.now)
+    ensures { Does O.contents E.contents (F.listed files.now) (F.content files.now) escape
+        (answer file.now method.now target.now) (map given_of options.now)
         out.old out.new err.old err.new result }
 {
-    match request_options(alloc, files, asked.options, false) {
-        Ok(options) => {
+    match request_options(alloc, files, options, false) {
+        Ok(given) => {
             let sent = SentRequest {
                 method,
                 target,
-                headers: options.headers.as_slice(),
-                body: options.body.as_slice(),
+                headers: given.headers.as_slice(),
+                body: given.body.as_slice(),
             };
-            answer_file(alloc, files, file, sent, out, err, asked.escape)
+            answer_file(alloc, files, file, sent, out, err, escape)
         }
         Err(error) => error.report(alloc, err),
     }
@@ -168,28 +160,30 @@ fn run_answer<F: FileReader, O: Write, E: Write>(
 fn run_explain<F: FileReader, O: Write, E: Write>(
     alloc: Global,
     files: &F,
-    asked: AskedCall<'_>,
+    escape: Escape,
+    options: &[GivenOption<'_>],
     file: &str,
     method: &str,
     target: &str,
     out: &mut O,
     err: &mut E,
+    is_coloured: bool,
 ) -> u8
     ensures { Followed E.contents (λ e. WritesOneStream out.old out.new err.old e result) err.new }
 {
-    match request_options(alloc, files, asked.options, true) {
-        Ok(options) => {
+    match request_options(alloc, files, options, true) {
+        Ok(given) => {
             let question = Question {
                 request: SentRequest {
                     method,
                     target,
-                    headers: options.headers.as_slice(),
-                    body: options.body.as_slice(),
+                    headers: given.headers.as_slice(),
+                    body: given.body.as_slice(),
                 },
-                states: options.states.as_slice(),
-                form: form_of(options.is_json, asked.is_coloured),
+                states: given.states.as_slice(),
+                form: form_of(given.is_json, is_coloured),
             };
-            explain_file(alloc, files, file, question, out, err, asked.escape)
+            explain_file(alloc, files, file, question, out, err, escape)
         }
         Err(error) => error.report(alloc, err),
     }

@@ -21,7 +21,7 @@ pub(crate) struct Split<'a> {
     pub(crate) options: Vec<GivenOption<'a>>,
 }
 
-pub(crate) fn split<'a>(alloc: Global, arguments: &'a [String]) -> Result<Split<'a>, AllocError>
+pub(crate) fn split_arguments<'a>(alloc: Global, arguments: &'a [String]) -> Result<Split<'a>, AllocError>
     ensures words { IfOk result (λ split. map (λ word. word.now) split.words.items
         ≡ words_of (map string_bytes arguments.now)) }
     ensures options { IfOk result (λ split. map given_of split.options.items
@@ -90,10 +90,10 @@ fn split_next<'a>(
     requires { option_copied name ≡ None → bytes_eq argument.now (codes "--") ≡ false }
     ensures words { IfOk result (λ next. (rest : List (List ℕ))
         → map (λ word. word.now) split.new.words.items ++ words_in (option_copied next) rest
-        ≡ map (λ word. word.now) split.old.words.items ++ words_in (option_copied name) (argument.now ∷ rest)) }
+        ≡ map (λ word. word.now) split.old.words.items ++ words_in (option_copied name.entry) (argument.now ∷ rest)) }
     ensures options { IfOk result (λ next. (rest : List (List ℕ))
         → map given_of split.new.options.items ++ options_in (option_copied next) rest
-        ≡ map given_of split.old.options.items ++ options_in (option_copied name) (argument.now ∷ rest)) }
+        ≡ map given_of split.old.options.items ++ options_in (option_copied name.entry) (argument.now ∷ rest)) }
 {
     if let Some(known) = name {
         push_option(split, known, argument)?;

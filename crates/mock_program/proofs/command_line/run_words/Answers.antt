@@ -34,17 +34,17 @@ returns-in-Ok-Some-clause-command g c = λ escape asked asks.
     let done =
     subst (λ (a : Asked). Does g.O.Write.contents g.E.Write.contents (g.F.FileReader.listed c.args.files.now)
     (g.F.FileReader.content c.args.files.now)
-    c.escape_asked-escape.result a (map given_of c.as_slice-asked.result.now) c.args.out.now c.run_call.new.out
+    c.escape_asked-escape.result a (map given_of c.as_slice-options.result.now) c.args.out.now c.run_call.new.out
     c.args.err.now c.run_call.new.err c.run_call.result) same c.run_call.ensures in
     let escaped =
     subst (λ (e : Escape). Does g.O.Write.contents g.E.Write.contents (g.F.FileReader.listed c.args.files.now)
     (g.F.FileReader.content c.args.files.now) e
-    asked (map given_of c.as_slice-asked.result.now) c.args.out.now c.run_call.new.out c.args.err.now
+    asked (map given_of c.as_slice-options.result.now) c.args.out.now c.run_call.new.out c.args.err.now
     c.run_call.new.err c.run_call.result) same_escape done in
     subst (λ options. Does g.O.Write.contents g.E.Write.contents (g.F.FileReader.listed c.args.files.now)
     (g.F.FileReader.content c.args.files.now) escape
     asked (map given_of options) c.args.out.now c.run_call.new.out c.args.err.now
-    c.run_call.new.err c.run_call.result) c.as_slice-asked.ensures.value escaped
+    c.run_call.new.err c.run_call.result) c.as_slice-options.ensures.value escaped
 
 pub returns-in-Ok-None-clause-command : goal.returns-in-Ok-None-clause-command
 returns-in-Ok-None-clause-command g c = λ escape asked asks.
