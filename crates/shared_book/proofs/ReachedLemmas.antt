@@ -1,6 +1,6 @@
 -- What one more entry of the history leads to.
 use Rattle.std.proofs.Common.{◌≡◌, ℕ, ◌+◌, ◌≤◌, Bool, true, false, List, [], ◌∷◌, ◌++◌, refl, sym, ap}
-use Rattle.std.proofs.Common.{subst, ◌∙◌, arith}
+use Rattle.std.proofs.Common.{append-nil, subst, ◌∙◌, arith}
 use Rattle.std.specs.Prelude.{MatchBool}
 use mathlib.Core.List.{IsPrefix}
 use Rattle.request_journal.specs.Journal.{clears}
@@ -11,11 +11,12 @@ use Rattle.request_journal.proofs.CheckpointLemmas.{number_at_checkpoint}
 use Rattle.request_journal.proofs.SameLemmas.{number_after}
 use Rattle.shared_book.specs.Held.{IsDropped}
 use Rattle.shared_book.specs.Reached.{InPastOf, IsLawful, IsPastOf, IsReached, Lead, Log, MayFollow}
+use Rattle.shared_history.proofs.Entries.{events_append}
+use Rattle.shared_history.proofs.Growing.{one_origin}
 use Rattle.shared_history.proofs.Prefixes.{prefix_self, prefix_trans}
 use Rattle.shared_history.specs.Entries.{entry, events, opening}
 use Rattle.shared_history.specs.History.{IsHistory, MayCall}
-use Rattle.shared_history.specs.declared.entry.Deed.{Deed}
-use Rattle.shared_history.specs.declared.entry.Deed.TheVariants.{Called, Left, Opened, Split}
+use Rattle.shared_history.specs.declared.entry.Deed.TheVariants.{Called, Left, Split}
 use Rattle.shared_history.specs.declared.entry.Entry.{Entry}
 use Rattle.stub_book.specs.Growth.{Grows}
 
@@ -40,59 +41,40 @@ number_grown old new event grows = number_by old new event (clears event) grows.
 
 -- ---- one more entry
 
--- the events of a log with one more entry, which is a call or isn't
-called_more : (log : Log) (seat : ℕ) (event : Event)
-    → events (log ++ entry seat (Called event) ∷ []) ≡ events log ++ event ∷ []
-called_more [] seat event = refl
-called_more (record { seat = s; deed = Opened o } ∷ log) seat event = called_more log seat event
-called_more (record { seat = s; deed = Called e } ∷ log) seat event =
-    ap (λ (es : List Event). e ∷ es) (called_more log seat event)
-called_more (record { seat = s; deed = Split } ∷ log) seat event = called_more log seat event
-called_more (record { seat = s; deed = Left } ∷ log) seat event = called_more log seat event
-
-split_more : (log : Log) (seat : ℕ) → events (log ++ entry seat Split ∷ []) ≡ events log
-split_more [] seat = refl
-split_more (record { seat = s; deed = Opened o } ∷ log) seat = split_more log seat
-split_more (record { seat = s; deed = Called e } ∷ log) seat = ap (λ (es : List Event). e ∷ es) (split_more log seat)
-split_more (record { seat = s; deed = Split } ∷ log) seat = split_more log seat
-split_more (record { seat = s; deed = Left } ∷ log) seat = split_more log seat
-
-left_more : (log : Log) (seat : ℕ) → events (log ++ entry seat Left ∷ []) ≡ events log
-left_more [] seat = refl
-left_more (record { seat = s; deed = Opened o } ∷ log) seat = left_more log seat
-left_more (record { seat = s; deed = Called e } ∷ log) seat = ap (λ (es : List Event). e ∷ es) (left_more log seat)
-left_more (record { seat = s; deed = Split } ∷ log) seat = left_more log seat
-left_more (record { seat = s; deed = Left } ∷ log) seat = left_more log seat
+-- the events of a log with more entries
+events_more : (log more : Log) (e : Entry Past Event) → more ≡ log ++ e ∷ [] → events more ≡ events log ++ events (e ∷ [])
+events_more log more e is = ap events is ∙ events_append log (e ∷ [])
 
 -- the past after a call, and after another entry
 pub past_called : (origin old new : Past) (log more : Log) (seat : ℕ) (event : Event)
     → more ≡ log ++ entry seat (Called event) ∷ [] → IsPastOf origin log old → Grows old new event
     → IsPastOf origin more new
 past_called origin old new log more seat event is past grows =
-    subst (λ (es : List Event). Lead origin es new) (sym (ap events is ∙ called_more log seat event))
+    subst (λ (es : List Event). Lead origin es new)
+    (sym (events_more log more (entry seat (Called event)) is))
     (lead_on (events log) origin old new event past grows)
 
 pub past_split : (origin past : Past) (log more : Log) (seat : ℕ) → more ≡ log ++ entry seat Split ∷ []
     → IsPastOf origin log past → IsPastOf origin more past
 past_split origin past log more seat is same =
-    subst (λ (es : List Event). Lead origin es past) (sym (ap events is ∙ split_more log seat)) same
+    subst (λ (es : List Event). Lead origin es past)
+    (sym (events_more log more (entry seat Split) is ∙ append-nil (events log))) same
 
 pub past_left : (origin past : Past) (log more : Log) (seat : ℕ) → more ≡ log ++ entry seat Left ∷ []
     → IsPastOf origin log past → IsPastOf origin more past
 past_left origin past log more seat is same =
-    subst (λ (es : List Event). Lead origin es past) (sym (ap events is ∙ left_more log seat)) same
+    subst (λ (es : List Event). Lead origin es past)
+    (sym (events_more log more (entry seat Left) is ∙ append-nil (events log))) same
 
 -- a history that goes on has the same origin
-same_head : (xs ys : Log) (p q : Past) → xs ≡ opening p ∷ ys → (as bs : Log) → as ≡ opening q ∷ bs
-    → IsPrefix as xs → p ≡ q
-same_head xs ys p q one as bs two prefix = cc (one, two, prefix.1)
-
 pub lawful_on : (origin : Past) (old new : Log) → IsLawful origin old → IsPrefix old new → IsHistory MayFollow new
     → IsLawful origin new
 lawful_on origin old new lawful prefix history = record {
   history = history;
-  opened = same_head new history.after history.origin lawful.history.origin history.opens old lawful.history.after
-      lawful.history.opens prefix ∙ lawful.opened;
+  opened =
+      one_origin MayFollow history.origin lawful.history.origin history.after (lawful.history.after ++ prefix.0)
+      (sym history.opens ∙ (sym prefix.1 ∙ ap (λ (log : Log). log ++ prefix.0) lawful.history.opens))
+      ∙ lawful.opened;
 }
 
 pub lawful_opened : (origin : Past) (log : Log) → log ≡ opening origin ∷ [] → IsLawful origin log

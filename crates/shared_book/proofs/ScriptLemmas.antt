@@ -1,7 +1,7 @@
 -- A script, call by call.
 use Rattle.std.proofs.Common.{◌≡◌, ◌⊎◌, ◌-◌, ℕ, inl, inr, List, [], ◌∷◌, ◌++◌, refl, sym}
 use Rattle.std.proofs.Common.{ap, ◌∙◌, subst, append_assoc, append-nil, arith, Option, None, Ok, Err, IfOk, IfErr}
-use Rattle.std.proofs.lemmas.List.Elements.{All-uncons}
+use Rattle.std.proofs.lemmas.List.Elements.{All-head, All-tail}
 use Rattle.std.specs.Borrow.{Bor}
 use Rattle.std.specs.List.{AllZip}
 use Rattle.std.specs.Prelude.{Result}
@@ -196,7 +196,10 @@ module _ (origin : Past) (a : Held) (calls : List Call) (played : HasPlayed orig
 -- the first of three seats, the second and the third
 seen_of : (whole : Log) (x : Held) (xs : List Held) → HaveSeen whole (x ∷ xs)
     → IsPrefix x.seen whole × HaveSeen whole xs
-seen_of whole x xs seen = All-uncons (λ (h : Held). IsPrefix h.seen whole) x xs seen
+seen_of whole x xs seen = (
+  All-head (λ (h : Held). IsPrefix h.seen whole) x xs seen,
+  All-tail (λ (h : Held). IsPrefix h.seen whole) x xs seen,
+)
 
 lists_given : (seat left : Held) → HasGivenTwo seat left → lists left ≡ lists seat
 lists_given seat left gave = ap lists gave.same
@@ -219,7 +222,7 @@ played origin name seat left a b cs ds settled gave one two all =
       of_second = line_played origin b ds two all.whole third.0;
       settled_all = subst (λ (ls : List Line). IsSettled origin all.whole all.past ls settled)
           (λ i. lists_given seat left gave i ++ (lists_played origin a cs one i
-          ++ (lists_played origin b ds two i ++ []))) all.settled;
+          ++ (lists_played origin b ds two i ++ []))) all.one_history;
     }
 
 pub played_by : {E : Type 0} (origin : Past) (name : Book) (seat left a b : Held) (cs ds : List Call)

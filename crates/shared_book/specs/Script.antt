@@ -6,7 +6,7 @@ use Rattle.request_journal.specs.Past.{Past}
 use Rattle.request_journal.specs.declared.event.Event.{Event}
 use Rattle.shared_book.specs.Held.{Held, HasLetGo, IsDropped, LetsGo, lists, new_seat}
 use Rattle.logbook.specs.Pages.{Book}
-use Rattle.shared_book.specs.Reached.{Log}
+use Rattle.shared_book.specs.Reached.{Log, MayFollow}
 use Rattle.shared_book.specs.Receipts.{IsReceipt, Line}
 use Rattle.shared_book.specs.Settled.{AreUnsettled, IsSettled}
 use Rattle.shared_book.specs.declared.receipt.Receipt.{Receipt}
@@ -15,6 +15,7 @@ use Rattle.shared_book.specs.declared.script.Call.TheVariants.{Serve, Apply}
 use Rattle.shared_book.specs.declared.settled.Settled.{Settled}
 use Rattle.shared_book.specs.declared.settled.SettleRefusal.{SettleRefusal}
 use Rattle.shared_book.specs.declared.settled.SettleRefusal.TheVariants.{OutOfMemory}
+use Rattle.shared_history.specs.Seal.{IsSeen}
 use Rattle.stub_book.specs.Growth.{IsServed}
 
 -- the event is that of this call
@@ -54,10 +55,12 @@ pub record IsLineOf (origin : Past) (log : Log) (calls : List Call) (line : Line
 
 -- two scripts were played beside a seat's earlier calls: each script's accepted calls have their receipts in a line of
 -- their own, in its order, and all lines together are settled, so that the numbers rise in each
-pub record IsPlayed (origin : Past) (seat : Held) (first second : List Call) (settled : Settled) : Type 0 where
+pub record IsPlayed (origin : Past) (name : Book) (seat : Held) (first second : List Call) (settled : Settled)
+    : Type 0 where
   pub one : Line
   pub two : Line
   pub whole : Log
+  pub was_seen : IsSeen MayFollow name whole
   pub begins : IsPrefix seat.seen whole
   pub of_first : IsLineOf origin whole first one
   pub of_second : IsLineOf origin whole second two
@@ -78,8 +81,8 @@ pub record HasGivenTwo (old new : Held) : Type 0 where
   pub begins : IsPrefix old.seen new.seen
 
 -- the scripts were played, which stands, and couldn't be settled: the seat and those of the scripts are handed back
-pub record IsStopped (origin : Past) (parts : ℕ) (name : Book) (seat : Held) (first second : List Call) (reason : SettleRefusal)
-    (alone : Option Held) (seats : List Held) : Type 0 where
+pub record IsStopped (origin : Past) (parts : ℕ) (name : Book) (seat : Held) (first second : List Call)
+    (reason : SettleRefusal) (alone : Option Held) (seats : List Held) : Type 0 where
   pub left : Held
   pub one : Held
   pub two : Held

@@ -74,7 +74,7 @@ pub record AreSettled (origin : Past) (name : Book) (seats : List Held) (settled
   pub past : Past
   pub was_seen : IsSeen MayFollow name whole
   pub seen : HaveSeen whole seats
-  pub settled : IsSettled origin whole past (all_lists seats) settled
+  pub one_history : IsSettled origin whole past (all_lists seats) settled
 
 -- likewise, where they aren't settled, for a reason in the past after the whole history
 pub record AreUnsettled (origin : Past) (parts : ℕ) (name : Book) (seats : List Held) (reason : SettleRefusal)

@@ -5,10 +5,11 @@ ghost use Rattle.request_journal.specs.Past.{last_number};
 ghost use Rattle.request_journal.specs.declared.limits.TheConstants.{NUMBER_LIMIT};
 ghost use Rattle.shared_book.specs.Held.{IsDropped};
 ghost use Rattle.shared_book.specs.Inner.Looked.{IsLookedUp};
-ghost use Rattle.shared_book.specs.Reached.{InPastOf, IsLawful, IsPastOf};
+ghost use Rattle.shared_book.specs.Reached.{InPastOf, IsLawful, IsPastOf, MayFollow};
 ghost use Rattle.shared_book.specs.Seen.{IsEntered, IsJoined, IsSplit, SeesAll};
 ghost use Rattle.shared_book.specs.Settled.{AreSettled, AreUnsettled, HaveSeen};
 ghost use Rattle.shared_history.specs.Entries.{opening};
+ghost use Rattle.shared_history.specs.Seal.{IsSeen};
 ghost use Rattle.stub_book.specs.Growth.{Grows, IsServed};
 ghost use Rattle.stub_book.specs.Refusals.{IsRefusal, IsServeRefusal};
 
@@ -261,8 +262,10 @@ fn enter<L: Origin, R: Wait>(
 
 // Each seat has seen a beginning of the history.
 fn cover<L: Origin, R: Wait>(rt: &R, history: &History<L>, seats: &[Seat<L>])
-    ensures { HaveSeen history.now seats.now }
+    ensures beginnings { HaveSeen history.now seats.now }
+    ensures was_seen { IsSeen MayFollow L.book history.now }
 {
+    history.front();
     for seat in seats {
         history.covers(rt, &seat.place.front());
     }

@@ -41,7 +41,7 @@ pub fn run_scripts<L: Origin + Send + Sync, R: Threads + Wait + Sync, G: Gate + 
     gate: &G,
 ) -> Result<Settled, SettleError<L>>
     requires { 3 ≤ seat.parts }
-    ensures played { IfOk result (IsPlayed L.origin seat first.calls.items second.calls.items) }
+    ensures played { IfOk result (IsPlayed L.origin L.book seat first.calls.items second.calls.items) }
     ensures stopped { IfErr result (λ error. IsUnplayed seat error.reason error.alone error.seats.items
         ⊎ IsStopped L.origin L.parts L.book seat first.calls.items second.calls.items error.reason error.alone
         error.seats.items) }
