@@ -14,7 +14,7 @@ use Rattle.shared_book.proofs.HeldLemmas.{lets_go_weaker}
 use Rattle.shared_book.proofs.LetGoLemmas.{has_let_go_none, has_let_go_twice, let_go_then}
 use Rattle.shared_book.proofs.ReachedLemmas.{dropped_later}
 use Rattle.shared_book.proofs.SeenLemmas.{entered_on, sees_on, split_on}
-use Rattle.shared_book.specs.Held.{Gained, Held, HasLetGo, IsDropped, LetsGo, lists, sight}
+use Rattle.shared_book.specs.Held.{Gained, Held, HasLetGo, IsDropped, LetsGo, lists, new_seat, sight}
 use Rattle.shared_book.specs.Lent.{LendsApplied, LendsServed}
 use Rattle.shared_book.specs.Reached.{Log}
 use Rattle.shared_book.specs.Receipts.{IsReceipt, Line}
@@ -175,6 +175,11 @@ plays_applied origin old new asked (Ok lent) told =
 plays_applied origin old new asked (Err error) told = plays_refused origin old new (Apply asked) told
 
 -- ---- two seats that had made no call before their scripts, beside one that made its calls before
+
+pub has_played : (origin : Past) (made seat : Held) (calls : List Call) → made ≡ new_seat made.number made.seen 1
+    → Plays origin made seat calls → HasPlayed origin calls seat
+has_played origin made seat calls is plays =
+    (made.number, made.seen, subst (λ (s : Held). Plays origin s seat calls) is plays)
 
 module _ (origin : Past) (a : Held) (calls : List Call) (played : HasPlayed origin calls a) where
   none : (ls : List Line) → AllZip (LetsGo (IsDropped origin a.seen)) [] ls → ls ≡ []

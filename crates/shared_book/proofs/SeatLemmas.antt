@@ -7,13 +7,13 @@ use Rattle.request_journal.specs.declared.event.Event.{Event}
 use Rattle.shared_book.proofs.HeldLemmas.{count_kept}
 use Rattle.shared_book.proofs.LetGoLemmas.{dropped_either}
 use Rattle.shared_book.proofs.ReachedLemmas.{dropped_later}
-use Rattle.shared_book.proofs.SeenLemmas.{entered_on, sees_on}
+use Rattle.shared_book.proofs.SeenLemmas.{entered_on, joined_on, left_on, sees_on}
 use Rattle.shared_book.specs.Held.{IsDropped, LetsGo}
 use Rattle.shared_book.specs.Inner.Gains.{Keeps}
 use Rattle.shared_book.specs.Inner.Seat.{IsSeat}
 use Rattle.shared_book.specs.Reached.{IsLawful, Log}
 use Rattle.shared_book.specs.Receipts.{Line}
-use Rattle.shared_book.specs.Seen.{IsEntered, SeesAll}
+use Rattle.shared_book.specs.Seen.{IsEntered, IsJoined, SeesAll}
 use Rattle.shared_book.specs.declared.receipt.Receipt.{Receipt}
 use Rattle.shared_history.specs.Sight.{Sight}
 
@@ -63,3 +63,12 @@ module _ (origin : Past) (old new : Sight Past Event) (receipt : Receipt) where
         lawful = entered.lawful;
         dropped = told_on before base told entered seat.dropped more either;
       }
+
+-- it has taken over another
+pub told_joined : (origin : Past) (old other new : Sight Past Event) (before others told : ℕ)
+    → IsJoined origin old other new → IsDropped origin old.seen before → IsDropped origin other.seen others
+    → (told ≡ before) ⊎ (told ≡ others) → IsDropped origin new.seen told
+told_joined origin old other new before others told joined one two either =
+    dropped_either origin new.seen before others told
+    (dropped_later origin old.seen new.seen before (joined_on origin old new other joined) one)
+    (dropped_later origin other.seen new.seen others (left_on origin old new other joined) two) either

@@ -28,17 +28,17 @@ use stub_book::book::Book;
 /// receipts.
 pub(crate) fn compare<L: Origin>(
     book: &Book,
-    history: &History<L>,
+    whole: &History<L>,
     start: u64,
     alloc: Global,
     seats: &[Seat<L>],
 ) -> Result<Settled, SettleRefusal>
-    requires lawful { IsLawful L.origin history.now }
-    requires past_of { IsPastOf L.origin history.now book.now }
+    requires lawful { IsLawful L.origin whole.now }
+    requires past_of { IsPastOf L.origin whole.now book.now }
     requires start { start ≡ last_number L.origin }
     requires counted { last_number book.now ≡ start + length (all_numbers (all_lists seats.now)) }
-    requires whole { all_parts seats.now ≡ L.parts }
-    ensures settled { IfOk result (IsSettled L.origin history.now book.now (all_lists seats.now)) }
+    requires parts { all_parts seats.now ≡ L.parts }
+    ensures settled { IfOk result (IsSettled L.origin whole.now book.now (all_lists seats.now)) }
     ensures why { IfErr result (IsUnsettled L.origin L.parts book.now seats.now) }
 {
     let events = book.event_count();

@@ -66,7 +66,12 @@ impl<L: Origin> Model for Seat<L> {
     ghost use Rattle.shared_book.specs.Held.{Held};
     ghost use Rattle.shared_book.specs.Inner.Seat.{IsSeat, line_of};
 
+    ghost use Rattle.std.specs.Coded.{codes};
+    ghost use Rattle.book_history.specs.Inner.Codes.{states_code};
+
     ghost Value = { Held };
+
+    ghost coded = { Prim.hlevel (codes, states_code) };
 
     ghost view = { λ s. record {
       number = s.place.number;
