@@ -1,10 +1,14 @@
 -- What a seat has seen after a call begins with what it had seen before.
-use Rattle.std.proofs.Common.{◌≡◌, [], ◌∷◌, ◌++◌, refl, sym, ap, ◌∙◌, subst}
+use Rattle.std.proofs.Common.{◌≡◌, ℕ, ◌+◌, ◌<◌, List, [], ◌∷◌, ◌++◌, get_or, length, take, refl, sym, subst}
+use Rattle.std.proofs.lemmas.List.{take_more}
+use Rattle.std.proofs.lemmas.List.Elements.{All-append, All-cons, All-nil}
 use mathlib.Core.List.{IsPrefix}
 use Rattle.request_journal.specs.Past.{Past}
 use Rattle.request_journal.specs.declared.event.Event.{Event}
+use Rattle.shared_book.specs.Held.{Held}
 use Rattle.shared_book.specs.Reached.{Log}
 use Rattle.shared_book.specs.Seen.{IsEntered, IsJoined, IsSplit, SeesAll}
+use Rattle.shared_book.specs.Settled.{HaveSeen}
 use Rattle.shared_book.specs.declared.receipt.Receipt.{Receipt}
 use Rattle.shared_history.proofs.Prefixes.{prefix_trans}
 use Rattle.shared_history.specs.Sight.{Sight}
@@ -33,3 +37,12 @@ module _ (origin : Past) (old new : Sight Past Event) where
   pub left_on : (other : Sight Past Event) → IsJoined origin old other new → IsPrefix other.seen new.seen
   left_on other joined =
       prefix_more other.seen joined.whole new.seen _ joined.leaves.before.begins joined.leaves.left
+
+-- one more seat has seen a beginning of the whole
+pub have_seen_more : (whole : Log) (seats : List Held) (i : ℕ) (seat : Held) → i < length seats
+    → HaveSeen whole (take i seats) → IsPrefix (get_or seats i seat).seen whole → HaveSeen whole (take (i + 1) seats)
+have_seen_more whole seats i seat l seen begins =
+    subst (HaveSeen whole) (sym (take_more seats i seat l))
+    (All-append (λ (h : Held). IsPrefix h.seen whole) (take i seats) (get_or seats i seat ∷ []) seen
+    (All-cons (λ (h : Held). IsPrefix h.seen whole) (get_or seats i seat) [] begins
+    (All-nil (λ (h : Held). IsPrefix h.seen whole))))

@@ -267,7 +267,7 @@ fn cover<L: Origin, R: Wait>(rt: &R, history: &History<L>, seats: &[Seat<L>])
 {
     history.front();
     for seat in seats {
-        history.covers(rt, &seat.place.front());
+        history.covers(rt, &seat.front());
     }
 }
 
