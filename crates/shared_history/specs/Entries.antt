@@ -1,5 +1,5 @@
 -- The entries of a history: which seat made each, and what it did.
-use Rattle.std.specs.Prelude.{◌≡◌, ℕ, ◌==◌, Bool, true, false, IsTrue, List, [], ◌∷◌, ◌++◌, All, filter, Some, slice_get}
+use Rattle.std.specs.Prelude.{◌≡◌, ℕ, ◌==◌, Bool, true, false, List, [], ◌∷◌, All, filter, Some, slice_get}
 use Rattle.shared_history.specs.declared.entry.Deed.{Deed}
 use Rattle.shared_history.specs.declared.entry.Deed.TheVariants.{Opened, Called, Split, Left}
 use Rattle.shared_history.specs.declared.entry.Entry.{Entry}
@@ -20,7 +20,13 @@ module _ {O E : Type 0} where
   -- the event of each call, in order
   abbrev pub events : List (Entry O E) → List E
   events [] = []
-  events (e ∷ log) = elim e.deed [ Opened origin ↦ events log | Called event ↦ event ∷ events log | Split ↦ events log | Left ↦ events log ]
+  events (e ∷ log) =
+      elim e.deed [
+        | Opened origin ↦ events log
+        | Called event ↦ event ∷ events log
+        | Split ↦ events log
+        | Left ↦ events log
+      ]
 
   -- whether it makes a seat, whose number is the index of the entry
   abbrev pub makes_seat : Deed O E → Bool

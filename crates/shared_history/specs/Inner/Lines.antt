@@ -1,5 +1,5 @@
 -- The lines that the log keeps: entries, each with the turn that it uses up and the turn that its seat has next.
-use Rattle.std.specs.Prelude.{◌≡◌, ◌≢◌, ℕ, zero, suc, ◌==◌, Bool, cond, List, [], ◌∷◌, ◌++◌, All, map}
+use Rattle.std.specs.Prelude.{◌≡◌, ◌≢◌, ℕ, suc, ◌==◌, cond, List, [], ◌∷◌, All, map}
 use Rattle.shared_history.specs.Entries.{entry, IsSeat}
 use Rattle.shared_history.specs.History.{IsHistory}
 use Rattle.shared_history.specs.declared.entry.Deed.{Deed}
@@ -28,7 +28,8 @@ module _ {O E : Type 0} where
   -- each line of the seat uses up the turn that the seat has
   abbrev pub TakesTurns : ℕ → ℕ → ℕ → List (Line O E) → Type 0
   TakesTurns number index turn [] = Unit {0}
-  TakesTurns number index turn (l ∷ lines) = (l.entry.seat ≡ number → l.turn ≡ turn) × TakesTurns number (suc index) (next_turn number index turn l) lines
+  TakesTurns number index turn (l ∷ lines) = (l.entry.seat ≡ number → l.turn ≡ turn)
+      × TakesTurns number (suc index) (next_turn number index turn l) lines
 
   -- from the second line on, each does so
   abbrev pub AreTurns : List (Line O E) → Type 0

@@ -1,6 +1,6 @@
 -- The rule of the log, and what its steps tell.
 use Rattle.std.specs.Prelude.{◌≡◌, ℕ, ◌<◌, ◌==◌, ◌⊎◌, true, List, [], ◌∷◌, ◌++◌, length, All, MatchBool}
-use Rattle.logbook.specs.Pages.{Cell, cell, Step, View, Book, Named, may_make, may_write}
+use Rattle.logbook.specs.Pages.{Cell, cell, Step, View, Book, Named, may_make}
 use Rattle.shared_history.specs.declared.line.Line.{Line}
 use Rattle.shared_history.specs.Inner.Lines.{IsLegal, IsUnused}
 

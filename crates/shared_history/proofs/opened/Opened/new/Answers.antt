@@ -1,4 +1,4 @@
-use Rattle.std.proofs.Common.{refl, ap, sym, ◌∙◌}
+use Rattle.std.proofs.Common.{refl, sym, ◌∙◌}
 use Rattle.shared_history.proofs.Growing.{first_turn}
 use Rattle.shared_history.proofs.opened.Opened.new.Goals as goal
 
