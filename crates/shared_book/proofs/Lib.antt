@@ -1,5 +1,6 @@
 pub mod ReachedLemmas
 pub mod SeenLemmas
+pub mod KeptLemmas
 pub mod HeldLemmas
 pub mod LetGoLemmas
 pub mod SeatLemmas

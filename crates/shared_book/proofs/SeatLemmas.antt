@@ -1,5 +1,5 @@
 -- What a seat keeps, once it has seen more.
-use Rattle.std.proofs.Common.{◌≡◌, ℕ, ◌+◌, ◌≤◌, ◌⊎◌, List, ◌∷◌, ap, ◌∙◌, arith}
+use Rattle.std.proofs.Common.{◌≡◌, ℕ, ◌+◌, ◌-◌, ◌≤◌, ◌⊎◌, inr, List, ◌∷◌, ap, ◌∙◌, arith}
 use Rattle.std.specs.List.{AllZip}
 use mathlib.Core.List.{IsPrefix}
 use Rattle.request_journal.specs.Past.{Past}
@@ -8,14 +8,18 @@ use Rattle.shared_book.proofs.HeldLemmas.{count_kept}
 use Rattle.shared_book.proofs.LetGoLemmas.{dropped_either}
 use Rattle.shared_book.proofs.ReachedLemmas.{dropped_later}
 use Rattle.shared_book.proofs.SeenLemmas.{entered_on, joined_on, left_on, sees_on}
-use Rattle.shared_book.specs.Held.{IsDropped, LetsGo}
+use Rattle.error_code.specs.declared.error_code.ErrorCode.{ErrorCode}
+use Rattle.request_journal.specs.declared.input.BookInput.{BookInput}
+use Rattle.shared_book.specs.Held.{Held, IsDropped, LetsGo, sight}
 use Rattle.shared_book.specs.Inner.Gains.{Keeps}
 use Rattle.shared_book.specs.Inner.Seat.{IsSeat}
-use Rattle.shared_book.specs.Reached.{IsLawful, Log}
+use Rattle.shared_book.specs.Reached.{InPastOf, IsLawful, Log}
 use Rattle.shared_book.specs.Receipts.{Line}
-use Rattle.shared_book.specs.Seen.{IsEntered, IsJoined, SeesAll}
+use Rattle.shared_book.specs.Refused.{IsRefused, IsServeRefused}
+use Rattle.shared_book.specs.Seen.{HasCaughtUp, IsEntered, IsJoined, IsSplit, SeesAll}
 use Rattle.shared_book.specs.declared.receipt.Receipt.{Receipt}
 use Rattle.shared_history.specs.Sight.{Sight}
+use Rattle.stub_book.specs.Refusals.{IsRefusal, IsServeRefusal}
 
 module _ (origin : Past) (all share amount parts count told : ℕ) (lines : List Line) where
   pub seat_on : (old new : Log) → IsSeat origin all share amount parts count told old lines → IsPrefix old new
@@ -72,3 +76,39 @@ told_joined origin old other new before others told joined one two either =
     dropped_either origin new.seen before others told
     (dropped_later origin old.seen new.seen before (joined_on origin old new other joined) one)
     (dropped_later origin other.seen new.seen others (left_on origin old new other joined) two) either
+
+-- ---- what contracts see
+
+pub caught_up : (origin : Past) (old new : Held) → SeesAll origin (sight old) (sight new) → new.parts ≡ old.parts
+    → new.own ≡ old.own → new.joined ≡ old.joined → HasCaughtUp origin old new
+caught_up origin old new sees parts own joined = record {
+  sees = sees;
+  same = λ i. record {
+    number = sees.catches_up.number i;
+    seen = new.seen;
+    parts = parts i;
+    own = own i;
+    joined = joined i;
+  };
+}
+
+pub split_left : (origin : Past) (old new : Held) (made : Sight Past Event) → IsSplit origin (sight old) (sight new) made
+    → new.parts ≡ old.parts - 1 → new.own ≡ old.own → new.joined ≡ old.joined
+    → new ≡ record old { parts = old.parts - 1; seen = new.seen }
+split_left origin old new made split parts own joined = λ i. record {
+  number = split.splits.number i;
+  seen = new.seen;
+  parts = parts i;
+  own = own i;
+  joined = joined i;
+}
+
+-- a call that was refused
+pub refused_serve : (origin : Past) (old new : Held) (reason : ErrorCode) → HasCaughtUp origin old new
+    → InPastOf origin new.seen (λ past. IsServeRefusal past reason) → IsServeRefused origin old new reason
+refused_serve origin old new reason caught why = inr (caught, why)
+
+pub refused_change : (origin : Past) (old new : Held) (asked : BookInput) (reason : ErrorCode)
+    → HasCaughtUp origin old new → InPastOf origin new.seen (λ past. IsRefusal past asked reason)
+    → IsRefused origin old new asked reason
+refused_change origin old new asked reason caught why = inr (caught, why)

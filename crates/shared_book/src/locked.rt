@@ -178,6 +178,7 @@ impl<L: Origin> Locked<L> {
     }
 
     /// Looks up what is asked for.
+    #[tactic(auto, using(crate::proofs::KeptLemmas::looked_up))]
     pub(crate) fn read<R: Wait>(
         &mut self,
         rt: &R,
