@@ -1,5 +1,6 @@
 -- What the lock keeps, after one more entry.
 use Rattle.std.proofs.Common.{◌≡◌, ℕ, ◌<◌, [], ◌∷◌, ◌++◌, ap, arith, refl, sym, ◌∙◌, subst}
+use Rattle.logbook.specs.Pages.{Book}
 use Rattle.request_journal.specs.Legal.{IsNext}
 use Rattle.request_journal.specs.Past.{Past, last_number}
 use Rattle.request_journal.specs.declared.event.Event.{Event}
@@ -9,12 +10,13 @@ use Rattle.shared_book.specs.Held.{IsDropped}
 use Rattle.shared_book.specs.Inner.Kept.{IsKept}
 use Rattle.shared_book.specs.Inner.Looked.{IsLooked, IsLookedUp}
 use Rattle.shared_book.specs.Reached.{IsLawful, IsPastOf, Log, MayFollow}
-use Rattle.shared_book.specs.Seen.{IsEntered, IsJoined, IsSplit}
+use Rattle.shared_book.specs.Seen.{IsEntered, IsJoined, IsSplit, SeesAll}
 use Rattle.shared_book.specs.declared.book_read.BookRead.{BookRead}
 use Rattle.shared_book.specs.declared.book_read.ReadAnswer.{ReadAnswer}
 use Rattle.shared_book.specs.declared.receipt.Receipt.{Receipt}
 use Rattle.shared_history.specs.Entries.{opening}
 use Rattle.shared_history.specs.History.{HasLeft, IsHistory}
+use Rattle.shared_history.specs.Seal.{IsSeen}
 use Rattle.shared_history.specs.Sight.{Calls, CatchesUp, IsIn, Leaves, Sight, Splits}
 use Rattle.shared_history.specs.declared.entry.Entry.{Entry}
 use Rattle.stub_book.specs.Growth.{Grows}
@@ -49,20 +51,32 @@ module _ (origin : Past) (all : ℕ) (past : Past) (old new : Log) (entries part
         some = kept.some;
       }
 
+-- a seat has seen all that there is
+pub sees_all : {name : Book} (origin : Past) (whole : Log) (old new : Sight Past Event) → IsLawful origin whole
+    → CatchesUp old whole new → IsSeen MayFollow name whole → SeesAll origin name old new
+sees_all {name} origin whole old new lawful catches_up was_seen = record {
+  whole = whole;
+  catches_up = catches_up;
+  lawful = subst (IsLawful origin) (sym catches_up.seen) lawful;
+  was_seen = subst (IsSeen MayFollow name) (sym catches_up.seen) was_seen;
+}
+
 -- the seat has made another
-pub was_split : (origin : Past) (whole new : Log) (seat later made : Sight Past Event) → IsLawful origin whole
-    → Splits seat whole later made → new ≡ later.seen → IsHistory MayFollow new → IsSplit origin seat later made
-was_split origin whole new seat later made lawful splits same history = record {
+pub was_split : {name : Book} (origin : Past) (whole new : Log) (seat later made : Sight Past Event) → IsLawful origin whole
+    → Splits seat whole later made → new ≡ later.seen → IsHistory MayFollow new → IsSeen MayFollow name new
+    → IsSplit origin name seat later made
+was_split {name} origin whole new seat later made lawful splits same history was_seen = record {
   whole = whole;
   splits = splits;
   lawful = lawful_more origin whole later.seen _ lawful splits.seen (subst (IsHistory MayFollow) same history);
+  was_seen = subst (IsSeen MayFollow name) same was_seen;
 }
 
 -- the other has left, and this one has seen that
-pub was_joined : (origin : Past) (whole new : Log) (seat other later : Sight Past Event) → IsLawful origin whole
+pub was_joined : {name : Book} (origin : Past) (whole new : Log) (seat other later : Sight Past Event) → IsLawful origin whole
     → Leaves other whole new → HasLeft MayFollow new other.number → IsHistory MayFollow new
-    → CatchesUp seat new later → IsJoined origin seat other later
-was_joined origin whole new seat other later lawful leaves left history catches_up =
+    → CatchesUp seat new later → IsSeen MayFollow name new → IsJoined origin name seat other later
+was_joined {name} origin whole new seat other later lawful leaves left history catches_up was_seen =
     let back = sym catches_up.seen in
     record {
       whole = whole;
@@ -74,6 +88,7 @@ was_joined origin whole new seat other later lawful leaves left history catches_
       };
       left = subst (λ (log : Log). HasLeft MayFollow log other.number) back left;
       lawful = subst (IsLawful origin) back (lawful_more origin whole new _ lawful leaves.left history);
+      was_seen = subst (IsSeen MayFollow name) back was_seen;
     }
 
 -- what was looked up in the past after the whole history, which was seen
@@ -113,13 +128,14 @@ module _ (origin past new : Past) (whole more : Log) (seat later : Sight Past Ev
       dropped_last origin new later.seen base
       (subst (λ (log : Log). IsPastOf origin log new) same (past_entered is grows calls same)) number
 
-  pub was_entered : (receipt : Receipt) → IsLawful origin whole → IsPastOf origin whole past → Grows past new event
-      → Calls event seat whole later → more ≡ later.seen → IsHistory MayFollow more → receipt.event ≡ event
-      → receipt.number ≡ last_number new → IsEntered origin seat later receipt
-  was_entered receipt lawful is grows calls same history its number = record {
+  pub was_entered : {name : Book} (receipt : Receipt) → IsLawful origin whole → IsPastOf origin whole past → Grows past new event
+      → Calls event seat whole later → more ≡ later.seen → IsHistory MayFollow more → IsSeen MayFollow name more
+      → receipt.event ≡ event → receipt.number ≡ last_number new → IsEntered origin name seat later receipt
+  was_entered {name} receipt lawful is grows calls same history was_seen its number = record {
     whole = whole;
     calls = subst (λ (e : Event). Calls e seat whole later) (sym its) calls;
     lawful = lawful_more origin whole later.seen _ lawful calls.seen (subst (IsHistory MayFollow) same history);
+    was_seen = subst (IsSeen MayFollow name) same was_seen;
     past = past;
     past_of = is;
     next = subst (IsNext past) (sym its) grows.next;

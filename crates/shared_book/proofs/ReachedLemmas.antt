@@ -1,6 +1,6 @@
 -- What one more entry of the history leads to.
 use Rattle.std.proofs.Common.{◌≡◌, ℕ, ◌+◌, ◌≤◌, Bool, true, false, List, [], ◌∷◌, ◌++◌, refl, sym, ap}
-use Rattle.std.proofs.Common.{append-nil, subst, ◌∙◌, arith}
+use Rattle.std.proofs.Common.{append-nil, append_assoc, subst, ◌∙◌, arith}
 use Rattle.std.specs.Prelude.{MatchBool}
 use mathlib.Core.List.{IsPrefix}
 use Rattle.request_journal.specs.Journal.{clears}
@@ -15,8 +15,9 @@ use Rattle.shared_history.proofs.Entries.{events_append}
 use Rattle.shared_history.proofs.Growing.{one_origin}
 use Rattle.shared_history.proofs.Prefixes.{prefix_self, prefix_trans}
 use Rattle.shared_history.specs.Entries.{entry, events, opening}
-use Rattle.shared_history.specs.History.{IsHistory, MayCall}
-use Rattle.shared_history.specs.declared.entry.Deed.TheVariants.{Called, Left, Split}
+use Rattle.shared_history.specs.History.{GoesOn, IsHistory, MayCall, MayDo}
+use Rattle.shared_history.specs.declared.entry.Deed.{Deed}
+use Rattle.shared_history.specs.declared.entry.Deed.TheVariants.{Called, Left, Opened, Split}
 use Rattle.shared_history.specs.declared.entry.Entry.{Entry}
 use Rattle.stub_book.specs.Growth.{Grows}
 
@@ -94,6 +95,40 @@ may_call origin new log event lawful grown = record {
   allowed = subst (λ (o : Past). MayFollow o (events log) event) (sym lawful.opened)
       (grown.0, new, grown.1, grown.2);
 }
+
+-- ---- each lawful log has a past
+
+past_more : (origin : Past) (before : Log) (seat : ℕ) (deed : Deed Past Event) (past : Past)
+    → IsPastOf origin before past → MayDo MayFollow origin before deed
+    → (later : Past) × IsPastOf origin (before ++ entry seat deed ∷ []) later
+past_more origin before seat (Opened other) past is may = absurd may
+past_more origin before seat (Called event) past is may = (
+  may.1,
+  past_called origin may.0 may.1 before (before ++ entry seat (Called event) ∷ []) seat event refl may.2 may.3,
+)
+past_more origin before seat Split past is may =
+    (past, past_split origin past before (before ++ entry seat Split ∷ []) seat refl is)
+past_more origin before seat Left past is may =
+    (past, past_left origin past before (before ++ entry seat Left ∷ []) seat refl is)
+
+past_rest : (origin : Past) (before after : Log) (past : Past) → IsPastOf origin before past
+    → GoesOn MayFollow origin before after → (later : Past) × IsPastOf origin (before ++ after) later
+past_rest origin before [] past is goes =
+    (past, subst (λ (log : Log). IsPastOf origin log past) (sym (append-nil before)) is)
+past_rest origin before (e ∷ after) past is goes =
+    let next = past_more origin before e.seat e.deed past is goes.1 in
+    let rest = past_rest origin (before ++ e ∷ []) after next.0 next.1 goes.2 in
+    (rest.0, subst (λ (log : Log). IsPastOf origin log rest.0) (append_assoc before (e ∷ []) after) rest.1)
+
+pub lawful_past : (origin : Past) (log : Log) → IsLawful origin log → (past : Past) × IsPastOf origin log past
+lawful_past origin log lawful =
+    let after : Log = lawful.history.after in
+    let goes = subst (λ (o : Past). GoesOn MayFollow o (opening o ∷ []) after) lawful.opened lawful.history.goes_on in
+    let found = past_rest origin (opening origin ∷ []) after origin (past_opened origin (opening origin ∷ []) refl)
+    goes in
+    let is : opening origin ∷ after ≡ log =
+    sym (lawful.history.opens ∙ ap (λ (o : Past). opening o ∷ after) lawful.opened) in
+    (found.0, subst (λ (l : Log). IsPastOf origin l found.0) is found.1)
 
 -- ---- what a checkpoint has dropped
 

@@ -117,7 +117,7 @@ plays_on origin a b c calls call one two = record {
 }
 
 -- a call that was accepted
-receipt_of : (origin : Past) (old new : Held) (receipt : Receipt) → Enters origin old new receipt
+receipt_of : {name : Book} (origin : Past) (old new : Held) (receipt : Receipt) → Enters origin name old new receipt
     → IsReceipt origin new.number new.seen receipt
 receipt_of origin old new receipt entered = record {
   before = entered.whole;
@@ -133,9 +133,9 @@ receipt_of origin old new receipt entered = record {
   number = entered.number;
 }
 
-pub plays_accepted : (origin : Past) (old new : Held) (call : Call) (receipt : Receipt)
+pub plays_accepted : {name : Book} (origin : Past) (old new : Held) (call : Call) (receipt : Receipt)
     → Gained origin old receipt new
-    → IsOf call receipt.event → Enters origin old new receipt → Plays origin old new (call ∷ [])
+    → IsOf call receipt.event → Enters origin name old new receipt → Plays origin old new (call ∷ [])
 plays_accepted origin old new call receipt gained of entered = record {
   receipts = receipt ∷ [];
   are = inl (receipt, [], refl, of, receipt_of origin old new receipt entered, refl);
@@ -151,25 +151,25 @@ plays_unchanged origin old new call same =
     subst (λ (h : Held). Plays origin old h (call ∷ [])) (sym same)
     (plays_no_call origin old old (call ∷ []) (inr refl) refl (prefix_self old.seen))
 
-pub plays_caught_up : (origin : Past) (old new : Held) (call : Call) → HasCaughtUp origin old new
+pub plays_caught_up : {name : Book} (origin : Past) (old new : Held) (call : Call) → HasCaughtUp origin name old new
     → Plays origin old new (call ∷ [])
 plays_caught_up origin old new call caught =
     plays_no_call origin old new (call ∷ []) (inr refl) caught.same
     (sees_on origin (sight old) (sight new) caught.sees)
 
-plays_refused : {A B : Type 0} (origin : Past) (old new : Held) (call : Call)
-    → (A × (new ≡ old)) ⊎ (HasCaughtUp origin old new × B) → Plays origin old new (call ∷ [])
+plays_refused : {A B : Type 0} {name : Book} (origin : Past) (old new : Held) (call : Call)
+    → (A × (new ≡ old)) ⊎ (HasCaughtUp origin name old new × B) → Plays origin old new (call ∷ [])
 plays_refused origin old new call (inl same) = plays_unchanged origin old new call same.1
 plays_refused origin old new call (inr caught) = plays_caught_up origin old new call caught.0
 
-pub plays_served : (origin : Past) (old new : Held) (request : Request) (result : Result (Bor Receipt) BookError)
-    → LendsServed origin old new request result → Plays origin old new (Serve request ∷ [])
+pub plays_served : {name : Book} (origin : Past) (old new : Held) (request : Request) (result : Result (Bor Receipt) BookError)
+    → LendsServed origin name old new request result → Plays origin old new (Serve request ∷ [])
 plays_served origin old new request (Ok lent) told =
     plays_accepted origin old new (Serve request) lent.now told.0 told.1 told.2
 plays_served origin old new request (Err error) told = plays_refused origin old new (Serve request) told
 
-pub plays_applied : (origin : Past) (old new : Held) (asked : BookInput) (result : Result (Bor Receipt) BookError)
-    → LendsApplied origin old new asked result → Plays origin old new (Apply asked ∷ [])
+pub plays_applied : {name : Book} (origin : Past) (old new : Held) (asked : BookInput) (result : Result (Bor Receipt) BookError)
+    → LendsApplied origin name old new asked result → Plays origin old new (Apply asked ∷ [])
 plays_applied origin old new asked (Ok lent) told =
     plays_accepted origin old new (Apply asked) lent.now told.0 told.1 told.2
 plays_applied origin old new asked (Err error) told = plays_refused origin old new (Apply asked) told
@@ -209,10 +209,10 @@ seen_of whole x xs seen = (
 lists_given : (seat left : Held) → HasGivenTwo seat left → lists left ≡ lists seat
 lists_given seat left gave = ap lists gave.same
 
-played : (origin : Past) (name : Book) (seat left a b : Held) (cs ds : List Call) (settled : Settled)
+played : (origin : Past) (parts : ℕ) (name : Book) (seat left a b : Held) (cs ds : List Call) (settled : Settled)
     → HasGivenTwo seat left → HasPlayed origin cs a → HasPlayed origin ds b
-    → AreSettled origin name (left ∷ a ∷ b ∷ []) settled → IsPlayed origin name seat cs ds settled
-played origin name seat left a b cs ds settled gave one two all =
+    → AreSettled origin parts name (left ∷ a ∷ b ∷ []) settled → IsPlayed origin name seat cs ds settled
+played origin parts name seat left a b cs ds settled gave one two all =
     let first = seen_of all.whole left (a ∷ b ∷ []) all.seen in
     let second = seen_of all.whole a (b ∷ []) first.1 in
     let third = seen_of all.whole b [] second.1 in
@@ -230,15 +230,15 @@ played origin name seat left a b cs ds settled gave one two all =
           ++ (lists_played origin b ds two i ++ []))) all.one_history;
     }
 
-pub played_by : {E : Type 0} (origin : Past) (name : Book) (seat left a b : Held) (cs ds : List Call)
+pub played_by : {E : Type 0} (origin : Past) (parts : ℕ) (name : Book) (seat left a b : Held) (cs ds : List Call)
     (seats : List Held) (result : Result Settled E) → HasGivenTwo seat left → HasPlayed origin cs a
     → HasPlayed origin ds b → seats ≡ left ∷ a ∷ b ∷ []
-    → IfOk result (λ s. AreSettled origin name seats s)
+    → IfOk result (λ s. AreSettled origin parts name seats s)
     → IfOk result (λ s. IsPlayed origin name seat cs ds s)
-played_by origin name seat left a b cs ds seats (Ok settled) gave one two is told =
-    played origin name seat left a b cs ds settled gave one two
-    (subst (λ (l : List Held). AreSettled origin name l settled) is told)
-played_by origin name seat left a b cs ds seats (Err error) gave one two is told = told
+played_by origin parts name seat left a b cs ds seats (Ok settled) gave one two is told =
+    played origin parts name seat left a b cs ds settled gave one two
+    (subst (λ (l : List Held). AreSettled origin parts name l settled) is told)
+played_by origin parts name seat left a b cs ds seats (Err error) gave one two is told = told
 
 -- the same seats, where they couldn't be settled
 pub stopped : (origin : Past) (parts : ℕ) (name : Book) (seat left a b : Held) (cs ds : List Call)
@@ -265,10 +265,10 @@ err_by (Ok x) f p q = p
 err_by (Err e) f p q = f e p q
 
 -- two parts fewer, after two splits
-pub gave_two : (origin : Past) (seat middle left one two : Held)
+pub gave_two : {name : Book} (origin : Past) (seat middle left one two : Held)
     → middle ≡ record seat { parts = seat.parts - 1; seen = middle.seen }
-    → left ≡ record middle { parts = middle.parts - 1; seen = left.seen } → HasSplit origin seat middle one
-    → HasSplit origin middle left two → HasGivenTwo seat left
+    → left ≡ record middle { parts = middle.parts - 1; seen = left.seen } → HasSplit origin name seat middle one
+    → HasSplit origin name middle left two → HasGivenTwo seat left
 gave_two origin seat middle left one two first second split again =
     let fewer : seat.parts - 1 - 1 ≡ seat.parts - 2 = omega arith in
     record {

@@ -2,6 +2,7 @@
 use Rattle.std.proofs.Common.{◌≡◌, ℕ, ◌+◌, ◌-◌, ◌≤◌, ◌⊎◌, inr, List, ◌∷◌, ap, ◌∙◌, arith}
 use Rattle.std.specs.List.{AllZip}
 use mathlib.Core.List.{IsPrefix}
+use Rattle.logbook.specs.Pages.{Book}
 use Rattle.request_journal.specs.Past.{Past}
 use Rattle.request_journal.specs.declared.event.Event.{Event}
 use Rattle.shared_book.proofs.HeldLemmas.{count_kept}
@@ -21,7 +22,7 @@ use Rattle.shared_book.specs.declared.receipt.Receipt.{Receipt}
 use Rattle.shared_history.specs.Sight.{Sight}
 use Rattle.stub_book.specs.Refusals.{IsRefusal, IsServeRefusal}
 
-module _ (origin : Past) (all share amount parts count told : ℕ) (lines : List Line) where
+module _ {name : Book} (origin : Past) (all share amount parts count told : ℕ) (lines : List Line) where
   pub seat_on : (old new : Log) → IsSeat origin all share amount parts count told old lines → IsPrefix old new
       → IsLawful origin new → IsSeat origin all share amount parts count told new lines
   seat_on old new seat on lawful = record {
@@ -36,14 +37,14 @@ module _ (origin : Past) (all share amount parts count told : ℕ) (lines : List
 
   -- it has caught up
   pub seat_sees : (old new : Sight Past Event)
-      → IsSeat origin all share amount parts count told old.seen lines → SeesAll origin old new
+      → IsSeat origin all share amount parts count told old.seen lines → SeesAll origin name old new
       → IsSeat origin all share amount parts count told new.seen lines
   seat_sees old new seat sees = seat_on old.seen new.seen seat (sees_on origin old new sees) sees.lawful
 
 -- it has made a call, and has kept the receipt
-module _ (origin : Past) (old new : Sight Past Event) (receipt : Receipt) where
+module _ {name : Book} (origin : Past) (old new : Sight Past Event) (receipt : Receipt) where
   -- the number up to which a checkpoint has dropped events
-  pub told_on : (before base told : ℕ) → IsEntered origin old new receipt → IsDropped origin old.seen before
+  pub told_on : (before base told : ℕ) → IsEntered origin name old new receipt → IsDropped origin old.seen before
       → IsDropped origin new.seen base → (told ≡ before) ⊎ (told ≡ base) → IsDropped origin new.seen told
   told_on before base told entered dropped more either =
       dropped_either origin new.seen before base told
@@ -51,7 +52,7 @@ module _ (origin : Past) (old new : Sight Past Event) (receipt : Receipt) where
 
   pub seat_entered : (all share amount parts count before base told later_share later_amount : ℕ) (own kept : Line)
       (joined later : List Line)
-      → IsSeat origin all share amount parts count before old.seen (own ∷ joined) → IsEntered origin old new receipt
+      → IsSeat origin all share amount parts count before old.seen (own ∷ joined) → IsEntered origin name old new receipt
       → IsDropped origin new.seen base → (told ≡ before) ⊎ (told ≡ base) → Keeps told own kept receipt
       → AllZip (LetsGo (λ n. n ≤ told)) joined later → later_share ≡ share → later_amount ≡ amount + 1
       → IsSeat origin all later_share later_amount parts (count + 1) told new.seen (kept ∷ later)
@@ -69,8 +70,8 @@ module _ (origin : Past) (old new : Sight Past Event) (receipt : Receipt) where
       }
 
 -- it has taken over another
-pub told_joined : (origin : Past) (old other new : Sight Past Event) (before others told : ℕ)
-    → IsJoined origin old other new → IsDropped origin old.seen before → IsDropped origin other.seen others
+pub told_joined : {name : Book} (origin : Past) (old other new : Sight Past Event) (before others told : ℕ)
+    → IsJoined origin name old other new → IsDropped origin old.seen before → IsDropped origin other.seen others
     → (told ≡ before) ⊎ (told ≡ others) → IsDropped origin new.seen told
 told_joined origin old other new before others told joined one two either =
     dropped_either origin new.seen before others told
@@ -79,8 +80,8 @@ told_joined origin old other new before others told joined one two either =
 
 -- ---- what contracts see
 
-pub caught_up : (origin : Past) (old new : Held) → SeesAll origin (sight old) (sight new) → new.parts ≡ old.parts
-    → new.own ≡ old.own → new.joined ≡ old.joined → HasCaughtUp origin old new
+pub caught_up : {name : Book} (origin : Past) (old new : Held) → SeesAll origin name (sight old) (sight new) → new.parts ≡ old.parts
+    → new.own ≡ old.own → new.joined ≡ old.joined → HasCaughtUp origin name old new
 caught_up origin old new sees parts own joined = record {
   sees = sees;
   same = λ i. record {
@@ -92,7 +93,7 @@ caught_up origin old new sees parts own joined = record {
   };
 }
 
-pub split_left : (origin : Past) (old new : Held) (made : Sight Past Event) → IsSplit origin (sight old) (sight new) made
+pub split_left : {name : Book} (origin : Past) (old new : Held) (made : Sight Past Event) → IsSplit origin name (sight old) (sight new) made
     → new.parts ≡ old.parts - 1 → new.own ≡ old.own → new.joined ≡ old.joined
     → new ≡ record old { parts = old.parts - 1; seen = new.seen }
 split_left origin old new made split parts own joined = λ i. record {
@@ -104,11 +105,11 @@ split_left origin old new made split parts own joined = λ i. record {
 }
 
 -- a call that was refused
-pub refused_serve : (origin : Past) (old new : Held) (reason : ErrorCode) → HasCaughtUp origin old new
-    → InPastOf origin new.seen (λ past. IsServeRefusal past reason) → IsServeRefused origin old new reason
+pub refused_serve : {name : Book} (origin : Past) (old new : Held) (reason : ErrorCode) → HasCaughtUp origin name old new
+    → InPastOf origin new.seen (λ past. IsServeRefusal past reason) → IsServeRefused origin name old new reason
 refused_serve origin old new reason caught why = inr (caught, why)
 
-pub refused_change : (origin : Past) (old new : Held) (asked : BookInput) (reason : ErrorCode)
-    → HasCaughtUp origin old new → InPastOf origin new.seen (λ past. IsRefusal past asked reason)
-    → IsRefused origin old new asked reason
+pub refused_change : {name : Book} (origin : Past) (old new : Held) (asked : BookInput) (reason : ErrorCode)
+    → HasCaughtUp origin name old new → InPastOf origin new.seen (λ past. IsRefusal past asked reason)
+    → IsRefused origin name old new asked reason
 refused_change origin old new asked reason caught why = inr (caught, why)

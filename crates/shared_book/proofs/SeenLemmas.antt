@@ -3,6 +3,7 @@ use Rattle.std.proofs.Common.{◌≡◌, ℕ, ◌+◌, ◌<◌, List, [], ◌∷
 use Rattle.std.proofs.lemmas.List.{take_more}
 use Rattle.std.proofs.lemmas.List.Elements.{All-append, All-cons, All-nil}
 use mathlib.Core.List.{IsPrefix}
+use Rattle.logbook.specs.Pages.{Book}
 use Rattle.request_journal.specs.Past.{Past}
 use Rattle.request_journal.specs.declared.event.Event.{Event}
 use Rattle.shared_book.specs.Held.{Held}
@@ -19,22 +20,22 @@ prefix_more : (old whole new : Log) (e : Entry Past Event) → IsPrefix old whol
 prefix_more old whole new e begins is =
     subst (IsPrefix old) (sym is) (prefix_trans old whole (whole ++ e ∷ []) begins (e ∷ [], refl))
 
-module _ (origin : Past) (old new : Sight Past Event) where
-  pub sees_on : SeesAll origin old new → IsPrefix old.seen new.seen
+module _ {name : Book} (origin : Past) (old new : Sight Past Event) where
+  pub sees_on : SeesAll origin name old new → IsPrefix old.seen new.seen
   sees_on sees = subst (IsPrefix old.seen) (sym sees.catches_up.seen) sees.catches_up.before.begins
 
-  pub entered_on : (receipt : Receipt) → IsEntered origin old new receipt → IsPrefix old.seen new.seen
+  pub entered_on : (receipt : Receipt) → IsEntered origin name old new receipt → IsPrefix old.seen new.seen
   entered_on receipt entered =
       prefix_more old.seen entered.whole new.seen _ entered.calls.before.begins entered.calls.seen
 
-  pub split_on : (made : Sight Past Event) → IsSplit origin old new made → IsPrefix old.seen new.seen
+  pub split_on : (made : Sight Past Event) → IsSplit origin name old new made → IsPrefix old.seen new.seen
   split_on made split =
       prefix_more old.seen split.whole new.seen _ split.splits.before.begins split.splits.seen
 
-  pub joined_on : (other : Sight Past Event) → IsJoined origin old other new → IsPrefix old.seen new.seen
+  pub joined_on : (other : Sight Past Event) → IsJoined origin name old other new → IsPrefix old.seen new.seen
   joined_on other joined = joined.catches_up.before.begins
 
-  pub left_on : (other : Sight Past Event) → IsJoined origin old other new → IsPrefix other.seen new.seen
+  pub left_on : (other : Sight Past Event) → IsJoined origin name old other new → IsPrefix other.seen new.seen
   left_on other joined =
       prefix_more other.seen joined.whole new.seen _ joined.leaves.before.begins joined.leaves.left
 

@@ -178,8 +178,7 @@ book_send = search (book_inside_send, sendable) depth 60
 module _ (L : RattleType) (o : origin.Ghosts L.Denot) (l : ledger.Ghosts L.Denot) (n : naming.Ghosts L.Denot) where
   locked_inside_send : IsSend (locked_inside.the_row L o l n)
   locked_inside_send =
-      declared_send (locked_inside.the_type L o l n)
-      (
+      declared_send (locked_inside.the_type L o l n) (
         book_send,
         (
           search (whole.the_send, crosses, sendable) depth 60,

@@ -1,6 +1,7 @@
 -- What is lent of a call that was accepted.
 use Rattle.std.proofs.Common.{◌≡◌, ◌<◌, List, [], ◌∷◌, ◌++◌, refl, sym}
 use Rattle.std.proofs.Common.{ap, ◌∙◌, subst, length, length-append, arith}
+use Rattle.logbook.specs.Pages.{Book}
 use Rattle.mock_request.specs.Request.{Request}
 use Rattle.request_journal.specs.Input.{IsAsked}
 use Rattle.request_journal.specs.Past.{Past}
@@ -32,26 +33,26 @@ added_last origin old new added last gained is_last =
     one_last gained.before.own.held is_last.0 added last
     (sym (ap (λ (h : Held). h.own.held) gained.added) ∙ is_last.1)
 
-pub lends_served : (origin : Past) (old new : Held) (request : Request) (last : Receipt)
-    → Serves origin old new request
+pub lends_served : {name : Book} (origin : Past) (old new : Held) (request : Request) (last : Receipt)
+    → Serves origin name old new request
     → IsLast last new.own.held
-    → Gained origin old last new × IsServed request last.event × Enters origin old new last
-lends_served origin old new request last made is_last =
+    → Gained origin old last new × IsServed request last.event × Enters origin name old new last
+lends_served {name} origin old new request last made is_last =
     let same : made.receipt ≡ last = added_last origin old new made.receipt last made.gained is_last in (
       subst (λ (r : Receipt). Gained origin old r new) same made.gained,
       subst (λ (r : Receipt). IsServed request r.event) same made.served,
-      subst (λ (r : Receipt). Enters origin old new r) same made.entered,
+      subst (λ (r : Receipt). Enters origin name old new r) same made.entered,
     )
 
-pub lends_applied : (origin : Past) (old new : Held) (asked : BookInput) (last : Receipt)
-    → Applies origin old new asked
+pub lends_applied : {name : Book} (origin : Past) (old new : Held) (asked : BookInput) (last : Receipt)
+    → Applies origin name old new asked
     → IsLast last new.own.held
-    → Gained origin old last new × IsAsked asked last.event × Enters origin old new last
-lends_applied origin old new asked last made is_last =
+    → Gained origin old last new × IsAsked asked last.event × Enters origin name old new last
+lends_applied {name} origin old new asked last made is_last =
     let same : made.receipt ≡ last = added_last origin old new made.receipt last made.gained is_last in (
       subst (λ (r : Receipt). Gained origin old r new) same made.gained,
       subst (λ (r : Receipt). IsAsked asked r.event) same made.asked_for,
-      subst (λ (r : Receipt). Enters origin old new r) same made.entered,
+      subst (λ (r : Receipt). Enters origin name old new r) same made.entered,
     )
 
 -- the seat's own line isn't empty then

@@ -17,9 +17,9 @@ use Rattle.shared_book.specs.declared.settled.Settled.{Settled}
 use Rattle.shared_book.specs.declared.settled.SettleRefusal.{SettleRefusal}
 use Rattle.shared_book.specs.declared.settled.SettleRefusal.TheVariants.{SeatsMissing, Mismatch, OutOfMemory}
 
--- These lines of receipts are those of the one history, which is the whole of it: the past after its calls is legal,
--- there is one receipt for each number after the origin's last up to the past's last, the events of those that the past
--- keeps are held, and each event that is held is the one of its number, where the past keeps that.
+-- These lines of receipts are those of the calls of this history: the past after them is legal, there is one receipt
+-- for each number after the origin's last up to the past's last, the events of those that the past keeps are held, and
+-- each event that is held is the one of its number, where the past keeps that.
 pub record IsSettled (origin : Past) (whole : Log) (past : Past) (lines : List Line) (settled : Settled)
     : Type 0 where
   pub lawful : IsLawful origin whole
@@ -68,15 +68,18 @@ IsUnsettled origin parts past seats OutOfMemory = all_parts seats ≡ parts
 
 -- ---- of seats
 
--- what each of these has seen is a beginning of the whole history with this name, and their receipts are those of it
-pub record AreSettled (origin : Past) (name : Book) (seats : List Held) (settled : Settled) : Type 0 where
+-- the seats have all parts, what each of them has seen is a beginning of the history with this name, as it then is, and
+-- their receipts are those of it
+pub record AreSettled (origin : Past) (parts : ℕ) (name : Book) (seats : List Held) (settled : Settled)
+    : Type 0 where
   pub whole : Log
   pub past : Past
+  pub all : all_parts seats ≡ parts
   pub was_seen : IsSeen MayFollow name whole
   pub seen : HaveSeen whole seats
   pub one_history : IsSettled origin whole past (all_lists seats) settled
 
--- likewise, where they aren't settled, for a reason in the past after the whole history
+-- likewise, where they aren't settled, for a reason in the past after the history
 pub record AreUnsettled (origin : Past) (parts : ℕ) (name : Book) (seats : List Held) (reason : SettleRefusal)
     : Type 0 where
   pub whole : Log

@@ -122,7 +122,10 @@ pub(crate) fn differing(receipts: &[Receipt], history: &history::History) -> Opt
 }
 
 /// A copy of the event that the history keeps under the number. Takes no memory.
-pub(crate) fn kept(history: &history::History, number: u64) -> Result<Option<SharedEvent>, AllocError>
+pub(crate) fn kept(
+    history: &history::History,
+    number: u64,
+) -> Result<Option<SharedEvent>, AllocError>
     ensures { IfOk result (λ kept. kept ≡ event_at history.now.past number) }
 {
     match history.event(number) {

@@ -1,10 +1,7 @@
 // The history of a shared book.
 use crate::course::Answers;
 use request_journal::event::Event;
-use shared_history::front;
-use shared_history::history;
-use shared_history::opened;
-use shared_history::seat;
+use shared_history::{front, history, opened, seat};
 use stub_book::book::Book;
 
 /// A beginning of the history that a seat has seen.

@@ -31,9 +31,8 @@ use request_journal::shared_request::SharedRequest;
 use request_match::parsed_request::ParsedRequest;
 use std::alloc::{AllocError, Global};
 use std::marker::Model;
-use std::sync::Wait;
-use std::sync::ledger;
 use std::sync::ledger::Share;
+use std::sync::{Wait, ledger};
 use stub_book::book::Book;
 use stub_book::error::BookError;
 
@@ -101,6 +100,7 @@ impl<L: Origin> Locked<L> {
     }
 
     /// Serves the request, whose event comes into this memory, and enters that for the share and the place.
+    #[tactic(auto, using(crate::proofs::KeptLemmas::sees_all))]
     pub(crate) fn serve<R: Wait>(
         &mut self,
         rt: &R,
@@ -113,9 +113,10 @@ impl<L: Origin> Locked<L> {
         requires part { 0 < share.old.parts }
         requires read { parsed.old ≡ request }
         ensures ok { IfOk result (λ entered.
-            IsServed request entered.receipt.event × IsEntered L.origin place.old place.new entered.receipt) }
+            IsServed request entered.receipt.event
+            × IsEntered L.origin L.book place.old place.new entered.receipt) }
         ensures base { IfOk result (λ entered. IsDropped L.origin place.new.seen entered.base) }
-        ensures seen { OnErr result (SeesAll L.origin place.old place.new) }
+        ensures seen { OnErr result (SeesAll L.origin L.book place.old place.new) }
         ensures why { IfErr result
             (λ error. InPastOf L.origin place.new.seen (λ past. IsServeRefusal past error.code)) }
         ensures parts { share.new.parts ≡ share.old.parts }
@@ -141,6 +142,7 @@ impl<L: Origin> Locked<L> {
     }
 
     /// Makes the change, and enters that for the share and the place.
+    #[tactic(auto, using(crate::proofs::KeptLemmas::sees_all))]
     pub(crate) fn apply<R: Wait>(
         &mut self,
         rt: &R,
@@ -150,9 +152,10 @@ impl<L: Origin> Locked<L> {
     ) -> Result<Entered, BookError>
         requires { 0 < share.old.parts }
         ensures ok { IfOk result (λ entered.
-            IsAsked input entered.receipt.event × IsEntered L.origin place.old place.new entered.receipt) }
+            IsAsked input entered.receipt.event
+            × IsEntered L.origin L.book place.old place.new entered.receipt) }
         ensures base { IfOk result (λ entered. IsDropped L.origin place.new.seen entered.base) }
-        ensures seen { OnErr result (SeesAll L.origin place.old place.new) }
+        ensures seen { OnErr result (SeesAll L.origin L.book place.old place.new) }
         ensures why { IfErr result
             (λ error. InPastOf L.origin place.new.seen (λ past. IsRefusal past input error.code)) }
         ensures parts { share.new.parts ≡ share.old.parts }
@@ -178,7 +181,7 @@ impl<L: Origin> Locked<L> {
     }
 
     /// Looks up what is asked for.
-    #[tactic(auto, using(crate::proofs::KeptLemmas::looked_up))]
+    #[tactic(auto, using(crate::proofs::KeptLemmas::sees_all, crate::proofs::KeptLemmas::looked_up))]
     pub(crate) fn read<R: Wait>(
         &mut self,
         rt: &R,
@@ -186,7 +189,7 @@ impl<L: Origin> Locked<L> {
         alloc: Global,
         asked: &BookRead,
     ) -> Result<Reading, AllocError>
-        ensures seen { SeesAll L.origin place.old place.new }
+        ensures seen { SeesAll L.origin L.book place.old place.new }
         ensures answer { IfOk result (IsLookedUp L.origin place.new.seen asked.now) }
     {
         self.history.catch_up(rt, place);
@@ -199,14 +202,14 @@ impl<L: Origin> Locked<L> {
 
     /// Makes a new seat's place.
     pub(crate) fn split<R: Wait>(&mut self, rt: &R, place: &mut Place<L>) -> Place<L>
-        ensures { IsSplit L.origin place.old place.new result }
+        ensures { IsSplit L.origin L.book place.old place.new result }
     {
         self.history.split(rt, place)
     }
 
     /// Ends the other place.
     pub(crate) fn join<R: Wait>(&mut self, rt: &R, place: &mut Place<L>, other: Place<L>)
-        ensures { IsJoined L.origin place.old other place.new }
+        ensures { IsJoined L.origin L.book place.old other place.new }
     {
         self.history.leave(rt, other);
         self.history.catch_up(rt, place);
@@ -220,7 +223,7 @@ impl<L: Origin> Locked<L> {
         seats: &mut [Seat<L>],
     ) -> Result<Settled, SettleRefusal>
         ensures same_seats { seats.new ≡ seats.old }
-        ensures settled { IfOk result (AreSettled L.origin L.book seats.old) }
+        ensures settled { IfOk result (AreSettled L.origin L.parts L.book seats.old) }
         ensures why { IfErr result (AreUnsettled L.origin L.parts L.book seats.old) }
     {
         cover(rt, &self.history, seats);
@@ -247,7 +250,7 @@ fn enter<L: Origin, R: Wait>(
     requires counted { last_number book.now ≡ last_number L.origin + entries.old.total + 1 }
     requires part { 0 < share.old.parts }
     ensures event { result.receipt.event ≡ event }
-    ensures entered { IsEntered L.origin place.old place.new result.receipt }
+    ensures entered { IsEntered L.origin L.book place.old place.new result.receipt }
     ensures base { IsDropped L.origin place.new.seen result.base }
     ensures lawful { IsLawful L.origin history.new }
     ensures past_of { IsPastOf L.origin history.new book.now }

@@ -3,7 +3,8 @@ ghost use Rattle.std.specs.Prelude.{◌≡◌, ◌-◌, ◌^◌, ◌<◌, length
 ghost use Rattle.shared_book.specs.Held.{new_seat, HasLetGo, with_seat};
 ghost use Rattle.shared_book.specs.Inner.Gains.{Serves, Applies};
 ghost use Rattle.shared_book.specs.Lent.{LendsServed, LendsApplied};
-ghost use Rattle.shared_book.specs.Reached.{IsLawful, MayFollow};
+ghost use Rattle.request_journal.specs.Past.{Past};
+ghost use Rattle.shared_book.specs.Reached.{IsLawful, IsPastOf, MayFollow};
 ghost use Rattle.shared_book.specs.Reading.{IsRead};
 ghost use Rattle.shared_book.specs.Receipts.{IsLast};
 ghost use Rattle.shared_book.specs.Refused.{IsRefused, IsServeRefused};
@@ -65,7 +66,6 @@ impl<L: Origin> Model for Seat<L> {
     ghost use Rattle.std.specs.Prelude.{◌∷◌, map};
     ghost use Rattle.shared_book.specs.Held.{Held};
     ghost use Rattle.shared_book.specs.Inner.Seat.{IsSeat, line_of};
-
     ghost use Rattle.std.specs.Coded.{codes};
     ghost use Rattle.book_history.specs.Inner.Codes.{states_code};
 
@@ -114,11 +114,13 @@ impl<L: Origin> Seat<L> {
         self.parts
     }
 
-    /// What it has seen of the history.
+    /// What it has seen of the history, whose calls lead to a past.
+    #[tactic(auto, using(crate::proofs::ReachedLemmas::lawful_past))]
     pub fn front(&self) -> Front<L>
         ensures value { result ≡ self.now.seen }
         ensures lawful { IsLawful L.origin result }
         ensures seen { IsSeen MayFollow L.book self.now.seen }
+        ensures past { (past : Past) × IsPastOf L.origin self.now.seen past }
     {
         self.place.front()
     }
@@ -128,7 +130,7 @@ impl<L: Origin> Seat<L> {
         requires { 1 < self.old.parts }
         ensures new { result ≡ new_seat result.number result.seen 1 }
         ensures left { self.new ≡ record self.old { parts = self.old.parts - 1; seen = self.new.seen } }
-        ensures entered { HasSplit L.origin self.old self.new result }
+        ensures entered { HasSplit L.origin L.book self.old self.new result }
     {
         let place = shared.lock(rt).split(rt, &mut self.place);
         let share = self.share.split_off(1, 0);
@@ -182,7 +184,7 @@ impl<L: Origin> Seat<L> {
             (the_row L.row (record { origin = L.origin }) (record { name = L.name; parts = L.parts })
             (record { book = L.book }))
             self.entry.ghost_name none (λ _ _. ⊤)
-            (λ seat. LendsServed L.origin self.old seat request result)) }
+            (λ seat. LendsServed L.origin L.book self.old seat request result)) }
     {
         match self.keep_served(rt, shared, request) {
             Ok(()) => Ok(self.last()),
@@ -204,7 +206,7 @@ impl<L: Origin> Seat<L> {
             (the_row L.row (record { origin = L.origin }) (record { name = L.name; parts = L.parts })
             (record { book = L.book }))
             self.entry.ghost_name none (λ _ _. ⊤)
-            (λ seat. LendsApplied L.origin self.old seat input result)) }
+            (λ seat. LendsApplied L.origin L.book self.old seat input result)) }
     {
         match self.keep_applied(rt, shared, input) {
             Ok(()) => Ok(self.last()),
@@ -220,7 +222,7 @@ impl<L: Origin> Seat<L> {
         shared: &SharedBook<L>,
         asked: BookRead,
     ) -> Result<Reading, AllocError>
-        ensures seen { HasCaughtUp L.origin self.old self.new }
+        ensures seen { HasCaughtUp L.origin L.book self.old self.new }
         ensures ok { IfOk result (IsRead L.origin self.new.seen asked) }
     {
         let alloc = *self.lines.joined.allocator();
@@ -244,7 +246,7 @@ impl<L: Origin> Seat<L> {
         other: Seat<L>,
     ) -> Result<(), Seat<L>>
         ensures ok { OnOk result (HasLetGo L.origin (with_seat self.old other) self.new) }
-        ensures joined { OnOk result (HasJoined L.origin self.old other self.new) }
+        ensures joined { OnOk result (HasJoined L.origin L.book self.old other self.new) }
         ensures err { IfErr result (λ seat. (seat ≡ other) × (self.new ≡ self.old)) }
     {
         let Some(count) = self.count.checked_add(other.count) else {
@@ -281,8 +283,8 @@ impl<L: Origin> Seat<L> {
         shared: &SharedBook<L>,
         request: Snapshot,
     ) -> Result<(), BookError>
-        ensures ok { OnOk result (Serves L.origin self.old self.new request) }
-        ensures why { IfErr result (λ error. IsServeRefused L.origin self.old self.new error.code) }
+        ensures ok { OnOk result (Serves L.origin L.book self.old self.new request) }
+        ensures why { IfErr result (λ error. IsServeRefused L.origin L.book self.old self.new error.code) }
     {
         self.lines.own.held.reserve(1)?;
         let request = SharedRequest::new(*self.lines.joined.allocator(), request)?;
@@ -309,8 +311,8 @@ impl<L: Origin> Seat<L> {
         shared: &SharedBook<L>,
         input: BookInput,
     ) -> Result<(), BookError>
-        ensures ok { OnOk result (Applies L.origin self.old self.new input) }
-        ensures why { IfErr result (λ error. IsRefused L.origin self.old self.new input error.code) }
+        ensures ok { OnOk result (Applies L.origin L.book self.old self.new input) }
+        ensures why { IfErr result (λ error. IsRefused L.origin L.book self.old self.new input error.code) }
     {
         self.lines.own.held.reserve(1)?;
         let entered = shared

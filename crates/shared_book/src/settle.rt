@@ -27,14 +27,12 @@ pub fn settle<L: Origin, R: Wait>(
     shared: SharedBook<L>,
     seats: Vec<Seat<L>>,
 ) -> Result<Settled, SettleError<L>>
-    ensures settled { IfOk result (AreSettled L.origin L.book seats.items) }
+    ensures settled { IfOk result (AreSettled L.origin L.parts L.book seats.items) }
     ensures handed_back { IfErr result (λ error. (error.seats.items ≡ seats.items) × (error.alone ≡ None)) }
     ensures why { IfErr result (λ error. AreUnsettled L.origin L.parts L.book seats.items error.reason) }
 {
     let mut seats = seats;
-    let settled = shared
-        .lock(rt)
-        .settle(rt, alloc, seats.as_mut_slice());
+    let settled = shared.lock(rt).settle(rt, alloc, seats.as_mut_slice());
     match settled {
         Ok(settled) => Ok(settled),
         Err(reason) => Err(SettleError {

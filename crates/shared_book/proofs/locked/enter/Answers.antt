@@ -19,7 +19,8 @@ returns-clause-entered g c =
     c.requires.grown.2
     (subst (λ (e : Event). Calls e c.args.place.now c.args.history.now c.enter.new.seat) c.event.ensures
     c.enter.ensures.calls)
-    c.enter.ensures.whole c.enter.ensures.legal c.entered.ensures.event c.entered.ensures.number
+    c.enter.ensures.whole c.enter.ensures.legal c.enter.ensures.seen c.entered.ensures.event
+    c.entered.ensures.number
 
 pub returns-clause-base : goal.returns-clause-base
 returns-clause-base g c =

@@ -11,7 +11,7 @@ join-one-requires-send-F g c κs within =
 
 pub returns-clause-played : goal.returns-clause-played
 returns-clause-played g c =
-    played_by g.L.Origin.origin g.L.Naming.book c.args.seat c.split-two.new.self c.join-one.result.0
+    played_by g.L.Origin.origin g.L.Ledger.parts g.L.Naming.book c.args.seat c.split-two.new.self c.join-one.result.0
     c.join-one.result.1 c.args.first.calls.items c.args.second.calls.items c.all_of-seats.result.items c.settle.result
     (gave_two g.L.Origin.origin c.args.seat c.split-one.new.self c.split-two.new.self c.split-one.result
     c.split-two.result c.split-one.ensures.left c.split-two.ensures.left c.split-one.ensures.entered

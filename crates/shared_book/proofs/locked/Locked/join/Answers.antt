@@ -11,4 +11,4 @@ pub returns : goal.returns
 returns g c =
     was_joined g.L.Origin.origin c.self.inside.history c.leave.new.self c.args.place.now c.args.other
     c.catch_up.new.seat c.self.invariant.lawful c.leave.ensures.leaves c.leave.ensures.left c.leave.ensures.legal
-    c.catch_up.ensures.catches_up
+    c.catch_up.ensures.catches_up c.leave.ensures.seen

@@ -82,8 +82,8 @@ returns-clause-joined g c =
       own = line_of c.take_over.new.self.own;
       joined = map line_of c.take_over.new.self.joined.items;
     } in
-    subst (λ (s : Held). HasJoined g.L.Origin.origin s c.args.other new) c.self.view_is
-    (subst (λ (o : Held). HasJoined g.L.Origin.origin (record {
+    subst (λ (s : Held). HasJoined g.L.Origin.origin g.L.Naming.book s c.args.other new) c.self.view_is
+    (subst (λ (o : Held). HasJoined g.L.Origin.origin g.L.Naming.book (record {
       number = c.self.inside.place.number;
       seen = c.self.inside.place.seen;
       parts = c.self.inside.parts;

@@ -49,6 +49,6 @@ returns-clause-ok g c =
           c.self.invariant.dropped c.in_ok-entered.ensures.base c.keep.ensures.told)
           refl keeps c.keep.ensures.joined);
       asked_for = c.in_ok-entered.ensures.ok.0;
-      entered = subst (λ (s : Held). Enters g.L.Origin.origin s new receipt) c.self.view_is
+      entered = subst (λ (s : Held). Enters g.L.Origin.origin g.L.Naming.book s new receipt) c.self.view_is
           c.in_ok-entered.ensures.ok.1;
     }

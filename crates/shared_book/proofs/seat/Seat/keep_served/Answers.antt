@@ -52,6 +52,6 @@ returns-clause-ok g c =
           refl keeps c.keep.ensures.joined);
       served = subst (λ (r : Request). IsServed r receipt.event) (c.in_ok-kept.ensures ∙ c.in_ok-request.ensures)
           c.in_ok-entered.ensures.ok.0;
-      entered = subst (λ (s : Held). Enters g.L.Origin.origin s new receipt) c.self.view_is
+      entered = subst (λ (s : Held). Enters g.L.Origin.origin g.L.Naming.book s new receipt) c.self.view_is
           c.in_ok-entered.ensures.ok.1;
     }
