@@ -14,10 +14,11 @@ use Rattle.shared_book.specs.Seen.{IsEntered, IsJoined, IsSplit, SeesAll}
 use Rattle.shared_book.specs.declared.book_read.BookRead.{BookRead}
 use Rattle.shared_book.specs.declared.book_read.ReadAnswer.{ReadAnswer}
 use Rattle.shared_book.specs.declared.receipt.Receipt.{Receipt}
-use Rattle.shared_history.specs.Entries.{opening}
+use Rattle.shared_history.specs.Entries.{entry, opening}
 use Rattle.shared_history.specs.History.{HasLeft, IsHistory}
 use Rattle.shared_history.specs.Seal.{IsSeen}
 use Rattle.shared_history.specs.Sight.{Calls, CatchesUp, IsIn, Leaves, Sight, Splits}
+use Rattle.shared_history.specs.declared.entry.Deed.TheVariants.{Split}
 use Rattle.shared_history.specs.declared.entry.Entry.{Entry}
 use Rattle.stub_book.specs.Growth.{Grows}
 
@@ -41,7 +42,7 @@ module _ (origin : Past) (all : ℕ) (past : Past) (old new : Log) (entries part
       → Splits seat old later made → new ≡ later.seen → IsHistory MayFollow new
       → IsKept origin all past new entries parts start
   kept_split seat later made kept splits same history =
-      let is : new ≡ old ++ _ ∷ [] = subst (λ (log : Log). log ≡ old ++ _ ∷ []) (sym same) splits.seen in
+      let is : new ≡ old ++ entry seat.number Split ∷ [] = same ∙ splits.seen in
       record {
         lawful = lawful_more origin old new _ kept.lawful is history;
         past_of = past_split origin past old new seat.number is kept.past_of;

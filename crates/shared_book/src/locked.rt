@@ -181,7 +181,7 @@ impl<L: Origin> Locked<L> {
     }
 
     /// Looks up what is asked for.
-    #[tactic(auto, using(crate::proofs::KeptLemmas::sees_all, crate::proofs::KeptLemmas::looked_up))]
+    #[tactic(auto, using(crate::proofs::KeptLemmas::sees_all))]
     pub(crate) fn read<R: Wait>(
         &mut self,
         rt: &R,
@@ -194,10 +194,8 @@ impl<L: Origin> Locked<L> {
     {
         self.history.catch_up(rt, place);
         let number = self.book.event_count();
-        Ok(Reading {
-            number,
-            answer: look(&self.book, alloc, asked)?,
-        })
+        let answer = look(&self.book, alloc, asked)?;
+        Ok(Reading { number, answer })
     }
 
     /// Makes a new seat's place.
