@@ -16,5 +16,7 @@ invariant_of-result g c =
       fits = c.requires.fits;
       same_count = c.requires.empty;
       counted = sym (ap (λ (ls : List Line). length (all_numbers ls)) none);
-      dropped = subst (IsDropped g.L.Origin.origin) (sym c.new.ensures.told) (dropped_none g.L.Origin.origin);
+      lawful = c.requires.lawful;
+      dropped = subst (IsDropped g.L.Origin.origin c.args.place.seen) (sym c.new.ensures.told)
+          (dropped_none g.L.Origin.origin c.args.place.seen);
     }

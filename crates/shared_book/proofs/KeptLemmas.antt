@@ -1,0 +1,150 @@
+-- What the lock keeps, after one more entry.
+use Rattle.std.proofs.Common.{◌≡◌, ℕ, ◌<◌, [], ◌∷◌, ◌++◌, ap, arith, refl, sym, ◌∙◌, subst}
+use Rattle.logbook.specs.Pages.{Book}
+use Rattle.request_journal.specs.Legal.{IsNext}
+use Rattle.request_journal.specs.Past.{Past, last_number}
+use Rattle.request_journal.specs.declared.event.Event.{Event}
+use Rattle.shared_book.proofs.ReachedLemmas.{dropped_last, lawful_on, lawful_opened, number_grown, past_called}
+use Rattle.shared_book.proofs.ReachedLemmas.{past_left, past_opened, past_split}
+use Rattle.shared_book.specs.Held.{IsDropped}
+use Rattle.shared_book.specs.Inner.Kept.{IsKept}
+use Rattle.shared_book.specs.Inner.Looked.{IsLooked, IsLookedUp}
+use Rattle.shared_book.specs.Reached.{IsLawful, IsPastOf, Log, MayFollow}
+use Rattle.shared_book.specs.Seen.{IsEntered, IsJoined, IsSplit, SeesAll}
+use Rattle.shared_book.specs.declared.book_read.BookRead.{BookRead}
+use Rattle.shared_book.specs.declared.book_read.ReadAnswer.{ReadAnswer}
+use Rattle.shared_book.specs.declared.receipt.Receipt.{Receipt}
+use Rattle.shared_history.specs.Entries.{entry, opening}
+use Rattle.shared_history.specs.History.{HasLeft, IsHistory}
+use Rattle.shared_history.specs.Seal.{IsSeen}
+use Rattle.shared_history.specs.Sight.{Calls, CatchesUp, IsIn, Leaves, Sight, Splits}
+use Rattle.shared_history.specs.declared.entry.Deed.TheVariants.{Split}
+use Rattle.shared_history.specs.declared.entry.Entry.{Entry}
+use Rattle.stub_book.specs.Growth.{Grows}
+
+pub lawful_more : (origin : Past) (old new : Log) (e : Entry Past Event) → IsLawful origin old
+    → new ≡ old ++ e ∷ [] → IsHistory MayFollow new → IsLawful origin new
+lawful_more origin old new e lawful is history = lawful_on origin old new lawful (e ∷ [], sym is) history
+
+module _ (origin : Past) (all : ℕ) (past : Past) (old new : Log) (entries parts start : ℕ) where
+  pub kept_left : (other : Sight Past Event) → IsKept origin all past old entries parts start
+      → Leaves other old new → IsHistory MayFollow new → IsKept origin all past new entries parts start
+  kept_left other kept leaves history = record {
+    lawful = lawful_more origin old new _ kept.lawful leaves.left history;
+    past_of = past_left origin past old new other.number leaves.left kept.past_of;
+    same_start = kept.same_start;
+    counted = kept.counted;
+    same_parts = kept.same_parts;
+    some = kept.some;
+  }
+
+  pub kept_split : (seat later made : Sight Past Event) → IsKept origin all past old entries parts start
+      → Splits seat old later made → new ≡ later.seen → IsHistory MayFollow new
+      → IsKept origin all past new entries parts start
+  kept_split seat later made kept splits same history =
+      let is : new ≡ old ++ entry seat.number Split ∷ [] = same ∙ splits.seen in
+      record {
+        lawful = lawful_more origin old new _ kept.lawful is history;
+        past_of = past_split origin past old new seat.number is kept.past_of;
+        same_start = kept.same_start;
+        counted = kept.counted;
+        same_parts = kept.same_parts;
+        some = kept.some;
+      }
+
+-- a seat has seen all that there is
+pub sees_all : {name : Book} (origin : Past) (whole : Log) (old new : Sight Past Event) → IsLawful origin whole
+    → CatchesUp old whole new → IsSeen MayFollow name whole → SeesAll origin name old new
+sees_all {name} origin whole old new lawful catches_up was_seen = record {
+  whole = whole;
+  catches_up = catches_up;
+  lawful = subst (IsLawful origin) (sym catches_up.seen) lawful;
+  was_seen = subst (IsSeen MayFollow name) (sym catches_up.seen) was_seen;
+}
+
+-- the seat has made another
+pub was_split : {name : Book} (origin : Past) (whole new : Log) (seat later made : Sight Past Event) → IsLawful origin whole
+    → Splits seat whole later made → new ≡ later.seen → IsHistory MayFollow new → IsSeen MayFollow name new
+    → IsSplit origin name seat later made
+was_split {name} origin whole new seat later made lawful splits same history was_seen = record {
+  whole = whole;
+  splits = splits;
+  lawful = lawful_more origin whole later.seen _ lawful splits.seen (subst (IsHistory MayFollow) same history);
+  was_seen = subst (IsSeen MayFollow name) same was_seen;
+}
+
+-- the other has left, and this one has seen that
+pub was_joined : {name : Book} (origin : Past) (whole new : Log) (seat other later : Sight Past Event) → IsLawful origin whole
+    → Leaves other whole new → HasLeft MayFollow new other.number → IsHistory MayFollow new
+    → CatchesUp seat new later → IsSeen MayFollow name new → IsJoined origin name seat other later
+was_joined {name} origin whole new seat other later lawful leaves left history catches_up was_seen =
+    let back = sym catches_up.seen in
+    record {
+      whole = whole;
+      leaves = subst (Leaves other whole) back leaves;
+      catches_up = record {
+        before = subst (λ (log : Log). IsIn log seat) back catches_up.before;
+        number = catches_up.number;
+        seen = refl;
+      };
+      left = subst (λ (log : Log). HasLeft MayFollow log other.number) back left;
+      lawful = subst (IsLawful origin) back (lawful_more origin whole new _ lawful leaves.left history);
+      was_seen = subst (IsSeen MayFollow name) back was_seen;
+    }
+
+-- what was looked up in the past after the whole history, which was seen
+pub looked_up : (origin past : Past) (whole seen : Log) (asked : BookRead) (number : ℕ) (answer : ReadAnswer)
+    → IsPastOf origin whole past → seen ≡ whole → number ≡ last_number past → IsLooked past asked answer
+    → IsLookedUp origin seen asked (record { number = number; answer = answer })
+looked_up origin past whole seen asked number answer is same last looked = record {
+  past = past;
+  past_of = subst (λ (log : Log). IsPastOf origin log past) (sym same) is;
+  number = last;
+  answer = looked;
+}
+
+-- the book was just shared
+pub kept_opened : (origin : Past) (all : ℕ) (past : Past) (whole : Log) (entries parts start : ℕ) → past ≡ origin
+    → whole ≡ opening origin ∷ [] → entries ≡ 0 → parts ≡ all → 0 < parts → start ≡ last_number past
+    → IsKept origin all past whole entries parts start
+kept_opened origin all past whole entries parts start same opened none are some number = record {
+  lawful = lawful_opened origin whole opened;
+  past_of = subst (IsPastOf origin whole) (sym same) (past_opened origin whole opened);
+  same_start = number ∙ ap last_number same;
+  counted = (let last = ap last_number same in omega (arith, last, none));
+  same_parts = are;
+  some = omega (arith, are, some);
+}
+
+-- ---- a call was entered
+module _ (origin past new : Past) (whole more : Log) (seat later : Sight Past Event) (event : Event) where
+  pub past_entered : IsPastOf origin whole past → Grows past new event → Calls event seat whole later
+      → more ≡ later.seen → IsPastOf origin more new
+  past_entered is grows calls same =
+      past_called origin past new whole more seat.number event (same ∙ calls.seen) is grows
+
+  pub dropped_by : (base : ℕ) → IsPastOf origin whole past → Grows past new event → Calls event seat whole later
+      → more ≡ later.seen → base ≡ new.base.number → IsDropped origin later.seen base
+  dropped_by base is grows calls same number =
+      dropped_last origin new later.seen base
+      (subst (λ (log : Log). IsPastOf origin log new) same (past_entered is grows calls same)) number
+
+  pub was_entered : {name : Book} (receipt : Receipt) → IsLawful origin whole → IsPastOf origin whole past → Grows past new event
+      → Calls event seat whole later → more ≡ later.seen → IsHistory MayFollow more → IsSeen MayFollow name more
+      → receipt.event ≡ event → receipt.number ≡ last_number new → IsEntered origin name seat later receipt
+  was_entered {name} receipt lawful is grows calls same history was_seen its number = record {
+    whole = whole;
+    calls = subst (λ (e : Event). Calls e seat whole later) (sym its) calls;
+    lawful = lawful_more origin whole later.seen _ lawful calls.seen (subst (IsHistory MayFollow) same history);
+    was_seen = subst (IsSeen MayFollow name) same was_seen;
+    past = past;
+    past_of = is;
+    next = subst (IsNext past) (sym its) grows.next;
+    number = number ∙ number_grown past new event grows;
+  }
+
+pub lawful_entered : (origin : Past) (whole more : Log) (seat later : Sight Past Event) (event : Event)
+    → IsLawful origin whole → Calls event seat whole later → more ≡ later.seen → IsHistory MayFollow more
+    → IsLawful origin more
+lawful_entered origin whole more seat later event lawful calls same history =
+    lawful_more origin whole more _ lawful (same ∙ calls.seen) history
