@@ -36,10 +36,11 @@ pub trait FileReader {
         ensures error { IfErr result (λ error. IfSome (content self.now path.now)
             (λ _. error_kind error ≡ ErrorKind.OutOfMemory)) };
 
-    /// The files that a path names: itself; or, of a folder, those in it whose names end in `.json`, in byte order.
-    fn files_at(&self, alloc: Global, path: &str) -> io::Result<Vec<String>>
+    /// The files that a path names: itself; or, of a folder, the regular files in it whose names end in `.json` and
+    /// don't begin with a dot, in byte order.
+    fn files_at(&self, alloc: Global, path: &str) -> io::Result<Listed>
         ensures all { IfOk result
-            (λ files. IfSome (listed self.now path.now) (λ all. map string_bytes files.items ≡ all)) }
+            (λ found. IfSome (listed self.now path.now) (λ all. map string_bytes found.files.items ≡ all)) }
         ensures error { IfErr result (λ error. IfSome (listed self.now path.now)
             (λ _. error_kind error ≡ ErrorKind.OutOfMemory)) };
 }
@@ -51,13 +52,54 @@ impl FileReader for HostRuntime {
         Ok(front)
     }
 
-    fn files_at(&self, alloc: Global, path: &str) -> io::Result<Vec<String>> {
+    fn files_at(&self, alloc: Global, path: &str) -> io::Result<Listed> {
         if is_folder(self, path) {
             return files_in(self, alloc, path);
         }
-        let mut files = Vec::new(alloc);
-        files.push(String::from_str(alloc, path)?)?;
-        Ok(files)
+        let mut found = Listed::new(alloc);
+        found.files.push(String::from_str(alloc, path)?)?;
+        Ok(found)
+    }
+}
+
+/// The files that a path names.
+#[derive(Debug, Drop)]
+pub struct Listed {
+    pub files: Vec<String>,
+    /// Lines that name what is passed over in a folder, and say why.
+    pub passed_over: String,
+}
+
+impl Listed {
+    fn new(alloc: Global) -> Listed {
+        Listed {
+            files: Vec::new(alloc),
+            passed_over: String::new(alloc),
+        }
+    }
+
+    // Takes an entry of a folder, or passes over it.
+    fn add(&mut self, rt: &HostRuntime, alloc: Global, path: &str, name: &str) -> io::Result<()> {
+        if !name.ends_with(".json") || name.starts_with('.') {
+            return Ok(());
+        }
+        match fs::metadata(rt, path) {
+            Ok(metadata) if metadata.is_file() => {
+                Ok(self.files.push(String::from_str(alloc, path)?)?)
+            }
+            Ok(_metadata) => self.pass_over(["warning: ", path, " is passed over: it is no regular file\n"].as_slice()),
+            Err(error) => {
+                let reason = format!(in alloc; "warning: {path} is passed over: {error}\n")?;
+                self.pass_over([reason.as_str()].as_slice())
+            }
+        }
+    }
+
+    fn pass_over(&mut self, texts: &[&str]) -> io::Result<()> {
+        for text in texts {
+            self.passed_over.push_str(*text)?;
+        }
+        Ok(())
     }
 }
 
@@ -69,16 +111,19 @@ fn is_folder(rt: &HostRuntime, path: &str) -> bool {
     }
 }
 
-fn files_in(rt: &HostRuntime, alloc: Global, folder: &str) -> io::Result<Vec<String>> {
-    let mut files: Vec<String> = Vec::new(alloc);
+fn files_in(rt: &HostRuntime, alloc: Global, folder: &str) -> io::Result<Listed> {
+    let mut found = Listed::new(alloc);
     for entry in fs::read_dir(rt, folder)? {
-        let path = String::from_str(alloc, entry?.path().path_text())?;
-        if path.as_str().ends_with(".json") && !is_folder(rt, path.as_str()) {
-            files.push(path)?;
+        match entry {
+            Ok(entry) => found.add(rt, alloc, entry.path().path_text(), entry.file_name())?,
+            Err(error) if error.kind() == ErrorKind::InvalidFilename => found.pass_over(
+                ["warning: a name in ", folder, " is passed over: it isn't UTF-8\n"].as_slice(),
+            )?,
+            Err(error) => return Err(error),
         }
     }
-    files.sort()?;
-    Ok(files)
+    found.files.sort()?;
+    Ok(found)
 }
 
 /// Why no file is read.
@@ -148,6 +193,8 @@ pub struct Documents {
     pub paths: Vec<String>,
     /// The bytes of each.
     pub texts: Vec<Vec<u8>>,
+    /// Lines that name what was passed over in a folder, and say why.
+    pub passed_over: String,
 }
 
 /// Why documents aren't read, and at which file of a folder.
@@ -199,18 +246,18 @@ pub fn read_documents<F: FileReader>(
         (λ unread. IsDocumentsError (F.listed files.now path.now) (F.content files.now) unread.error) }
 {
     match list_files(alloc, files, path) {
-        Ok(paths) => read_listed(alloc, files, path, paths),
+        Ok(found) => read_listed(alloc, files, path, found),
         Err(error) => Err(Unread { error, file: None }),
     }
 }
 
-fn list_files<F: FileReader>(alloc: Global, files: &F, path: &str) -> Result<Vec<String>, FileError>
+fn list_files<F: FileReader>(alloc: Global, files: &F, path: &str) -> Result<Listed, FileError>
     ensures ok { IfOk result
-        (λ paths. IfSome (F.listed files.now path.now) (λ all. map string_bytes paths.items ≡ all)) }
+        (λ found. IfSome (F.listed files.now path.now) (λ all. map string_bytes found.files.items ≡ all)) }
     ensures err { IfErr result (IsDocumentsError (F.listed files.now path.now) (F.content files.now)) }
 {
     match files.files_at(alloc, path) {
-        Ok(paths) => Ok(paths),
+        Ok(found) => Ok(found),
         Err(error) => Err(match error.kind() {
             ErrorKind::OutOfMemory => FileError::OutOfMemory,
             _ => FileError::CannotRead(error),
@@ -222,16 +269,24 @@ fn read_listed<F: FileReader>(
     alloc: Global,
     files: &F,
     path: &str,
-    paths: Vec<String>,
+    found: Listed,
 ) -> Result<Documents, Unread>
-    requires { IfSome (F.listed files.now path.now) (λ all. map string_bytes paths.items ≡ all) }
+    requires { IfSome (F.listed files.now path.now) (λ all. map string_bytes found.files.items ≡ all) }
     ensures ok { IfOk result (λ found. AreDocuments (F.listed files.now path.now) (F.content files.now)
         (map (λ text. text.items) found.texts.items)) }
     ensures err { IfErr result
         (λ unread. IsDocumentsError (F.listed files.now path.now) (F.content files.now) unread.error) }
 {
+    let Listed {
+        files: paths,
+        passed_over,
+    } = found;
     match read_each(alloc, files, paths.as_slice()) {
-        Ok(texts) => Ok(Documents { paths, texts }),
+        Ok(texts) => Ok(Documents {
+            paths,
+            texts,
+            passed_over,
+        }),
         Err((error, file)) => Err(Unread {
             error,
             file: if file.as_str() == path {

@@ -82,6 +82,7 @@ pub fn answer_file<F: FileReader, O: Write, E: Write>(
         Ok(documents) => {
             let status = answer_to(alloc, &documents, method, target, out, err, escape);
             let notes = notes_of(alloc, &documents, status != SUCCESS, escape);
+            put_notes(err, documents.passed_over.as_str());
             put_notes(err, notes.as_str());
             status
         }

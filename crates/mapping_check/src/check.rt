@@ -211,6 +211,7 @@ pub fn check_to<O: Write, E: Write>(
 {
     let mut notes = Notes::of_files(alloc, documents.paths.len());
     let status = check_noting(alloc, documents, out, err, escape, &mut notes);
+    put_notes(err, documents.passed_over.as_str());
     put_notes(err, notes.as_str());
     status
 }

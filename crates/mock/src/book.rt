@@ -60,6 +60,7 @@ fn book_at<F: FileReader, E: Write>(
                 error.report(err);
             }
             let notes = notes_of(alloc, &documents, book.is_err(), escape);
+            put_notes(err, documents.passed_over.as_str());
             put_notes(err, notes.as_str());
             book.ok()
         }
