@@ -8,6 +8,7 @@ ghost use Rattle.admin_json.specs.Scenarios.{json_of_scenarios};
 ghost use Rattle.admin_routes.specs.declared.call.AdminCall.TheVariants as call;
 ghost use Rattle.error_code.specs.declared.error_code.ErrorCode.TheVariants as code;
 ghost use Rattle.request_journal.specs.Legal.{IsLive};
+ghost use Rattle.shared_book.specs.Seen.{HasCaughtUp};
 
 use crate::error::SharedError;
 use crate::json_reply::value_reply;
@@ -31,12 +32,13 @@ pub(crate) fn read_mapping<L: Origin, R: Wait>(
     rt: &R,
     alloc: Global,
     shared: &SharedBook<L>,
-    seat: &Seat<L>,
+    seat: &mut Seat<L>,
     id: MappingId,
 ) -> Result<Reply, SharedError>
-    ensures ok { IfOk result (λ reply. InPast L.origin (IsReadReply (call.ReadMapping id) reply)) }
+    ensures seen { HasCaughtUp L.origin seat.old seat.new }
+    ensures ok { IfOk result (λ reply. InPast L.origin seat.new.seen (IsReadReply (call.ReadMapping id) reply)) }
     ensures refused { IfErr result (λ error. (error.code ≡ code.OutOfMemory)
-        ⊎ ((error.code ≡ code.UnknownMapping) × InPast L.origin (λ past. ¬ (IsLive past id)))) }
+        ⊎ ((error.code ≡ code.UnknownMapping) × InPast L.origin seat.new.seen (λ past. ¬ (IsLive past id)))) }
 {
     let reading = seat.read(rt, shared, BookRead::Mapping(id))?;
     match &reading.answer {
@@ -49,9 +51,10 @@ pub(crate) fn list_scenarios<L: Origin, R: Wait>(
     rt: &R,
     alloc: Global,
     shared: &SharedBook<L>,
-    seat: &Seat<L>,
+    seat: &mut Seat<L>,
 ) -> Result<Reply, AllocError>
-    ensures { IfOk result (λ reply. InPast L.origin (IsReadReply call.ListScenarios reply)) }
+    ensures seen { HasCaughtUp L.origin seat.old seat.new }
+    ensures ok { IfOk result (λ reply. InPast L.origin seat.new.seen (IsReadReply call.ListScenarios reply)) }
 {
     let reading = seat.read(rt, shared, BookRead::Scenarios)?;
     match &reading.answer {
@@ -66,9 +69,10 @@ pub(crate) fn read_recording_status<L: Origin, R: Wait>(
     rt: &R,
     alloc: Global,
     shared: &SharedBook<L>,
-    seat: &Seat<L>,
+    seat: &mut Seat<L>,
 ) -> Result<Reply, AllocError>
-    ensures { IfOk result (λ reply. InPast L.origin (IsReadReply call.ReadRecordingStatus reply)) }
+    ensures seen { HasCaughtUp L.origin seat.old seat.new }
+    ensures ok { IfOk result (λ reply. InPast L.origin seat.new.seen (IsReadReply call.ReadRecordingStatus reply)) }
 {
     let reading = seat.read(rt, shared, BookRead::RecordingStatus)?;
     match &reading.answer {
