@@ -6,11 +6,13 @@ ghost use Rattle.proxy_client.specs.Messages.{IsReply, IsSomeReply};
 
 use crate::content::Content;
 use crate::error::ProxyError;
+use crate::failure::Failure;
 use crate::reply::reply_of;
 use bytes::Bytes;
 use futures::task::{Context, Poll};
 use futures::{Future, ready};
 use http::response::Parts;
+use http::{HeaderMap, header};
 use hyper::body::Incoming;
 use hyper::client::conn::http1::ResponseFuture;
 use mapping_model::reply::Reply;
@@ -44,6 +46,9 @@ impl<I: Drop> Future for Answer<I> {
                     Err(error) => return Poll::Ready(Err(error.into())),
                 };
                 let (head, body) = response.into_parts();
+                if has_other_coding(&head.headers) {
+                    return Poll::Ready(Err(ProxyError::UpstreamFailed(Failure::OtherCoding)));
+                }
                 let mut received = Received {
                     alloc: *alloc,
                     head,
@@ -75,4 +80,12 @@ impl<I: Drop> Received<I> {
     {
         Ok(reply_of(self.alloc, &self.head, content)?)
     }
+}
+
+// Whether the content is in another transfer coding than `chunked`, too (RFC 9112, section 6.1).
+fn has_other_coding(headers: &HeaderMap) -> bool {
+    headers
+        .get_all(header::TRANSFER_ENCODING)
+        .iter()
+        .any(|value| !value.as_bytes().eq_ignore_ascii_case(b"chunked"))
 }

@@ -18,7 +18,7 @@ use std::alloc::{AllocError, AllocGlobal, Global};
 use std::cell::Cell;
 use std::hash::RandomState;
 use std::io;
-use std::net::Net;
+use std::net::{Net, SocketAddr};
 use std::random::RandomSource;
 use std::rc::Rc;
 use std::time::{Clock, Duration};
@@ -114,8 +114,14 @@ impl<R: Clock + Net + AllocGlobal + Copy + Drop> Client<R> {
             × (start.builder ≡ self.now.builder)
             × (start.turns ≡ self.now.turns)) }
     {
-        let connect = TcpStream::connect(&self.rt, address_of(target), handle.reactor());
-        self.exchange(handle, connect, target, request)
+        self.exchange(handle, self.start(handle, address_of(target)), target, request)
+    }
+
+    /// Begins to connect to the address.
+    pub(crate) fn start(&self, handle: &Handle, address: SocketAddr) -> ConnectFuture
+        ensures { ConnectFuture.can_poll result }
+    {
+        TcpStream::connect(&self.rt, address, handle.reactor())
     }
 }
 

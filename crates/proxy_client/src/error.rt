@@ -3,12 +3,16 @@ ghost use Rattle.std.specs.Prelude.{◌≡◌};
 ghost use Rattle.proxy_client.specs.Errors.{error_code_of};
 ghost use Rattle.proxy_client.specs.declared.error.ProxyError.TheVariants.{OutOfMemory};
 
+use crate::elsewhere::LOOP;
 use crate::failure::Failure;
 use error_code::error_code::ErrorCode;
 use recorder::forwarding::ForwardError;
 use std::alloc::AllocError;
 use std::io;
 use std::io::ErrorKind;
+
+/// The number of Linux for too many open files in the system.
+const ENFILE: i32 = 23;
 
 /// Why a request has no reply.
 #[derive(Clone, Copy, Debug, PartialEq, Eq)]
@@ -103,7 +107,15 @@ impl From<io::Error> for ProxyError {
         if error.kind() == ErrorKind::OutOfMemory {
             ProxyError::OutOfMemory
         } else {
-            ProxyError::UpstreamFailed(Failure::NotConnected)
+            ProxyError::UpstreamFailed(failure_to_connect(&error))
         }
+    }
+}
+
+fn failure_to_connect(error: &io::Error) -> Failure {
+    match error.raw_os_error() {
+        Some(LOOP) => Failure::OwnTarget,
+        Some(libc::EMFILE | ENFILE) => Failure::NoDescriptor,
+        _ => Failure::NotConnected,
     }
 }

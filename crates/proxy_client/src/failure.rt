@@ -9,10 +9,14 @@ pub enum Failure {
     Unsendable,
     /// There is no connection to the target.
     NotConnected,
+    /// The process, or the system, has no descriptor left for a connection.
+    NoDescriptor,
     /// The connection ended before the whole reply had come, or its content isn't well formed.
     Broken,
     /// What came is no well-formed reply of HTTP/1.
     NotHttp,
+    /// The reply's content is in a transfer coding that can't be read.
+    OtherCoding,
     /// The head or the content of the reply is over its limit.
     TooLong,
     /// No byte was taken or given for the time that this may take.
@@ -27,10 +31,12 @@ impl Failure {
             Failure::Unsendable =>
                 "the request has a method, a URL or headers that can't be passed on",
             Failure::NotConnected => "there is no connection to the target",
+            Failure::NoDescriptor => "no descriptor is left for a connection to the target",
             Failure::Broken => {
                 "the connection ended before the whole reply had come, or its content isn't well formed"
             }
             Failure::NotHttp => "what came is no well-formed reply of HTTP/1",
+            Failure::OtherCoding => "the reply's content is in a transfer coding that can't be read",
             Failure::TooLong => "the reply is too long",
             Failure::Silent => "the target took and gave nothing for too long",
         }

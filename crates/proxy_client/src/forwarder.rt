@@ -9,6 +9,7 @@ ghost use Rattle.proxy_client.specs.declared.stage.Start.{Start as Begun};
 
 use crate::address::address_of;
 use crate::client::{Client, Exchange};
+use crate::elsewhere::Elsewhere;
 use crate::error::ProxyError;
 use crate::failure::Failure;
 use crate::forwards::Forwards;
@@ -17,7 +18,7 @@ use recorder::target::Target;
 use std::alloc::AllocGlobal;
 use std::net::{IpAddr, Net, SocketAddr};
 use std::time::Clock;
-use tokio::net::{ConnectFuture, TcpStream};
+use tokio::net::TcpStream;
 use tokio::runtime::Handle;
 
 /// Forwards requests over connections of a runtime, each request over one of its own.
@@ -44,7 +45,7 @@ impl<R> Forwarder<R> {
 }
 
 impl<R: Clock + Net + AllocGlobal + Copy + Drop> Forwards for Forwarder<R> {
-    type Exchange = Exchange<R, ConnectFuture, TcpStream>;
+    type Exchange = Exchange<R, Elsewhere, TcpStream>;
 
     ghost sends = { λ target request exchange. (connecting : _) × (start : Begun)
         × (exchange.inner ≡ Connecting connecting (Some start)) × IsForwarded target request start.message };
@@ -56,11 +57,15 @@ impl<R: Clock + Net + AllocGlobal + Copy + Drop> Forwards for Forwarder<R> {
         &self,
         target: &Target,
         request: &Snapshot,
-    ) -> Result<Exchange<R, ConnectFuture, TcpStream>, ProxyError> {
-        if is_own(address_of(target), self.own) {
+    ) -> Result<Exchange<R, Elsewhere, TcpStream>, ProxyError> {
+        let address = address_of(target);
+        if is_own(address, self.own) {
             return Err(ProxyError::UpstreamFailed(Failure::OwnTarget));
         }
-        self.client.connect(&self.handle, target, request)
+        let connect = self.client.start(&self.handle, address);
+        let elsewhere = Elsewhere::new(connect, self.own);
+        self.client
+            .exchange(&self.handle, elsewhere, target, request)
     }
 }
 

@@ -8,6 +8,7 @@ pub mod answer;
 pub mod client;
 pub mod content;
 pub mod counted;
+pub mod elsewhere;
 pub mod error;
 pub mod failure;
 pub mod forward;
