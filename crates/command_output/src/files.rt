@@ -8,7 +8,7 @@ ghost use Rattle.command_output.specs.declared.files.FileError.TheVariants.{OutO
 use crate::error::CommandError;
 use crate::output::{put_all, put_notes};
 use error_code::error_code::ErrorCode;
-use std::alloc::Global;
+use std::alloc::{AllocError, Global};
 use std::fs::File;
 use std::io::{ErrorKind, Read, Write};
 use std::path::AsPath;
@@ -77,30 +77,6 @@ impl Listed {
             passed_over: String::new(alloc),
         }
     }
-
-    // Takes an entry of a folder, or passes over it.
-    fn add(&mut self, rt: &HostRuntime, alloc: Global, path: &str, name: &str) -> io::Result<()> {
-        if !name.ends_with(".json") || name.starts_with('.') {
-            return Ok(());
-        }
-        match fs::metadata(rt, path) {
-            Ok(metadata) if metadata.is_file() => {
-                Ok(self.files.push(String::from_str(alloc, path)?)?)
-            }
-            Ok(_metadata) => self.pass_over(["warning: ", path, " is passed over: it is no regular file\n"].as_slice()),
-            Err(error) => {
-                let reason = format!(in alloc; "warning: {path} is passed over: {error}\n")?;
-                self.pass_over([reason.as_str()].as_slice())
-            }
-        }
-    }
-
-    fn pass_over(&mut self, texts: &[&str]) -> io::Result<()> {
-        for text in texts {
-            self.passed_over.push_str(*text)?;
-        }
-        Ok(())
-    }
 }
 
 // A link to a folder is one, too.
@@ -112,18 +88,74 @@ fn is_folder(rt: &HostRuntime, path: &str) -> bool {
 }
 
 fn files_in(rt: &HostRuntime, alloc: Global, folder: &str) -> io::Result<Listed> {
-    let mut found = Listed::new(alloc);
+    let mut files: Vec<String> = Vec::new(alloc);
+    let mut passed_over: Vec<String> = Vec::new(alloc);
     for entry in fs::read_dir(rt, folder)? {
         match entry {
-            Ok(entry) => found.add(rt, alloc, entry.path().path_text(), entry.file_name())?,
-            Err(error) if error.kind() == ErrorKind::InvalidFilename => found.pass_over(
-                ["warning: a name in ", folder, " is passed over: it isn't UTF-8\n"].as_slice(),
-            )?,
+            Ok(entry) if is_of_mappings(entry.file_name()) => {
+                let path = String::from_str(alloc, entry.path().path_text())?;
+                match passed_over_for(rt, alloc, path.as_str())? {
+                    Some(line) => passed_over.push(line)?,
+                    None => files.push(path)?,
+                }
+            }
+            Ok(_entry) => {}
+            Err(error) if error.kind() == ErrorKind::InvalidFilename => {
+                passed_over.push(line_of_unreadable_name(alloc, folder)?)?;
+            }
             Err(error) => return Err(error),
         }
     }
-    found.files.sort()?;
-    Ok(found)
+    files.sort()?;
+    passed_over.sort()?;
+    Ok(Listed {
+        files,
+        passed_over: joined(alloc, passed_over.as_slice())?,
+    })
+}
+
+// A name that begins with a dot is hidden, as an editor's copy is.
+fn is_of_mappings(name: &str) -> bool {
+    name.ends_with(".json") && !name.starts_with('.')
+}
+
+// The line on what can't be read as a file, if it can't: it is no regular file, or a link to nothing.
+fn passed_over_for(rt: &HostRuntime, alloc: Global, path: &str) -> Result<Option<String>, AllocError> {
+    match fs::metadata(rt, path) {
+        Ok(metadata) if metadata.is_file() => Ok(None),
+        Ok(_metadata) => Ok(Some(line_on(alloc, path, "it is no regular file")?)),
+        Err(error) => {
+            let reason = error.to_string(alloc)?;
+            Ok(Some(line_on(alloc, path, reason.as_str())?))
+        }
+    }
+}
+
+fn line_of_unreadable_name(alloc: Global, folder: &str) -> Result<String, AllocError> {
+    joined_texts(
+        alloc,
+        ["warning: in ", folder, " a file is passed over: its name isn't UTF-8\n"].as_slice(),
+    )
+}
+
+fn line_on(alloc: Global, path: &str, why: &str) -> Result<String, AllocError> {
+    joined_texts(alloc, ["warning: ", path, " is passed over: ", why, "\n"].as_slice())
+}
+
+fn joined_texts(alloc: Global, texts: &[&str]) -> Result<String, AllocError> {
+    let mut all = String::new(alloc);
+    for text in texts {
+        all.push_str(*text)?;
+    }
+    Ok(all)
+}
+
+fn joined(alloc: Global, lines: &[String]) -> Result<String, AllocError> {
+    let mut all = String::new(alloc);
+    for line in lines {
+        all.push_str(line.as_str())?;
+    }
+    Ok(all)
 }
 
 /// Why no file is read.
