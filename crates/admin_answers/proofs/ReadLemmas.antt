@@ -4,7 +4,7 @@ use Rattle.std.proofs.Common.{IfErr, inl, inr, sym, subst, refl, ◌∙◌, ◌+
 use Rattle.std.specs.declared.alloc.AllocError.{AllocError}
 use Rattle.std.specs.declared.alloc.Global.{Global}
 use Rattle.admin_answers.proofs.NumberLemmas.{AreBelow, below_more, visible_below}
-use Rattle.admin_answers.specs.Answers.{InPast, IsHeldReply, IsReadReply}
+use Rattle.admin_answers.specs.Answers.{IsHeldReply, IsReadReply}
 use Rattle.admin_answers.specs.declared.error.SharedError.{SharedError}
 use Rattle.error_code.specs.declared.error_code.ErrorCode.TheVariants as code
 use Rattle.admin_answers.specs.JsonReply.{IsJsonReply}
@@ -25,7 +25,7 @@ use Rattle.serde_json.specs.Data.{Data, depth}
 use Rattle.serde_json.specs.Read as json
 use Rattle.serde_json.specs.Read.{max_depth}
 use Rattle.serde_json.specs.Written.{compact_text}
-use Rattle.shared_book.specs.Reached.{Log}
+use Rattle.shared_book.specs.Reached.{InPastOf, Log}
 use Rattle.shared_book.specs.Reading.{IsRead, IsReadAnswer}
 use Rattle.shared_book.specs.declared.book_read.BookRead.{BookRead}
 use Rattle.shared_book.specs.declared.book_read.BookRead.TheVariants as read
@@ -43,7 +43,7 @@ pub mappings
     : (origin : Past) (log : Log) (list : Vec Mapping Global) (reading : Reading) (result : Result (List ℕ) AllocError)
     → IsRead origin log read.Mappings reading → reading.answer ≡ answer.Mappings list
     → IfOk result (λ text. IsJsonReply 200 (json_of_mappings list.items) (json_reply 200 text))
-    → IfOk result (λ text. InPast origin log (IsReadReply call.ListMappings (json_reply 200 text)))
+    → IfOk result (λ text. InPastOf origin log (IsReadReply call.ListMappings (json_reply 200 text)))
 mappings origin log list reading (Ok text) is e json =
     (is.past, is.past_of, (list.items, said origin log read.Mappings reading _ is e, json))
 mappings origin log list reading (Err why) is e json = tt
@@ -72,7 +72,7 @@ pub requests
     → IsRead origin log read.Requests reading → reading.answer ≡ answer.Requests list
     → IfOk result (λ text. AreBelow (reading.number + 1) list.items
     → IsJsonReply 200 (json_of_requests list.items) (json_reply 200 text))
-    → IfOk result (λ text. InPast origin log (IsReadReply call.ListRequests (json_reply 200 text)))
+    → IfOk result (λ text. InPastOf origin log (IsReadReply call.ListRequests (json_reply 200 text)))
 requests origin log list reading (Ok text) is e json =
     let says = said origin log read.Requests reading _ is e in
     let below = visible_below (reading.number + 1) request_of is.past (omega (arith, is.number)) in (
@@ -88,7 +88,7 @@ pub unmatched
     → IsRead origin log read.Unmatched reading → reading.answer ≡ answer.Requests list
     → IfOk result (λ text. AreBelow (reading.number + 1) list.items
     → IsJsonReply 200 (json_of_found list.items) (json_reply 200 text))
-    → IfOk result (λ text. InPast origin log (IsReadReply call.ListUnmatched (json_reply 200 text)))
+    → IfOk result (λ text. InPastOf origin log (IsReadReply call.ListUnmatched (json_reply 200 text)))
 unmatched origin log list reading (Ok text) is e json =
     let says = said origin log read.Unmatched reading _ is e in
     let below = visible_below (reading.number + 1) unmatched_of is.past (omega (arith, is.number)) in (
@@ -138,7 +138,7 @@ pub found
     → IfOk result (λ text. AreBelow (reading.number + 1) list.items
     → (picked : List Entry) × Picks (λ entry. MeetsRequest matcher entry.request) list.items picked
     × IsJsonReply 200 (json_of_found picked) (json_reply 200 text))
-    → IfOk result (λ text. InPast origin log (IsReadReply (call.FindRequests matcher) (json_reply 200 text)))
+    → IfOk result (λ text. InPastOf origin log (IsReadReply (call.FindRequests matcher) (json_reply 200 text)))
 found origin log matcher list reading (Ok text) is e json =
     let says = said origin log read.Requests reading _ is e in
     let below = visible_below (reading.number + 1) request_of is.past (omega (arith, is.number)) in
@@ -159,7 +159,7 @@ pub counted
     → IsRead origin log read.Requests reading → reading.answer ≡ answer.Requests list
     → IfOk result (λ text. (count : ℕ) × IsCount (λ entry. MeetsRequest matcher entry.request) list.items count
     × IsJsonReply 200 (json_of_number count) (json_reply 200 text))
-    → IfOk result (λ text. InPast origin log (IsReadReply (call.CountRequests matcher) (json_reply 200 text)))
+    → IfOk result (λ text. InPastOf origin log (IsReadReply (call.CountRequests matcher) (json_reply 200 text)))
 counted origin log matcher list reading (Ok text) is e json =
     let says = said origin log read.Requests reading _ is e in (
       is.past,
@@ -177,7 +177,7 @@ pub scenarios
     (result : Result Reply AllocError)
     → IsRead origin log read.Scenarios reading → reading.answer ≡ answer.Scenarios states list
     → IfOk result (IsJsonReply 200 (json_of_scenarios states list.items))
-    → IfOk result (λ reply. InPast origin log (IsReadReply call.ListScenarios reply))
+    → IfOk result (λ reply. InPastOf origin log (IsReadReply call.ListScenarios reply))
 scenarios origin log states list reading (Ok reply) is e json =
     let says = said origin log read.Scenarios reading _ is e in (
       is.past,
@@ -192,7 +192,7 @@ same_mapping a b id spec = λ i. record { id = id i; spec = spec i }
 pub mapping
     : (origin : Past) (log : Log) (id : List ℕ) (held : Mapping) (reading : Reading) (reply : Reply)
     → IsRead origin log (read.Mapping id) reading → reading.answer ≡ answer.Mapping (Some held)
-    → IsJsonReply 200 (json_of_held held) reply → InPast origin log (IsReadReply (call.ReadMapping id) reply)
+    → IsJsonReply 200 (json_of_held held) reply → InPastOf origin log (IsReadReply (call.ReadMapping id) reply)
 mapping origin log id held reading reply is e json =
     let says = said origin log (read.Mapping id) reading _ is e in
     let at = says.1 in
@@ -204,14 +204,14 @@ mapping origin log id held reading reply is e json =
 
 pub missing
     : (origin : Past) (log : Log) (id : List ℕ) (reading : Reading) → IsRead origin log (read.Mapping id) reading
-    → reading.answer ≡ answer.Mapping None → InPast origin log (λ past. ¬ (IsLive past id))
+    → reading.answer ≡ answer.Mapping None → InPastOf origin log (λ past. ¬ (IsLive past id))
 missing origin log id reading is e = (is.past, is.past_of, said origin log (read.Mapping id) reading _ is e)
 
 pub held
     : (origin : Past) (log : Log) (id : List ℕ) (kept : Option Mapping) (reading : Reading) (result : Result Reply SharedError)
     → IsRead origin log (read.Mapping id) reading → reading.answer ≡ answer.Mapping kept
     → IfOk result (IsHeldReply kept)
-    → IfOk result (λ reply. InPast origin log (IsReadReply (call.ReadMapping id) reply))
+    → IfOk result (λ reply. InPastOf origin log (IsReadReply (call.ReadMapping id) reply))
 held origin log id (Some m) reading (Ok reply) is e json = mapping origin log id m reading reply is e json
 held origin log id None reading (Ok reply) is e json = absurd json
 held origin log id kept reading (Err why) is e json = tt
@@ -222,7 +222,7 @@ pub not_held
     → IfErr result (λ error.
     (error.code ≡ code.OutOfMemory) ⊎ ((error.code ≡ code.UnknownMapping) × (kept ≡ None)))
     → IfErr result (λ error. (error.code ≡ code.OutOfMemory)
-    ⊎ ((error.code ≡ code.UnknownMapping) × InPast origin log (λ past. ¬ (IsLive past id))))
+    ⊎ ((error.code ≡ code.UnknownMapping) × InPastOf origin log (λ past. ¬ (IsLive past id))))
 not_held origin log id kept reading (Ok reply) is e why = tt
 not_held origin log id kept reading (Err error) is e (inl memory) = inl memory
 not_held origin log id kept reading (Err error) is e (inr none) =

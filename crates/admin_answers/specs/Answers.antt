@@ -30,7 +30,7 @@ use Rattle.request_match.specs.Matching.{MeetsRequest}
 use Rattle.scenario_core.specs.Scenarios.{States, state_of}
 use Rattle.serde_json.specs.Data.{object, no_members}
 use Rattle.shared_book.specs.Held.{Gained, Held}
-use Rattle.shared_book.specs.Reached.{IsPastOf, Log}
+use Rattle.shared_book.specs.Reached.{InPastOf}
 use Rattle.shared_book.specs.Refused.{IsRefused}
 use Rattle.shared_book.specs.Seen.{Enters, HasCaughtUp}
 use Rattle.shared_book.specs.declared.receipt.Receipt.{Receipt}
@@ -63,10 +63,6 @@ IsNotChanged origin old new asked reason =
     ⊎ ((reason ≡ code.OutOfMemory) × ((receipt : Receipt) × Gains origin old new asked receipt))
 
 -- ---- readings
-
--- the fact holds of the past after these entries of the one history
-abbrev pub InPast : Past → Log → (Past → Type 0) → Type 0
-InPast origin log P = (past : Past) × IsPastOf origin log past × P past
 
 -- the mapping, where there is one
 abbrev pub IsHeldReply : Option Mapping → Reply → Type 0
@@ -114,7 +110,7 @@ IsAnswered origin old new (call.SetScenario name state) reply =
 IsAnswered origin old new (call.StartRecording start) reply =
     IsChanged origin old new (input.StartRecording start.target start.captured start.repeats) reply
 IsAnswered origin old new call.StopRecording reply = IsChanged origin old new input.StopRecording reply
-IsAnswered origin old new read reply = HasCaughtUp origin old new × InPast origin new.seen (IsReadReply read reply)
+IsAnswered origin old new read reply = HasCaughtUp origin old new × InPastOf origin new.seen (IsReadReply read reply)
 
 -- why the call has no answer, and what it left
 abbrev pub IsNotAnswered : Past → Held → Held → AdminCall → ErrorCode → Type 0
@@ -135,8 +131,8 @@ IsNotAnswered origin old new call.StopRecording reason = IsNotChanged origin old
 IsNotAnswered origin old new (call.ReadMapping id) reason =
     HasCaughtUp origin old new
     × ((reason ≡ code.OutOfMemory)
-    ⊎ ((reason ≡ code.UnknownMapping) × InPast origin new.seen (λ past. ¬ (IsLive past id))))
+    ⊎ ((reason ≡ code.UnknownMapping) × InPastOf origin new.seen (λ past. ¬ (IsLive past id))))
 IsNotAnswered origin old new call.ReadRecordingHar reason =
     HasCaughtUp origin old new × ((reason ≡ code.OutOfMemory)
-    ⊎ InPast origin new.seen (λ past. HasNoHar (session_of (recording past)) reason))
+    ⊎ InPastOf origin new.seen (λ past. HasNoHar (session_of (recording past)) reason))
 IsNotAnswered origin old new read reason = HasCaughtUp origin old new × (reason ≡ code.OutOfMemory)
