@@ -8,8 +8,9 @@ use Rattle.request_journal.specs.declared.event.Event.TheVariants as event
 use Rattle.request_journal.specs.declared.event.ServeAnswer.{ServeAnswer}
 use Rattle.mock_request.specs.Request.{Request}
 use Rattle.shared_book.specs.Reached.{IsPastOf, Lead, Log}
+use Rattle.shared_history.proofs.Entries.{events_append}
 use Rattle.shared_history.specs.Entries.{entry, events}
-use Rattle.shared_history.specs.declared.entry.Deed.TheVariants.{Called, Opened, Split, Left}
+use Rattle.shared_history.specs.declared.entry.Deed.TheVariants.{Called}
 use Rattle.stub_book.specs.Growth.{Grows}
 use Rattle.world_core.proofs.ChosenRuns.{one_choice_after}
 use Rattle.world_core.proofs.Grown.{state_grown}
@@ -84,20 +85,14 @@ join_lead old between new [] e same grows =
 join_lead old between new (x ∷ early) e (next, first, rest) grows =
     (next, first, join_lead next between new early e rest grows)
 
-events_joined : (before after : Log) → events (before ++ after) ≡ events before ++ events after
-events_joined [] after = refl
-events_joined (x ∷ before) after = go x.deed
-  where
-    go = ?
-
 pub right_after : (origin past : Past) (before after : Log) (seat : ℕ) (e : Event)
     → IsPastOf origin (before ++ entry seat (Called e) ∷ after) past
     → IsRightAfter origin before e (before ++ entry seat (Called e) ∷ [])
 right_after origin past before after seat e of =
-    let whole = events_joined before (entry seat (Called e) ∷ after) in
+    let whole = events_append before (entry seat (Called e) ∷ after) in
     let parts = split_lead origin past (events before) e (events after)
     (subst (λ es. Lead origin es past) whole of) in
-    let up_to = events_joined before (entry seat (Called e) ∷ []) in
+    let up_to = events_append before (entry seat (Called e) ∷ []) in
     record {
       old = parts.0;
       past_of = parts.2;
