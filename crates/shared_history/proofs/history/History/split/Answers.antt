@@ -1,0 +1,53 @@
+use Rattle.std.proofs.Common.{refl, ap, sym, ◌∙◌}
+use Rattle.shared_history.specs.Entries.{is_left}
+use Rattle.shared_history.specs.Inner.Drafts.{deed_of}
+use Rattle.shared_history.specs.Inner.Lines.{entries_of}
+use Rattle.shared_history.specs.Seal.{seal}
+use Rattle.shared_history.proofs.Growing.{may_split}
+use Rattle.shared_history.proofs.Lines.{entries_length}
+use Rattle.shared_history.proofs.history.History.split.Goals as goal
+
+pub write-self-inside-requires-clause-allowed : goal.write-self-inside-requires-clause-allowed
+write-self-inside-requires-clause-allowed g c =
+    may_split g.C.Course.may (entries_of c.self.inside.seen.log) (deed_of c.ask_to_split.result) c.self.invariant.1.legal.history c.ask_to_split.ensures
+
+pub invariant_of-seat : goal.invariant_of-seat
+invariant_of-seat g c =
+    let w = c.write-self-inside.ensures in
+    let name = c.self.invariant.1.name in
+    rw c.again.ensures
+    (record {
+      front = record { name = w.book ∙ name; counted = w.count; legal = w.written.legal };
+      pen_name = c.draw-next.ensures.book ∙ name;
+      right = c.draw-next.ensures.right;
+      has = w.written.has_next (ap is_left c.ask_to_split.ensures);
+    })
+
+pub invariant_of-result : goal.invariant_of-result
+invariant_of-result g c =
+    let w = c.write-self-inside.ensures in
+    let name = c.self.invariant.1.name in
+    rw (c.again-2.ensures, c.self.invariant.1.counted)
+    (record {
+      front = record { name = w.book ∙ name; counted = w.count; legal = w.written.legal };
+      pen_name = c.draw-turn.ensures.book ∙ name;
+      right = c.draw-turn.ensures.right;
+      has = (w.written.has_child c.ask_to_split.ensures).0;
+    })
+
+pub returns-clause-splits : goal.returns-clause-splits
+returns-clause-splits g c =
+    let w = c.write-self-inside.ensures in
+    let counted = c.self.invariant.1.counted in
+    rw (← c.self.view_is, ← c.seat.view_is, c.again.ensures, c.again-2.ensures, counted)
+    (record {
+      before = w.written.before;
+      number = refl;
+      seen = rw (← c.ask_to_split.ensures) w.written.added;
+      child_number = sym (entries_length c.self.inside.seen.log);
+      child_seen = refl;
+      child_own = (w.written.has_child c.ask_to_split.ensures).1;
+    })
+
+pub returns-clause-seen : goal.returns-clause-seen
+returns-clause-seen g c = seal g.C.Course.may g.J.Naming.book (entries_of c.write-self-inside.new.whole.log) c.write-self-inside.ensures.written.legal.history
