@@ -1,6 +1,8 @@
 pub mod ReachedLemmas
+pub mod SeenLemmas
 pub mod HeldLemmas
 pub mod LetGoLemmas
+pub mod SeatLemmas
 pub mod ReceiptLemmas
 pub mod CountLemmas
 pub mod RefusalLemmas

@@ -54,6 +54,8 @@ use Rattle.mapping_store.specs.contracts.mapping_store.MappingStore.TheInside as
 use Rattle.stub_book.specs.contracts.book.Book as book
 use Rattle.stub_book.specs.contracts.book.Book.TheInside as book_inside
 use Rattle.shared_book.specs.declared.origin.Origin as origin
+use Rattle.shared_history.specs.declared.naming.Naming as naming
+use Rattle.shared_history.proofs.history.History.TheSendSync as whole
 use Rattle.shared_book.specs.contracts.locked.Locked as locked
 use Rattle.shared_book.specs.contracts.locked.Locked.TheInside as locked_inside
 use Rattle.shared_book.specs.contracts.shared_book.SharedBook as shared_book
@@ -173,20 +175,26 @@ pub book_send : IsSend book.the_row
 book_send = search (book_inside_send, sendable) depth 60
 
 -- ---- the shared book
-module _ (L : RattleType) (o : origin.Ghosts L.Denot) (l : ledger.Ghosts L.Denot) where
-  locked_inside_send : IsSend (locked_inside.the_row L o l)
+module _ (L : RattleType) (o : origin.Ghosts L.Denot) (l : ledger.Ghosts L.Denot) (n : naming.Ghosts L.Denot) where
+  locked_inside_send : IsSend (locked_inside.the_row L o l n)
   locked_inside_send =
-      declared_send (locked_inside.the_type L o l)
-      (book_send, (entries.the_send L l, (search sendable depth 60, (search sendable depth 60, tt))))
+      declared_send (locked_inside.the_type L o l n)
+      (
+        book_send,
+        (
+          search (whole.the_send, crosses, sendable) depth 60,
+          (entries.the_send L l, (search sendable depth 60, (search sendable depth 60, tt))),
+        ),
+      )
 
-  locked_send : IsSend (locked.the_row L o l)
+  locked_send : IsSend (locked.the_row L o l n)
   locked_send = search (locked_inside_send, sendable) depth 60
 
-  pub shared_book_send : IsSend (shared_book.the_row L o l)
-  shared_book_send = declared_send (shared_book.the_type L o l) (search (locked_send, crosses, sendable) depth 60, tt)
+  pub shared_book_send : IsSend (shared_book.the_row L o l n)
+  shared_book_send = declared_send (shared_book.the_type L o l n) (search (locked_send, crosses, sendable) depth 60, tt)
 
-  pub shared_book_sync : IsSync (shared_book.the_row L o l)
-  shared_book_sync = declared_sync (shared_book.the_type L o l) (search (locked_send, crosses, sendable) depth 60, tt)
+  pub shared_book_sync : IsSync (shared_book.the_row L o l n)
+  shared_book_sync = declared_sync (shared_book.the_type L o l n) (search (locked_send, crosses, sendable) depth 60, tt)
 
 -- ---- calls
 pub book_input_send : IsSend book_input.the_row

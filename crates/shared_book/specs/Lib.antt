@@ -1,6 +1,7 @@
 pub mod Reached
 pub mod Receipts
 pub mod Held
+pub mod Seen
 pub mod Lent
 pub mod Refused
 pub mod Reading

@@ -10,7 +10,7 @@ use Rattle.request_journal.specs.Recording.{recording}
 use Rattle.request_journal.specs.State.{state}
 use Rattle.request_match.specs.Matching.{MeetsRequest}
 use Rattle.scenario_core.specs.Scenarios.{state_of}
-use Rattle.shared_book.specs.Reached.{IsReached}
+use Rattle.shared_book.specs.Reached.{IsPastOf, Log}
 use Rattle.shared_book.specs.declared.book_read.BookRead.{BookRead}
 use Rattle.shared_book.specs.declared.book_read.BookRead.TheVariants as read
 use Rattle.shared_book.specs.declared.book_read.ReadAnswer.{ReadAnswer}
@@ -35,9 +35,9 @@ IsReadAnswer past read.RecordingStatus (answer.RecordingStatus status) = status 
 IsReadAnswer past read.Recording (answer.Recording kept) = kept ≡ recording past
 IsReadAnswer past asked other = ⊥
 
--- the answer is that of a past that was reached, with the number of its last event
-pub record IsRead (origin : Past) (asked : BookRead) (reading : Reading) : Type 0 where
+-- the answer is what the past after the calls of the log says, with the number of its last event
+pub record IsRead (origin : Past) (log : Log) (asked : BookRead) (reading : Reading) : Type 0 where
   pub past : Past
-  pub reached : IsReached origin past
+  pub past_of : IsPastOf origin log past
   pub number : reading.number ≡ last_number past
   pub answer : IsReadAnswer past asked reading.answer

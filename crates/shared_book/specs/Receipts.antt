@@ -2,16 +2,21 @@
 use Rattle.std.specs.Prelude.{◌≡◌, ◌+◌, ◌==◌, ◌≤◌, ◌<◌, ℕ, List, [], ◌∷◌, ◌++◌, map}
 use Rattle.std.specs.Prelude.{All, Contains, count_by, length, slice_index}
 use Rattle.std.specs.List.Sorted.{IsStrictlyIncreasing}
+use mathlib.Core.List.{IsPrefix}
 use Rattle.request_journal.specs.Legal.{IsNext}
 use Rattle.request_journal.specs.Past.{Past, last_number}
-use Rattle.shared_book.specs.Reached.{IsReached}
+use Rattle.shared_book.specs.Reached.{IsPastOf, Log}
 use Rattle.shared_book.specs.declared.receipt.Receipt.{Receipt}
+use Rattle.shared_history.specs.Entries.{entry}
+use Rattle.shared_history.specs.declared.entry.Deed.TheVariants.{Called}
 
--- the receipt of an accepted call: its event is the right answer in a past that was reached, and has the number after
--- that past's last
-pub record IsReceipt (origin : Past) (receipt : Receipt) : Type 0 where
+-- the receipt of an accepted call: the log has its event as a call of the seat with this number; it is the right answer
+-- in the past after the calls before it, and has the number after that past's last
+pub record IsReceipt (origin : Past) (seat : ℕ) (log : Log) (receipt : Receipt) : Type 0 where
+  pub before : Log
+  pub entered : IsPrefix (before ++ entry seat (Called receipt.event) ∷ []) log
   pub past : Past
-  pub reached : IsReached origin past
+  pub past_of : IsPastOf origin before past
   pub next : IsNext past receipt.event
   pub number : receipt.number ≡ last_number past + 1
 

@@ -2,23 +2,28 @@
 use Rattle.std.specs.Prelude.{◌≡◌, ◌≢◌, ◌⊎◌, ◌+◌, ◌<◌, ◌≤◌, ℕ, List, length, Option}
 use Rattle.std.specs.Prelude.{All, Any, IfSome, IsSomeAnd, IsPermutation}
 use Rattle.std.specs.List.{range_with_len}
+use mathlib.Core.List.{IsPrefix}
 use Rattle.std.specs.List.Sorted.{IsNonDecreasingBy}
 use Rattle.request_journal.specs.Journal.{event_at}
 use Rattle.request_journal.specs.Legal.{IsLegal}
 use Rattle.request_journal.specs.Past.{Past, last_number}
 use Rattle.request_journal.specs.declared.event.Event.{Event}
 use Rattle.shared_book.specs.Held.{Held, all_lists, all_numbers, all_parts, receipts_of}
-use Rattle.shared_book.specs.Reached.{IsReached}
+use Rattle.shared_book.specs.Reached.{IsLawful, IsPastOf, Log, MayFollow}
+use Rattle.shared_history.specs.Seal.{IsSeen}
+use Rattle.logbook.specs.Pages.{Book}
 use Rattle.shared_book.specs.Receipts.{Line, IsRising, Falls, LetGoUpTo, LetGoAbove, count_of}
 use Rattle.shared_book.specs.declared.settled.Settled.{Settled}
 use Rattle.shared_book.specs.declared.settled.SettleRefusal.{SettleRefusal}
 use Rattle.shared_book.specs.declared.settled.SettleRefusal.TheVariants.{SeatsMissing, Mismatch, OutOfMemory}
 
--- These lines of receipts are those of one history: the past that was reached from the origin is legal, there is one
--- receipt for each number after the origin's last up to the past's last, the events of those that the past keeps are
--- held, and each event that is held is the one of its number, where the past keeps that.
-pub record IsSettled (origin past : Past) (lines : List Line) (settled : Settled) : Type 0 where
-  pub reached : IsReached origin past
+-- These lines of receipts are those of the one history, which is the whole of it: the past after its calls is legal,
+-- there is one receipt for each number after the origin's last up to the past's last, the events of those that the past
+-- keeps are held, and each event that is held is the one of its number, where the past keeps that.
+pub record IsSettled (origin : Past) (whole : Log) (past : Past) (lines : List Line) (settled : Settled)
+    : Type 0 where
+  pub lawful : IsLawful origin whole
+  pub past_of : IsPastOf origin whole past
   pub legal : IsLegal past
   pub events : settled.events ≡ last_number past
   pub counted : settled.events ≡ last_number origin + length (all_numbers lines)
@@ -29,6 +34,10 @@ pub record IsSettled (origin past : Past) (lines : List Line) (settled : Settled
   pub held : IsPermutation (receipts_of lines) settled.receipts.items
   pub ordered : IsNonDecreasingBy (λ r. r.number) settled.receipts.items
   pub kept : All (λ r. IfSome (event_at past r.number) (λ event. r.event ≡ event)) settled.receipts.items
+
+-- what each of these seats has seen is a beginning of the log
+abbrev pub HaveSeen : Log → List Held → Type 0
+HaveSeen whole seats = All (λ seat. IsPrefix seat.seen whole) seats
 
 -- where these are as many as the numbers after `start`, this is one of those
 abbrev pub IsDue : ℕ → List ℕ → ℕ → Type 0
@@ -56,3 +65,24 @@ IsUnsettled origin parts past seats (Mismatch number kept) =
     (all_parts seats ≡ parts) × (kept ≡ event_at past number)
     × IsMismatch origin past (all_lists seats) number kept
 IsUnsettled origin parts past seats OutOfMemory = all_parts seats ≡ parts
+
+-- ---- of seats
+
+-- what each of these has seen is a beginning of the whole history with this name, and their receipts are those of it
+pub record AreSettled (origin : Past) (name : Book) (seats : List Held) (settled : Settled) : Type 0 where
+  pub whole : Log
+  pub past : Past
+  pub was_seen : IsSeen MayFollow name whole
+  pub seen : HaveSeen whole seats
+  pub one_history : IsSettled origin whole past (all_lists seats) settled
+
+-- likewise, where they aren't settled, for a reason in the past after the whole history
+pub record AreUnsettled (origin : Past) (parts : ℕ) (name : Book) (seats : List Held) (reason : SettleRefusal)
+    : Type 0 where
+  pub whole : Log
+  pub past : Past
+  pub was_seen : IsSeen MayFollow name whole
+  pub seen : HaveSeen whole seats
+  pub lawful : IsLawful origin whole
+  pub past_of : IsPastOf origin whole past
+  pub why : IsUnsettled origin parts past seats reason

@@ -7,18 +7,19 @@ ghost use Rattle.request_journal.specs.Journal.{event_at};
 ghost use Rattle.request_journal.specs.Past.{last_number};
 ghost use Rattle.shared_book.specs.Held.{all_lists, all_numbers, all_parts};
 ghost use Rattle.shared_book.specs.Inner.Refusal.{IsRefusalAt};
-ghost use Rattle.shared_book.specs.Reached.{IsReached};
+ghost use Rattle.shared_book.specs.Reached.{IsLawful, IsPastOf};
 ghost use Rattle.shared_book.specs.Settled.{IsMiscounted, IsSettled, IsUnsettled};
 
 use crate::base::base_of;
 use crate::counted::{miscounted, sorted_numbers};
 use crate::gather::{gather, gather_numbers};
+use crate::history::History;
 use crate::misplaced::misplaced;
 use crate::origin::Origin;
 use crate::receipt::Receipt;
 use crate::seat::Seat;
 use crate::settled::{SettleRefusal, Settled};
-use book_history::history::History;
+use book_history::history;
 use request_journal::shared_event::SharedEvent;
 use std::alloc::{AllocError, Global};
 use stub_book::book::Book;
@@ -27,15 +28,17 @@ use stub_book::book::Book;
 /// receipts.
 pub(crate) fn compare<L: Origin>(
     book: &Book,
+    whole: &History<L>,
     start: u64,
     alloc: Global,
     seats: &[Seat<L>],
 ) -> Result<Settled, SettleRefusal>
-    requires reached { IsReached L.origin book.now }
+    requires lawful { IsLawful L.origin whole.now }
+    requires past_of { IsPastOf L.origin whole.now book.now }
     requires start { start ≡ last_number L.origin }
     requires counted { last_number book.now ≡ start + length (all_numbers (all_lists seats.now)) }
-    requires whole { all_parts seats.now ≡ L.parts }
-    ensures settled { IfOk result (IsSettled L.origin book.now (all_lists seats.now)) }
+    requires parts { all_parts seats.now ≡ L.parts }
+    ensures settled { IfOk result (IsSettled L.origin whole.now book.now (all_lists seats.now)) }
     ensures why { IfErr result (IsUnsettled L.origin L.parts book.now seats.now) }
 {
     let events = book.event_count();
@@ -102,7 +105,7 @@ fn miscounted_in<L: Origin>(
 }
 
 /// The number of a receipt that has another event than the history keeps.
-pub(crate) fn differing(receipts: &[Receipt], history: &History) -> Option<u64>
+pub(crate) fn differing(receipts: &[Receipt], history: &history::History) -> Option<u64>
     ensures { MatchOption result
         (All (λ r. IfSome (event_at history.now.past r.number) (λ event. r.event ≡ event)) receipts.now)
         (λ n. IsSomeAnd (event_at history.now.past n)
@@ -119,7 +122,7 @@ pub(crate) fn differing(receipts: &[Receipt], history: &History) -> Option<u64>
 }
 
 /// A copy of the event that the history keeps under the number. Takes no memory.
-pub(crate) fn kept(history: &History, number: u64) -> Result<Option<SharedEvent>, AllocError>
+pub(crate) fn kept(history: &history::History, number: u64) -> Result<Option<SharedEvent>, AllocError>
     ensures { IfOk result (λ kept. kept ≡ event_at history.now.past number) }
 {
     match history.event(number) {

@@ -1,12 +1,15 @@
 // What the lock keeps.
-ghost use Rattle.std.specs.Prelude.{◌≡◌, ◌+◌, ◌<◌, ◌≤◌, IfErr, IfOk, OnErr, OnOk};
-ghost use Rattle.shared_book.specs.Held.{all_lists};
+ghost use Rattle.std.specs.Prelude.{◌≡◌, ◌+◌, ◌<◌, ◌≤◌, ◌∷◌, [], IfErr, IfOk, OnErr, OnOk};
 ghost use Rattle.request_journal.specs.Input.{IsAsked};
 ghost use Rattle.request_journal.specs.Past.{last_number};
 ghost use Rattle.request_journal.specs.declared.limits.TheConstants.{NUMBER_LIMIT};
-ghost use Rattle.shared_book.specs.Inner.Looked.{IsLooked};
-ghost use Rattle.shared_book.specs.Reached.{IsReached};
-ghost use Rattle.shared_book.specs.Settled.{IsSettled, IsUnsettled};
+ghost use Rattle.shared_book.specs.Held.{IsDropped};
+ghost use Rattle.shared_book.specs.Inner.Looked.{IsLookedUp};
+ghost use Rattle.shared_book.specs.Reached.{InPastOf, IsLawful, IsPastOf, MayFollow};
+ghost use Rattle.shared_book.specs.Seen.{IsEntered, IsJoined, IsSplit, SeesAll};
+ghost use Rattle.shared_book.specs.Settled.{AreSettled, AreUnsettled, HaveSeen};
+ghost use Rattle.shared_history.specs.Entries.{opening};
+ghost use Rattle.shared_history.specs.Seal.{IsSeen};
 ghost use Rattle.stub_book.specs.Growth.{Grows, IsServed};
 ghost use Rattle.stub_book.specs.Refusals.{IsRefusal, IsServeRefusal};
 
@@ -15,6 +18,7 @@ use crate::base::base_of;
 use crate::book_read::{BookRead, Reading};
 use crate::compare::compare;
 use crate::entered::Entered;
+use crate::history::{History, Place};
 use crate::look::look;
 use crate::origin::Origin;
 use crate::receipt::Receipt;
@@ -27,14 +31,17 @@ use request_journal::shared_request::SharedRequest;
 use request_match::parsed_request::ParsedRequest;
 use std::alloc::{AllocError, Global};
 use std::marker::Model;
+use std::sync::Wait;
 use std::sync::ledger;
 use std::sync::ledger::Share;
 use stub_book::book::Book;
 use stub_book::error::BookError;
 
-/// A book, beside a ledger that has an entry for each event since the book was shared. Contracts see the book's past.
+/// A book, beside the whole history, and a ledger that has an entry for each event since the book was shared. Contracts
+/// see the book's past and the history.
 pub(crate) struct Locked<L: Origin> {
     book: Book,
+    history: History<L>,
     entries: ledger::Book<L>,
     /// Into how many parts the ledger is cut.
     parts: u64,
@@ -47,6 +54,7 @@ impl<L: Origin> Drop for Locked<L> {
     fn drop(self) {
         let Locked {
             book: _book,
+            history: _history,
             entries: _entries,
             parts: _parts,
             start: _start,
@@ -56,97 +64,131 @@ impl<L: Origin> Drop for Locked<L> {
 
 impl<L: Origin> Model for Locked<L> {
     ghost use Rattle.std.specs.Coded.{codes};
-    ghost use Rattle.request_journal.specs.Past.{Past};
     ghost use Rattle.book_history.specs.Inner.Codes.{states_code};
-    ghost use Rattle.shared_book.specs.Inner.Kept.{IsKept};
+    ghost use Rattle.shared_book.specs.Inner.Kept.{Content, IsKept};
 
-    ghost Value = { Past };
+    ghost Value = { Content };
 
     ghost coded = { Prim.hlevel (codes, states_code) };
 
-    ghost view = { λ l. l.book };
+    ghost view = { λ l. record { past = l.book; whole = l.history } };
 
-    ghost invariant = { λ l. IsKept L.origin L.parts l.book l.entries.total l.parts l.start };
+    ghost invariant = { λ l. IsKept L.origin L.parts l.book l.history l.entries.total l.parts l.start };
 }
 
 impl<L: Origin> Locked<L> {
     /// A book that is being shared.
-    #[tactic(auto, using(crate::proofs::ReachedLemmas::reached_itself))]
-    pub(crate) fn new(book: Book, entries: ledger::Book<L>, parts: u64) -> Locked<L>
+    pub(crate) fn new(
+        book: Book,
+        history: History<L>,
+        entries: ledger::Book<L>,
+        parts: u64,
+    ) -> Locked<L>
         requires origin { book ≡ L.origin }
+        requires opened { history ≡ opening L.origin ∷ [] }
         requires parts { parts ≡ L.parts }
         requires some { 0 < parts }
         requires empty { entries.total ≡ 0 }
-        ensures { result ≡ book }
     {
         let start = book.event_count();
         Locked {
             book,
+            history,
             entries,
             parts,
             start,
         }
     }
 
-    /// Serves the request, whose event comes into this memory, and enters that for the share.
-    #[tactic(auto, using(crate::proofs::ReachedLemmas::reached_next, crate::proofs::ReachedLemmas::number_grown))]
-    pub(crate) fn serve(
+    /// Serves the request, whose event comes into this memory, and enters that for the share and the place.
+    pub(crate) fn serve<R: Wait>(
         &mut self,
+        rt: &R,
         share: &mut Share<L>,
+        place: &mut Place<L>,
         request: SharedRequest,
         parsed: &mut ParsedRequest<'_>,
         memory: EventMemory,
     ) -> Result<Entered, BookError>
         requires part { 0 < share.old.parts }
         requires read { parsed.old ≡ request }
-        ensures reached { IsReached L.origin self.old }
-        ensures ok { IfOk result (λ entered. IsServed request entered.receipt.event
-            × Grows self.old self.new entered.receipt.event × (entered.receipt.number ≡ last_number self.old + 1)) }
-        ensures base { IfOk result (λ entered. entered.base ≡ self.new.base.number) }
-        ensures err { OnErr result (self.new ≡ self.old) }
-        ensures why { IfErr result (λ error. IsServeRefusal self.old error.code) }
+        ensures ok { IfOk result (λ entered.
+            IsServed request entered.receipt.event × IsEntered L.origin place.old place.new entered.receipt) }
+        ensures base { IfOk result (λ entered. IsDropped L.origin place.new.seen entered.base) }
+        ensures seen { OnErr result (SeesAll L.origin place.old place.new) }
+        ensures why { IfErr result
+            (λ error. InPastOf L.origin place.new.seen (λ past. IsServeRefusal past error.code)) }
         ensures parts { share.new.parts ≡ share.old.parts }
         ensures entered { OnOk result
             ((share.new.amount ≡ share.old.amount + 1) × (share.new.amount ≤ NUMBER_LIMIT)) }
         ensures not_entered { OnErr result (share.new.amount ≡ share.old.amount) }
     {
-        let event = self.book.serve_read(request, parsed, memory)?;
-        self.entries.add(share, 1);
-        self.entries.audit(share);
-        Ok(entered(&self.book, event))
+        match self.book.serve_read(request, parsed, memory) {
+            Ok(event) => Ok(enter(
+                rt,
+                &self.book,
+                &mut self.history,
+                &mut self.entries,
+                share,
+                place,
+                event,
+            )),
+            Err(error) => {
+                self.history.catch_up(rt, place);
+                Err(error)
+            }
+        }
     }
 
-    /// Makes the change, and enters that for the share.
-    #[tactic(auto, using(crate::proofs::ReachedLemmas::reached_next, crate::proofs::ReachedLemmas::number_grown))]
-    pub(crate) fn apply(
+    /// Makes the change, and enters that for the share and the place.
+    pub(crate) fn apply<R: Wait>(
         &mut self,
+        rt: &R,
         share: &mut Share<L>,
+        place: &mut Place<L>,
         input: BookInput,
     ) -> Result<Entered, BookError>
         requires { 0 < share.old.parts }
-        ensures reached { IsReached L.origin self.old }
-        ensures ok { IfOk result (λ entered. IsAsked input entered.receipt.event
-            × Grows self.old self.new entered.receipt.event × (entered.receipt.number ≡ last_number self.old + 1)) }
-        ensures base { IfOk result (λ entered. entered.base ≡ self.new.base.number) }
-        ensures err { OnErr result (self.new ≡ self.old) }
-        ensures why { IfErr result (λ error. IsRefusal self.old input error.code) }
+        ensures ok { IfOk result (λ entered.
+            IsAsked input entered.receipt.event × IsEntered L.origin place.old place.new entered.receipt) }
+        ensures base { IfOk result (λ entered. IsDropped L.origin place.new.seen entered.base) }
+        ensures seen { OnErr result (SeesAll L.origin place.old place.new) }
+        ensures why { IfErr result
+            (λ error. InPastOf L.origin place.new.seen (λ past. IsRefusal past input error.code)) }
         ensures parts { share.new.parts ≡ share.old.parts }
         ensures entered { OnOk result
             ((share.new.amount ≡ share.old.amount + 1) × (share.new.amount ≤ NUMBER_LIMIT)) }
         ensures not_entered { OnErr result (share.new.amount ≡ share.old.amount) }
     {
-        let event = self.book.apply_shared(input)?;
-        self.entries.add(share, 1);
-        self.entries.audit(share);
-        Ok(entered(&self.book, event))
+        match self.book.apply_shared(input) {
+            Ok(event) => Ok(enter(
+                rt,
+                &self.book,
+                &mut self.history,
+                &mut self.entries,
+                share,
+                place,
+                event,
+            )),
+            Err(error) => {
+                self.history.catch_up(rt, place);
+                Err(error)
+            }
+        }
     }
 
     /// Looks up what is asked for.
-    pub(crate) fn read(&self, alloc: Global, asked: &BookRead) -> Result<Reading, AllocError>
-        ensures reached { IsReached L.origin self.now }
-        ensures number { IfOk result (λ reading. reading.number ≡ last_number self.now) }
-        ensures answer { IfOk result (λ reading. IsLooked self.now asked.now reading.answer) }
+    pub(crate) fn read<R: Wait>(
+        &mut self,
+        rt: &R,
+        place: &mut Place<L>,
+        alloc: Global,
+        asked: &BookRead,
+    ) -> Result<Reading, AllocError>
+        ensures seen { SeesAll L.origin place.old place.new }
+        ensures answer { IfOk result (IsLookedUp L.origin place.new.seen asked.now) }
     {
+        self.history.catch_up(rt, place);
         let number = self.book.event_count();
         Ok(Reading {
             number,
@@ -154,23 +196,78 @@ impl<L: Origin> Locked<L> {
         })
     }
 
+    /// Makes a new seat's place.
+    pub(crate) fn split<R: Wait>(&mut self, rt: &R, place: &mut Place<L>) -> Place<L>
+        ensures { IsSplit L.origin place.old place.new result }
+    {
+        self.history.split(rt, place)
+    }
+
+    /// Ends the other place.
+    pub(crate) fn join<R: Wait>(&mut self, rt: &R, place: &mut Place<L>, other: Place<L>)
+        ensures { IsJoined L.origin place.old other place.new }
+    {
+        self.history.leave(rt, other);
+        self.history.catch_up(rt, place);
+    }
+
     /// Compares the receipts of the seats with the book's history.
-    pub(crate) fn settle(
+    pub(crate) fn settle<R: Wait>(
         &mut self,
+        rt: &R,
         alloc: Global,
         seats: &mut [Seat<L>],
     ) -> Result<Settled, SettleRefusal>
         ensures same_seats { seats.new ≡ seats.old }
-        ensures same { self.new ≡ self.old }
-        ensures reached { IsReached L.origin self.old }
-        ensures settled { IfOk result (IsSettled L.origin self.old (all_lists seats.old)) }
-        ensures why { IfErr result (IsUnsettled L.origin L.parts self.old seats.old) }
+        ensures settled { IfOk result (AreSettled L.origin L.book seats.old) }
+        ensures why { IfErr result (AreUnsettled L.origin L.parts L.book seats.old) }
     {
+        cover(rt, &self.history, seats);
         if !have_parts(seats, self.parts) {
             return Err(SettleRefusal::SeatsMissing);
         }
         audit(&mut self.entries, seats);
-        compare(&self.book, self.start, alloc, seats)
+        compare(&self.book, &self.history, self.start, alloc, seats)
+    }
+}
+
+// Enters the event of a call that was accepted, the book's last, for the share and the place.
+fn enter<L: Origin, R: Wait>(
+    rt: &R,
+    book: &Book,
+    history: &mut History<L>,
+    entries: &mut ledger::Book<L>,
+    share: &mut Share<L>,
+    place: &mut Place<L>,
+    event: SharedEvent,
+) -> Entered
+    requires lawful { IsLawful L.origin history.old }
+    requires grown { InPastOf L.origin history.old (λ past. Grows past book.now event) }
+    requires counted { last_number book.now ≡ last_number L.origin + entries.old.total + 1 }
+    requires part { 0 < share.old.parts }
+    ensures event { result.receipt.event ≡ event }
+    ensures entered { IsEntered L.origin place.old place.new result.receipt }
+    ensures base { IsDropped L.origin place.new.seen result.base }
+    ensures lawful { IsLawful L.origin history.new }
+    ensures past_of { IsPastOf L.origin history.new book.now }
+    ensures total { entries.new.total ≡ entries.old.total + 1 }
+    ensures parts { share.new.parts ≡ share.old.parts }
+    ensures amount { (share.new.amount ≡ share.old.amount + 1) × (share.new.amount ≤ NUMBER_LIMIT) }
+{
+    history.enter(rt, place, event.event());
+    entries.add(share, 1);
+    entries.audit(share);
+    entered(book, event)
+}
+
+// Each seat has seen a beginning of the history.
+fn cover<L: Origin, R: Wait>(rt: &R, history: &History<L>, seats: &[Seat<L>])
+    ensures beginnings { HaveSeen history.now seats.now }
+    ensures was_seen { IsSeen MayFollow L.book history.now }
+{
+    history.front();
+    for seat in seats {
+        history.covers(rt, &seat.place.front());
     }
 }
 

@@ -1,9 +1,10 @@
-// Which book is shared.
+// Which book is shared, and which history is its.
+use shared_history::naming::Naming;
 use std::marker::Brand;
 use std::sync::ledger::Ledger;
 
-/// A ledger of accepted calls, with the past that the book had when it was shared.
-pub trait Origin: Ledger {
+/// The history of a shared book and a ledger of its accepted calls, with the past that the book had when it was shared.
+pub trait Origin: Ledger + Naming {
     ghost use Rattle.request_journal.specs.Past.{Past};
 
     ghost origin: { Past };

@@ -41,9 +41,9 @@ pub fn run_scripts<L: Origin + Send + Sync, R: Threads + Wait + Sync, G: Gate + 
     gate: &G,
 ) -> Result<Settled, SettleError<L>>
     requires { 3 ≤ seat.parts }
-    ensures played { IfOk result (IsPlayed L.origin seat first.calls.items second.calls.items) }
+    ensures played { IfOk result (IsPlayed L.origin L.book seat first.calls.items second.calls.items) }
     ensures stopped { IfErr result (λ error. IsUnplayed seat error.reason error.alone error.seats.items
-        ⊎ IsStopped L.origin L.parts seat first.calls.items second.calls.items error.reason error.alone
+        ⊎ IsStopped L.origin L.parts L.book seat first.calls.items second.calls.items error.reason error.alone
         error.seats.items) }
 {
     let mut seat = seat;
@@ -56,8 +56,8 @@ pub fn run_scripts<L: Origin + Send + Sync, R: Threads + Wait + Sync, G: Gate + 
             alone: Some(seat),
         });
     }
-    let one = seat.split();
-    let two = seat.split();
+    let one = seat.split(rt, &shared);
+    let two = seat.split(rt, &shared);
     let book = &shared;
     let (one, two) = thread::join(
         rt,

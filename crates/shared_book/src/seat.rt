@@ -1,17 +1,20 @@
 // A seat, by which calls are made on a shared book.
-ghost use Rattle.std.specs.Prelude.{◌≡◌, ◌-◌, ◌^◌, ◌<◌, length, IfErr, IfOk, OnErr, OnOk, ⊤};
-ghost use Rattle.request_journal.specs.Input.{IsAsked};
-ghost use Rattle.shared_book.specs.Held.{new_seat, HasLetGo, IsDropped, with_seat};
+ghost use Rattle.std.specs.Prelude.{◌≡◌, ◌-◌, ◌^◌, ◌<◌, length, IfErr, IfOk, OnOk, ⊤};
+ghost use Rattle.shared_book.specs.Held.{new_seat, HasLetGo, with_seat};
 ghost use Rattle.shared_book.specs.Inner.Gains.{Serves, Applies};
 ghost use Rattle.shared_book.specs.Lent.{LendsServed, LendsApplied};
+ghost use Rattle.shared_book.specs.Reached.{IsLawful, MayFollow};
 ghost use Rattle.shared_book.specs.Reading.{IsRead};
 ghost use Rattle.shared_book.specs.Receipts.{IsLast};
 ghost use Rattle.shared_book.specs.Refused.{IsRefused, IsServeRefused};
+ghost use Rattle.shared_book.specs.Seen.{HasCaughtUp, HasJoined, HasSplit};
+ghost use Rattle.shared_history.specs.Seal.{IsSeen};
 ghost use Rattle.std.specs.Borrow.{sem};
 ghost use denote.Follow.{follows_so};
 ghost use mathlib.Core.Option.{none};
 
 use crate::book_read::{BookRead, Reading};
+use crate::history::{Front, Place};
 use crate::lines::Lines;
 use crate::look::answer;
 use crate::origin::Origin;
@@ -33,6 +36,8 @@ use stub_book::error::BookError;
 /// By a seat, one thread makes calls on a shared book. It keeps a receipt for each call that was accepted.
 pub struct Seat<L: Origin> {
     pub(crate) share: Share<L>,
+    /// Its place in the history: its number, and what it has seen.
+    pub(crate) place: Place<L>,
     /// How many parts of the ledger it has.
     pub(crate) parts: u64,
     /// How many receipts it has, in all lists.
@@ -47,6 +52,7 @@ impl<L: Origin> Drop for Seat<L> {
     fn drop(self) {
         let Seat {
             share: _share,
+            place: _place,
             parts: _parts,
             count: _count,
             lines: _lines,
@@ -60,31 +66,39 @@ impl<L: Origin> Model for Seat<L> {
     ghost use Rattle.shared_book.specs.Held.{Held};
     ghost use Rattle.shared_book.specs.Inner.Seat.{IsSeat, line_of};
 
+    ghost use Rattle.std.specs.Coded.{codes};
+    ghost use Rattle.book_history.specs.Inner.Codes.{states_code};
+
     ghost Value = { Held };
 
+    ghost coded = { Prim.hlevel (codes, states_code) };
+
     ghost view = { λ s. record {
+      number = s.place.number;
+      seen = s.place.seen;
       parts = s.parts;
       own = line_of s.lines.own;
       joined = map line_of s.lines.joined.items;
     } };
 
     ghost invariant = { λ s. IsSeat L.origin L.parts s.share.parts s.share.amount s.parts s.count s.lines.told
-        (line_of s.lines.own ∷ map line_of s.lines.joined.items) };
+        s.place.seen (line_of s.lines.own ∷ map line_of s.lines.joined.items) };
 }
 
 impl<L: Origin> Seat<L> {
     ghost use Rattle.shared_book.specs.contracts.seat.Seat.{the_row};
 
-    #[tactic(auto, using(crate::proofs::ReachedLemmas::dropped_none))]
-    pub(crate) fn new(alloc: Global, share: Share<L>, parts: u64) -> Seat<L>
+    pub(crate) fn new(alloc: Global, share: Share<L>, place: Place<L>, parts: u64) -> Seat<L>
         requires parts { share.parts ≡ parts }
         requires some { 0 < parts }
         requires fits { L.parts < 2 ^ 64 }
         requires empty { share.amount ≡ 0 }
-        ensures { result ≡ new_seat parts }
+        requires lawful { IsLawful L.origin place.seen }
+        ensures { result ≡ new_seat place.number place.seen parts }
     {
         Seat {
             share,
+            place,
             parts,
             count: 0,
             lines: Lines::new(alloc),
@@ -100,15 +114,26 @@ impl<L: Origin> Seat<L> {
         self.parts
     }
 
-    /// A new seat, with one of the parts.
-    pub fn split(&mut self) -> Seat<L>
-        requires { 1 < self.old.parts }
-        ensures new { result ≡ new_seat 1 }
-        ensures left { self.new ≡ record self.old { parts = self.old.parts - 1 } }
+    /// What it has seen of the history.
+    pub fn front(&self) -> Front<L>
+        ensures value { result ≡ self.now.seen }
+        ensures lawful { IsLawful L.origin result }
+        ensures seen { IsSeen MayFollow L.book self.now.seen }
     {
+        self.place.front()
+    }
+
+    /// A new seat, with one of the parts.
+    pub fn split<R: Wait>(&mut self, rt: &R, shared: &SharedBook<L>) -> Seat<L>
+        requires { 1 < self.old.parts }
+        ensures new { result ≡ new_seat result.number result.seen 1 }
+        ensures left { self.new ≡ record self.old { parts = self.old.parts - 1; seen = self.new.seen } }
+        ensures entered { HasSplit L.origin self.old self.new result }
+    {
+        let place = shared.lock(rt).split(rt, &mut self.place);
         let share = self.share.split_off(1, 0);
         self.parts -= 1;
-        let mut seat = Seat::new(*self.lines.joined.allocator(), share, 1);
+        let mut seat = Seat::new(*self.lines.joined.allocator(), share, place, 1);
         seat.headers = self.headers.share();
         seat
     }
@@ -152,11 +177,12 @@ impl<L: Origin> Seat<L> {
         request: Snapshot,
     ) -> Result<&Receipt, BookError>
         ensures* after { sem 𝓛 (follows_so
-            (the_row L.row (record { origin = L.origin }) (record { name = L.name; parts = L.parts }))
-            (the_row L.row (record { origin = L.origin }) (record { name = L.name; parts = L.parts }))
+            (the_row L.row (record { origin = L.origin }) (record { name = L.name; parts = L.parts })
+            (record { book = L.book }))
+            (the_row L.row (record { origin = L.origin }) (record { name = L.name; parts = L.parts })
+            (record { book = L.book }))
             self.entry.ghost_name none (λ _ _. ⊤)
             (λ seat. LendsServed L.origin self.old seat request result)) }
-        ensures why { IfErr result (λ error. IsServeRefused L.origin error.code) }
     {
         match self.keep_served(rt, shared, request) {
             Ok(()) => Ok(self.last()),
@@ -173,11 +199,12 @@ impl<L: Origin> Seat<L> {
         input: BookInput,
     ) -> Result<&Receipt, BookError>
         ensures* after { sem 𝓛 (follows_so
-            (the_row L.row (record { origin = L.origin }) (record { name = L.name; parts = L.parts }))
-            (the_row L.row (record { origin = L.origin }) (record { name = L.name; parts = L.parts }))
+            (the_row L.row (record { origin = L.origin }) (record { name = L.name; parts = L.parts })
+            (record { book = L.book }))
+            (the_row L.row (record { origin = L.origin }) (record { name = L.name; parts = L.parts })
+            (record { book = L.book }))
             self.entry.ghost_name none (λ _ _. ⊤)
             (λ seat. LendsApplied L.origin self.old seat input result)) }
-        ensures why { IfErr result (λ error. IsRefused L.origin input error.code) }
     {
         match self.keep_applied(rt, shared, input) {
             Ok(()) => Ok(self.last()),
@@ -188,29 +215,36 @@ impl<L: Origin> Seat<L> {
     /// Reads the book at one point. Requests are matched after the lock was let go. Adds no event, and
     /// keeps no receipt.
     pub fn read<R: Wait>(
-        &self,
+        &mut self,
         rt: &R,
         shared: &SharedBook<L>,
         asked: BookRead,
     ) -> Result<Reading, AllocError>
-        ensures { IfOk result (IsRead L.origin asked) }
+        ensures seen { HasCaughtUp L.origin self.old self.new }
+        ensures ok { IfOk result (IsRead L.origin self.new.seen asked) }
     {
         let alloc = *self.lines.joined.allocator();
         let Reading {
             number,
             answer: found,
-        } = shared.read(rt, alloc, &asked)?;
+        } = shared.lock(rt).read(rt, &mut self.place, alloc, &asked)?;
         Ok(Reading {
             number,
             answer: answer(alloc, asked, found)?,
         })
     }
 
-    /// Takes over the other seat: its parts, its lists of receipts beside the own ones, and its headers, if it has any.
-    /// Both let go of events. Where memory runs out (or there are more receipts than a number has room for) the other
-    /// seat is handed back.
-    pub fn join(&mut self, other: Seat<L>) -> Result<(), Seat<L>>
+    /// Takes over the other seat, which makes no call any more: its parts, its lists of receipts beside the own ones,
+    /// and its headers, if it has any. Both let go of events. Where memory runs out (or there are more receipts than a
+    /// number has room for) the other seat is handed back.
+    pub fn join<R: Wait>(
+        &mut self,
+        rt: &R,
+        shared: &SharedBook<L>,
+        other: Seat<L>,
+    ) -> Result<(), Seat<L>>
         ensures ok { OnOk result (HasLetGo L.origin (with_seat self.old other) self.new) }
+        ensures joined { OnOk result (HasJoined L.origin self.old other self.new) }
         ensures err { IfErr result (λ seat. (seat ≡ other) × (self.new ≡ self.old)) }
     {
         let Some(count) = self.count.checked_add(other.count) else {
@@ -224,11 +258,13 @@ impl<L: Origin> Seat<L> {
         }
         let Seat {
             share,
+            place,
             parts,
             count: _,
             lines,
             headers,
         } = other;
+        shared.lock(rt).join(rt, &mut self.place, place);
         self.share.merge(share);
         self.parts += parts;
         self.count = count;
@@ -246,17 +282,18 @@ impl<L: Origin> Seat<L> {
         request: Snapshot,
     ) -> Result<(), BookError>
         ensures ok { OnOk result (Serves L.origin self.old self.new request) }
-        ensures err { OnErr result (self.new ≡ self.old) }
-        ensures why { IfErr result (λ error. IsServeRefused L.origin error.code) }
+        ensures why { IfErr result (λ error. IsServeRefused L.origin self.old self.new error.code) }
     {
         self.lines.own.held.reserve(1)?;
         let request = SharedRequest::new(*self.lines.joined.allocator(), request)?;
         let mut parsed = ParsedRequest::new(*self.lines.joined.allocator(), request.request());
         let memory = EventMemory::new(*self.lines.joined.allocator())?;
-        let entered = shared.serve(
+        let kept = request.try_clone()?;
+        let entered = shared.lock(rt).serve(
             rt,
             &mut self.share,
-            request.try_clone()?,
+            &mut self.place,
+            kept,
             &mut parsed,
             memory,
         )?;
@@ -273,11 +310,12 @@ impl<L: Origin> Seat<L> {
         input: BookInput,
     ) -> Result<(), BookError>
         ensures ok { OnOk result (Applies L.origin self.old self.new input) }
-        ensures err { OnErr result (self.new ≡ self.old) }
-        ensures why { IfErr result (λ error. IsRefused L.origin input error.code) }
+        ensures why { IfErr result (λ error. IsRefused L.origin self.old self.new input error.code) }
     {
         self.lines.own.held.reserve(1)?;
-        let entered = shared.apply(rt, &mut self.share, input)?;
+        let entered = shared
+            .lock(rt)
+            .apply(rt, &mut self.share, &mut self.place, input)?;
         self.count += 1;
         self.lines.keep(entered);
         Ok(())

@@ -1,10 +1,6 @@
 // Comparing the receipts of all seats with the book's history.
-ghost use Rattle.std.specs.Prelude.{◌≡◌, ◌≢◌, ◌+◌, ◌^◌, ◌<◌, ◌↔◌, IfErr, IfOk};
-ghost use Rattle.std.specs.Prelude.{MatchOption, None, length};
-ghost use Rattle.request_journal.specs.Past.{Past};
-ghost use Rattle.shared_book.specs.Held.{all_lists, all_parts, receipts_of};
-ghost use Rattle.shared_book.specs.Reached.{IsReached};
-ghost use Rattle.shared_book.specs.Settled.{IsSettled, IsUnsettled};
+ghost use Rattle.std.specs.Prelude.{◌≡◌, IfErr, IfOk, None};
+ghost use Rattle.shared_book.specs.Settled.{AreSettled, AreUnsettled};
 
 use crate::origin::Origin;
 use crate::seat::Seat;
@@ -31,14 +27,15 @@ pub fn settle<L: Origin, R: Wait>(
     shared: SharedBook<L>,
     seats: Vec<Seat<L>>,
 ) -> Result<Settled, SettleError<L>>
-    ensures settled { IfOk result
-        (λ settled. (past : Past) × IsSettled L.origin past (all_lists seats.items) settled) }
+    ensures settled { IfOk result (AreSettled L.origin L.book seats.items) }
     ensures handed_back { IfErr result (λ error. (error.seats.items ≡ seats.items) × (error.alone ≡ None)) }
-    ensures why { IfErr result (λ error. (past : Past) × IsReached L.origin past
-        × IsUnsettled L.origin L.parts past seats.items error.reason) }
+    ensures why { IfErr result (λ error. AreUnsettled L.origin L.parts L.book seats.items error.reason) }
 {
     let mut seats = seats;
-    match shared.settle(rt, alloc, seats.as_mut_slice()) {
+    let settled = shared
+        .lock(rt)
+        .settle(rt, alloc, seats.as_mut_slice());
+    match settled {
         Ok(settled) => Ok(settled),
         Err(reason) => Err(SettleError {
             reason,

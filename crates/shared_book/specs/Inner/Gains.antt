@@ -5,7 +5,8 @@ use Rattle.request_journal.specs.Input.{IsAsked}
 use Rattle.request_journal.specs.Past.{Past}
 use Rattle.request_journal.specs.declared.input.BookInput.{BookInput}
 use Rattle.shared_book.specs.Held.{Held, Gained, LetsGo}
-use Rattle.shared_book.specs.Receipts.{IsReceipt, Line}
+use Rattle.shared_book.specs.Receipts.{Line}
+use Rattle.shared_book.specs.Seen.{Enters}
 use Rattle.shared_book.specs.declared.receipt.Receipt.{Receipt}
 use Rattle.stub_book.specs.Growth.{IsServed}
 
@@ -14,14 +15,14 @@ pub record Serves (origin : Past) (old new : Held) (request : Request) : Type 0 
   pub receipt : Receipt
   pub gained : Gained origin old receipt new
   pub served : IsServed request receipt.event
-  pub genuine : IsReceipt origin receipt
+  pub entered : Enters origin old new receipt
 
 -- a receipt for this change
 pub record Applies (origin : Past) (old new : Held) (asked : BookInput) : Type 0 where
   pub receipt : Receipt
   pub gained : Gained origin old receipt new
   pub asked_for : IsAsked asked receipt.event
-  pub genuine : IsReceipt origin receipt
+  pub entered : Enters origin old new receipt
 
 -- the receipt at the end of the line, which may have let go of events up to this number before
 pub record Keeps (last : ℕ) (old new : Line) (receipt : Receipt) : Type 0 where

@@ -2,6 +2,7 @@
 use Rattle.std.specs.Prelude.{◌≡◌, ◌<◌, ◌^◌, ℕ, List, length}
 use Rattle.request_journal.specs.Past.{Past}
 use Rattle.shared_book.specs.Held.{IsDropped, all_numbers}
+use Rattle.shared_book.specs.Reached.{IsLawful, Log}
 use Rattle.shared_book.specs.Receipts.{Line}
 use Rattle.shared_book.specs.declared.receipt_list.ReceiptList.{ReceiptList}
 
@@ -9,13 +10,14 @@ use Rattle.shared_book.specs.declared.receipt_list.ReceiptList.{ReceiptList}
 abbrev pub line_of : ReceiptList → Line
 line_of list = record { let_go = list.let_go.items; held = list.held.items }
 
--- The share has the seat's parts, of which there is one at least, and an entry for each receipt. A checkpoint has
--- dropped the events up to the number that the seat was told.
-pub record IsSeat (origin : Past) (all_parts share_parts share_amount parts count told : ℕ) (lines : List Line) :
-    Type 0 where
+-- The share has the seat's parts, of which there is one at least, and an entry for each receipt. What was seen is a
+-- history of this book, in which a checkpoint has dropped the events up to the number that the seat was told.
+pub record IsSeat (origin : Past) (all_parts share_parts share_amount parts count told : ℕ) (seen : Log)
+    (lines : List Line) : Type 0 where
   pub same_parts : share_parts ≡ parts
   pub some : 0 < parts
   pub fits : all_parts < 2 ^ 64
   pub same_count : share_amount ≡ count
   pub counted : count ≡ length (all_numbers lines)
-  pub dropped : IsDropped origin told
+  pub lawful : IsLawful origin seen
+  pub dropped : IsDropped origin seen told

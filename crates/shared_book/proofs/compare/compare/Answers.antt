@@ -16,7 +16,7 @@ use Rattle.shared_book.proofs.compare.compare.Goals as goal
 pub returns-in-Ok-Some-clause-why : goal.returns-in-Ok-Some-clause-why
 returns-in-Ok-Some-clause-why g c =
     unsettled_miscounted g.L.Origin.origin g.L.Ledger.parts c.args.book.now c.args.seats.now
-    c.in-Ok-Some.number c.mismatch-in-Ok-Some.result c.requires.whole c.mismatch-in-Ok-Some.ensures c.args.start
+    c.in-Ok-Some.number c.mismatch-in-Ok-Some.result c.requires.parts c.mismatch-in-Ok-Some.ensures c.args.start
     c.requires.start
     (subst (λ (found : Option ℕ). MatchOption found
     (IsPermutation (all_numbers (all_lists c.args.seats.now))
@@ -27,7 +27,7 @@ returns-in-Ok-Some-clause-why g c =
 pub returns-in-Some-differing-clause-why : goal.returns-in-Some-differing-clause-why
 returns-in-Some-differing-clause-why g c =
     unsettled_differing g.L.Origin.origin g.L.Ledger.parts c.args.book.now c.args.seats.now
-    c.in-Some-differing.number c.mismatch-in-Some-differing.result c.requires.whole
+    c.in-Some-differing.number c.mismatch-in-Some-differing.result c.requires.parts
     c.mismatch-in-Some-differing.ensures c.in-Ok.receipts.items c.sorted-receipts.result.items
     c.as_slice.result.now c.history.result.now.past c.in-Ok.ensures c.sorted-receipts.ensures.moved
     c.as_slice.ensures.value c.history.ensures c.in-Some-differing.ensures
@@ -43,7 +43,8 @@ returns-clause-settled g c =
     let placed : All (IsWellPlaced past.base.number) lines =
     subst (λ (b : ℕ). All (IsWellPlaced b) lines) c.base_of.ensures c.in_default.ensures in
     record {
-      reached = c.requires.reached;
+      lawful = c.requires.lawful;
+      past_of = c.requires.past_of;
       legal = c.event_count-events.ensures.legal;
       events = events;
       counted = events ∙ c.requires.counted ∙ ap (λ (s : ℕ). s + length (all_numbers lines)) start;

@@ -1,10 +1,12 @@
 use Rattle.std.proofs.Common.{◌≡◌, ◌+◌, ◌≤◌, ◌∷◌, ◌++◌, ℕ, List, arith, ap, subst, map, length, refl, rules}
 use Rattle.std.specs.List.{AllZip}
 use Rattle.shared_book.proofs.HeldLemmas.{count_joined}
-use Rattle.shared_book.proofs.LetGoLemmas.{dropped_either, let_go_joined}
+use Rattle.shared_book.proofs.LetGoLemmas.{let_go_joined}
+use Rattle.shared_book.proofs.SeatLemmas.{told_joined}
 use Rattle.shared_book.specs.Held.{Held, HasLetGo, LetsGo, all_numbers, filled, with_seat}
 use Rattle.shared_book.specs.Inner.Seat.{line_of}
 use Rattle.shared_book.specs.Receipts.{Line}
+use Rattle.shared_book.specs.Seen.{HasJoined}
 use Rattle.shared_book.proofs.seat.Seat.join.Goals as goal
 
 pub invariant_of-self-2 : goal.invariant_of-self-2
@@ -30,24 +32,32 @@ invariant_of-self-2 g c =
       fits = mine.fits;
       same_count = omega (arith, mine.same_count, others.same_count, c.merge.ensures.amount, sum);
       counted = omega (arith, mine.counted, others.counted, all, sum);
-      dropped = dropped_either g.L.Origin.origin c.self.inside.lines.told c.other.inside.lines.told last
-          mine.dropped others.dropped c.take_over.ensures.told;
+      lawful = c.join.ensures.lawful;
+      dropped = told_joined g.L.Origin.origin c.self.inside.place c.other.inside.place c.join.new.place
+          c.self.inside.lines.told c.other.inside.lines.told last c.join.ensures mine.dropped others.dropped
+          c.take_over.ensures.told;
     }
 
 pub returns-clause-ok : goal.returns-clause-ok
 returns-clause-ok g c =
     let last : ℕ = c.take_over.new.self.told in
     let seat : Held = record {
+      number = c.self.inside.place.number;
+      seen = c.self.inside.place.seen;
       parts = c.self.inside.parts;
       own = line_of c.self.inside.lines.own;
       joined = map line_of c.self.inside.lines.joined.items;
     } in
     let other : Held = record {
+      number = c.other.inside.place.number;
+      seen = c.other.inside.place.seen;
       parts = c.other.inside.parts;
       own = line_of c.other.inside.lines.own;
       joined = map line_of c.other.inside.lines.joined.items;
     } in
     let new : Held = record {
+      number = c.join.new.place.number;
+      seen = c.join.new.place.seen;
       parts = c.self.inside.parts + c.other.inside.parts;
       own = line_of c.take_over.new.self.own;
       joined = map line_of c.take_over.new.self.joined.items;
@@ -55,9 +65,28 @@ returns-clause-ok g c =
     subst (λ (s : Held). HasLetGo g.L.Origin.origin (with_seat s c.args.other) new) c.self.view_is
     (subst (λ (o : Held). HasLetGo g.L.Origin.origin (with_seat seat o) new) c.other.view_is
     (let_go_joined g.L.Origin.origin last seat other new
-    (dropped_either g.L.Origin.origin c.self.inside.lines.told c.other.inside.lines.told last
-    c.self.invariant.dropped c.other.invariant.dropped c.take_over.ensures.told)
+    (told_joined g.L.Origin.origin c.self.inside.place c.other.inside.place c.join.new.place
+    c.self.inside.lines.told c.other.inside.lines.told last c.join.ensures c.self.invariant.dropped
+    c.other.invariant.dropped c.take_over.ensures.told)
     refl c.take_over.ensures.own
     (subst (λ (ls : List Line).
     AllZip (LetsGo (λ n. n ≤ last)) (ls ++ filled (other.own ∷ other.joined)) new.joined)
     (ap (map line_of) c.reserve.ensures.items) c.take_over.ensures.joined)))
+
+pub returns-clause-joined : goal.returns-clause-joined
+returns-clause-joined g c =
+    let new : Held = record {
+      number = c.join.new.place.number;
+      seen = c.join.new.place.seen;
+      parts = c.self.inside.parts + c.other.inside.parts;
+      own = line_of c.take_over.new.self.own;
+      joined = map line_of c.take_over.new.self.joined.items;
+    } in
+    subst (λ (s : Held). HasJoined g.L.Origin.origin s c.args.other new) c.self.view_is
+    (subst (λ (o : Held). HasJoined g.L.Origin.origin (record {
+      number = c.self.inside.place.number;
+      seen = c.self.inside.place.seen;
+      parts = c.self.inside.parts;
+      own = line_of c.self.inside.lines.own;
+      joined = map line_of c.self.inside.lines.joined.items;
+    }) o new) c.other.view_is c.join.ensures)

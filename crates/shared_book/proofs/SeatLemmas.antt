@@ -1,0 +1,74 @@
+-- What a seat keeps, once it has seen more.
+use Rattle.std.proofs.Common.{◌≡◌, ℕ, ◌+◌, ◌≤◌, ◌⊎◌, List, ◌∷◌, ap, ◌∙◌, arith}
+use Rattle.std.specs.List.{AllZip}
+use mathlib.Core.List.{IsPrefix}
+use Rattle.request_journal.specs.Past.{Past}
+use Rattle.request_journal.specs.declared.event.Event.{Event}
+use Rattle.shared_book.proofs.HeldLemmas.{count_kept}
+use Rattle.shared_book.proofs.LetGoLemmas.{dropped_either}
+use Rattle.shared_book.proofs.ReachedLemmas.{dropped_later}
+use Rattle.shared_book.proofs.SeenLemmas.{entered_on, joined_on, left_on, sees_on}
+use Rattle.shared_book.specs.Held.{IsDropped, LetsGo}
+use Rattle.shared_book.specs.Inner.Gains.{Keeps}
+use Rattle.shared_book.specs.Inner.Seat.{IsSeat}
+use Rattle.shared_book.specs.Reached.{IsLawful, Log}
+use Rattle.shared_book.specs.Receipts.{Line}
+use Rattle.shared_book.specs.Seen.{IsEntered, IsJoined, SeesAll}
+use Rattle.shared_book.specs.declared.receipt.Receipt.{Receipt}
+use Rattle.shared_history.specs.Sight.{Sight}
+
+module _ (origin : Past) (all share amount parts count told : ℕ) (lines : List Line) where
+  pub seat_on : (old new : Log) → IsSeat origin all share amount parts count told old lines → IsPrefix old new
+      → IsLawful origin new → IsSeat origin all share amount parts count told new lines
+  seat_on old new seat on lawful = record {
+    same_parts = seat.same_parts;
+    some = seat.some;
+    fits = seat.fits;
+    same_count = seat.same_count;
+    counted = seat.counted;
+    lawful = lawful;
+    dropped = dropped_later origin old new told on seat.dropped;
+  }
+
+  -- it has caught up
+  pub seat_sees : (old new : Sight Past Event)
+      → IsSeat origin all share amount parts count told old.seen lines → SeesAll origin old new
+      → IsSeat origin all share amount parts count told new.seen lines
+  seat_sees old new seat sees = seat_on old.seen new.seen seat (sees_on origin old new sees) sees.lawful
+
+-- it has made a call, and has kept the receipt
+module _ (origin : Past) (old new : Sight Past Event) (receipt : Receipt) where
+  -- the number up to which a checkpoint has dropped events
+  pub told_on : (before base told : ℕ) → IsEntered origin old new receipt → IsDropped origin old.seen before
+      → IsDropped origin new.seen base → (told ≡ before) ⊎ (told ≡ base) → IsDropped origin new.seen told
+  told_on before base told entered dropped more either =
+      dropped_either origin new.seen before base told
+      (dropped_later origin old.seen new.seen before (entered_on origin old new receipt entered) dropped) more either
+
+  pub seat_entered : (all share amount parts count before base told later_share later_amount : ℕ) (own kept : Line)
+      (joined later : List Line)
+      → IsSeat origin all share amount parts count before old.seen (own ∷ joined) → IsEntered origin old new receipt
+      → IsDropped origin new.seen base → (told ≡ before) ⊎ (told ≡ base) → Keeps told own kept receipt
+      → AllZip (LetsGo (λ n. n ≤ told)) joined later → later_share ≡ share → later_amount ≡ amount + 1
+      → IsSeat origin all later_share later_amount parts (count + 1) told new.seen (kept ∷ later)
+  seat_entered all share amount parts count before base told later_share later_amount own kept joined later seat
+      entered more either keeps go same grown =
+      let counted = count_kept told own kept receipt joined later keeps go in
+      record {
+        same_parts = same ∙ seat.same_parts;
+        some = seat.some;
+        fits = seat.fits;
+        same_count = grown ∙ ap (λ (n : ℕ). n + 1) seat.same_count;
+        counted = omega (arith, seat.counted, counted);
+        lawful = entered.lawful;
+        dropped = told_on before base told entered seat.dropped more either;
+      }
+
+-- it has taken over another
+pub told_joined : (origin : Past) (old other new : Sight Past Event) (before others told : ℕ)
+    → IsJoined origin old other new → IsDropped origin old.seen before → IsDropped origin other.seen others
+    → (told ≡ before) ⊎ (told ≡ others) → IsDropped origin new.seen told
+told_joined origin old other new before others told joined one two either =
+    dropped_either origin new.seen before others told
+    (dropped_later origin old.seen new.seen before (joined_on origin old new other joined) one)
+    (dropped_later origin other.seen new.seen others (left_on origin old new other joined) two) either
