@@ -1,5 +1,6 @@
 -- Cells after a step: those that were at home stay there.
-use Rattle.std.proofs.Common.{◌≡◌, ◌≢◌, ℕ, zero, suc, ◌<◌, ◌==◌, Bool, true, false, List, [], ◌∷◌, ◌++◌, length, All, slice_set, refl, ap, arith}
+use Rattle.std.proofs.Common.{◌≡◌, ◌≢◌, ℕ, zero, suc, ◌<◌, ◌==◌, Bool, true, false, List, [], ◌∷◌, ◌++◌, length, All}
+use Rattle.std.proofs.Common.{slice_set, refl, ap, arith}
 use Rattle.std.proofs.lemmas.Bool.Decides.{nat_tests}
 use Rattle.std.proofs.lemmas.List.Elements.{All-weaker}
 use Rattle.logbook.specs.Pages.{Cell, cell}
@@ -49,10 +50,14 @@ either_same n m = cases (n == m) refl where
   cases false is = rw is
 
 module _ {O E : Type 0} where
-  pub homes : (cs ds : List Cell) → ((k : ℕ) → IsHome cs k → IsHome ds k) → (lines : List (Line O E)) → All (λ l. IsHome cs l.turn) lines → All (λ l. IsHome ds l.turn) lines
-  homes cs ds keeps lines = All-weaker (λ (l : Line O E). IsHome cs l.turn) (λ l. IsHome ds l.turn) (λ l. keeps l.turn) lines
+  pub homes : (cs ds : List Cell) → ((k : ℕ) → IsHome cs k → IsHome ds k) → (lines : List (Line O E))
+      → All (λ l. IsHome cs l.turn) lines → All (λ l. IsHome ds l.turn) lines
+  homes cs ds keeps lines =
+      All-weaker (λ (l : Line O E). IsHome cs l.turn) (λ l. IsHome ds l.turn) (λ l. keeps l.turn) lines
 
   -- a turn that is away was not used up
-  pub unused : (cs : List Cell) (key : ℕ) → (cell cs key).1 ≡ false → (lines : List (Line O E)) → All (λ l. IsHome cs l.turn) lines → IsUnused key lines
+  pub unused : (cs : List Cell) (key : ℕ) → (cell cs key).1 ≡ false → (lines : List (Line O E))
+      → All (λ l. IsHome cs l.turn) lines → IsUnused key lines
   unused cs key away lines =
-      All-weaker (λ (l : Line O E). IsHome cs l.turn) (λ l. l.turn ≢ key) (λ l home is. absurd (cc (ap (λ k. (cell cs k).1) is, away, home))) lines
+      All-weaker (λ (l : Line O E). IsHome cs l.turn) (λ l. l.turn ≢ key)
+      (λ l home is. absurd (cc (ap (λ k. (cell cs k).1) is, away, home))) lines

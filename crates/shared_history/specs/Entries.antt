@@ -20,7 +20,13 @@ module _ {O E : Type 0} where
   -- the event of each call, in order
   abbrev pub events : List (Entry O E) → List E
   events [] = []
-  events (e ∷ log) = elim e.deed [ Opened origin ↦ events log | Called event ↦ event ∷ events log | Split ↦ events log | Left ↦ events log ]
+  events (e ∷ log) =
+      elim e.deed [
+        | Opened origin ↦ events log
+        | Called event ↦ event ∷ events log
+        | Split ↦ events log
+        | Left ↦ events log
+      ]
 
   -- whether it makes a seat, whose number is the index of the entry
   abbrev pub makes_seat : Deed O E → Bool

@@ -18,7 +18,8 @@ module _ {O E : Type 0} (may : O → List E → E → Type 0) where
   -- each of these entries is of a seat that was made before and has not left, which may do this
   abbrev pub GoesOn : O → List (Entry O E) → List (Entry O E) → Type 0
   GoesOn origin before [] = Unit {0}
-  GoesOn origin before (e ∷ after) = IsSeat before e.seat × MayDo origin before e.deed × GoesOn origin (before ++ e ∷ []) after
+  GoesOn origin before (e ∷ after) = IsSeat before e.seat × MayDo origin before e.deed
+      × GoesOn origin (before ++ e ∷ []) after
 
   -- the first entry opens it with an origin, and the others go on from there
   pub record IsHistory (log : List (Entry O E)) : Type 0 where
@@ -40,4 +41,5 @@ module _ {O E : Type 0} (may : O → List E → E → Type 0) where
 
   -- the seat has no entry but these in any history that begins so
   abbrev pub HasLeft : List (Entry O E) → ℕ → Type 0
-  HasLeft log number = (later : List (Entry O E)) → IsHistory later → IsPrefix log later → own number later ≡ own number log
+  HasLeft log number = (later : List (Entry O E)) → IsHistory later → IsPrefix log later
+      → own number later ≡ own number log

@@ -2,8 +2,8 @@
 ghost use Rattle.std.specs.Prelude.{◌≡◌, ◌+◌, ◌≤◌, ◌∷◌, ◌++◌, [], length};
 ghost use mathlib.Core.List.{IsPrefix};
 ghost use Rattle.logbook.specs.Pages.{may_write};
-ghost use Rattle.shared_history.specs.Inner.Drafts.{deed_of};
-ghost use Rattle.shared_history.specs.Inner.Lines.{IsLegal, IsUnused, line};
+ghost use Rattle.shared_history.specs.Inner.Drafts.{MayAdd, drafted};
+ghost use Rattle.shared_history.specs.Inner.Lines.{IsUnused};
 ghost use Rattle.shared_history.specs.Inner.Rules.{head_of};
 
 use crate::course::Course;
@@ -68,12 +68,12 @@ pub(crate) fn add<O, E, C: Course<O, E>, R: Wait>(
     requires pen { turn.old.book ≡ seen.old.book }
     requires right { turn.old.nib.right ≡ may_write }
     requires long { count ≤ length seen.old.log }
-    requires allowed { length seen.old.log ≡ count → IsUnused turn.old.nib.key seen.old.log → IsLegal C.may (seen.old.log ++ line seat (deed_of ask) turn.old.nib.key next.now.nib.key child.now.nib.key ∷ []) }
+    requires allowed { MayAdd C.may seen.old.log count (drafted seat ask turn.old.nib next.now.nib child.now.nib) }
     ensures count { result ≡ count + 1 }
     ensures book { seen.new.book ≡ seen.old.book }
     ensures whole { length seen.old.log ≡ count }
     ensures unused { IsUnused turn.old.nib.key seen.old.log }
-    ensures added { seen.new.log ≡ seen.old.log ++ line seat (deed_of ask.entry) turn.old.nib.key next.now.nib.key child.now.nib.key ∷ [] }
+    ensures added { seen.new.log ≡ seen.old.log ++ drafted seat ask.entry turn.old.nib next.now.nib child.now.nib ∷ [] }
 {
     if count == u64::MAX {
         stuck(rt);

@@ -2,8 +2,7 @@
 ghost use Rattle.std.specs.Prelude.{◌≡◌, length};
 ghost use Rattle.logbook.specs.Pages.{may_write};
 ghost use Rattle.shared_history.specs.History.{MayFollow};
-ghost use Rattle.shared_history.specs.Inner.Drafts.{deed_of};
-ghost use Rattle.shared_history.specs.Inner.Kept.{IsWritten};
+ghost use Rattle.shared_history.specs.Inner.Drafts.{Writes, deed_of};
 ghost use Rattle.shared_history.specs.Inner.Lines.{HasTurn, IsLegal, entries_of};
 ghost use Rattle.shared_history.specs.Inner.Rules.{head_of};
 ghost use Rattle.shared_history.specs.declared.entry.Deed.TheVariants.{Left, Split};
@@ -38,7 +37,7 @@ pub(crate) fn write<O, E, C: Course<O, E>, R: Wait>(
     requires allowed { MayFollow C.may (entries_of whole.old.log) (deed_of ask) }
     ensures count { result ≡ length whole.new.log }
     ensures book { whole.new.book ≡ whole.old.book }
-    ensures written { IsWritten C.may seen.now.log whole.old.log whole.new.log seat next.now.nib.key child.now.nib.key (deed_of ask.entry) }
+    ensures written { Writes C.may seen.now.log whole.old.log whole.new.log seat ask.entry next.now.nib child.now.nib }
 {
     let mut all = whole.again();
     all.learn(seen);

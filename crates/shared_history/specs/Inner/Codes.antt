@@ -28,13 +28,19 @@ module _ {O E : Type 0} where
   sum_back Left = refl
 
   abbrev pub deed_code : Coded O → Coded E → Coded (Deed O E)
-  deed_code o e = code_by (O ⊎ (E ⊎ (Unit {0} ⊎ Unit {0}))) (coded⊎ o (coded⊎ e (coded⊎ coded_unit coded_unit))) to_sum of_sum sum_back
+  deed_code o e =
+      code_by (O ⊎ (E ⊎ (Unit {0} ⊎ Unit {0})))
+      (coded⊎ o (coded⊎ e (coded⊎ coded_unit coded_unit))) to_sum of_sum sum_back
 
   abbrev pub entry_code : Coded O → Coded E → Coded (Entry O E)
-  entry_code o e = code_by (ℕ × Deed O E) (coded× coded_ℕ (deed_code o e)) (λ x. (x.seat, x.deed)) (λ p. record { seat = p.0; deed = p.1 }) (λ _. refl)
+  entry_code o e =
+      code_by (ℕ × Deed O E) (coded× coded_ℕ (deed_code o e)) (λ x. (x.seat, x.deed))
+      (λ p. record { seat = p.0; deed = p.1 }) (λ _. refl)
 
   abbrev pub log_code : Coded O → Coded E → Coded (List (Entry O E))
   log_code o e = coded_list (entry_code o e)
 
   abbrev pub sight_code : Coded O → Coded E → Coded (Sight O E)
-  sight_code o e = code_by (ℕ × List (Entry O E)) (coded× coded_ℕ (log_code o e)) (λ s. (s.number, s.seen)) (λ p. record { number = p.0; seen = p.1 }) (λ _. refl)
+  sight_code o e =
+      code_by (ℕ × List (Entry O E)) (coded× coded_ℕ (log_code o e)) (λ s. (s.number, s.seen))
+      (λ p. record { number = p.0; seen = p.1 }) (λ _. refl)

@@ -28,7 +28,8 @@ module _ {O E : Type 0} where
   -- each line of the seat uses up the turn that the seat has
   abbrev pub TakesTurns : ℕ → ℕ → ℕ → List (Line O E) → Type 0
   TakesTurns number index turn [] = Unit {0}
-  TakesTurns number index turn (l ∷ lines) = (l.entry.seat ≡ number → l.turn ≡ turn) × TakesTurns number (suc index) (next_turn number index turn l) lines
+  TakesTurns number index turn (l ∷ lines) = (l.entry.seat ≡ number → l.turn ≡ turn)
+      × TakesTurns number (suc index) (next_turn number index turn l) lines
 
   -- from the second line on, each does so
   abbrev pub AreTurns : List (Line O E) → Type 0

@@ -12,5 +12,6 @@ compare_exchange-requires g c =
       book,
       c.requires.pen ∙ book,
       offer.0,
-      rw (ap (λ w. w.key) h, offer.3) (look_moves g.C.Course.may c.args.seen.now.log no_line c.args.turn.now.nib c.requires.right),
+      rw (ap (λ w. w.key) h, offer.3)
+          (look_moves g.C.Course.may c.args.seen.now.log no_line c.args.turn.now.nib c.requires.right),
     )

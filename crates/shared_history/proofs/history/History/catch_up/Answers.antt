@@ -1,20 +1,28 @@
-use Rattle.std.proofs.Common.{◌≤◌, ap, subst, arith, length, List, ◌∙◌, refl}
+use Rattle.std.proofs.Common.{◌≤◌, ap, arith, length, ◌∙◌, refl}
 use mathlib.Core.List.{IsPrefix}
 use Rattle.shared_history.specs.Inner.Lines.{entries_of}
 use Rattle.shared_history.specs.Seal.{seal}
-use Rattle.shared_history.specs.declared.line.Line.{Line}
 use Rattle.shared_history.proofs.Growing.{caught_up}
+use Rattle.shared_history.proofs.Prefixes.{prefix_same}
 use Rattle.shared_history.proofs.history.History.catch_up.Goals.{then-self-seat, else-self-seat}
 use Rattle.shared_history.proofs.history.History.catch_up.Goals as goal
 
 pub invariant_of-seat : goal.invariant_of-seat
 invariant_of-seat g c =
     let both = c.learn.new.self.log in
-    let whole : IsPrefix c.self.inside.seen.log both = subst (λ (l : List (Line g.row.O.Denot g.row.E.Denot)). IsPrefix l both) (ap (λ s. s.log) c.again-seen.ensures) c.learn.ensures.2 in
-    let enough : c.seat.inside.count ≤ c.self.inside.count = elim c.if-self-seat.branch [ then-self-seat w ↦ absurd w.stuck.ensures | else-self-seat w ↦ w.if-self-seat.false ] in
-    let less : length c.seat.inside.seen.log ≤ length c.self.inside.seen.log = omega (arith, c.self.invariant.1.counted, c.seat.invariant.front.counted, enough) in
-    let found = caught_up g.C.Course.may c.seat.inside.seen.log c.self.inside.seen.log both c.look.new.seen.log c.seat.inside.number c.seat.inside.turn.nib.key
-    c.seat.invariant.has c.self.invariant.1.legal whole c.learn.ensures.3 c.look.ensures.begins c.look.ensures.unused less in
+    let whole : IsPrefix c.self.inside.seen.log both =
+    prefix_same (ap (λ s. s.log) c.again-seen.ensures) c.learn.ensures.2 in
+    let enough : c.seat.inside.count ≤ c.self.inside.count =
+    elim c.if-self-seat.branch [
+      | then-self-seat w ↦ absurd w.stuck.ensures
+      | else-self-seat w ↦ w.if-self-seat.false
+    ] in
+    let less : length c.seat.inside.seen.log ≤ length c.self.inside.seen.log =
+    omega (arith, c.self.invariant.1.counted, c.seat.invariant.front.counted, enough) in
+    let found =
+    caught_up g.C.Course.may c.seat.inside.seen.log c.self.inside.seen.log both c.look.new.seen.log
+    c.seat.inside.number c.seat.inside.turn.nib.key c.seat.invariant.has c.self.invariant.1.legal
+    whole c.learn.ensures.3 c.look.ensures.begins c.look.ensures.unused less in
     rw (c.again.ensures, c.look.ensures.nib)
     (record {
       front = c.self.invariant.1;
@@ -26,12 +34,22 @@ invariant_of-seat g c =
 pub returns-clause-catches_up : goal.returns-clause-catches_up
 returns-clause-catches_up g c =
     let both = c.learn.new.self.log in
-    let whole : IsPrefix c.self.inside.seen.log both = subst (λ (l : List (Line g.row.O.Denot g.row.E.Denot)). IsPrefix l both) (ap (λ s. s.log) c.again-seen.ensures) c.learn.ensures.2 in
-    let enough : c.seat.inside.count ≤ c.self.inside.count = elim c.if-self-seat.branch [ then-self-seat w ↦ absurd w.stuck.ensures | else-self-seat w ↦ w.if-self-seat.false ] in
-    let less : length c.seat.inside.seen.log ≤ length c.self.inside.seen.log = omega (arith, c.self.invariant.1.counted, c.seat.invariant.front.counted, enough) in
-    let found = caught_up g.C.Course.may c.seat.inside.seen.log c.self.inside.seen.log both c.look.new.seen.log c.seat.inside.number c.seat.inside.turn.nib.key
-    c.seat.invariant.has c.self.invariant.1.legal whole c.learn.ensures.3 c.look.ensures.begins c.look.ensures.unused less in
+    let whole : IsPrefix c.self.inside.seen.log both =
+    prefix_same (ap (λ s. s.log) c.again-seen.ensures) c.learn.ensures.2 in
+    let enough : c.seat.inside.count ≤ c.self.inside.count =
+    elim c.if-self-seat.branch [
+      | then-self-seat w ↦ absurd w.stuck.ensures
+      | else-self-seat w ↦ w.if-self-seat.false
+    ] in
+    let less : length c.seat.inside.seen.log ≤ length c.self.inside.seen.log =
+    omega (arith, c.self.invariant.1.counted, c.seat.invariant.front.counted, enough) in
+    let found =
+    caught_up g.C.Course.may c.seat.inside.seen.log c.self.inside.seen.log both c.look.new.seen.log
+    c.seat.inside.number c.seat.inside.turn.nib.key c.seat.invariant.has c.self.invariant.1.legal
+    whole c.learn.ensures.3 c.look.ensures.begins c.look.ensures.unused less in
     rw (← c.self.view_is, ← c.seat.view_is, c.again.ensures) (record { before = found.1; number = refl; seen = refl })
 
 pub returns-clause-seen : goal.returns-clause-seen
-returns-clause-seen g c = rw (← c.self.view_is) (seal g.C.Course.may g.J.Naming.book (entries_of c.self.inside.seen.log) c.self.invariant.1.legal.history)
+returns-clause-seen g c =
+    rw (← c.self.view_is)
+    (seal g.C.Course.may g.J.Naming.book (entries_of c.self.inside.seen.log) c.self.invariant.1.legal.history)

@@ -1,13 +1,16 @@
-use Rattle.std.proofs.Common.{◌≤◌, ap, subst, arith, length, List}
+use Rattle.std.proofs.Common.{◌≤◌, ap, arith, length}
 use mathlib.Core.List.{IsPrefix}
-use Rattle.shared_history.specs.declared.line.Line.{Line}
 use Rattle.shared_history.proofs.Lines.{prefix_entries}
-use Rattle.shared_history.proofs.Prefixes.{prefix_shorter}
+use Rattle.shared_history.proofs.Prefixes.{prefix_same, prefix_shorter}
 use Rattle.shared_history.proofs.history.History.covers.Goals as goal
 
 pub returns-clause-begins : goal.returns-clause-begins
 returns-clause-begins g c =
     let both = c.learn.new.self.log in
-    let whole : IsPrefix c.self.inside.seen.log both = subst (λ (l : List (Line g.row.O.Denot g.row.E.Denot)). IsPrefix l both) (ap (λ s. s.log) c.again-both.ensures) c.learn.ensures.2 in
-    let less : length c.front.inside.seen.log ≤ length c.self.inside.seen.log = omega (arith, c.self.invariant.1.counted, c.front.invariant.counted, c.if-self-front.false) in
-    rw (← c.self.view_is, ← c.front.view_is) (prefix_entries c.front.inside.seen.log c.self.inside.seen.log (prefix_shorter c.front.inside.seen.log c.self.inside.seen.log both c.learn.ensures.3 whole less))
+    let whole : IsPrefix c.self.inside.seen.log both =
+    prefix_same (ap (λ s. s.log) c.again-both.ensures) c.learn.ensures.2 in
+    let less : length c.front.inside.seen.log ≤ length c.self.inside.seen.log =
+    omega (arith, c.self.invariant.1.counted, c.front.invariant.counted, c.if-self-front.false) in
+    rw (← c.self.view_is, ← c.front.view_is)
+    (prefix_entries c.front.inside.seen.log c.self.inside.seen.log
+    (prefix_shorter c.front.inside.seen.log c.self.inside.seen.log both c.learn.ensures.3 whole less))

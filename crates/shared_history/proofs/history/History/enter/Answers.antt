@@ -18,7 +18,10 @@ invariant_of-seat g c =
 pub returns-clause-calls : goal.returns-clause-calls
 returns-clause-calls g c =
     let w = c.write-self-inside.ensures in
-    rw (← c.self.view_is, ← c.seat.view_is, c.again.ensures) (record { before = w.written.before; number = refl; seen = w.written.added })
+    rw (← c.self.view_is, ← c.seat.view_is, c.again.ensures)
+    (record { before = w.written.before; number = refl; seen = w.written.added })
 
 pub returns-clause-seen : goal.returns-clause-seen
-returns-clause-seen g c = seal g.C.Course.may g.J.Naming.book (entries_of c.write-self-inside.new.whole.log) c.write-self-inside.ensures.written.legal.history
+returns-clause-seen g c =
+    seal g.C.Course.may g.J.Naming.book
+    (entries_of c.write-self-inside.new.whole.log) c.write-self-inside.ensures.written.legal.history

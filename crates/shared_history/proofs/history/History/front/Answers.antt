@@ -3,4 +3,6 @@ use Rattle.shared_history.specs.Seal.{seal}
 use Rattle.shared_history.proofs.history.History.front.Goals as goal
 
 pub returns-clause-seen : goal.returns-clause-seen
-returns-clause-seen g c = rw c.again.ensures (seal g.C.Course.may g.J.Naming.book (entries_of c.self.inside.seen.log) c.self.invariant.1.legal.history)
+returns-clause-seen g c =
+    rw c.again.ensures
+    (seal g.C.Course.may g.J.Naming.book (entries_of c.self.inside.seen.log) c.self.invariant.1.legal.history)

@@ -9,7 +9,8 @@ use Rattle.shared_history.proofs.history.History.split.Goals as goal
 
 pub write-self-inside-requires-clause-allowed : goal.write-self-inside-requires-clause-allowed
 write-self-inside-requires-clause-allowed g c =
-    may_split g.C.Course.may (entries_of c.self.inside.seen.log) (deed_of c.ask_to_split.result) c.self.invariant.1.legal.history c.ask_to_split.ensures
+    may_split g.C.Course.may (entries_of c.self.inside.seen.log)
+    (deed_of c.ask_to_split.result) c.self.invariant.1.legal.history c.ask_to_split.ensures
 
 pub invariant_of-seat : goal.invariant_of-seat
 invariant_of-seat g c =
@@ -50,4 +51,6 @@ returns-clause-splits g c =
     })
 
 pub returns-clause-seen : goal.returns-clause-seen
-returns-clause-seen g c = seal g.C.Course.may g.J.Naming.book (entries_of c.write-self-inside.new.whole.log) c.write-self-inside.ensures.written.legal.history
+returns-clause-seen g c =
+    seal g.C.Course.may g.J.Naming.book
+    (entries_of c.write-self-inside.new.whole.log) c.write-self-inside.ensures.written.legal.history
