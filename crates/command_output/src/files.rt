@@ -120,7 +120,11 @@ fn is_of_mappings(name: &str) -> bool {
 }
 
 // The line on what can't be read as a file, if it can't: it is no regular file, or a link to nothing.
-fn passed_over_for(rt: &HostRuntime, alloc: Global, path: &str) -> Result<Option<String>, AllocError> {
+fn passed_over_for(
+    rt: &HostRuntime,
+    alloc: Global,
+    path: &str,
+) -> Result<Option<String>, AllocError> {
     match fs::metadata(rt, path) {
         Ok(metadata) if metadata.is_file() => Ok(None),
         Ok(_metadata) => Ok(Some(line_on(alloc, path, "it is no regular file")?)),
@@ -134,12 +138,20 @@ fn passed_over_for(rt: &HostRuntime, alloc: Global, path: &str) -> Result<Option
 fn line_of_unreadable_name(alloc: Global, folder: &str) -> Result<String, AllocError> {
     joined_texts(
         alloc,
-        ["warning: in ", folder, " a file is passed over: its name isn't UTF-8\n"].as_slice(),
+        [
+            "warning: in ",
+            folder,
+            " a file is passed over: its name isn't UTF-8\n",
+        ]
+        .as_slice(),
     )
 }
 
 fn line_on(alloc: Global, path: &str, why: &str) -> Result<String, AllocError> {
-    joined_texts(alloc, ["warning: ", path, " is passed over: ", why, "\n"].as_slice())
+    joined_texts(
+        alloc,
+        ["warning: ", path, " is passed over: ", why, "\n"].as_slice(),
+    )
 }
 
 fn joined_texts(alloc: Global, texts: &[&str]) -> Result<String, AllocError> {

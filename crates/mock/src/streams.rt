@@ -1,9 +1,8 @@
 // The standard streams of the process, as the program writes to them.
 ghost use Rattle.std.specs.Prelude.{◌≡◌};
 
-use std::io;
 use std::io::Write;
-use std::str;
+use std::{io, str};
 
 /// Standard output, with the first reason why it didn't take something.
 #[derive(Drop)]

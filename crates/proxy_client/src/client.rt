@@ -114,7 +114,12 @@ impl<R: Clock + Net + AllocGlobal + Copy + Drop> Client<R> {
             × (start.builder ≡ self.now.builder)
             × (start.turns ≡ self.now.turns)) }
     {
-        self.exchange(handle, self.start(handle, address_of(target)), target, request)
+        self.exchange(
+            handle,
+            self.start(handle, address_of(target)),
+            target,
+            request,
+        )
     }
 
     /// Begins to connect to the address.

@@ -36,7 +36,8 @@ impl Failure {
                 "the connection ended before the whole reply had come, or its content isn't well formed"
             }
             Failure::NotHttp => "what came is no well-formed reply of HTTP/1",
-            Failure::OtherCoding => "the reply's content is in a transfer coding that can't be read",
+            Failure::OtherCoding =>
+                "the reply's content is in a transfer coding that can't be read",
             Failure::TooLong => "the reply is too long",
             Failure::Silent => "the target took and gave nothing for too long",
         }
