@@ -10,7 +10,7 @@ use Rattle.stub_book.specs.declared.error.BookError.{BookError}
 
 pub not_changed
     : (origin : Past) (old new : Held) (asked : BookInput) (lower : BookError) (error : SharedError)
-    → new ≡ old → IsRefused origin asked lower.code → error ≡ record { code = lower.code }
+    → IsRefused origin old new asked lower.code → error ≡ record { code = lower.code }
     → IsNotChanged origin old new asked error.code
-not_changed origin old new asked lower error same why e =
-    inl (same, subst (λ x. IsRefused origin asked x) (sym (ap (λ x. x.code) e)) why)
+not_changed origin old new asked lower error why e =
+    inl (subst (IsRefused origin old new asked) (sym (ap (λ x. x.code) e)) why)

@@ -30,18 +30,18 @@ use Rattle.request_match.specs.Matching.{MeetsRequest}
 use Rattle.scenario_core.specs.Scenarios.{States, state_of}
 use Rattle.serde_json.specs.Data.{object, no_members}
 use Rattle.shared_book.specs.Held.{Gained, Held}
-use Rattle.shared_book.specs.Reached.{IsReached}
-use Rattle.shared_book.specs.Receipts.{IsReceipt}
+use Rattle.shared_book.specs.Reached.{InPastOf}
 use Rattle.shared_book.specs.Refused.{IsRefused}
+use Rattle.shared_book.specs.Seen.{Enters, HasCaughtUp}
 use Rattle.shared_book.specs.declared.receipt.Receipt.{Receipt}
 
 -- ---- changes
 
--- the seat has gained the receipt of what was asked for
+-- what was asked for is the seat's next call in the one history, and the seat has gained its receipt
 pub record Gains (origin : Past) (old new : Held) (asked : BookInput) (receipt : Receipt) : Type 0 where
   pub gained : Gained origin old receipt new
   pub is_asked : IsAsked asked receipt.event
-  pub is_receipt : IsReceipt origin receipt
+  pub entered : Enters origin old new receipt
 
 -- the mapping as it is after the event, and 201 where it is a new one; what was recorded, where the event stops a
 -- recording; `{}` with any other event
@@ -56,18 +56,13 @@ abbrev pub IsChanged : Past → Held → Held → BookInput → Reply → Type 0
 IsChanged origin old new asked reply =
     (receipt : Receipt) × Gains origin old new asked receipt × IsEventReply receipt.event reply
 
--- the change was refused, and the seat is as before; or memory ran out while the answer was written, and the change
--- stands
+-- the change was refused; or memory ran out while the answer was written, and the change stands
 abbrev pub IsNotChanged : Past → Held → Held → BookInput → ErrorCode → Type 0
 IsNotChanged origin old new asked reason =
-    ((new ≡ old) × IsRefused origin asked reason)
+    IsRefused origin old new asked reason
     ⊎ ((reason ≡ code.OutOfMemory) × ((receipt : Receipt) × Gains origin old new asked receipt))
 
 -- ---- readings
-
--- the fact holds of a past that was reached
-abbrev pub InPast : Past → (Past → Type 0) → Type 0
-InPast origin P = (past : Past) × IsReached origin past × P past
 
 -- the mapping, where there is one
 abbrev pub IsHeldReply : Option Mapping → Reply → Type 0
@@ -99,8 +94,8 @@ IsReadReply other reply past = ⊥
 
 -- ---- calls
 
--- the call was answered: what it changed, or read, is that of the one history, and the seat has one more receipt
--- exactly where it changed something
+-- the call was answered: what it changed is the seat's next call in the one history, and what it read is what the
+-- history says then, which makes no entry
 abbrev pub IsAnswered : Past → Held → Held → AdminCall → Reply → Type 0
 IsAnswered origin old new (call.AddMapping mapping) reply = IsChanged origin old new (input.Add mapping) reply
 IsAnswered origin old new (call.EditMapping id mapping) reply = IsChanged origin old new (input.Edit id mapping) reply
@@ -115,7 +110,7 @@ IsAnswered origin old new (call.SetScenario name state) reply =
 IsAnswered origin old new (call.StartRecording start) reply =
     IsChanged origin old new (input.StartRecording start.target start.captured start.repeats) reply
 IsAnswered origin old new call.StopRecording reply = IsChanged origin old new input.StopRecording reply
-IsAnswered origin old new read reply = (new ≡ old) × InPast origin (IsReadReply read reply)
+IsAnswered origin old new read reply = HasCaughtUp origin old new × InPastOf origin new.seen (IsReadReply read reply)
 
 -- why the call has no answer, and what it left
 abbrev pub IsNotAnswered : Past → Held → Held → AdminCall → ErrorCode → Type 0
@@ -134,10 +129,10 @@ IsNotAnswered origin old new (call.StartRecording start) reason =
     IsNotChanged origin old new (input.StartRecording start.target start.captured start.repeats) reason
 IsNotAnswered origin old new call.StopRecording reason = IsNotChanged origin old new input.StopRecording reason
 IsNotAnswered origin old new (call.ReadMapping id) reason =
-    (new ≡ old)
+    HasCaughtUp origin old new
     × ((reason ≡ code.OutOfMemory)
-    ⊎ ((reason ≡ code.UnknownMapping) × InPast origin (λ past. ¬ (IsLive past id))))
+    ⊎ ((reason ≡ code.UnknownMapping) × InPastOf origin new.seen (λ past. ¬ (IsLive past id))))
 IsNotAnswered origin old new call.ReadRecordingHar reason =
-    (new ≡ old) × ((reason ≡ code.OutOfMemory)
-    ⊎ InPast origin (λ past. HasNoHar (session_of (recording past)) reason))
-IsNotAnswered origin old new read reason = (new ≡ old) × (reason ≡ code.OutOfMemory)
+    HasCaughtUp origin old new × ((reason ≡ code.OutOfMemory)
+    ⊎ InPastOf origin new.seen (λ past. HasNoHar (session_of (recording past)) reason))
+IsNotAnswered origin old new read reason = HasCaughtUp origin old new × (reason ≡ code.OutOfMemory)

@@ -2,7 +2,7 @@
 // lock was let go.
 ghost use Rattle.std.specs.Prelude.{◌≡◌, ◌⊎◌, ◌+◌, ◌<◌, ℕ, List, IfErr, IfOk, Some};
 ghost use Rattle.std.specs.List.{AllByRecursion};
-ghost use Rattle.admin_answers.specs.Answers.{InPast, IsReadReply};
+ghost use Rattle.admin_answers.specs.Answers.{IsReadReply};
 ghost use Rattle.admin_answers.specs.JsonReply.{IsJsonReply};
 ghost use Rattle.admin_answers.specs.Recordings.{HasNoHar, IsHarReply};
 ghost use Rattle.admin_json.specs.Mappings.{json_of_mappings};
@@ -16,6 +16,8 @@ ghost use Rattle.request_journal.specs.Recording.{recording};
 ghost use Rattle.request_journal.specs.declared.entry.Entry.{Entry};
 ghost use Rattle.request_match.specs.Matching.{MeetsRequest};
 ghost use Rattle.stub_response.specs.ErrorReply.{json_reply};
+ghost use Rattle.shared_book.specs.Reached.{InPastOf};
+ghost use Rattle.shared_book.specs.Seen.{HasCaughtUp};
 
 use crate::error::SharedError;
 use admin_listing::listing::Listing;
@@ -35,10 +37,11 @@ pub(crate) fn list_mappings<L: Origin, R: Wait>(
     rt: &R,
     alloc: Global,
     shared: &SharedBook<L>,
-    seat: &Seat<L>,
+    seat: &mut Seat<L>,
 ) -> Result<Listing, AllocError>
-    ensures { IfOk result (λ listing.
-        InPast L.origin (IsReadReply call.ListMappings (json_reply 200 listing))) }
+    ensures seen { HasCaughtUp L.origin seat.old seat.new }
+    ensures ok { IfOk result (λ listing.
+        InPastOf L.origin seat.new.seen (IsReadReply call.ListMappings (json_reply 200 listing))) }
 {
     let reading = seat.read(rt, shared, BookRead::Mappings)?;
     match &reading.answer {
@@ -51,10 +54,11 @@ pub(crate) fn list_requests<L: Origin, R: Wait>(
     rt: &R,
     alloc: Global,
     shared: &SharedBook<L>,
-    seat: &Seat<L>,
+    seat: &mut Seat<L>,
 ) -> Result<Listing, AllocError>
-    ensures { IfOk result (λ listing.
-        InPast L.origin (IsReadReply call.ListRequests (json_reply 200 listing))) }
+    ensures seen { HasCaughtUp L.origin seat.old seat.new }
+    ensures ok { IfOk result (λ listing.
+        InPastOf L.origin seat.new.seen (IsReadReply call.ListRequests (json_reply 200 listing))) }
 {
     let reading = seat.read(rt, shared, BookRead::Requests)?;
     let last = reading.number;
@@ -68,10 +72,11 @@ pub(crate) fn list_unmatched<L: Origin, R: Wait>(
     rt: &R,
     alloc: Global,
     shared: &SharedBook<L>,
-    seat: &Seat<L>,
+    seat: &mut Seat<L>,
 ) -> Result<Listing, AllocError>
-    ensures { IfOk result (λ listing.
-        InPast L.origin (IsReadReply call.ListUnmatched (json_reply 200 listing))) }
+    ensures seen { HasCaughtUp L.origin seat.old seat.new }
+    ensures ok { IfOk result (λ listing.
+        InPastOf L.origin seat.new.seen (IsReadReply call.ListUnmatched (json_reply 200 listing))) }
 {
     let reading = seat.read(rt, shared, BookRead::Unmatched)?;
     let last = reading.number;
@@ -85,11 +90,12 @@ pub(crate) fn find_requests<L: Origin, R: Wait>(
     rt: &R,
     alloc: Global,
     shared: &SharedBook<L>,
-    seat: &Seat<L>,
+    seat: &mut Seat<L>,
     matcher: RequestMatcher,
 ) -> Result<Listing, AllocError>
-    ensures { IfOk result (λ listing.
-        InPast L.origin (IsReadReply (call.FindRequests matcher) (json_reply 200 listing))) }
+    ensures seen { HasCaughtUp L.origin seat.old seat.new }
+    ensures ok { IfOk result (λ listing.
+        InPastOf L.origin seat.new.seen (IsReadReply (call.FindRequests matcher) (json_reply 200 listing))) }
 {
     let reading = seat.read(rt, shared, BookRead::Requests)?;
     let last = reading.number;
@@ -103,11 +109,12 @@ pub(crate) fn count_requests<L: Origin, R: Wait>(
     rt: &R,
     alloc: Global,
     shared: &SharedBook<L>,
-    seat: &Seat<L>,
+    seat: &mut Seat<L>,
     matcher: RequestMatcher,
 ) -> Result<Listing, AllocError>
-    ensures { IfOk result (λ listing.
-        InPast L.origin (IsReadReply (call.CountRequests matcher) (json_reply 200 listing))) }
+    ensures seen { HasCaughtUp L.origin seat.old seat.new }
+    ensures ok { IfOk result (λ listing.
+        InPastOf L.origin seat.new.seen (IsReadReply (call.CountRequests matcher) (json_reply 200 listing))) }
 {
     let reading = seat.read(rt, shared, BookRead::Requests)?;
     match reading.answer {
@@ -120,12 +127,13 @@ pub(crate) fn read_recording_har<L: Origin, R: Wait>(
     rt: &R,
     alloc: Global,
     shared: &SharedBook<L>,
-    seat: &Seat<L>,
+    seat: &mut Seat<L>,
 ) -> Result<Listing, SharedError>
+    ensures seen { HasCaughtUp L.origin seat.old seat.new }
     ensures ok { IfOk result (λ listing.
-        InPast L.origin (IsReadReply call.ReadRecordingHar (json_reply 200 listing))) }
+        InPastOf L.origin seat.new.seen (IsReadReply call.ReadRecordingHar (json_reply 200 listing))) }
     ensures refused { IfErr result (λ error. (error.code ≡ code.OutOfMemory)
-        ⊎ InPast L.origin (λ past. HasNoHar (session_of (recording past)) error.code)) }
+        ⊎ InPastOf L.origin seat.new.seen (λ past. HasNoHar (session_of (recording past)) error.code)) }
 {
     let reading = seat.read(rt, shared, BookRead::Recording)?;
     match &reading.answer {

@@ -1,6 +1,6 @@
 // Calls that read the book. The JSON is written after the lock was let go.
 ghost use Rattle.std.specs.Prelude.{◌≡◌, ◌⊎◌, IfErr, IfOk, None, Some};
-ghost use Rattle.admin_answers.specs.Answers.{InPast, IsHeldReply, IsReadReply};
+ghost use Rattle.admin_answers.specs.Answers.{IsHeldReply, IsReadReply};
 ghost use Rattle.admin_answers.specs.JsonReply.{IsJsonReply};
 ghost use Rattle.admin_json.specs.Mappings.{json_of_held};
 ghost use Rattle.admin_json.specs.Recordings.{json_of_status};
@@ -8,6 +8,8 @@ ghost use Rattle.admin_json.specs.Scenarios.{json_of_scenarios};
 ghost use Rattle.admin_routes.specs.declared.call.AdminCall.TheVariants as call;
 ghost use Rattle.error_code.specs.declared.error_code.ErrorCode.TheVariants as code;
 ghost use Rattle.request_journal.specs.Legal.{IsLive};
+ghost use Rattle.shared_book.specs.Reached.{InPastOf};
+ghost use Rattle.shared_book.specs.Seen.{HasCaughtUp};
 
 use crate::error::SharedError;
 use crate::json_reply::value_reply;
@@ -31,12 +33,13 @@ pub(crate) fn read_mapping<L: Origin, R: Wait>(
     rt: &R,
     alloc: Global,
     shared: &SharedBook<L>,
-    seat: &Seat<L>,
+    seat: &mut Seat<L>,
     id: MappingId,
 ) -> Result<Reply, SharedError>
-    ensures ok { IfOk result (λ reply. InPast L.origin (IsReadReply (call.ReadMapping id) reply)) }
+    ensures seen { HasCaughtUp L.origin seat.old seat.new }
+    ensures ok { IfOk result (λ reply. InPastOf L.origin seat.new.seen (IsReadReply (call.ReadMapping id) reply)) }
     ensures refused { IfErr result (λ error. (error.code ≡ code.OutOfMemory)
-        ⊎ ((error.code ≡ code.UnknownMapping) × InPast L.origin (λ past. ¬ (IsLive past id)))) }
+        ⊎ ((error.code ≡ code.UnknownMapping) × InPastOf L.origin seat.new.seen (λ past. ¬ (IsLive past id)))) }
 {
     let reading = seat.read(rt, shared, BookRead::Mapping(id))?;
     match &reading.answer {
@@ -49,9 +52,10 @@ pub(crate) fn list_scenarios<L: Origin, R: Wait>(
     rt: &R,
     alloc: Global,
     shared: &SharedBook<L>,
-    seat: &Seat<L>,
+    seat: &mut Seat<L>,
 ) -> Result<Reply, AllocError>
-    ensures { IfOk result (λ reply. InPast L.origin (IsReadReply call.ListScenarios reply)) }
+    ensures seen { HasCaughtUp L.origin seat.old seat.new }
+    ensures ok { IfOk result (λ reply. InPastOf L.origin seat.new.seen (IsReadReply call.ListScenarios reply)) }
 {
     let reading = seat.read(rt, shared, BookRead::Scenarios)?;
     match &reading.answer {
@@ -66,9 +70,10 @@ pub(crate) fn read_recording_status<L: Origin, R: Wait>(
     rt: &R,
     alloc: Global,
     shared: &SharedBook<L>,
-    seat: &Seat<L>,
+    seat: &mut Seat<L>,
 ) -> Result<Reply, AllocError>
-    ensures { IfOk result (λ reply. InPast L.origin (IsReadReply call.ReadRecordingStatus reply)) }
+    ensures seen { HasCaughtUp L.origin seat.old seat.new }
+    ensures ok { IfOk result (λ reply. InPastOf L.origin seat.new.seen (IsReadReply call.ReadRecordingStatus reply)) }
 {
     let reading = seat.read(rt, shared, BookRead::RecordingStatus)?;
     match &reading.answer {

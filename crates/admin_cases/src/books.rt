@@ -1,6 +1,7 @@
 //! Calls on a shared book. A row gives the number that the book is opened with, its default mappings (a document, or
 //! nothing), and the calls.
-ghost use Rattle.std.specs.Prelude.{◌≡◌, ◌<◌};
+ghost use Rattle.std.specs.Prelude.{◌≡◌, ◌<◌, ◌∷◌, []};
+ghost use Rattle.shared_history.specs.Entries.{opening};
 
 use crate::mappings::mappings_of;
 use crate::paths::add_paths;
@@ -9,9 +10,10 @@ use crate::server::{add_reply, reply_to};
 use crate::upstream::add_record;
 use case_table::cells::Cells;
 use case_table::row::Row;
+use shared_book::history::OpenedHistory;
 use shared_book::origin::Origin;
 use shared_book::seat::Seat;
-use shared_book::shared_book::SharedBook;
+use shared_book::shared_book::{SharedBook, open_history};
 use std::alloc::{AllocError, Global};
 use std::marker::Brand;
 use std::sync::Wait;
@@ -29,7 +31,9 @@ pub fn answer<R: Wait>(
     has_paths: bool,
 ) -> Result<String, AllocError> {
     let book = book_of(alloc, row)?;
-    play::<Brand, R>(rt, alloc, Blank::new(PARTS), PARTS, book, row, has_paths)
+    let opened = open_history(rt, &book);
+    let blank = Blank::new(PARTS);
+    play::<Brand, R>(rt, alloc, blank, PARTS, opened, book, row, has_paths)
 }
 
 // No book is refused.
@@ -44,6 +48,7 @@ fn play<L: Origin, R: Wait>(
     alloc: Global,
     blank: Blank,
     parts: u64,
+    opened: OpenedHistory,
     book: Book,
     row: &Row,
     has_paths: bool,
@@ -52,9 +57,11 @@ fn play<L: Origin, R: Wait>(
     requires ledger { blank.parts ≡ L.parts }
     requires parts { parts ≡ L.parts }
     requires some { 0 < parts }
+    requires history { opened.0 ≡ L.book }
+    requires opened { opened.1 ≡ opening book ∷ [] }
     requires origin { book ≡ L.origin }
 {
-    let (shared, seat) = SharedBook::<L>::new(alloc, blank, parts, book)?;
+    let (shared, seat) = SharedBook::<L>::new(alloc, blank, parts, opened, book)?;
     let mut seat = seat;
     let mut cells = Cells::new(alloc);
     if has_paths {

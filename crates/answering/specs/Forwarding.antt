@@ -25,6 +25,7 @@ use Rattle.request_journal.specs.declared.input.BookInput.{BookInput}
 use Rattle.request_journal.specs.declared.input.BookInput.TheVariants as input
 use Rattle.shared_book.specs.Held.{Held}
 use Rattle.shared_book.specs.Refused.{IsRefused}
+use Rattle.shared_book.specs.Seen.{HasCaughtUp}
 use Rattle.shared_book.specs.declared.receipt.Receipt.{Receipt}
 use Rattle.stub_response.specs.ErrorReply.{error_reply}
 
@@ -61,13 +62,17 @@ is_not_taken other = false
 abbrev pub reply_unrecorded : Reply → ErrorCode → Reply
 reply_unrecorded sent reason = if is_not_taken reason then sent else error_reply 503 reason
 
--- the reply that came is sent, and the seat has gained the receipt of its record; or nothing is recorded, and the seat
--- is as before
+-- the seat has made no call: it is as it was, or has caught up with the history
+abbrev pub HasMadeNoCall : Past → Held → Held → Type 0
+HasMadeNoCall origin old new = (new ≡ old) ⊎ HasCaughtUp origin old new
+
+-- the reply that came is sent, and its record is the seat's next call in the one history; or the book refused the
+-- record; or memory ran out, and nothing is recorded
 abbrev pub IsRecordReply : Past → Held → Held → BookInput → Reply → Reply → Type 0
 IsRecordReply origin old new asked sent reply =
     ((reply ≡ sent) × ((receipt : Receipt) × Gains origin old new asked receipt))
-    ⊎ ((new ≡ old) × ((reason : ErrorCode) × IsRefused origin asked reason
-    × (reply ≡ reply_unrecorded sent reason)))
+    ⊎ (((reason : ErrorCode) × IsRefused origin old new asked reason × (reply ≡ reply_unrecorded sent reason))
+    ⊎ (HasMadeNoCall origin old new × (reply ≡ error_reply 503 code.OutOfMemory)))
 
 -- the reply to the client where the target gave none
 abbrev pub failure_reply : ProxyError → Reply

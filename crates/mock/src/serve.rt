@@ -1,5 +1,6 @@
 // The server of a book.
-ghost use Rattle.std.specs.Prelude.{◌≡◌, ◌<◌, ◌≤◌};
+ghost use Rattle.std.specs.Prelude.{◌≡◌, ◌<◌, ◌≤◌, ◌∷◌, []};
+ghost use Rattle.shared_history.specs.Entries.{opening};
 
 use crate::arguments::ServeArguments;
 use crate::book::book_of;
@@ -22,9 +23,10 @@ use request_log::lines::Lines;
 use request_log::request_log::RequestLog;
 use request_log::start::start;
 use shared_book::gate::NoGate;
+use shared_book::history::OpenedHistory;
 use shared_book::origin::Origin;
 use shared_book::seat::Seat;
-use shared_book::shared_book::SharedBook;
+use shared_book::shared_book::{SharedBook, open_history};
 use std::alloc::{AllocError, AllocGlobal, Global};
 use std::io;
 use std::io::{ErrorKind, Write};
@@ -78,8 +80,9 @@ where
     match log_to(rt, arguments, log) {
         Ok((lines, log)) => {
             let blank = Blank::new(PARTS);
+            let opened = open_history(&rt, &book);
             let status = serve_book::<Brand, R, O, E>(
-                rt, blank, PARTS, book, arguments, log, out, err,
+                rt, blank, PARTS, opened, book, arguments, log, out, err,
             );
             lines.close(&rt, Duration::from_secs(LOG_SECONDS));
             status
@@ -107,6 +110,7 @@ fn serve_book<L, R, O, E>(
     rt: R,
     blank: Blank,
     parts: u64,
+    opened: OpenedHistory,
     book: Book,
     arguments: ServeArguments<'_>,
     log: ServerLog,
@@ -122,10 +126,12 @@ where
     requires ledger { blank.parts ≡ L.parts }
     requires parts { parts ≡ L.parts }
     requires some { 0 < parts }
+    requires history { opened.0 ≡ L.book }
+    requires opened { opened.1 ≡ opening book ∷ [] }
     requires origin { book ≡ L.origin }
     ensures { result ≤ 1 }
 {
-    match SharedBook::<L>::new(rt.alloc(), blank, parts, book) {
+    match SharedBook::<L>::new(rt.alloc(), blank, parts, opened, book) {
         Ok((book, seat)) => serve_shared(rt, book, seat, arguments, log, out, err),
         Err(_error) => out_of_memory(err),
     }

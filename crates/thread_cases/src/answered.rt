@@ -25,7 +25,7 @@ pub fn answered<L: Origin + Send + Sync, R: Threads + Wait + Sync>(
     requires { 2 ≤ seat.parts }
 {
     let mut one = seat;
-    let two = one.split();
+    let two = one.split(rt, &shared);
     let site = site_of(shared);
     let ((one, first), (two, second)) = both_answer(
         rt,
@@ -44,6 +44,7 @@ pub fn answered<L: Origin + Send + Sync, R: Threads + Wait + Sync>(
     add_number(cells, site.gate.told());
     cells.add("; ");
     let mut seat = one;
-    calls::join(&mut seat, two);
-    settle_seat(rt, alloc, cells, book_of(site)?, seat)
+    let shared = book_of(site)?;
+    calls::join(rt, &shared, &mut seat, two);
+    settle_seat(rt, alloc, cells, shared, seat)
 }

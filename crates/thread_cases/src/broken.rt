@@ -1,5 +1,6 @@
 //! Connections whose peer goes away, or fails, at each place in turn.
-ghost use Rattle.std.specs.Prelude.{◌≡◌, ◌<◌};
+ghost use Rattle.std.specs.Prelude.{◌≡◌, ◌<◌, ◌∷◌, []};
+ghost use Rattle.shared_history.specs.Entries.{opening};
 
 use crate::calls;
 use crate::no_clock::NoClock;
@@ -13,9 +14,10 @@ use hyper_service::serve_io::serve_io;
 use hyper_service::site_answers::SiteAnswers;
 use proxy_client::scripted_io::{Script, ScriptedIo};
 use shared_book::gate::NoGate;
+use shared_book::history::OpenedHistory;
 use shared_book::origin::Origin;
 use shared_book::seat::Seat;
-use shared_book::shared_book::SharedBook;
+use shared_book::shared_book::{SharedBook, open_history};
 use std::alloc::{AllocError, AllocGlobal, Global};
 use std::marker::Brand;
 use std::random::RandomSource;
@@ -244,6 +246,7 @@ where
     R: Wait + Clock + RandomSource + AllocGlobal + Copy + Drop,
 {
     let book = book(alloc)?;
+    let opened = open_history(rt, &book);
     serve_over::<Brand, R>(
         rt,
         alloc,
@@ -252,6 +255,7 @@ where
         index,
         Blank::new(PARTS),
         PARTS,
+        opened,
         book,
     )
 }
@@ -272,6 +276,7 @@ fn serve_over<L: Origin, R>(
     index: usize,
     blank: Blank,
     parts: u64,
+    opened: OpenedHistory,
     book: Book,
 ) -> Result<Left, AllocError>
 where
@@ -280,9 +285,11 @@ where
     requires ledger { blank.parts ≡ L.parts }
     requires parts { parts ≡ L.parts }
     requires some { 0 < parts }
+    requires history { opened.0 ≡ L.book }
+    requires opened { opened.1 ≡ opening book ∷ [] }
     requires origin { book ≡ L.origin }
 {
-    let (shared, seat) = SharedBook::<L>::new(alloc, blank, parts, book)?;
+    let (shared, seat) = SharedBook::<L>::new(alloc, blank, parts, opened, book)?;
     let answers = answers_of(alloc, shared.try_clone()?, peer.turns(index))?;
     let input = Bytes::copy_from_slice(alloc, peer.input(index))?;
     let io = ScriptedIo::new(alloc, input, peer.script(index))?;

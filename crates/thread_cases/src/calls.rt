@@ -84,7 +84,7 @@ pub fn read<L: Origin, R: Wait>(
     rt: &R,
     alloc: Global,
     shared: &SharedBook<L>,
-    seat: &Seat<L>,
+    seat: &mut Seat<L>,
     asked: Asked,
 ) -> Result<Reading, AllocError> {
     match read_once(rt, alloc, shared, seat, asked) {
@@ -97,7 +97,7 @@ fn read_once<L: Origin, R: Wait>(
     rt: &R,
     alloc: Global,
     shared: &SharedBook<L>,
-    seat: &Seat<L>,
+    seat: &mut Seat<L>,
     asked: Asked,
 ) -> Result<Reading, AllocError> {
     seat.read(rt, shared, question(alloc, asked)?)
@@ -124,9 +124,14 @@ fn any_request(alloc: Global) -> Result<RequestMatcher, AllocError> {
     matcher.ok().ok_or(AllocError)
 }
 
-pub fn join<L: Origin>(seat: &mut Seat<L>, other: Seat<L>) {
-    if let Err(other) = seat.join(other) {
-        let _joined = seat.join(other);
+pub fn join<L: Origin, R: Wait>(
+    rt: &R,
+    shared: &SharedBook<L>,
+    seat: &mut Seat<L>,
+    other: Seat<L>,
+) {
+    if let Err(other) = seat.join(rt, shared, other) {
+        let _joined = seat.join(rt, shared, other);
     }
 }
 

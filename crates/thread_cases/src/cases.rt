@@ -1,5 +1,6 @@
 //! Calls and messages of one and two threads over shared books: what each case shows, in words.
-ghost use Rattle.std.specs.Prelude.{◌≡◌, ◌≤◌};
+ghost use Rattle.std.specs.Prelude.{◌≡◌, ◌≤◌, ◌∷◌, []};
+ghost use Rattle.shared_history.specs.Entries.{opening};
 
 use crate::answered::answered;
 use crate::books;
@@ -11,9 +12,10 @@ use crate::scripts::scripts;
 use crate::two_threads::two_threads;
 use crate::versions::versions;
 use case_table::cells::Cells;
+use shared_book::history::OpenedHistory;
 use shared_book::origin::Origin;
 use shared_book::seat::Seat;
-use shared_book::shared_book::SharedBook;
+use shared_book::shared_book::{SharedBook, open_history};
 use std::alloc::{AllocError, Global};
 use std::marker::Brand;
 use std::sync::Wait;
@@ -66,7 +68,9 @@ pub fn play<R: Threads + Wait + Sync>(
     case: Case,
 ) -> Result<String, AllocError> {
     let book = books::book(alloc, case.opening())?;
-    play_on::<Brand, R>(rt, alloc, case, Blank::new(PARTS), PARTS, book)
+    let opened = open_history(rt, &book);
+    let blank = Blank::new(PARTS);
+    play_on::<Brand, R>(rt, alloc, case, blank, PARTS, opened, book)
 }
 
 fn play_on<L: Origin + Send + Sync, R: Threads + Wait + Sync>(
@@ -75,15 +79,18 @@ fn play_on<L: Origin + Send + Sync, R: Threads + Wait + Sync>(
     case: Case,
     blank: Blank,
     parts: u64,
+    opened: OpenedHistory,
     book: Book,
 ) -> Result<String, AllocError>
     requires name { blank.name ≡ L.name }
     requires ledger { blank.parts ≡ L.parts }
     requires parts { parts ≡ L.parts }
     requires some { 3 ≤ parts }
+    requires history { opened.0 ≡ L.book }
+    requires opened { opened.1 ≡ opening book ∷ [] }
     requires origin { book ≡ L.origin }
 {
-    let (shared, seat) = SharedBook::<L>::new(alloc, blank, parts, book)?;
+    let (shared, seat) = SharedBook::<L>::new(alloc, blank, parts, opened, book)?;
     let mut cells = Cells::new(alloc);
     cells.add(case.name());
     play_case(rt, alloc, case, &mut cells, shared, seat)?;

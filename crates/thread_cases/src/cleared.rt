@@ -22,7 +22,7 @@ pub fn cleared<L: Origin, R: Wait>(
 ) -> Result<(), AllocError> {
     let mut seat = seat;
     change(rt, alloc, &shared, &mut seat);
-    read_all(rt, alloc, cells, &shared, &seat)?;
+    read_all(rt, alloc, cells, &shared, &mut seat)?;
     settle_seat(rt, alloc, cells, shared, seat)
 }
 
@@ -39,7 +39,7 @@ fn read_all<L: Origin, R: Wait>(
     alloc: Global,
     cells: &mut Cells,
     shared: &SharedBook<L>,
-    seat: &Seat<L>,
+    seat: &mut Seat<L>,
 ) -> Result<(), AllocError> {
     for asked in [
         Asked::Mappings,

@@ -30,8 +30,8 @@ pub fn counted<L: Origin + Send + Sync, R: Threads + Wait + Sync>(
     requires { 3 ≤ seat.parts }
 {
     let mut one = seat;
-    let two = one.split();
-    let three = one.split();
+    let two = one.split(rt, &shared);
+    let three = one.split(rt, &shared);
     let site = site_of(shared);
     let ((one, first), (two, second)) = both_answer(
         rt,
@@ -64,9 +64,9 @@ fn settle_all<L: Origin, R: Wait>(
 ) -> Result<(), AllocError> {
     let [one, two, three] = seats;
     let mut two = two;
-    calls::join(&mut two, three);
+    calls::join(rt, &shared, &mut two, three);
     let mut one = one;
-    calls::join(&mut one, two);
+    calls::join(rt, &shared, &mut one, two);
     let seats = calls::list(alloc, one)?;
     match calls::settled(rt, alloc, shared, seats) {
         Ok(settled) => {

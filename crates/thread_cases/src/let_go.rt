@@ -24,12 +24,12 @@ pub fn let_go<L: Origin, R: Wait>(
     requires { 3 ≤ seat.parts }
 {
     let mut first = seat;
-    let mut second = first.split();
-    let mut third = first.split();
+    let mut second = first.split(rt, &shared);
+    let mut third = first.split(rt, &shared);
     calls::serve(rt, alloc, &shared, &mut first);
     calls::serve(rt, alloc, &shared, &mut second);
     calls::serve(rt, alloc, &shared, &mut third);
-    calls::join(&mut first, second);
+    calls::join(rt, &shared, &mut first, second);
     calls::apply(rt, alloc, &shared, &mut first, Change::Clear);
     add_number(cells, first.receipts().len() as u64);
     cells.add(" held by the first; ");

@@ -24,7 +24,7 @@ pub fn add_read<L: Origin, R: Wait>(
     alloc: Global,
     cells: &mut Cells,
     shared: &SharedBook<L>,
-    seat: &Seat<L>,
+    seat: &mut Seat<L>,
     asked: Asked,
 ) -> Result<(), AllocError> {
     let reading = calls::read(rt, alloc, shared, seat, asked)?;

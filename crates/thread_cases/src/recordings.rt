@@ -1,14 +1,16 @@
 //! Recordings over a shared book, whose target is a server on another thread: what each case shows, in words.
-ghost use Rattle.std.specs.Prelude.{◌≡◌, ◌≤◌};
+ghost use Rattle.std.specs.Prelude.{◌≡◌, ◌≤◌, ◌∷◌, []};
+ghost use Rattle.shared_history.specs.Entries.{opening};
 
 use crate::books;
 use crate::recorded::recorded;
 use crate::recording_clocks::Change;
 use crate::unrecorded::{failed, full, late};
 use case_table::cells::Cells;
+use shared_book::history::OpenedHistory;
 use shared_book::origin::Origin;
 use shared_book::seat::Seat;
-use shared_book::shared_book::SharedBook;
+use shared_book::shared_book::{SharedBook, open_history};
 use std::alloc::{AllocError, AllocGlobal};
 use std::marker::Brand;
 use std::net::{Net, TcpListener, TcpStream};
@@ -81,7 +83,8 @@ where
         + Drop,
 {
     let book = books::book(rt.alloc(), case.opening())?;
-    play_on::<Brand, R>(rt, case, Blank::new(PARTS), PARTS, book)
+    let opened = open_history(rt, &book);
+    play_on::<Brand, R>(rt, case, Blank::new(PARTS), PARTS, opened, book)
 }
 
 fn play_on<L: Origin, R>(
@@ -89,6 +92,7 @@ fn play_on<L: Origin, R>(
     case: Recording,
     blank: Blank,
     parts: u64,
+    opened: OpenedHistory,
     book: Book,
 ) -> Result<String, AllocError>
 where
@@ -104,9 +108,11 @@ where
     requires ledger { blank.parts ≡ L.parts }
     requires parts { parts ≡ L.parts }
     requires some { 2 ≤ parts }
+    requires history { opened.0 ≡ L.book }
+    requires opened { opened.1 ≡ opening book ∷ [] }
     requires origin { book ≡ L.origin }
 {
-    let (shared, seat) = SharedBook::<L>::new(rt.alloc(), blank, parts, book)?;
+    let (shared, seat) = SharedBook::<L>::new(rt.alloc(), blank, parts, opened, book)?;
     let mut cells = Cells::new(rt.alloc());
     cells.add(case.name());
     play_case(rt, case, &mut cells, shared, seat)?;

@@ -27,8 +27,8 @@ pub fn two_threads<L: Origin + Send + Sync, R: Threads + Wait + Sync>(
     requires { 3 ≤ seat.parts }
 {
     let mut seat = seat;
-    let one = seat.split();
-    let two = seat.split();
+    let one = seat.split(rt, &shared);
+    let two = seat.split(rt, &shared);
     let gate = FirstWaits::new();
     let other = shared.try_clone()?;
     let (one, two) = both(
@@ -42,8 +42,8 @@ pub fn two_threads<L: Origin + Send + Sync, R: Threads + Wait + Sync>(
         Job::Many,
         Job::Many,
     );
-    add_read(rt, alloc, cells, &shared, &seat, Asked::Count)?;
-    calls::join(&mut seat, one);
+    add_read(rt, alloc, cells, &shared, &mut seat, Asked::Count)?;
+    calls::join(rt, &shared, &mut seat, one);
     settle_without(rt, alloc, cells, shared, seat, two)
 }
 

@@ -107,7 +107,7 @@ where
 {
     let alloc = rt.alloc();
     let mut seat = seat;
-    let other = seat.split();
+    let other = seat.split(rt, &shared);
     let clock = Changing::new(*rt, alloc, shared.try_clone()?, change, other);
     let site = site_of(shared, clock);
     let upstream = replying(rt, alloc, HELLO)?;

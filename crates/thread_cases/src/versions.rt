@@ -25,7 +25,7 @@ pub fn versions<L: Origin + Send + Sync, R: Threads + Wait + Sync>(
     requires { 2 ≤ seat.parts }
 {
     let mut one = seat;
-    let two = one.split();
+    let two = one.split(rt, &shared);
     let gate = FirstWaits::new();
     let (one, two) = both(
         rt,
@@ -44,7 +44,7 @@ pub fn versions<L: Origin + Send + Sync, R: Threads + Wait + Sync>(
     cells.add(last_word(&two));
     cells.add("; ");
     let mut seat = one;
-    calls::join(&mut seat, two);
+    calls::join(rt, &shared, &mut seat, two);
     settle_seat(rt, alloc, cells, shared, seat)?;
     gate.held()
 }

@@ -12,6 +12,7 @@ pub mod ReplayedRuns
 pub mod ReplyLemmas
 pub mod RequestLemmas
 pub mod Runs
+pub mod SharedRuns
 pub mod SilentRuns
 pub mod StepLemmas
 pub mod StubMembers

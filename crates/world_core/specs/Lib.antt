@@ -1,3 +1,4 @@
 pub mod Schedule
+pub mod Shared
 pub mod Laws
 pub mod Replay

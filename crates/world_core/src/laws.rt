@@ -7,12 +7,18 @@ ghost use Rattle.recorder.specs.declared.exchange.Exchange.{Exchange};
 ghost use Rattle.request_journal.specs.Choice.{IsChoice};
 ghost use Rattle.request_journal.specs.Events.{last_of};
 ghost use Rattle.request_journal.specs.Legal.{IsLegal};
+ghost use Rattle.request_journal.specs.Past.{Past};
 ghost use Rattle.request_journal.specs.State.{state, touch};
 ghost use Rattle.request_journal.specs.declared.event.Captured.{Captured};
+ghost use Rattle.request_journal.specs.declared.event.Event.{Event};
 ghost use Rattle.request_journal.specs.declared.event.ServeAnswer.{ServeAnswer};
+ghost use Rattle.shared_book.specs.Reached.{IsPastOf, Log};
+ghost use Rattle.shared_history.specs.Entries.{entry};
+ghost use Rattle.shared_history.specs.declared.entry.Deed.TheVariants.{Called};
 ghost use Rattle.world_core.specs.Laws.{IsAnswered, IsLastChoice, IsOpened, IsServedOnce, events_of, giving, silent};
 ghost use Rattle.world_core.specs.Replay.{HasRecorded, IsReplayable, replies_of, sending};
 ghost use Rattle.world_core.specs.Schedule.{IsRun, IsStep, Outcome, WorldState};
+ghost use Rattle.world_core.specs.Shared.{IsRightAfter, IsScheduled};
 ghost use Rattle.world_core.specs.declared.step.Call.TheVariants.{Serve};
 ghost use Rattle.world_core.specs.declared.step.Step.{Step};
 ghost use Rattle.world_core.specs.declared.step.Step.TheVariants.{Act, Finish};
@@ -66,4 +72,29 @@ pub fn law_replay()
         (outcomes : List Outcome) → IsReplayable captured exchanges
         → HasRecorded captured number exchanges start.past → IsRun start (sending actor exchanges) outcomes end
         → replies_of outcomes ≡ map (λ e. e.reply) exchanges }
+{}
+
+/// What the seats of a shared book have entered in its one history, or in a beginning of it, is a schedule: so each of
+/// the laws above holds of it.
+#[tactic(auto, using(crate::proofs::SharedRuns::scheduled))]
+pub fn law_shared_is_scheduled()
+    ensures { (start : WorldState) (log : Log) (past : Past) → IsPastOf start.past log past
+        → IsScheduled start log past }
+{}
+
+/// Wherever a call stands in that history, its event is the right answer in the past that the calls before it lead to,
+/// and it moves each scenario that it touches once, and no other.
+#[tactic(auto, using(crate::proofs::SharedRuns::right_after))]
+pub fn law_shared_is_right()
+    ensures { (origin past : Past) (before after : Log) (seat : ℕ) (event : Event)
+        → IsPastOf origin (before ++ entry seat (Called event) ∷ after) past
+        → IsRightAfter origin before event (before ++ entry seat (Called event) ∷ []) }
+{}
+
+/// After the calls of that history, where it began with a book that was just opened, there is one choice for a request
+/// and no other.
+#[tactic(auto, using(crate::proofs::SharedRuns::one_choice_of))]
+pub fn law_shared_has_one_choice()
+    ensures { (origin past : Past) (log : Log) (request : Request) (one other : ServeAnswer) → IsOpened origin
+        → IsPastOf origin log past → IsChoice past request one → IsChoice past request other → one ≡ other }
 {}

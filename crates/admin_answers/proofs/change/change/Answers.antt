@@ -10,4 +10,4 @@ returns-in-Err-clause-refused g c =
     c.from.result
     (subst (λ r. LendsApplied g.L.Origin.origin c.args.seat.now c.apply.follows.lender-at-none c.args.asked r)
     c.in-Err.is c.apply.follows.holds-at-none)
-    c.in-Err.ensures.why c.from.ensures
+    c.from.ensures

@@ -5,3 +5,6 @@ ghosts-play-L-Origin g a = record { origin = a.book }
 
 abbrev pub ghosts-play-L-Ledger : goal.ghosts-play-L-Ledger
 ghosts-play-L-Ledger g a = record { name = a.blank.name; parts = a.blank.parts }
+
+abbrev pub ghosts-play-L-Naming : goal.ghosts-play-L-Naming
+ghosts-play-L-Naming g a = record { book = a.opened.0 }

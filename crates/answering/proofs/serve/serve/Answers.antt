@@ -15,7 +15,7 @@ returns-in-Ok g c =
     c.in-Ok.is c.serve.follows.holds-at-none in
     of_event g.L.Origin.origin c.args.site.now.limits c.args.seat.now c.serve.follows.lender-at-none c.args.request
     c.in-Ok.receipt.now c.begin_event.result
-    (record { gained = lent.0; served = lent.1; genuine = lent.2 })
+    (record { gained = lent.0; served = lent.1; entered = lent.2 })
     (subst (λ event. IfOk c.begin_event.result
     (HasBegun (IsEventReply c.args.site.now.limits event) (IsForwardOf c.in-Ok.receipt.now.number event)))
     c.event.ensures c.begin_event.ensures)
@@ -27,7 +27,7 @@ returns-in_err-response-in-Err g c =
     (λ r. LendsServed g.L.Origin.origin c.args.seat.now c.serve.follows.lender-at-none c.args.request r)
     c.in-Err.is c.serve.follows.holds-at-none in
     rw none.1
-    (error_reply 503 c.in-Err.error.code, inr (c.in-Err.error.code, inl (same, c.in-Err.ensures.why), refl))
+    (error_reply 503 c.in-Err.error.code, inr (c.in-Err.error.code, inl same, refl))
 
 pub returns-in_ok-response-in-Err : goal.returns-in_ok-response-in-Err
 returns-in_ok-response-in-Err g c =
@@ -35,6 +35,6 @@ returns-in_ok-response-in-Err g c =
     (λ r. LendsServed g.L.Origin.origin c.args.seat.now c.serve.follows.lender-at-none c.args.request r)
     c.in-Err.is c.serve.follows.holds-at-none in (
       error_reply 503 c.in-Err.error.code,
-      inr (c.in-Err.error.code, inl (same, c.in-Err.ensures.why), refl),
+      inr (c.in-Err.error.code, inl same, refl),
       c.in_ok-response-in-Err.ensures,
     )

@@ -5,3 +5,6 @@ ghosts-play_on-L-Origin g a = record { origin = a.book }
 
 abbrev pub ghosts-play_on-L-Ledger : goal.ghosts-play_on-L-Ledger
 ghosts-play_on-L-Ledger g a = record { name = a.blank.name; parts = a.blank.parts }
+
+abbrev pub ghosts-play_on-L-Naming : goal.ghosts-play_on-L-Naming
+ghosts-play_on-L-Naming g a = record { book = a.opened.0 }
