@@ -1,20 +1,24 @@
 -- What is given to a message, once the journal's limit is kept, and once an exchange has given what came of it.
 use Rattle.std.proofs.Common.{◌≡◌, ◌∙◌, ◌×◌, ℕ, List, Some, IsSome, Result, Ok, Err, IfErr, IfOk, IsErr, inl, inr, sym, subst}
 use Rattle.answering.specs.Answering.{Begins as SiteBegins, IsBegun, IsNotBegun}
-use Rattle.answering.specs.Forwarding.{IsFinished, IsToForward}
+use Rattle.answering.specs.Forwarding.{HasMadeNoCall, IsFinished, IsToForward}
 use Rattle.answering.specs.declared.forward.Forward.{Forward}
 use Rattle.http.specs.declared.request.Request.{Request as Message}
 use Rattle.http.specs.declared.response.Response.{Response}
 use Rattle.http_connections.specs.Sent.{IsBegun as IsBegunBy}
 use Rattle.http_connections.specs.declared.begun.Begun.{Begun}
 use Rattle.http_connections.specs.declared.begun.Begun.TheVariants.{Answered, Forwarding}
-use Rattle.hyper_service.specs.Given.{IsForwardedBy, IsGiven, IsKept, IsLeft, IsUnanswered, IsUnfinished, SiteRules}
+use Rattle.hyper_service.specs.Given.{IsForwardedBy, IsGiven, IsKept, IsLeft, IsUnanswered, SiteRules}
 use Rattle.hyper_service.specs.Inner.Begins.{Begins, IsForwardBegun}
 use Rattle.hyper_service.specs.declared.site_exchange.SiteExchange.{SiteExchange}
 use Rattle.mapping_model.specs.declared.reply.Reply.{Reply}
 use Rattle.mock_request.specs.Request.{Request}
 use Rattle.proxy_client.specs.declared.error.ProxyError.{ProxyError}
+use Rattle.request_journal.specs.Past.{Past}
+use Rattle.request_journal.specs.declared.input.BookInput.TheVariants.{ClearJournal}
 use Rattle.shared_book.specs.Held.{Held}
+use Rattle.shared_book.specs.Lent.{LendsApplied}
+use Rattle.stub_book.specs.declared.error.BookError.{BookError}
 
 some_same : {A : Type 0} (a b : A) → Some a ≡ Some b → a ≡ b
 some_same a b e = cc
@@ -105,3 +109,9 @@ module _ (rules : SiteRules) {E : Type 0} (reaches : List ℕ → Type 0) (sends
         finished = subst (λ f. IsFinished rules.origin old new f forwarded response) (sym same) finished;
       }))
   given_later old new message first_old first_new exchange by forward forwarded held came (Err error) finished = tt
+
+module _ (origin : Past) (old new : Held) where
+  -- the call that clears the journal was refused
+  pub refused : (error : BookError) → LendsApplied origin old new ClearJournal (Err error) → HasMadeNoCall origin old new
+  refused error (inl memory) = inl memory.1
+  refused error (inr seen) = inr seen.0

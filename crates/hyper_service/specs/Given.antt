@@ -3,7 +3,7 @@ use Rattle.std.specs.Prelude.{◌≡◌, ◌⊎◌, ℕ, List, IfOk, IsErr, IsSo
 use Rattle.std.specs.Arc.{arc_value}
 use Rattle.admin_answers.specs.Answers.{Gains}
 use Rattle.answering.specs.Answering.{IsBegun, IsNotBegun}
-use Rattle.answering.specs.Forwarding.{IsFinished, IsToForward}
+use Rattle.answering.specs.Forwarding.{HasMadeNoCall, IsFinished, IsToForward}
 use Rattle.answering.specs.declared.forward.Forward.{Forward}
 use Rattle.http.specs.declared.request.Request.{Request as Message}
 use Rattle.http.specs.declared.response.Response.{Response}
@@ -21,7 +21,7 @@ use Rattle.stub_response.specs.declared.limits.Limits.{Limits}
 use Rattle.template_tree.specs.declared.escape.Escape.{Escape}
 
 -- what the answers of a site depend on, beside its book: the past that this had when it was shared, and how many
--- requests its journal shows at most, if there is a limit
+-- requests the journal shows at most, where it is cleared then
 pub record SiteRules : Type 0 where
   pub origin : Past
   pub limits : Limits
@@ -38,14 +38,13 @@ rules_of origin answers =
       journal = answers.journal.limit;
     }
 
--- the seat is as before; or, where its journal has a limit, it was cleared, and the seat has gained the receipt of that
+-- The seat is as before. Where the journal has a limit, it may have been cleared, which is the seat's next call; or that
+-- was refused, and the seat has made no call.
 abbrev pub IsKept : Option ℕ → Past → Held → Held → Type 0
 IsKept limit origin old new =
-    (new ≡ old) ⊎ (IsSome limit × ((receipt : Receipt) × Gains origin old new ClearJournal receipt))
-
--- the seat after an answer that there was no memory for
-abbrev pub IsUnfinished : Held → Held → Type 0
-IsUnfinished old new = new ≡ old
+    (new ≡ old)
+    ⊎ (IsSome limit × (HasMadeNoCall origin old new
+    ⊎ ((receipt : Receipt) × Gains origin old new ClearJournal receipt)))
 
 module _ (rules : SiteRules) where
   -- the message was answered at once
@@ -59,7 +58,7 @@ module _ (rules : SiteRules) where
   IsLeft old new message =
       IsNotBegun rules.origin rules.limits rules.escape old new message
       ⊎ ((forward : Forward) × (begun : Held) × IsToForward rules.origin old begun message forward
-      × IsUnfinished begun new)
+      × HasMadeNoCall rules.origin begun new)
 
   -- what that leaves of the seat
   pub record IsUnanswered (old new : Held) (message : Message (List ℕ)) : Type 0 where

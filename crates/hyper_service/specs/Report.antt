@@ -5,10 +5,10 @@ use Rattle.command_output.specs.Lines.{error_line, out_of_memory}
 use Rattle.command_output.specs.Output.{AppendsFront, AppendsPart}
 use Rattle.http_connections.specs.declared.serve_on.End.{End}
 use Rattle.http_connections.specs.declared.serve_on.End.TheVariants as end
+use Rattle.logbook.specs.Pages.{Book}
 use Rattle.request_journal.specs.Past.{Past}
-use Rattle.shared_book.specs.Held.{Held, all_lists}
-use Rattle.shared_book.specs.Reached.{IsReached}
-use Rattle.shared_book.specs.Settled.{IsSettled, IsUnsettled}
+use Rattle.shared_book.specs.Held.{Held}
+use Rattle.shared_book.specs.Settled.{AreSettled, AreUnsettled}
 use Rattle.shared_book.specs.declared.settled.SettleRefusal.{SettleRefusal}
 use Rattle.shared_book.specs.declared.settled.SettleRefusal.TheVariants as refusal
 use Rattle.shared_book.specs.declared.settled.Settled.{Settled}
@@ -42,26 +42,25 @@ Reports out_holds err_holds (Err refused) why out out' err err' status =
     (status ≡ 1) × AppendsFront (err_holds err) (err_holds err') (refusal_line refused) × (out' ≡ out)
 
 -- the number of events in the one history of these seats; or why they have none
-abbrev pub IsSettling : Past → ℕ → List Held → Result ℕ SettleRefusal → Type 0
-IsSettling origin parts seats (Ok events) =
-    (past : Past) × (settled : Settled) × IsSettled origin past (all_lists seats) settled × (settled.events ≡ events)
-IsSettling origin parts seats (Err reason) =
-    (past : Past) × IsReached origin past × IsUnsettled origin parts past seats reason
+abbrev pub IsSettling : Past → ℕ → Book → List Held → Result ℕ SettleRefusal → Type 0
+IsSettling origin parts name seats (Ok events) =
+    (settled : Settled) × AreSettled origin name seats settled × (settled.events ≡ events)
+IsSettling origin parts name seats (Err reason) = AreUnsettled origin parts name seats reason
 
 -- some seats were settled, and that is reported, and the end
 pub record ReportsSettled {O E : Type 0} (out_holds : O → Option (List ℕ)) (err_holds : E → Option (List ℕ))
-    (origin : Past) (parts : ℕ) (out out' : O) (err err' : E) (status : ℕ) : Type 0 where
+    (origin : Past) (parts : ℕ) (name : Book) (out out' : O) (err err' : E) (status : ℕ) : Type 0 where
   pub seats : List Held
   pub settled : Result ℕ SettleRefusal
-  pub settling : IsSettling origin parts seats settled
+  pub settling : IsSettling origin parts name seats settled
   pub why : End
   pub reported : Reports out_holds err_holds settled why out out' err err' status
 
 -- What a server writes after the line that says where it listens, which standard output may not take (1): that, or that
 -- memory ran out (1).
-abbrev pub ReportsServed : {O E : Type 0} → (O → Option (List ℕ)) → (E → Option (List ℕ)) → Past → ℕ → O → E → E
-    → ℕ → Type 0
-ReportsServed {O = O} out_holds err_holds origin parts out' err err' status =
+abbrev pub ReportsServed : {O E : Type 0} → (O → Option (List ℕ)) → (E → Option (List ℕ)) → Past → ℕ → Book → O
+    → E → E → ℕ → Type 0
+ReportsServed {O = O} out_holds err_holds origin parts name out' err err' status =
     ((status ≡ 1) × (err' ≡ err))
-    ⊎ (((listening : O) × ReportsSettled out_holds err_holds origin parts listening out' err err' status)
+    ⊎ (((listening : O) × ReportsSettled out_holds err_holds origin parts name listening out' err err' status)
     ⊎ ((status ≡ 1) × AppendsFront (err_holds err) (err_holds err') (error_line out_of_memory)))

@@ -1,6 +1,7 @@
 // A journal that the server itself clears once it shows as many requests as it may.
-ghost use Rattle.std.specs.Prelude.{◌≡◌, IsFalse, IsTrue};
+ghost use Rattle.std.specs.Prelude.{IsFalse, IsTrue};
 ghost use Rattle.admin_answers.specs.Answers.{Gains};
+ghost use Rattle.answering.specs.Forwarding.{HasMadeNoCall};
 ghost use Rattle.hyper_service.specs.Given.{IsKept};
 ghost use Rattle.request_journal.specs.declared.input.BookInput.TheVariants.{ClearJournal as Cleared};
 
@@ -23,9 +24,7 @@ pub struct JournalLimit {
 
 impl JournalLimit {
     /// The limit of a journal that shows no request.
-    pub fn new(limit: Option<u64>) -> JournalLimit
-        ensures { result.limit ≡ limit }
-    {
+    pub fn new(limit: Option<u64>) -> JournalLimit {
         JournalLimit {
             limit,
             shown: Mutex::new(0),
@@ -66,7 +65,7 @@ impl JournalLimit {
 // Clears the journal, if that isn't refused.
 fn clear<L: Origin, R: Wait>(rt: &R, book: &SharedBook<L>, seat: &mut Seat<L>) -> bool
     ensures cleared { IsTrue result → (receipt : _) × Gains L.origin seat.old seat.new Cleared receipt }
-    ensures refused { IsFalse result → seat.new ≡ seat.old }
+    ensures refused { IsFalse result → HasMadeNoCall L.origin seat.old seat.new }
 {
     match seat.apply(rt, book, BookInput::ClearJournal) {
         Ok(_receipt) => true,

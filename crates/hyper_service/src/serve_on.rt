@@ -49,7 +49,7 @@ where
     N: Log + Drop,
     O: Write,
     E: Write,
-    ensures written { ReportsServed O.contents E.contents L.origin L.parts out.new err.old err.new result }
+    ensures written { ReportsServed O.contents E.contents L.origin L.parts L.book out.new err.old err.new result }
     ensures status { result ≤ 1 }
 {
     if announce(&listener, out).is_err() {
@@ -87,7 +87,7 @@ where
     C: Clock + Drop,
     F: Forwards,
     N: Log + Drop,
-    ensures { IfOk result (λ served. (seats : List Held) × IsSettling L.origin L.parts seats served.0) }
+    ensures { IfOk result (λ served. (seats : List Held) × IsSettling L.origin L.parts L.book seats served.0) }
 {
     let book = answers.book()?;
     let turns = answers.turns();
@@ -103,7 +103,7 @@ fn events<L: Origin, R: Wait>(
     book: SharedBook<L>,
     seats: Vec<Seat<L>>,
 ) -> Result<u64, SettleRefusal>
-    ensures { IsSettling L.origin L.parts seats.items result }
+    ensures { IsSettling L.origin L.parts L.book seats.items result }
 {
     match settle(rt, alloc, book, seats) {
         Ok(settled) => Ok(settled.events),

@@ -1,9 +1,9 @@
 // A site answers the requests of connections.
 ghost use Rattle.std.specs.Prelude.{◌≡◌, IfErr, IfOk, IsSome, Some};
-ghost use Rattle.answering.specs.Forwarding.{IsFinished, IsToForward};
+ghost use Rattle.answering.specs.Forwarding.{HasMadeNoCall, IsFinished};
 ghost use Rattle.http_messages.specs.declared.error.ServiceError.TheVariants.{OutOfMemory as NoMemory};
 ghost use Rattle.hyper_service.specs.Given.{IsForwardedBy, IsGiven, IsLeft, IsSentBy, IsUnanswered};
-ghost use Rattle.hyper_service.specs.Given.{IsUnfinished, rules_of};
+ghost use Rattle.hyper_service.specs.Given.{rules_of};
 ghost use Rattle.hyper_service.specs.Inner.Begins.{Begins, IsForwardBegun};
 ghost use Rattle.hyper_service.specs.Inner.Failure.{IsFailure};
 ghost use Rattle.hyper_service.specs.Seats.{IsJoined, IsSplit};
@@ -47,9 +47,7 @@ impl<L: Origin, G, C, F, N> SiteAnswers<L, G, C, F, N> {
         forwarder: F,
         log: N,
         journal: JournalLimit,
-    ) -> SiteAnswers<L, G, C, F, N>
-        ensures { result ≡ record { site = site; forwarder = forwarder; log = log; journal = journal } }
-    {
+    ) -> SiteAnswers<L, G, C, F, N> {
         SiteAnswers {
             site,
             forwarder,
@@ -93,9 +91,9 @@ where
 
     ghost unanswered = { λ answers. IsUnanswered (rules_of L.origin answers) };
 
-    ghost unfinished = { λ _. IsUnfinished };
+    ghost unfinished = { λ _. HasMadeNoCall L.origin };
 
-    ghost splits = { λ _. IsSplit };
+    ghost splits = { λ _. IsSplit L.origin };
 
     ghost joins = { λ _. IsJoined L.origin };
 
@@ -122,15 +120,15 @@ where
         self.finish_forwarded(rt, alloc, seat, reply)
     }
 
-    fn split<R: Wait>(&self, _rt: &R, seat: &mut Seat<L>) -> Option<Seat<L>> {
+    fn split<R: Wait>(&self, rt: &R, seat: &mut Seat<L>) -> Option<Seat<L>> {
         if seat.parts() == 1 {
             return None;
         }
-        Some(seat.split())
+        Some(seat.split(rt, &self.site.book))
     }
 
-    fn join<R: Wait>(&self, _rt: &R, seat: &mut Seat<L>, other: Seat<L>) -> Result<(), Seat<L>> {
-        seat.join(other)
+    fn join<R: Wait>(&self, rt: &R, seat: &mut Seat<L>, other: Seat<L>) -> Result<(), Seat<L>> {
+        seat.join(rt, &self.site.book, other)
     }
 }
 
@@ -178,7 +176,7 @@ where
     ) -> Result<Begun<SiteExchange<F::Exchange>, Content>, ServiceError>
         ensures ok { IfOk result (IsForwardBegun (rules_of L.origin self.now) (F.reaches self.now.forwarder) F.sends
             F.Exchange.gives F.Exchange.can_poll seat.old seat.new forward) }
-        ensures err { IfErr result (λ error. (error ≡ NoMemory) × IsUnfinished seat.old seat.new) }
+        ensures err { IfErr result (λ error. (error ≡ NoMemory) × HasMadeNoCall L.origin seat.old seat.new) }
     {
         match self.exchange(alloc, forward) {
             Ok(exchange) => Ok(Begun::Forwarding(exchange)),
@@ -197,7 +195,7 @@ where
         forwarded: Forwarded,
     ) -> Result<Response<Content>, ServiceError>
         ensures ok { IfOk result (IsFinished L.origin seat.old seat.new forwarded.forward forwarded.reply) }
-        ensures err { IfErr result (λ error. (error ≡ NoMemory) × IsUnfinished seat.old seat.new) }
+        ensures err { IfErr result (λ error. (error ≡ NoMemory) × HasMadeNoCall L.origin seat.old seat.new) }
     {
         let Forwarded { forward, reply } = forwarded;
         let number = forward.number;
