@@ -10,6 +10,7 @@ use Rattle.admin_routes.specs.declared.call.AdminCall.{AdminCall}
 use Rattle.admin_routes.specs.declared.call.AdminCall.TheVariants as call
 use Rattle.error_code.specs.declared.error_code.ErrorCode.{ErrorCode}
 use Rattle.error_code.specs.declared.error_code.ErrorCode.TheVariants as code
+use Rattle.logbook.specs.Pages.{Book}
 use Rattle.mapping_model.specs.declared.reply.Reply.{Reply}
 use Rattle.mapping_store.specs.Stored.{IsNewestFirst}
 use Rattle.recorder.specs.Recording.{session_of, status_of}
@@ -35,13 +36,7 @@ use Rattle.shared_book.specs.Refused.{IsRefused}
 use Rattle.shared_book.specs.Seen.{Enters, HasCaughtUp}
 use Rattle.shared_book.specs.declared.receipt.Receipt.{Receipt}
 
--- ---- changes
-
--- what was asked for is the seat's next call in the one history, and the seat has gained its receipt
-pub record Gains (origin : Past) (old new : Held) (asked : BookInput) (receipt : Receipt) : Type 0 where
-  pub gained : Gained origin old receipt new
-  pub is_asked : IsAsked asked receipt.event
-  pub entered : Enters origin old new receipt
+-- ---- replies
 
 -- the mapping as it is after the event, and 201 where it is a new one; what was recorded, where the event stops a
 -- recording; `{}` with any other event
@@ -50,19 +45,6 @@ IsEventReply (event.Add mapping) reply = IsJsonReply 201 (json_of_held mapping) 
 IsEventReply (event.Edit id spec) reply = IsJsonReply 200 (json_of_held (record { id = id; spec = spec })) reply
 IsEventReply (event.StopRecording mappings skipped) reply = IsJsonReply 200 (json_of_recorded mappings skipped) reply
 IsEventReply other reply = IsJsonReply 200 (object no_members) reply
-
--- the change was made, and this is answered
-abbrev pub IsChanged : Past → Held → Held → BookInput → Reply → Type 0
-IsChanged origin old new asked reply =
-    (receipt : Receipt) × Gains origin old new asked receipt × IsEventReply receipt.event reply
-
--- the change was refused; or memory ran out while the answer was written, and the change stands
-abbrev pub IsNotChanged : Past → Held → Held → BookInput → ErrorCode → Type 0
-IsNotChanged origin old new asked reason =
-    IsRefused origin old new asked reason
-    ⊎ ((reason ≡ code.OutOfMemory) × ((receipt : Receipt) × Gains origin old new asked receipt))
-
--- ---- readings
 
 -- the mapping, where there is one
 abbrev pub IsHeldReply : Option Mapping → Reply → Type 0
@@ -94,45 +76,64 @@ IsReadReply other reply past = ⊥
 
 -- ---- calls
 
--- the call was answered: what it changed is the seat's next call in the one history, and what it read is what the
--- history says then, which makes no entry
-abbrev pub IsAnswered : Past → Held → Held → AdminCall → Reply → Type 0
-IsAnswered origin old new (call.AddMapping mapping) reply = IsChanged origin old new (input.Add mapping) reply
-IsAnswered origin old new (call.EditMapping id mapping) reply = IsChanged origin old new (input.Edit id mapping) reply
-IsAnswered origin old new (call.DeleteMapping id) reply = IsChanged origin old new (input.Delete id) reply
-IsAnswered origin old new call.DeleteMappings reply = IsChanged origin old new input.DeleteAll reply
-IsAnswered origin old new call.ResetMappings reply = IsChanged origin old new input.ResetMappings reply
-IsAnswered origin old new call.ResetAll reply = IsChanged origin old new input.ResetAll reply
-IsAnswered origin old new call.ClearRequests reply = IsChanged origin old new input.ClearJournal reply
-IsAnswered origin old new call.ResetScenarios reply = IsChanged origin old new input.ResetScenarios reply
-IsAnswered origin old new (call.SetScenario name state) reply =
-    IsChanged origin old new (input.SetScenario name state) reply
-IsAnswered origin old new (call.StartRecording start) reply =
-    IsChanged origin old new (input.StartRecording start.target start.captured start.repeats) reply
-IsAnswered origin old new call.StopRecording reply = IsChanged origin old new input.StopRecording reply
-IsAnswered origin old new read reply = HasCaughtUp origin old new × InPastOf origin new.seen (IsReadReply read reply)
+-- by a seat of a book that had the past `origin` when it was shared, in the history with this name
+module _ (origin : Past) (name : Book) where
+  -- what was asked for is the seat's next call in the one history, and the seat has gained its receipt
+  pub record Gains (old new : Held) (asked : BookInput) (receipt : Receipt) : Type 0 where
+    pub gained : Gained origin old receipt new
+    pub is_asked : IsAsked asked receipt.event
+    pub entered : Enters origin name old new receipt
 
--- why the call has no answer, and what it left
-abbrev pub IsNotAnswered : Past → Held → Held → AdminCall → ErrorCode → Type 0
-IsNotAnswered origin old new (call.AddMapping mapping) reason = IsNotChanged origin old new (input.Add mapping) reason
-IsNotAnswered origin old new (call.EditMapping id mapping) reason =
-    IsNotChanged origin old new (input.Edit id mapping) reason
-IsNotAnswered origin old new (call.DeleteMapping id) reason = IsNotChanged origin old new (input.Delete id) reason
-IsNotAnswered origin old new call.DeleteMappings reason = IsNotChanged origin old new input.DeleteAll reason
-IsNotAnswered origin old new call.ResetMappings reason = IsNotChanged origin old new input.ResetMappings reason
-IsNotAnswered origin old new call.ResetAll reason = IsNotChanged origin old new input.ResetAll reason
-IsNotAnswered origin old new call.ClearRequests reason = IsNotChanged origin old new input.ClearJournal reason
-IsNotAnswered origin old new call.ResetScenarios reason = IsNotChanged origin old new input.ResetScenarios reason
-IsNotAnswered origin old new (call.SetScenario name state) reason =
-    IsNotChanged origin old new (input.SetScenario name state) reason
-IsNotAnswered origin old new (call.StartRecording start) reason =
-    IsNotChanged origin old new (input.StartRecording start.target start.captured start.repeats) reason
-IsNotAnswered origin old new call.StopRecording reason = IsNotChanged origin old new input.StopRecording reason
-IsNotAnswered origin old new (call.ReadMapping id) reason =
-    HasCaughtUp origin old new
-    × ((reason ≡ code.OutOfMemory)
-    ⊎ ((reason ≡ code.UnknownMapping) × InPastOf origin new.seen (λ past. ¬ (IsLive past id))))
-IsNotAnswered origin old new call.ReadRecordingHar reason =
-    HasCaughtUp origin old new × ((reason ≡ code.OutOfMemory)
-    ⊎ InPastOf origin new.seen (λ past. HasNoHar (session_of (recording past)) reason))
-IsNotAnswered origin old new read reason = HasCaughtUp origin old new × (reason ≡ code.OutOfMemory)
+  -- the change was made, and this is answered
+  abbrev pub IsChanged : Held → Held → BookInput → Reply → Type 0
+  IsChanged old new asked reply =
+      (receipt : Receipt) × Gains old new asked receipt × IsEventReply receipt.event reply
+
+  -- the change was refused; or memory ran out while the answer was written, and the change stands
+  abbrev pub IsNotChanged : Held → Held → BookInput → ErrorCode → Type 0
+  IsNotChanged old new asked reason =
+      IsRefused origin name old new asked reason
+      ⊎ ((reason ≡ code.OutOfMemory) × ((receipt : Receipt) × Gains old new asked receipt))
+
+  -- the call was answered: what it changed is the seat's next call in the one history, and what it read is what the
+  -- history says then, which makes no entry
+  abbrev pub IsAnswered : Held → Held → AdminCall → Reply → Type 0
+  IsAnswered old new (call.AddMapping mapping) reply = IsChanged old new (input.Add mapping) reply
+  IsAnswered old new (call.EditMapping id mapping) reply = IsChanged old new (input.Edit id mapping) reply
+  IsAnswered old new (call.DeleteMapping id) reply = IsChanged old new (input.Delete id) reply
+  IsAnswered old new call.DeleteMappings reply = IsChanged old new input.DeleteAll reply
+  IsAnswered old new call.ResetMappings reply = IsChanged old new input.ResetMappings reply
+  IsAnswered old new call.ResetAll reply = IsChanged old new input.ResetAll reply
+  IsAnswered old new call.ClearRequests reply = IsChanged old new input.ClearJournal reply
+  IsAnswered old new call.ResetScenarios reply = IsChanged old new input.ResetScenarios reply
+  IsAnswered old new (call.SetScenario scenario state) reply =
+      IsChanged old new (input.SetScenario scenario state) reply
+  IsAnswered old new (call.StartRecording start) reply =
+      IsChanged old new (input.StartRecording start.target start.captured start.repeats) reply
+  IsAnswered old new call.StopRecording reply = IsChanged old new input.StopRecording reply
+  IsAnswered old new read reply = HasCaughtUp origin name old new × InPastOf origin new.seen (IsReadReply read reply)
+
+  -- why the call has no answer, and what it left
+  abbrev pub IsNotAnswered : Held → Held → AdminCall → ErrorCode → Type 0
+  IsNotAnswered old new (call.AddMapping mapping) reason = IsNotChanged old new (input.Add mapping) reason
+  IsNotAnswered old new (call.EditMapping id mapping) reason =
+      IsNotChanged old new (input.Edit id mapping) reason
+  IsNotAnswered old new (call.DeleteMapping id) reason = IsNotChanged old new (input.Delete id) reason
+  IsNotAnswered old new call.DeleteMappings reason = IsNotChanged old new input.DeleteAll reason
+  IsNotAnswered old new call.ResetMappings reason = IsNotChanged old new input.ResetMappings reason
+  IsNotAnswered old new call.ResetAll reason = IsNotChanged old new input.ResetAll reason
+  IsNotAnswered old new call.ClearRequests reason = IsNotChanged old new input.ClearJournal reason
+  IsNotAnswered old new call.ResetScenarios reason = IsNotChanged old new input.ResetScenarios reason
+  IsNotAnswered old new (call.SetScenario scenario state) reason =
+      IsNotChanged old new (input.SetScenario scenario state) reason
+  IsNotAnswered old new (call.StartRecording start) reason =
+      IsNotChanged old new (input.StartRecording start.target start.captured start.repeats) reason
+  IsNotAnswered old new call.StopRecording reason = IsNotChanged old new input.StopRecording reason
+  IsNotAnswered old new (call.ReadMapping id) reason =
+      HasCaughtUp origin name old new
+      × ((reason ≡ code.OutOfMemory)
+      ⊎ ((reason ≡ code.UnknownMapping) × InPastOf origin new.seen (λ past. ¬ (IsLive past id))))
+  IsNotAnswered old new call.ReadRecordingHar reason =
+      HasCaughtUp origin name old new × ((reason ≡ code.OutOfMemory)
+      ⊎ InPastOf origin new.seen (λ past. HasNoHar (session_of (recording past)) reason))
+  IsNotAnswered old new read reason = HasCaughtUp origin name old new × (reason ≡ code.OutOfMemory)

@@ -29,8 +29,8 @@ pub fn answer_admin<L: Origin, R: Wait>(
     seat: &mut Seat<L>,
     call: AdminCall,
 ) -> Result<AdminAnswer, SharedError>
-    ensures ok { IfOk result (λ answer. IsAnswered L.origin seat.old seat.new call (reply_of answer)) }
-    ensures refused { IfErr result (λ error. IsNotAnswered L.origin seat.old seat.new call error.code) }
+    ensures ok { IfOk result (λ answer. IsAnswered L.origin L.book seat.old seat.new call (reply_of answer)) }
+    ensures refused { IfErr result (λ error. IsNotAnswered L.origin L.book seat.old seat.new call error.code) }
 {
     match call {
         AdminCall::ListMappings => Ok(AdminAnswer::Listed(list_mappings(rt, alloc, shared, seat)?)),
@@ -60,8 +60,8 @@ fn answer_other<L: Origin, R: Wait>(
     call: AdminCall,
 ) -> Result<AdminAnswer, SharedError>
     requires { ¬ (IsListed call) }
-    ensures ok { IfOk result (λ answer. IsAnswered L.origin seat.old seat.new call (reply_of answer)) }
-    ensures refused { IfErr result (λ error. IsNotAnswered L.origin seat.old seat.new call error.code) }
+    ensures ok { IfOk result (λ answer. IsAnswered L.origin L.book seat.old seat.new call (reply_of answer)) }
+    ensures refused { IfErr result (λ error. IsNotAnswered L.origin L.book seat.old seat.new call error.code) }
 {
     match call {
         AdminCall::AddMapping(mapping) => change(rt, alloc, shared, seat, BookInput::Add(mapping)),
@@ -106,9 +106,9 @@ fn start_recording<L: Origin, R: Wait>(
     start: RecordingStart,
 ) -> Result<AdminAnswer, SharedError>
     ensures ok { IfOk result (λ answer.
-        IsAnswered L.origin seat.old seat.new (StartRecording start) (reply_of answer)) }
+        IsAnswered L.origin L.book seat.old seat.new (StartRecording start) (reply_of answer)) }
     ensures refused { IfErr result (λ error.
-        IsNotAnswered L.origin seat.old seat.new (StartRecording start) error.code) }
+        IsNotAnswered L.origin L.book seat.old seat.new (StartRecording start) error.code) }
 {
     let input = BookInput::StartRecording {
         target: start.target,

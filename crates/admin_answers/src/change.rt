@@ -35,8 +35,8 @@ pub(crate) fn change<L: Origin, R: Wait>(
     seat: &mut Seat<L>,
     asked: BookInput,
 ) -> Result<AdminAnswer, SharedError>
-    ensures ok { IfOk result (λ answer. IsChanged L.origin seat.old seat.new asked (reply_of answer)) }
-    ensures refused { IfErr result (λ error. IsNotChanged L.origin seat.old seat.new asked error.code) }
+    ensures ok { IfOk result (λ answer. IsChanged L.origin L.book seat.old seat.new asked (reply_of answer)) }
+    ensures refused { IfErr result (λ error. IsNotChanged L.origin L.book seat.old seat.new asked error.code) }
 {
     match seat.apply(rt, shared, asked) {
         Ok(receipt) => Ok(event_answer(alloc, receipt.event.event())?),

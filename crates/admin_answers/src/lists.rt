@@ -39,7 +39,7 @@ pub(crate) fn list_mappings<L: Origin, R: Wait>(
     shared: &SharedBook<L>,
     seat: &mut Seat<L>,
 ) -> Result<Listing, AllocError>
-    ensures seen { HasCaughtUp L.origin seat.old seat.new }
+    ensures seen { HasCaughtUp L.origin L.book seat.old seat.new }
     ensures ok { IfOk result (λ listing.
         InPastOf L.origin seat.new.seen (IsReadReply call.ListMappings (json_reply 200 listing))) }
 {
@@ -56,7 +56,7 @@ pub(crate) fn list_requests<L: Origin, R: Wait>(
     shared: &SharedBook<L>,
     seat: &mut Seat<L>,
 ) -> Result<Listing, AllocError>
-    ensures seen { HasCaughtUp L.origin seat.old seat.new }
+    ensures seen { HasCaughtUp L.origin L.book seat.old seat.new }
     ensures ok { IfOk result (λ listing.
         InPastOf L.origin seat.new.seen (IsReadReply call.ListRequests (json_reply 200 listing))) }
 {
@@ -74,7 +74,7 @@ pub(crate) fn list_unmatched<L: Origin, R: Wait>(
     shared: &SharedBook<L>,
     seat: &mut Seat<L>,
 ) -> Result<Listing, AllocError>
-    ensures seen { HasCaughtUp L.origin seat.old seat.new }
+    ensures seen { HasCaughtUp L.origin L.book seat.old seat.new }
     ensures ok { IfOk result (λ listing.
         InPastOf L.origin seat.new.seen (IsReadReply call.ListUnmatched (json_reply 200 listing))) }
 {
@@ -93,7 +93,7 @@ pub(crate) fn find_requests<L: Origin, R: Wait>(
     seat: &mut Seat<L>,
     matcher: RequestMatcher,
 ) -> Result<Listing, AllocError>
-    ensures seen { HasCaughtUp L.origin seat.old seat.new }
+    ensures seen { HasCaughtUp L.origin L.book seat.old seat.new }
     ensures ok { IfOk result (λ listing.
         InPastOf L.origin seat.new.seen (IsReadReply (call.FindRequests matcher) (json_reply 200 listing))) }
 {
@@ -112,7 +112,7 @@ pub(crate) fn count_requests<L: Origin, R: Wait>(
     seat: &mut Seat<L>,
     matcher: RequestMatcher,
 ) -> Result<Listing, AllocError>
-    ensures seen { HasCaughtUp L.origin seat.old seat.new }
+    ensures seen { HasCaughtUp L.origin L.book seat.old seat.new }
     ensures ok { IfOk result (λ listing.
         InPastOf L.origin seat.new.seen (IsReadReply (call.CountRequests matcher) (json_reply 200 listing))) }
 {
@@ -129,7 +129,7 @@ pub(crate) fn read_recording_har<L: Origin, R: Wait>(
     shared: &SharedBook<L>,
     seat: &mut Seat<L>,
 ) -> Result<Listing, SharedError>
-    ensures seen { HasCaughtUp L.origin seat.old seat.new }
+    ensures seen { HasCaughtUp L.origin L.book seat.old seat.new }
     ensures ok { IfOk result (λ listing.
         InPastOf L.origin seat.new.seen (IsReadReply call.ReadRecordingHar (json_reply 200 listing))) }
     ensures refused { IfErr result (λ error. (error.code ≡ code.OutOfMemory)

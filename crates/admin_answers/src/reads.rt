@@ -36,7 +36,7 @@ pub(crate) fn read_mapping<L: Origin, R: Wait>(
     seat: &mut Seat<L>,
     id: MappingId,
 ) -> Result<Reply, SharedError>
-    ensures seen { HasCaughtUp L.origin seat.old seat.new }
+    ensures seen { HasCaughtUp L.origin L.book seat.old seat.new }
     ensures ok { IfOk result (λ reply. InPastOf L.origin seat.new.seen (IsReadReply (call.ReadMapping id) reply)) }
     ensures refused { IfErr result (λ error. (error.code ≡ code.OutOfMemory)
         ⊎ ((error.code ≡ code.UnknownMapping) × InPastOf L.origin seat.new.seen (λ past. ¬ (IsLive past id)))) }
@@ -54,7 +54,7 @@ pub(crate) fn list_scenarios<L: Origin, R: Wait>(
     shared: &SharedBook<L>,
     seat: &mut Seat<L>,
 ) -> Result<Reply, AllocError>
-    ensures seen { HasCaughtUp L.origin seat.old seat.new }
+    ensures seen { HasCaughtUp L.origin L.book seat.old seat.new }
     ensures ok { IfOk result (λ reply. InPastOf L.origin seat.new.seen (IsReadReply call.ListScenarios reply)) }
 {
     let reading = seat.read(rt, shared, BookRead::Scenarios)?;
@@ -72,7 +72,7 @@ pub(crate) fn read_recording_status<L: Origin, R: Wait>(
     shared: &SharedBook<L>,
     seat: &mut Seat<L>,
 ) -> Result<Reply, AllocError>
-    ensures seen { HasCaughtUp L.origin seat.old seat.new }
+    ensures seen { HasCaughtUp L.origin L.book seat.old seat.new }
     ensures ok { IfOk result (λ reply. InPastOf L.origin seat.new.seen (IsReadReply call.ReadRecordingStatus reply)) }
 {
     let reading = seat.read(rt, shared, BookRead::RecordingStatus)?;

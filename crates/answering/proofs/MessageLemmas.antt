@@ -13,6 +13,7 @@ use Rattle.answering.specs.Served.{GainsServe}
 use Rattle.answering.specs.declared.begun.Begun.{Begun}
 use Rattle.answering.specs.declared.begun.Begun.TheVariants.{Answered, ToForward}
 use Rattle.answering.specs.declared.forward.Forward.{Forward}
+use Rattle.logbook.specs.Pages.{Book}
 use Rattle.mapping_model.specs.declared.reply.Reply.{Reply}
 use Rattle.mock_request.specs.Request.{Header, Request}
 use Rattle.mock_request.specs.Target.{HasUrl}
@@ -36,49 +37,49 @@ is_unread message unread.OutOfMemory result is bad large = tt
 
 -- what is to be forwarded of a request of the message
 to_forward
-    : (origin : Past) (old middle new : Held) (message : Message (List ℕ)) (request : Request) (forward : Forward)
+    : (origin : Past) (name : Book) (old middle new : Held) (message : Message (List ℕ)) (request : Request) (forward : Forward)
     → middle ≡ old → IsReceived message request → length (body_of message) ≤ BODY_LIMIT
     → All (λ (h : Header). IsHeaderName h.name) request.headers
-    → IsRequestToForward origin middle new request forward → IsToForward origin old new message forward
-to_forward origin old middle new message request forward same received within names is = record {
+    → IsRequestToForward origin name middle new request forward → IsToForward origin name old new message forward
+to_forward origin name old middle new message request forward same received within names is = record {
   received = subst (IsReceived message) (sym is.1.0) received;
   within = within;
   no_admin_call = subst (λ (r : Request). ¬ (IsAdmin r.url)) (sym is.1.0) is.0;
-  served = subst (λ held. GainsServe origin held new forward.request (serve_receipt forward)) same is.1.1;
+  served = subst (λ held. GainsServe origin name held new forward.request (serve_receipt forward)) same is.1.1;
   names = subst (λ (r : Request). All (λ (h : Header). IsHeaderName h.name) r.headers) (sym is.1.0) names;
 }
 
 -- its request begins what the message begins
-pub of_request : {E : Type 0} (origin : Past) (limits : Limits) (escape : Escape) (old middle new : Held)
+pub of_request : {E : Type 0} (origin : Past) (name : Book) (limits : Limits) (escape : Escape) (old middle new : Held)
     (message : Message (List ℕ)) (request : Request) (result : Result Begun E)
     → middle ≡ old → IsReceived message request → length (body_of message) ≤ BODY_LIMIT
     → All (λ (h : Header). IsHeaderName h.name) request.headers
     → MatchResult result
-    (HasBegun (IsRequestAnswered origin limits escape middle new request)
-    (IsRequestToForward origin middle new request))
-    (λ _. (reply : Reply) × IsRequestAnswered origin limits escape middle new request reply)
+    (HasBegun (IsRequestAnswered origin name limits escape middle new request)
+    (IsRequestToForward origin name middle new request))
+    (λ _. (reply : Reply) × IsRequestAnswered origin name limits escape middle new request reply)
     → MatchResult result
-    (HasBegun (IsReply origin limits escape old new message) (IsToForward origin old new message))
-    (λ _. IsNotBegun origin limits escape old new message)
-of_request origin limits escape old middle new message request (Ok (Answered response)) same received within names is = (
+    (HasBegun (IsReply origin name limits escape old new message) (IsToForward origin name old new message))
+    (λ _. IsNotBegun origin name limits escape old new message)
+of_request origin name limits escape old middle new message request (Ok (Answered response)) same received within names is = (
   is.0,
   inr (
     request,
     received,
     within,
-    subst (λ held. IsRequestAnswered origin limits escape held new request is.0) same is.1,
+    subst (λ held. IsRequestAnswered origin name limits escape held new request is.0) same is.1,
   ),
   is.2,
 )
-of_request origin limits escape old middle new message request (Ok (ToForward forward)) same received within
-    names is = to_forward origin old middle new message request forward same received within names is
-of_request origin limits escape old middle new message request (Err error) same received within names is = (
+of_request origin name limits escape old middle new message request (Ok (ToForward forward)) same received within
+    names is = to_forward origin name old middle new message request forward same received within names is
+of_request origin name limits escape old middle new message request (Err error) same received within names is = (
   is.0,
   inr (
     request,
     received,
     within,
-    subst (λ held. IsRequestAnswered origin limits escape held new request is.0) same is.1,
+    subst (λ held. IsRequestAnswered origin name limits escape held new request is.0) same is.1,
   ),
 )
 

@@ -9,6 +9,7 @@ use Rattle.answering.specs.Served.{GainsServe, IsEventReply}
 use Rattle.answering.specs.declared.begun.Begun.{Begun}
 use Rattle.answering.specs.declared.begun.Begun.TheVariants.{Answered, ToForward}
 use Rattle.answering.specs.declared.forward.Forward.{Forward}
+use Rattle.logbook.specs.Pages.{Book}
 use Rattle.mapping_model.specs.declared.reply.Reply.{Reply}
 use Rattle.mock_request.specs.Request.{Request}
 use Rattle.request_journal.specs.Past.{Past}
@@ -23,27 +24,27 @@ receipt_of_forward : (receipt : Receipt) (forward : Forward) → IsForwardOf rec
 receipt_of_forward receipt forward is = rw (sym is.0, sym is.1) refl
 
 -- and its request
-request_of_forward : (origin : Past) (old new : Held) (request : Request) (forward : Forward)
-    → GainsServe origin old new request (serve_receipt forward) → forward.request ≡ request
-request_of_forward origin old new request forward gains = let served = gains.served.1 in cc
+request_of_forward : (origin : Past) (name : Book) (old new : Held) (request : Request) (forward : Forward)
+    → GainsServe origin name old new request (serve_receipt forward) → forward.request ≡ request
+request_of_forward origin name old new request forward gains = let served = gains.served.1 in cc
 
-to_forward : (origin : Past) (old new : Held) (request : Request) (forward : Forward)
-    → GainsServe origin old new request (serve_receipt forward) → IsServedToForward origin old new request forward
-to_forward origin old new request forward gains =
-    let same = request_of_forward origin old new request forward gains in
-    (same, subst (λ r. GainsServe origin old new r (serve_receipt forward)) (sym same) gains)
+to_forward : (origin : Past) (name : Book) (old new : Held) (request : Request) (forward : Forward)
+    → GainsServe origin name old new request (serve_receipt forward) → IsServedToForward origin name old new request forward
+to_forward origin name old new request forward gains =
+    let same = request_of_forward origin name old new request forward gains in
+    (same, subst (λ r. GainsServe origin name old new r (serve_receipt forward)) (sym same) gains)
 
 -- where it was served, by the event of its receipt
-pub of_event : {E : Type 0} (origin : Past) (limits : Limits) (old new : Held) (request : Request) (receipt : Receipt)
-    (result : Result Begun E) → GainsServe origin old new request receipt
+pub of_event : {E : Type 0} (origin : Past) (name : Book) (limits : Limits) (old new : Held) (request : Request) (receipt : Receipt)
+    (result : Result Begun E) → GainsServe origin name old new request receipt
     → IfOk result (HasBegun (IsEventReply limits receipt.event) (IsForwardOf receipt.number receipt.event))
     → MatchResult result
-    (HasBegun (IsServeAnswered origin limits old new request) (IsServedToForward origin old new request))
-    (λ _. (reply : Reply) × IsServeAnswered origin limits old new request reply)
-of_event origin limits old new request receipt (Ok (Answered response)) gains (reply, is, of) =
+    (HasBegun (IsServeAnswered origin name limits old new request) (IsServedToForward origin name old new request))
+    (λ _. (reply : Reply) × IsServeAnswered origin name limits old new request reply)
+of_event origin name limits old new request receipt (Ok (Answered response)) gains (reply, is, of) =
     (reply, inl (receipt, gains, is), of)
-of_event origin limits old new request receipt (Ok (ToForward forward)) gains is =
-    to_forward origin old new request forward
-    (subst (GainsServe origin old new request) (receipt_of_forward receipt forward is) gains)
-of_event origin limits old new request receipt (Err error) gains h =
+of_event origin name limits old new request receipt (Ok (ToForward forward)) gains is =
+    to_forward origin name old new request forward
+    (subst (GainsServe origin name old new request) (receipt_of_forward receipt forward is) gains)
+of_event origin name limits old new request receipt (Err error) gains h =
     (error_reply 503 OutOfMemory, inr (OutOfMemory, inr (refl, (receipt, gains)), refl))

@@ -7,6 +7,7 @@ use Rattle.admin_routes.specs.declared.call.AdminCall.{AdminCall}
 use Rattle.admin_routes.specs.declared.error.AdminError.{AdminError}
 use Rattle.error_code.specs.Codes.{status_of}
 use Rattle.error_code.specs.declared.error_code.ErrorCode.{ErrorCode}
+use Rattle.logbook.specs.Pages.{Book}
 use Rattle.mapping_model.specs.declared.reply.Reply.{Reply}
 use Rattle.mock_request.specs.Request.{Request}
 use Rattle.request_journal.specs.Past.{Past}
@@ -26,13 +27,13 @@ IsRefusedCall escape old new request reply =
     × (reply ≡ reporting (error_code_of why)))
 
 -- it is the call, and its answer is the shared book's, or reports why there is none
-abbrev pub IsAnsweredCall : Past → Held → Held → AdminCall → Reply → Type 0
-IsAnsweredCall origin old new call reply =
-    IsAnswered origin old new call reply
-    ⊎ ((reason : ErrorCode) × IsNotAnswered origin old new call reason × (reply ≡ reporting reason))
+abbrev pub IsAnsweredCall : Past → Book → Held → Held → AdminCall → Reply → Type 0
+IsAnsweredCall origin name old new call reply =
+    IsAnswered origin name old new call reply
+    ⊎ ((reason : ErrorCode) × IsNotAnswered origin name old new call reason × (reply ≡ reporting reason))
 
-abbrev pub IsAdminAnswered : Past → Escape → Held → Held → Request → Reply → Type 0
-IsAdminAnswered origin escape old new request reply =
+abbrev pub IsAdminAnswered : Past → Book → Escape → Held → Held → Request → Reply → Type 0
+IsAdminAnswered origin name escape old new request reply =
     IsRefusedCall escape old new request reply
     ⊎ ((call : AdminCall) × IsCall escape request.method request.url request.body call
-    × IsAnsweredCall origin old new call reply)
+    × IsAnsweredCall origin name old new call reply)

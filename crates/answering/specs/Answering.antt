@@ -12,6 +12,7 @@ use Rattle.answering.specs.Reply.{IsResponseOf}
 use Rattle.answering.specs.declared.begun.Begun.{Begun}
 use Rattle.answering.specs.declared.begun.Begun.TheVariants.{Answered, ToForward}
 use Rattle.answering.specs.declared.forward.Forward.{Forward}
+use Rattle.logbook.specs.Pages.{Book}
 use Rattle.mapping_model.specs.declared.reply.Reply.{Reply}
 use Rattle.mock_request.specs.Request.{Request}
 use Rattle.mock_request.specs.Target.{HasUrl}
@@ -22,6 +23,7 @@ use Rattle.proxy_client.specs.Messages.{IsSomeReply}
 use Rattle.proxy_client.specs.declared.error.ProxyError.{ProxyError}
 use Rattle.request_journal.specs.Past.{Past}
 use Rattle.shared_book.specs.Held.{Held}
+use Rattle.shared_book.specs.Seen.{HasMadeNoCall}
 use Rattle.answering.specs.Admin.{IsAdminAnswered}
 use Rattle.answering.specs.Served.{IsServedWith, IsNotServed}
 use Rattle.stub_response.specs.ErrorReply.{error_reply}
@@ -29,16 +31,16 @@ use Rattle.stub_response.specs.declared.limits.Limits.{Limits}
 use Rattle.template_tree.specs.declared.escape.Escape.{Escape}
 
 -- the reply to a request that is no admin call
-abbrev pub IsServeAnswered : Past → Limits → Held → Held → Request → Reply → Type 0
-IsServeAnswered origin limits old new request reply =
-    IsServedWith origin limits old new request reply
-    ⊎ ((reason : ErrorCode) × IsNotServed origin old new request reason × (reply ≡ error_reply 503 reason))
+abbrev pub IsServeAnswered : Past → Book → Limits → Held → Held → Request → Reply → Type 0
+IsServeAnswered origin name limits old new request reply =
+    IsServedWith origin name limits old new request reply
+    ⊎ ((reason : ErrorCode) × IsNotServed origin name old new request reason × (reply ≡ error_reply 503 reason))
 
 -- the reply to a request that isn't forwarded
-abbrev pub IsRequestAnswered : Past → Limits → Escape → Held → Held → Request → Reply → Type 0
-IsRequestAnswered origin limits escape old new request reply =
-    (IsAdmin request.url × IsAdminAnswered origin escape old new request reply)
-    ⊎ (¬ (IsAdmin request.url) × IsServeAnswered origin limits old new request reply)
+abbrev pub IsRequestAnswered : Past → Book → Limits → Escape → Held → Held → Request → Reply → Type 0
+IsRequestAnswered origin name limits escape old new request reply =
+    (IsAdmin request.url × IsAdminAnswered origin name escape old new request reply)
+    ⊎ (¬ (IsAdmin request.url) × IsServeAnswered origin name limits old new request reply)
 
 -- the reply to a message that isn't read: its target is bad, or else its body is too large; or memory ran out
 abbrev pub refusal : SnapshotError → Reply
@@ -57,51 +59,54 @@ abbrev pub IsNotRead : Held → Held → Message (List ℕ) → Reply → Type 0
 IsNotRead old new message reply =
     (new ≡ old) × ((error : SnapshotError) × IsUnread message error × (reply ≡ refusal error))
 
-abbrev pub IsRead : Past → Limits → Escape → Held → Held → Message (List ℕ) → Reply → Type 0
-IsRead origin limits escape old new message reply =
+abbrev pub IsRead : Past → Book → Limits → Escape → Held → Held → Message (List ℕ) → Reply → Type 0
+IsRead origin name limits escape old new message reply =
     (request : Request) × IsReceived message request × (length (body_of message) ≤ BODY_LIMIT)
-    × IsRequestAnswered origin limits escape old new request reply
+    × IsRequestAnswered origin name limits escape old new request reply
 
 -- the reply to a message that isn't forwarded, and what the seat has gained by it
-abbrev pub IsReply : Past → Limits → Escape → Held → Held → Message (List ℕ) → Reply → Type 0
-IsReply origin limits escape old new message reply =
-    IsNotRead old new message reply ⊎ IsRead origin limits escape old new message reply
+abbrev pub IsReply : Past → Book → Limits → Escape → Held → Held → Message (List ℕ) → Reply → Type 0
+IsReply origin name limits escape old new message reply =
+    IsNotRead old new message reply ⊎ IsRead origin name limits escape old new message reply
 
 -- the response is that of the reply; or memory ran out while it was written
-abbrev pub IsBegun : Past → Limits → Escape → Held → Held → Message (List ℕ)
+abbrev pub IsBegun : Past → Book → Limits → Escape → Held → Held → Message (List ℕ)
     → Response (List ℕ) → Type 0
-IsBegun origin limits escape old new message response =
-    (reply : Reply) × IsReply origin limits escape old new message reply
+IsBegun origin name limits escape old new message response =
+    (reply : Reply) × IsReply origin name limits escape old new message reply
     × (IsResponseOf reply response ⊎ IsResponseOf (error_reply 503 OutOfMemory) response)
 
 -- there is no response, and the seat is as one of its replies leaves it
-abbrev pub IsNotBegun : Past → Limits → Escape → Held → Held → Message (List ℕ) → Type 0
-IsNotBegun origin limits escape old new message = (reply : Reply) × IsReply origin limits escape old new message reply
+abbrev pub IsNotBegun : Past → Book → Limits → Escape → Held → Held → Message (List ℕ) → Type 0
+IsNotBegun origin name limits escape old new message =
+    (reply : Reply) × IsReply origin name limits escape old new message reply
 
 -- what is answered at once, or is to be forwarded
-abbrev pub Begins : Past → Limits → Escape → Held → Held → Message (List ℕ) → Begun → Type 0
-Begins origin limits escape old new message (Answered response) =
-    IsBegun origin limits escape old new message response
-Begins origin limits escape old new message (ToForward forward) = IsToForward origin old new message forward
+abbrev pub Begins : Past → Book → Limits → Escape → Held → Held → Message (List ℕ) → Begun → Type 0
+Begins origin name limits escape old new message (Answered response) =
+    IsBegun origin name limits escape old new message response
+Begins origin name limits escape old new message (ToForward forward) = IsToForward origin name old new message forward
 
 -- the message was forwarded after the first of its events, and this is the response to what came of that
-pub record IsAnsweredLater (origin : Past) (old new : Held) (message : Message (List ℕ))
+pub record IsAnsweredLater (origin : Past) (name : Book) (old new : Held) (message : Message (List ℕ))
     (response : Response (List ℕ)) : Type 0 where
   pub middle : Held
   pub forward : Forward
   pub forwarded : Result Reply ProxyError
-  pub begun : IsToForward origin old middle message forward
+  pub begun : IsToForward origin name old middle message forward
   pub some_reply : IfOk forwarded IsSomeReply
-  pub finished : IsFinished origin middle new forward forwarded response
+  pub finished : IsFinished origin name middle new forward forwarded response
 
 -- the response to a message, and what the seat has gained by it
-abbrev pub IsAnswered : Past → Limits → Escape → Held → Held → Message (List ℕ)
+abbrev pub IsAnswered : Past → Book → Limits → Escape → Held → Held → Message (List ℕ)
     → Response (List ℕ) → Type 0
-IsAnswered origin limits escape old new message response =
-    IsBegun origin limits escape old new message response ⊎ IsAnsweredLater origin old new message response
+IsAnswered origin name limits escape old new message response =
+    IsBegun origin name limits escape old new message response ⊎ IsAnsweredLater origin name old new message response
 
--- there is none, and the seat is as a reply leaves it, or as the first event of what is to be forwarded
-abbrev pub IsNotAnswered : Past → Limits → Escape → Held → Held → Message (List ℕ) → Type 0
-IsNotAnswered origin limits escape old new message =
-    IsNotBegun origin limits escape old new message
-    ⊎ ((forward : Forward) × IsToForward origin old new message forward)
+-- there is none, and the seat is as a reply leaves it, or has made no call since the first event of what is to be
+-- forwarded
+abbrev pub IsNotAnswered : Past → Book → Limits → Escape → Held → Held → Message (List ℕ) → Type 0
+IsNotAnswered origin name limits escape old new message =
+    IsNotBegun origin name limits escape old new message
+    ⊎ ((forward : Forward) × (middle : Held) × IsToForward origin name old middle message forward
+    × HasMadeNoCall origin name middle new)

@@ -14,6 +14,7 @@ use Rattle.http.specs.declared.request.Request.{Request as Message}
 use Rattle.http.specs.declared.response.Response.{Response}
 use Rattle.http_header.specs.FieldName.{IsHeaderName}
 use Rattle.http_messages.specs.Received.{IsReceived}
+use Rattle.logbook.specs.Pages.{Book}
 use Rattle.mapping_model.specs.declared.reply.Reply.{Reply}
 use Rattle.mock_request.specs.declared.snapshot.TheConstants.{BODY_LIMIT}
 use Rattle.proxy_client.specs.declared.error.ProxyError.{ProxyError}
@@ -25,7 +26,7 @@ use Rattle.request_journal.specs.declared.input.BookInput.{BookInput}
 use Rattle.request_journal.specs.declared.input.BookInput.TheVariants as input
 use Rattle.shared_book.specs.Held.{Held}
 use Rattle.shared_book.specs.Refused.{IsRefused}
-use Rattle.shared_book.specs.Seen.{HasCaughtUp}
+use Rattle.shared_book.specs.Seen.{HasMadeNoCall}
 use Rattle.shared_book.specs.declared.receipt.Receipt.{Receipt}
 use Rattle.stub_response.specs.ErrorReply.{error_reply}
 
@@ -36,12 +37,12 @@ serve_receipt forward =
 
 -- the message is a request that is no admin call, and was served: what is to be forwarded has the number, the request
 -- and the target of the receipt
-pub record IsToForward (origin : Past) (old new : Held) (message : Message (List ℕ)) (forward : Forward)
+pub record IsToForward (origin : Past) (name : Book) (old new : Held) (message : Message (List ℕ)) (forward : Forward)
     : Type 0 where
   pub received : IsReceived message forward.request
   pub within : length (body_of message) ≤ BODY_LIMIT
   pub no_admin_call : ¬ (IsAdmin forward.request.url)
-  pub served : GainsServe origin old new forward.request (serve_receipt forward)
+  pub served : GainsServe origin name old new forward.request (serve_receipt forward)
   -- as those of each received request
   pub names : All (λ header. IsHeaderName header.name) forward.request.headers
 
@@ -62,17 +63,14 @@ is_not_taken other = false
 abbrev pub reply_unrecorded : Reply → ErrorCode → Reply
 reply_unrecorded sent reason = if is_not_taken reason then sent else error_reply 503 reason
 
--- the seat has made no call: it is as it was, or has caught up with the history
-abbrev pub HasMadeNoCall : Past → Held → Held → Type 0
-HasMadeNoCall origin old new = (new ≡ old) ⊎ HasCaughtUp origin old new
-
 -- the reply that came is sent, and its record is the seat's next call in the one history; or the book refused the
 -- record; or memory ran out, and nothing is recorded
-abbrev pub IsRecordReply : Past → Held → Held → BookInput → Reply → Reply → Type 0
-IsRecordReply origin old new asked sent reply =
-    ((reply ≡ sent) × ((receipt : Receipt) × Gains origin old new asked receipt))
-    ⊎ (((reason : ErrorCode) × IsRefused origin old new asked reason × (reply ≡ reply_unrecorded sent reason))
-    ⊎ (HasMadeNoCall origin old new × (reply ≡ error_reply 503 code.OutOfMemory)))
+abbrev pub IsRecordReply : Past → Book → Held → Held → BookInput → Reply → Reply → Type 0
+IsRecordReply origin name old new asked sent reply =
+    ((reply ≡ sent) × ((receipt : Receipt) × Gains origin name old new asked receipt))
+    ⊎ (((reason : ErrorCode) × IsRefused origin name old new asked reason
+    × (reply ≡ reply_unrecorded sent reason))
+    ⊎ (HasMadeNoCall origin name old new × (reply ≡ error_reply 503 code.OutOfMemory)))
 
 -- the reply to the client where the target gave none
 abbrev pub failure_reply : ProxyError → Reply
@@ -80,14 +78,14 @@ failure_reply (UpstreamFailed failure) = error_reply 502 code.UpstreamFailed
 failure_reply OutOfMemory = error_reply 503 code.OutOfMemory
 
 -- the reply to what was forwarded. Where none came, nothing is recorded; there, too, memory may run out.
-abbrev pub IsForwardReply : Past → Held → Held → Forward → Result Reply ProxyError → Reply → Type 0
-IsForwardReply origin old new forward (Ok sent) reply =
-    (wait_ms : ℕ) × IsRecordReply origin old new (record_of forward sent wait_ms) sent reply
-IsForwardReply origin old new forward (Err error) reply =
+abbrev pub IsForwardReply : Past → Book → Held → Held → Forward → Result Reply ProxyError → Reply → Type 0
+IsForwardReply origin name old new forward (Ok sent) reply =
+    (wait_ms : ℕ) × IsRecordReply origin name old new (record_of forward sent wait_ms) sent reply
+IsForwardReply origin name old new forward (Err error) reply =
     (new ≡ old) × ((reply ≡ failure_reply error) ⊎ (reply ≡ error_reply 503 code.OutOfMemory))
 
 -- the response is that of such a reply
 abbrev pub IsFinished
-    : Past → Held → Held → Forward → Result Reply ProxyError → Response (List ℕ) → Type 0
-IsFinished origin old new forward forwarded response =
-    (reply : Reply) × IsForwardReply origin old new forward forwarded reply × IsResponseOf reply response
+    : Past → Book → Held → Held → Forward → Result Reply ProxyError → Response (List ℕ) → Type 0
+IsFinished origin name old new forward forwarded response =
+    (reply : Reply) × IsForwardReply origin name old new forward forwarded reply × IsResponseOf reply response

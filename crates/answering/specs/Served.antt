@@ -2,6 +2,7 @@
 use Rattle.std.specs.Prelude.{◌≡◌, ◌⊎◌}
 use Rattle.error_code.specs.declared.error_code.ErrorCode.{ErrorCode}
 use Rattle.error_code.specs.declared.error_code.ErrorCode.TheVariants.{OutOfMemory}
+use Rattle.logbook.specs.Pages.{Book}
 use Rattle.mapping_model.specs.declared.reply.Reply.{Reply}
 use Rattle.mock_request.specs.Request.{Request}
 use Rattle.request_journal.specs.Past.{Past}
@@ -30,18 +31,19 @@ IsEventReply limits (event.Serve request answer) reply = IsServeReply limits req
 IsEventReply limits other reply = ⊥
 
 -- the serve of this request is the seat's next call in the one history, and the seat has gained its receipt
-pub record GainsServe (origin : Past) (old new : Held) (request : Request) (receipt : Receipt) : Type 0 where
+pub record GainsServe (origin : Past) (name : Book) (old new : Held) (request : Request) (receipt : Receipt)
+    : Type 0 where
   pub gained : Gained origin old receipt new
   pub served : IsServed request receipt.event
-  pub entered : Enters origin old new receipt
+  pub entered : Enters origin name old new receipt
 
 -- the request was served, and this is the reply by the event in its receipt
-abbrev pub IsServedWith : Past → Limits → Held → Held → Request → Reply → Type 0
-IsServedWith origin limits old new request reply =
-    (receipt : Receipt) × GainsServe origin old new request receipt × IsEventReply limits receipt.event reply
+abbrev pub IsServedWith : Past → Book → Limits → Held → Held → Request → Reply → Type 0
+IsServedWith origin name limits old new request reply =
+    (receipt : Receipt) × GainsServe origin name old new request receipt × IsEventReply limits receipt.event reply
 
 -- the request wasn't served; or memory ran out while its reply was made, and the serve stands
-abbrev pub IsNotServed : Past → Held → Held → Request → ErrorCode → Type 0
-IsNotServed origin old new request reason =
-    IsServeRefused origin old new reason
-    ⊎ ((reason ≡ OutOfMemory) × ((receipt : Receipt) × GainsServe origin old new request receipt))
+abbrev pub IsNotServed : Past → Book → Held → Held → Request → ErrorCode → Type 0
+IsNotServed origin name old new request reason =
+    IsServeRefused origin name old new reason
+    ⊎ ((reason ≡ OutOfMemory) × ((receipt : Receipt) × GainsServe origin name old new request receipt))

@@ -30,8 +30,8 @@ pub(crate) fn admin_answer<L: Origin, R: Wait>(
     escape: Escape,
 ) -> Result<AdminAnswer, AllocError>
     ensures { MatchResult result
-        (λ answer. IsAdminAnswered L.origin escape seat.old seat.new request.now (reply_of answer))
-        (λ _. (reply : _) × IsAdminAnswered L.origin escape seat.old seat.new request.now reply) }
+        (λ answer. IsAdminAnswered L.origin L.book escape seat.old seat.new request.now (reply_of answer))
+        (λ _. (reply : _) × IsAdminAnswered L.origin L.book escape seat.old seat.new request.now reply) }
 {
     match admin_with(
         alloc,
@@ -53,8 +53,8 @@ fn call_answer<L: Origin, R: Wait>(
     call: AdminCall,
 ) -> Result<AdminAnswer, AllocError>
     ensures { MatchResult result
-        (λ answer. IsAnsweredCall L.origin seat.old seat.new call (reply_of answer))
-        (λ _. (reply : _) × IsAnsweredCall L.origin seat.old seat.new call reply) }
+        (λ answer. IsAnsweredCall L.origin L.book seat.old seat.new call (reply_of answer))
+        (λ _. (reply : _) × IsAnsweredCall L.origin L.book seat.old seat.new call reply) }
 {
     match answer_admin(rt, alloc, shared, seat, call) {
         Ok(answer) => Ok(answer),

@@ -40,9 +40,9 @@ pub(crate) fn begin_message<L: Origin, R: Wait, G: Gate, C: Clock>(
     message: &Request<Bytes>,
 ) -> Result<Begun, AllocError>
     ensures { MatchResult result
-        (HasBegun (IsReply L.origin site.now.limits site.now.escape seat.old seat.new message.now)
-        (IsToForward L.origin seat.old seat.new message.now))
-        (λ _. IsNotBegun L.origin site.now.limits site.now.escape seat.old seat.new message.now) }
+        (HasBegun (IsReply L.origin L.book site.now.limits site.now.escape seat.old seat.new message.now)
+        (IsToForward L.origin L.book seat.old seat.new message.now))
+        (λ _. IsNotBegun L.origin L.book site.now.limits site.now.escape seat.old seat.new message.now) }
 {
     match request_of(alloc, seat, message) {
         Ok(request) => {
@@ -94,9 +94,9 @@ fn begin_request<L: Origin, R: Wait, G: Gate, C: Clock>(
     request: Snapshot,
 ) -> Result<Begun, AllocError>
     ensures { MatchResult result
-        (HasBegun (IsRequestAnswered L.origin site.now.limits site.now.escape seat.old seat.new request)
-        (IsRequestToForward L.origin seat.old seat.new request))
-        (λ _. (reply : _) × IsRequestAnswered L.origin site.now.limits site.now.escape seat.old
+        (HasBegun (IsRequestAnswered L.origin L.book site.now.limits site.now.escape seat.old seat.new request)
+        (IsRequestToForward L.origin L.book seat.old seat.new request))
+        (λ _. (reply : _) × IsRequestAnswered L.origin L.book site.now.limits site.now.escape seat.old
         seat.new request reply) }
 {
     if is_admin(request.url()) {
@@ -116,8 +116,8 @@ fn admin_response<L: Origin, R: Wait, G: Gate, C: Clock>(
     request: &Snapshot,
 ) -> Result<Response<Content>, AllocError>
     ensures { MatchResult result
-        (HasReply (IsAdminAnswered L.origin site.now.escape seat.old seat.new request.now))
-        (λ _. (reply : _) × IsAdminAnswered L.origin site.now.escape seat.old seat.new request.now reply) }
+        (HasReply (IsAdminAnswered L.origin L.book site.now.escape seat.old seat.new request.now))
+        (λ _. (reply : _) × IsAdminAnswered L.origin L.book site.now.escape seat.old seat.new request.now reply) }
 {
     match admin_answer(rt, alloc, &site.book, seat, request, site.escape)? {
         AdminAnswer::Whole(reply) => response_of(alloc, reply),

@@ -1,10 +1,10 @@
 // The response to a message that was forwarded.
 ghost use Rattle.std.specs.Prelude.{◌≡◌, IfErr, IfOk, Ok, OnErr};
-ghost use Rattle.answering.specs.Forwarding.{HasMadeNoCall, IsFinished, IsForwardReply, is_not_taken, record_of};
-ghost use Rattle.answering.specs.Forwarding.{reply_unrecorded};
+ghost use Rattle.answering.specs.Forwarding.{IsFinished, IsForwardReply, is_not_taken, record_of, reply_unrecorded};
 ghost use Rattle.answering.specs.Reply.{IsResponseOf};
 ghost use Rattle.error_code.specs.declared.error_code.ErrorCode.TheVariants as code;
 ghost use Rattle.http_messages.specs.declared.error.ServiceError.TheVariants.{OutOfMemory as NoMemory};
+ghost use Rattle.shared_book.specs.Seen.{HasMadeNoCall};
 ghost use Rattle.stub_response.specs.ErrorReply.{error_reply};
 
 use crate::clock::Clock;
@@ -34,8 +34,8 @@ pub fn finish<L: Origin, R: Wait, G, C: Clock>(
     forward: Forward,
     forwarded: Result<Reply, ProxyError>,
 ) -> Result<Response<Content>, ServiceError>
-    ensures ok { IfOk result (IsFinished L.origin seat.old seat.new forward forwarded) }
-    ensures err { IfErr result (λ error. (error ≡ NoMemory) × HasMadeNoCall L.origin seat.old seat.new) }
+    ensures ok { IfOk result (IsFinished L.origin L.book seat.old seat.new forward forwarded) }
+    ensures err { IfErr result (λ error. (error ≡ NoMemory) × HasMadeNoCall L.origin L.book seat.old seat.new) }
 {
     match forwarded_response(rt, alloc, site, seat, forward, forwarded) {
         Ok(response) => Ok(response),
@@ -51,10 +51,10 @@ fn forwarded_response<L: Origin, R: Wait, G, C: Clock>(
     forward: Forward,
     forwarded: Result<Reply, ProxyError>,
 ) -> Result<Response<Content>, AllocError>
-    ensures ok { IfOk result (IsFinished L.origin seat.old seat.new forward forwarded) }
-    ensures err { OnErr result (HasMadeNoCall L.origin seat.old seat.new) }
+    ensures ok { IfOk result (IsFinished L.origin L.book seat.old seat.new forward forwarded) }
+    ensures err { OnErr result (HasMadeNoCall L.origin L.book seat.old seat.new) }
     ensures memory { OnErr result
-        (IsForwardReply L.origin seat.old seat.new forward forwarded (error_reply 503 code.OutOfMemory)) }
+        (IsForwardReply L.origin L.book seat.old seat.new forward forwarded (error_reply 503 code.OutOfMemory)) }
 {
     match forwarded {
         Ok(reply) => relay(rt, alloc, site, seat, forward, reply),
@@ -73,8 +73,8 @@ fn relay<L: Origin, R: Wait, G, C: Clock>(
     forward: Forward,
     reply: Reply,
 ) -> Result<Response<Content>, AllocError>
-    ensures ok { IfOk result (IsFinished L.origin seat.old seat.new forward (Ok reply)) }
-    ensures err { OnErr result (HasMadeNoCall L.origin seat.old seat.new) }
+    ensures ok { IfOk result (IsFinished L.origin L.book seat.old seat.new forward (Ok reply)) }
+    ensures err { OnErr result (HasMadeNoCall L.origin L.book seat.old seat.new) }
 {
     let wait_ms = site.clock.now_ms().saturating_sub(forward.started_ms);
     let input = input_of(alloc, &forward, &reply, wait_ms)?;

@@ -25,9 +25,9 @@ pub(crate) fn serve<L: Origin, R: Wait, G: Gate, C: Clock>(
     request: Snapshot,
 ) -> Result<Begun, AllocError>
     ensures { MatchResult result
-        (HasBegun (IsServeAnswered L.origin site.now.limits seat.old seat.new request)
-        (IsServedToForward L.origin seat.old seat.new request))
-        (λ _. (reply : _) × IsServeAnswered L.origin site.now.limits seat.old seat.new request reply) }
+        (HasBegun (IsServeAnswered L.origin L.book site.now.limits seat.old seat.new request)
+        (IsServedToForward L.origin L.book seat.old seat.new request))
+        (λ _. (reply : _) × IsServeAnswered L.origin L.book site.now.limits seat.old seat.new request reply) }
 {
     match seat.serve(rt, &site.book, request) {
         Ok(receipt) => begin_event(alloc, site, receipt.number, receipt.event.event()),

@@ -8,6 +8,7 @@ use Rattle.answering.specs.Served.{GainsServe}
 use Rattle.answering.specs.declared.begun.Begun.{Begun}
 use Rattle.answering.specs.declared.begun.Begun.TheVariants.{Answered, ToForward}
 use Rattle.answering.specs.declared.forward.Forward.{Forward}
+use Rattle.logbook.specs.Pages.{Book}
 use Rattle.mapping_model.specs.declared.reply.Reply.{Reply}
 use Rattle.mock_request.specs.Request.{Request}
 use Rattle.request_journal.specs.Past.{Past}
@@ -29,11 +30,11 @@ IsForwardOf number event forward =
     ((serve_receipt forward).number ≡ number) × ((serve_receipt forward).event ≡ event)
 
 -- the request was served, and it is what is to be forwarded
-abbrev pub IsServedToForward : Past → Held → Held → Request → Forward → Type 0
-IsServedToForward origin old new request forward =
-    (forward.request ≡ request) × GainsServe origin old new forward.request (serve_receipt forward)
+abbrev pub IsServedToForward : Past → Book → Held → Held → Request → Forward → Type 0
+IsServedToForward origin name old new request forward =
+    (forward.request ≡ request) × GainsServe origin name old new forward.request (serve_receipt forward)
 
 -- it is no admin call
-abbrev pub IsRequestToForward : Past → Held → Held → Request → Forward → Type 0
-IsRequestToForward origin old new request forward =
-    ¬ (IsAdmin request.url) × IsServedToForward origin old new request forward
+abbrev pub IsRequestToForward : Past → Book → Held → Held → Request → Forward → Type 0
+IsRequestToForward origin name old new request forward =
+    ¬ (IsAdmin request.url) × IsServedToForward origin name old new request forward

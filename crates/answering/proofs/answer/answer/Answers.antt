@@ -1,6 +1,5 @@
-use Rattle.std.proofs.Common.{inr, subst, sym}
+use Rattle.std.proofs.Common.{inr}
 use Rattle.std.proofs.lemmas.Result.{IfErr-weaker, IfOk-weaker}
-use Rattle.answering.specs.Forwarding.{IsToForward}
 use Rattle.answering.proofs.answer.answer.Goals as goal
 
 pub returns-in-Ok-ToForward-clause-ok : goal.returns-in-Ok-ToForward-clause-ok
@@ -21,13 +20,5 @@ pub returns-in-Ok-ToForward-clause-err : goal.returns-in-Ok-ToForward-clause-err
 returns-in-Ok-ToForward-clause-err g c =
     let begun = rw c.in-Ok-ToForward.field-0-is at c.in-Ok-ToForward.ensures.ok in
     IfErr-weaker c.finish.result _ _
-    (λ error none. (
-      none.0,
-      inr (
-        c.in-Ok-ToForward.begun,
-        subst
-            (λ held. IsToForward g.L.Origin.origin c.args.seat.now held c.args.message.now c.in-Ok-ToForward.begun)
-            (sym none.1) begun,
-      ),
-    ))
+    (λ error none. (none.0, inr (c.in-Ok-ToForward.begun, c.begin.new.seat, begun, none.1)))
     c.finish.ensures.err

@@ -11,9 +11,9 @@ use Rattle.answering.proofs.serve.serve.Goals as goal
 pub returns-in-Ok : goal.returns-in-Ok
 returns-in-Ok g c =
     let lent = subst
-    (λ r. LendsServed g.L.Origin.origin c.args.seat.now c.serve.follows.lender-at-none c.args.request r)
+    (λ r. LendsServed g.L.Origin.origin g.L.Naming.book c.args.seat.now c.serve.follows.lender-at-none c.args.request r)
     c.in-Ok.is c.serve.follows.holds-at-none in
-    of_event g.L.Origin.origin c.args.site.now.limits c.args.seat.now c.serve.follows.lender-at-none c.args.request
+    of_event g.L.Origin.origin g.L.Naming.book c.args.site.now.limits c.args.seat.now c.serve.follows.lender-at-none c.args.request
     c.in-Ok.receipt.now c.begin_event.result
     (record { gained = lent.0; served = lent.1; entered = lent.2 })
     (subst (λ event. IfOk c.begin_event.result
@@ -24,7 +24,7 @@ pub returns-in_err-response-in-Err : goal.returns-in_err-response-in-Err
 returns-in_err-response-in-Err g c =
     let none = err_from_is_err_and c.from_residual.result c.from_residual.ensures.1 in
     let same = subst
-    (λ r. LendsServed g.L.Origin.origin c.args.seat.now c.serve.follows.lender-at-none c.args.request r)
+    (λ r. LendsServed g.L.Origin.origin g.L.Naming.book c.args.seat.now c.serve.follows.lender-at-none c.args.request r)
     c.in-Err.is c.serve.follows.holds-at-none in
     rw none.1
     (error_reply 503 c.in-Err.error.code, inr (c.in-Err.error.code, inl same, refl))
@@ -32,7 +32,7 @@ returns-in_err-response-in-Err g c =
 pub returns-in_ok-response-in-Err : goal.returns-in_ok-response-in-Err
 returns-in_ok-response-in-Err g c =
     let same = subst
-    (λ r. LendsServed g.L.Origin.origin c.args.seat.now c.serve.follows.lender-at-none c.args.request r)
+    (λ r. LendsServed g.L.Origin.origin g.L.Naming.book c.args.seat.now c.serve.follows.lender-at-none c.args.request r)
     c.in-Err.is c.serve.follows.holds-at-none in (
       error_reply 503 c.in-Err.error.code,
       inr (c.in-Err.error.code, inl same, refl),
