@@ -74,8 +74,8 @@ pub fn law_replay()
         → replies_of outcomes ≡ map (λ e. e.reply) exchanges }
 {}
 
-/// What the seats of a shared book have entered in its one history, or in a beginning of it, is a schedule with the very
-/// events of that, so `law_legal`, `law_one_choice` and `law_once` hold of it.
+/// What the seats of a shared book have entered in its one history, or in a beginning of it, is a schedule with the
+/// very events of that, so `law_legal`, `law_one_choice` and `law_once` hold of it.
 #[tactic(auto, using(crate::proofs::SharedRuns::scheduled))]
 pub fn law_shared_is_scheduled()
     ensures { (start : WorldState) (log : Log) (past : Past) → IsPastOf start.past log past
