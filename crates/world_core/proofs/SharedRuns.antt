@@ -10,7 +10,8 @@ use Rattle.mock_request.specs.Request.{Request}
 use Rattle.shared_book.specs.Reached.{IsPastOf, Lead, Log}
 use Rattle.shared_history.proofs.Entries.{events_append}
 use Rattle.shared_history.specs.Entries.{entry, events}
-use Rattle.shared_history.specs.declared.entry.Deed.TheVariants.{Called}
+use Rattle.shared_history.specs.declared.entry.Deed.{Deed}
+use Rattle.shared_history.specs.declared.entry.Deed.TheVariants.{Called, Left, Opened, Split}
 use Rattle.stub_book.specs.Growth.{Grows}
 use Rattle.world_core.proofs.ChosenRuns.{one_choice_after}
 use Rattle.world_core.proofs.Grown.{state_grown}
@@ -33,16 +34,23 @@ asked_for (event.StartRecording target captured repeats) = (refl, refl, refl)
 asked_for (event.Record serve exchange) = (refl, refl)
 asked_for (event.StopRecording mappings skipped) = tt
 
--- events that lead from one past to another are those of a schedule
-runs : (start : WorldState) (es : List Event) (past : Past) → Lead start.past es past →
-    (outcomes : List Outcome) × (end : WorldState) × IsRun start (calling es) outcomes end × (end.past ≡ past)
-    × (events_of outcomes ≡ es)
-runs start [] past same = ([], start, (refl, refl), same, refl)
-runs start (e ∷ es) past (next, grows, rest) =
+-- the calls of the log are a schedule from here, with its very events
+abbrev AreRun : WorldState → Log → Past → Type 0
+AreRun start log past =
+    (outcomes : List Outcome) × (end : WorldState) × IsRun start (calling log) outcomes end × (end.past ≡ past)
+    × (events_of outcomes ≡ events log)
+
+-- one more entry before them
+run_before : (log : Log) (past : Past) (seat : ℕ) (deed : Deed Past Event)
+    → ((start : WorldState) → Lead start.past (events log) past → AreRun start log past)
+    → (start : WorldState) → Lead start.past (events (entry seat deed ∷ log)) past
+    → AreRun start (entry seat deed ∷ log) past
+run_before log past seat (Opened origin) rest start lead = rest start lead
+run_before log past seat (Called e) rest start (next, grows, lead) =
     let between : WorldState =
-    record { past = next; held = held_after 0 e start.held; limits = start.limits } in
+    record { past = next; held = held_after seat e start.held; limits = start.limits } in
     let outcome : Outcome = record { event = Some e; reply = None } in
-    let more = runs between es past rest in (
+    let more = rest between lead in (
       outcome ∷ more.0,
       more.1,
       (
@@ -53,11 +61,17 @@ runs start (e ∷ es) past (next, grows, rest) =
       more.3,
       ap (λ (l : List Event). e ∷ l) more.4,
     )
+run_before log past seat Split rest start lead = rest start lead
+run_before log past seat Left rest start lead = rest start lead
+
+runs : (log : Log) (past : Past) (start : WorldState) → Lead start.past (events log) past → AreRun start log past
+runs [] past start same = ([], start, (refl, refl), same, refl)
+runs (e ∷ log) past start lead = run_before log past e.seat e.deed (λ s l. runs log past s l) start lead
 
 pub scheduled : (start : WorldState) (log : Log) (past : Past) → IsPastOf start.past log past
     → IsScheduled start log past
 scheduled start log past of =
-    let run = runs start (events log) past of in
+    let run = runs log past start of in
     record { outcomes = run.0; end = run.1; run = run.2; same_past = run.3; same_events = run.4 }
 
 pub one_choice_of : (origin past : Past) (log : Log) (request : Request) (one other : ServeAnswer) → IsOpened origin
@@ -65,7 +79,7 @@ pub one_choice_of : (origin past : Past) (log : Log) (request : Request) (one ot
 one_choice_of origin past log request one other opened of first second =
     let start : WorldState = record { past = origin; held = []; limits = record { steps = 0; bytes = 0 } } in
     let s = scheduled start log past of in
-    one_choice_after start s.end (calling (events log)) s.outcomes request one other opened s.run
+    one_choice_after start s.end (calling log) s.outcomes request one other opened s.run
     (subst (λ p. IsChoice p request one) (sym s.same_past) first)
     (subst (λ p. IsChoice p request other) (sym s.same_past) second)
 

@@ -1,5 +1,5 @@
 -- The one history of a shared book as a schedule, and what is so of each event in it.
-use Rattle.std.specs.Prelude.{◌≡◌, ℕ, List, map, unwrap_or}
+use Rattle.std.specs.Prelude.{◌≡◌, ℕ, List, [], ◌∷◌, unwrap_or}
 use Rattle.request_journal.specs.Legal.{IsNext}
 use Rattle.request_journal.specs.Past.{Past}
 use Rattle.request_journal.specs.State.{state, touch}
@@ -8,6 +8,7 @@ use Rattle.request_journal.specs.declared.event.Event.TheVariants as event
 use Rattle.request_journal.specs.declared.input.BookInput.TheVariants as input
 use Rattle.shared_book.specs.Reached.{IsPastOf, Log}
 use Rattle.shared_history.specs.Entries.{events}
+use Rattle.shared_history.specs.declared.entry.Deed.TheVariants.{Called, Left, Opened, Split}
 use Rattle.world_core.specs.Laws.{events_of}
 use Rattle.world_core.specs.Schedule.{IsRun, Outcome, WorldState}
 use Rattle.world_core.specs.declared.step.Call.{Call}
@@ -31,16 +32,23 @@ call_of (event.StartRecording target captured repeats) = Apply (input.StartRecor
 call_of (event.Record serve exchange) = Apply (input.Record serve exchange)
 call_of (event.StopRecording mappings skipped) = Apply input.StopRecording
 
--- the schedule of these calls, one after the other
-abbrev pub calling : List Event → List Step
-calling events = map (λ event. Act 0 (call_of event)) events
+-- the schedule of the calls of a history, each by the seat that made it, one after the other
+abbrev pub calling : Log → List Step
+calling [] = []
+calling (e ∷ log) =
+    elim e.deed [
+      | Opened origin ↦ calling log
+      | Called event ↦ Act e.seat (call_of event) ∷ calling log
+      | Split ↦ calling log
+      | Left ↦ calling log
+    ]
 
 -- the schedule of a history's calls leads from the past in which the book was shared to the past after them, with the
 -- very events of the history
 pub record IsScheduled (start : WorldState) (log : Log) (past : Past) : Type 0 where
   pub outcomes : List Outcome
   pub end : WorldState
-  pub run : IsRun start (calling (events log)) outcomes end
+  pub run : IsRun start (calling log) outcomes end
   pub same_past : end.past ≡ past
   pub same_events : events_of outcomes ≡ events log
 
