@@ -74,14 +74,14 @@ pub fn law_replay()
         → replies_of outcomes ≡ map (λ e. e.reply) exchanges }
 {}
 
-/// What the seats of a shared book have entered in its one history, or in a beginning of it, leads to a past: so whoever
-/// has seen such a beginning may take one for the laws below.
+/// What the seats of a shared book have entered in its one history, or in a beginning of it, leads to a past: so
+/// whoever has seen such a beginning may take one for the laws below.
 pub fn law_shared_has_past()
     ensures { (origin : Past) (log : Log) → IsLawful origin log → (past : Past) × IsPastOf origin log past }
 {}
 
-/// What the seats of a shared book have entered in its one history, or in a beginning of it, is a schedule, in which each
-/// call is an act of its seat, with the very events of that: so `law_legal`, `law_one_choice` and `law_once` hold of it.
+/// What the seats of a shared book have entered in its one history, or in a beginning of it, is a schedule, in which
+/// each call is an act of its seat, with the very events of that: so `law_legal`, `law_one_choice` and `law_once` hold of it.
 #[tactic(auto, using(crate::proofs::SharedRuns::scheduled))]
 pub fn law_shared_is_scheduled()
     ensures { (start : WorldState) (log : Log) (past : Past) → IsPastOf start.past log past
