@@ -9,7 +9,7 @@ use Rattle.shared_book.proofs.ReachedLemmas.{past_left, past_opened, past_split}
 use Rattle.shared_book.specs.Held.{IsDropped}
 use Rattle.shared_book.specs.Inner.Kept.{IsKept}
 use Rattle.shared_book.specs.Inner.Looked.{IsLooked, IsLookedUp}
-use Rattle.shared_book.specs.Reached.{IsLawful, IsPastOf, Log, MayFollow}
+use Rattle.shared_book.specs.Reached.{InPastOf, IsLawful, IsPastOf, Log, MayFollow}
 use Rattle.shared_book.specs.Seen.{IsEntered, IsJoined, IsSplit, SeesAll}
 use Rattle.shared_book.specs.declared.book_read.BookRead.{BookRead}
 use Rattle.shared_book.specs.declared.book_read.ReadAnswer.{ReadAnswer}
@@ -61,6 +61,12 @@ sees_all {name} origin whole old new lawful catches_up was_seen = record {
   lawful = subst (IsLawful origin) (sym catches_up.seen) lawful;
   was_seen = subst (IsSeen MayFollow name) (sym catches_up.seen) was_seen;
 }
+
+-- what holds of the past under the lock holds of the past after what the seat has seen then
+pub in_past : (origin past : Past) (whole : Log) (old new : Sight Past Event) (P : Past → Type 0)
+    → IsPastOf origin whole past → CatchesUp old whole new → P past → InPastOf origin new.seen P
+in_past origin past whole old new P is catches_up holds =
+    (past, subst (λ (log : Log). IsPastOf origin log past) (sym catches_up.seen) is, holds)
 
 -- the seat has made another
 pub was_split : {name : Book} (origin : Past) (whole new : Log) (seat later made : Sight Past Event) → IsLawful origin whole

@@ -1,5 +1,5 @@
 -- What a seat keeps, once it has seen more.
-use Rattle.std.proofs.Common.{◌≡◌, ℕ, ◌+◌, ◌-◌, ◌≤◌, ◌⊎◌, inr, List, ◌∷◌, ap, ◌∙◌, arith}
+use Rattle.std.proofs.Common.{◌≡◌, ℕ, ◌+◌, ◌-◌, ◌<◌, ◌≤◌, ◌⊎◌, inr, List, ◌∷◌, ap, ◌∙◌, arith}
 use Rattle.std.specs.List.{AllZip}
 use mathlib.Core.List.{IsPrefix}
 use Rattle.logbook.specs.Pages.{Book}
@@ -8,7 +8,7 @@ use Rattle.request_journal.specs.declared.event.Event.{Event}
 use Rattle.shared_book.proofs.HeldLemmas.{count_kept}
 use Rattle.shared_book.proofs.LetGoLemmas.{dropped_either}
 use Rattle.shared_book.proofs.ReachedLemmas.{dropped_later}
-use Rattle.shared_book.proofs.SeenLemmas.{entered_on, joined_on, left_on, sees_on}
+use Rattle.shared_book.proofs.SeenLemmas.{entered_on, joined_on, left_on, sees_on, split_on}
 use Rattle.error_code.specs.declared.error_code.ErrorCode.{ErrorCode}
 use Rattle.request_journal.specs.declared.input.BookInput.{BookInput}
 use Rattle.shared_book.specs.Held.{Held, IsDropped, LetsGo, sight}
@@ -68,6 +68,23 @@ module _ {name : Book} (origin : Past) (old new : Sight Past Event) (receipt : R
         lawful = entered.lawful;
         dropped = told_on before base told entered seat.dropped more either;
       }
+
+-- it has made another, which has one of its parts
+pub seat_split : {name : Book} (origin : Past) (old new made : Sight Past Event)
+    (all share amount parts count told later_share later_amount : ℕ) (lines : List Line)
+    → IsSeat origin all share amount parts count told old.seen lines → IsSplit origin name old new made
+    → 1 < parts → later_share + 1 ≡ share → later_amount + 0 ≡ amount
+    → IsSeat origin all later_share later_amount (parts - 1) count told new.seen lines
+seat_split origin old new made all share amount parts count told later_share later_amount lines seat split more
+    fewer same = record {
+  same_parts = omega (arith, seat.same_parts, more, fewer);
+  some = omega (arith, more);
+  fits = seat.fits;
+  same_count = omega (arith, seat.same_count, same);
+  counted = seat.counted;
+  lawful = split.lawful;
+  dropped = dropped_later origin old.seen new.seen told (split_on origin old new made split) seat.dropped;
+}
 
 -- it has taken over another
 pub told_joined : {name : Book} (origin : Past) (old other new : Sight Past Event) (before others told : ℕ)

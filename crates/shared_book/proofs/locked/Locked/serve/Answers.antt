@@ -1,0 +1,10 @@
+use Rattle.request_journal.specs.Past.{Past}
+use Rattle.shared_book.proofs.KeptLemmas.{in_past}
+use Rattle.stub_book.specs.Refusals.{IsServeRefusal}
+use Rattle.shared_book.proofs.locked.Locked.serve.Goals as goal
+
+pub returns-in-Err-clause-why : goal.returns-in-Err-clause-why
+returns-in-Err-clause-why g c =
+    in_past g.L.Origin.origin c.self.inside.book c.self.inside.history c.args.place.now c.catch_up.new.seat
+    (λ (past : Past). IsServeRefusal past c.in-Err.error.code) c.self.invariant.past_of
+    c.catch_up.ensures.catches_up c.in-Err.ensures.why
