@@ -10,9 +10,11 @@ use Rattle.shared_book.specs.Held.{IsDropped}
 use Rattle.shared_book.specs.Inner.Kept.{IsKept}
 use Rattle.shared_book.specs.Inner.Looked.{IsLooked, IsLookedUp}
 use Rattle.shared_book.specs.Reached.{InPastOf, IsLawful, IsPastOf, Log, MayFollow}
+use Rattle.shared_book.specs.Reading.{IsRead, IsReadAnswer}
 use Rattle.shared_book.specs.Seen.{IsEntered, IsJoined, IsSplit, SeesAll}
 use Rattle.shared_book.specs.declared.book_read.BookRead.{BookRead}
 use Rattle.shared_book.specs.declared.book_read.ReadAnswer.{ReadAnswer}
+use Rattle.shared_book.specs.declared.book_read.Reading.{Reading}
 use Rattle.shared_book.specs.declared.receipt.Receipt.{Receipt}
 use Rattle.shared_history.specs.Entries.{entry, opening}
 use Rattle.shared_history.specs.History.{HasLeft, IsHistory}
@@ -107,6 +109,18 @@ looked_up origin past whole seen asked number answer is same last looked = recor
   past_of = subst (λ (log : Log). IsPastOf origin log past) (sym same) is;
   number = last;
   answer = looked;
+}
+
+-- what is answered, of what was looked up
+pub answered : (origin : Past) (log : Log) (asked : BookRead) (looked : Reading) (answer : ReadAnswer)
+    → IsLookedUp origin log asked looked
+    → ((past : Past) → IsLooked past asked looked.answer → IsReadAnswer past asked answer)
+    → IsRead origin log asked (record { number = looked.number; answer = answer })
+answered origin log asked looked answer is right = record {
+  past = is.past;
+  past_of = is.past_of;
+  number = is.number;
+  answer = right is.past is.answer;
 }
 
 -- the book was just shared
