@@ -162,17 +162,19 @@ plays_refused : {A B : Type 0} {name : Book} (origin : Past) (old new : Held) (c
 plays_refused origin old new call (inl same) = plays_unchanged origin old new call same.1
 plays_refused origin old new call (inr caught) = plays_caught_up origin old new call caught.0
 
-pub plays_served : {name : Book} (origin : Past) (old new : Held) (request : Request) (result : Result (Bor Receipt) BookError)
+pub plays_served : (origin : Past) (name : Book) (old new : Held) (request : Request)
+    (result : Result (Bor Receipt) BookError)
     → LendsServed origin name old new request result → Plays origin old new (Serve request ∷ [])
-plays_served origin old new request (Ok lent) told =
+plays_served origin name old new request (Ok lent) told =
     plays_accepted origin old new (Serve request) lent.now told.0 told.1 told.2
-plays_served origin old new request (Err error) told = plays_refused origin old new (Serve request) told
+plays_served origin name old new request (Err error) told = plays_refused origin old new (Serve request) told
 
-pub plays_applied : {name : Book} (origin : Past) (old new : Held) (asked : BookInput) (result : Result (Bor Receipt) BookError)
+pub plays_applied : (origin : Past) (name : Book) (old new : Held) (asked : BookInput)
+    (result : Result (Bor Receipt) BookError)
     → LendsApplied origin name old new asked result → Plays origin old new (Apply asked ∷ [])
-plays_applied origin old new asked (Ok lent) told =
+plays_applied origin name old new asked (Ok lent) told =
     plays_accepted origin old new (Apply asked) lent.now told.0 told.1 told.2
-plays_applied origin old new asked (Err error) told = plays_refused origin old new (Apply asked) told
+plays_applied origin name old new asked (Err error) told = plays_refused origin old new (Apply asked) told
 
 -- ---- two seats that had made no call before their scripts, beside one that made its calls before
 

@@ -1,5 +1,6 @@
 -- What a seat keeps, once it has seen more.
-use Rattle.std.proofs.Common.{◌≡◌, ℕ, ◌+◌, ◌-◌, ◌<◌, ◌≤◌, ◌⊎◌, inr, List, ◌∷◌, ap, ◌∙◌, arith}
+use Rattle.std.proofs.Common.{◌≡◌, ℕ, ◌+◌, ◌-◌, ◌<◌, ◌≤◌, ◌⊎◌, inr, List, ◌∷◌, ap, sym, subst, ◌∙◌, arith, length}
+use Rattle.std.proofs.Common.{Result, Ok, Err, IfErr, IsErrAnd}
 use Rattle.std.specs.List.{AllZip}
 use mathlib.Core.List.{IsPrefix}
 use Rattle.logbook.specs.Pages.{Book}
@@ -11,7 +12,7 @@ use Rattle.shared_book.proofs.ReachedLemmas.{dropped_later}
 use Rattle.shared_book.proofs.SeenLemmas.{entered_on, joined_on, left_on, sees_on, split_on}
 use Rattle.error_code.specs.declared.error_code.ErrorCode.{ErrorCode}
 use Rattle.request_journal.specs.declared.input.BookInput.{BookInput}
-use Rattle.shared_book.specs.Held.{Held, IsDropped, LetsGo, sight}
+use Rattle.shared_book.specs.Held.{Held, IsDropped, LetsGo, all_numbers, sight}
 use Rattle.shared_book.specs.Inner.Gains.{Keeps}
 use Rattle.shared_book.specs.Inner.Seat.{IsSeat}
 use Rattle.shared_book.specs.Reached.{InPastOf, IsLawful, Log}
@@ -21,8 +22,9 @@ use Rattle.shared_book.specs.Seen.{HasCaughtUp, IsEntered, IsJoined, IsSplit, Se
 use Rattle.shared_book.specs.declared.receipt.Receipt.{Receipt}
 use Rattle.shared_history.specs.Sight.{Sight}
 use Rattle.stub_book.specs.Refusals.{IsRefusal, IsServeRefusal}
+use Rattle.stub_book.specs.declared.error.BookError.{BookError}
 
-module _ {name : Book} (origin : Past) (all share amount parts count told : ℕ) (lines : List Line) where
+module _ (origin : Past) (all share amount parts count told : ℕ) (lines : List Line) where
   pub seat_on : (old new : Log) → IsSeat origin all share amount parts count told old lines → IsPrefix old new
       → IsLawful origin new → IsSeat origin all share amount parts count told new lines
   seat_on old new seat on lawful = record {
@@ -36,10 +38,30 @@ module _ {name : Book} (origin : Past) (all share amount parts count told : ℕ)
   }
 
   -- it has caught up
-  pub seat_sees : (old new : Sight Past Event)
+  pub seat_sees : {name : Book} (old new : Sight Past Event)
       → IsSeat origin all share amount parts count told old.seen lines → SeesAll origin name old new
       → IsSeat origin all share amount parts count told new.seen lines
   seat_sees old new seat sees = seat_on old.seen new.seen seat (sees_on origin old new sees) sees.lawful
+
+-- its call was refused, for which it had made room
+pub seat_refused : {name : Book} (origin : Past) (old new : Sight Past Event)
+    (all share amount parts count told later_share later_amount : ℕ) (let_go : List ℕ) (held later : List Receipt)
+    (joined : List Line)
+    → IsSeat origin all share amount parts count told old.seen (record { let_go = let_go; held = held } ∷ joined)
+    → SeesAll origin name old new → later_share ≡ share → later_amount ≡ amount → later ≡ held
+    → IsSeat origin all later_share later_amount parts count told new.seen
+    (record { let_go = let_go; held = later } ∷ joined)
+seat_refused origin old new all share amount parts count told later_share later_amount let_go held later joined seat
+    sees same_share same_amount same = record {
+  same_parts = same_share ∙ seat.same_parts;
+  some = seat.some;
+  fits = seat.fits;
+  same_count = same_amount ∙ seat.same_count;
+  counted = seat.counted
+      ∙ ap (λ (rs : List Receipt). length (all_numbers (record { let_go = let_go; held = rs } ∷ joined))) (sym same);
+  lawful = sees.lawful;
+  dropped = dropped_later origin old.seen new.seen told (sees_on origin old new sees) seat.dropped;
+}
 
 -- it has made a call, and has kept the receipt
 module _ {name : Book} (origin : Past) (old new : Sight Past Event) (receipt : Receipt) where
@@ -120,6 +142,12 @@ split_left origin old new made split parts own joined = λ i. record {
   own = own i;
   joined = joined i;
 }
+
+-- an error that is given on
+pub err_of : {T : Type 0} (P : BookError → Type 0) (result : Result T BookError) (error : BookError)
+    → IsErrAnd result (λ e. e ≡ error) → P error → IfErr result P
+err_of P (Ok x) error given p = absurd given
+err_of P (Err e) error given p = subst P (sym given) p
 
 -- a call that was refused
 pub refused_serve : {name : Book} (origin : Past) (old new : Held) (reason : ErrorCode) → HasCaughtUp origin name old new

@@ -115,7 +115,6 @@ fn play<L: Origin, R: Wait, G: Gate>(
     seat
 }
 
-#[tactic(auto, using(crate::proofs::ScriptLemmas::plays_accepted, crate::proofs::ScriptLemmas::plays_refused))]
 fn play_call<L: Origin, R: Wait, G: Gate>(
     rt: &R,
     shared: &SharedBook<L>,

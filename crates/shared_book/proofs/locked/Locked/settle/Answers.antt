@@ -1,3 +1,4 @@
+use Rattle.std.proofs.Common.{arith}
 use Rattle.shared_book.proofs.SettledLemmas.{are_all, are_settled, are_unsettled, not_all, why_unsettled}
 use Rattle.shared_book.specs.Held.{all_parts}
 use Rattle.shared_book.specs.declared.settled.SettleRefusal.TheVariants.{SeatsMissing}
@@ -9,7 +10,7 @@ returns-then-not-have_parts-clause-why g c =
     c.args.seats.now c.cover.ensures.was_seen c.cover.ensures.beginnings SeatsMissing c.self.invariant.lawful
     c.self.invariant.past_of
     (not_all c.have_parts.result (all_parts c.args.seats.now) c.self.inside.parts g.L.Ledger.parts
-    c.have_parts.ensures c.if-not-have_parts.true c.self.invariant.same_parts)
+    c.have_parts.ensures (grind (arith, c.if-not-have_parts.true)) c.self.invariant.same_parts)
 
 pub returns-clause-settled : goal.returns-clause-settled
 returns-clause-settled g c =
@@ -17,7 +18,7 @@ returns-clause-settled g c =
     c.args.seats.now c.cover.ensures.was_seen c.cover.ensures.beginnings c.audit.new.seats c.compare.result
     c.audit.ensures.same_seats
     (are_all c.have_parts.result (all_parts c.args.seats.now) c.self.inside.parts g.L.Ledger.parts
-    c.have_parts.ensures c.if-not-have_parts.false c.self.invariant.same_parts)
+    c.have_parts.ensures (grind (arith, c.if-not-have_parts.false)) c.self.invariant.same_parts)
     c.compare.ensures.settled
 
 pub returns-clause-why : goal.returns-clause-why

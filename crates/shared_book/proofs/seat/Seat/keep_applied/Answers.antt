@@ -1,11 +1,13 @@
-use Rattle.std.proofs.Common.{List, subst, map, refl}
+use Rattle.std.proofs.Common.{ℕ, List, ap, subst, map, refl}
 use Rattle.shared_book.proofs.LetGoLemmas.{gains}
-use Rattle.shared_book.proofs.SeatLemmas.{seat_entered, told_on}
+use Rattle.shared_book.proofs.SeatLemmas.{caught_up, err_of, refused_change, seat_entered, seat_refused, told_on}
 use Rattle.shared_book.specs.Held.{Gained, Held}
 use Rattle.shared_book.specs.Inner.Gains.{Keeps}
 use Rattle.shared_book.specs.Inner.Seat.{line_of}
+use Rattle.shared_book.specs.Refused.{IsRefused}
 use Rattle.shared_book.specs.Seen.{Enters}
 use Rattle.shared_book.specs.declared.receipt.Receipt.{Receipt}
+use Rattle.stub_book.specs.declared.error.BookError.{BookError}
 use Rattle.shared_book.proofs.seat.Seat.keep_applied.Goals as goal
 
 pub invariant_of-self-2 : goal.invariant_of-self-2
@@ -52,3 +54,36 @@ returns-clause-ok g c =
       entered = subst (λ (s : Held). Enters g.L.Origin.origin g.L.Naming.book s new receipt) c.self.view_is
           c.in_ok-entered.ensures.ok.1;
     }
+
+pub invariant_of-self-in_err-entered : goal.invariant_of-self-in_err-entered
+invariant_of-self-in_err-entered g c =
+    seat_refused g.L.Origin.origin c.self.inside.place c.apply.new.place _ _ _ _ _ _ _ _
+    c.self.inside.lines.own.let_go.items c.self.inside.lines.own.held.items c.reserve.new.self.items _
+    c.self.invariant c.in_err-entered.ensures.seen c.apply.ensures.parts c.in_err-entered.ensures.not_entered
+    c.in_ok-reserve.ensures.items
+
+pub returns-in_err-entered-clause-why : goal.returns-in_err-entered-clause-why
+returns-in_err-entered-clause-why g c =
+    let let_go : List ℕ = c.self.inside.lines.own.let_go.items in
+    let old : Held = record {
+      number = c.self.inside.place.number;
+      seen = c.self.inside.place.seen;
+      parts = c.self.inside.parts;
+      own = line_of c.self.inside.lines.own;
+      joined = map line_of c.self.inside.lines.joined.items;
+    } in
+    let new : Held = record {
+      number = c.apply.new.place.number;
+      seen = c.apply.new.place.seen;
+      parts = c.self.inside.parts;
+      own = record { let_go = let_go; held = c.reserve.new.self.items };
+      joined = map line_of c.self.inside.lines.joined.items;
+    } in
+    err_of (λ (error : BookError). IsRefused g.L.Origin.origin g.L.Naming.book c.args.self.now new c.args.input error.code)
+    c.from_residual-in_err-entered.result c.in_err-entered.field-0.0 c.from_residual-in_err-entered.ensures.1
+    (subst (λ (s : Held).
+    IsRefused g.L.Origin.origin g.L.Naming.book s new c.args.input c.in_err-entered.field-0.0.code) c.self.view_is
+    (refused_change g.L.Origin.origin old new c.args.input c.in_err-entered.field-0.0.code
+    (caught_up g.L.Origin.origin old new c.in_err-entered.ensures.seen refl
+    (ap (λ (rs : List Receipt). record { let_go = let_go; held = rs }) c.in_ok-reserve.ensures.items) refl)
+    c.in_err-entered.ensures.why))

@@ -20,5 +20,5 @@ invariant_of-self-2 g c =
 pub returns-clause-ok : goal.returns-clause-ok
 returns-clause-ok g c =
     answered g.L.Origin.origin c.read.new.place.seen c.args.asked
-    (record { number = c.in_ok-number.number; answer = c.in_ok-number.found }) c.in_ok-answer.field-0
+    c.in_ok-number.field-0 c.in_ok-answer.field-0
     c.in_ok-number.ensures.answer c.in_ok-answer.ensures

@@ -10,8 +10,8 @@ returns-in-Ok g c = (
     lends_served g.L.Origin.origin c.args.self.now c.keep_served.new.self c.args.request c.last.result.now
         c.in-Ok.ensures.ok c.last.ensures,
   ),
-  record { after = tt; why = tt },
+  record { after = tt },
 )
 
 pub returns-in-Err : goal.returns-in-Err
-returns-in-Err g c = ((refl, (λ _. tt), c.in-Err.ensures.err), record { after = tt; why = c.in-Err.ensures.why })
+returns-in-Err g c = ((refl, (λ _. tt), c.in-Err.ensures.why), record { after = tt })
