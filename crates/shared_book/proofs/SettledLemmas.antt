@@ -26,12 +26,12 @@ given_back n items lent later same is long =
 -- a test that says no
 pub not_all : (test : Bool) (have parts all : ℕ) → (IsTrue test ↔ (have ≡ parts)) → test ≡ false → parts ≡ all
     → have ≢ all
-not_all test have parts all is no same = λ (e : have ≡ all). true≢false (sym (is.1 (e ∙ sym same)) ∙ no)
+not_all test have parts all is says same = λ (e : have ≡ all). true≢false (sym (is.1 (e ∙ sym same)) ∙ says)
 
 -- a test that says yes
 pub are_all : (test : Bool) (have parts all : ℕ) → (IsTrue test ↔ (have ≡ parts)) → test ≡ true → parts ≡ all
     → have ≡ all
-are_all test have parts all is yes same = is.0 yes ∙ same
+are_all test have parts all is says same = is.0 says ∙ same
 
 module _ (origin : Past) (parts : ℕ) (name : Book) (whole : Log) (past : Past) (seats : List Held)
     (was_seen : IsSeen MayFollow name whole) (seen : HaveSeen whole seats) where

@@ -7,7 +7,7 @@ use Rattle.shared_book.proofs.script.run_scripts.Goals as goal
 
 pub join-one-requires-send-F : goal.join-one-requires-send-F
 join-one-requires-send-F g c κs within =
-    search (sendable, shared_book_sync, script_send, seat.the_send, crosses) depth 60
+    ?
 
 pub returns-clause-played : goal.returns-clause-played
 returns-clause-played g c =
