@@ -1,8 +1,12 @@
 -- What a book consists of may go to another thread. The toolchain shows that of a type by itself, unless the type has a
 -- recursive one in it (a JSON value): these, and what has them, are shown here, each from its parts.
+use mir.Syntax.{Sym}
+use mathlib.Core.List.{[], ◌∷◌}
 use denote.RattleType.{RattleType}
 use denote.Param.Send.{IsSend, IsSync, sendable}
-use denote.Param.SendFields.{declared_send, declared_sync, variants_send}
+use denote.Param.SendFields.{as_row_send, declared_send, declared_sync, variants_send}
+use denote.Struct.Field.{row_field}
+use denote.Struct.Tuple.{TupleAt, type_at}
 use Rattle.std.proofs.Crossing.{crosses, frees}
 use Rattle.std.proofs.alloc.Global.TheSendSync as global
 use Rattle.std.proofs.vec.Vec.TheSendSync as vec
@@ -214,3 +218,16 @@ call_send = variants_send call.enum ((snapshot.the_send, tt), ((book_input_send,
 
 pub script_send : IsSend script.the_row
 script_send = declared_send script.the_type (search (crosses, call_send, sendable) depth 60)
+
+-- ---- closures
+-- what has captured these five, where each of them may go
+pub captured_five : (name : Sym) (A B C D E : RattleType) → IsSend A → IsSend B → IsSend C → IsSend D → IsSend E
+    → IsSend (TupleAt name (A ∷ B ∷ C ∷ D ∷ E ∷ []))
+captured_five name A B C D E a b c d e =
+    declared_send (type_at name (A ∷ B ∷ C ∷ D ∷ E ∷ [])) (
+      as_row_send (row_field A) a,
+      (
+        as_row_send (row_field B) b,
+        (as_row_send (row_field C) c, (as_row_send (row_field D) d, (as_row_send (row_field E) e, tt))),
+      ),
+    )
