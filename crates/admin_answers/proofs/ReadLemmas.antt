@@ -208,7 +208,8 @@ pub missing
 missing origin log id reading is e = (is.past, is.past_of, said origin log (read.Mapping id) reading _ is e)
 
 pub held
-    : (origin : Past) (log : Log) (id : List ℕ) (kept : Option Mapping) (reading : Reading) (result : Result Reply SharedError)
+    : (origin : Past) (log : Log) (id : List ℕ) (kept : Option Mapping) (reading : Reading)
+    (result : Result Reply SharedError)
     → IsRead origin log (read.Mapping id) reading → reading.answer ≡ answer.Mapping kept
     → IfOk result (IsHeldReply kept)
     → IfOk result (λ reply. InPastOf origin log (IsReadReply (call.ReadMapping id) reply))
@@ -217,7 +218,8 @@ held origin log id None reading (Ok reply) is e json = absurd json
 held origin log id kept reading (Err why) is e json = tt
 
 pub not_held
-    : (origin : Past) (log : Log) (id : List ℕ) (kept : Option Mapping) (reading : Reading) (result : Result Reply SharedError)
+    : (origin : Past) (log : Log) (id : List ℕ) (kept : Option Mapping) (reading : Reading)
+    (result : Result Reply SharedError)
     → IsRead origin log (read.Mapping id) reading → reading.answer ≡ answer.Mapping kept
     → IfErr result (λ error.
     (error.code ≡ code.OutOfMemory) ⊎ ((error.code ≡ code.UnknownMapping) × (kept ≡ None)))

@@ -18,7 +18,8 @@ use Rattle.shared_book.specs.Seen.{HasMadeNoCall}
 use Rattle.stub_response.specs.ErrorReply.{error_reply}
 
 -- where the record was refused, the reply or the reason is sent
-pub unrecorded : {E : Type 0} (origin : Past) (name : Book) (old new : Held) (forward : Forward) (sent : Reply) (wait_ms : ℕ)
+pub unrecorded : {E : Type 0} (origin : Past) (name : Book) (old new : Held) (forward : Forward) (sent : Reply)
+    (wait_ms : ℕ)
     (asked : BookInput) (reason : ErrorCode) (response : Response (List ℕ))
     (result : Result (Response (List ℕ)) E)
     → asked ≡ record_of forward sent wait_ms → IsRefused origin name old new asked reason
@@ -40,5 +41,6 @@ no_call origin name old new asked reason (inr refused) = inr refused.0
 
 -- memory may run out whatever came of it, and then nothing is recorded
 pub no_memory : (origin : Past) (name : Book) (old new : Held) (forward : Forward) (sent : Reply)
-    → HasMadeNoCall origin name old new → IsForwardReply origin name old new forward (Ok sent) (error_reply 503 code.OutOfMemory)
+    → HasMadeNoCall origin name old new
+    → IsForwardReply origin name old new forward (Ok sent) (error_reply 503 code.OutOfMemory)
 no_memory origin name old new forward sent none = (0, inr (inr (none, refl)))

@@ -37,7 +37,8 @@ is_unread message unread.OutOfMemory result is bad large = tt
 
 -- what is to be forwarded of a request of the message
 to_forward
-    : (origin : Past) (name : Book) (old middle new : Held) (message : Message (List ℕ)) (request : Request) (forward : Forward)
+    : (origin : Past) (name : Book) (old middle new : Held) (message : Message (List ℕ)) (request : Request)
+    (forward : Forward)
     → middle ≡ old → IsReceived message request → length (body_of message) ≤ BODY_LIMIT
     → All (λ (h : Header). IsHeaderName h.name) request.headers
     → IsRequestToForward origin name middle new request forward → IsToForward origin name old new message forward
@@ -61,16 +62,17 @@ pub of_request : {E : Type 0} (origin : Past) (name : Book) (limits : Limits) (e
     → MatchResult result
     (HasBegun (IsReply origin name limits escape old new message) (IsToForward origin name old new message))
     (λ _. IsNotBegun origin name limits escape old new message)
-of_request origin name limits escape old middle new message request (Ok (Answered response)) same received within names is = (
-  is.0,
-  inr (
-    request,
-    received,
-    within,
-    subst (λ held. IsRequestAnswered origin name limits escape held new request is.0) same is.1,
-  ),
-  is.2,
-)
+of_request origin name limits escape old middle new message request (Ok (Answered response)) same received within
+    names is = (
+      is.0,
+      inr (
+        request,
+        received,
+        within,
+        subst (λ held. IsRequestAnswered origin name limits escape held new request is.0) same is.1,
+      ),
+      is.2,
+    )
 of_request origin name limits escape old middle new message request (Ok (ToForward forward)) same received within
     names is = to_forward origin name old middle new message request forward same received within names is
 of_request origin name limits escape old middle new message request (Err error) same received within names is = (

@@ -29,13 +29,15 @@ request_of_forward : (origin : Past) (name : Book) (old new : Held) (request : R
 request_of_forward origin name old new request forward gains = let served = gains.served.1 in cc
 
 to_forward : (origin : Past) (name : Book) (old new : Held) (request : Request) (forward : Forward)
-    → GainsServe origin name old new request (serve_receipt forward) → IsServedToForward origin name old new request forward
+    → GainsServe origin name old new request (serve_receipt forward)
+    → IsServedToForward origin name old new request forward
 to_forward origin name old new request forward gains =
     let same = request_of_forward origin name old new request forward gains in
     (same, subst (λ r. GainsServe origin name old new r (serve_receipt forward)) (sym same) gains)
 
 -- where it was served, by the event of its receipt
-pub of_event : {E : Type 0} (origin : Past) (name : Book) (limits : Limits) (old new : Held) (request : Request) (receipt : Receipt)
+pub of_event : {E : Type 0} (origin : Past) (name : Book) (limits : Limits) (old new : Held) (request : Request)
+    (receipt : Receipt)
     (result : Result Begun E) → GainsServe origin name old new request receipt
     → IfOk result (HasBegun (IsEventReply limits receipt.event) (IsForwardOf receipt.number receipt.event))
     → MatchResult result

@@ -32,7 +32,8 @@ pub fn answer<L: Origin, R, G: Gate, C: Clock>(
 ) -> Result<Response<Content>, ServiceError>
 where
     R: Wait + Net + std::time::Clock + RandomSource + AllocGlobal + Copy + Drop,
-    ensures ok { IfOk result (IsAnswered L.origin L.book site.now.limits site.now.escape seat.old seat.new message.now) }
+    ensures ok { IfOk result
+        (IsAnswered L.origin L.book site.now.limits site.now.escape seat.old seat.new message.now) }
     ensures err { IfErr result (λ error. (error ≡ NoMemory)
         × IsNotAnswered L.origin L.book site.now.limits site.now.escape seat.old seat.new message.now) }
 {

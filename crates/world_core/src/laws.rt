@@ -30,8 +30,8 @@ pub fn law_legal()
         → IsLegal start.past → IsRun start steps outcomes end → IsLegal end.past }
 {}
 
-/// After each schedule of a book that was just opened there is one choice for a request and no other: no two mappings may
-/// be chosen for it.
+/// After each schedule of a book that was just opened there is one choice for a request and no other: no two mappings
+/// may be chosen for it.
 #[tactic(auto, using(crate::proofs::ChosenRuns::one_choice_after))]
 pub fn law_one_choice()
     ensures { (start end : WorldState) (steps : List Step) (outcomes : List Outcome) (request : Request)
@@ -81,7 +81,8 @@ pub fn law_shared_has_past()
 {}
 
 /// What the seats of a shared book have entered in its one history, or in a beginning of it, is a schedule, in which
-/// each call is an act of its seat, with the very events of that: so `law_legal`, `law_one_choice` and `law_once` hold of it.
+/// each call is an act of its seat, with the very events of that: so `law_legal`, `law_one_choice` and `law_once` hold
+/// of it.
 #[tactic(auto, using(crate::proofs::SharedRuns::scheduled))]
 pub fn law_shared_is_scheduled()
     ensures { (start : WorldState) (log : Log) (past : Past) → IsPastOf start.past log past

@@ -9,7 +9,8 @@ use Rattle.admin_answers.proofs.lists.list_unmatched.Goals as goal
 pub returns-clause-ok : goal.returns-clause-ok
 returns-clause-ok g c =
     let last = c.in_ok-reading.reading.number in
-    unmatched g.L.Origin.origin c.read.new.self.seen c.in-Requests.entries c.in_ok-reading.reading c.found_listing.result
+    unmatched g.L.Origin.origin c.read.new.self.seen c.in-Requests.entries c.in_ok-reading.reading
+    c.found_listing.result
     c.in_ok-reading.ensures.ok c.in-Requests.is
     (subst (λ es. IfOk c.found_listing.result (λ text. AreBelow (last + 1) es.items
     → IsJsonReply 200 (json_of_found es.items) (json_reply 200 text)))

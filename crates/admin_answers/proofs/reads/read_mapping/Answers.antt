@@ -8,5 +8,6 @@ returns-clause-ok g c =
 
 pub returns-clause-refused : goal.returns-clause-refused
 returns-clause-refused g c =
-    not_held g.L.Origin.origin c.read.new.self.seen c.args.id c.in-Mapping.held c.in_ok-reading.reading c.held_reply.result
+    not_held g.L.Origin.origin c.read.new.self.seen c.args.id c.in-Mapping.held c.in_ok-reading.reading
+    c.held_reply.result
     c.in_ok-reading.ensures.ok c.in-Mapping.is c.held_reply.ensures.refused

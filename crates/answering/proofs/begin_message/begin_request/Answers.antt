@@ -12,7 +12,8 @@ returns g c =
     λ is. false≢true (sym c.if-is_admin.false
     ∙ c.is_admin.ensures.1 (subst IsAdmin (sym c.url.ensures.value) is)) in
     begun_weaker
-    (IsServeAnswered g.L.Origin.origin g.L.Naming.book c.args.site.now.limits c.args.seat.now c.serve.new.seat c.args.request)
+    (IsServeAnswered g.L.Origin.origin g.L.Naming.book c.args.site.now.limits c.args.seat.now c.serve.new.seat
+    c.args.request)
     (IsRequestAnswered g.L.Origin.origin g.L.Naming.book c.args.site.now.limits c.args.site.now.escape c.args.seat.now
     c.serve.new.seat c.args.request)
     (IsServedToForward g.L.Origin.origin g.L.Naming.book c.args.seat.now c.serve.new.seat c.args.request)

@@ -13,7 +13,8 @@ returns-in-Ok g c =
     let lent = subst
     (λ r. LendsServed g.L.Origin.origin g.L.Naming.book c.args.seat.now c.serve.follows.lender-at-none c.args.request r)
     c.in-Ok.is c.serve.follows.holds-at-none in
-    of_event g.L.Origin.origin g.L.Naming.book c.args.site.now.limits c.args.seat.now c.serve.follows.lender-at-none c.args.request
+    of_event g.L.Origin.origin g.L.Naming.book c.args.site.now.limits c.args.seat.now c.serve.follows.lender-at-none
+    c.args.request
     c.in-Ok.receipt.now c.begin_event.result
     (record { gained = lent.0; served = lent.1; entered = lent.2 })
     (subst (λ event. IfOk c.begin_event.result
