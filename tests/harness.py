@@ -5,6 +5,7 @@ import collections, contextlib, json, os, pathlib, re, shutil, signal, socket, s
 FOLDER = pathlib.Path(__file__).resolve().parent
 TOP = FOLDER.parent
 EXAMPLES = TOP / "examples"
+FORWARDER = TOP / "crates" / "proxy_cases" / "out" / "proxy_cases"  # forwards a request as it is told
 SCRIPT = pathlib.Path(sys.argv[0]).name
 SKIPPED = 77  # the status of a script that can't run here
 
@@ -356,7 +357,7 @@ def say(text):
 
 
 def skip(why):
-    """Ends a script that can't run here, by a status that `all` knows."""
+    """Ends a script that can't run here, by the status that says so."""
     say(f"skipped: {why}")
     sys.exit(SKIPPED)
 
