@@ -1,6 +1,7 @@
 """What the scripts of this folder and of `bench/` share: the programs that they run, servers, clients and upstreams, messages of
 HTTP, the rows of tables, and the report."""
-import collections, contextlib, json, os, pathlib, re, shutil, signal, socket, struct, subprocess, sys, tempfile, threading, time
+import collections, contextlib, json, os, pathlib, re, select, shutil, signal, socket, struct, subprocess, sys, tempfile
+import threading, time
 
 FOLDER = pathlib.Path(__file__).resolve().parent
 TOP = FOLDER.parent
@@ -119,7 +120,8 @@ class Listener:
 
     def __init__(self, command, stderr=subprocess.PIPE, **options):
         self.process = subprocess.Popen(command, cwd=TOP, stdout=subprocess.PIPE, stderr=stderr, **options)
-        self.first = self.process.stdout.readline().decode()
+        is_ready = select.select([self.process.stdout], [], [], 120)[0]
+        self.first = self.process.stdout.readline().decode() if is_ready else ""
         found = re.fullmatch(r"listening on \S+:(\d+)\n", self.first)
         if not found:
             raise NotServing(self.first, self.end())
