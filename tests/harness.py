@@ -1,5 +1,5 @@
-"""What the scripts of this folder and of `bench/` share: the programs that they run, servers, clients and upstreams, messages of
-HTTP, the rows of tables, and the report."""
+"""What the scripts of this folder and of `bench/` share: the programs that they run, servers, clients and upstreams,
+messages of HTTP, the rows of tables, and the report."""
 import collections, contextlib, json, os, pathlib, re, select, shutil, signal, socket, struct, subprocess, sys, tempfile
 import threading, time
 
@@ -96,6 +96,8 @@ def rows(name):
     return found
 
 
+# ---- servers
+
 @contextlib.contextmanager
 def document(content):
     """The path of a file that has this text, or this value as JSON, as long as it is used."""
@@ -104,8 +106,6 @@ def document(content):
         file.flush()
         yield file.name
 
-
-# ---- servers
 
 class NotServing(Exception):
     """A process whose first line doesn't say where it listens. `end` is what it wrote after it, and its exit status."""
@@ -116,11 +116,12 @@ class NotServing(Exception):
 
 
 class Listener:
-    """A process whose first line says where it listens: this line, and the port in it."""
+    """A process whose first line says where it listens: this line, and the port in it. It may take so many seconds, or as
+    long as it wants: the launcher may have to build the program first."""
 
-    def __init__(self, command, stderr=subprocess.PIPE, **options):
+    def __init__(self, command, stderr=subprocess.PIPE, seconds=None, **options):
         self.process = subprocess.Popen(command, cwd=TOP, stdout=subprocess.PIPE, stderr=stderr, **options)
-        is_ready = select.select([self.process.stdout], [], [], 120)[0]
+        is_ready = select.select([self.process.stdout], [], [], seconds)[0]
         self.first = self.process.stdout.readline().decode() if is_ready else ""
         found = re.fullmatch(r"listening on \S+:(\d+)\n", self.first)
         if not found:
@@ -157,8 +158,8 @@ class Server(Listener):
 
 
 def without_log(end):
-    """The end of a server, without what standard error says of refused admin calls and of posted mappings, which `log_lines`
-    compares: lines that begin so, and what belongs to them, which is indented."""
+    """The end of a server, without what standard error says of refused admin calls and of posted mappings, which
+    `log_lines` compares: lines that begin so, and what belongs to them, which is indented."""
     output, error, status = end
     kept, is_logged = [], False
     for line in error.splitlines(keepends=True):
@@ -184,7 +185,8 @@ def message(method, target, headers=(), content=b"", version=None):
 
 
 def response(stream, has_content=True):
-    """The next response of a stream: its status, its headers, and its content; none where the stream ends before it."""
+    """The next response of a stream: its status, its headers, and its content; none where the stream ends before it. The
+    names of headers are in lower case, as `mock` writes them."""
     line = stream.readline().decode().split(" ")
     if len(line) < 2:
         return None
@@ -234,8 +236,8 @@ def everything(connection):
 
 
 def exchange(port, parts, waits=False):
-    """What comes back for the parts of what is sent, after which the client says no more; the server may end the connection
-    before. A client that waits sends the second part once something has come back for the first."""
+    """What comes back for the parts of what is sent, after which the client says no more; the server may end the
+    connection before. A client that waits sends the second part once something has come back for the first."""
     with connect(port) as connection:
         found = b""
         try:
@@ -303,10 +305,10 @@ def received(stream):
 
 
 class Upstream(threading.Thread):
-    """Takes connections one after the other, as many as it has replies, and sends to each the next of these once it has the
-    whole request, or before that where it is `early`. A reply is bytes, or parts of them, of which a number is a pause in
-    seconds; or a function that is called for it. A connection that isn't `closed` stays open until the client is gone. The
-    requests are kept."""
+    """Takes connections one after the other, as many as it has replies, and sends to each the next of these once it has
+    the whole request, or before that where it is `early`. A reply is bytes, or parts of them, of which a number is a pause
+    in seconds; or a function that is called for it. A connection that isn't `closed` stays open until the client is gone.
+    The requests are kept."""
 
     def __init__(self, replies, closed=True, early=False, address="127.0.0.1"):
         super().__init__(daemon=True)
