@@ -312,10 +312,10 @@ class Upstream(threading.Thread):
 
     def __init__(self, replies, closed=True, early=False, address="127.0.0.1"):
         super().__init__(daemon=True)
-        family = socket.AF_INET6 if ":" in address else socket.AF_INET
+        family, host = (socket.AF_INET6, f"[{address}]") if ":" in address else (socket.AF_INET, address)
         self.listener = socket.create_server((address, 0), family=family)
         self.port = self.listener.getsockname()[1]
-        self.url = f"http://127.0.0.1:{self.port}"
+        self.url = f"http://{host}:{self.port}"
         self.replies, self.closed, self.early, self.requests = replies, closed, early, []
         self.start()
 
