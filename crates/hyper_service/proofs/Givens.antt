@@ -1,6 +1,5 @@
 -- What is given to a message, once the journal's limit is kept, and once an exchange has given what came of it.
-use Rattle.std.proofs.Common.{◌≡◌, ◌∙◌, ℕ, List, Some, IsSome, Result, Ok, Err, IfErr, IfOk, IsErr, inl, inr, refl, sym, subst}
-use Rattle.answering.specs.Answering.{Begins as SiteBegins, IsBegun, IsNotBegun}
+use Rattle.std.proofs.Common.{◌≡◌, ◌∙◌, ℕ, List, Some, IsSome, Result, Ok, Err, IfErr, IfOk, inl, inr, refl, sym, subst}
 use Rattle.answering.specs.Forwarding.{IsFinished, IsToForward}
 use Rattle.answering.specs.declared.forward.Forward.{Forward}
 use Rattle.http.specs.declared.request.Request.{Request as Message}
@@ -46,9 +45,10 @@ module _ (rules : SiteRules) {E : Type 0} (reaches : List ℕ → Type 0) (sends
     CanPoll exchange = IsSome exchange.forward × can_poll exchange.exchange
 
     begun_with : (old middle new : Held) (message : Message (List ℕ)) → IsKept rules.journal rules.origin middle new
-        → (begun : Begun (SiteExchange E) (List ℕ)) → Begins rules reaches sends exchanged can_poll old middle message begun
-        → IsBegunBy (IsGiven rules reaches sends exchanged old new) (IsForwardedBy rules reaches sends exchanged old new)
-        CanPoll message begun
+        → (begun : Begun (SiteExchange E) (List ℕ))
+        → Begins rules reaches sends exchanged can_poll old middle message begun
+        → IsBegunBy (IsGiven rules reaches sends exchanged old new)
+        (IsForwardedBy rules reaches sends exchanged old new) CanPoll message begun
     begun_with old middle new message kept (Answered response) (inl begun) =
         inl (record { middle = middle; begun = begun; kept = kept })
     begun_with old middle new message kept (Answered response) (inr given) = inr (inl (record {
@@ -62,8 +62,7 @@ module _ (rules : SiteRules) {E : Type 0} (reaches : List ℕ → Type 0) (sends
       kept = kept;
     }))
     begun_with old middle new message kept (Forwarding exchange) given =
-        let held = given.3.1 in
-        (
+        let held = given.3.1 in (
           record {
             forward = given.0;
             held = held;
@@ -96,7 +95,8 @@ module _ (rules : SiteRules) {E : Type 0} (reaches : List ℕ → Type 0) (sends
     forward_begun old middle new message forward to_forward (Err error) begun = tt
 
   -- the exchange has given what came of it
-  pub given_later : (old new : Held) (message : Message (List ℕ)) (first_old first_new : Held) (exchange : SiteExchange E)
+  pub given_later : (old new : Held) (message : Message (List ℕ)) (first_old first_new : Held)
+      (exchange : SiteExchange E)
       → IsForwardedBy rules reaches sends exchanged first_old first_new message exchange → (forward : Forward)
       → (forwarded : Result Reply ProxyError) → exchange.forward ≡ Some forward → exchanged exchange.exchange forwarded
       → {Refusal : Type 0} (result : Result (Response (List ℕ)) Refusal)

@@ -1,6 +1,6 @@
 // A site answers the requests of connections.
-ghost use Rattle.std.specs.Prelude.{◌≡◌, IfErr, IfOk, IsSome, Some};
-ghost use Rattle.answering.specs.Forwarding.{IsFinished, IsToForward};
+ghost use Rattle.std.specs.Prelude.{◌≡◌, IfErr, IfOk, Some};
+ghost use Rattle.answering.specs.Forwarding.{IsFinished};
 ghost use Rattle.http_messages.specs.declared.error.ServiceError.TheVariants.{OutOfMemory as NoMemory};
 ghost use Rattle.hyper_service.specs.Given.{IsForwardedBy, IsGiven, IsLeft, IsSentBy, IsUnanswered};
 ghost use Rattle.hyper_service.specs.Given.{IsUnfinished, rules_of};
