@@ -4,4 +4,4 @@ use Rattle.mock_program.specs.Options.{given_of}
 use Rattle.mock_program.proofs.request_options.request_options.Given as goal
 
 abbrev pub invariant-loop-option : goal.invariant-loop-option
-invariant-loop-option l = map given_of l.options ≡ [] → (l.made.headers.items ≡ []) × (l.made.body.items ≡ [])
+invariant-loop-option g l = map given_of l.options ≡ [] → (l.made.headers.items ≡ []) × (l.made.body.items ≡ [])
