@@ -21,7 +21,10 @@ pub(crate) struct Split<'a> {
     pub(crate) options: Vec<GivenOption<'a>>,
 }
 
-pub(crate) fn split_arguments<'a>(alloc: Global, arguments: &'a [String]) -> Result<Split<'a>, AllocError>
+pub(crate) fn split_arguments<'a>(
+    alloc: Global,
+    arguments: &'a [String],
+) -> Result<Split<'a>, AllocError>
     ensures words { IfOk result (λ split. map (λ word. word.now) split.words.items
         ≡ words_of (map string_bytes arguments.now)) }
     ensures options { IfOk result (λ split. map given_of split.options.items
@@ -138,6 +141,8 @@ fn is_switch(argument: &str) -> bool
 fn is_option(argument: &str) -> bool
     ensures { result ≡ is_option argument.now }
 {
-    argument == "--header" || argument == "--body" || argument == "--body-file"
+    argument == "--header"
+        || argument == "--body"
+        || argument == "--body-file"
         || argument == "--state"
 }
