@@ -1,4 +1,5 @@
-//! The options of `answer` and `explain`: anywhere before a `--`, and each with the argument that follows it as its value.
+//! The options of `answer` and `explain`: anywhere before a `--`, each with the argument that follows it as its
+//! value.
 ghost use Rattle.std.specs.Prelude.{◌≡◌, ◌++◌, ◌∷◌, [], ℕ, List, IfOk, OnOk, map, string_bytes, None, codes, false};
 ghost use Rattle.std.specs.Prelude.{option_copied};
 ghost use Rattle.std.specs.Str.{bytes_eq};
