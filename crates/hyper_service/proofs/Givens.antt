@@ -1,6 +1,5 @@
 -- What is given to a message, once the journal's limit is kept, and once an exchange has given what came of it.
-use Rattle.std.proofs.Common.{◌≡◌, ◌∙◌, ◌×◌, ℕ, List, Some, IsSome, Result, Ok, Err, IfErr, IfOk, IsErr, inl, inr, sym, subst}
-use Rattle.answering.specs.Answering.{Begins as SiteBegins, IsBegun, IsNotBegun}
+use Rattle.std.proofs.Common.{◌≡◌, ◌∙◌, ◌×◌, ℕ, List, Some, IsSome, Result, Ok, Err, IfErr, IfOk, inl, inr, refl, sym, subst}
 use Rattle.answering.specs.Forwarding.{HasMadeNoCall, IsFinished, IsToForward}
 use Rattle.answering.specs.declared.forward.Forward.{Forward}
 use Rattle.http.specs.declared.request.Request.{Request as Message}
@@ -23,6 +22,25 @@ use Rattle.stub_book.specs.declared.error.BookError.{BookError}
 some_same : {A : Type 0} (a b : A) → Some a ≡ Some b → a ≡ b
 some_same a b e = cc
 
+module _ (rules : SiteRules) where
+  -- there is no answer, and the journal's limit is kept
+  pub left_with : {Refusal T : Type 0} (P : Refusal → Type 0) (old middle new : Held) (message : Message (List ℕ))
+      → IsKept rules.journal rules.origin middle new → (result : Result T Refusal)
+      → IfErr result (λ error. P error × IsLeft rules old middle message)
+      → IfErr result (λ error. P error × IsUnanswered rules old new message)
+  left_with P old middle new message kept (Ok begun) left = tt
+  left_with P old middle new message kept (Err error) left =
+      (left.0, record { middle = middle; left = left.1; kept = kept })
+
+  -- it is to be forwarded, and there is no answer to that
+  pub left_unfinished : {Refusal T : Type 0} (P : Refusal → Type 0) (old middle new : Held) (message : Message (List ℕ))
+      (forward : Forward) → IsToForward rules.origin old middle message forward → (result : Result T Refusal)
+      → IfErr result (λ error. P error × IsUnfinished middle new)
+      → IfErr result (λ error. P error × IsLeft rules old new message)
+  left_unfinished P old middle new message forward to_forward (Ok begun) left = tt
+  left_unfinished P old middle new message forward to_forward (Err error) left =
+      (left.0, inr (forward, middle, to_forward, left.1))
+
 module _ (rules : SiteRules) {E : Type 0} (reaches : List ℕ → Type 0) (sends : List ℕ → Request → E → Type 0)
     (exchanged : E → Result Reply ProxyError → Type 0) where
   module _ (can_poll : E → Type 0) where
@@ -31,9 +49,10 @@ module _ (rules : SiteRules) {E : Type 0} (reaches : List ℕ → Type 0) (sends
     CanPoll exchange = IsSome exchange.forward × can_poll exchange.exchange
 
     begun_with : (old middle new : Held) (message : Message (List ℕ)) → IsKept rules.journal rules.origin middle new
-        → (begun : Begun (SiteExchange E) (List ℕ)) → Begins rules reaches sends exchanged can_poll old middle message begun
-        → IsBegunBy (IsGiven rules reaches sends exchanged old new) (IsForwardedBy rules reaches sends exchanged old new)
-        CanPoll message begun
+        → (begun : Begun (SiteExchange E) (List ℕ))
+        → Begins rules reaches sends exchanged can_poll old middle message begun
+        → IsBegunBy (IsGiven rules reaches sends exchanged old new)
+        (IsForwardedBy rules reaches sends exchanged old new) CanPoll message begun
     begun_with old middle new message kept (Answered response) (inl begun) =
         inl (record { middle = middle; begun = begun; kept = kept })
     begun_with old middle new message kept (Answered response) (inr given) = inr (inl (record {
@@ -47,8 +66,7 @@ module _ (rules : SiteRules) {E : Type 0} (reaches : List ℕ → Type 0) (sends
       kept = kept;
     }))
     begun_with old middle new message kept (Forwarding exchange) given =
-        let held = given.3.1 in
-        (
+        let held = given.3.1 in (
           record {
             forward = given.0;
             held = held;
@@ -57,8 +75,7 @@ module _ (rules : SiteRules) {E : Type 0} (reaches : List ℕ → Type 0) (sends
             kept = subst (λ held. IsKept rules.journal rules.origin held new) given.3.0 kept;
             sent = given.3.2;
           },
-          rw held tt,
-          given.3.3,
+          (rw held refl, given.3.3),
         )
 
     pub kept_with : {Refusal : Type 0} (old middle new : Held) (message : Message (List ℕ))
@@ -81,17 +98,9 @@ module _ (rules : SiteRules) {E : Type 0} (reaches : List ℕ → Type 0) (sends
         (forward, middle, to_forward, begun)
     forward_begun old middle new message forward to_forward (Err error) begun = tt
 
-  -- there is no answer, and the journal's limit is kept
-  pub left_with : {Refusal T : Type 0} (P : Refusal → Type 0) (old middle new : Held) (message : Message (List ℕ))
-      → IsKept rules.journal rules.origin middle new → (result : Result T Refusal)
-      → IfErr result (λ error. P error × IsLeft rules old middle message)
-      → IfErr result (λ error. P error × IsUnanswered rules old new message)
-  left_with P old middle new message kept (Ok begun) left = tt
-  left_with P old middle new message kept (Err error) left =
-      (left.0, record { middle = middle; left = left.1; kept = kept })
-
   -- the exchange has given what came of it
-  pub given_later : (old new : Held) (message : Message (List ℕ)) (first_old first_new : Held) (exchange : SiteExchange E)
+  pub given_later : (old new : Held) (message : Message (List ℕ)) (first_old first_new : Held)
+      (exchange : SiteExchange E)
       → IsForwardedBy rules reaches sends exchanged first_old first_new message exchange → (forward : Forward)
       → (forwarded : Result Reply ProxyError) → exchange.forward ≡ Some forward → exchanged exchange.exchange forwarded
       → {Refusal : Type 0} (result : Result (Response (List ℕ)) Refusal)

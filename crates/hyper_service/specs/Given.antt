@@ -66,8 +66,8 @@ module _ (rules : SiteRules) where
     pub left : IsLeft old middle message
     pub kept : IsKept rules.journal rules.origin middle new
 
-  -- `reaches` says which targets requests are forwarded to, `sends` which request an exchange sends to which target, and
-  -- `exchanged` what an exchange may give: those of what forwards the requests of the site.
+  -- `reaches` says which targets requests are forwarded to, `sends` which request an exchange sends to which target,
+  -- and `exchanged` what an exchange may give: those of what forwards the requests of the site.
   module _ {E : Type 0} (reaches : List ℕ → Type 0) (sends : List ℕ → Request → E → Type 0)
       (exchanged : E → Result Reply ProxyError → Type 0) where
     -- an exchange that sends the request of what is to be forwarded to the target of it

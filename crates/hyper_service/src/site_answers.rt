@@ -1,5 +1,5 @@
 // A site answers the requests of connections.
-ghost use Rattle.std.specs.Prelude.{◌≡◌, IfErr, IfOk, IsSome, Some};
+ghost use Rattle.std.specs.Prelude.{◌≡◌, IfErr, IfOk, Some};
 ghost use Rattle.answering.specs.Forwarding.{HasMadeNoCall, IsFinished};
 ghost use Rattle.http_messages.specs.declared.error.ServiceError.TheVariants.{OutOfMemory as NoMemory};
 ghost use Rattle.hyper_service.specs.Given.{IsForwardedBy, IsGiven, IsLeft, IsSentBy, IsUnanswered};
@@ -216,8 +216,8 @@ where
         forward: Forward,
     ) -> Result<Box<SiteExchange<F::Exchange>>, Forwarded>
         ensures kept { IfOk result (λ made. made.value.forward ≡ Some forward) }
-        ensures sent { IfOk result (λ made. IsSentBy (F.reaches self.now.forwarder) F.sends F.Exchange.gives forward
-            made.value.exchange) }
+        ensures sent { IfOk result (λ made. IsSentBy (rules_of L.origin self.now) (F.reaches self.now.forwarder) F.sends
+            F.Exchange.gives forward made.value.exchange) }
         ensures can_poll { IfOk result (λ made. F.Exchange.can_poll made.value.exchange) }
         ensures none { IfErr result (IsFailure forward) }
     {
