@@ -90,7 +90,6 @@ pub fn law_shared_is_scheduled()
 
 /// Wherever a call stands in that history, its event is the right answer in the past that the calls before it lead to,
 /// and it moves each scenario that it touches once, and no other.
-#[tactic(auto, using(crate::proofs::SharedRuns::right_after))]
 pub fn law_shared_is_right()
     ensures { (origin past : Past) (before after : Log) (seat : ℕ) (event : Event)
         → IsPastOf origin (before ++ entry seat (Called event) ∷ after) past

@@ -8,10 +8,10 @@ use Rattle.request_match.specs.Matching.{MeetsRequest}
 use Rattle.stub_response.specs.ErrorReply.{json_reply}
 use Rattle.admin_answers.proofs.lists.count_requests.Goals as goal
 
-pub returns : goal.returns
-returns g c =
-    counted g.L.Origin.origin c.args.matcher c.in-Requests.entries c.in_ok-reading.reading c.count_listing.result
-    c.in_ok-reading.ensures c.in-Requests.is
+pub returns-clause-ok : goal.returns-clause-ok
+returns-clause-ok g c =
+    counted g.L.Origin.origin c.read.new.self.seen c.args.matcher c.in-Requests.entries c.in_ok-reading.reading c.count_listing.result
+    c.in_ok-reading.ensures.ok c.in-Requests.is
     (subst (λ es. IfOk c.count_listing.result (λ text.
     (count : ℕ) × IsCount (λ (entry : Entry). MeetsRequest c.args.matcher entry.request) es.items count
     × IsJsonReply 200 (json_of_number count) (json_reply 200 text)))

@@ -6,11 +6,11 @@ use Rattle.admin_json.specs.Requests.{json_of_requests}
 use Rattle.stub_response.specs.ErrorReply.{json_reply}
 use Rattle.admin_answers.proofs.lists.list_requests.Goals as goal
 
-pub returns : goal.returns
-returns g c =
+pub returns-clause-ok : goal.returns-clause-ok
+returns-clause-ok g c =
     let last = c.in_ok-reading.reading.number in
-    requests g.L.Origin.origin c.in-Requests.entries c.in_ok-reading.reading c.requests_listing.result
-    c.in_ok-reading.ensures c.in-Requests.is
+    requests g.L.Origin.origin c.read.new.self.seen c.in-Requests.entries c.in_ok-reading.reading c.requests_listing.result
+    c.in_ok-reading.ensures.ok c.in-Requests.is
     (subst (λ es. IfOk c.requests_listing.result (λ text. AreBelow (last + 1) es.items
     → IsJsonReply 200 (json_of_requests es.items) (json_reply 200 text)))
     c.in-Requests.entries-is c.requests_listing.ensures)
