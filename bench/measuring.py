@@ -1,7 +1,11 @@
-"""What the scripts of this folder share beside `harness`: the cores that they use, and how they run `wrk` and `cargo`."""
-import os, pathlib, re, subprocess
+"""What the scripts of this folder share: the harness of `tests/`, the cores that they use, and how they run `wrk` and
+`cargo`."""
+import os, pathlib, re, subprocess, sys
 
 HERE = pathlib.Path(__file__).resolve().parent
+sys.path.append(str(HERE.parent / "tests"))
+import harness
+
 CORES = sorted(os.sched_getaffinity(0))
 DEBIAN = ["--config", 'source.crates-io.replace-with="debian"',
           "--config", 'source.debian.directory="/usr/share/cargo/registry"']
