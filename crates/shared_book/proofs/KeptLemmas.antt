@@ -71,7 +71,8 @@ in_past origin past whole old new P is catches_up holds =
     (past, subst (λ (log : Log). IsPastOf origin log past) (sym catches_up.seen) is, holds)
 
 -- the seat has made another
-pub was_split : {name : Book} (origin : Past) (whole new : Log) (seat later made : Sight Past Event) → IsLawful origin whole
+pub was_split : {name : Book} (origin : Past) (whole new : Log) (seat later made : Sight Past Event)
+    → IsLawful origin whole
     → Splits seat whole later made → new ≡ later.seen → IsHistory MayFollow new → IsSeen MayFollow name new
     → IsSplit origin name seat later made
 was_split {name} origin whole new seat later made lawful splits same history was_seen = record {
@@ -82,7 +83,8 @@ was_split {name} origin whole new seat later made lawful splits same history was
 }
 
 -- the other has left, and this one has seen that
-pub was_joined : {name : Book} (origin : Past) (whole new : Log) (seat other later : Sight Past Event) → IsLawful origin whole
+pub was_joined : {name : Book} (origin : Past) (whole new : Log) (seat other later : Sight Past Event)
+    → IsLawful origin whole
     → Leaves other whole new → HasLeft MayFollow new other.number → IsHistory MayFollow new
     → CatchesUp seat new later → IsSeen MayFollow name new → IsJoined origin name seat other later
 was_joined {name} origin whole new seat other later lawful leaves left history catches_up was_seen =
@@ -149,7 +151,8 @@ module _ (origin past new : Past) (whole more : Log) (seat later : Sight Past Ev
       dropped_last origin new later.seen base
       (subst (λ (log : Log). IsPastOf origin log new) same (past_entered is grows calls same)) number
 
-  pub was_entered : {name : Book} (receipt : Receipt) → IsLawful origin whole → IsPastOf origin whole past → Grows past new event
+  pub was_entered : {name : Book} (receipt : Receipt) → IsLawful origin whole → IsPastOf origin whole past
+      → Grows past new event
       → Calls event seat whole later → more ≡ later.seen → IsHistory MayFollow more → IsSeen MayFollow name more
       → receipt.event ≡ event → receipt.number ≡ last_number new → IsEntered origin name seat later receipt
   was_entered {name} receipt lawful is grows calls same history was_seen its number = record {

@@ -43,7 +43,8 @@ number_grown old new event grows = number_by old new event (clears event) grows.
 -- ---- one more entry
 
 -- the events of a log with more entries
-events_more : (log more : Log) (e : Entry Past Event) → more ≡ log ++ e ∷ [] → events more ≡ events log ++ events (e ∷ [])
+events_more : (log more : Log) (e : Entry Past Event) → more ≡ log ++ e ∷ []
+    → events more ≡ events log ++ events (e ∷ [])
 events_more log more e is = ap events is ∙ events_append log (e ∷ [])
 
 -- the past after a call, and after another entry

@@ -277,6 +277,7 @@ gave_two origin seat middle left one two first second split again =
       same =
           second ∙ ap (λ (s : Held). record s { parts = s.parts - 1; seen = left.seen }) first
           ∙ ap (λ (n : ℕ). record seat { parts = n; seen = left.seen }) fewer;
-      begins = prefix_trans seat.seen middle.seen left.seen (split_on origin (sight seat) (sight middle) (sight one) split)
+      begins = prefix_trans seat.seen middle.seen left.seen (split_on origin (sight seat) (sight middle) (sight one)
+          split)
           (split_on origin (sight middle) (sight left) (sight two) again);
     }

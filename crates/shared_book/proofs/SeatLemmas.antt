@@ -53,15 +53,16 @@ pub seat_refused : {name : Book} (origin : Past) (old new : Sight Past Event)
     (record { let_go = let_go; held = later } ∷ joined)
 seat_refused origin old new all share amount parts count told later_share later_amount let_go held later joined seat
     sees same_share same_amount same = record {
-  same_parts = same_share ∙ seat.same_parts;
-  some = seat.some;
-  fits = seat.fits;
-  same_count = same_amount ∙ seat.same_count;
-  counted = seat.counted
-      ∙ ap (λ (rs : List Receipt). length (all_numbers (record { let_go = let_go; held = rs } ∷ joined))) (sym same);
-  lawful = sees.lawful;
-  dropped = dropped_later origin old.seen new.seen told (sees_on origin old new sees) seat.dropped;
-}
+      same_parts = same_share ∙ seat.same_parts;
+      some = seat.some;
+      fits = seat.fits;
+      same_count = same_amount ∙ seat.same_count;
+      counted = seat.counted
+          ∙ ap (λ (rs : List Receipt). length (all_numbers (record { let_go = let_go; held = rs } ∷ joined)))
+          (sym same);
+      lawful = sees.lawful;
+      dropped = dropped_later origin old.seen new.seen told (sees_on origin old new sees) seat.dropped;
+    }
 
 -- it has made a call, and has kept the receipt
 module _ {name : Book} (origin : Past) (old new : Sight Past Event) (receipt : Receipt) where
@@ -74,7 +75,8 @@ module _ {name : Book} (origin : Past) (old new : Sight Past Event) (receipt : R
 
   pub seat_entered : (all share amount parts count before base told later_share later_amount : ℕ) (own kept : Line)
       (joined later : List Line)
-      → IsSeat origin all share amount parts count before old.seen (own ∷ joined) → IsEntered origin name old new receipt
+      → IsSeat origin all share amount parts count before old.seen (own ∷ joined)
+      → IsEntered origin name old new receipt
       → IsDropped origin new.seen base → (told ≡ before) ⊎ (told ≡ base) → Keeps told own kept receipt
       → AllZip (LetsGo (λ n. n ≤ told)) joined later → later_share ≡ share → later_amount ≡ amount + 1
       → IsSeat origin all later_share later_amount parts (count + 1) told new.seen (kept ∷ later)
@@ -99,14 +101,14 @@ pub seat_split : {name : Book} (origin : Past) (old new made : Sight Past Event)
     → IsSeat origin all later_share later_amount (parts - 1) count told new.seen lines
 seat_split origin old new made all share amount parts count told later_share later_amount lines seat split more
     fewer same = record {
-  same_parts = omega (arith, seat.same_parts, more, fewer);
-  some = omega (arith, more);
-  fits = seat.fits;
-  same_count = omega (arith, seat.same_count, same);
-  counted = seat.counted;
-  lawful = split.lawful;
-  dropped = dropped_later origin old.seen new.seen told (split_on origin old new made split) seat.dropped;
-}
+      same_parts = omega (arith, seat.same_parts, more, fewer);
+      some = omega (arith, more);
+      fits = seat.fits;
+      same_count = omega (arith, seat.same_count, same);
+      counted = seat.counted;
+      lawful = split.lawful;
+      dropped = dropped_later origin old.seen new.seen told (split_on origin old new made split) seat.dropped;
+    }
 
 -- it has taken over another
 pub told_joined : {name : Book} (origin : Past) (old other new : Sight Past Event) (before others told : ℕ)
@@ -119,7 +121,8 @@ told_joined origin old other new before others told joined one two either =
 
 -- ---- what contracts see
 
-pub caught_up : {name : Book} (origin : Past) (old new : Held) → SeesAll origin name (sight old) (sight new) → new.parts ≡ old.parts
+pub caught_up : {name : Book} (origin : Past) (old new : Held) → SeesAll origin name (sight old) (sight new)
+    → new.parts ≡ old.parts
     → new.own ≡ old.own → new.joined ≡ old.joined → HasCaughtUp origin name old new
 caught_up origin old new sees parts own joined = record {
   sees = sees;
@@ -132,7 +135,8 @@ caught_up origin old new sees parts own joined = record {
   };
 }
 
-pub split_left : {name : Book} (origin : Past) (old new : Held) (made : Sight Past Event) → IsSplit origin name (sight old) (sight new) made
+pub split_left : {name : Book} (origin : Past) (old new : Held) (made : Sight Past Event)
+    → IsSplit origin name (sight old) (sight new) made
     → new.parts ≡ old.parts - 1 → new.own ≡ old.own → new.joined ≡ old.joined
     → new ≡ record old { parts = old.parts - 1; seen = new.seen }
 split_left origin old new made split parts own joined = λ i. record {
@@ -150,7 +154,8 @@ err_of P (Ok x) error given p = absurd given
 err_of P (Err e) error given p = subst P (sym given) p
 
 -- a call that was refused
-pub refused_serve : {name : Book} (origin : Past) (old new : Held) (reason : ErrorCode) → HasCaughtUp origin name old new
+pub refused_serve : {name : Book} (origin : Past) (old new : Held) (reason : ErrorCode)
+    → HasCaughtUp origin name old new
     → InPastOf origin new.seen (λ past. IsServeRefusal past reason) → IsServeRefused origin name old new reason
 refused_serve origin old new reason caught why = inr (caught, why)
 

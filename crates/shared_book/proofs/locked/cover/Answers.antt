@@ -12,7 +12,8 @@ loop-seat-preserved g c =
     have_seen_more c.args.history.now c.args.seats.now c.loop-seat.seat-index c.seat-item.result (omega arith)
     c.loop-seat.invariant
     (subst (λ (s : Held). IsPrefix s.seen c.args.history.now) c.seat-item.is
-    (subst (λ (log : Log). IsPrefix log c.args.history.now) c.front-in-loop-seat.ensures.value c.covers-in-loop-seat.ensures.begins))
+    (subst (λ (log : Log). IsPrefix log c.args.history.now) c.front-in-loop-seat.ensures.value
+    c.covers-in-loop-seat.ensures.begins))
 
 pub returns-clause-beginnings : goal.returns-clause-beginnings
 returns-clause-beginnings g c =

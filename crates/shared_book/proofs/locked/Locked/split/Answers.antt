@@ -10,4 +10,5 @@ invariant_of-self g c =
 pub returns : goal.returns
 returns g c =
     was_split g.L.Origin.origin c.self.inside.history c.split.new.self c.args.place.now c.split.new.seat
-    c.split.result c.self.invariant.lawful c.split.ensures.splits c.split.ensures.whole c.split.ensures.legal c.split.ensures.seen
+    c.split.result c.self.invariant.lawful c.split.ensures.splits c.split.ensures.whole c.split.ensures.legal
+    c.split.ensures.seen

@@ -79,7 +79,8 @@ returns-in_err-entered-clause-why g c =
       own = record { let_go = let_go; held = c.reserve.new.self.items };
       joined = map line_of c.self.inside.lines.joined.items;
     } in
-    err_of (λ (error : BookError). IsRefused g.L.Origin.origin g.L.Naming.book c.args.self.now new c.args.input error.code)
+    err_of (λ (error : BookError). IsRefused g.L.Origin.origin g.L.Naming.book c.args.self.now new c.args.input
+    error.code)
     c.from_residual-in_err-entered.result c.in_err-entered.field-0.0 c.from_residual-in_err-entered.ensures.1
     (subst (λ (s : Held).
     IsRefused g.L.Origin.origin g.L.Naming.book s new c.args.input c.in_err-entered.field-0.0.code) c.self.view_is
