@@ -20,7 +20,7 @@ module _ (rules : SiteRules) {E : Type 0} (reaches : List ℕ → Type 0) (sends
   abbrev pub IsForwardBegun : Held → Held → Forward → Begun (SiteExchange E) (List ℕ) → Type 0
   IsForwardBegun old new forward (Answered response) =
       (forwarded : Result Reply ProxyError) × IsErr forwarded
-      × IsFinished rules.origin old new forward forwarded response
+      × IsFinished rules.origin rules.history old new forward forwarded response
   IsForwardBegun old new forward (Forwarding exchange) =
       (new ≡ old) × (exchange.value.forward ≡ Some forward)
       × IsSentBy rules reaches sends exchanged forward exchange.value.exchange × can_poll exchange.value.exchange
@@ -28,9 +28,9 @@ module _ (rules : SiteRules) {E : Type 0} (reaches : List ℕ → Type 0) (sends
   -- a message was answered at once, or is to be forwarded, and that was begun
   abbrev pub Begins : Held → Held → Message (List ℕ) → Begun (SiteExchange E) (List ℕ) → Type 0
   Begins old new message (Answered response) =
-      IsBegun rules.origin rules.limits rules.escape old new message response
-      ⊎ ((forward : Forward) × (middle : Held) × IsToForward rules.origin old middle message forward
+      IsBegun rules.origin rules.history rules.limits rules.escape old new message response
+      ⊎ ((forward : Forward) × (middle : Held) × IsToForward rules.origin rules.history old middle message forward
       × IsForwardBegun middle new forward (Answered response))
   Begins old new message (Forwarding exchange) =
-      (forward : Forward) × (middle : Held) × IsToForward rules.origin old middle message forward
+      (forward : Forward) × (middle : Held) × IsToForward rules.origin rules.history old middle message forward
       × IsForwardBegun middle new forward (Forwarding exchange)

@@ -15,22 +15,27 @@ returns-in_err-response-clause-err g c =
 pub returns-in-Answered-clause-ok : goal.returns-in-Answered-clause-ok
 returns-in-Answered-clause-ok g c =
     let site = c.deref.result.now in
-    inl (rw c.deref.ensures at (subst (Begins g.L.Origin.origin site.limits site.escape c.args.seat.now c.begin.new.seat
+    inl (rw c.deref.ensures at (subst (Begins g.L.Origin.origin g.L.Naming.book site.limits site.escape
+    c.args.seat.now c.begin.new.seat
     c.args.request.now) c.in-Answered.is c.in_ok-response.ensures.ok))
 
 pub returns-in-ToForward-clause-ok : goal.returns-in-ToForward-clause-ok
 returns-in-ToForward-clause-ok g c =
     let site = c.deref.result.now in
-    forward_begun (rules_of g.L.Origin.origin c.args.self.now) (g.F.Forwards.reaches c.args.self.now.forwarder)
+    forward_begun (rules_of g.L.Origin.origin g.L.Naming.book c.args.self.now) (g.F.Forwards.reaches
+    c.args.self.now.forwarder)
     g.F.Forwards.sends g.F.Exchange.Future.gives g.F.Exchange.Future.can_poll c.args.seat.now c.begin.new.seat
     c.forward.new.seat c.args.request.now c.in-ToForward.forward
-    (subst (Begins g.L.Origin.origin site.limits site.escape c.args.seat.now c.begin.new.seat c.args.request.now)
+    (subst (Begins g.L.Origin.origin g.L.Naming.book site.limits site.escape c.args.seat.now c.begin.new.seat
+    c.args.request.now)
     c.in-ToForward.is c.in_ok-response.ensures.ok) c.forward.result c.forward.ensures.ok
 
 pub returns-in-ToForward-clause-err : goal.returns-in-ToForward-clause-err
 returns-in-ToForward-clause-err g c =
     let site = c.deref.result.now in
-    left_unfinished (rules_of g.L.Origin.origin c.args.self.now) (λ error. error ≡ OutOfMemory) c.args.seat.now
+    left_unfinished (rules_of g.L.Origin.origin g.L.Naming.book c.args.self.now) (λ error. error ≡ OutOfMemory)
+    c.args.seat.now
     c.begin.new.seat c.forward.new.seat c.args.request.now c.in-ToForward.forward
-    (subst (Begins g.L.Origin.origin site.limits site.escape c.args.seat.now c.begin.new.seat c.args.request.now)
+    (subst (Begins g.L.Origin.origin g.L.Naming.book site.limits site.escape c.args.seat.now c.begin.new.seat
+    c.args.request.now)
     c.in-ToForward.is c.in_ok-response.ensures.ok) c.forward.result c.forward.ensures.err
