@@ -3,12 +3,13 @@ use Rattle.std.specs.Prelude.{◌≡◌, ◌⊎◌, ℕ, List, IfOk, IsErr, IsSo
 use Rattle.std.specs.Arc.{arc_value}
 use Rattle.admin_answers.specs.Answers.{Gains}
 use Rattle.answering.specs.Answering.{IsBegun, IsNotBegun}
-use Rattle.answering.specs.Forwarding.{HasMadeNoCall, IsFinished, IsToForward}
+use Rattle.answering.specs.Forwarding.{IsFinished, IsToForward}
 use Rattle.answering.specs.declared.forward.Forward.{Forward}
 use Rattle.http.specs.declared.request.Request.{Request as Message}
 use Rattle.http.specs.declared.response.Response.{Response}
 use Rattle.hyper_service.specs.declared.site_answers.SiteAnswers.{SiteAnswers}
 use Rattle.hyper_service.specs.declared.site_exchange.SiteExchange.{SiteExchange}
+use Rattle.logbook.specs.Pages.{Book}
 use Rattle.mapping_model.specs.declared.reply.Reply.{Reply}
 use Rattle.mock_request.specs.Request.{Request}
 use Rattle.proxy_client.specs.Messages.{IsSomeReply}
@@ -16,23 +17,26 @@ use Rattle.proxy_client.specs.declared.error.ProxyError.{ProxyError}
 use Rattle.request_journal.specs.Past.{Past}
 use Rattle.request_journal.specs.declared.input.BookInput.TheVariants.{ClearJournal}
 use Rattle.shared_book.specs.Held.{Held}
+use Rattle.shared_book.specs.Seen.{HasMadeNoCall}
 use Rattle.shared_book.specs.declared.receipt.Receipt.{Receipt}
 use Rattle.stub_response.specs.declared.limits.Limits.{Limits}
 use Rattle.template_tree.specs.declared.escape.Escape.{Escape}
 
--- what the answers of a site depend on, beside its book: the past that this had when it was shared, and how many
--- requests the journal shows at most, where it is cleared then
+-- what the answers of a site depend on, beside its book: the past that this had when it was shared, the name of its
+-- history, and how many requests the journal shows at most, where it is cleared then
 pub record SiteRules : Type 0 where
   pub origin : Past
+  pub history : Book
   pub limits : Limits
   pub escape : Escape
   pub journal : Option ℕ
 
 -- those of the site that answers
-abbrev pub rules_of : {L G C F N : Type 0} → Past → SiteAnswers L G C F N → SiteRules
-rules_of origin answers =
+abbrev pub rules_of : {L G C F N : Type 0} → Past → Book → SiteAnswers L G C F N → SiteRules
+rules_of origin name answers =
     record {
       origin = origin;
+      history = name;
       limits = (arc_value answers.site).limits;
       escape = (arc_value answers.site).escape;
       journal = answers.journal.limit;
@@ -40,34 +44,34 @@ rules_of origin answers =
 
 -- The seat is as before. Where the journal has a limit, it may have been cleared, which is the seat's next call; or that
 -- was refused, and the seat has made no call.
-abbrev pub IsKept : Option ℕ → Past → Held → Held → Type 0
-IsKept limit origin old new =
+abbrev pub IsKept : Option ℕ → Past → Book → Held → Held → Type 0
+IsKept limit origin name old new =
     (new ≡ old)
-    ⊎ (IsSome limit × (HasMadeNoCall origin old new
-    ⊎ ((receipt : Receipt) × Gains origin old new ClearJournal receipt)))
+    ⊎ (IsSome limit × (HasMadeNoCall origin name old new
+    ⊎ ((receipt : Receipt) × Gains origin name old new ClearJournal receipt)))
 
 module _ (rules : SiteRules) where
   -- the message was answered at once
   pub record IsGivenAtOnce (old new : Held) (message : Message (List ℕ)) (response : Response (List ℕ)) : Type 0 where
     pub middle : Held
-    pub begun : IsBegun rules.origin rules.limits rules.escape old middle message response
-    pub kept : IsKept rules.journal rules.origin middle new
+    pub begun : IsBegun rules.origin rules.history rules.limits rules.escape old middle message response
+    pub kept : IsKept rules.journal rules.origin rules.history middle new
 
   -- there is no memory for an answer; or for that to a message that couldn't be forwarded
   abbrev pub IsLeft : Held → Held → Message (List ℕ) → Type 0
   IsLeft old new message =
-      IsNotBegun rules.origin rules.limits rules.escape old new message
-      ⊎ ((forward : Forward) × (begun : Held) × IsToForward rules.origin old begun message forward
-      × HasMadeNoCall rules.origin begun new)
+      IsNotBegun rules.origin rules.history rules.limits rules.escape old new message
+      ⊎ ((forward : Forward) × (begun : Held) × IsToForward rules.origin rules.history old begun message forward
+      × HasMadeNoCall rules.origin rules.history begun new)
 
   -- what that leaves of the seat
   pub record IsUnanswered (old new : Held) (message : Message (List ℕ)) : Type 0 where
     pub middle : Held
     pub left : IsLeft old middle message
-    pub kept : IsKept rules.journal rules.origin middle new
+    pub kept : IsKept rules.journal rules.origin rules.history middle new
 
-  -- `reaches` says which targets requests are forwarded to, `sends` which request an exchange sends to which target, and
-  -- `exchanged` what an exchange may give: those of what forwards the requests of the site.
+  -- `reaches` says which targets requests are forwarded to, `sends` which request an exchange sends to which target,
+  -- and `exchanged` what an exchange may give: those of what forwards the requests of the site.
   module _ {E : Type 0} (reaches : List ℕ → Type 0) (sends : List ℕ → Request → E → Type 0)
       (exchanged : E → Result Reply ProxyError → Type 0) where
     -- an exchange that sends the request of what is to be forwarded to the target of it
@@ -81,8 +85,8 @@ module _ (rules : SiteRules) where
       pub forward : Forward
       pub held : exchange.forward ≡ Some forward
       pub middle : Held
-      pub begun : IsToForward rules.origin old middle message forward
-      pub kept : IsKept rules.journal rules.origin middle new
+      pub begun : IsToForward rules.origin rules.history old middle message forward
+      pub kept : IsKept rules.journal rules.origin rules.history middle new
       pub sent : IsSentBy forward exchange.exchange
 
     -- the message was to be forwarded, there was no exchange, and this is the response to that
@@ -90,12 +94,12 @@ module _ (rules : SiteRules) where
         : Type 0 where
       pub forward : Forward
       pub begun : Held
-      pub to_forward : IsToForward rules.origin old begun message forward
+      pub to_forward : IsToForward rules.origin rules.history old begun message forward
       pub forwarded : Result Reply ProxyError
       pub failed : IsErr forwarded
       pub middle : Held
-      pub finished : IsFinished rules.origin begun middle forward forwarded response
-      pub kept : IsKept rules.journal rules.origin middle new
+      pub finished : IsFinished rules.origin rules.history begun middle forward forwarded response
+      pub kept : IsKept rules.journal rules.origin rules.history middle new
 
     -- The message was forwarded, the exchange gave this, and the response is the one to that. The seat isn't held
     -- meanwhile, so before this it need not be as the first of both calls left it.
@@ -106,7 +110,7 @@ module _ (rules : SiteRules) where
       pub by : IsForwardedBy first_old first_new message exchange
       pub forwarded : Result Reply ProxyError
       pub came : exchanged exchange.exchange forwarded
-      pub finished : IsFinished rules.origin old new by.forward forwarded response
+      pub finished : IsFinished rules.origin rules.history old new by.forward forwarded response
 
     abbrev pub IsGiven : Held → Held → Message (List ℕ) → Response (List ℕ) → Type 0
     IsGiven old new message response =

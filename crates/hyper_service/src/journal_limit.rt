@@ -1,9 +1,9 @@
 // A journal that the server itself clears once it shows as many requests as it may.
 ghost use Rattle.std.specs.Prelude.{IsFalse, IsTrue};
 ghost use Rattle.admin_answers.specs.Answers.{Gains};
-ghost use Rattle.answering.specs.Forwarding.{HasMadeNoCall};
 ghost use Rattle.hyper_service.specs.Given.{IsKept};
 ghost use Rattle.request_journal.specs.declared.input.BookInput.TheVariants.{ClearJournal as Cleared};
+ghost use Rattle.shared_book.specs.Seen.{HasMadeNoCall};
 
 use crate::gained::gained;
 use request_journal::event::Event;
@@ -40,7 +40,7 @@ impl JournalLimit {
         seat: &mut Seat<L>,
         before: Option<u64>,
     )
-        ensures { IsKept self.now.limit L.origin seat.old seat.new }
+        ensures { IsKept self.now.limit L.origin L.book seat.old seat.new }
     {
         let Some(limit) = self.limit else { return };
         let shown = self.count(rt, gained(seat, before));
@@ -64,8 +64,8 @@ impl JournalLimit {
 
 // Clears the journal, if that isn't refused.
 fn clear<L: Origin, R: Wait>(rt: &R, book: &SharedBook<L>, seat: &mut Seat<L>) -> bool
-    ensures cleared { IsTrue result → (receipt : _) × Gains L.origin seat.old seat.new Cleared receipt }
-    ensures refused { IsFalse result → HasMadeNoCall L.origin seat.old seat.new }
+    ensures cleared { IsTrue result → (receipt : _) × Gains L.origin L.book seat.old seat.new Cleared receipt }
+    ensures refused { IsFalse result → HasMadeNoCall L.origin L.book seat.old seat.new }
 {
     match seat.apply(rt, book, BookInput::ClearJournal) {
         Ok(_receipt) => true,

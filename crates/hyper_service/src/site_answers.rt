@@ -1,12 +1,13 @@
 // A site answers the requests of connections.
-ghost use Rattle.std.specs.Prelude.{◌≡◌, IfErr, IfOk, IsSome, Some};
-ghost use Rattle.answering.specs.Forwarding.{HasMadeNoCall, IsFinished};
+ghost use Rattle.std.specs.Prelude.{◌≡◌, IfErr, IfOk, Some};
+ghost use Rattle.answering.specs.Forwarding.{IsFinished};
 ghost use Rattle.http_messages.specs.declared.error.ServiceError.TheVariants.{OutOfMemory as NoMemory};
 ghost use Rattle.hyper_service.specs.Given.{IsForwardedBy, IsGiven, IsLeft, IsSentBy, IsUnanswered};
 ghost use Rattle.hyper_service.specs.Given.{rules_of};
 ghost use Rattle.hyper_service.specs.Inner.Begins.{Begins, IsForwardBegun};
 ghost use Rattle.hyper_service.specs.Inner.Failure.{IsFailure};
 ghost use Rattle.hyper_service.specs.Seats.{IsJoined, IsSplit};
+ghost use Rattle.shared_book.specs.Seen.{HasMadeNoCall};
 
 use crate::gained::{gained, last_number};
 use crate::journal_limit::JournalLimit;
@@ -84,18 +85,18 @@ where
     type Content = Content;
 
     ghost gives = { λ answers.
-        IsGiven (rules_of L.origin answers) (F.reaches answers.forwarder) F.sends F.Exchange.gives };
+        IsGiven (rules_of L.origin L.book answers) (F.reaches answers.forwarder) F.sends F.Exchange.gives };
 
     ghost forwards = { λ answers.
-        IsForwardedBy (rules_of L.origin answers) (F.reaches answers.forwarder) F.sends F.Exchange.gives };
+        IsForwardedBy (rules_of L.origin L.book answers) (F.reaches answers.forwarder) F.sends F.Exchange.gives };
 
-    ghost unanswered = { λ answers. IsUnanswered (rules_of L.origin answers) };
+    ghost unanswered = { λ answers. IsUnanswered (rules_of L.origin L.book answers) };
 
-    ghost unfinished = { λ _. HasMadeNoCall L.origin };
+    ghost unfinished = { λ _. HasMadeNoCall L.origin L.book };
 
-    ghost splits = { λ _. IsSplit L.origin };
+    ghost splits = { λ _. IsSplit L.origin L.book };
 
-    ghost joins = { λ _. IsJoined L.origin };
+    ghost joins = { λ _. IsJoined L.origin L.book };
 
     fn begin<R: Wait>(
         &self,
@@ -149,10 +150,10 @@ where
         before: Option<u64>,
         request: &Request<Bytes>,
     ) -> Result<Begun<SiteExchange<F::Exchange>, Content>, ServiceError>
-        ensures ok { IfOk result (Begins (rules_of L.origin self.now) (F.reaches self.now.forwarder) F.sends
+        ensures ok { IfOk result (Begins (rules_of L.origin L.book self.now) (F.reaches self.now.forwarder) F.sends
             F.Exchange.gives F.Exchange.can_poll seat.old seat.new request.now) }
         ensures err { IfErr result (λ error. (error ≡ NoMemory)
-            × IsLeft (rules_of L.origin self.now) seat.old seat.new request.now) }
+            × IsLeft (rules_of L.origin L.book self.now) seat.old seat.new request.now) }
     {
         match answering::begin::begin(rt, alloc, &self.site, seat, request)? {
             answering::begun::Begun::Answered(response) => {
@@ -174,9 +175,9 @@ where
         seat: &mut Seat<L>,
         forward: Forward,
     ) -> Result<Begun<SiteExchange<F::Exchange>, Content>, ServiceError>
-        ensures ok { IfOk result (IsForwardBegun (rules_of L.origin self.now) (F.reaches self.now.forwarder) F.sends
-            F.Exchange.gives F.Exchange.can_poll seat.old seat.new forward) }
-        ensures err { IfErr result (λ error. (error ≡ NoMemory) × HasMadeNoCall L.origin seat.old seat.new) }
+        ensures ok { IfOk result (IsForwardBegun (rules_of L.origin L.book self.now) (F.reaches self.now.forwarder)
+            F.sends F.Exchange.gives F.Exchange.can_poll seat.old seat.new forward) }
+        ensures err { IfErr result (λ error. (error ≡ NoMemory) × HasMadeNoCall L.origin L.book seat.old seat.new) }
     {
         match self.exchange(alloc, forward) {
             Ok(exchange) => Ok(Begun::Forwarding(exchange)),
@@ -194,8 +195,8 @@ where
         seat: &mut Seat<L>,
         forwarded: Forwarded,
     ) -> Result<Response<Content>, ServiceError>
-        ensures ok { IfOk result (IsFinished L.origin seat.old seat.new forwarded.forward forwarded.reply) }
-        ensures err { IfErr result (λ error. (error ≡ NoMemory) × HasMadeNoCall L.origin seat.old seat.new) }
+        ensures ok { IfOk result (IsFinished L.origin L.book seat.old seat.new forwarded.forward forwarded.reply) }
+        ensures err { IfErr result (λ error. (error ≡ NoMemory) × HasMadeNoCall L.origin L.book seat.old seat.new) }
     {
         let Forwarded { forward, reply } = forwarded;
         let number = forward.number;
@@ -216,8 +217,8 @@ where
         forward: Forward,
     ) -> Result<Box<SiteExchange<F::Exchange>>, Forwarded>
         ensures kept { IfOk result (λ made. made.value.forward ≡ Some forward) }
-        ensures sent { IfOk result (λ made. IsSentBy (F.reaches self.now.forwarder) F.sends F.Exchange.gives forward
-            made.value.exchange) }
+        ensures sent { IfOk result (λ made. IsSentBy (rules_of L.origin L.book self.now)
+            (F.reaches self.now.forwarder) F.sends F.Exchange.gives forward made.value.exchange) }
         ensures can_poll { IfOk result (λ made. F.Exchange.can_poll made.value.exchange) }
         ensures none { IfErr result (IsFailure forward) }
     {

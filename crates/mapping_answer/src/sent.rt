@@ -22,11 +22,5 @@ pub fn snapshot_of(alloc: Global, sent: SentRequest<'_>) -> Result<Snapshot, Com
     ensures ok { IfOk result (IsRequest (sent_of sent.entry)) }
     ensures refusal { IfErr result (λ error. RefusesRequest (sent_of sent.entry) error ⊎ (error ≡ out_of_memory)) }
 {
-    Ok(Snapshot::new(
-        alloc,
-        sent.method,
-        sent.target,
-        sent.headers,
-        sent.body,
-    )?)
+    Ok(Snapshot::new(alloc, sent.method, sent.target, sent.headers, sent.body)?)
 }

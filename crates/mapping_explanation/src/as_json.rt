@@ -4,10 +4,10 @@ use mapping_model::body_pattern::BodyPattern;
 use mapping_model::named_matcher::NamedMatcher;
 use mapping_model::request_spec::RequestSpec;
 use mapping_model::scenario_spec::ScenarioSpec;
+use mapping_model::url_spec::UrlSpec;
 use match_difference::condition::{Condition, Source};
 use match_difference::difference::Difference;
 use match_difference::found::Found;
-use mapping_model::url_spec::UrlSpec;
 use plain_text::items::Items;
 use plain_text::plain::TryClone;
 use plain_text::text::Text;
@@ -74,7 +74,12 @@ fn mapping_json(alloc: Global, explained: &Explained) -> Result<Value, AllocErro
     for difference in &explained.differences {
         differences.push(difference_json(alloc, difference)?)?;
     }
-    put(alloc, &mut members, "differences", Value::Array(differences))?;
+    put(
+        alloc,
+        &mut members,
+        "differences",
+        Value::Array(differences),
+    )?;
     put_str(alloc, &mut members, "verdict", verdict(explained))?;
     Ok(Value::Object(members))
 }
@@ -138,7 +143,12 @@ fn one_pattern(alloc: Global, pattern: &BodyPattern) -> Result<Items<BodyPattern
 fn scenario_json(alloc: Global, scenario: &ScenarioSpec) -> Result<Value, AllocError> {
     let mut members = Map::new(alloc);
     if let Some(required) = &scenario.required {
-        put_str(alloc, &mut members, "requiredScenarioState", required.as_str())?;
+        put_str(
+            alloc,
+            &mut members,
+            "requiredScenarioState",
+            required.as_str(),
+        )?;
     }
     put_str(alloc, &mut members, "scenarioName", scenario.name.as_str())?;
     Ok(Value::Object(members))

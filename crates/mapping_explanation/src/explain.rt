@@ -2,9 +2,9 @@
 ghost use Rattle.std.specs.Prelude.{◌≡◌, ◌⊎◌};
 ghost use Rattle.command_output.specs.Output.{Followed, WritesOneStream};
 
-use crate::explanation::{Explanation, explanation_of};
-pub use crate::explanation::GivenState;
 use crate::as_json::json_of;
+pub use crate::explanation::GivenState;
+use crate::explanation::{Explanation, explanation_of};
 use crate::text::text_of;
 use command_output::error::CommandError;
 use command_output::files::{Documents, FileReader, read_documents};
@@ -112,11 +112,7 @@ fn text_and_answer(
     })
 }
 
-fn printed_as(
-    alloc: Global,
-    found: &Explanation,
-    form: Form,
-) -> Result<String, AllocError> {
+fn printed_as(alloc: Global, found: &Explanation, form: Form) -> Result<String, AllocError> {
     match form {
         Form::Text => text_of(alloc, found, false),
         Form::Coloured => text_of(alloc, found, true),

@@ -202,11 +202,7 @@ fn priority(explained: &Explained) -> i32 {
     explained.mapping.spec.spec().priority_number()
 }
 
-fn status_of(
-    alloc: Global,
-    answer: &ServeAnswer,
-    request: &Snapshot,
-) -> Result<u16, AllocError> {
+fn status_of(alloc: Global, answer: &ServeAnswer, request: &Snapshot) -> Result<u16, AllocError> {
     match answer {
         ServeAnswer::Stub(captured) => {
             let spec = captured.mapping.spec.spec();

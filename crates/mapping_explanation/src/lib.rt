@@ -7,4 +7,3 @@ mod as_json;
 pub mod explain;
 mod explanation;
 mod text;
-

@@ -6,8 +6,11 @@ use std::alloc::{AllocError, Global};
 
 /// What begins a colour on a terminal, and what ends it.
 const GREEN: &str = "\u{1b}[32m";
+
 const YELLOW: &str = "\u{1b}[33m";
+
 const RED: &str = "\u{1b}[31m";
+
 const PLAIN: &str = "\u{1b}[0m";
 
 pub(crate) fn text_of(
@@ -71,7 +74,11 @@ fn push_mapping(
         push_part(text, " (name ", quoted(alloc, name.as_str())?.as_str())?;
         text.push_str(")")?;
     } else if spec.id.is_some() {
-        push_part(text, " (id ", explained.mapping.id.hyphenated(alloc)?.as_str())?;
+        push_part(
+            text,
+            " (id ",
+            explained.mapping.id.hyphenated(alloc)?.as_str(),
+        )?;
         text.push_str(")")?;
     }
     text.push_str(": ")?;

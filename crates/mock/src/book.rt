@@ -1,5 +1,5 @@
 // The book that is served.
-ghost use Rattle.std.specs.Prelude.{◌≡◌, [], IfSome, Some, option_map};
+ghost use Rattle.std.specs.Prelude.{◌≡◌, [], IfSome, Some, option_copied};
 ghost use Rattle.mock.specs.Served.{IsServedBook};
 ghost use Rattle.request_journal.specs.Past.{opened};
 
@@ -23,7 +23,7 @@ pub(crate) fn book_of<F: FileReader, E: Write>(
     escape: Escape,
     err: &mut E,
 ) -> Option<Book>
-    ensures { IfSome result (IsServedBook escape (option_map (λ path. path.now) path)
+    ensures { IfSome result (IsServedBook escape (option_copied path.entry)
         (F.listed files.now) (F.content files.now)) }
 {
     match path {

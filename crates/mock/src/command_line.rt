@@ -59,8 +59,9 @@ where
 
     // Help is no mistake, and invalid arguments are one. Where the text can't be made or written, the status is 1.
     ensures help { CallsForHelp (words_of (map string_bytes arguments.now)) → (result ≡ 0) ⊎ (result ≡ 1) }
-    ensures invalid { AreInvalid (words_of (map string_bytes arguments.now)) → ¬ (AskToServe (map string_bytes arguments.now))
-        → ¬ (AskToHelp (map string_bytes arguments.now)) → (result ≡ 2) ⊎ (result ≡ 1) }
+    ensures invalid { AreInvalid (words_of (map string_bytes arguments.now))
+        → ¬ (AskToServe (map string_bytes arguments.now)) → ¬ (AskToHelp (map string_bytes arguments.now))
+        → (result ≡ 2) ⊎ (result ≡ 1) }
     ensures range { result ≤ 2 }
 
     // Apart from lines on standard error that explain or warn, the other commands write to one of both streams.

@@ -1,5 +1,7 @@
 // The server of a book.
-ghost use Rattle.std.specs.Prelude.{◌≡◌, ◌<◌, ◌≤◌, ◌∷◌, []};
+ghost use Rattle.std.specs.Prelude.{◌≡◌, ◌<◌, ◌≤◌, ◌∷◌, [], IfOk};
+ghost use Rattle.hyper_service.specs.Given.{rules_of};
+ghost use Rattle.mapping_answer.specs.Answering.{usual_limits};
 ghost use Rattle.shared_history.specs.Entries.{opening};
 
 use crate::arguments::ServeArguments;
@@ -211,6 +213,12 @@ fn answers_of<L, R>(
 where
     L: Origin,
     R: Clock + Net + AllocGlobal + Copy + Drop,
+    ensures { IfOk result (λ answers. rules_of L.origin answers ≡ record {
+      origin = L.origin;
+      limits = usual_limits;
+      escape = arguments.entry.escape;
+      journal = arguments.entry.journal_limit;
+    }) }
 {
     let site = Site {
         book,

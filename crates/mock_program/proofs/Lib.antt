@@ -1,3 +1,4 @@
+pub mod AnswerSent
 pub mod CommandArguments
 pub mod OneStream
 pub mod ParserAnswers

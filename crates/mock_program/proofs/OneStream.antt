@@ -11,35 +11,35 @@ use Rattle.mock_program.specs.Rendering.{Renders}
 use Rattle.template_tree.specs.Source.{Source, with_escape}
 use Rattle.template_tree.specs.declared.escape.Escape.{Escape}
 
+of_output : {O E : Type 0} (out out' : O) (err err' : E) (status : ℕ) → status ≡ 0 ⊎ status ≡ 1 → err' ≡ err
+    → WritesOneStream out out' err err' status
+of_output out out' err err' status either same = record {
+  range = elim either [ inl zero ↦ omega arith | inr one ↦ omega arith ];
+  success = λ _. same;
+  invalid = λ two. elim either [ inl zero ↦ absurd (omega arith) | inr one ↦ absurd (omega arith) ];
+  one_of_both = inr same;
+}
+
+pub of_error : {O E : Type 0} (out out' : O) (err err' : E) (status : ℕ) → status ≡ 1 → out' ≡ out
+    → WritesOneStream out out' err err' status
+of_error out out' err err' status one same = record {
+  range = omega arith;
+  success = λ zero. absurd (omega arith);
+  invalid = λ _. same;
+  one_of_both = inl same;
+}
+
+-- invalid options, or a file that can't be read
+pub of_refusal : {O E : Type 0} (out out' : O) (err err' : E) (status : ℕ) → status ≡ 1 ⊎ status ≡ 2 → out' ≡ out
+    → WritesOneStream out out' err err' status
+of_refusal out out' err err' status either same = record {
+  range = elim either [ inl one ↦ omega arith | inr two ↦ omega arith ];
+  success = λ zero. elim either [ inl one ↦ absurd (omega arith) | inr two ↦ absurd (omega arith) ];
+  invalid = λ _. same;
+  one_of_both = inl same;
+}
+
 module _ {O E : Type 0} (out_holds : O → Option (List ℕ)) (err_holds : E → Option (List ℕ)) where
-  of_output : (out out' : O) (err err' : E) (status : ℕ) → status ≡ 0 ⊎ status ≡ 1 → err' ≡ err
-      → WritesOneStream out out' err err' status
-  of_output out out' err err' status either same = record {
-    range = elim either [ inl zero ↦ omega arith | inr one ↦ omega arith ];
-    success = λ _. same;
-    invalid = λ two. elim either [ inl zero ↦ absurd (omega arith) | inr one ↦ absurd (omega arith) ];
-    one_of_both = inr same;
-  }
-
-  pub of_error : (out out' : O) (err err' : E) (status : ℕ) → status ≡ 1 → out' ≡ out
-      → WritesOneStream out out' err err' status
-  of_error out out' err err' status one same = record {
-    range = omega arith;
-    success = λ zero. absurd (omega arith);
-    invalid = λ _. same;
-    one_of_both = inl same;
-  }
-
-  -- invalid options, or a file that can't be read
-  pub of_refusal : (out out' : O) (err err' : E) (status : ℕ) → status ≡ 1 ⊎ status ≡ 2 → out' ≡ out
-      → WritesOneStream out out' err err' status
-  of_refusal out out' err err' status either same = record {
-    range = elim either [ inl one ↦ omega arith | inr two ↦ omega arith ];
-    success = λ zero. elim either [ inl one ↦ absurd (omega arith) | inr two ↦ absurd (omega arith) ];
-    invalid = λ _. same;
-    one_of_both = inl same;
-  }
-
   pub nothing_written : (out : O) (err : E) → Followed err_holds (λ e. WritesOneStream out out err e 1) err
   nothing_written out err =
       alone err_holds (λ e. WritesOneStream out out err e 1) err (of_error out out err err 1 refl refl)

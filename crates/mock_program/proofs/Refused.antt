@@ -30,8 +30,8 @@ without_memory out_holds err_holds listed known escape (answer path method targe
       sent,
       record { method_is = refl; target_is = refl; plain_headers = λ none. refl; plain_body = λ none. refl },
       alone err_holds
-      (λ e. AnswersFiles out_holds err_holds escape (listed path) known path sent out out' err e status) err'
-      (inr (file.OutOfMemory, inl refl, one, shown, same)),
+          (λ e. AnswersFiles out_holds err_holds escape (listed path) known path sent out out' err e status) err'
+          (inr (file.OutOfMemory, inl refl, one, shown, same)),
     )
 without_memory out_holds err_holds listed known escape (explain path method target) options out out' err err' status
     one shown same =

@@ -123,7 +123,16 @@ fn run_call<F: FileReader, O: Write, E: Write>(
             method,
             target,
         } => run_explain(
-            alloc, files, escape, options, file, method, target, out, err, is_coloured,
+            alloc,
+            files,
+            escape,
+            options,
+            file,
+            method,
+            target,
+            out,
+            err,
+            is_coloured,
         ),
     }
 }

@@ -1,4 +1,5 @@
-//! The options of `answer` and `explain`: anywhere before a `--`, and each with the argument that follows it as its value.
+//! The options of `answer` and `explain`: anywhere before a `--`, each with the argument that follows it as its
+//! value.
 ghost use Rattle.std.specs.Prelude.{◌≡◌, ◌++◌, ◌∷◌, [], ℕ, List, IfOk, OnOk, map, string_bytes, None, codes, false};
 ghost use Rattle.std.specs.Prelude.{option_copied};
 ghost use Rattle.std.specs.Str.{bytes_eq};
@@ -21,7 +22,10 @@ pub(crate) struct Split<'a> {
     pub(crate) options: Vec<GivenOption<'a>>,
 }
 
-pub(crate) fn split_arguments<'a>(alloc: Global, arguments: &'a [String]) -> Result<Split<'a>, AllocError>
+pub(crate) fn split_arguments<'a>(
+    alloc: Global,
+    arguments: &'a [String],
+) -> Result<Split<'a>, AllocError>
     ensures words { IfOk result (λ split. map (λ word. word.now) split.words.items
         ≡ words_of (map string_bytes arguments.now)) }
     ensures options { IfOk result (λ split. map given_of split.options.items
@@ -138,6 +142,8 @@ fn is_switch(argument: &str) -> bool
 fn is_option(argument: &str) -> bool
     ensures { result ≡ is_option argument.now }
 {
-    argument == "--header" || argument == "--body" || argument == "--body-file"
+    argument == "--header"
+        || argument == "--body"
+        || argument == "--body-file"
         || argument == "--state"
 }

@@ -1,9 +1,11 @@
 //! The commands of the program, and what `clap` makes of its arguments.
-ghost use Rattle.std.specs.Prelude.{◌≡◌, IfOk, IfErr, false, map, option_map, true};
+ghost use Rattle.std.specs.Prelude.{◌≡◌, IfOk, IfErr, codes, false, map, option_map, true};
 ghost use Rattle.clap.specs.Words.{FailsBy, app_of, first_of, found_of, kind_of, rows_of, rule_of};
+ghost use Rattle.clap.specs.declared.builder.command.Command.TheViews.{out-Command as fields_of};
 ghost use Rattle.clap.specs.declared.error.kind.ErrorKind.{ErrorKind};
-ghost use Rattle.mock_program.specs.Inner.Parser.{answer_in, answers_to, asked_by, asked_in, asked_of, check_in};
-ghost use Rattle.mock_program.specs.Inner.Parser.{explain_in, is_taken, mock_app, render_in, required_rule};
+ghost use Rattle.mock_program.specs.Inner.Parser.{answer_app, answer_in, answers_to, asked_by, asked_in, asked_of};
+ghost use Rattle.mock_program.specs.Inner.Parser.{check_app, check_in, explain_app, explain_in, is_taken, mock_app};
+ghost use Rattle.mock_program.specs.Inner.Parser.{render_app, render_in, required_rule, with_request};
 
 use clap::{Arg, ArgMatches, Command, Error};
 use std::alloc::{AllocError, Global};
@@ -261,83 +263,95 @@ fn value<'a>(arguments: &ArgMatches<'a>, id: &str) -> Option<&'a str>
 fn command<'a>(alloc: Global) -> Result<Command<'a>, AllocError>
     ensures { IfOk result (λ made. app_of made ≡ mock_app) }
 {
-    let render = Command::new(alloc, "render")
-        .about("Renders a response template for one request")
-        .override_help(RENDER_HELP)
-        .arg(required(alloc, "template", "TEMPLATE", "The text of the template"))?
-        .arg(required(
-            alloc,
-            "method",
-            "METHOD",
-            "The method of the request, as GET",
-        ))?
-        .arg(required(
-            alloc,
-            "url",
-            "URL",
-            "The target of the request, as /hi/Ann?q=1 or http://host/hi/Ann",
-        ))?;
-    let check = Command::new(alloc, "check")
-        .about("Says which mappings of a file are accepted, and what their templates may cost")
-        .override_help(CHECK_HELP)
-        .arg(required(
-            alloc,
-            "file",
-            "FILE",
-            "A JSON file: one mapping, or an object with a list `mappings`",
-        ))?;
-    let answer = Command::new(alloc, "answer")
-        .about("Prints what a server with the mappings of a file replies to one request")
-        .override_help(ANSWER_HELP)
-        .arg(required(
-            alloc,
-            "mappings",
-            "MAPPINGS",
-            "A JSON file: one mapping, or an object with a list `mappings`",
-        ))?
-        .arg(required(
-            alloc,
-            "method",
-            "METHOD",
-            "The method of the request, as GET",
-        ))?
-        .arg(required(
-            alloc,
-            "url",
-            "URL",
-            "The target of the request, as /hi/Ann?q=1 or http://host/hi/Ann",
-        ))?;
-    let explain = Command::new(alloc, "explain")
-        .about("Says which mapping of a file answers a request, and why each other one doesn't")
-        .override_help(EXPLAIN_HELP)
-        .arg(required(
-            alloc,
-            "mappings",
-            "MAPPINGS",
-            "A JSON file: one mapping, or an object with a list `mappings`",
-        ))?
-        .arg(required(
-            alloc,
-            "method",
-            "METHOD",
-            "The method of the request, as GET",
-        ))?
-        .arg(required(
-            alloc,
-            "url",
-            "URL",
-            "The target of the request, as /hi/Ann?q=1 or http://host/hi/Ann",
-        ))?;
     Command::new(alloc, "mock")
         .version("1")
         .override_help(MOCK_HELP)
         .arg_required_else_help(true)
         .subcommand_required(true)
         .disable_help_subcommand(true)
-        .subcommand(render)?
-        .subcommand(check)?
-        .subcommand(answer)?
-        .subcommand(explain)
+        .subcommand(render_command(alloc)?)?
+        .subcommand(check_command(alloc)?)?
+        .subcommand(answer_command(alloc)?)?
+        .subcommand(explain_command(alloc)?)
+}
+
+fn render_command<'a>(alloc: Global) -> Result<Command<'a>, AllocError>
+    ensures app { IfOk result (λ made. app_of made ≡ render_app) }
+    ensures local { IfOk result (λ made. (fields_of made).has_globals ≡ false) }
+{
+    let command = Command::new(alloc, "render")
+        .about("Renders a response template for one request")
+        .override_help(RENDER_HELP);
+    let template = required(alloc, "template", "TEMPLATE", "The text of the template");
+    with_request(alloc, command.arg(template)?)
+}
+
+fn check_command<'a>(alloc: Global) -> Result<Command<'a>, AllocError>
+    ensures app { IfOk result (λ made. app_of made ≡ check_app) }
+    ensures local { IfOk result (λ made. (fields_of made).has_globals ≡ false) }
+{
+    let command = Command::new(alloc, "check")
+        .about("Says which mappings of a file are accepted, and what their templates may cost")
+        .override_help(CHECK_HELP);
+    command.arg(required(
+        alloc,
+        "file",
+        "FILE",
+        "A JSON file: one mapping, or an object with a list `mappings`",
+    ))
+}
+
+fn answer_command<'a>(alloc: Global) -> Result<Command<'a>, AllocError>
+    ensures app { IfOk result (λ made. app_of made ≡ answer_app) }
+    ensures local { IfOk result (λ made. (fields_of made).has_globals ≡ false) }
+{
+    let command = Command::new(alloc, "answer")
+        .about("Prints what a server with the mappings of a file replies to one request")
+        .override_help(ANSWER_HELP);
+    with_request(alloc, command.arg(mappings(alloc))?)
+}
+
+fn explain_command<'a>(alloc: Global) -> Result<Command<'a>, AllocError>
+    ensures app { IfOk result (λ made. app_of made ≡ explain_app) }
+    ensures local { IfOk result (λ made. (fields_of made).has_globals ≡ false) }
+{
+    let command = Command::new(alloc, "explain")
+        .about("Says which mapping of a file answers a request, and why each other one doesn't")
+        .override_help(EXPLAIN_HELP);
+    with_request(alloc, command.arg(mappings(alloc))?)
+}
+
+fn mappings<'a>(alloc: Global) -> Arg<'a>
+    ensures rule { rule_of result ≡ required_rule (codes "mappings") }
+    ensures local { result.global ≡ false }
+{
+    required(
+        alloc,
+        "mappings",
+        "MAPPINGS",
+        "A JSON file: one mapping, or an object with a list `mappings`",
+    )
+}
+
+// The command with the arguments of a request after its own.
+fn with_request<'a>(alloc: Global, command: Command<'a>) -> Result<Command<'a>, AllocError>
+    ensures app { IfOk result (λ made. app_of made ≡ with_request (app_of command.entry)) }
+    ensures globals { IfOk result (λ made. (fields_of made).has_globals
+        ≡ (fields_of command.entry).has_globals) }
+{
+    let method = required(
+        alloc,
+        "method",
+        "METHOD",
+        "The method of the request, as GET",
+    );
+    let target = required(
+        alloc,
+        "url",
+        "URL",
+        "The target of the request, as /hi/Ann?q=1 or http://host/hi/Ann",
+    );
+    command.arg(method)?.arg(target)
 }
 
 fn required<'a>(alloc: Global, id: &'a str, name: &'a str, help: &'a str) -> Arg<'a>

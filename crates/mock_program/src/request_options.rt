@@ -1,5 +1,6 @@
 //! What the options of `answer` and `explain` mean.
-ghost use Rattle.std.specs.Prelude.{◌≡◌, ◌⊎◌};
+ghost use Rattle.std.specs.Prelude.{◌≡◌, ◌≢◌, ◌⊎◌, [], IfErr, IfOk, map};
+ghost use Rattle.mock_program.specs.Options.{given_of};
 
 use crate::options::GivenOption;
 use command_output::error::CommandError;
@@ -102,7 +103,11 @@ pub(crate) fn request_options<'a, F: FileReader>(
     files: &F,
     options: &[GivenOption<'a>],
     is_explain: bool,
-) -> Result<RequestOptions<'a>, OptionsError<'a>> {
+) -> Result<RequestOptions<'a>, OptionsError<'a>>
+    ensures plain { IfOk result (λ made. map given_of options.now ≡ []
+        → (made.headers.items ≡ []) × (made.body.items ≡ [])) }
+    ensures given { IfErr result (λ error. map given_of options.now ≢ []) }
+{
     let mut made = RequestOptions {
         headers: Vec::new(alloc),
         body: Vec::new(alloc),

@@ -1,10 +1,9 @@
 -- What becomes of a message, before the journal's limit is kept.
-use Rattle.std.specs.Prelude.{◌≡◌, ◌⊎◌, ℕ, List, IsErr, IsSome, Result, Some}
+use Rattle.std.specs.Prelude.{◌≡◌, ◌⊎◌, ℕ, List, IsErr, Result, Some}
 use Rattle.answering.specs.Answering.{IsBegun}
 use Rattle.answering.specs.Forwarding.{IsFinished, IsToForward}
 use Rattle.answering.specs.declared.forward.Forward.{Forward}
 use Rattle.http.specs.declared.request.Request.{Request as Message}
-use Rattle.http.specs.declared.response.Response.{Response}
 use Rattle.http_connections.specs.declared.begun.Begun.{Begun}
 use Rattle.http_connections.specs.declared.begun.Begun.TheVariants.{Answered, Forwarding}
 use Rattle.hyper_service.specs.Given.{IsSentBy, SiteRules}
@@ -20,7 +19,8 @@ module _ (rules : SiteRules) {E : Type 0} (reaches : List ℕ → Type 0) (sends
   -- response to that
   abbrev pub IsForwardBegun : Held → Held → Forward → Begun (SiteExchange E) (List ℕ) → Type 0
   IsForwardBegun old new forward (Answered response) =
-      (forwarded : Result Reply ProxyError) × IsErr forwarded × IsFinished rules.origin old new forward forwarded response
+      (forwarded : Result Reply ProxyError) × IsErr forwarded
+      × IsFinished rules.origin rules.history old new forward forwarded response
   IsForwardBegun old new forward (Forwarding exchange) =
       (new ≡ old) × (exchange.value.forward ≡ Some forward)
       × IsSentBy rules reaches sends exchanged forward exchange.value.exchange × can_poll exchange.value.exchange
@@ -28,9 +28,9 @@ module _ (rules : SiteRules) {E : Type 0} (reaches : List ℕ → Type 0) (sends
   -- a message was answered at once, or is to be forwarded, and that was begun
   abbrev pub Begins : Held → Held → Message (List ℕ) → Begun (SiteExchange E) (List ℕ) → Type 0
   Begins old new message (Answered response) =
-      IsBegun rules.origin rules.limits rules.escape old new message response
-      ⊎ ((forward : Forward) × (middle : Held) × IsToForward rules.origin old middle message forward
+      IsBegun rules.origin rules.history rules.limits rules.escape old new message response
+      ⊎ ((forward : Forward) × (middle : Held) × IsToForward rules.origin rules.history old middle message forward
       × IsForwardBegun middle new forward (Answered response))
   Begins old new message (Forwarding exchange) =
-      (forward : Forward) × (middle : Held) × IsToForward rules.origin old middle message forward
+      (forward : Forward) × (middle : Held) × IsToForward rules.origin rules.history old middle message forward
       × IsForwardBegun middle new forward (Forwarding exchange)

@@ -13,20 +13,21 @@ use Rattle.mock_program.specs.declared.parser.Call.TheVariants as call
 abbrev pub required_rule : List ℕ → Rule
 required_rule id = record (new_rule id) { value_names = 1; required = true }
 
+-- a command with the arguments of a request after its own
+abbrev pub with_request : App → App
+with_request app = with_rule (with_rule app (required_rule (codes "method"))) (required_rule (codes "url"))
+
 abbrev pub render_app : App
-render_app = with_rule (with_rule (with_rule (new_app (codes "render"))
-    (required_rule (codes "template"))) (required_rule (codes "method"))) (required_rule (codes "url"))
+render_app = with_request (with_rule (new_app (codes "render")) (required_rule (codes "template")))
 
 abbrev pub check_app : App
 check_app = with_rule (new_app (codes "check")) (required_rule (codes "file"))
 
 abbrev pub answer_app : App
-answer_app = with_rule (with_rule (with_rule (new_app (codes "answer"))
-    (required_rule (codes "mappings"))) (required_rule (codes "method"))) (required_rule (codes "url"))
+answer_app = with_request (with_rule (new_app (codes "answer")) (required_rule (codes "mappings")))
 
 abbrev pub explain_app : App
-explain_app = with_rule (with_rule (with_rule (new_app (codes "explain"))
-    (required_rule (codes "mappings"))) (required_rule (codes "method"))) (required_rule (codes "url"))
+explain_app = with_request (with_rule (new_app (codes "explain")) (required_rule (codes "mappings")))
 
 -- the program without its commands
 abbrev pub program_app : App

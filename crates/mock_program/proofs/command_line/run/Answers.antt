@@ -1,8 +1,7 @@
-use Rattle.std.proofs.Common.{List, ℕ, refl, sym, map, string_bytes, subst}
+use Rattle.std.proofs.Common.{List, ℕ, refl, sym, subst}
 use Rattle.command_output.specs.Lines.{error_line}
 use Rattle.command_output.specs.Output.{AppendsFront}
 use Rattle.command_output.specs.declared.error.CommandError.{CommandError}
-use Rattle.mock_program.proofs.OneStream.{nothing_written}
 use Rattle.mock_program.proofs.Refused.{without_memory}
 use Rattle.mock_program.specs.CommandLine.{AreInvalid, AsksFor, CallsForHelp}
 use Rattle.mock_program.specs.Commands.{Does}

@@ -1,4 +1,4 @@
-use Rattle.std.proofs.Common.{◌≡◌, ℕ, List, refl, ap, ◌∙◌, [], ◌∷◌, sym, map, inl, inr, subst}
+use Rattle.std.proofs.Common.{◌≡◌, refl, ap, ◌∙◌, [], ◌∷◌, sym, map, inl, inr, subst}
 use Rattle.std.specs.Prelude.{option_map}
 use Rattle.std.proofs.lemmas.Option.{none-some, same_Some}
 use Rattle.clap.specs.Words.{HasKind, kind_of}
@@ -21,15 +21,15 @@ use Rattle.mock_program.proofs.command_line.run_words.Goals as goal
 pub returns-in-Ok-Some-clause-command : goal.returns-in-Ok-Some-clause-command
 returns-in-Ok-Some-clause-command g c = λ escape asked asks.
     let words = map (λ word. word.now) c.args.given.now.words.items in
-    let arguments : map (λ argument. argument.now) c.as_slice-2.result.now ≡ arguments_of asked =
-    ap (map (λ argument. argument.now)) c.as_slice-2.ensures.value ∙ c.in-Ok.ensures
-    ∙ ap (λ ws. parser_arguments (map (λ word. word.now) ws)) c.as_slice.ensures.value
+    let arguments : map (λ argument. argument.now) c.as_slice.result.now ≡ arguments_of asked =
+    ap (map (λ argument. argument.now)) c.as_slice.ensures.value ∙ c.in-Ok.ensures
+    ∙ ap (λ ws. parser_arguments (map (λ word. word.now) ws)) c.as_slice-words.ensures.value
     ∙ parser_arguments-asked words escape asked asks in
     let same : asked_of c.in-Ok-Some.call ≡ asked =
     same_Some _ _ (sym (ap (option_map asked_of) c.in-Ok-Some.field-0-is) ∙ c.in-Ok-Some.ensures.ok
     ∙ ap asked_by arguments ∙ asked_is_found asked) in
     let same_escape : c.escape_asked-escape.result ≡ escape =
-    c.escape_asked-escape.ensures ∙ ap (λ ws. escape_asked (map (λ word. word.now) ws)) c.as_slice.ensures.value
+    c.escape_asked-escape.ensures ∙ ap (λ ws. escape_asked (map (λ word. word.now) ws)) c.as_slice-words.ensures.value
     ∙ escape_asked-asked words escape asked asks in
     let done =
     subst (λ (a : Asked). Does g.O.Write.contents g.E.Write.contents (g.F.FileReader.listed c.args.files.now)
@@ -49,9 +49,9 @@ returns-in-Ok-Some-clause-command g c = λ escape asked asks.
 pub returns-in-Ok-None-clause-command : goal.returns-in-Ok-None-clause-command
 returns-in-Ok-None-clause-command g c = λ escape asked asks.
     let words = map (λ word. word.now) c.args.given.now.words.items in
-    let arguments : map (λ argument. argument.now) c.as_slice-2.result.now ≡ arguments_of asked =
-    ap (map (λ argument. argument.now)) c.as_slice-2.ensures.value ∙ c.in-Ok.ensures
-    ∙ ap (λ ws. parser_arguments (map (λ word. word.now) ws)) c.as_slice.ensures.value
+    let arguments : map (λ argument. argument.now) c.as_slice.result.now ≡ arguments_of asked =
+    ap (map (λ argument. argument.now)) c.as_slice.ensures.value ∙ c.in-Ok.ensures
+    ∙ ap (λ ws. parser_arguments (map (λ word. word.now) ws)) c.as_slice-words.ensures.value
     ∙ parser_arguments-asked words escape asked asks in
     absurd (none-some asked (sym (ap (option_map asked_of) c.in-Ok-None.field-0-is) ∙ c.in-Ok-None.ensures.ok
     ∙ ap asked_by arguments ∙ asked_is_found asked))
@@ -59,9 +59,9 @@ returns-in-Ok-None-clause-command g c = λ escape asked asks.
 pub returns-clause-command : goal.returns-clause-command
 returns-clause-command g c = λ escape asked asks.
     let words = map (λ word. word.now) c.args.given.now.words.items in
-    let arguments : map (λ argument. argument.now) c.as_slice-2.result.now ≡ arguments_of asked =
-    ap (map (λ argument. argument.now)) c.as_slice-2.ensures.value ∙ c.in-Ok.ensures
-    ∙ ap (λ ws. parser_arguments (map (λ word. word.now) ws)) c.as_slice.ensures.value
+    let arguments : map (λ argument. argument.now) c.as_slice.result.now ≡ arguments_of asked =
+    ap (map (λ argument. argument.now)) c.as_slice.ensures.value ∙ c.in-Ok.ensures
+    ∙ ap (λ ws. parser_arguments (map (λ word. word.now) ws)) c.as_slice-words.ensures.value
     ∙ parser_arguments-asked words escape asked asks in
     let (one, as_reported, same) =
     c.write_parser_message.ensures.no_memory (c.in-Err.ensures.err (ap is_taken arguments ∙ asked_is_taken asked)) in
@@ -89,18 +89,28 @@ returns-in-Ok-None-clause-streams g c =
 pub returns-in-Ok-Some-clause-invalid : goal.returns-in-Ok-Some-clause-invalid
 returns-in-Ok-Some-clause-invalid g c = λ invalid.
     let words = map (λ word. word.now) c.args.given.now.words.items in
-    let arguments : map (λ argument. argument.now) c.as_slice-2.result.now ≡ parser_arguments words =
-    ap (map (λ argument. argument.now)) c.as_slice-2.ensures.value ∙ c.in-Ok.ensures
-    ∙ ap (λ ws. parser_arguments (map (λ word. word.now) ws)) c.as_slice.ensures.value in
+    let arguments : map (λ argument. argument.now) c.as_slice.result.now ≡ parser_arguments words =
+    ap (map (λ argument. argument.now)) c.as_slice.ensures.value ∙ c.in-Ok.ensures
+    ∙ ap (λ ws. parser_arguments (map (λ word. word.now) ws)) c.as_slice-words.ensures.value in
     absurd ((fails_by_mistake words invalid).0
     (ap answers_to (sym arguments) ∙ c.in-Ok-Some.ensures.kinds))
+
+pub returns-in-Ok-Some-clause-help : goal.returns-in-Ok-Some-clause-help
+returns-in-Ok-Some-clause-help g c = λ calls.
+    let words = map (λ word. word.now) c.args.given.now.words.items in
+    let arguments : map (λ argument. argument.now) c.as_slice.result.now ≡ parser_arguments words =
+    ap (map (λ argument. argument.now)) c.as_slice.ensures.value ∙ c.in-Ok.ensures
+    ∙ ap (λ ws. parser_arguments (map (λ word. word.now) ws)) c.as_slice-words.ensures.value in
+    let (k, help, alone) = fails_by_help words calls in
+    let none = sym alone ∙ (ap answers_to (sym arguments) ∙ c.in-Ok-Some.ensures.kinds) in
+    cc
 
 pub returns-clause-help : goal.returns-clause-help
 returns-clause-help g c = λ calls.
     let words = map (λ word. word.now) c.args.given.now.words.items in
-    let arguments : map (λ argument. argument.now) c.as_slice-2.result.now ≡ parser_arguments words =
-    ap (map (λ argument. argument.now)) c.as_slice-2.ensures.value ∙ c.in-Ok.ensures
-    ∙ ap (λ ws. parser_arguments (map (λ word. word.now) ws)) c.as_slice.ensures.value in
+    let arguments : map (λ argument. argument.now) c.as_slice.result.now ≡ parser_arguments words =
+    ap (map (λ argument. argument.now)) c.as_slice.ensures.value ∙ c.in-Ok.ensures
+    ∙ ap (λ ws. parser_arguments (map (λ word. word.now) ws)) c.as_slice-words.ensures.value in
     let (k, help, alone) = fails_by_help words calls in
     let has : HasKind (k ∷ []) c.in-Err.error =
     subst (λ ks. HasKind ks c.in-Err.error) (ap answers_to arguments ∙ alone) c.in-Err.ensures.kinds in
@@ -113,9 +123,9 @@ returns-clause-help g c = λ calls.
 pub returns-clause-invalid : goal.returns-clause-invalid
 returns-clause-invalid g c = λ invalid.
     let words = map (λ word. word.now) c.args.given.now.words.items in
-    let arguments : map (λ argument. argument.now) c.as_slice-2.result.now ≡ parser_arguments words =
-    ap (map (λ argument. argument.now)) c.as_slice-2.ensures.value ∙ c.in-Ok.ensures
-    ∙ ap (λ ws. parser_arguments (map (λ word. word.now) ws)) c.as_slice.ensures.value in
+    let arguments : map (λ argument. argument.now) c.as_slice.result.now ≡ parser_arguments words =
+    ap (map (λ argument. argument.now)) c.as_slice.ensures.value ∙ c.in-Ok.ensures
+    ∙ ap (λ ws. parser_arguments (map (λ word. word.now) ws)) c.as_slice-words.ensures.value in
     let has : HasKind (answers_to (parser_arguments words)) c.in-Err.error =
     subst (λ given. HasKind (answers_to given) c.in-Err.error) arguments c.in-Err.ensures.kinds in
     elim has [
