@@ -38,7 +38,7 @@ module _ (rules : SiteRules) where
   pub left_unfinished : {Refusal T : Type 0} (P : Refusal → Type 0) (old middle new : Held) (message : Message (List ℕ))
       (forward : Forward) → IsToForward rules.origin rules.history old middle message forward
       → (result : Result T Refusal)
-      → IfErr result (λ error. P error × IsUnfinished middle new)
+      → IfErr result (λ error. P error × HasMadeNoCall rules.origin rules.history middle new)
       → IfErr result (λ error. P error × IsLeft rules old new message)
   left_unfinished P old middle new message forward to_forward (Ok begun) left = tt
   left_unfinished P old middle new message forward to_forward (Err error) left =

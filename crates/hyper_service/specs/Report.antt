@@ -44,7 +44,7 @@ Reports out_holds err_holds (Err refused) why out out' err err' status =
 -- the number of events in the one history of these seats; or why they have none
 abbrev pub IsSettling : Past → ℕ → Book → List Held → Result ℕ SettleRefusal → Type 0
 IsSettling origin parts name seats (Ok events) =
-    (settled : Settled) × AreSettled origin name seats settled × (settled.events ≡ events)
+    (settled : Settled) × AreSettled origin parts name seats settled × (settled.events ≡ events)
 IsSettling origin parts name seats (Err reason) = AreUnsettled origin parts name seats reason
 
 -- some seats were settled, and that is reported, and the end
