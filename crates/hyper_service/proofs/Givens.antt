@@ -1,5 +1,5 @@
 -- What is given to a message, once the journal's limit is kept, and once an exchange has given what came of it.
-use Rattle.std.proofs.Common.{◌≡◌, ◌∙◌, ◌×◌, ℕ, List, Some, IsSome, Result, Ok, Err, IfErr, IfOk, inl, inr, refl, sym, subst}
+use Rattle.std.proofs.Common.{◌≡◌, ◌∙◌, ℕ, List, Some, IsSome, Result, Ok, Err, IfErr, IfOk, inl, inr, refl, sym, subst}
 use Rattle.answering.specs.Forwarding.{IsFinished, IsToForward}
 use Rattle.answering.specs.declared.forward.Forward.{Forward}
 use Rattle.http.specs.declared.request.Request.{Request as Message}
