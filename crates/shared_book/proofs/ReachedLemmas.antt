@@ -1,5 +1,5 @@
 -- What one more entry of the history leads to.
-use Rattle.std.proofs.Common.{◌≡◌, ℕ, ◌+◌, ◌≤◌, Bool, true, false, List, [], ◌∷◌, ◌++◌, refl, sym, ap}
+use Rattle.std.proofs.Common.{◌≡◌, ℕ, ◌+◌, ◌≤◌, Bool, true, false, List, [], ◌∷◌, ◌++◌, length, refl, sym, ap}
 use Rattle.std.proofs.Common.{append-nil, append_assoc, subst, ◌∙◌, arith}
 use Rattle.std.specs.Prelude.{MatchBool}
 use mathlib.Core.List.{IsPrefix}
@@ -40,6 +40,15 @@ number_by old new event false after = ap last_number after ∙ number_after old 
 pub number_grown : (old new : Past) (event : Event) → Grows old new event → last_number new ≡ last_number old + 1
 number_grown old new event grows = number_by old new event (clears event) grows.after
 
+-- the last number after these events
+pub lead_count : (events : List Event) (origin past : Past) → Lead origin events past
+    → last_number past ≡ last_number origin + length events
+lead_count [] origin past lead = (let same = ap last_number lead in omega (arith, same))
+lead_count (e ∷ es) origin past lead =
+    let one = number_grown origin lead.0 e lead.1 in
+    let rest = lead_count es lead.0 past lead.2 in
+    omega (arith, one, rest)
+
 -- ---- one more entry
 
 -- the events of a log with more entries
@@ -67,6 +76,9 @@ pub past_left : (origin past : Past) (log more : Log) (seat : ℕ) → more ≡ 
 past_left origin past log more seat is same =
     subst (λ (es : List Event). Lead origin es past)
     (sym (events_more log more (entry seat Left) is ∙ append-nil (events log))) same
+
+pub calls_left : (log more : Log) (seat : ℕ) → more ≡ log ++ entry seat Left ∷ [] → events more ≡ events log
+calls_left log more seat is = events_more log more (entry seat Left) is ∙ append-nil (events log)
 
 -- a history that goes on has the same origin
 pub lawful_on : (origin : Past) (old new : Log) → IsLawful origin old → IsPrefix old new → IsHistory MayFollow new
