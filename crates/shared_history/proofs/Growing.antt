@@ -12,7 +12,7 @@ use Rattle.shared_history.specs.Inner.Lines.{entries_of, line, turn_of, AreTurns
 use Rattle.shared_history.specs.Inner.Kept.{IsWritten}
 use Rattle.shared_history.specs.Sight.{IsIn}
 use Rattle.shared_history.specs.declared.entry.Deed.{Deed}
-use Rattle.shared_history.specs.declared.entry.Deed.TheVariants.{Opened, Called, Split, Left}
+use Rattle.shared_history.specs.declared.entry.Deed.TheVariants.{Opened, Called, Looked, Split, Left}
 use Rattle.shared_history.specs.declared.entry.Entry.{Entry}
 use Rattle.shared_history.specs.declared.line.Line.{Line}
 use Rattle.shared_history.proofs.Entries.{own_append, own_it, own_other, seat_kept, seat_after, seat_made}
@@ -49,7 +49,7 @@ module _ {O E : Type 0} (may : O → List E → E → Type 0) where
   abbrev origin_in : O → List (Entry O E) → O
   origin_in other [] = other
   origin_in other (e ∷ log) =
-      elim e.deed [ Opened origin ↦ origin | Called event ↦ other | Split ↦ other | Left ↦ other ]
+      elim e.deed [ Opened origin ↦ origin | Called event ↦ other | Looked ↦ other | Split ↦ other | Left ↦ other ]
 
   -- the same list opens with one origin
   pub one_origin : (first other : O) (xs ys : List (Entry O E)) → opening first ∷ xs ≡ opening other ∷ ys
@@ -318,6 +318,16 @@ module _ {O E : Type 0} (may : O → List E → E → Type 0) where
       let free : IsUnused key whole =
       all_front (λ (l : Line O E). l.turn ≢ key) whole all.0 (subst (IsUnused key) (sym all.1) unused) in
       ((has_kept seen whole number key has legal begins free).0, is_in seen whole number key has legal begins free)
+
+  pub may_look : (log : List (Entry O E)) (deed : Deed O E) → IsHistory may log → deed ≡ Looked → MayFollow may log deed
+  may_look log deed history is =
+      record {
+        origin = history.origin;
+        after = history.after;
+        opens = history.opens;
+        allowed =
+            subst (λ (d : Deed O E). MayDo may history.origin log d) (sym is) tt;
+      }
 
   pub may_split : (log : List (Entry O E)) (deed : Deed O E) → IsHistory may log → deed ≡ Split → MayFollow may log deed
   may_split log deed history is =

@@ -3,7 +3,7 @@ use Rattle.std.specs.Prelude.{◌≡◌, ℕ, List, [], ◌∷◌, ◌++◌}
 use mathlib.Core.List.{IsPrefix}
 use Rattle.shared_history.specs.Entries.{opening, own, events, IsSeat}
 use Rattle.shared_history.specs.declared.entry.Deed.{Deed}
-use Rattle.shared_history.specs.declared.entry.Deed.TheVariants.{Opened, Called, Split, Left}
+use Rattle.shared_history.specs.declared.entry.Deed.TheVariants.{Opened, Called, Looked, Split, Left}
 use Rattle.shared_history.specs.declared.entry.Entry.{Entry}
 
 -- it has ended: each seat that an entry made has left
@@ -16,6 +16,7 @@ module _ {O E : Type 0} (may : O → List E → E → Type 0) where
   abbrev pub MayDo : O → List (Entry O E) → Deed O E → Type 0
   MayDo origin before (Opened other) = ⊥
   MayDo origin before (Called event) = may origin (events before) event
+  MayDo origin before Looked = Unit {0}
   MayDo origin before Split = Unit {0}
   MayDo origin before Left = Unit {0}
 

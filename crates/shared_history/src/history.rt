@@ -3,7 +3,7 @@ ghost use Rattle.std.specs.Prelude.{◌≡◌};
 ghost use mathlib.Core.List.{IsPrefix};
 ghost use Rattle.shared_history.specs.History.{HasEnded, HasLeft, IsHistory, IsWhole, MayCall};
 ghost use Rattle.shared_history.specs.Seal.{IsSeen};
-ghost use Rattle.shared_history.specs.Sight.{Calls, CatchesUp, Leaves, Splits};
+ghost use Rattle.shared_history.specs.Sight.{Calls, CatchesUp, Leaves, Looks, Splits};
 
 use crate::course::Course;
 use crate::front::Front;
@@ -12,7 +12,7 @@ use crate::naming::Naming;
 use crate::rule::{Head, Log};
 use crate::seat::Seat;
 use crate::steps::{draw, look, stuck};
-use crate::write::{ask_to_leave, ask_to_split, write};
+use crate::write::{ask_to_leave, ask_to_look, ask_to_split, write};
 use std::marker::{Model, PhantomData};
 use std::sync::Wait;
 
@@ -89,6 +89,31 @@ impl<O, E, C: Course<O, E>, J: Naming> History<O, E, C, J> {
             &next,
             &next,
             Ask::Called(event),
+        );
+        seat.count = self.count;
+        seat.seen = self.seen.again();
+        seat.turn = next;
+    }
+
+    /// The seat looks at all that there is, which is an entry too: what it sees then is the history up to there.
+    pub fn look<R: Wait>(&mut self, rt: &R, seat: &mut Seat<O, E, C, J>)
+        ensures looks { Looks seat.old self.old seat.new }
+        ensures whole { self.new ≡ seat.new.seen }
+        ensures legal { IsHistory C.may self.new }
+        ensures seen { IsSeen C.may J.book self.new }
+    {
+        let next = draw(&self.head, &self.seen);
+        self.count = write(
+            rt,
+            &self.head,
+            &mut self.seen,
+            self.count,
+            &seat.seen,
+            seat.number,
+            &mut seat.turn,
+            &next,
+            &next,
+            ask_to_look(&seat.seen),
         );
         seat.count = self.count;
         seat.seen = self.seen.again();
