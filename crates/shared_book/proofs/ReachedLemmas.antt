@@ -17,7 +17,7 @@ use Rattle.shared_history.proofs.Prefixes.{prefix_self, prefix_trans}
 use Rattle.shared_history.specs.Entries.{entry, events, opening}
 use Rattle.shared_history.specs.History.{GoesOn, IsHistory, MayCall, MayDo}
 use Rattle.shared_history.specs.declared.entry.Deed.{Deed}
-use Rattle.shared_history.specs.declared.entry.Deed.TheVariants.{Called, Left, Opened, Split}
+use Rattle.shared_history.specs.declared.entry.Deed.TheVariants.{Called, Left, Looked, Opened, Split}
 use Rattle.shared_history.specs.declared.entry.Entry.{Entry}
 use Rattle.stub_book.specs.Growth.{Grows}
 
@@ -71,6 +71,12 @@ past_split origin past log more seat is same =
     subst (λ (es : List Event). Lead origin es past)
     (sym (events_more log more (entry seat Split) is ∙ append-nil (events log))) same
 
+pub past_looked : (origin past : Past) (log more : Log) (seat : ℕ) → more ≡ log ++ entry seat Looked ∷ []
+    → IsPastOf origin log past → IsPastOf origin more past
+past_looked origin past log more seat is same =
+    subst (λ (es : List Event). Lead origin es past)
+    (sym (events_more log more (entry seat Looked) is ∙ append-nil (events log))) same
+
 pub past_left : (origin past : Past) (log more : Log) (seat : ℕ) → more ≡ log ++ entry seat Left ∷ []
     → IsPastOf origin log past → IsPastOf origin more past
 past_left origin past log more seat is same =
@@ -119,6 +125,8 @@ past_more origin before seat (Called event) past is may = (
   may.1,
   past_called origin may.0 may.1 before (before ++ entry seat (Called event) ∷ []) seat event refl may.2 may.3,
 )
+past_more origin before seat Looked past is may =
+    (past, past_looked origin past before (before ++ entry seat Looked ∷ []) seat refl is)
 past_more origin before seat Split past is may =
     (past, past_split origin past before (before ++ entry seat Split ∷ []) seat refl is)
 past_more origin before seat Left past is may =

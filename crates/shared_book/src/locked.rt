@@ -100,7 +100,8 @@ impl<L: Origin> Locked<L> {
         }
     }
 
-    /// Serves the request, whose event comes into this memory, and enters that for the share and the place.
+    /// Serves the request, whose event comes into this memory, and enters that for the share and the place; or enters
+    /// that the place has looked.
     #[tactic(auto, using(crate::proofs::KeptLemmas::sees_all))]
     pub(crate) fn serve<R: Wait>(
         &mut self,
@@ -136,13 +137,13 @@ impl<L: Origin> Locked<L> {
                 event,
             )),
             Err(error) => {
-                self.history.catch_up(rt, place);
+                self.history.look(rt, place);
                 Err(error)
             }
         }
     }
 
-    /// Makes the change, and enters that for the share and the place.
+    /// Makes the change, and enters that for the share and the place; or enters that the place has looked.
     #[tactic(auto, using(crate::proofs::KeptLemmas::sees_all))]
     pub(crate) fn apply<R: Wait>(
         &mut self,
@@ -175,13 +176,13 @@ impl<L: Origin> Locked<L> {
                 event,
             )),
             Err(error) => {
-                self.history.catch_up(rt, place);
+                self.history.look(rt, place);
                 Err(error)
             }
         }
     }
 
-    /// Looks up what is asked for.
+    /// Looks up what is asked for, and enters that the place has looked.
     #[tactic(auto, using(crate::proofs::KeptLemmas::sees_all))]
     pub(crate) fn read<R: Wait>(
         &mut self,
@@ -193,7 +194,7 @@ impl<L: Origin> Locked<L> {
         ensures seen { SeesAll L.origin L.book place.old place.new }
         ensures answer { IfOk result (IsLookedUp L.origin place.new.seen asked.now) }
     {
-        self.history.catch_up(rt, place);
+        self.history.look(rt, place);
         let number = self.book.event_count();
         let answer = look(&self.book, alloc, asked)?;
         Ok(Reading { number, answer })

@@ -121,6 +121,13 @@ impl<L: Origin> Seat<L> {
         place
     }
 
+    /// Its number in the history.
+    pub fn number(&self) -> u64
+        ensures { result ≡ self.now.number }
+    {
+        self.place.number()
+    }
+
     /// How many parts of the ledger it has.
     pub fn parts(&self) -> u64
         ensures value { result ≡ self.now.parts }
