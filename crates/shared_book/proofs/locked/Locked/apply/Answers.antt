@@ -5,6 +5,6 @@ use Rattle.shared_book.proofs.locked.Locked.apply.Goals as goal
 
 pub returns-in-Err-clause-why : goal.returns-in-Err-clause-why
 returns-in-Err-clause-why g c =
-    in_past g.L.Origin.origin c.self.inside.book c.self.inside.history c.args.place.now c.catch_up.new.seat
+    in_past g.L.Origin.origin c.self.inside.book c.self.inside.history c.args.place.now c.look.new.seat
     (λ (past : Past). IsRefusal past c.args.input c.in-Err.error.code) c.self.invariant.past_of
-    c.catch_up.ensures.catches_up c.in-Err.ensures.why
+    c.look.ensures.looks c.in-Err.ensures.why
