@@ -10,7 +10,7 @@ use Rattle.request_journal.specs.Recording.{recording}
 use Rattle.request_journal.specs.State.{state}
 use Rattle.request_match.specs.Matching.{MeetsRequest}
 use Rattle.scenario_core.specs.Scenarios.{state_of}
-use Rattle.shared_book.specs.Reached.{IsPastOf, Log}
+use Rattle.shared_book.specs.Reached.{IsLawful, IsPastOf, Log}
 use Rattle.shared_book.specs.declared.book_read.BookRead.{BookRead}
 use Rattle.shared_book.specs.declared.book_read.BookRead.TheVariants as read
 use Rattle.shared_book.specs.declared.book_read.ReadAnswer.{ReadAnswer}
@@ -41,3 +41,12 @@ pub record IsRead (origin : Past) (log : Log) (asked : BookRead) (reading : Read
   pub past_of : IsPastOf origin log past
   pub number : reading.number ≡ last_number past
   pub answer : IsReadAnswer past asked reading.answer
+
+-- the answer is what the past after some history of the book says: that of who has no seat, so that nothing says at which
+-- point it was read
+pub record IsReadOnce (origin : Past) (asked : BookRead) (found : ReadAnswer) : Type 0 where
+  pub log : Log
+  pub lawful : IsLawful origin log
+  pub past : Past
+  pub past_of : IsPastOf origin log past
+  pub answer : IsReadAnswer past asked found

@@ -1,7 +1,7 @@
 -- What is looked up under the lock for who reads a book: where requests are to be matched, all that the journal shows.
 use Rattle.std.specs.Prelude.{◌≡◌}
 use Rattle.request_journal.specs.Past.{Past, last_number}
-use Rattle.shared_book.specs.Reached.{IsPastOf, Log}
+use Rattle.shared_book.specs.Reached.{IsLawful, IsPastOf, Log}
 use Rattle.shared_book.specs.Reading.{IsReadAnswer}
 use Rattle.shared_book.specs.declared.book_read.BookRead.{BookRead}
 use Rattle.shared_book.specs.declared.book_read.BookRead.TheVariants as read
@@ -19,3 +19,11 @@ pub record IsLookedUp (origin : Past) (log : Log) (asked : BookRead) (reading : 
   pub past_of : IsPastOf origin log past
   pub number : reading.number ≡ last_number past
   pub answer : IsLooked past asked reading.answer
+
+-- likewise, without a number, after some history of the book
+pub record IsLookedUpOnce (origin : Past) (asked : BookRead) (found : ReadAnswer) : Type 0 where
+  pub log : Log
+  pub lawful : IsLawful origin log
+  pub past : Past
+  pub past_of : IsPastOf origin log past
+  pub answer : IsLooked past asked found
