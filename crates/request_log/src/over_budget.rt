@@ -87,7 +87,7 @@ fn with_template(taken: Taken, template: &TemplateText, size: u64) -> Option<Tak
     })
 }
 
-// As `  over budget: over data of size 5300 the templates may take 148877000000 steps, of 67108864`.
+// As `  over budget: over data of size 350 the templates may take 86118453 steps (limit 67108864)`.
 fn taken_line(
     alloc: Global,
     taken: Option<Taken>,
@@ -107,19 +107,13 @@ fn taken_line(
         return Ok(String::new(alloc));
     }
     if is_long {
-        push_amount(&mut line, "take ", taken.steps, " steps, of ", limits.steps)?;
+        push_amount(&mut line, "take ", taken.steps, " steps", limits.steps)?;
     }
     if is_long && is_large {
-        line.push_str(", and ")?;
+        line.push_str(" and ")?;
     }
     if is_large {
-        push_amount(
-            &mut line,
-            "write ",
-            taken.bytes,
-            " bytes, of ",
-            limits.bytes,
-        )?;
+        push_amount(&mut line, "write ", taken.bytes, " bytes", limits.bytes)?;
     }
     line.push_str("\n")?;
     Ok(line)
@@ -135,14 +129,19 @@ fn push_amount(
     line.push_str(verb)?;
     push_number(line, amount)?;
     line.push_str(unit)?;
-    push_number(line, limit as u128)
+    push_limit(line, limit)
+}
+
+fn push_limit(line: &mut String, limit: u64) -> Result<(), AllocError> {
+    line.push_str(" (limit ")?;
+    push_number(line, limit as u128)?;
+    line.push_str(")")
 }
 
 fn data_line(alloc: Global, size: u64) -> Result<String, AllocError> {
     let mut line = String::from_str(alloc, "  over budget: the request's data has size ")?;
     push_number(&mut line, size as u128)?;
-    line.push_str(", of ")?;
-    push_number(&mut line, SIZE_LIMIT as u128)?;
+    push_limit(&mut line, SIZE_LIMIT)?;
     line.push_str("\n")?;
     Ok(line)
 }
