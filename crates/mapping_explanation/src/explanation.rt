@@ -156,7 +156,7 @@ fn set_states(
 
 fn set_state(alloc: Global, book: &mut Book, given: GivenState<'_>) -> Result<(), CommandError>
     ensures { OnOk result ((accepted : Accepted)
-        × IsAccepted book.old book.new (SetScenario given.scenario.now given.state.now) accepted) }
+        × IsAccepted book.old book.new (SetScenario given.entry.scenario.now given.entry.state.now) accepted) }
 {
     let scenario = Text::from(String::from_str(alloc, given.scenario)?);
     let state = Text::from(String::from_str(alloc, given.state)?);

@@ -1,4 +1,6 @@
 // The mappings that come nearest to a request that none of them matched.
+ghost use Rattle.std.specs.Prelude.{◌≤◌, length};
+
 use crate::mapping_name::push_mapping;
 use match_difference::difference::{Difference, differences};
 use match_difference::said::line_of;
@@ -123,11 +125,15 @@ fn keep(nearest: &mut Vec<Near>, near: Near) -> Result<(), AllocError> {
 }
 
 // How many differ in no more than so many conditions. They stand first.
-fn count_nearer(nearest: &[Near], count: usize) -> usize {
-    nearest
-        .iter()
-        .take_while(|near| near.differences.len() <= count)
-        .count()
+fn count_nearer(nearest: &[Near], count: usize) -> usize
+    ensures { result ≤ length nearest.now }
+{
+    for index in 0..nearest.len() {
+        if nearest[index].differences.len() > count {
+            return index;
+        }
+    }
+    nearest.len()
 }
 
 // As `  nearest 3f83df0b-a3bf-5f1c-9b5c-bffae2bac110 "todo": method "PUT", found "GET"; url "/a", found "/b"`.
