@@ -73,15 +73,16 @@ impl<L: Origin> SharedBook<L> {
         })
     }
 
-    /// Reads the book as it is at some point during the call, for who has no seat. It adds nothing to the history, so
-    /// nothing says when that was.
+    /// Reads the book as it is at some point during the call, for who has no seat. It enters nothing, so nothing says when
+    /// that was.
+    #[tactic(auto, using(crate::proofs::KeptLemmas::read_once))]
     pub fn peek<R: Wait>(
         &self,
         rt: &R,
         alloc: Global,
         asked: BookRead,
     ) -> Result<ReadAnswer, AllocError>
-        ensures { IfOk result (IsReadOnce L.origin asked) }
+        ensures { IfOk result (IsReadOnce L.origin L.book asked) }
     {
         let found = self.lock(rt).peek(alloc, &asked)?;
         answer(alloc, asked, found)
