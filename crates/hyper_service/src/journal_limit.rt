@@ -1,5 +1,5 @@
 // A journal that the server itself clears once it shows as many requests as it may.
-ghost use Rattle.std.specs.Prelude.{IsFalse, IsTrue};
+ghost use Rattle.std.specs.Prelude.{◌≡◌, IsFalse, IsTrue};
 ghost use Rattle.admin_answers.specs.Answers.{Gains};
 ghost use Rattle.hyper_service.specs.Given.{IsKept};
 ghost use Rattle.request_journal.specs.declared.input.BookInput.TheVariants.{ClearJournal as Cleared};
@@ -24,7 +24,9 @@ pub struct JournalLimit {
 
 impl JournalLimit {
     /// The limit of a journal that shows no request.
-    pub fn new(limit: Option<u64>) -> JournalLimit {
+    pub fn new(limit: Option<u64>) -> JournalLimit
+        ensures { result.limit ≡ limit }
+    {
         JournalLimit {
             limit,
             shown: Mutex::new(0),

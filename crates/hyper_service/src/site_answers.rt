@@ -48,7 +48,9 @@ impl<L: Origin, G, C, F, N> SiteAnswers<L, G, C, F, N> {
         forwarder: F,
         log: N,
         journal: JournalLimit,
-    ) -> SiteAnswers<L, G, C, F, N> {
+    ) -> SiteAnswers<L, G, C, F, N>
+        ensures { result ≡ record { site = site; forwarder = forwarder; log = log; journal = journal } }
+    {
         SiteAnswers {
             site,
             forwarder,

@@ -1,5 +1,6 @@
 -- What the lock keeps, after one more entry.
 use Rattle.std.proofs.Common.{◌≡◌, ℕ, ◌<◌, [], ◌∷◌, ◌++◌, ap, arith, refl, sym, ◌∙◌, subst}
+use Rattle.std.specs.Prelude.{IfOk, Result, Ok, Err}
 use Rattle.logbook.specs.Pages.{Book}
 use Rattle.request_journal.specs.Legal.{IsNext}
 use Rattle.request_journal.specs.Past.{Past, last_number}
@@ -8,9 +9,9 @@ use Rattle.shared_book.proofs.ReachedLemmas.{dropped_last, lawful_on, lawful_ope
 use Rattle.shared_book.proofs.ReachedLemmas.{past_left, past_looked, past_opened, past_split}
 use Rattle.shared_book.specs.Held.{IsDropped}
 use Rattle.shared_book.specs.Inner.Kept.{IsKept}
-use Rattle.shared_book.specs.Inner.Looked.{IsLooked, IsLookedUp}
+use Rattle.shared_book.specs.Inner.Looked.{IsLooked, IsLookedUp, IsLookedUpOnce}
 use Rattle.shared_book.specs.Reached.{InPastOf, IsLawful, IsPastOf, Log, MayFollow}
-use Rattle.shared_book.specs.Reading.{IsRead, IsReadAnswer}
+use Rattle.shared_book.specs.Reading.{IsRead, IsReadAnswer, IsReadOnce}
 use Rattle.shared_book.specs.Seen.{IsEntered, IsJoined, IsSplit, SeesAll}
 use Rattle.shared_book.specs.declared.book_read.BookRead.{BookRead}
 use Rattle.shared_book.specs.declared.book_read.ReadAnswer.{ReadAnswer}
@@ -138,6 +139,35 @@ answered origin log asked looked answer is right = record {
   past = is.past;
   past_of = is.past_of;
   number = is.number;
+  answer = right is.past is.answer;
+}
+
+-- the same for who has no place
+pub looked_up_once : {E : Type 0} {name : Book} (origin past : Past) (whole seen : Log) (asked : BookRead)
+    (result : Result ReadAnswer E) → IsLawful origin whole → IsPastOf origin whole past → seen ≡ whole
+    → IsSeen MayFollow name seen → IfOk result (IsLooked past asked)
+    → IfOk result (IsLookedUpOnce origin name asked)
+looked_up_once origin past whole seen asked (Err error) lawful is same was_seen looked = looked
+looked_up_once {E} {name} origin past whole seen asked (Ok found) lawful is same was_seen looked = record {
+  log = whole;
+  lawful = lawful;
+  was_seen = subst (λ (log : Log). IsSeen MayFollow name log) same was_seen;
+  past = past;
+  past_of = is;
+  answer = looked;
+}
+
+pub read_once : {E : Type 0} {name : Book} (origin : Past) (asked : BookRead) (found : ReadAnswer)
+    (result : Result ReadAnswer E) → IsLookedUpOnce origin name asked found
+    → IfOk result (λ answer. (past : Past) → IsLooked past asked found → IsReadAnswer past asked answer)
+    → IfOk result (IsReadOnce origin name asked)
+read_once origin asked found (Err error) is right = right
+read_once origin asked found (Ok answer) is right = record {
+  log = is.log;
+  lawful = is.lawful;
+  was_seen = is.was_seen;
+  past = is.past;
+  past_of = is.past_of;
   answer = right is.past is.answer;
 }
 

@@ -5,7 +5,7 @@ ghost use Rattle.request_journal.specs.Past.{last_number};
 ghost use Rattle.request_journal.specs.declared.limits.TheConstants.{NUMBER_LIMIT};
 ghost use Rattle.shared_book.specs.Held.{IsDropped};
 ghost use Rattle.shared_book.specs.Inner.Ends.{Ends, HaveAgreed};
-ghost use Rattle.shared_book.specs.Inner.Looked.{IsLookedUp};
+ghost use Rattle.shared_book.specs.Inner.Looked.{IsLookedUp, IsLookedUpOnce};
 ghost use Rattle.shared_book.specs.Reached.{InPastOf, IsLawful, IsPastOf, MayFollow};
 ghost use Rattle.shared_book.specs.Seen.{IsEntered, IsJoined, IsSplit, SeesAll};
 ghost use Rattle.shared_book.specs.Settled.{AreSettled, AreUnsettled, HaveSeen};
@@ -16,7 +16,7 @@ ghost use Rattle.stub_book.specs.Refusals.{IsRefusal, IsServeRefusal};
 
 use crate::audit::{audit, have_parts};
 use crate::base::base_of;
-use crate::book_read::{BookRead, Reading};
+use crate::book_read::{BookRead, ReadAnswer, Reading};
 use crate::compare::compare;
 use crate::entered::Entered;
 use crate::history::{History, Place};
@@ -195,6 +195,15 @@ impl<L: Origin> Locked<L> {
         let number = self.book.event_count();
         let answer = look(&self.book, alloc, asked)?;
         Ok(Reading { number, answer })
+    }
+
+    /// Looks up what is asked for, for who has no place.
+    #[tactic(auto, using(crate::proofs::KeptLemmas::looked_up_once))]
+    pub(crate) fn peek(&self, alloc: Global, asked: &BookRead) -> Result<ReadAnswer, AllocError>
+        ensures { IfOk result (IsLookedUpOnce L.origin L.book asked.now) }
+    {
+        self.history.front();
+        look(&self.book, alloc, asked)
     }
 
     /// Makes a new seat's place.
