@@ -198,7 +198,6 @@ impl<L: Origin> Locked<L> {
     }
 
     /// Looks up what is asked for, for who has no place.
-    #[tactic(auto, using(crate::proofs::KeptLemmas::looked_up_once))]
     pub(crate) fn peek(&self, alloc: Global, asked: &BookRead) -> Result<ReadAnswer, AllocError>
         ensures { IfOk result (IsLookedUpOnce L.origin L.book asked.now) }
     {
