@@ -143,12 +143,12 @@ answered origin log asked looked answer is right = record {
 }
 
 -- the same for who has no place
-pub looked_up_once : {E : Type 0} {name : Book} (origin past : Past) (whole seen : Log) (asked : BookRead)
+pub looked_up_once : {E : Type 0} (name : Book) (origin past : Past) (whole seen : Log) (asked : BookRead)
     (result : Result ReadAnswer E) → IsLawful origin whole → IsPastOf origin whole past → seen ≡ whole
     → IsSeen MayFollow name seen → IfOk result (IsLooked past asked)
     → IfOk result (IsLookedUpOnce origin name asked)
-looked_up_once origin past whole seen asked (Err error) lawful is same was_seen looked = looked
-looked_up_once {E} {name} origin past whole seen asked (Ok found) lawful is same was_seen looked = record {
+looked_up_once name origin past whole seen asked (Err error) lawful is same was_seen looked = looked
+looked_up_once name origin past whole seen asked (Ok found) lawful is same was_seen looked = record {
   log = whole;
   lawful = lawful;
   was_seen = subst (λ (log : Log). IsSeen MayFollow name log) same was_seen;

@@ -1,5 +1,5 @@
 -- Seats whose receipts were compared with the history, of which each has seen a beginning.
-use Rattle.std.proofs.Common.{◌≡◌, ◌≢◌, ◌∙◌, [], ◌∷◌, ◌++◌, ap, drop, length, refl, take}
+use Rattle.std.proofs.Common.{◌≡◌, ◌≢◌, ◌∙◌}
 use Rattle.std.proofs.Common.{sym, subst, ℕ, Bool, true, false, List, Ok, Err, IfOk, IfErr, IsTrue, ◌↔◌}
 use Rattle.std.specs.Prelude.{Result}
 use mathlib.Core.Bool.{true≢false}
@@ -12,17 +12,6 @@ use Rattle.shared_book.specs.Settled.{AreUnsettled, HaveSeen, IsSettled, IsUnset
 use Rattle.shared_book.specs.declared.settled.SettleRefusal.{SettleRefusal}
 use Rattle.shared_book.specs.declared.settled.Settled.{Settled}
 use Rattle.shared_history.specs.Seal.{IsSeen}
-
--- a list that was lent and given back as it was
-take_all : (xs ys : List Held) → take (length xs) (xs ++ ys) ≡ xs
-take_all [] ys = refl
-take_all (x ∷ xs) ys = ap (λ (l : List Held). x ∷ l) (take_all xs ys)
-
-pub given_back : (n : ℕ) (items lent later : List Held) → later ≡ lent → lent ≡ items → length lent ≡ n
-    → take n (later ++ drop (length later) items) ≡ items
-given_back n items lent later same is long =
-    subst (λ (k : ℕ). take k (later ++ drop (length later) items) ≡ items) (ap length same ∙ long)
-    (take_all later (drop (length later) items) ∙ same ∙ is)
 
 -- a test that says no
 pub not_all : (test : Bool) (have parts all : ℕ) → (IsTrue test ↔ (have ≡ parts)) → test ≡ false → parts ≡ all

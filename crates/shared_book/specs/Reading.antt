@@ -44,8 +44,8 @@ pub record IsRead (origin : Past) (log : Log) (asked : BookRead) (reading : Read
   pub number : reading.number ≡ last_number past
   pub answer : IsReadAnswer past asked reading.answer
 
--- the answer is what the past after the history with this name says, as that was at some point: for who has no seat, so that
--- nothing says at which
+-- the answer is what the past after the history with this name says, as that was at some point: for who has no seat,
+-- so that nothing says at which
 pub record IsReadOnce (origin : Past) (name : Book) (asked : BookRead) (found : ReadAnswer) : Type 0 where
   pub log : Log
   pub lawful : IsLawful origin log

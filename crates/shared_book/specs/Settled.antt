@@ -70,9 +70,9 @@ IsUnsettled origin parts past seats OutOfMemory = all_parts seats ≡ parts
 
 -- ---- of seats
 
--- the seats have all parts; the history with this name has ended, as each seat has left, so that no call can follow; what
--- each of these seats has seen is a beginning of it, and their receipts are those of its calls, which are as many as
--- are counted since the book was shared
+-- the seats have all parts; the history with this name has ended, as each seat has left, so that no call can follow;
+-- what each of these seats has seen is a beginning of it, and their receipts are those of its calls, which are as many
+-- as are counted since the book was shared
 pub record AreSettled (origin : Past) (parts : ℕ) (name : Book) (seats : List Held) (settled : Settled)
     : Type 0 where
   pub whole : Log

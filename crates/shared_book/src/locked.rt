@@ -102,7 +102,6 @@ impl<L: Origin> Locked<L> {
 
     /// Serves the request, whose event comes into this memory, and enters that for the share and the place; or enters
     /// that the place has looked.
-    #[tactic(auto, using(crate::proofs::KeptLemmas::sees_all))]
     pub(crate) fn serve<R: Wait>(
         &mut self,
         rt: &R,
@@ -144,7 +143,6 @@ impl<L: Origin> Locked<L> {
     }
 
     /// Makes the change, and enters that for the share and the place; or enters that the place has looked.
-    #[tactic(auto, using(crate::proofs::KeptLemmas::sees_all))]
     pub(crate) fn apply<R: Wait>(
         &mut self,
         rt: &R,
@@ -183,7 +181,6 @@ impl<L: Origin> Locked<L> {
     }
 
     /// Looks up what is asked for, and enters that the place has looked.
-    #[tactic(auto, using(crate::proofs::KeptLemmas::sees_all))]
     pub(crate) fn read<R: Wait>(
         &mut self,
         rt: &R,
@@ -201,7 +198,6 @@ impl<L: Origin> Locked<L> {
     }
 
     /// Looks up what is asked for, for who has no place.
-    #[tactic(auto, using(crate::proofs::KeptLemmas::looked_up_once))]
     pub(crate) fn peek(&self, alloc: Global, asked: &BookRead) -> Result<ReadAnswer, AllocError>
         ensures { IfOk result (IsLookedUpOnce L.origin L.book asked.now) }
     {

@@ -73,8 +73,8 @@ impl<L: Origin> SharedBook<L> {
         })
     }
 
-    /// Reads the book as it is at some point during the call, for who has no seat. It enters nothing, so nothing says when
-    /// that was.
+    /// Reads the book as it is at some point during the call, for who has no seat. It enters nothing, so nothing says
+    /// when that was.
     #[tactic(auto, using(crate::proofs::KeptLemmas::read_once))]
     pub fn peek<R: Wait>(
         &self,

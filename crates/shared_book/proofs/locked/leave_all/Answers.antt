@@ -6,7 +6,7 @@ loop-seat-preserved g c = record {
   can_next = tt;
   ends = tt;
   same =
-      same_left g.L.Origin.origin c.args.history.now c.loop-seat.history c.leave-in-loop-seat.new.self
-      c.into_place-in-loop-seat.result c.loop-seat.invariant.same c.leave-in-loop-seat.ensures.leaves
-      c.leave-in-loop-seat.ensures.legal;
+      same_left g.L.Origin.origin c.args.history.now c.loop-seat.history c.leave.new.self
+      c.into_place.result c.loop-seat.invariant.same c.leave.ensures.leaves
+      c.leave.ensures.legal;
 }
