@@ -151,10 +151,10 @@ fn finish_by<R: Wait, A: Answers>(
 {
     match held {
         Some(seat) => {
-            if A::number(seat) != number {
-                return Err(ServiceError::Broken);
+            if A::number(seat) == number {
+                return site.finish(rt, alloc, seat, reply);
             }
-            site.finish(rt, alloc, seat, reply)
+            Err(ServiceError::Broken)
         }
         None => Err(ServiceError::Broken),
     }
