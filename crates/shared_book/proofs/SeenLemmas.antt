@@ -15,7 +15,7 @@ use Rattle.shared_history.proofs.Prefixes.{prefix_trans}
 use Rattle.shared_history.specs.Sight.{Sight}
 use Rattle.shared_history.specs.declared.entry.Entry.{Entry}
 
-pub prefix_more : (old whole new : Log) (e : Entry Past Event) → IsPrefix old whole → new ≡ whole ++ e ∷ []
+prefix_more : (old whole new : Log) (e : Entry Past Event) → IsPrefix old whole → new ≡ whole ++ e ∷ []
     → IsPrefix old new
 prefix_more old whole new e begins is =
     subst (IsPrefix old) (sym is) (prefix_trans old whole (whole ++ e ∷ []) begins (e ∷ [], refl))

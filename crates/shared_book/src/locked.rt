@@ -1,6 +1,5 @@
 // What the lock keeps.
 ghost use Rattle.std.specs.Prelude.{◌≡◌, ◌+◌, ◌<◌, ◌≤◌, ◌∷◌, [], IfErr, IfOk, OnErr, OnOk};
-ghost use mathlib.Core.List.{IsPrefix};
 ghost use Rattle.request_journal.specs.Input.{IsAsked};
 ghost use Rattle.request_journal.specs.Past.{last_number};
 ghost use Rattle.request_journal.specs.declared.limits.TheConstants.{NUMBER_LIMIT};
@@ -20,7 +19,7 @@ use crate::base::base_of;
 use crate::book_read::{BookRead, ReadAnswer, Reading};
 use crate::compare::compare;
 use crate::entered::Entered;
-use crate::history::{Front, History, Place};
+use crate::history::{History, Place};
 use crate::look::look;
 use crate::origin::Origin;
 use crate::receipt::Receipt;
@@ -196,15 +195,6 @@ impl<L: Origin> Locked<L> {
         let number = self.book.event_count();
         let answer = look(&self.book, alloc, asked)?;
         Ok(Reading { number, answer })
-    }
-
-    /// The place sees all that there is, which is entered, and which the front begins.
-    pub(crate) fn hear<R: Wait>(&mut self, rt: &R, place: &mut Place<L>, front: &Front<L>)
-        ensures seen { SeesAll L.origin L.book place.old place.new }
-        ensures begins { IsPrefix front.now place.new.seen }
-    {
-        self.history.covers(rt, front);
-        self.history.look(rt, place);
     }
 
     /// Looks up what is asked for, for who has no place.

@@ -1,6 +1,5 @@
 // A seat, by which calls are made on a shared book.
 ghost use Rattle.std.specs.Prelude.{◌≡◌, ◌-◌, ◌^◌, ◌<◌, length, IfErr, IfOk, OnOk, ⊤};
-ghost use mathlib.Core.List.{IsPrefix};
 ghost use Rattle.shared_book.specs.Held.{HasLetGo, new_seat, sight, with_seat};
 ghost use Rattle.shared_book.specs.Inner.Gains.{Serves, Applies};
 ghost use Rattle.shared_book.specs.Lent.{LendsServed, LendsApplied};
@@ -257,14 +256,6 @@ impl<L: Origin> Seat<L> {
             number,
             answer: answer(alloc, asked, found)?,
         })
-    }
-
-    /// Catches up with what was seen of the history, by whichever seat: what it sees then begins with that.
-    pub fn hear<R: Wait>(&mut self, rt: &R, shared: &SharedBook<L>, front: &Front<L>)
-        ensures seen { HasCaughtUp L.origin L.book self.old self.new }
-        ensures begins { IsPrefix front.now self.new.seen }
-    {
-        shared.lock(rt).hear(rt, &mut self.place, front);
     }
 
     /// Takes over the other seat, which makes no call any more: its parts, its lists of receipts beside the own ones,

@@ -1,7 +1,0 @@
-use Rattle.shared_book.proofs.SeatLemmas.{seat_sees}
-use Rattle.shared_book.proofs.seat.Seat.hear.Goals as goal
-
-pub invariant_of-self : goal.invariant_of-self
-invariant_of-self g c =
-    seat_sees g.L.Origin.origin _ _ _ _ _ _ _ c.self.inside.place c.hear.new.place c.self.invariant
-    c.hear.ensures.seen
