@@ -102,7 +102,8 @@ module _ (rules : SiteRules) where
       pub kept : IsKept rules.journal rules.origin rules.history middle new
 
     -- The message was forwarded, the exchange gave this, and the response is the one to that. Both calls are of the same
-    -- seat, which isn't held meanwhile, so before the second it need not be as the first left it.
+    -- seat, and in what a seat has seen are all entries of its own (`IsIn`). It isn't held meanwhile, so before the
+    -- second it need not be as the first left it.
     pub record IsGivenLater (old new : Held) (message : Message (List ℕ)) (response : Response (List ℕ)) : Type 0 where
       pub exchange : SiteExchange E
       pub first_old : Held
