@@ -1,7 +1,8 @@
 // The server of a book.
-ghost use Rattle.std.specs.Prelude.{◌≡◌, ◌<◌, ◌≤◌, ◌∷◌, [], IfOk};
+ghost use Rattle.std.specs.Prelude.{◌≡◌, ◌<◌, ◌≤◌, ◌∷◌, [], IfOk, option_copied};
 ghost use Rattle.hyper_service.specs.Given.{rules_of};
 ghost use Rattle.mapping_answer.specs.Answering.{usual_limits};
+ghost use Rattle.mock.specs.Served.{IsServedBook, ServesBook};
 ghost use Rattle.shared_history.specs.Entries.{opening};
 
 use crate::arguments::ServeArguments;
@@ -74,7 +75,10 @@ where
     O: Write,
     E: Write,
     W: Write + Drop + Send + 'static,
-    ensures { result ≤ 1 }
+    ensures serves { ServesBook O.contents E.contents
+        (IsServedBook arguments.escape (option_copied arguments.mappings) (R.listed rt) (R.content rt))
+        out.old out.new err.new result }
+    ensures status { result ≤ 1 }
 {
     let Some(book) = book_of(rt.alloc(), &rt, arguments.mappings, arguments.escape, err) else {
         return FAILURE;
@@ -98,14 +102,19 @@ fn log_to<R, W>(
     rt: R,
     arguments: ServeArguments<'_>,
     out: W,
-) -> Result<(Arc<Lines>, ServerLog), AllocError>
+) -> Result<(Arc<Lines>, RequestLog), AllocError>
 where
     R: Threads + Wait + AllocGlobal + Copy + Drop + Send + 'static,
     W: Write + Drop + Send + 'static,
 {
     let lines = start(rt, out)?;
-    let log = RequestLog::new(Arc::try_clone(&lines)?, arguments.verbose, arguments.escape);
-    Ok((lines, ServerLog::new(log)))
+    let log = RequestLog::new(
+        Arc::try_clone(&lines)?,
+        arguments.verbose,
+        arguments.escape,
+        Limits::usual(),
+    );
+    Ok((lines, log))
 }
 
 fn serve_book<L, R, O, E>(
@@ -115,7 +124,7 @@ fn serve_book<L, R, O, E>(
     opened: OpenedHistory,
     book: Book,
     arguments: ServeArguments<'_>,
-    log: ServerLog,
+    log: RequestLog,
     out: &mut O,
     err: &mut E,
 ) -> u8
@@ -131,7 +140,8 @@ where
     requires history { opened.0 ≡ L.book }
     requires opened { opened.1 ≡ opening book ∷ [] }
     requires origin { book ≡ L.origin }
-    ensures { result ≤ 1 }
+    ensures serves { ServesBook O.contents E.contents (λ past. past ≡ book) out.old out.new err.new result }
+    ensures status { result ≤ 1 }
 {
     match SharedBook::<L>::new(rt.alloc(), blank, parts, opened, book) {
         Ok((book, seat)) => serve_shared(rt, book, seat, arguments, log, out, err),
@@ -144,7 +154,7 @@ fn serve_shared<L, R, O, E>(
     book: SharedBook<L>,
     seat: Seat<L>,
     arguments: ServeArguments<'_>,
-    log: ServerLog,
+    log: RequestLog,
     out: &mut O,
     err: &mut E,
 ) -> u8
@@ -153,7 +163,8 @@ where
     R: Wait + Net + Clock + RandomSource + AllocGlobal + Copy + Drop,
     O: Write,
     E: Write,
-    ensures { result ≤ 1 }
+    ensures serves { ServesBook O.contents E.contents (λ past. past ≡ L.origin) out.old out.new err.new result }
+    ensures status { result ≤ 1 }
 {
     match listen(rt, arguments.address, arguments.port) {
         Ok(listening) => serve_listening(rt, listening, book, seat, arguments, log, out, err),
@@ -167,7 +178,7 @@ fn serve_listening<L, R, O, E>(
     book: SharedBook<L>,
     seat: Seat<L>,
     arguments: ServeArguments<'_>,
-    log: ServerLog,
+    log: RequestLog,
     out: &mut O,
     err: &mut E,
 ) -> u8
@@ -176,7 +187,8 @@ where
     R: Wait + Net + Clock + RandomSource + AllocGlobal + Copy + Drop,
     O: Write,
     E: Write,
-    ensures { result ≤ 1 }
+    ensures serves { ServesBook O.contents E.contents (λ past. past ≡ L.origin) out.old out.new err.new result }
+    ensures status { result ≤ 1 }
 {
     let Listening {
         mut runtime,
@@ -186,6 +198,9 @@ where
     let settings = Settings {
         connections: arguments.connections,
         max_connections: arguments.max_connections,
+    };
+    let Ok(log) = ServerLog::new(log, &book) else {
+        return out_of_memory(err);
     };
     match answers_of(rt, book, forwarder, arguments, log) {
         Ok(answers) => serve_on(
@@ -208,8 +223,8 @@ fn answers_of<L, R>(
     book: SharedBook<L>,
     forwarder: Forwarder<R>,
     arguments: ServeArguments<'_>,
-    log: ServerLog,
-) -> Result<SiteAnswers<L, NoGate, SystemClock<R>, Forwarder<R>, ServerLog>, AllocError>
+    log: ServerLog<L>,
+) -> Result<SiteAnswers<L, NoGate, SystemClock<R>, Forwarder<R>, ServerLog<L>>, AllocError>
 where
     L: Origin,
     R: Clock + Net + AllocGlobal + Copy + Drop,
