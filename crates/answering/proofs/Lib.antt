@@ -1,4 +1,5 @@
 mod FinishLemmas
+mod ForeignLemmas
 mod HeaderLemmas
 mod MessageLemmas
 mod RenderingLemmas

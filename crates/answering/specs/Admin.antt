@@ -1,10 +1,11 @@
 -- How an admin call is answered.
-use Rattle.std.specs.Prelude.{◌≡◌, ◌⊎◌, unwrap_or}
+use Rattle.std.specs.Prelude.{◌≡◌, ◌⊎◌, codes, unwrap_or}
 use Rattle.admin_answers.specs.Answers.{IsAnswered, IsNotAnswered}
 use Rattle.admin_routes.specs.Calls.{IsCall, IsAdminError}
 use Rattle.admin_routes.specs.Errors.{error_code_of}
 use Rattle.admin_routes.specs.declared.call.AdminCall.{AdminCall}
 use Rattle.admin_routes.specs.declared.error.AdminError.{AdminError}
+use Rattle.answering.specs.Foreign.{IsForeign}
 use Rattle.error_code.specs.Codes.{status_of}
 use Rattle.error_code.specs.declared.error_code.ErrorCode.{ErrorCode}
 use Rattle.logbook.specs.Pages.{Book}
@@ -12,7 +13,7 @@ use Rattle.mapping_model.specs.declared.reply.Reply.{Reply}
 use Rattle.mock_request.specs.Request.{Request}
 use Rattle.request_journal.specs.Past.{Past}
 use Rattle.shared_book.specs.Held.{Held}
-use Rattle.stub_response.specs.ErrorReply.{error_reply}
+use Rattle.stub_response.specs.ErrorReply.{error_reply, json_reply}
 use Rattle.template_tree.specs.declared.escape.Escape.{Escape}
 
 -- the reply that reports the error, with its status; 500 for the one that no answer reports, which no admin call has
@@ -32,8 +33,19 @@ IsAnsweredCall origin name old new call reply =
     IsAnswered origin name old new call reply
     ⊎ ((reason : ErrorCode) × IsNotAnswered origin name old new call reason × (reply ≡ reporting reason))
 
-abbrev pub IsAdminAnswered : Past → Book → Escape → Held → Held → Request → Reply → Type 0
-IsAdminAnswered origin name escape old new request reply =
+-- how a call is answered that no page of another site makes
+abbrev pub IsCallAnswered : Past → Book → Escape → Held → Held → Request → Reply → Type 0
+IsCallAnswered origin name escape old new request reply =
     IsRefusedCall escape old new request reply
     ⊎ ((call : AdminCall) × IsCall escape request.method request.url request.body call
     × IsAnsweredCall origin name old new call reply)
+
+-- the reply to one that such a page makes, whatever it asks for
+abbrev pub foreign_reply : Reply
+foreign_reply = json_reply 403 (codes "{\"errors\":[{\"title\":\"not for pages of other sites\"}]}")
+
+-- a page of another site can't steer the server: its call is refused, and the seat is as before
+abbrev pub IsAdminAnswered : Past → Book → Escape → Held → Held → Request → Reply → Type 0
+IsAdminAnswered origin name escape old new request reply =
+    (IsForeign request.headers × (new ≡ old) × (reply ≡ foreign_reply))
+    ⊎ (¬ (IsForeign request.headers) × IsCallAnswered origin name escape old new request reply)

@@ -1,6 +1,7 @@
 pub mod Admin
 pub mod Answering
 pub mod Content
+pub mod Foreign
 pub mod Forwarding
 pub mod Inner
 pub mod Reply

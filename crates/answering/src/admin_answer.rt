@@ -1,8 +1,9 @@
 // Admin calls.
 ghost use Rattle.std.specs.Prelude.{◌≡◌, IfOk, MatchResult};
 ghost use Rattle.admin_answers.specs.Replies.{reply_of};
-ghost use Rattle.answering.specs.Admin.{IsAdminAnswered, IsAnsweredCall, reporting};
+ghost use Rattle.answering.specs.Admin.{IsAdminAnswered, IsAnsweredCall, IsCallAnswered, foreign_reply, reporting};
 
+use crate::foreign::is_foreign;
 use admin_answers::admin_answer::AdminAnswer;
 use admin_answers::answer::answer_admin;
 use admin_routes::admin::admin_with;
@@ -14,11 +15,14 @@ use shared_book::seat::Seat;
 use shared_book::shared_book::SharedBook;
 use std::alloc::{AllocError, Global};
 use std::sync::Wait;
-use stub_response::error_reply::error_reply;
+use stub_response::error_reply::{error_reply, json_reply};
 use template_tree::escape::Escape;
 
-/// Makes the admin call that the request is, where the prints of the templates of a posted mapping are escaped so, and
-/// gives the answer. The error says that there was no memory to write it.
+/// What is answered to a call that a page of another site makes. It has no code.
+const FOREIGN: &str = "{\"errors\":[{\"title\":\"not for pages of other sites\"}]}";
+
+/// Makes the admin call that the request is, unless a page of another site makes it, and gives the answer. The prints of
+/// the templates of a posted mapping are escaped so. The error says that there was no memory to write the answer.
 // Not inlined: a function clears all its locals when it is entered, and most requests need none of these.
 #[inline(never)]
 pub(crate) fn admin_answer<L: Origin, R: Wait>(
@@ -32,6 +36,33 @@ pub(crate) fn admin_answer<L: Origin, R: Wait>(
     ensures { MatchResult result
         (λ answer. IsAdminAnswered L.origin L.book escape seat.old seat.new request.now (reply_of answer))
         (λ _. (reply : _) × IsAdminAnswered L.origin L.book escape seat.old seat.new request.now reply) }
+{
+    if is_foreign(request) {
+        return foreign_answer(alloc);
+    }
+    own_answer(rt, alloc, shared, seat, request, escape)
+}
+
+// The answer to a call that a page of another site makes.
+fn foreign_answer(alloc: Global) -> Result<AdminAnswer, AllocError>
+    ensures { IfOk result (λ answer. reply_of answer ≡ foreign_reply) }
+{
+    let body = String::from_str(alloc, FOREIGN)?;
+    Ok(AdminAnswer::Whole(json_reply(alloc, 403, body)?))
+}
+
+// The answer to any other call.
+fn own_answer<L: Origin, R: Wait>(
+    rt: &R,
+    alloc: Global,
+    shared: &SharedBook<L>,
+    seat: &mut Seat<L>,
+    request: &Snapshot,
+    escape: Escape,
+) -> Result<AdminAnswer, AllocError>
+    ensures { MatchResult result
+        (λ answer. IsCallAnswered L.origin L.book escape seat.old seat.new request.now (reply_of answer))
+        (λ _. (reply : _) × IsCallAnswered L.origin L.book escape seat.old seat.new request.now reply) }
 {
     match admin_with(
         alloc,

@@ -14,6 +14,7 @@ pub mod begun;
 pub mod clock;
 pub mod content;
 pub mod finish;
+mod foreign;
 pub mod forward;
 mod mapping_response;
 mod response;

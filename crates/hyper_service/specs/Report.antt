@@ -1,6 +1,8 @@
 -- What is written once no more connections are accepted, to which stream, and the exit status.
-use Rattle.std.specs.Prelude.{◌≡◌, ◌⊎◌, ℕ, List, ◌++◌, codes, decimal, Option, Result, Ok, Err}
+use Rattle.std.specs.Prelude.{◌≡◌, ◌⊎◌, ℕ, List, [], ◌++◌, codes, decimal, Option, Result, Ok, Err}
 use Rattle.std.specs.Io.KnownBytes.{Appends}
+use Rattle.std.specs.Net.Text.{socket_text}
+use Rattle.std.specs.declared.net.socket_addr.SocketAddr.{SocketAddr}
 use Rattle.command_output.specs.Lines.{error_line, out_of_memory}
 use Rattle.command_output.specs.Output.{AppendsFront, AppendsPart}
 use Rattle.http_connections.specs.declared.serve_on.End.{End}
@@ -56,11 +58,28 @@ pub record ReportsSettled {O E : Type 0} (out_holds : O → Option (List ℕ)) (
   pub why : End
   pub reported : Reports out_holds err_holds settled why out out' err err' status
 
--- What a server writes after the line that says where it listens, which standard output may not take (1): that, or that
--- memory ran out (1).
-abbrev pub ReportsServed : {O E : Type 0} → (O → Option (List ℕ)) → (E → Option (List ℕ)) → Past → ℕ → Book → O
+-- the line that says where the server listens
+abbrev pub listening_line : SocketAddr → List ℕ
+listening_line address = codes "listening on " ++ (socket_text address ++ codes "\n")
+
+-- nothing of such a line is written, or as much of it as the writer took
+abbrev pub AnnouncesInPart : Option (List ℕ) → Option (List ℕ) → Type 0
+AnnouncesInPart old new =
+    Appends old new [] ⊎ ((address : SocketAddr) × AppendsFront old new (listening_line address))
+
+-- it is written, or at an error that
+abbrev pub Announces : {T E : Type 0} → Result T E → Option (List ℕ) → Option (List ℕ) → Type 0
+Announces (Ok _) old new = (address : SocketAddr) × Appends old new (listening_line address)
+Announces (Err _) old new = AnnouncesInPart old new
+
+-- What a server writes: the line that says where it listens, which standard output may not take (1); then that its
+-- seats were settled, or that memory ran out (1).
+abbrev pub ReportsServed : {O E : Type 0} → (O → Option (List ℕ)) → (E → Option (List ℕ)) → Past → ℕ → Book → O → O
     → E → E → ℕ → Type 0
-ReportsServed {O = O} out_holds err_holds origin parts name out' err err' status =
-    ((status ≡ 1) × (err' ≡ err))
-    ⊎ (((listening : O) × ReportsSettled out_holds err_holds origin parts name listening out' err err' status)
-    ⊎ ((status ≡ 1) × AppendsFront (err_holds err) (err_holds err') (error_line out_of_memory)))
+ReportsServed {O = O} out_holds err_holds origin parts name out out' err err' status =
+    (AnnouncesInPart (out_holds out) (out_holds out') × (err' ≡ err) × (status ≡ 1))
+    ⊎ ((address : SocketAddr) × (listening : O)
+    × Appends (out_holds out) (out_holds listening) (listening_line address)
+    × (ReportsSettled out_holds err_holds origin parts name listening out' err err' status
+    ⊎ ((out' ≡ listening) × AppendsFront (err_holds err) (err_holds err') (error_line out_of_memory)
+    × (status ≡ 1))))

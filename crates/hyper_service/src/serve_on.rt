@@ -1,6 +1,6 @@
 // The connections of a listener, until as many as are wanted were served.
 ghost use Rattle.std.specs.Prelude.{◌≤◌, IfOk, List};
-ghost use Rattle.hyper_service.specs.Report.{IsSettling, ReportsServed};
+ghost use Rattle.hyper_service.specs.Report.{Announces, IsSettling, ReportsServed};
 ghost use Rattle.shared_book.specs.Held.{Held};
 
 use crate::log::Log;
@@ -8,6 +8,7 @@ use crate::report::report;
 use crate::site_answers::SiteAnswers;
 use answering::clock::Clock;
 use command_output::error::CommandError;
+use command_output::output::put;
 use command_output::status::FAILURE;
 use error_code::error_code::ErrorCode;
 use http_connections::serve_on::{End, Served, serve_all};
@@ -49,10 +50,11 @@ where
     N: Log + Drop,
     O: Write,
     E: Write,
-    ensures written { ReportsServed O.contents E.contents L.origin L.parts L.book out.new err.old err.new result }
+    ensures written { ReportsServed O.contents E.contents L.origin L.parts L.book
+        out.old out.new err.old err.new result }
     ensures status { result ≤ 1 }
 {
-    if announce(&listener, out).is_err() {
+    if announce(rt.alloc(), &listener, out).is_err() {
         return FAILURE;
     }
     match serve_site(rt, runtime, listener, answers, seat, settings) {
@@ -65,9 +67,12 @@ where
 }
 
 // Says where it listens, at once.
-fn announce<O: Write>(listener: &TcpListener, out: &mut O) -> io::Result<()> {
+fn announce<O: Write>(alloc: Global, listener: &TcpListener, out: &mut O) -> io::Result<()>
+    ensures { Announces result (O.contents out.old) (O.contents out.new) }
+{
     let address = listener.local_addr()?;
-    write!(out, "listening on {address}\n")?;
+    let line = format!(in alloc; "listening on {address}\n")?;
+    put(out, line.as_bytes())?;
     out.flush()
 }
 

@@ -1,7 +1,8 @@
 // The server of a book.
-ghost use Rattle.std.specs.Prelude.{◌≡◌, ◌<◌, ◌≤◌, ◌∷◌, [], IfOk};
+ghost use Rattle.std.specs.Prelude.{◌≡◌, ◌<◌, ◌≤◌, ◌∷◌, [], IfOk, option_copied};
 ghost use Rattle.hyper_service.specs.Given.{rules_of};
 ghost use Rattle.mapping_answer.specs.Answering.{usual_limits};
+ghost use Rattle.mock.specs.Served.{IsServedBook, ServesBook};
 ghost use Rattle.shared_history.specs.Entries.{opening};
 
 use crate::arguments::ServeArguments;
@@ -74,7 +75,10 @@ where
     O: Write,
     E: Write,
     W: Write + Drop + Send + 'static,
-    ensures { result ≤ 1 }
+    ensures serves { ServesBook O.contents E.contents
+        (IsServedBook arguments.escape (option_copied arguments.mappings) (R.listed rt) (R.content rt))
+        out.old out.new err.new result }
+    ensures status { result ≤ 1 }
 {
     let Some(book) = book_of(rt.alloc(), &rt, arguments.mappings, arguments.escape, err) else {
         return FAILURE;
@@ -131,7 +135,8 @@ where
     requires history { opened.0 ≡ L.book }
     requires opened { opened.1 ≡ opening book ∷ [] }
     requires origin { book ≡ L.origin }
-    ensures { result ≤ 1 }
+    ensures serves { ServesBook O.contents E.contents (λ past. past ≡ book) out.old out.new err.new result }
+    ensures status { result ≤ 1 }
 {
     match SharedBook::<L>::new(rt.alloc(), blank, parts, opened, book) {
         Ok((book, seat)) => serve_shared(rt, book, seat, arguments, log, out, err),
@@ -153,7 +158,8 @@ where
     R: Wait + Net + Clock + RandomSource + AllocGlobal + Copy + Drop,
     O: Write,
     E: Write,
-    ensures { result ≤ 1 }
+    ensures serves { ServesBook O.contents E.contents (λ past. past ≡ L.origin) out.old out.new err.new result }
+    ensures status { result ≤ 1 }
 {
     match listen(rt, arguments.address, arguments.port) {
         Ok(listening) => serve_listening(rt, listening, book, seat, arguments, log, out, err),
@@ -176,7 +182,8 @@ where
     R: Wait + Net + Clock + RandomSource + AllocGlobal + Copy + Drop,
     O: Write,
     E: Write,
-    ensures { result ≤ 1 }
+    ensures serves { ServesBook O.contents E.contents (λ past. past ≡ L.origin) out.old out.new err.new result }
+    ensures status { result ≤ 1 }
 {
     let Listening {
         mut runtime,

@@ -1,20 +1,21 @@
-use Rattle.std.proofs.Common.{refl, ap, inl, inr}
-use Rattle.answering.specs.Admin.{IsAdminAnswered, IsAnsweredCall, reporting}
+use Rattle.std.proofs.Common.{refl, inl, inr, ◌∙◌, sym}
+use Rattle.std.proofs.lemmas.Bool.{false≢true}
+use Rattle.answering.specs.Admin.{IsAdminAnswered, IsCallAnswered, foreign_reply}
 use Rattle.answering.proofs.ResultLemmas.{given, weaker}
 use Rattle.answering.proofs.admin_answer.admin_answer.Goals as goal
 
-pub returns-in-Ok : goal.returns-in-Ok
-returns-in-Ok g c =
-    let is = rw (c.method.ensures, c.url.ensures.value, c.body.ensures.value) at c.in-Ok.ensures.ok in
-    weaker (IsAnsweredCall g.L.Origin.origin g.L.Naming.book c.args.seat.now c.call_answer.new.seat c.in-Ok.call)
-    (IsAdminAnswered g.L.Origin.origin g.L.Naming.book c.args.escape c.args.seat.now c.call_answer.new.seat
-    c.args.request.now)
-    (λ reply answered. inr (c.in-Ok.call, is, answered)) c.call_answer.result c.call_answer.ensures
-
-pub returns-in-Err : goal.returns-in-Err
-returns-in-Err g c =
-    let is = rw (c.method.ensures, c.url.ensures.value, c.body.ensures.value) at c.in-Err.ensures.error in
+pub returns-then-is_foreign : goal.returns-then-is_foreign
+returns-then-is_foreign g c =
     given (IsAdminAnswered g.L.Origin.origin g.L.Naming.book c.args.escape c.args.seat.now c.args.seat.now
     c.args.request.now)
-    (reporting c.error_code.result) c.reporting.result
-    (inl (refl, (c.in-Err.error, is, ap reporting c.error_code.ensures))) c.reporting.ensures
+    foreign_reply c.foreign_answer.result
+    (inl (c.is_foreign.ensures.0 c.if-is_foreign.true, refl, refl)) c.foreign_answer.ensures
+
+pub returns : goal.returns
+returns g c =
+    weaker (IsCallAnswered g.L.Origin.origin g.L.Naming.book c.args.escape c.args.seat.now c.own_answer.new.seat
+    c.args.request.now)
+    (IsAdminAnswered g.L.Origin.origin g.L.Naming.book c.args.escape c.args.seat.now c.own_answer.new.seat
+    c.args.request.now)
+    (λ reply answered. inr (λ foreign. false≢true (sym c.if-is_foreign.false ∙ c.is_foreign.ensures.1 foreign), answered))
+    c.own_answer.result c.own_answer.ensures
