@@ -11,6 +11,8 @@ use match_difference::found::Found;
 use plain_text::items::Items;
 use plain_text::plain::TryClone;
 use plain_text::text::Text;
+use request_journal::event::ServeAnswer;
+use request_journal::mapping::Mapping;
 use request_json::write_request::write_request;
 use serde_json::{Map, Number, Value};
 use std::alloc::{AllocError, Global};
@@ -18,9 +20,11 @@ use std::alloc::{AllocError, Global};
 /// The compact text and a line feed.
 pub(crate) fn json_of(alloc: Global, explanation: &Explanation) -> Result<String, AllocError> {
     let mut members = Map::new(alloc);
-    let answer = match explanation.chosen() {
-        Some(explained) => Value::Object(named(alloc, explained)?),
-        None => Value::Null,
+    let answer = match &explanation.answer {
+        ServeAnswer::Stub(captured) => {
+            Value::Object(named(alloc, explanation.number, &captured.mapping)?)
+        }
+        _ => Value::Null,
     };
     put(alloc, &mut members, "answer", answer)?;
     let mut mappings = Vec::new(alloc);
@@ -56,20 +60,24 @@ fn put_str(
 }
 
 /// The number, the id and the name of a mapping.
-fn named(alloc: Global, explained: &Explained) -> Result<Map<String, Value>, AllocError> {
+fn named(
+    alloc: Global,
+    number: usize,
+    mapping: &Mapping,
+) -> Result<Map<String, Value>, AllocError> {
     let mut members = Map::new(alloc);
-    let id = explained.mapping.id.hyphenated(alloc)?;
+    let id = mapping.id.hyphenated(alloc)?;
     put(alloc, &mut members, "id", Value::String(id))?;
-    let number = Value::Number(Number::from(explained.number as u64));
+    let number = Value::Number(Number::from(number as u64));
     put(alloc, &mut members, "mapping", number)?;
-    if let Some(name) = &explained.mapping.spec.spec().name {
+    if let Some(name) = &mapping.spec.spec().name {
         put_str(alloc, &mut members, "name", name.as_str())?;
     }
     Ok(members)
 }
 
 fn mapping_json(alloc: Global, explained: &Explained) -> Result<Value, AllocError> {
-    let mut members = named(alloc, explained)?;
+    let mut members = named(alloc, explained.number, &explained.mapping)?;
     let mut differences = Vec::new(alloc);
     for difference in &explained.differences {
         differences.push(difference_json(alloc, difference)?)?;

@@ -1,6 +1,10 @@
 //! `mock explain`: what it prints, and how it ends.
-ghost use Rattle.std.specs.Prelude.{◌≡◌, ◌⊎◌};
+ghost use Rattle.std.specs.Prelude.{◌≡◌, IfOk, map, string_bytes};
 ghost use Rattle.command_output.specs.Output.{Followed, WritesOneStream};
+ghost use Rattle.mapping_answer.specs.Answering.{sent_of};
+ghost use Rattle.mapping_explanation.specs.Explaining.{Ends, Explains, ExplainsFiles, IsAnswer, Says, given_of};
+ghost use Rattle.mapping_explanation.specs.Explaining.{is_answered};
+ghost use Rattle.request_journal.specs.declared.event.ServeAnswer.{ServeAnswer};
 
 use crate::as_json::json_of;
 pub use crate::explanation::GivenState;
@@ -12,6 +16,7 @@ use command_output::output::put;
 use command_output::status::{FAILURE, SUCCESS};
 use mapping_answer::notes::{notes_of, put_all_notes};
 use mapping_answer::sent::SentRequest;
+use request_journal::event::ServeAnswer;
 use std::alloc::{AllocError, Global};
 use std::io::Write;
 use template_tree::escape::Escape;
@@ -47,7 +52,11 @@ pub fn explain_file<F: FileReader, O: Write, E: Write>(
     err: &mut E,
     escape: Escape,
 ) -> u8
-    ensures { Followed E.contents (λ e. WritesOneStream out.old out.new err.old e result) err.new }
+    ensures answer { Followed E.contents
+        (λ e. ExplainsFiles O.contents escape (F.listed files.now path.now) (F.content files.now)
+        (sent_of question.entry.request) (map given_of question.entry.states.now) question.entry.form
+        out.old out.new err.old e result) err.new }
+    ensures streams { Followed E.contents (λ e. WritesOneStream out.old out.new err.old e result) err.new }
 {
     match read_documents(alloc, files, path) {
         Ok(documents) => {
@@ -72,7 +81,10 @@ fn explain_to<O: Write, E: Write>(
     err: &mut E,
     escape: Escape,
 ) -> (u8, bool)
-    ensures { WritesOneStream out.old out.new err.old err.new result.0 }
+    ensures answer { Explains O.contents escape (map (λ text. text.items) documents.now.texts.items)
+        (sent_of question.entry.request) (map given_of question.entry.states.now) question.entry.form
+        out.old out.new err.old err.new result.0 }
+    ensures streams { WritesOneStream out.old out.new err.old err.new result.0 }
 {
     match text_and_answer(alloc, documents, question, escape) {
         Ok(made) => (write_to(out, &made), false),
@@ -84,7 +96,7 @@ fn explain_to<O: Write, E: Write>(
 }
 
 fn write_to<O: Write>(out: &mut O, made: &Printed) -> u8
-    ensures { (result ≡ 0) ⊎ (result ≡ 1) }
+    ensures { Ends made.now.is_answered (string_bytes made.now.text) (O.contents out.old) (O.contents out.new) result }
 {
     match put(out, made.text.as_str().as_bytes()) {
         Ok(()) if made.is_answered => SUCCESS,
@@ -104,15 +116,32 @@ fn text_and_answer(
     documents: &Documents,
     question: Question<'_>,
     escape: Escape,
-) -> Result<Printed, CommandError> {
+) -> Result<Printed, CommandError>
+    ensures { IfOk result (λ made. (answer : ServeAnswer)
+        × IsAnswer escape (map (λ text. text.items) documents.now.texts.items)
+        (sent_of question.entry.request) (map given_of question.entry.states.now) answer
+        × Says question.entry.form answer (string_bytes made.text) × (made.is_answered ≡ is_answered answer)) }
+{
     let found = explanation_of(alloc, documents, question.request, question.states, escape)?;
     Ok(Printed {
-        is_answered: found.chosen().is_some(),
+        is_answered: is_answered(&found.answer),
         text: printed_as(alloc, &found, question.form)?,
     })
 }
 
-fn printed_as(alloc: Global, found: &Explanation, form: Form) -> Result<String, AllocError> {
+fn is_answered(answer: &ServeAnswer) -> bool
+    ensures { result ≡ is_answered answer.now }
+{
+    match answer {
+        ServeAnswer::Stub(_captured) => true,
+        ServeAnswer::Proxy(_target) => false,
+        ServeAnswer::Unmatched => false,
+    }
+}
+
+fn printed_as(alloc: Global, found: &Explanation, form: Form) -> Result<String, AllocError>
+    ensures { IfOk result (λ text. Says form found.now.answer (string_bytes text)) }
+{
     match form {
         Form::Text => text_of(alloc, found, false),
         Form::Coloured => text_of(alloc, found, true),

@@ -1,4 +1,13 @@
 // Which mapping answers a request, and what each other one wants.
+ghost use Rattle.std.specs.Prelude.{◌≡◌, IfOk, OnOk, map};
+ghost use Rattle.mapping_answer.specs.Answering.{sent_of};
+ghost use Rattle.mapping_explanation.specs.Explaining.{AreSet, IsAnswer, given_of};
+ghost use Rattle.request_journal.specs.Choice.{IsChoice};
+ghost use Rattle.request_journal.specs.Past.{opened};
+ghost use Rattle.request_journal.specs.declared.input.BookInput.TheVariants.{SetScenario};
+ghost use Rattle.stub_book.specs.Growth.{IsAccepted};
+ghost use Rattle.stub_book.specs.declared.accepted.Accepted.{Accepted};
+
 use command_output::error::CommandError;
 use command_output::files::Documents;
 use error_code::error_code::ErrorCode;
@@ -25,6 +34,10 @@ const UNMATCHED: u16 = 404;
 pub(crate) struct Explanation {
     /// The mappings, in the order in which they are chosen.
     pub(crate) mappings: Vec<Explained>,
+    /// What the book answers with.
+    pub(crate) answer: ServeAnswer,
+    /// The number of the mapping that answers, if one does.
+    pub(crate) number: usize,
     /// The status of the answer.
     pub(crate) status: u16,
 }
@@ -54,20 +67,10 @@ impl Drop for Explanation {
     fn drop(self) {
         let Explanation {
             mappings: _mappings,
+            answer: _answer,
+            number: _number,
             status: _status,
         } = self;
-    }
-}
-
-impl Explanation {
-    /// The mapping that answers, if one does.
-    pub(crate) fn chosen(&self) -> Option<&Explained> {
-        for mapping in &self.mappings {
-            if mapping.is_chosen {
-                return Some(mapping);
-            }
-        }
-        None
     }
 }
 
@@ -86,26 +89,40 @@ pub(crate) fn explanation_of(
     sent: SentRequest<'_>,
     states: &[GivenState<'_>],
     escape: Escape,
-) -> Result<Explanation, CommandError> {
+) -> Result<Explanation, CommandError>
+    ensures { IfOk result (λ made. IsAnswer escape (map (λ text. text.items) documents.now.texts.items)
+        (sent_of sent.entry) (map given_of states.now) made.answer) }
+{
     let mappings = mappings_of(alloc, documents.texts.as_slice(), escape)?;
     let ids = ids_of(alloc, mappings.as_slice())?;
     let mut book = opened(alloc, mappings)?;
     set_states(alloc, &mut book, states)?;
     let request = snapshot_of(alloc, sent)?;
     let mut listed = each_explained(alloc, &book, ids.as_slice(), &request)?;
-    let answer = match book.serve(request.try_clone()?) {
-        Ok(answer) => answer,
-        Err(error) => return Err(CommandError::from(error.code)),
-    };
-    mark_chosen(&mut listed, &answer);
+    let answer = answer_of(&mut book, &request)?;
+    let number = mark_chosen(&mut listed, &answer);
     let mappings = in_order(alloc, listed)?;
+    let status = status_of(alloc, &answer, &request)?;
     Ok(Explanation {
         mappings,
-        status: status_of(alloc, &answer, &request)?,
+        answer,
+        number,
+        status,
     })
 }
 
-fn opened(alloc: Global, mappings: Vec<ReadyMapping>) -> Result<Book, CommandError> {
+fn answer_of(book: &mut Book, request: &Snapshot) -> Result<ServeAnswer, CommandError>
+    ensures { IfOk result (IsChoice book.old request.now) }
+{
+    match book.serve(request.try_clone()?) {
+        Ok(answer) => Ok(answer),
+        Err(error) => Err(CommandError::from(error.code)),
+    }
+}
+
+fn opened(alloc: Global, mappings: Vec<ReadyMapping>) -> Result<Book, CommandError>
+    ensures { IfOk result (λ book. book ≡ opened 0 mappings.items) }
+{
     match Book::new(alloc, mappings, 0) {
         Ok(book) => Ok(book),
         Err(error) => Err(CommandError::from(error.code)),
@@ -124,20 +141,25 @@ fn ids_of(alloc: Global, mappings: &[ReadyMapping]) -> Result<Vec<MappingId>, Al
     Ok(ids)
 }
 
-fn set_states(
-    alloc: Global,
-    book: &mut Book,
-    states: &[GivenState<'_>],
-) -> Result<(), CommandError> {
+fn set_states(alloc: Global, book: &mut Book, states: &[GivenState<'_>]) -> Result<(), CommandError>
+    ensures { OnOk result (AreSet (map given_of states.now) book.old book.new) }
+{
     for given in states {
-        let scenario = Text::from(String::from_str(alloc, given.scenario)?);
-        let state = Text::from(String::from_str(alloc, given.state)?);
-        match book.set_scenario(scenario, state) {
-            Ok(_accepted) => {}
-            Err(error) => return Err(CommandError::from(error.code)),
-        }
+        set_state(alloc, book, *given)?;
     }
     Ok(())
+}
+
+fn set_state(alloc: Global, book: &mut Book, given: GivenState<'_>) -> Result<(), CommandError>
+    ensures { OnOk result ((accepted : Accepted)
+        × IsAccepted book.old book.new (SetScenario given.entry.scenario.now given.entry.state.now) accepted) }
+{
+    let scenario = Text::from(String::from_str(alloc, given.scenario)?);
+    let state = Text::from(String::from_str(alloc, given.state)?);
+    match book.set_scenario(scenario, state) {
+        Ok(_accepted) => Ok(()),
+        Err(error) => Err(CommandError::from(error.code)),
+    }
 }
 
 /// Each mapping of the book, the newest first, with its differences.
@@ -181,14 +203,18 @@ fn number_of(ids: &[MappingId], id: MappingId) -> usize {
     number
 }
 
-fn mark_chosen(listed: &mut Vec<Explained>, answer: &ServeAnswer) {
+/// Marks the mapping that answers, if one does, and gives its number.
+fn mark_chosen(listed: &mut Vec<Explained>, answer: &ServeAnswer) -> usize {
+    let mut number = 0;
     if let ServeAnswer::Stub(captured) = answer {
         for explained in listed.iter_mut() {
             if explained.mapping.id.same(captured.mapping.id) {
                 explained.is_chosen = true;
+                number = explained.number;
             }
         }
     }
+    number
 }
 
 /// Those of the least priority number first, and of these the newest: in the order in which they were listed.

@@ -1,7 +1,11 @@
 // An explanation as text.
+ghost use Rattle.std.specs.Prelude.{◌≡◌, IfOk, string_bytes};
+ghost use Rattle.mapping_explanation.specs.Explaining.{Names, front_of};
+
 use crate::explanation::{Explained, Explanation};
 use itoa::Buffer;
 use match_difference::said::{line_of, quoted};
+use request_journal::event::ServeAnswer;
 use std::alloc::{AllocError, Global};
 
 /// What begins a colour on a terminal, and what ends it.
@@ -13,42 +17,56 @@ const RED: &str = "\u{1b}[31m";
 
 const PLAIN: &str = "\u{1b}[0m";
 
+/// The first line names the mapping that answers.
 pub(crate) fn text_of(
+    alloc: Global,
+    explanation: &Explanation,
+    is_coloured: bool,
+) -> Result<String, AllocError>
+    ensures { IfOk result (λ text. Names explanation.now.answer (string_bytes text)) }
+{
+    let mut text = answer_front(alloc, explanation.number, &explanation.answer)?;
+    let rest = rest_of(alloc, explanation, is_coloured)?;
+    text.push_str(rest.as_str())?;
+    Ok(text)
+}
+
+/// As `mapping 2 (id 3f83df0b-a3bf-5f1c-9b5c-bffae2bac110`.
+fn answer_front(alloc: Global, number: usize, answer: &ServeAnswer) -> Result<String, AllocError>
+    ensures { IfOk result (λ text. string_bytes text ≡ front_of number answer.now) }
+{
+    match answer {
+        ServeAnswer::Stub(captured) => {
+            let id = captured.mapping.id.hyphenated(alloc)?;
+            let mut text = String::from_str(alloc, "mapping ")?;
+            text.push_str(Buffer::new().format(number))?;
+            text.push_str(" (id ")?;
+            text.push_str(id.as_str())?;
+            Ok(text)
+        }
+        _ => String::from_str(alloc, "no mapping answers: status "),
+    }
+}
+
+/// The rest of the first line, as `, name "todo") answers: status 200`, and the mappings.
+fn rest_of(
     alloc: Global,
     explanation: &Explanation,
     is_coloured: bool,
 ) -> Result<String, AllocError> {
     let mut text = String::new(alloc);
-    push_answer(alloc, &mut text, explanation)?;
-    let mut is_after = false;
-    for explained in &explanation.mappings {
-        push_mapping(alloc, &mut text, explained, is_coloured)?;
-        is_after = is_after || explained.is_chosen;
-    }
-    Ok(text)
-}
-
-/// As `mapping 2 (id 3f83df0b-a3bf-5f1c-9b5c-bffae2bac110, name "todo") answers: status 200`.
-fn push_answer(
-    alloc: Global,
-    text: &mut String,
-    explanation: &Explanation,
-) -> Result<(), AllocError> {
-    match explanation.chosen() {
-        Some(explained) => {
-            push_number(text, explained)?;
-            let id = explained.mapping.id.hyphenated(alloc)?;
-            text.push_str(" (id ")?;
-            text.push_str(id.as_str())?;
-            if let Some(name) = &explained.mapping.spec.spec().name {
-                push_part(text, ", name ", quoted(alloc, name.as_str())?.as_str())?;
-            }
-            text.push_str(") answers: status ")?;
+    if let ServeAnswer::Stub(captured) = &explanation.answer {
+        if let Some(name) = &captured.mapping.spec.spec().name {
+            push_part(&mut text, ", name ", quoted(alloc, name.as_str())?.as_str())?;
         }
-        None => text.push_str("no mapping answers: status ")?,
+        text.push_str(") answers: status ")?;
     }
     let mut digits = Buffer::new();
-    push_part(text, digits.format(explanation.status), "\n")
+    push_part(&mut text, digits.format(explanation.status), "\n")?;
+    for explained in &explanation.mappings {
+        push_mapping(alloc, &mut text, explained, is_coloured)?;
+    }
+    Ok(text)
 }
 
 fn push_number(text: &mut String, explained: &Explained) -> Result<(), AllocError> {

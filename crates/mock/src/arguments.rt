@@ -20,7 +20,8 @@ With --connections it ends after N connections, and prints how many events its h
 What is wrong with a mapping, where, and warnings are written to standard error, also of mappings that
 are posted, and why an admin call was refused or a request was forwarded in vain; with --verbose a
 line for each request, as `7 GET /todo unmatched 404`: the number of its event, the request, what
-answered it, and the status.
+answered it, and the status; and where no mapping matched it, the three that come nearest, and what
+differs.
 
 Example, in the folder of this repository:
   mock serve --port 8080 --mappings examples/scenario.json

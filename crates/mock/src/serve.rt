@@ -102,14 +102,19 @@ fn log_to<R, W>(
     rt: R,
     arguments: ServeArguments<'_>,
     out: W,
-) -> Result<(Arc<Lines>, ServerLog), AllocError>
+) -> Result<(Arc<Lines>, RequestLog), AllocError>
 where
     R: Threads + Wait + AllocGlobal + Copy + Drop + Send + 'static,
     W: Write + Drop + Send + 'static,
 {
     let lines = start(rt, out)?;
-    let log = RequestLog::new(Arc::try_clone(&lines)?, arguments.verbose, arguments.escape);
-    Ok((lines, ServerLog::new(log)))
+    let log = RequestLog::new(
+        Arc::try_clone(&lines)?,
+        arguments.verbose,
+        arguments.escape,
+        Limits::usual(),
+    );
+    Ok((lines, log))
 }
 
 fn serve_book<L, R, O, E>(
@@ -119,7 +124,7 @@ fn serve_book<L, R, O, E>(
     opened: OpenedHistory,
     book: Book,
     arguments: ServeArguments<'_>,
-    log: ServerLog,
+    log: RequestLog,
     out: &mut O,
     err: &mut E,
 ) -> u8
@@ -149,7 +154,7 @@ fn serve_shared<L, R, O, E>(
     book: SharedBook<L>,
     seat: Seat<L>,
     arguments: ServeArguments<'_>,
-    log: ServerLog,
+    log: RequestLog,
     out: &mut O,
     err: &mut E,
 ) -> u8
@@ -173,7 +178,7 @@ fn serve_listening<L, R, O, E>(
     book: SharedBook<L>,
     seat: Seat<L>,
     arguments: ServeArguments<'_>,
-    log: ServerLog,
+    log: RequestLog,
     out: &mut O,
     err: &mut E,
 ) -> u8
@@ -193,6 +198,9 @@ where
     let settings = Settings {
         connections: arguments.connections,
         max_connections: arguments.max_connections,
+    };
+    let Ok(log) = ServerLog::new(log, &book) else {
+        return out_of_memory(err);
     };
     match answers_of(rt, book, forwarder, arguments, log) {
         Ok(answers) => serve_on(
@@ -215,13 +223,14 @@ fn answers_of<L, R>(
     book: SharedBook<L>,
     forwarder: Forwarder<R>,
     arguments: ServeArguments<'_>,
-    log: ServerLog,
-) -> Result<SiteAnswers<L, NoGate, SystemClock<R>, Forwarder<R>, ServerLog>, AllocError>
+    log: ServerLog<L>,
+) -> Result<SiteAnswers<L, NoGate, SystemClock<R>, Forwarder<R>, ServerLog<L>>, AllocError>
 where
     L: Origin,
     R: Clock + Net + AllocGlobal + Copy + Drop,
     ensures { IfOk result (λ answers. rules_of L.origin L.book answers ≡ record {
-      origin = L.origin; history = L.book;
+      origin = L.origin;
+      history = L.book;
       limits = usual_limits;
       escape = arguments.entry.escape;
       journal = arguments.entry.journal_limit;

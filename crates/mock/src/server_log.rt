@@ -5,24 +5,52 @@ use http::{Request, Response};
 use hyper_service::log::Log;
 use mock_request::snapshot::Snapshot;
 use proxy_client::failure::Failure;
-use request_log::request_log::RequestLog;
+use request_log::request_log::{Offer, RequestLog};
+use shared_book::book_read::{BookRead, ReadAnswer};
+use shared_book::origin::Origin;
 use shared_book::receipt::Receipt;
-use std::alloc::Global;
+use shared_book::shared_book::SharedBook;
+use std::alloc::{AllocError, Global};
 use std::sync::Wait;
 
-/// Tells a request log of each message.
-#[derive(Drop)]
-pub struct ServerLog {
+/// Tells a request log of each message, and what the book offers where that is to be told of.
+pub struct ServerLog<L: Origin> {
     log: RequestLog,
+    book: SharedBook<L>,
 }
 
-impl ServerLog {
-    pub fn new(log: RequestLog) -> ServerLog {
-        ServerLog { log }
+// Written out, so that a caller's proof sees one call and not the drop of each part.
+impl<L: Origin> Drop for ServerLog<L> {
+    fn drop(self) {
+        let ServerLog {
+            log: _log,
+            book: _book,
+        } = self;
     }
 }
 
-impl Log for ServerLog {
+impl<L: Origin> ServerLog<L> {
+    /// A log of those who serve the book.
+    pub fn new(log: RequestLog, book: &SharedBook<L>) -> Result<ServerLog<L>, AllocError> {
+        Ok(ServerLog {
+            log,
+            book: book.try_clone()?,
+        })
+    }
+
+    // The mappings and the states of scenarios, as they are now. The lock is held while they are copied.
+    fn offer<R: Wait>(&self, rt: &R, alloc: Global) -> Option<Offer> {
+        match self.book.peek(rt, alloc, BookRead::Scenarios) {
+            Ok(ReadAnswer::Scenarios { states, mappings }) => Some(Offer {
+                mappings,
+                scenarios: states,
+            }),
+            _ => None,
+        }
+    }
+}
+
+impl<L: Origin> Log for ServerLog<L> {
     fn answered<R: Wait>(
         &self,
         rt: &R,
@@ -31,13 +59,21 @@ impl Log for ServerLog {
         receipt: Option<&Receipt>,
         response: &Response<Content>,
     ) {
+        if !self.log.may_tell(message) {
+            return;
+        }
         let status = response.status().as_u16();
         let body = response.body().as_whole();
         let event = match receipt {
             Some(receipt) => Some((receipt.number, receipt.event.event())),
             None => None,
         };
-        self.log.answered(rt, alloc, message, event, status, body);
+        let offer = match event {
+            Some((_number, event)) if self.log.tells_nearest(event) => self.offer(rt, alloc),
+            _ => None,
+        };
+        self.log
+            .answered(rt, alloc, message, event, status, body, offer);
     }
 
     fn forwarded<R: Wait>(

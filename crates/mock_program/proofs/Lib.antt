@@ -1,5 +1,6 @@
 pub mod AnswerSent
 pub mod CommandArguments
+pub mod ExplainSent
 pub mod OneStream
 pub mod ParserAnswers
 pub mod ParserCalls

@@ -3,6 +3,8 @@ use Rattle.std.proofs.Common.{◌≡◌, ◌⊎◌, ℕ, List, Option, inl, inr,
 use Rattle.std.proofs.Common.{if◌then◌else◌}
 use Rattle.mapping_answer.specs.Answering.{Answers, AnswersFiles, Sent}
 use Rattle.mapping_check.specs.Checking.{Checks, ChecksFiles}
+use Rattle.mapping_explanation.specs.Explaining.{Ends, Explains, ExplainsFiles, is_answered}
+use Rattle.mapping_explanation.specs.declared.explain.Form.{Form}
 use Rattle.mock_program.specs.CommandLine.{Asked, render, check, answer, explain}
 use Rattle.mock_program.specs.Commands.{Does}
 use Rattle.command_output.proofs.PartsWritten.{alone, followed_map}
@@ -100,6 +102,32 @@ module _ {O E : Type 0} (out_holds : O → Option (List ℕ)) (err_holds : E →
       (inr (error, is, one, as_reported, same)) =
       of_error out out' err err' status one same
 
+  of_end : (answered : Bool) (text : List ℕ) (old new : Option (List ℕ)) (status : ℕ)
+      → Ends answered text old new status → status ≡ 0 ⊎ status ≡ 1
+  of_end true text old new status (inl (written, is)) = inl is
+  of_end false text old new status (inl (written, is)) = inr is
+  of_end answered text old new status (inr (begun, one)) = inr one
+
+  of_explanation : (escape : Escape) (documents : List (List ℕ)) (sent : Sent) (states : List (List ℕ × List ℕ))
+      (form : Form) (out out' : O) (err err' : E) (status : ℕ)
+      → Explains out_holds escape documents sent states form out out' err err' status
+      → WritesOneStream out out' err err' status
+  of_explanation escape documents sent states form out out' err err' status
+      (inl (answer, text, is, says, ends, same)) =
+      of_output out out' err err' status
+      (of_end (is_answered answer) text (out_holds out) (out_holds out') status ends) same
+  of_explanation escape documents sent states form out out' err err' status (inr (one, same)) =
+      of_error out out' err err' status one same
+
+  of_explained : (escape : Escape) (listed : Option (List (List ℕ))) (known : List ℕ → Option (List ℕ))
+      (sent : Sent) (states : List (List ℕ × List ℕ)) (form : Form) (out out' : O) (err err' : E) (status : ℕ)
+      → ExplainsFiles out_holds escape listed known sent states form out out' err err' status
+      → WritesOneStream out out' err err' status
+  of_explained escape listed known sent states form out out' err err' status (inl (documents, are, explains)) =
+      of_explanation escape documents sent states form out out' err err' status explains
+  of_explained escape listed known sent states form out out' err err' status (inr (one, same)) =
+      of_error out out' err err' status one same
+
   pub of_command : (listed : List ℕ → Option (List (List ℕ))) (known : List ℕ → Option (List ℕ))
       (escape : Escape)
       (asked : Asked) (options : List (List ℕ × List ℕ)) (out out' : O) (err err' : E) (status : ℕ)
@@ -122,4 +150,12 @@ module _ {O E : Type 0} (out_holds : O → Option (List ℕ)) (err_holds : E →
   of_command listed known escape (answer path method target) options out out' err err' status (inr refused) =
       alone err_holds (λ e. WritesOneStream out out' err e status) err'
       (of_refusal out out' err err' status refused.failure refused.same)
-  of_command listed known escape (explain path method target) options out out' err err' status done = done
+  of_command listed known escape (explain path method target) options out out' err err' status
+      (inl (sent, states, form, is, besides, done)) =
+      followed_map err_holds
+      (λ e. ExplainsFiles out_holds escape (listed path) known sent states form out out' err e status)
+      (λ e. WritesOneStream out out' err e status) err'
+      (λ e. of_explained escape (listed path) known sent states form out out' err e status) done
+  of_command listed known escape (explain path method target) options out out' err err' status (inr refused) =
+      alone err_holds (λ e. WritesOneStream out out' err e status) err'
+      (of_refusal out out' err err' status refused.failure refused.same)

@@ -5,11 +5,16 @@ use Rattle.mock_program.specs.Commands.{Does}
 use Rattle.template_tree.specs.declared.escape.Escape.{Escape}
 use Rattle.command_output.specs.Lines.{error_line, out_of_memory}
 use Rattle.command_output.proofs.PartsWritten.{alone}
-use Rattle.command_output.specs.Output.{AppendsFront, WritesOneStream}
+use Rattle.command_output.specs.Output.{AppendsFront}
 use Rattle.mapping_answer.specs.Answering.{AnswersFiles, Sent}
-use Rattle.mock_program.proofs.OneStream.{of_error}
 use Rattle.mapping_check.specs.Checking.{ChecksFiles}
+use Rattle.mapping_explanation.specs.Explaining.{ExplainsFiles}
+use Rattle.mapping_explanation.specs.declared.explain.Form.{Form}
+use Rattle.mapping_explanation.specs.declared.explain.Form.TheVariants as form
 use Rattle.command_output.specs.declared.files.FileError.TheVariants as file
+
+text_not_json : form.Text ≡ form.Json → ⊥
+text_not_json same = cc
 
 pub without_memory : {O E : Type 0} (out_holds : O → Option (List ℕ)) (err_holds : E → Option (List ℕ))
     (listed : List ℕ → Option (List (List ℕ))) (known : List ℕ → Option (List ℕ))
@@ -35,4 +40,14 @@ without_memory out_holds err_holds listed known escape (answer path method targe
     )
 without_memory out_holds err_holds listed known escape (explain path method target) options out out' err err' status
     one shown same =
-    alone err_holds (λ e. WritesOneStream out out' err e status) err' (of_error out out' err err' status one same)
+    let sent : Sent = record { method = method; target = target; headers = []; body = [] } in
+    inl (
+      sent,
+      [],
+      form.Text,
+      record { method_is = refl; target_is = refl; plain_headers = λ none. refl; plain_body = λ none. refl },
+      record { plain_states = λ none. refl; plain_form = λ none. text_not_json },
+      alone err_holds
+          (λ e. ExplainsFiles out_holds escape (listed path) known sent [] form.Text out out' err e status) err'
+          (inr (one, same)),
+    )

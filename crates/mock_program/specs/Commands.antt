@@ -1,8 +1,11 @@
 -- What a command does, by what standard output and standard error hold before and after it, and the exit status.
 use Rattle.std.specs.Prelude.{◌≡◌, ◌≢◌, ◌⊎◌, ℕ, List, [], Option}
-use Rattle.command_output.specs.Output.{Followed, WritesOneStream}
+use Rattle.command_output.specs.Output.{Followed}
 use Rattle.mapping_answer.specs.Answering.{AnswersFiles, Sent}
 use Rattle.mapping_check.specs.Checking.{ChecksFiles}
+use Rattle.mapping_explanation.specs.Explaining.{ExplainsFiles}
+use Rattle.mapping_explanation.specs.declared.explain.Form.{Form}
+use Rattle.mapping_explanation.specs.declared.explain.Form.TheVariants.{Json}
 use Rattle.mock_program.specs.CommandLine.{Asked, render, check, answer, explain}
 use Rattle.mock_program.specs.Rendering.{Renders}
 use Rattle.template_tree.specs.Source.{with_escape}
@@ -14,6 +17,11 @@ pub record IsSent (method target : List ℕ) (options : List (List ℕ × List �
   pub target_is : sent.target ≡ target
   pub plain_headers : options ≡ [] → sent.headers ≡ []
   pub plain_body : options ≡ [] → sent.body ≡ []
+
+-- what `explain` is asked besides: without options no scenario is set, and nothing is printed as JSON
+pub record IsAskedBesides (options states : List (List ℕ × List ℕ)) (form : Form) : Type 0 where
+  pub plain_states : options ≡ [] → states ≡ []
+  pub plain_form : options ≡ [] → form ≢ Json
 
 -- an option is invalid, or has a file that can't be read, and that is reported
 pub record RefusesOptions {O : Type 0} (options : List (List ℕ × List ℕ)) (out out' : O) (status : ℕ) : Type 0 where
@@ -37,4 +45,8 @@ Does out_holds err_holds listed known escape (answer path method target) options
     err e status) err')
     ⊎ RefusesOptions options out out' status
 Does out_holds err_holds listed known escape (explain path method target) options = λ out out' err err' status.
-    Followed err_holds (λ e. WritesOneStream out out' err e status) err'
+    ((sent : Sent) × (states : List (List ℕ × List ℕ)) × (form : Form) × IsSent method target options sent
+    × IsAskedBesides options states form
+    × Followed err_holds (λ e. ExplainsFiles out_holds escape (listed path) known sent states form out out'
+    err e status) err')
+    ⊎ RefusesOptions options out out' status

@@ -1,8 +1,9 @@
 //! The command line: the command that the arguments name, help, and what is reported of invalid arguments.
-ghost use Rattle.std.specs.Prelude.{◌≡◌, ◌⊎◌, map, string_bytes};
+ghost use Rattle.std.specs.Prelude.{◌≡◌, ◌≢◌, ◌⊎◌, false, map, string_bytes};
 ghost use Rattle.clap.specs.Words.{kind_of};
 ghost use Rattle.clap.specs.declared.error.kind.ErrorKind.{ErrorKind};
-ghost use Rattle.mock_program.specs.CommandLine.{AreInvalid, Asked, AsksFor, CallsForHelp, answer};
+ghost use Rattle.mapping_explanation.specs.declared.explain.Form.TheVariants.{Json};
+ghost use Rattle.mock_program.specs.CommandLine.{AreInvalid, Asked, AsksFor, CallsForHelp, answer, explain};
 ghost use Rattle.mock_program.specs.Commands.{Does};
 ghost use Rattle.mock_program.specs.Inner.Parser.{IsHelp, asked_of};
 ghost use Rattle.mock_program.specs.Options.{given_of, options_of, words_of};
@@ -178,7 +179,9 @@ fn run_explain<F: FileReader, O: Write, E: Write>(
     err: &mut E,
     is_coloured: bool,
 ) -> u8
-    ensures { Followed E.contents (λ e. WritesOneStream out.old out.new err.old e result) err.new }
+    ensures { Does O.contents E.contents (F.listed files.now) (F.content files.now) escape
+        (explain file.now method.now target.now) (map given_of options.now)
+        out.old out.new err.old err.new result }
 {
     match request_options(alloc, files, options, true) {
         Ok(given) => {
@@ -198,7 +201,9 @@ fn run_explain<F: FileReader, O: Write, E: Write>(
     }
 }
 
-fn form_of(is_json: bool, is_coloured: bool) -> Form {
+fn form_of(is_json: bool, is_coloured: bool) -> Form
+    ensures { is_json ≡ false → result ≢ Json }
+{
     match (is_json, is_coloured) {
         (true, _) => Form::Json,
         (false, true) => Form::Coloured,

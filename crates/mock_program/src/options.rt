@@ -1,10 +1,11 @@
-//! The options of `answer` and `explain`: anywhere before a `--`, each with the argument that follows it as its
-//! value.
+//! The options of `answer` and `explain`: anywhere before a `--`, each with the argument that follows it as its value,
+//! or with what stands after a `=` in its own.
 ghost use Rattle.std.specs.Prelude.{◌≡◌, ◌++◌, ◌∷◌, [], ℕ, List, IfOk, OnOk, map, string_bytes, None, codes, false};
-ghost use Rattle.std.specs.Prelude.{option_copied};
+ghost use Rattle.std.specs.Prelude.{option_copied, option_map};
 ghost use Rattle.std.specs.Str.{bytes_eq};
-ghost use Rattle.mock_program.specs.Options.{given_of, is_option, is_switch, options_in, options_of, takes_options};
-ghost use Rattle.mock_program.specs.Options.{words_in, words_of};
+ghost use Rattle.clap.specs.Lexer.{name_and_value};
+ghost use Rattle.mock_program.specs.Options.{as_option, as_word, given_of, is_option, is_switch, joined, options_in};
+ghost use Rattle.mock_program.specs.Options.{options_of, takes_options, words_in, words_of};
 
 use std::alloc::{AllocError, Global};
 
@@ -110,8 +111,42 @@ fn split_next<'a>(
     if is_option(argument) {
         return Ok(Some(argument));
     }
-    push_word(split, argument)?;
+    take_joined(split, argument)?;
     Ok(None)
+}
+
+// Takes an argument that has an option with its value, or else is no option.
+fn take_joined<'a>(split: &mut Split<'a>, argument: &'a str) -> Result<(), AllocError>
+    ensures words { OnOk result (map (λ word. word.now) split.new.words.items
+        ≡ map (λ word. word.now) split.old.words.items ++ as_word (joined argument.now) argument.now) }
+    ensures options { OnOk result (map given_of split.new.options.items
+        ≡ map given_of split.old.options.items ++ as_option (joined argument.now)) }
+{
+    match joined(argument) {
+        Some(option) => push_option(split, option.name, option.value),
+        None => push_word(split, argument),
+    }
+}
+
+/// The option and its value, of an argument that has both.
+#[tactic(auto, unfolding(crate::specs::Options::joined))]
+fn joined(argument: &str) -> Option<GivenOption<'_>>
+    ensures { option_map given_of result ≡ joined argument.now }
+{
+    match split_value(argument) {
+        (name, Some(value)) if is_option(name) => Some(GivenOption { name, value }),
+        _ => None,
+    }
+}
+
+// What stands before the first `=`, and what stands after it, if there is one.
+fn split_value(argument: &str) -> (&str, Option<&str>)
+    ensures { (result.0.now, option_map (λ value. value.now) result.1) ≡ name_and_value argument.now }
+{
+    match argument.split_once('=') {
+        Some((name, value)) => (name, Some(value)),
+        None => (argument, None),
+    }
 }
 
 fn push_word<'a>(split: &mut Split<'a>, word: &'a str) -> Result<(), AllocError>

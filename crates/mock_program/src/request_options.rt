@@ -1,5 +1,5 @@
 //! What the options of `answer` and `explain` mean.
-ghost use Rattle.std.specs.Prelude.{◌≡◌, ◌≢◌, ◌⊎◌, [], IfErr, IfOk, map};
+ghost use Rattle.std.specs.Prelude.{◌≡◌, ◌≢◌, ◌⊎◌, [], IfErr, IfOk, false, map};
 ghost use Rattle.mock_program.specs.Options.{given_of};
 
 use crate::options::GivenOption;
@@ -105,7 +105,8 @@ pub(crate) fn request_options<'a, F: FileReader>(
     is_explain: bool,
 ) -> Result<RequestOptions<'a>, OptionsError<'a>>
     ensures plain { IfOk result (λ made. map given_of options.now ≡ []
-        → (made.headers.items ≡ []) × (made.body.items ≡ [])) }
+        → (made.headers.items ≡ []) × (made.body.items ≡ []) × (made.states.items ≡ [])
+        × (made.is_json ≡ false)) }
     ensures given { IfErr result (λ error. map given_of options.now ≢ []) }
 {
     let mut made = RequestOptions {

@@ -1,5 +1,9 @@
 // What is told of requests.
 use crate::lines::Lines;
+use crate::mapping_name::push_mapping;
+pub use crate::nearest::Offer;
+use crate::nearest::nearest_lines;
+use crate::over_budget::over_budget_line;
 use crate::request_line::request_line;
 use admin_table::route::{Route, is_admin, route_of};
 use bytes::Bytes;
@@ -7,19 +11,23 @@ use error_code::error_code::ErrorCode;
 use http::Request;
 use itoa::Buffer;
 use mapping_diagnosis::notes::Notes;
-use mapping_diagnosis::shown::{cut, quoted};
+use mapping_diagnosis::shown::cut;
 use mapping_json::error::MappingError;
 use mapping_json::read::read_mapping_with;
 use mapping_json::read_request::read_request;
 use mock_request::snapshot::Snapshot;
 use request_journal::event::{Event, ServeAnswer};
-use request_journal::mapping::Mapping;
+use request_parts::error::RequestMatchError;
 use std::alloc::{AllocError, Global};
 use std::sync::{Arc, Wait};
+use stub_response::limits::Limits;
 use template_tree::escape::Escape;
 
 /// How many characters of a method and of a URL are told.
 const SHOWN: usize = 1000;
+
+/// The status of the response to a request where the templates of its mapping are over the limits.
+const OVER_BUDGET: u16 = 500;
 
 /// The status of each answer that refuses a call for its body. (RFC 9110, section 15.5.21)
 const UNPROCESSABLE: u16 = 422;
@@ -33,19 +41,40 @@ pub struct RequestLog {
     is_verbose: bool,
     /// How the prints of the templates of posted mappings are escaped.
     escape: Escape,
+    /// What the templates of a response may take.
+    limits: Limits,
 }
 
 impl RequestLog {
-    pub fn new(lines: Arc<Lines>, is_verbose: bool, escape: Escape) -> RequestLog {
+    pub fn new(lines: Arc<Lines>, is_verbose: bool, escape: Escape, limits: Limits) -> RequestLog {
         RequestLog {
             lines,
             is_verbose,
             escape,
+            limits,
         }
     }
 
+    /// Whether there may be something to tell of the message.
+    pub fn may_tell(&self, message: &Request<Bytes>) -> bool {
+        self.is_verbose || is_admin(message.uri().path())
+    }
+
+    /// Whether it tells which mappings came nearest, once the request of the event was answered.
+    pub fn tells_nearest(&self, event: &Event) -> bool {
+        self.is_verbose
+            && matches!(
+                event,
+                Event::Serve {
+                    request: _,
+                    answer: ServeAnswer::Unmatched,
+                }
+            )
+    }
+
     /// Tells of a message that was answered with this status, and with this body if that is there as a whole. The event
-    /// with its number is the one that it made, if it made one.
+    /// with its number is the one that it made, if it made one. Where `tells_nearest` says so, what the book offers is
+    /// given too.
     pub fn answered<R: Wait>(
         &self,
         rt: &R,
@@ -54,14 +83,15 @@ impl RequestLog {
         event: Option<(u64, &Event)>,
         status: u16,
         body: Option<&[u8]>,
+        offer: Option<Offer>,
     ) {
         let is_call = is_admin(message.uri().path());
         if !self.is_verbose && !is_call {
             return;
         }
         if self.is_verbose {
-            let line = line_of(alloc, message, event, is_call, status);
-            self.add(rt, line);
+            let lines = self.lines_of(alloc, message, event, is_call, status, offer);
+            self.add(rt, lines);
         }
         if is_call {
             let notes = call_notes(alloc, message, status, body, self.escape);
@@ -88,6 +118,26 @@ impl RequestLog {
             let line = failed_line(alloc, request, failure);
             self.add(rt, line);
         }
+    }
+
+    // The line of a request, and those that say why it was answered so. Where there is no memory for these, the line
+    // alone.
+    fn lines_of(
+        &self,
+        alloc: Global,
+        message: &Request<Bytes>,
+        event: Option<(u64, &Event)>,
+        is_call: bool,
+        status: u16,
+        offer: Option<Offer>,
+    ) -> Result<String, AllocError> {
+        let mut lines = line_of(alloc, message, event, is_call, status)?;
+        if let Some((_number, event)) = event {
+            if let Ok(reason) = reason_of(alloc, event, status, offer, self.limits) {
+                lines.push_str(reason.as_str())?;
+            }
+        }
+        Ok(lines)
     }
 
     // What there is no memory for isn't told.
@@ -161,6 +211,28 @@ fn line_of(
     )
 }
 
+// Why a request was answered so that made this event: where no mapping matched it, which ones come nearest; where the
+// templates of its mapping were not run, what is too much.
+fn reason_of(
+    alloc: Global,
+    event: &Event,
+    status: u16,
+    offer: Option<Offer>,
+    limits: Limits,
+) -> Result<String, RequestMatchError> {
+    let Event::Serve { request, answer } = event else {
+        return Ok(String::new(alloc));
+    };
+    match (answer, offer) {
+        (ServeAnswer::Unmatched, Some(offer)) => nearest_lines(alloc, request.request(), offer),
+        (ServeAnswer::Stub(captured), _) if status == OVER_BUDGET => {
+            let mapping = captured.mapping.spec.spec();
+            Ok(over_budget_line(alloc, mapping, request.request(), limits)?)
+        }
+        _ => Ok(String::new(alloc)),
+    }
+}
+
 // By what a request was answered that made this event.
 fn answerer_of(alloc: Global, event: &Event) -> Result<String, AllocError> {
     let Event::Serve {
@@ -171,20 +243,14 @@ fn answerer_of(alloc: Global, event: &Event) -> Result<String, AllocError> {
         return String::from_str(alloc, "admin");
     };
     match answer {
-        ServeAnswer::Stub(captured) => mapping_text(alloc, &captured.mapping),
+        ServeAnswer::Stub(captured) => {
+            let mut text = String::new(alloc);
+            push_mapping(alloc, &mut text, &captured.mapping)?;
+            Ok(text)
+        }
         ServeAnswer::Proxy(_target) => String::from_str(alloc, "proxied"),
         ServeAnswer::Unmatched => String::from_str(alloc, "unmatched"),
     }
-}
-
-// The id of the mapping, and its name, if it has one.
-fn mapping_text(alloc: Global, mapping: &Mapping) -> Result<String, AllocError> {
-    let mut text = mapping.id.hyphenated(alloc)?;
-    if let Some(name) = &mapping.spec.spec().name {
-        text.push_str(" ")?;
-        text.push_str(quoted(alloc, name.as_str())?.as_str())?;
-    }
-    Ok(text)
 }
 
 // Why an admin call was refused, and what there is to say of a document that was posted with it. Not inlined: a

@@ -1,16 +1,17 @@
 -- What the lock keeps, after one more entry.
 use Rattle.std.proofs.Common.{◌≡◌, ℕ, ◌<◌, [], ◌∷◌, ◌++◌, ap, arith, refl, sym, ◌∙◌, subst}
+use Rattle.std.specs.Prelude.{IfOk, Result, Ok, Err}
 use Rattle.logbook.specs.Pages.{Book}
 use Rattle.request_journal.specs.Legal.{IsNext}
 use Rattle.request_journal.specs.Past.{Past, last_number}
 use Rattle.request_journal.specs.declared.event.Event.{Event}
 use Rattle.shared_book.proofs.ReachedLemmas.{dropped_last, lawful_on, lawful_opened, number_grown, past_called}
-use Rattle.shared_book.proofs.ReachedLemmas.{past_left, past_opened, past_split}
+use Rattle.shared_book.proofs.ReachedLemmas.{past_left, past_looked, past_opened, past_split}
 use Rattle.shared_book.specs.Held.{IsDropped}
 use Rattle.shared_book.specs.Inner.Kept.{IsKept}
-use Rattle.shared_book.specs.Inner.Looked.{IsLooked, IsLookedUp}
+use Rattle.shared_book.specs.Inner.Looked.{IsLooked, IsLookedUp, IsLookedUpOnce}
 use Rattle.shared_book.specs.Reached.{InPastOf, IsLawful, IsPastOf, Log, MayFollow}
-use Rattle.shared_book.specs.Reading.{IsRead, IsReadAnswer}
+use Rattle.shared_book.specs.Reading.{IsRead, IsReadAnswer, IsReadOnce}
 use Rattle.shared_book.specs.Seen.{IsEntered, IsJoined, IsSplit, SeesAll}
 use Rattle.shared_book.specs.declared.book_read.BookRead.{BookRead}
 use Rattle.shared_book.specs.declared.book_read.ReadAnswer.{ReadAnswer}
@@ -19,8 +20,8 @@ use Rattle.shared_book.specs.declared.receipt.Receipt.{Receipt}
 use Rattle.shared_history.specs.Entries.{entry, opening}
 use Rattle.shared_history.specs.History.{HasLeft, IsHistory}
 use Rattle.shared_history.specs.Seal.{IsSeen}
-use Rattle.shared_history.specs.Sight.{Calls, CatchesUp, IsIn, Leaves, Sight, Splits}
-use Rattle.shared_history.specs.declared.entry.Deed.TheVariants.{Split}
+use Rattle.shared_history.specs.Sight.{Calls, CatchesUp, IsIn, Leaves, Looks, Sight, Splits}
+use Rattle.shared_history.specs.declared.entry.Deed.TheVariants.{Looked, Split}
 use Rattle.shared_history.specs.declared.entry.Entry.{Entry}
 use Rattle.stub_book.specs.Growth.{Grows}
 
@@ -40,6 +41,20 @@ module _ (origin : Past) (all : ℕ) (past : Past) (old new : Log) (entries part
     some = kept.some;
   }
 
+  pub kept_looked : (seat later : Sight Past Event) → IsKept origin all past old entries parts start
+      → Looks seat old later → new ≡ later.seen → IsHistory MayFollow new
+      → IsKept origin all past new entries parts start
+  kept_looked seat later kept looks same history =
+      let is : new ≡ old ++ entry seat.number Looked ∷ [] = same ∙ looks.seen in
+      record {
+        lawful = lawful_more origin old new _ kept.lawful is history;
+        past_of = past_looked origin past old new seat.number is kept.past_of;
+        same_start = kept.same_start;
+        counted = kept.counted;
+        same_parts = kept.same_parts;
+        some = kept.some;
+      }
+
   pub kept_split : (seat later made : Sight Past Event) → IsKept origin all past old entries parts start
       → Splits seat old later made → new ≡ later.seen → IsHistory MayFollow new
       → IsKept origin all past new entries parts start
@@ -54,21 +69,22 @@ module _ (origin : Past) (all : ℕ) (past : Past) (old new : Log) (entries part
         some = kept.some;
       }
 
--- a seat has seen all that there is
-pub sees_all : {name : Book} (origin : Past) (whole : Log) (old new : Sight Past Event) → IsLawful origin whole
-    → CatchesUp old whole new → IsSeen MayFollow name whole → SeesAll origin name old new
-sees_all {name} origin whole old new lawful catches_up was_seen = record {
+-- a seat has seen all that there is, which was entered
+pub sees_all : {name : Book} (origin : Past) (whole more : Log) (old new : Sight Past Event) → IsLawful origin whole
+    → Looks old whole new → more ≡ new.seen → IsHistory MayFollow more → IsSeen MayFollow name more
+    → SeesAll origin name old new
+sees_all {name} origin whole more old new lawful looks same history was_seen = record {
   whole = whole;
-  catches_up = catches_up;
-  lawful = subst (IsLawful origin) (sym catches_up.seen) lawful;
-  was_seen = subst (IsSeen MayFollow name) (sym catches_up.seen) was_seen;
+  looks = looks;
+  lawful = lawful_more origin whole new.seen _ lawful looks.seen (subst (IsHistory MayFollow) same history);
+  was_seen = subst (IsSeen MayFollow name) same was_seen;
 }
 
 -- what holds of the past under the lock holds of the past after what the seat has seen then
 pub in_past : (origin past : Past) (whole : Log) (old new : Sight Past Event) (P : Past → Type 0)
-    → IsPastOf origin whole past → CatchesUp old whole new → P past → InPastOf origin new.seen P
-in_past origin past whole old new P is catches_up holds =
-    (past, subst (λ (log : Log). IsPastOf origin log past) (sym catches_up.seen) is, holds)
+    → IsPastOf origin whole past → Looks old whole new → P past → InPastOf origin new.seen P
+in_past origin past whole old new P is looks holds =
+    (past, past_looked origin past whole new.seen old.number looks.seen is, holds)
 
 -- the seat has made another
 pub was_split : {name : Book} (origin : Past) (whole new : Log) (seat later made : Sight Past Event)
@@ -102,13 +118,14 @@ was_joined {name} origin whole new seat other later lawful leaves left history c
       was_seen = subst (IsSeen MayFollow name) back was_seen;
     }
 
--- what was looked up in the past after the whole history, which was seen
-pub looked_up : (origin past : Past) (whole seen : Log) (asked : BookRead) (number : ℕ) (answer : ReadAnswer)
-    → IsPastOf origin whole past → seen ≡ whole → number ≡ last_number past → IsLooked past asked answer
-    → IsLookedUp origin seen asked (record { number = number; answer = answer })
-looked_up origin past whole seen asked number answer is same last looked = record {
+-- what was looked up in the past after the whole history
+pub looked_up : (origin past : Past) (whole : Log) (old new : Sight Past Event) (asked : BookRead) (number : ℕ)
+    (answer : ReadAnswer) → IsPastOf origin whole past → Looks old whole new → number ≡ last_number past
+    → IsLooked past asked answer
+    → IsLookedUp origin new.seen asked (record { number = number; answer = answer })
+looked_up origin past whole old new asked number answer is looks last looked = record {
   past = past;
-  past_of = subst (λ (log : Log). IsPastOf origin log past) (sym same) is;
+  past_of = past_looked origin past whole new.seen old.number looks.seen is;
   number = last;
   answer = looked;
 }
@@ -122,6 +139,35 @@ answered origin log asked looked answer is right = record {
   past = is.past;
   past_of = is.past_of;
   number = is.number;
+  answer = right is.past is.answer;
+}
+
+-- the same for who has no place
+pub looked_up_once : {E : Type 0} (name : Book) (origin past : Past) (whole seen : Log) (asked : BookRead)
+    (result : Result ReadAnswer E) → IsLawful origin whole → IsPastOf origin whole past → seen ≡ whole
+    → IsSeen MayFollow name seen → IfOk result (IsLooked past asked)
+    → IfOk result (IsLookedUpOnce origin name asked)
+looked_up_once name origin past whole seen asked (Err error) lawful is same was_seen looked = looked
+looked_up_once name origin past whole seen asked (Ok found) lawful is same was_seen looked = record {
+  log = whole;
+  lawful = lawful;
+  was_seen = subst (λ (log : Log). IsSeen MayFollow name log) same was_seen;
+  past = past;
+  past_of = is;
+  answer = looked;
+}
+
+pub read_once : {E : Type 0} {name : Book} (origin : Past) (asked : BookRead) (found : ReadAnswer)
+    (result : Result ReadAnswer E) → IsLookedUpOnce origin name asked found
+    → IfOk result (λ answer. (past : Past) → IsLooked past asked found → IsReadAnswer past asked answer)
+    → IfOk result (IsReadOnce origin name asked)
+read_once origin asked found (Err error) is right = right
+read_once origin asked found (Ok answer) is right = record {
+  log = is.log;
+  lawful = is.lawful;
+  was_seen = is.was_seen;
+  past = is.past;
+  past_of = is.past_of;
   answer = right is.past is.answer;
 }
 

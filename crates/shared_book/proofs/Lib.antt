@@ -4,6 +4,7 @@ pub mod KeptLemmas
 pub mod HeldLemmas
 pub mod LetGoLemmas
 pub mod SeatLemmas
+pub mod EndLemmas
 pub mod SettledLemmas
 pub mod ReceiptLemmas
 pub mod CountLemmas

@@ -1,5 +1,5 @@
 -- What one more entry of the history leads to.
-use Rattle.std.proofs.Common.{◌≡◌, ℕ, ◌+◌, ◌≤◌, Bool, true, false, List, [], ◌∷◌, ◌++◌, refl, sym, ap}
+use Rattle.std.proofs.Common.{◌≡◌, ℕ, ◌+◌, ◌≤◌, Bool, true, false, List, [], ◌∷◌, ◌++◌, length, refl, sym, ap}
 use Rattle.std.proofs.Common.{append-nil, append_assoc, subst, ◌∙◌, arith}
 use Rattle.std.specs.Prelude.{MatchBool}
 use mathlib.Core.List.{IsPrefix}
@@ -17,7 +17,7 @@ use Rattle.shared_history.proofs.Prefixes.{prefix_self, prefix_trans}
 use Rattle.shared_history.specs.Entries.{entry, events, opening}
 use Rattle.shared_history.specs.History.{GoesOn, IsHistory, MayCall, MayDo}
 use Rattle.shared_history.specs.declared.entry.Deed.{Deed}
-use Rattle.shared_history.specs.declared.entry.Deed.TheVariants.{Called, Left, Opened, Split}
+use Rattle.shared_history.specs.declared.entry.Deed.TheVariants.{Called, Left, Looked, Opened, Split}
 use Rattle.shared_history.specs.declared.entry.Entry.{Entry}
 use Rattle.stub_book.specs.Growth.{Grows}
 
@@ -39,6 +39,15 @@ number_by old new event false after = ap last_number after ∙ number_after old 
 
 pub number_grown : (old new : Past) (event : Event) → Grows old new event → last_number new ≡ last_number old + 1
 number_grown old new event grows = number_by old new event (clears event) grows.after
+
+-- the last number after these events
+pub lead_count : (events : List Event) (origin past : Past) → Lead origin events past
+    → last_number past ≡ last_number origin + length events
+lead_count [] origin past lead = (let same = ap last_number lead in omega (arith, same))
+lead_count (e ∷ es) origin past lead =
+    let one = number_grown origin lead.0 e lead.1 in
+    let rest = lead_count es lead.0 past lead.2 in
+    omega (arith, one, rest)
 
 -- ---- one more entry
 
@@ -62,11 +71,20 @@ past_split origin past log more seat is same =
     subst (λ (es : List Event). Lead origin es past)
     (sym (events_more log more (entry seat Split) is ∙ append-nil (events log))) same
 
+pub past_looked : (origin past : Past) (log more : Log) (seat : ℕ) → more ≡ log ++ entry seat Looked ∷ []
+    → IsPastOf origin log past → IsPastOf origin more past
+past_looked origin past log more seat is same =
+    subst (λ (es : List Event). Lead origin es past)
+    (sym (events_more log more (entry seat Looked) is ∙ append-nil (events log))) same
+
 pub past_left : (origin past : Past) (log more : Log) (seat : ℕ) → more ≡ log ++ entry seat Left ∷ []
     → IsPastOf origin log past → IsPastOf origin more past
 past_left origin past log more seat is same =
     subst (λ (es : List Event). Lead origin es past)
     (sym (events_more log more (entry seat Left) is ∙ append-nil (events log))) same
+
+pub calls_left : (log more : Log) (seat : ℕ) → more ≡ log ++ entry seat Left ∷ [] → events more ≡ events log
+calls_left log more seat is = events_more log more (entry seat Left) is ∙ append-nil (events log)
 
 -- a history that goes on has the same origin
 pub lawful_on : (origin : Past) (old new : Log) → IsLawful origin old → IsPrefix old new → IsHistory MayFollow new
@@ -107,6 +125,8 @@ past_more origin before seat (Called event) past is may = (
   may.1,
   past_called origin may.0 may.1 before (before ++ entry seat (Called event) ∷ []) seat event refl may.2 may.3,
 )
+past_more origin before seat Looked past is may =
+    (past, past_looked origin past before (before ++ entry seat Looked ∷ []) seat refl is)
 past_more origin before seat Split past is may =
     (past, past_split origin past before (before ++ entry seat Split ∷ []) seat refl is)
 past_more origin before seat Left past is may =

@@ -224,6 +224,7 @@ played origin parts name seat left a b cs ds settled gave one two all =
       whole = all.whole;
       past = all.past;
       was_seen = all.was_seen;
+      ended = all.ended;
       begins = prefix_trans seat.seen left.seen all.whole gave.begins first.0;
       of_first = line_played origin a cs one all.whole second.0;
       of_second = line_played origin b ds two all.whole third.0;

@@ -127,7 +127,7 @@ pub caught_up : {name : Book} (origin : Past) (old new : Held) → SeesAll origi
 caught_up origin old new sees parts own joined = record {
   sees = sees;
   same = λ i. record {
-    number = sees.catches_up.number i;
+    number = sees.looks.number i;
     seen = new.seen;
     parts = parts i;
     own = own i;

@@ -22,7 +22,7 @@ prefix_more old whole new e begins is =
 
 module _ {name : Book} (origin : Past) (old new : Sight Past Event) where
   pub sees_on : SeesAll origin name old new → IsPrefix old.seen new.seen
-  sees_on sees = subst (IsPrefix old.seen) (sym sees.catches_up.seen) sees.catches_up.before.begins
+  sees_on sees = prefix_more old.seen sees.whole new.seen _ sees.looks.before.begins sees.looks.seen
 
   pub entered_on : (receipt : Receipt) → IsEntered origin name old new receipt → IsPrefix old.seen new.seen
   entered_on receipt entered =

@@ -1,27 +1,17 @@
 -- Seats whose receipts were compared with the history, of which each has seen a beginning.
-use Rattle.std.proofs.Common.{◌≡◌, ◌≢◌, ◌∙◌, [], ◌∷◌, ◌++◌, ap, drop, length, refl, take}
+use Rattle.std.proofs.Common.{◌≡◌, ◌≢◌, ◌∙◌}
 use Rattle.std.proofs.Common.{sym, subst, ℕ, Bool, true, false, List, Ok, Err, IfOk, IfErr, IsTrue, ◌↔◌}
 use Rattle.std.specs.Prelude.{Result}
 use mathlib.Core.Bool.{true≢false}
 use Rattle.logbook.specs.Pages.{Book}
 use Rattle.request_journal.specs.Past.{Past}
 use Rattle.shared_book.specs.Held.{Held, all_lists, all_parts}
+use Rattle.shared_book.specs.Inner.Ends.{HaveAgreed}
 use Rattle.shared_book.specs.Reached.{IsLawful, IsPastOf, Log, MayFollow}
-use Rattle.shared_book.specs.Settled.{AreSettled, AreUnsettled, HaveSeen, IsSettled, IsUnsettled}
+use Rattle.shared_book.specs.Settled.{AreUnsettled, HaveSeen, IsSettled, IsUnsettled}
 use Rattle.shared_book.specs.declared.settled.SettleRefusal.{SettleRefusal}
 use Rattle.shared_book.specs.declared.settled.Settled.{Settled}
 use Rattle.shared_history.specs.Seal.{IsSeen}
-
--- a list that was lent and given back as it was
-take_all : (xs ys : List Held) → take (length xs) (xs ++ ys) ≡ xs
-take_all [] ys = refl
-take_all (x ∷ xs) ys = ap (λ (l : List Held). x ∷ l) (take_all xs ys)
-
-pub given_back : (n : ℕ) (items lent later : List Held) → later ≡ lent → lent ≡ items → length lent ≡ n
-    → take n (later ++ drop (length later) items) ≡ items
-given_back n items lent later same is long =
-    subst (λ (k : ℕ). take k (later ++ drop (length later) items) ≡ items) (ap length same ∙ long)
-    (take_all later (drop (length later) items) ∙ same ∙ is)
 
 -- a test that says no
 pub not_all : (test : Bool) (have parts all : ℕ) → (IsTrue test ↔ (have ≡ parts)) → test ≡ false → parts ≡ all
@@ -33,21 +23,19 @@ pub are_all : (test : Bool) (have parts all : ℕ) → (IsTrue test ↔ (have �
     → have ≡ all
 are_all test have parts all is says same = is.0 says ∙ same
 
+pub have_agreed : {E : Type 0} (origin : Past) (parts : ℕ) (whole : Log) (past : Past) (seats : List Held)
+    → HaveSeen whole seats → (later : List Held) (result : Result Settled E) → later ≡ seats
+    → all_parts seats ≡ parts → IfOk result (λ s. IsSettled origin whole past (all_lists later) s)
+    → IfOk result (λ s. HaveAgreed origin parts whole past seats s)
+have_agreed origin parts whole past seats seen later (Ok settled) same all is = record {
+  all = all;
+  seen = seen;
+  one_history = subst (λ (hs : List Held). IsSettled origin whole past (all_lists hs) settled) same is;
+}
+have_agreed origin parts whole past seats seen later (Err error) same all is = is
+
 module _ (origin : Past) (parts : ℕ) (name : Book) (whole : Log) (past : Past) (seats : List Held)
     (was_seen : IsSeen MayFollow name whole) (seen : HaveSeen whole seats) where
-  pub are_settled : {E : Type 0} (later : List Held) (result : Result Settled E) → later ≡ seats
-      → all_parts seats ≡ parts → IfOk result (λ s. IsSettled origin whole past (all_lists later) s)
-      → IfOk result (λ s. AreSettled origin parts name seats s)
-  are_settled later (Ok settled) same all is = record {
-    whole = whole;
-    past = past;
-    all = all;
-    was_seen = was_seen;
-    seen = seen;
-    one_history = subst (λ (hs : List Held). IsSettled origin whole past (all_lists hs) settled) same is;
-  }
-  are_settled later (Err error) same all is = is
-
   pub are_unsettled : (reason : SettleRefusal) → IsLawful origin whole → IsPastOf origin whole past
       → IsUnsettled origin parts past seats reason → AreUnsettled origin parts name seats reason
   are_unsettled reason lawful past_of why = record {

@@ -4,3 +4,4 @@ pub mod Gains
 pub mod Refusal
 pub mod Looked
 pub mod Misplaced
+pub mod Ends

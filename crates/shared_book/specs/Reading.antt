@@ -1,5 +1,6 @@
 -- What is answered to who reads a book.
 use Rattle.std.specs.Prelude.{◌≡◌, ℕ, List, Any, Some, None}
+use Rattle.logbook.specs.Pages.{Book}
 use Rattle.mapping_store.specs.Stored.{IsNewestFirst}
 use Rattle.recorder.specs.Recording.{status_of}
 use Rattle.request_journal.specs.Journal.{requests, unmatched, IsCount, Picks}
@@ -10,12 +11,13 @@ use Rattle.request_journal.specs.Recording.{recording}
 use Rattle.request_journal.specs.State.{state}
 use Rattle.request_match.specs.Matching.{MeetsRequest}
 use Rattle.scenario_core.specs.Scenarios.{state_of}
-use Rattle.shared_book.specs.Reached.{IsPastOf, Log}
+use Rattle.shared_book.specs.Reached.{IsLawful, IsPastOf, Log, MayFollow}
 use Rattle.shared_book.specs.declared.book_read.BookRead.{BookRead}
 use Rattle.shared_book.specs.declared.book_read.BookRead.TheVariants as read
 use Rattle.shared_book.specs.declared.book_read.ReadAnswer.{ReadAnswer}
 use Rattle.shared_book.specs.declared.book_read.ReadAnswer.TheVariants as answer
 use Rattle.shared_book.specs.declared.book_read.Reading.{Reading}
+use Rattle.shared_history.specs.Seal.{IsSeen}
 
 -- the answer is what the past says: mappings and requests the newest first
 abbrev pub IsReadAnswer : Past → BookRead → ReadAnswer → Type 0
@@ -41,3 +43,13 @@ pub record IsRead (origin : Past) (log : Log) (asked : BookRead) (reading : Read
   pub past_of : IsPastOf origin log past
   pub number : reading.number ≡ last_number past
   pub answer : IsReadAnswer past asked reading.answer
+
+-- the answer is what the past after the history with this name says, as that was at some point: for who has no seat,
+-- so that nothing says at which
+pub record IsReadOnce (origin : Past) (name : Book) (asked : BookRead) (found : ReadAnswer) : Type 0 where
+  pub log : Log
+  pub lawful : IsLawful origin log
+  pub was_seen : IsSeen MayFollow name log
+  pub past : Past
+  pub past_of : IsPastOf origin log past
+  pub answer : IsReadAnswer past asked found

@@ -1,6 +1,6 @@
 -- Why a call on a shared book is refused, and what that leaves of the seat: memory ran out before the lock was taken,
--- and the seat is as before; or the seat has seen all of the history, and the book has that reason in the past after
--- it.
+-- and the seat is as before; or the seat has seen all of the history, as was entered there, and the book has that
+-- reason in the past after it.
 use Rattle.std.specs.Prelude.{◌≡◌, ◌⊎◌}
 use Rattle.error_code.specs.declared.error_code.ErrorCode.{ErrorCode}
 use Rattle.error_code.specs.declared.error_code.ErrorCode.TheVariants as code

@@ -15,6 +15,7 @@ use Rattle.shared_book.specs.declared.script.Call.TheVariants.{Serve, Apply}
 use Rattle.shared_book.specs.declared.settled.Settled.{Settled}
 use Rattle.shared_book.specs.declared.settled.SettleRefusal.{SettleRefusal}
 use Rattle.shared_book.specs.declared.settled.SettleRefusal.TheVariants.{OutOfMemory}
+use Rattle.shared_history.specs.History.{HasEnded}
 use Rattle.shared_history.specs.Seal.{IsSeen}
 use Rattle.stub_book.specs.Growth.{IsServed}
 
@@ -54,13 +55,15 @@ pub record IsLineOf (origin : Past) (log : Log) (calls : List Call) (line : Line
   pub let_go : LetsGo (IsDropped origin log) (record { let_go = []; held = receipts }) line
 
 -- two scripts were played beside a seat's earlier calls: each script's accepted calls have their receipts in a line of
--- their own, in its order, and all lines together are settled, so that the numbers rise in each
+-- their own, in its order, and all lines together are settled, so that the numbers rise in each; and the history has
+-- ended
 pub record IsPlayed (origin : Past) (name : Book) (seat : Held) (first second : List Call) (settled : Settled)
     : Type 0 where
   pub one : Line
   pub two : Line
   pub whole : Log
   pub was_seen : IsSeen MayFollow name whole
+  pub ended : HasEnded whole
   pub begins : IsPrefix seat.seen whole
   pub of_first : IsLineOf origin whole first one
   pub of_second : IsLineOf origin whole second two

@@ -9,14 +9,14 @@ use Rattle.shared_book.specs.Reached.{IsLawful, IsPastOf, Log, MayFollow}
 use Rattle.shared_book.specs.declared.receipt.Receipt.{Receipt}
 use Rattle.shared_history.specs.History.{HasLeft}
 use Rattle.shared_history.specs.Seal.{IsSeen}
-use Rattle.shared_history.specs.Sight.{Calls, CatchesUp, Leaves, Sight, Splits}
+use Rattle.shared_history.specs.Sight.{Calls, CatchesUp, Leaves, Looks, Sight, Splits}
 
 -- of the history with this name, of a book that had the past `origin` when it was shared
 module _ (origin : Past) (name : Book) where
-  -- all of it was seen, as it was at some point since what had been seen before
+  -- all of it was seen, which was entered at its end: each call of another seat is before that entry or after it
   pub record SeesAll (old new : Sight Past Event) : Type 0 where
     pub whole : Log
-    pub catches_up : CatchesUp old whole new
+    pub looks : Looks old whole new
     pub lawful : IsLawful origin new.seen
     pub was_seen : IsSeen MayFollow name new.seen
 
@@ -50,7 +50,7 @@ module _ (origin : Past) (name : Book) where
 
   -- ---- of seats with their receipts
 
-  -- the seat has seen all of it, and is as before but for that
+  -- the seat has seen all of it, as was entered, and is as before but for that
   pub record HasCaughtUp (old new : Held) : Type 0 where
     pub sees : SeesAll (sight old) (sight new)
     pub same : new ≡ record old { seen = new.seen }

@@ -10,6 +10,8 @@ use Rattle.request_journal.specs.Past.{Past, last_number}
 use Rattle.request_journal.specs.declared.event.Event.{Event}
 use Rattle.shared_book.specs.Held.{Held, all_lists, all_numbers, all_parts, receipts_of}
 use Rattle.shared_book.specs.Reached.{IsLawful, IsPastOf, Log, MayFollow}
+use Rattle.shared_history.specs.Entries.{events}
+use Rattle.shared_history.specs.History.{HasEnded}
 use Rattle.shared_history.specs.Seal.{IsSeen}
 use Rattle.logbook.specs.Pages.{Book}
 use Rattle.shared_book.specs.Receipts.{Line, IsRising, Falls, LetGoUpTo, LetGoAbove, count_of}
@@ -68,18 +70,22 @@ IsUnsettled origin parts past seats OutOfMemory = all_parts seats ≡ parts
 
 -- ---- of seats
 
--- the seats have all parts, what each of them has seen is a beginning of the history with this name, as it then is, and
--- their receipts are those of it
+-- the seats have all parts; the history with this name has ended, as each seat has left, so that no call can follow;
+-- what each of these seats has seen is a beginning of it, and their receipts are those of its calls, which are as many
+-- as are counted since the book was shared
 pub record AreSettled (origin : Past) (parts : ℕ) (name : Book) (seats : List Held) (settled : Settled)
     : Type 0 where
   pub whole : Log
   pub past : Past
   pub all : all_parts seats ≡ parts
   pub was_seen : IsSeen MayFollow name whole
+  pub ended : HasEnded whole
   pub seen : HaveSeen whole seats
   pub one_history : IsSettled origin whole past (all_lists seats) settled
+  pub calls : settled.events ≡ last_number origin + length (events whole)
 
--- likewise, where they aren't settled, for a reason in the past after the history
+-- what each of these seats has seen is a beginning of the history with this name, as it then is, and they aren't
+-- settled, for a reason in the past after it
 pub record AreUnsettled (origin : Past) (parts : ℕ) (name : Book) (seats : List Held) (reason : SettleRefusal)
     : Type 0 where
   pub whole : Log

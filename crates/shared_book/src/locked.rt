@@ -4,7 +4,8 @@ ghost use Rattle.request_journal.specs.Input.{IsAsked};
 ghost use Rattle.request_journal.specs.Past.{last_number};
 ghost use Rattle.request_journal.specs.declared.limits.TheConstants.{NUMBER_LIMIT};
 ghost use Rattle.shared_book.specs.Held.{IsDropped};
-ghost use Rattle.shared_book.specs.Inner.Looked.{IsLookedUp};
+ghost use Rattle.shared_book.specs.Inner.Ends.{Ends, HaveAgreed};
+ghost use Rattle.shared_book.specs.Inner.Looked.{IsLookedUp, IsLookedUpOnce};
 ghost use Rattle.shared_book.specs.Reached.{InPastOf, IsLawful, IsPastOf, MayFollow};
 ghost use Rattle.shared_book.specs.Seen.{IsEntered, IsJoined, IsSplit, SeesAll};
 ghost use Rattle.shared_book.specs.Settled.{AreSettled, AreUnsettled, HaveSeen};
@@ -15,7 +16,7 @@ ghost use Rattle.stub_book.specs.Refusals.{IsRefusal, IsServeRefusal};
 
 use crate::audit::{audit, have_parts};
 use crate::base::base_of;
-use crate::book_read::{BookRead, Reading};
+use crate::book_read::{BookRead, ReadAnswer, Reading};
 use crate::compare::compare;
 use crate::entered::Entered;
 use crate::history::{History, Place};
@@ -99,8 +100,8 @@ impl<L: Origin> Locked<L> {
         }
     }
 
-    /// Serves the request, whose event comes into this memory, and enters that for the share and the place.
-    #[tactic(auto, using(crate::proofs::KeptLemmas::sees_all))]
+    /// Serves the request, whose event comes into this memory, and enters that for the share and the place; or enters
+    /// that the place has looked.
     pub(crate) fn serve<R: Wait>(
         &mut self,
         rt: &R,
@@ -135,14 +136,13 @@ impl<L: Origin> Locked<L> {
                 event,
             )),
             Err(error) => {
-                self.history.catch_up(rt, place);
+                self.history.look(rt, place);
                 Err(error)
             }
         }
     }
 
-    /// Makes the change, and enters that for the share and the place.
-    #[tactic(auto, using(crate::proofs::KeptLemmas::sees_all))]
+    /// Makes the change, and enters that for the share and the place; or enters that the place has looked.
     pub(crate) fn apply<R: Wait>(
         &mut self,
         rt: &R,
@@ -174,14 +174,13 @@ impl<L: Origin> Locked<L> {
                 event,
             )),
             Err(error) => {
-                self.history.catch_up(rt, place);
+                self.history.look(rt, place);
                 Err(error)
             }
         }
     }
 
-    /// Looks up what is asked for.
-    #[tactic(auto, using(crate::proofs::KeptLemmas::sees_all))]
+    /// Looks up what is asked for, and enters that the place has looked.
     pub(crate) fn read<R: Wait>(
         &mut self,
         rt: &R,
@@ -192,10 +191,18 @@ impl<L: Origin> Locked<L> {
         ensures seen { SeesAll L.origin L.book place.old place.new }
         ensures answer { IfOk result (IsLookedUp L.origin place.new.seen asked.now) }
     {
-        self.history.catch_up(rt, place);
+        self.history.look(rt, place);
         let number = self.book.event_count();
         let answer = look(&self.book, alloc, asked)?;
         Ok(Reading { number, answer })
+    }
+
+    /// Looks up what is asked for, for who has no place.
+    pub(crate) fn peek(&self, alloc: Global, asked: &BookRead) -> Result<ReadAnswer, AllocError>
+        ensures { IfOk result (IsLookedUpOnce L.origin L.book asked.now) }
+    {
+        self.history.front();
+        look(&self.book, alloc, asked)
     }
 
     /// Makes a new seat's place.
@@ -213,15 +220,38 @@ impl<L: Origin> Locked<L> {
         self.history.catch_up(rt, place);
     }
 
-    /// Compares the receipts of the seats with the book's history.
+    /// Compares the receipts of the seats with the book's history. Where they are those of its calls, each seat leaves,
+    /// and the history is over; else the seats are handed back.
     pub(crate) fn settle<R: Wait>(
+        &mut self,
+        rt: &R,
+        alloc: Global,
+        seats: Vec<Seat<L>>,
+    ) -> Result<Settled, (SettleRefusal, Vec<Seat<L>>)>
+        ensures settled { IfOk result (AreSettled L.origin L.parts L.book seats.items) }
+        ensures why { IfErr result (λ left. AreUnsettled L.origin L.parts L.book seats.items left.0) }
+        ensures handed_back { IfErr result (λ left. left.1.items ≡ seats.items) }
+    {
+        let mut seats = seats;
+        match self.agree(rt, alloc, seats.as_mut_slice()) {
+            Ok(settled) => {
+                leave_all(rt, &mut self.history, seats);
+                Ok(settled)
+            }
+            Err(reason) => Err((reason, seats)),
+        }
+    }
+
+    // Compares the receipts of the seats with the book's history.
+    fn agree<R: Wait>(
         &mut self,
         rt: &R,
         alloc: Global,
         seats: &mut [Seat<L>],
     ) -> Result<Settled, SettleRefusal>
+        ensures same { self.new ≡ self.old }
         ensures same_seats { seats.new ≡ seats.old }
-        ensures settled { IfOk result (AreSettled L.origin L.parts L.book seats.old) }
+        ensures agreed { IfOk result (HaveAgreed L.origin L.parts self.old.whole self.old.past seats.old) }
         ensures why { IfErr result (AreUnsettled L.origin L.parts L.book seats.old) }
     {
         cover(rt, &self.history, seats);
@@ -231,6 +261,17 @@ impl<L: Origin> Locked<L> {
         audit(&mut self.entries, seats);
         compare(&self.book, &self.history, self.start, alloc, seats)
     }
+}
+
+// Each of the seats leaves, and they were all that there were.
+fn leave_all<L: Origin, R: Wait>(rt: &R, history: &mut History<L>, seats: Vec<Seat<L>>)
+    requires { IsLawful L.origin history.old }
+    ensures ends { Ends L.origin L.book history.old history.new }
+{
+    for seat in seats {
+        history.leave(rt, seat.into_place());
+    }
+    history.close(rt);
 }
 
 // Enters the event of a call that was accepted, the book's last, for the share and the place.

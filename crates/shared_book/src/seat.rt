@@ -1,6 +1,6 @@
 // A seat, by which calls are made on a shared book.
 ghost use Rattle.std.specs.Prelude.{◌≡◌, ◌-◌, ◌^◌, ◌<◌, length, IfErr, IfOk, OnOk, ⊤};
-ghost use Rattle.shared_book.specs.Held.{new_seat, HasLetGo, with_seat};
+ghost use Rattle.shared_book.specs.Held.{HasLetGo, new_seat, sight, with_seat};
 ghost use Rattle.shared_book.specs.Inner.Gains.{Serves, Applies};
 ghost use Rattle.shared_book.specs.Lent.{LendsServed, LendsApplied};
 ghost use Rattle.request_journal.specs.Past.{Past};
@@ -104,6 +104,28 @@ impl<L: Origin> Seat<L> {
             lines: Lines::new(alloc),
             headers: LastHeaders::none(),
         }
+    }
+
+    /// Its place in the history alone.
+    pub(crate) fn into_place(self) -> Place<L>
+        ensures value { result ≡ sight self }
+    {
+        let Seat {
+            share: _share,
+            place,
+            parts: _parts,
+            count: _count,
+            lines: _lines,
+            headers: _headers,
+        } = self;
+        place
+    }
+
+    /// Its number in the history.
+    pub fn number(&self) -> u64
+        ensures { result ≡ self.now.number }
+    {
+        self.place.number()
     }
 
     /// How many parts of the ledger it has.

@@ -19,8 +19,8 @@ pub struct SettleError<L: Origin> {
     pub alone: Option<Seat<L>>,
 }
 
-/// Compares the receipts of all seats with the book's history. Where they are those of one history, gives them by their
-/// numbers; else book and seats are handed back.
+/// Compares the receipts of all seats with the book's history. Where they are those of its calls, the seats leave, the
+/// history is over, and the receipts are given by their numbers; else book and seats are handed back.
 pub fn settle<L: Origin, R: Wait>(
     rt: &R,
     alloc: Global,
@@ -31,11 +31,10 @@ pub fn settle<L: Origin, R: Wait>(
     ensures handed_back { IfErr result (λ error. (error.seats.items ≡ seats.items) × (error.alone ≡ None)) }
     ensures why { IfErr result (λ error. AreUnsettled L.origin L.parts L.book seats.items error.reason) }
 {
-    let mut seats = seats;
-    let settled = shared.lock(rt).settle(rt, alloc, seats.as_mut_slice());
+    let settled = shared.lock(rt).settle(rt, alloc, seats);
     match settled {
         Ok(settled) => Ok(settled),
-        Err(reason) => Err(SettleError {
+        Err((reason, seats)) => Err(SettleError {
             reason,
             shared,
             seats,

@@ -1,10 +1,13 @@
 // The book that is shared.
 ghost use Rattle.std.specs.Prelude.{◌≡◌, ◌<◌, ◌∷◌, [], IfOk};
 ghost use Rattle.shared_book.specs.Held.{new_seat};
+ghost use Rattle.shared_book.specs.Reading.{IsReadOnce};
 ghost use Rattle.shared_history.specs.Entries.{opening};
 
+use crate::book_read::{BookRead, ReadAnswer};
 use crate::history::OpenedHistory;
 use crate::locked::Locked;
+use crate::look::answer;
 use crate::origin::Origin;
 use crate::seat::Seat;
 use std::alloc::{AllocError, Global};
@@ -68,6 +71,21 @@ impl<L: Origin> SharedBook<L> {
         Ok(SharedBook {
             locked: Arc::try_clone(&self.locked)?,
         })
+    }
+
+    /// Reads the book as it is at some point during the call, for who has no seat. It enters nothing, so nothing says
+    /// when that was.
+    #[tactic(auto, using(crate::proofs::KeptLemmas::read_once))]
+    pub fn peek<R: Wait>(
+        &self,
+        rt: &R,
+        alloc: Global,
+        asked: BookRead,
+    ) -> Result<ReadAnswer, AllocError>
+        ensures { IfOk result (IsReadOnce L.origin L.book asked) }
+    {
+        let found = self.lock(rt).peek(alloc, &asked)?;
+        answer(alloc, asked, found)
     }
 
     // Takes the lock. It is tried for a while, since a call holds it for less time than it takes to wake a thread.

@@ -5,7 +5,7 @@ use Rattle.std.proofs.lemmas.List.Elements.{filter-append, All-push, All-nil}
 use mathlib.Core.List.{IsPrefix}
 use Rattle.shared_history.specs.Entries.{entry, own, events, makes_seat, is_left, IsSeat}
 use Rattle.shared_history.specs.declared.entry.Deed.{Deed}
-use Rattle.shared_history.specs.declared.entry.Deed.TheVariants.{Opened, Called, Split, Left}
+use Rattle.shared_history.specs.declared.entry.Deed.TheVariants.{Opened, Called, Looked, Split, Left}
 use Rattle.shared_history.specs.declared.entry.Entry.{Entry}
 use Rattle.shared_history.proofs.Prefixes.{prefix_get}
 
@@ -27,6 +27,7 @@ module _ {O E : Type 0} where
         → events ((x ∷ xs) ++ ys) ≡ events (x ∷ xs) ++ events ys
     cases (Opened origin) is rest = rw is rest
     cases (Called event) is rest = rw is (ap (λ w. event ∷ w) rest)
+    cases Looked is rest = rw is rest
     cases Split is rest = rw is rest
     cases Left is rest = rw is rest
 

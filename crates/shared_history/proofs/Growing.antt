@@ -7,12 +7,12 @@ use Rattle.std.proofs.lemmas.List.Elements.{All-nil, All-cons, All-head}
 use Rattle.std.proofs.lemmas.Option.{slice_get_within}
 use mathlib.Core.List.{IsPrefix}
 use Rattle.shared_history.specs.Entries.{entry, opening, own, is_left, IsSeat}
-use Rattle.shared_history.specs.History.{MayDo, GoesOn, IsHistory, MayFollow, HasLeft}
+use Rattle.shared_history.specs.History.{MayDo, GoesOn, IsHistory, MayFollow, HasEnded, HasLeft, IsWhole}
 use Rattle.shared_history.specs.Inner.Lines.{entries_of, line, turn_of, AreTurns, IsUnused, IsLegal, HasTurn}
 use Rattle.shared_history.specs.Inner.Kept.{IsWritten}
 use Rattle.shared_history.specs.Sight.{IsIn}
 use Rattle.shared_history.specs.declared.entry.Deed.{Deed}
-use Rattle.shared_history.specs.declared.entry.Deed.TheVariants.{Opened, Called, Split, Left}
+use Rattle.shared_history.specs.declared.entry.Deed.TheVariants.{Opened, Called, Looked, Split, Left}
 use Rattle.shared_history.specs.declared.entry.Entry.{Entry}
 use Rattle.shared_history.specs.declared.line.Line.{Line}
 use Rattle.shared_history.proofs.Entries.{own_append, own_it, own_other, seat_kept, seat_after, seat_made}
@@ -49,7 +49,7 @@ module _ {O E : Type 0} (may : O → List E → E → Type 0) where
   abbrev origin_in : O → List (Entry O E) → O
   origin_in other [] = other
   origin_in other (e ∷ log) =
-      elim e.deed [ Opened origin ↦ origin | Called event ↦ other | Split ↦ other | Left ↦ other ]
+      elim e.deed [ Opened origin ↦ origin | Called event ↦ other | Looked ↦ other | Split ↦ other | Left ↦ other ]
 
   -- the same list opens with one origin
   pub one_origin : (first other : O) (xs ys : List (Entry O E)) → opening first ∷ xs ≡ opening other ∷ ys
@@ -110,9 +110,10 @@ module _ {O E : Type 0} (may : O → List E → E → Type 0) where
             ∙ more (subst (λ (w : List (Entry O E)). ¬ All (λ (e : Entry O E). is_left e.deed ≡ false) w)
             (sym same) gone)
 
-  pub has_left : (log : List (Entry O E)) (number : ℕ) → IsHistory may log
-      → ¬ All (λ (e : Entry O E). is_left e.deed ≡ false) (own number log) → HasLeft may log number
-  has_left log number history gone later longer pre =
+  -- a longer history goes on from the shorter
+  rest_of : (log : List (Entry O E)) → IsHistory may log → (later : List (Entry O E)) → (longer : IsHistory may later)
+      → (pre : IsPrefix log later) → GoesOn may longer.origin log pre.0
+  rest_of log history later longer pre =
       let opens : opening history.origin ∷ (history.after ++ pre.0) ≡ opening longer.origin ∷ longer.after =
       sym (ap (λ w. w ++ pre.0) history.opens) ∙ (pre.1 ∙ longer.opens) in
       let tail : history.after ++ pre.0 ≡ longer.after = cc opens in
@@ -121,14 +122,25 @@ module _ {O E : Type 0} (may : O → List E → E → Type 0) where
       (sym tail) longer.goes_on in
       let origin : history.origin ≡ longer.origin =
       one_origin history.origin longer.origin (history.after ++ pre.0) longer.after opens in
-      let from : GoesOn may longer.origin log pre.0 =
       subst (λ (w : List (Entry O E)). GoesOn may longer.origin w pre.0)
       (ap (λ o. opening o ∷ history.after) (sym origin) ∙ sym history.opens)
-      (goes_rest longer.origin (opening longer.origin ∷ []) history.after pre.0 goes) in
+      (goes_rest longer.origin (opening longer.origin ∷ []) history.after pre.0 goes)
+
+  pub has_left : (log : List (Entry O E)) (number : ℕ) → IsHistory may log
+      → ¬ All (λ (e : Entry O E). is_left e.deed ≡ false) (own number log) → HasLeft may log number
+  has_left log number history gone later longer pre =
+      let from : GoesOn may longer.origin log pre.0 = rest_of log history later longer pre in
       sym (ap (own number) pre.1)
       ∙ (own_append number log pre.0
       ∙ (ap (λ w. own number log ++ w) (gone_after longer.origin log pre.0 number gone from)
       ∙ append-nil (own number log)))
+
+  -- after a history that has ended no entry may come
+  pub is_whole : (log : List (Entry O E)) → IsHistory may log → HasEnded log → IsWhole may log
+  is_whole log history ended later longer pre = none pre.0 pre.1 (rest_of log history later longer pre) where
+    none : (rest : List (Entry O E)) → log ++ rest ≡ later → GoesOn may longer.origin log rest → later ≡ log
+    none [] is goes = sym is ∙ append-nil log
+    none (x ∷ rest) is goes = absurd (ended x.seat goes.0)
 
   -- ---- lines
 
@@ -287,6 +299,7 @@ module _ {O E : Type 0} (may : O → List E → E → Type 0) where
         subst (λ (w : List (Line O E)). IsWritten may seen old w number next child deed) add
         (record {
           before = is_in seen old number key has legal begins free;
+          seat = here.seat;
           added = entries_append old (line number deed key next child ∷ []);
           legal = grown;
           has_next = λ stays. has_next old number key next child here deed stays grown;
@@ -305,6 +318,16 @@ module _ {O E : Type 0} (may : O → List E → E → Type 0) where
       let free : IsUnused key whole =
       all_front (λ (l : Line O E). l.turn ≢ key) whole all.0 (subst (IsUnused key) (sym all.1) unused) in
       ((has_kept seen whole number key has legal begins free).0, is_in seen whole number key has legal begins free)
+
+  pub may_look : (log : List (Entry O E)) (deed : Deed O E) → IsHistory may log → deed ≡ Looked → MayFollow may log deed
+  may_look log deed history is =
+      record {
+        origin = history.origin;
+        after = history.after;
+        opens = history.opens;
+        allowed =
+            subst (λ (d : Deed O E). MayDo may history.origin log d) (sym is) tt;
+      }
 
   pub may_split : (log : List (Entry O E)) (deed : Deed O E) → IsHistory may log → deed ≡ Split → MayFollow may log deed
   may_split log deed history is =

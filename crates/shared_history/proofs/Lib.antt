@@ -5,3 +5,4 @@ pub mod Cells
 pub mod KeptSteps
 pub mod Turns
 pub mod Growing
+pub mod Seats

@@ -1,7 +1,7 @@
 -- The entries of a history: which seat made each, and what it did.
 use Rattle.std.specs.Prelude.{◌≡◌, ℕ, ◌==◌, Bool, true, false, List, [], ◌∷◌, All, filter, Some, slice_get}
 use Rattle.shared_history.specs.declared.entry.Deed.{Deed}
-use Rattle.shared_history.specs.declared.entry.Deed.TheVariants.{Opened, Called, Split, Left}
+use Rattle.shared_history.specs.declared.entry.Deed.TheVariants.{Opened, Called, Looked, Split, Left}
 use Rattle.shared_history.specs.declared.entry.Entry.{Entry}
 
 module _ {O E : Type 0} where
@@ -24,6 +24,7 @@ module _ {O E : Type 0} where
       elim e.deed [
         | Opened origin ↦ events log
         | Called event ↦ event ∷ events log
+        | Looked ↦ events log
         | Split ↦ events log
         | Left ↦ events log
       ]
@@ -32,12 +33,14 @@ module _ {O E : Type 0} where
   abbrev pub makes_seat : Deed O E → Bool
   makes_seat (Opened origin) = true
   makes_seat (Called event) = false
+  makes_seat Looked = false
   makes_seat Split = true
   makes_seat Left = false
 
   abbrev pub is_left : Deed O E → Bool
   is_left (Opened origin) = false
   is_left (Called event) = false
+  is_left Looked = false
   is_left Split = false
   is_left Left = true
 

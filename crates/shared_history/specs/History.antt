@@ -3,8 +3,12 @@ use Rattle.std.specs.Prelude.{◌≡◌, ℕ, List, [], ◌∷◌, ◌++◌}
 use mathlib.Core.List.{IsPrefix}
 use Rattle.shared_history.specs.Entries.{opening, own, events, IsSeat}
 use Rattle.shared_history.specs.declared.entry.Deed.{Deed}
-use Rattle.shared_history.specs.declared.entry.Deed.TheVariants.{Opened, Called, Split, Left}
+use Rattle.shared_history.specs.declared.entry.Deed.TheVariants.{Opened, Called, Looked, Split, Left}
 use Rattle.shared_history.specs.declared.entry.Entry.{Entry}
+
+-- it has ended: each seat that an entry made has left
+abbrev pub HasEnded : {O E : Type 0} → List (Entry O E) → Type 0
+HasEnded log = (number : ℕ) → ¬ (IsSeat log number)
 
 -- `may origin before event`: the event may come after these, in a history with this origin
 module _ {O E : Type 0} (may : O → List E → E → Type 0) where
@@ -12,6 +16,7 @@ module _ {O E : Type 0} (may : O → List E → E → Type 0) where
   abbrev pub MayDo : O → List (Entry O E) → Deed O E → Type 0
   MayDo origin before (Opened other) = ⊥
   MayDo origin before (Called event) = may origin (events before) event
+  MayDo origin before Looked = Unit {0}
   MayDo origin before Split = Unit {0}
   MayDo origin before Left = Unit {0}
 
@@ -43,3 +48,7 @@ module _ {O E : Type 0} (may : O → List E → E → Type 0) where
   abbrev pub HasLeft : List (Entry O E) → ℕ → Type 0
   HasLeft log number = (later : List (Entry O E)) → IsHistory later → IsPrefix log later
       → own number later ≡ own number log
+
+  -- a history that begins so is this one
+  abbrev pub IsWhole : List (Entry O E) → Type 0
+  IsWhole log = (later : List (Entry O E)) → IsHistory later → IsPrefix log later → later ≡ log

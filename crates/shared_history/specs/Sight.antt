@@ -2,7 +2,7 @@
 use Rattle.std.specs.Prelude.{◌≡◌, ℕ, List, [], ◌∷◌, ◌++◌, length}
 use mathlib.Core.List.{IsPrefix}
 use Rattle.shared_history.specs.Entries.{entry, own}
-use Rattle.shared_history.specs.declared.entry.Deed.TheVariants.{Called, Split, Left}
+use Rattle.shared_history.specs.declared.entry.Deed.TheVariants.{Called, Looked, Split, Left}
 use Rattle.shared_history.specs.declared.entry.Entry.{Entry}
 
 -- its number, which is the index of the entry that made it, and the beginning of the history that it has seen
@@ -21,6 +21,12 @@ module _ {O E : Type 0} where
     pub before : IsIn whole old
     pub number : new.number ≡ old.number
     pub seen : new.seen ≡ whole ++ entry old.number (Called event) ∷ []
+
+  -- the seat has looked, next in the history, and seen all up to there
+  pub record Looks (old : Sight O E) (whole : List (Entry O E)) (new : Sight O E) : Type 0 where
+    pub before : IsIn whole old
+    pub number : new.number ≡ old.number
+    pub seen : new.seen ≡ whole ++ entry old.number Looked ∷ []
 
   -- the seat has seen the whole history
   pub record CatchesUp (old : Sight O E) (whole : List (Entry O E)) (new : Sight O E) : Type 0 where

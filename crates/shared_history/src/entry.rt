@@ -10,6 +10,8 @@ pub enum Deed<O, E> {
     Opened(O),
     /// It called the shared thing, with this event.
     Called(E),
+    /// It looked at all that there was.
+    Looked,
     /// It made a seat.
     Split,
     /// It left: it makes no entry any more.

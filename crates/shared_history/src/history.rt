@@ -1,9 +1,9 @@
 // The history itself, which lies under the lock of what it is of.
 ghost use Rattle.std.specs.Prelude.{◌≡◌};
 ghost use mathlib.Core.List.{IsPrefix};
-ghost use Rattle.shared_history.specs.History.{HasLeft, IsHistory, MayCall};
+ghost use Rattle.shared_history.specs.History.{HasEnded, HasLeft, IsHistory, IsWhole, MayCall};
 ghost use Rattle.shared_history.specs.Seal.{IsSeen};
-ghost use Rattle.shared_history.specs.Sight.{Calls, CatchesUp, Leaves, Splits};
+ghost use Rattle.shared_history.specs.Sight.{Calls, CatchesUp, Leaves, Looks, Splits};
 
 use crate::course::Course;
 use crate::front::Front;
@@ -12,7 +12,7 @@ use crate::naming::Naming;
 use crate::rule::{Head, Log};
 use crate::seat::Seat;
 use crate::steps::{draw, look, stuck};
-use crate::write::{ask_to_leave, ask_to_split, write};
+use crate::write::{ask_to_leave, ask_to_look, ask_to_split, write};
 use std::marker::{Model, PhantomData};
 use std::sync::Wait;
 
@@ -21,16 +21,17 @@ use std::sync::Wait;
 pub struct History<O, E, C: Course<O, E>, J: Naming> {
     pub(crate) head: Head<O, E, C>,
     pub(crate) count: u64,
+    /// How many seats have not left.
+    pub(crate) seats: u64,
     pub(crate) seen: Log<O, E, C>,
     pub(crate) of: PhantomData<J>,
 }
 
 impl<O, E, C: Course<O, E>, J: Naming> Model for History<O, E, C, J> {
-    ghost use Rattle.std.specs.Prelude.{◌≡◌, List};
+    ghost use Rattle.std.specs.Prelude.{List};
     ghost use Rattle.shared_history.specs.Inner.Codes.{log_code};
-    ghost use Rattle.shared_history.specs.Inner.Kept.{IsFront};
+    ghost use Rattle.shared_history.specs.Inner.Kept.{IsAll};
     ghost use Rattle.shared_history.specs.Inner.Lines.{entries_of};
-    ghost use Rattle.shared_history.specs.Inner.Rules.{head_of};
     ghost use Rattle.shared_history.specs.declared.entry.Entry.{Entry};
 
     ghost Value = { List (Entry O E) };
@@ -39,7 +40,7 @@ impl<O, E, C: Course<O, E>, J: Naming> Model for History<O, E, C, J> {
 
     ghost view = { λ h. entries_of h.seen.log };
 
-    ghost invariant = { λ h. (h.head ≡ head_of J.book) × IsFront C.may J.book h.count h.seen.book h.seen.log };
+    ghost invariant = { λ h. IsAll C.may J.book h.head h.count h.seats h.seen.book h.seen.log };
 }
 
 impl<O, E, C: Course<O, E>, J: Naming> History<O, E, C, J> {
@@ -94,6 +95,31 @@ impl<O, E, C: Course<O, E>, J: Naming> History<O, E, C, J> {
         seat.turn = next;
     }
 
+    /// The seat looks at all that there is, which is an entry too: what it sees then is the history up to there.
+    pub fn look<R: Wait>(&mut self, rt: &R, seat: &mut Seat<O, E, C, J>)
+        ensures looks { Looks seat.old self.old seat.new }
+        ensures whole { self.new ≡ seat.new.seen }
+        ensures legal { IsHistory C.may self.new }
+        ensures seen { IsSeen C.may J.book self.new }
+    {
+        let next = draw(&self.head, &self.seen);
+        self.count = write(
+            rt,
+            &self.head,
+            &mut self.seen,
+            self.count,
+            &seat.seen,
+            seat.number,
+            &mut seat.turn,
+            &next,
+            &next,
+            ask_to_look(&seat.seen),
+        );
+        seat.count = self.count;
+        seat.seen = self.seen.again();
+        seat.turn = next;
+    }
+
     /// The seat sees all that there is.
     pub fn catch_up<R: Wait>(&self, rt: &R, seat: &mut Seat<O, E, C, J>)
         ensures catches_up { CatchesUp seat.old self.now seat.new }
@@ -132,6 +158,7 @@ impl<O, E, C: Course<O, E>, J: Naming> History<O, E, C, J> {
             &turn,
             ask_to_split(&seat.seen),
         );
+        self.seats += 1;
         seat.count = self.count;
         seat.seen = self.seen.again();
         seat.turn = next;
@@ -171,5 +198,18 @@ impl<O, E, C: Course<O, E>, J: Naming> History<O, E, C, J> {
             &next,
             ask_to_leave(&seen),
         );
+        self.seats -= 1;
+    }
+
+    /// Each seat has left, and the history is over. Where one has not it does not return.
+    pub fn close<R: Wait>(&self, rt: &R)
+        ensures ended { HasEnded self.now }
+        ensures whole { IsWhole C.may self.now }
+        ensures legal { IsHistory C.may self.now }
+        ensures seen { IsSeen C.may J.book self.now }
+    {
+        if self.seats != 0 {
+            stuck(rt);
+        }
     }
 }

@@ -15,6 +15,7 @@ pub struct Line<O, E> {
 pub(crate) enum Ask<'a, O, E> {
     Opened(&'a O),
     Called(&'a E),
+    Looked,
     Split,
     Left,
 }

@@ -83,6 +83,7 @@ impl<O, E, C: Course<O, E>> Opened<O, E, C> {
             History {
                 head,
                 count: 1,
+                seats: 1,
                 seen,
                 of: PhantomData,
             },

@@ -5,7 +5,7 @@ ghost use Rattle.shared_history.specs.History.{MayFollow};
 ghost use Rattle.shared_history.specs.Inner.Drafts.{Writes, deed_of};
 ghost use Rattle.shared_history.specs.Inner.Lines.{HasTurn, IsLegal, entries_of};
 ghost use Rattle.shared_history.specs.Inner.Rules.{head_of};
-ghost use Rattle.shared_history.specs.declared.entry.Deed.TheVariants.{Left, Split};
+ghost use Rattle.shared_history.specs.declared.entry.Deed.TheVariants.{Left, Looked, Split};
 
 use crate::course::Course;
 use crate::line::Ask;
@@ -47,6 +47,12 @@ pub(crate) fn write<O, E, C: Course<O, E>, R: Wait>(
 }
 
 // The checker of borrows wants a value that lives as long as the references in `Ask`.
+pub(crate) fn ask_to_look<'a, O, E, C: Course<O, E>>(_seen: &'a Log<O, E, C>) -> Ask<'a, O, E>
+    ensures { deed_of result ≡ Looked }
+{
+    Ask::Looked
+}
+
 pub(crate) fn ask_to_split<'a, O, E, C: Course<O, E>>(_seen: &'a Log<O, E, C>) -> Ask<'a, O, E>
     ensures { deed_of result ≡ Split }
 {

@@ -6,6 +6,7 @@ use crate::answered::answered;
 use crate::books;
 use crate::cleared::cleared;
 use crate::counted::counted;
+use crate::fronts::fronts;
 use crate::full::full;
 use crate::let_go::let_go;
 use crate::scripts::scripts;
@@ -31,6 +32,7 @@ pub enum Case {
     TwoThreads,
     Scripts,
     Versions,
+    Fronts,
     Cleared,
     LetGo,
     Answered,
@@ -44,6 +46,7 @@ impl Case {
             Case::TwoThreads => "two threads: ",
             Case::Scripts => "scripts: ",
             Case::Versions => "versions: ",
+            Case::Fronts => "fronts: ",
             Case::Cleared => "cleared: ",
             Case::LetGo => "let go: ",
             Case::Answered => "answered: ",
@@ -111,6 +114,7 @@ fn play_case<L: Origin + Send + Sync, R: Threads + Wait + Sync>(
         Case::TwoThreads => two_threads(rt, alloc, cells, shared, seat),
         Case::Scripts => scripts(rt, alloc, cells, shared, seat),
         Case::Versions => versions(rt, alloc, cells, shared, seat),
+        Case::Fronts => fronts(rt, alloc, cells, shared, seat),
         Case::Cleared => cleared(rt, alloc, cells, shared, seat),
         Case::LetGo => let_go(rt, alloc, cells, shared, seat),
         Case::Answered => answered(rt, alloc, cells, shared, seat),

@@ -15,6 +15,7 @@ mod books;
 mod calls;
 mod cleared;
 mod first_waits;
+mod fronts;
 mod let_go;
 mod one_seat;
 mod outcomes;
@@ -63,6 +64,7 @@ fn main(rt: HostRuntime) -> io::Result<ExitCode> {
         Case::TwoThreads,
         Case::Scripts,
         Case::Versions,
+        Case::Fronts,
         Case::Cleared,
         Case::LetGo,
         Case::Answered,

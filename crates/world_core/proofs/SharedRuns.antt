@@ -11,7 +11,7 @@ use Rattle.shared_book.specs.Reached.{IsPastOf, Lead, Log}
 use Rattle.shared_history.proofs.Entries.{events_append}
 use Rattle.shared_history.specs.Entries.{entry, events}
 use Rattle.shared_history.specs.declared.entry.Deed.{Deed}
-use Rattle.shared_history.specs.declared.entry.Deed.TheVariants.{Called, Left, Opened, Split}
+use Rattle.shared_history.specs.declared.entry.Deed.TheVariants.{Called, Left, Looked, Opened, Split}
 use Rattle.stub_book.specs.Growth.{Grows}
 use Rattle.world_core.proofs.ChosenRuns.{one_choice_after}
 use Rattle.world_core.proofs.Grown.{state_grown}
@@ -61,6 +61,7 @@ run_before log past seat (Called e) rest start (next, grows, lead) =
       more.3,
       ap (λ (l : List Event). e ∷ l) more.4,
     )
+run_before log past seat Looked rest start lead = rest start lead
 run_before log past seat Split rest start lead = rest start lead
 run_before log past seat Left rest start lead = rest start lead
 

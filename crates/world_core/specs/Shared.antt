@@ -8,7 +8,7 @@ use Rattle.request_journal.specs.declared.event.Event.TheVariants as event
 use Rattle.request_journal.specs.declared.input.BookInput.TheVariants as input
 use Rattle.shared_book.specs.Reached.{IsPastOf, Log}
 use Rattle.shared_history.specs.Entries.{events}
-use Rattle.shared_history.specs.declared.entry.Deed.TheVariants.{Called, Left, Opened, Split}
+use Rattle.shared_history.specs.declared.entry.Deed.TheVariants.{Called, Left, Looked, Opened, Split}
 use Rattle.world_core.specs.Laws.{events_of}
 use Rattle.world_core.specs.Schedule.{IsRun, Outcome, WorldState}
 use Rattle.world_core.specs.declared.step.Call.{Call}
@@ -39,6 +39,7 @@ calling (e ∷ log) =
     elim e.deed [
       | Opened origin ↦ calling log
       | Called event ↦ Act e.seat (call_of event) ∷ calling log
+      | Looked ↦ calling log
       | Split ↦ calling log
       | Left ↦ calling log
     ]

@@ -6,7 +6,7 @@ use Rattle.shared_history.specs.Inner.Lines.{line, IsLegal, IsUnused}
 use Rattle.shared_history.specs.declared.entry.Deed.{Deed}
 use Rattle.shared_history.specs.declared.entry.Deed.TheVariants as deed
 use Rattle.shared_history.specs.declared.line.Ask.{Ask}
-use Rattle.shared_history.specs.declared.line.Ask.TheVariants.{Opened, Called, Split, Left}
+use Rattle.shared_history.specs.declared.line.Ask.TheVariants.{Opened, Called, Looked, Split, Left}
 use Rattle.shared_history.specs.declared.line.Draft.{Draft}
 use Rattle.shared_history.specs.declared.line.Line.{Line}
 
@@ -14,6 +14,7 @@ module _ {O E : Type 0} where
   abbrev pub deed_of : Ask O E → Deed O E
   deed_of (Opened origin) = deed.Opened origin.now
   deed_of (Called event) = deed.Called event.now
+  deed_of Looked = deed.Looked
   deed_of Split = deed.Split
   deed_of Left = deed.Left
 

@@ -1,14 +1,25 @@
 -- What each front, seat and history keeps.
-use Rattle.std.specs.Prelude.{◌≡◌, ℕ, false, List, [], ◌∷◌, ◌++◌, length}
+use Rattle.std.specs.Prelude.{◌≡◌, ◌⊎◌, ◌≤◌, ℕ, false, List, [], ◌∷◌, ◌++◌, length}
 use Rattle.logbook.specs.Pages.{Book, Nib, Named, may_write}
-use Rattle.shared_history.specs.Entries.{entry, own, is_left}
+use Rattle.shared_history.specs.Entries.{entry, own, is_left, IsSeat}
 use Rattle.shared_history.specs.History.{HasLeft}
 use Rattle.shared_history.specs.Inner.Lines.{entries_of, IsLegal, HasTurn}
 use Rattle.shared_history.specs.Inner.Rules.{head_of}
 use Rattle.shared_history.specs.Sight.{IsIn}
 use Rattle.shared_history.specs.declared.entry.Deed.{Deed}
 use Rattle.shared_history.specs.declared.entry.Deed.TheVariants.{Split, Left}
+use Rattle.shared_history.specs.declared.entry.Entry.{Entry}
 use Rattle.shared_history.specs.declared.line.Line.{Line}
+
+abbrev pub IsAmong : ℕ → List ℕ → Type 0
+IsAmong number [] = ⊥
+IsAmong number (n ∷ ns) = (number ≡ n) ⊎ IsAmong number ns
+
+-- each seat that was made and has not left is among so many
+pub record HasSeats {O E : Type 0} (count : ℕ) (log : List (Entry O E)) : Type 0 where
+  pub numbers : List ℕ
+  pub counted : count ≡ length numbers
+  pub all : (number : ℕ) → IsSeat log number → IsAmong number numbers
 
 module _ {O E : Type 0} (may : O → List E → E → Type 0) (named : Book) where
   -- a front: the lines are of this history, and so many
@@ -24,6 +35,13 @@ module _ {O E : Type 0} (may : O → List E → E → Type 0) (named : Book) whe
     pub right : nib.right ≡ may_write
     pub has : HasTurn may lines number nib.key
 
+  -- the history: all lines, and how many seats have not left
+  pub record IsAll (head : Named) (count seats : ℕ) (book : Book) (lines : List (Line O E)) : Type 0 where
+    pub head_is : head ≡ head_of named
+    pub front : IsFront count book lines
+    pub has_seats : HasSeats seats (entries_of lines)
+    pub fits : seats ≤ count
+
 -- a history that was just opened, and the turn of its first seat
 module _ {O E : Type 0} (may : O → List E → E → Type 0) where
   pub record IsOpened (head : Named) (book : Book) (lines : List (Line O E)) (pen : Book) (nib : Nib) : Type 0 where
@@ -36,6 +54,7 @@ module _ {O E : Type 0} (may : O → List E → E → Type 0) where
   -- the seat has made one entry, and has the turn `next`; the seat that it made has the turn `child`
   pub record IsWritten (seen old new : List (Line O E)) (number next child : ℕ) (deed : Deed O E) : Type 0 where
     pub before : IsIn (entries_of old) (record { number = number; seen = entries_of seen })
+    pub seat : IsSeat (entries_of old) number
     pub added : entries_of new ≡ entries_of old ++ entry number deed ∷ []
     pub legal : IsLegal may new
     pub has_next : is_left deed ≡ false → HasTurn may new number next

@@ -5,3 +5,6 @@ returns-in-Render g c = rw c.in-Render.is c.render_to.ensures
 
 pub returns-in-Answer : goal.returns-in-Answer
 returns-in-Answer g c = rw c.in-Answer.is c.run_answer.ensures
+
+pub returns-in-Explain : goal.returns-in-Explain
+returns-in-Explain g c = rw c.in-Explain.is c.run_explain.ensures

@@ -1,11 +1,21 @@
-use Rattle.std.proofs.Common.{refl}
-use Rattle.command_output.proofs.PartsWritten.{alone}
-use Rattle.command_output.specs.Output.{WritesOneStream}
-use Rattle.mock_program.proofs.OneStream.{of_refusal}
+use Rattle.std.proofs.Common.{◌∙◌, inr, map, refl}
+use Rattle.mapping_explanation.specs.declared.explain.Question.{Question}
+use Rattle.mock_program.proofs.ExplainSent.{explained}
+use Rattle.mock_program.specs.Options.{given_of}
 use Rattle.mock_program.proofs.command_line.run_explain.Goals as goal
 
+pub returns-in-Ok : goal.returns-in-Ok
+returns-in-Ok g c =
+    explained g.O.Write.contents g.E.Write.contents (g.F.FileReader.listed c.args.files.now)
+    (g.F.FileReader.content c.args.files.now) c.args.escape c.args.file.now c.question (map given_of c.args.options.now)
+    c.args.out.now c.explain_file.new.out c.args.err.now c.explain_file.new.err c.explain_file.result
+    (λ none. (
+      c.as_slice.ensures.value ∙ (c.in-Ok.ensures.plain none).0,
+      c.as_slice-body.ensures.value ∙ (c.in-Ok.ensures.plain none).1.0,
+      c.as_slice-states.ensures.value ∙ (c.in-Ok.ensures.plain none).1.1.0,
+      c.form_of.ensures (c.in-Ok.ensures.plain none).1.1.1,
+    ))
+    c.explain_file.ensures.answer
+
 pub returns-in-Err : goal.returns-in-Err
-returns-in-Err g c =
-    alone g.E.Write.contents
-    (λ e. WritesOneStream c.args.out.now c.args.out.now c.args.err.now e c.report.result) c.report.new.err
-    (of_refusal c.args.out.now c.args.out.now c.args.err.now c.report.new.err c.report.result c.report.ensures refl)
+returns-in-Err g c = inr (record { given = c.in-Err.ensures.given; failure = c.report.ensures; same = refl })

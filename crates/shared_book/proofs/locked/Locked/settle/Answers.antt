@@ -1,28 +1,16 @@
-use Rattle.std.proofs.Common.{arith}
-use Rattle.shared_book.proofs.SettledLemmas.{are_all, are_settled, are_unsettled, not_all, why_unsettled}
-use Rattle.shared_book.specs.Held.{all_parts}
-use Rattle.shared_book.specs.declared.settled.SettleRefusal.TheVariants.{SeatsMissing}
+use Rattle.std.proofs.Common.{List, ◌∙◌, subst, sym}
+use Rattle.shared_book.proofs.EndLemmas.{settled_ended}
+use Rattle.shared_book.specs.Held.{Held}
+use Rattle.shared_book.specs.Inner.Ends.{HaveAgreed}
+use Rattle.shared_book.specs.Inner.Kept.{Content}
 use Rattle.shared_book.proofs.locked.Locked.settle.Goals as goal
 
-pub returns-then-not-have_parts-clause-why : goal.returns-then-not-have_parts-clause-why
-returns-then-not-have_parts-clause-why g c =
-    are_unsettled g.L.Origin.origin g.L.Ledger.parts g.L.Naming.book c.self.inside.history c.self.inside.book
-    c.args.seats.now c.cover.ensures.was_seen c.cover.ensures.beginnings SeatsMissing c.self.invariant.lawful
-    c.self.invariant.past_of
-    (not_all c.have_parts.result (all_parts c.args.seats.now) c.self.inside.parts g.L.Ledger.parts
-    c.have_parts.ensures (grind (arith, c.if-not-have_parts.true)) c.self.invariant.same_parts)
-
-pub returns-clause-settled : goal.returns-clause-settled
-returns-clause-settled g c =
-    are_settled g.L.Origin.origin g.L.Ledger.parts g.L.Naming.book c.self.inside.history c.self.inside.book
-    c.args.seats.now c.cover.ensures.was_seen c.cover.ensures.beginnings c.audit.new.seats c.compare.result
-    c.audit.ensures.same_seats
-    (are_all c.have_parts.result (all_parts c.args.seats.now) c.self.inside.parts g.L.Ledger.parts
-    c.have_parts.ensures (grind (arith, c.if-not-have_parts.false)) c.self.invariant.same_parts)
-    c.compare.ensures.settled
-
-pub returns-clause-why : goal.returns-clause-why
-returns-clause-why g c =
-    why_unsettled g.L.Origin.origin g.L.Ledger.parts g.L.Naming.book c.self.inside.history c.self.inside.book
-    c.args.seats.now c.cover.ensures.was_seen c.cover.ensures.beginnings c.audit.new.seats c.compare.result
-    c.audit.ensures.same_seats c.self.invariant.lawful c.self.invariant.past_of c.compare.ensures.why
+pub returns-in-Ok-clause-settled : goal.returns-in-Ok-clause-settled
+returns-in-Ok-clause-settled g c =
+    settled_ended g.L.Origin.origin g.L.Ledger.parts g.L.Naming.book c.self.inside.history c.leave_all.new.history
+    c.self.inside.book c.args.seats.items c.in-Ok.settled
+    (subst (λ (locked : Content). HaveAgreed g.L.Origin.origin g.L.Ledger.parts locked.whole locked.past
+    c.args.seats.items c.in-Ok.settled) (sym (c.self.view_is ∙ c.agree.ensures.same))
+    (subst (λ (seats : List Held). HaveAgreed g.L.Origin.origin g.L.Ledger.parts c.args.self.now.whole
+    c.args.self.now.past seats c.in-Ok.settled) c.as_mut_slice.ensures.value c.in-Ok.ensures.agreed))
+    c.leave_all.ensures.ends

@@ -18,14 +18,14 @@ invariant_of-seat g c =
       | else-self-seat w ↦ w.if-self-seat.false
     ] in
     let less : length c.seat.inside.seen.log ≤ length c.self.inside.seen.log =
-    omega (arith, c.self.invariant.1.counted, c.seat.invariant.front.counted, enough) in
+    omega (arith, c.self.invariant.front.counted, c.seat.invariant.front.counted, enough) in
     let found =
     caught_up g.C.Course.may c.seat.inside.seen.log c.self.inside.seen.log both c.look.new.seen.log
-    c.seat.inside.number c.seat.inside.turn.nib.key c.seat.invariant.has c.self.invariant.1.legal
+    c.seat.inside.number c.seat.inside.turn.nib.key c.seat.invariant.has c.self.invariant.front.legal
     whole c.learn.ensures.3 c.look.ensures.begins c.look.ensures.unused less in
     rw (c.again.ensures, c.look.ensures.nib)
     (record {
-      front = c.self.invariant.1;
+      front = c.self.invariant.front;
       pen_name = c.look.ensures.pen ∙ c.seat.invariant.pen_name;
       right = c.seat.invariant.right;
       has = found.0;
@@ -42,14 +42,14 @@ returns-clause-catches_up g c =
       | else-self-seat w ↦ w.if-self-seat.false
     ] in
     let less : length c.seat.inside.seen.log ≤ length c.self.inside.seen.log =
-    omega (arith, c.self.invariant.1.counted, c.seat.invariant.front.counted, enough) in
+    omega (arith, c.self.invariant.front.counted, c.seat.invariant.front.counted, enough) in
     let found =
     caught_up g.C.Course.may c.seat.inside.seen.log c.self.inside.seen.log both c.look.new.seen.log
-    c.seat.inside.number c.seat.inside.turn.nib.key c.seat.invariant.has c.self.invariant.1.legal
+    c.seat.inside.number c.seat.inside.turn.nib.key c.seat.invariant.has c.self.invariant.front.legal
     whole c.learn.ensures.3 c.look.ensures.begins c.look.ensures.unused less in
     rw (← c.self.view_is, ← c.seat.view_is, c.again.ensures) (record { before = found.1; number = refl; seen = refl })
 
 pub returns-clause-seen : goal.returns-clause-seen
 returns-clause-seen g c =
     rw (← c.self.view_is)
-    (seal g.C.Course.may g.J.Naming.book (entries_of c.self.inside.seen.log) c.self.invariant.1.legal.history)
+    (seal g.C.Course.may g.J.Naming.book (entries_of c.self.inside.seen.log) c.self.invariant.front.legal.history)

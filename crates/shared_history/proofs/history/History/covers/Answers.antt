@@ -10,7 +10,7 @@ returns-clause-begins g c =
     let whole : IsPrefix c.self.inside.seen.log both =
     prefix_same (ap (λ s. s.log) c.again-both.ensures) c.learn.ensures.2 in
     let less : length c.front.inside.seen.log ≤ length c.self.inside.seen.log =
-    omega (arith, c.self.invariant.1.counted, c.front.invariant.counted, c.if-self-front.false) in
+    omega (arith, c.self.invariant.front.counted, c.front.invariant.counted, c.if-self-front.false) in
     rw (← c.self.view_is, ← c.front.view_is)
     (prefix_entries c.front.inside.seen.log c.self.inside.seen.log
     (prefix_shorter c.front.inside.seen.log c.self.inside.seen.log both c.learn.ensures.3 whole less))

@@ -1,21 +1,22 @@
-use Rattle.std.proofs.Common.{refl, ap, sym, ◌∙◌}
-use Rattle.shared_history.specs.Entries.{is_left}
+use Rattle.std.proofs.Common.{◌+◌, ◌∙◌, ap, arith, refl, sym}
+use Rattle.shared_history.specs.Entries.{entry, is_left}
 use Rattle.shared_history.specs.Inner.Drafts.{deed_of}
 use Rattle.shared_history.specs.Inner.Lines.{entries_of}
 use Rattle.shared_history.specs.Seal.{seal}
 use Rattle.shared_history.proofs.Growing.{may_split}
 use Rattle.shared_history.proofs.Lines.{entries_length}
+use Rattle.shared_history.proofs.Seats.{all_more, seats_made}
 use Rattle.shared_history.proofs.history.History.split.Goals as goal
 
 pub write-self-inside-requires-clause-allowed : goal.write-self-inside-requires-clause-allowed
 write-self-inside-requires-clause-allowed g c =
     may_split g.C.Course.may (entries_of c.self.inside.seen.log)
-    (deed_of c.ask_to_split.result) c.self.invariant.1.legal.history c.ask_to_split.ensures
+    (deed_of c.ask_to_split.result) c.self.invariant.front.legal.history c.ask_to_split.ensures
 
 pub invariant_of-seat : goal.invariant_of-seat
 invariant_of-seat g c =
     let w = c.write-self-inside.ensures in
-    let name = c.self.invariant.1.name in
+    let name = c.self.invariant.front.name in
     rw c.again.ensures
     (record {
       front = record { name = w.book ∙ name; counted = w.count; legal = w.written.legal };
@@ -27,8 +28,8 @@ invariant_of-seat g c =
 pub invariant_of-result : goal.invariant_of-result
 invariant_of-result g c =
     let w = c.write-self-inside.ensures in
-    let name = c.self.invariant.1.name in
-    rw (c.again-2.ensures, c.self.invariant.1.counted)
+    let name = c.self.invariant.front.name in
+    rw (c.again-2.ensures, c.self.invariant.front.counted)
     (record {
       front = record { name = w.book ∙ name; counted = w.count; legal = w.written.legal };
       pen_name = c.draw-turn.ensures.book ∙ name;
@@ -39,7 +40,7 @@ invariant_of-result g c =
 pub returns-clause-splits : goal.returns-clause-splits
 returns-clause-splits g c =
     let w = c.write-self-inside.ensures in
-    let counted = c.self.invariant.1.counted in
+    let counted = c.self.invariant.front.counted in
     rw (← c.self.view_is, ← c.seat.view_is, c.again.ensures, c.again-2.ensures, counted)
     (record {
       before = w.written.before;
@@ -54,3 +55,14 @@ pub returns-clause-seen : goal.returns-clause-seen
 returns-clause-seen g c =
     seal g.C.Course.may g.J.Naming.book
     (entries_of c.write-self-inside.new.whole.log) c.write-self-inside.ensures.written.legal.history
+
+pub invariant_of-self : goal.invariant_of-self
+invariant_of-self g c =
+    let w = c.write-self-inside.ensures in
+    let e = entry c.seat.inside.number (deed_of c.ask_to_split.result) in
+    all_more g.C.Course.may g.J.Naming.book c.self.inside.head c.self.inside.count c.self.inside.seats
+    c.self.inside.seen.book c.self.inside.seen.log e c.write-self-inside.result (c.self.inside.seats + 1)
+    c.write-self-inside.new.whole.book c.write-self-inside.new.whole.log c.self.invariant w.book w.count
+    w.written.legal w.written.added
+    (seats_made c.self.inside.seats (entries_of c.self.inside.seen.log) e c.self.invariant.has_seats)
+    (omega arith)

@@ -1,0 +1,24 @@
+use Rattle.std.proofs.Common.{ℕ, subst}
+use Rattle.shared_history.specs.History.{HasEnded, IsWhole}
+use Rattle.shared_history.specs.Inner.Kept.{HasSeats}
+use Rattle.shared_history.specs.Inner.Lines.{entries_of}
+use Rattle.shared_history.specs.Seal.{seal}
+use Rattle.shared_history.proofs.Growing.{is_whole}
+use Rattle.shared_history.proofs.Seats.{no_seat}
+use Rattle.shared_history.proofs.history.History.close.Goals as goal
+
+pub returns-else-self-ne0-clause-ended : goal.returns-else-self-ne0-clause-ended
+returns-else-self-ne0-clause-ended g c =
+    rw (← c.self.view_is)
+    (no_seat (entries_of c.self.inside.seen.log) (rw (← c.if-self-ne0.false) c.self.invariant.has_seats))
+
+pub returns-else-self-ne0-clause-whole : goal.returns-else-self-ne0-clause-whole
+returns-else-self-ne0-clause-whole g c =
+    rw (← c.self.view_is)
+    (is_whole g.C.Course.may (entries_of c.self.inside.seen.log) c.self.invariant.front.legal.history
+    (no_seat (entries_of c.self.inside.seen.log) (rw (← c.if-self-ne0.false) c.self.invariant.has_seats)))
+
+pub returns-else-self-ne0-clause-seen : goal.returns-else-self-ne0-clause-seen
+returns-else-self-ne0-clause-seen g c =
+    rw (← c.self.view_is)
+    (seal g.C.Course.may g.J.Naming.book (entries_of c.self.inside.seen.log) c.self.invariant.front.legal.history)
