@@ -1,1 +1,2 @@
+mod Announced
 mod Givens

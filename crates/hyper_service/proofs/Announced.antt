@@ -1,0 +1,42 @@
+-- The line that says where a server listens, and what is written then.
+use Rattle.std.proofs.Common.{◌≡◌, ◌⊎◌, ◌∙◌, ℕ, List, Option, None, Some, Result, Ok, Err, false, true≢false, IsErr, is_err}
+use Rattle.std.proofs.Common.{inl, inr, subst, sym}
+use Rattle.std.proofs.KnownBytes.{Appends-nil}
+use Rattle.std.specs.Io.KnownBytes.{Appends, Keeps}
+use Rattle.std.specs.declared.net.socket_addr.SocketAddr.{SocketAddr}
+use Rattle.command_output.specs.Lines.{error_line, out_of_memory}
+use Rattle.command_output.specs.Output.{AppendsFront}
+use Rattle.hyper_service.specs.Report.{Announces, ReportsServed, ReportsSettled, listening_line}
+use Rattle.logbook.specs.Pages.{Book}
+use Rattle.request_journal.specs.Past.{Past}
+
+appends_kept : (a b c : Option (List ℕ)) (bytes : List ℕ) → Appends a b bytes → Keeps b c → Appends a c bytes
+appends_kept None b c bytes written kept = tt
+appends_kept (Some xs) None c bytes written kept = absurd written
+appends_kept (Some xs) (Some ys) None bytes written kept = absurd kept
+appends_kept (Some xs) (Some ys) (Some zs) bytes written kept = kept ∙ written
+
+module _ {T E : Type 0} where
+  -- nothing was written
+  pub announces_nothing : (result : Result T E) (held : Option (List ℕ)) → IsErr result → Announces result held held
+  announces_nothing (Ok value) held failed = absurd (true≢false (sym failed))
+  announces_nothing (Err error) held failed = inl (Appends-nil held)
+
+  -- the whole line was
+  pub announces : (result : Result T E) (old middle new : Option (List ℕ)) (address : SocketAddr) (line : List ℕ)
+      → line ≡ listening_line address → Appends old middle line → Keeps middle new → Announces result old new
+  announces (Ok value) old middle new address line same written kept =
+      (address, subst (Appends old new) same (appends_kept old middle new line written kept))
+  announces (Err error) old middle new address line same written kept =
+      inr (address, inl (subst (Appends old new) same (appends_kept old middle new line written kept)))
+
+module _ {O E T Refusal : Type 0} (out_holds : O → Option (List ℕ)) (err_holds : E → Option (List ℕ)) (origin : Past)
+    (parts : ℕ) (name : Book) (out listening out' : O) (err err' : E) (status : ℕ) where
+  -- the seats were settled after it, or memory ran out
+  pub served : (announced : Result T Refusal) → is_err announced ≡ false
+      → Announces announced (out_holds out) (out_holds listening)
+      → ReportsSettled out_holds err_holds origin parts name listening out' err err' status
+      ⊎ ((out' ≡ listening) × AppendsFront (err_holds err) (err_holds err') (error_line out_of_memory) × (status ≡ 1))
+      → ReportsServed out_holds err_holds origin parts name out out' err err' status
+  served (Ok value) ok line rest = inr (line.0, listening, line.1, rest)
+  served (Err error) ok line rest = absurd (true≢false ok)
