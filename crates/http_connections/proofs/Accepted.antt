@@ -1,8 +1,9 @@
 -- The tasks of the connections that are accepted, after one more of them.
-use Rattle.std.proofs.Common.{◌≡◌, ◌-◌, ◌<◌, ℕ, List, ◌∷◌, Option, None, Some, IfSome, length, option_map, arith}
+use Rattle.std.proofs.Common.{◌≡◌, ◌-◌, ◌<◌, ◌≤◌, ℕ, List, ◌∷◌, Option, None, Some, IfSome, length, option_map, arith}
 use Rattle.std.proofs.Common.{subst, sym}
 use Rattle.http_connections.specs.Inner.Accepted.{AreWanted}
-use Rattle.http_connections.specs.Site.{IsConnectionFor, site_of}
+use Rattle.http_connections.specs.Sent.{Giver}
+use Rattle.http_connections.specs.Site.{IsConnectionFor, giver_of}
 use Rattle.http_connections.specs.declared.service.MessageService.{MessageService}
 
 -- one fewer is wanted
@@ -10,16 +11,19 @@ abbrev fewer : Option ℕ → Option ℕ
 fewer left = option_map (λ n. n - 1) left
 
 module _ {T : Type 0} (IsTask : T → Type 0) where
-  after_one : (left : Option ℕ) (task : T) (tasks : List T) (last : Option T)
+  after_one : (left : Option ℕ) (task : T) (tasks : List T) (last : Option T) → IfSome left (λ n. 0 < n)
       → AreWanted IsTask (fewer left) tasks last → AreWanted IsTask left (task ∷ tasks) last
-  after_one left task tasks None wanted = tt
-  after_one None task tasks (Some last) wanted = (wanted.0, tt)
-  after_one (Some left) task tasks (Some last) wanted =
+  after_one None task tasks None some wanted = tt
+  after_one (Some left) task tasks None some wanted =
+      let fits : length tasks ≤ left - 1 = wanted in grind arith
+  after_one None task tasks (Some last) some wanted = (wanted.0, tt)
+  after_one (Some left) task tasks (Some last) some wanted =
       let fits : length tasks < left - 1 = wanted.1 in (wanted.0, grind arith)
 
   after_none : (left : Option ℕ) (tasks : List T) (last : Option T)
       → AreWanted IsTask (fewer left) tasks last → AreWanted IsTask left tasks last
-  after_none left tasks None wanted = tt
+  after_none None tasks None wanted = tt
+  after_none (Some left) tasks None wanted = let fits : length tasks ≤ left - 1 = wanted in grind arith
   after_none None tasks (Some last) wanted = (wanted.0, tt)
   after_none (Some left) tasks (Some last) wanted =
       let fits : length tasks < left - 1 = wanted.1 in (wanted.0, grind arith)
@@ -27,10 +31,11 @@ module _ {T : Type 0} (IsTask : T → Type 0) where
 module _ {T C P : Type 0} (IsTask : C → P → T → Type 0) (connects connects' : C) (pool pool' : P)
     (left left' : Option ℕ) (tasks : List T) (last : Option T) where
   -- a connection was accepted, and its task is handed on
-  pub handed_on : connects' ≡ connects → pool' ≡ pool → left' ≡ option_map (λ n. n - 1) left → (task : T)
-      → AreWanted (IsTask connects' pool') left' tasks last → AreWanted (IsTask connects pool) left (task ∷ tasks) last
-  handed_on same_connects same_pool counted task wanted =
-      after_one (IsTask connects pool) left task tasks last (rw (same_connects, same_pool, counted) at wanted)
+  pub handed_on : connects' ≡ connects → pool' ≡ pool → left' ≡ option_map (λ n. n - 1) left → IfSome left (λ n. 0 < n)
+      → (task : T) → AreWanted (IsTask connects' pool') left' tasks last
+      → AreWanted (IsTask connects pool) left (task ∷ tasks) last
+  handed_on same_connects same_pool counted some task wanted =
+      after_one (IsTask connects pool) left task tasks last some (rw (same_connects, same_pool, counted) at wanted)
 
   -- a connection was accepted, and there is no task
   pub closed : connects' ≡ connects → pool' ≡ pool → left' ≡ option_map (λ n. n - 1) left
@@ -45,10 +50,10 @@ module _ {T C P : Type 0} (IsTask : C → P → T → Type 0) (connects connects
 
 module _ {M I F R A Seat Reply Exchange Content : Type 0}
     (makes : M → I → MessageService R A Seat Reply Exchange Content → F → Type 0) (connects : M) (io : I)
-    (site : A) where
+    (by : Giver A) where
   pub made_for : (result : Option F) (service : MessageService R A Seat Reply Exchange Content)
-      → site_of service.slot ≡ site → IfSome result (makes connects io service)
-      → IfSome result (IsConnectionFor makes connects io site)
+      → giver_of service.slot ≡ by → IfSome result (makes connects io service)
+      → IfSome result (IsConnectionFor makes connects io by)
   made_for (Some made) service same makes = (service, same, makes)
   made_for None service same makes = tt
 

@@ -77,7 +77,7 @@ module _ {Refusal C : Type 0} (IsEmpty : C → Type 0) (gives : Request (List �
 
 module _ {Refusal C A : Type 0} (IsEmpty : C → Type 0) (gives : A → Request (List ℕ) → Response C → Type 0)
     (site site' : A) where
-  -- the same, where it is given by the same site
+  -- the same, where it is given by the same site and seat
   pub given_by_site : site' ≡ site → (head head' : Parts) (comes comes' : Result (List ℕ) ContentError → Type 0)
       → head' ≡ head → ((gathered : Result (List ℕ) ContentError) → comes' gathered → comes gathered)
       → (result : Result (Response C) Refusal) → IsGivenWith IsEmpty (gives site') head' comes' result
@@ -85,3 +85,21 @@ module _ {Refusal C A : Type 0} (IsEmpty : C → Type 0) (gives : A → Request 
   given_by_site same_site head head' comes comes' same more result given =
       given_within IsEmpty (gives site) head head' comes comes' same more result
       (subst (λ s. IsGivenWith IsEmpty (gives s) head' comes' result) same_site given)
+
+module _ {Refusal C B E Reply : Type 0} (IsEmpty : C → Type 0) (gives : B → Request (List ℕ) → Response C → Type 0)
+    (forwards : B → Request (List ℕ) → E → Type 0) (exchanged : E → Reply → Type 0) (by by' : B) (same : by' ≡ by)
+    (polled : Poll (Result (Response C) Refusal)) (exchange : E) where
+  -- the same, where it is given by the same site and seat
+  pub by_same_at_once : IfReady polled (IsGivenBy IsEmpty (gives by') (forwards by') exchanged exchange)
+      → IfReady polled (IsGivenBy IsEmpty (gives by) (forwards by) exchanged exchange)
+  by_same_at_once =
+      subst (λ b. IfReady polled (IsGivenBy IsEmpty (gives b) (forwards b) exchanged exchange)) same
+
+  pub by_same_later : (MayGive : Result (Response C) Refusal → Type 0)
+      → OnPending polled ((result : Result (Response C) Refusal)
+      → MayGive result → IsGivenBy IsEmpty (gives by') (forwards by') exchanged exchange result)
+      → OnPending polled ((result : Result (Response C) Refusal)
+      → MayGive result → IsGivenBy IsEmpty (gives by) (forwards by) exchanged exchange result)
+  by_same_later MayGive =
+      subst (λ b. OnPending polled ((result : Result (Response C) Refusal)
+      → MayGive result → IsGivenBy IsEmpty (gives b) (forwards b) exchanged exchange result)) same

@@ -2,4 +2,5 @@
 pub mod Accepted
 pub mod Begun
 pub mod Pushed
+pub mod Ready
 pub mod Seat

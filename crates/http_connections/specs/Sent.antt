@@ -1,5 +1,5 @@
 -- What becomes of a request, and what is sent for it.
-use Rattle.std.specs.Prelude.{ℕ, List}
+use Rattle.std.specs.Prelude.{◌≡◌, ℕ, List}
 use Rattle.http.specs.declared.request.Request.{Request}
 use Rattle.http.specs.declared.response.Response.{Response}
 use Rattle.http_connections.specs.declared.begun.Begun.{Begun}
@@ -25,13 +25,20 @@ abbrev pub IsExchangeFor : {E Reply : Type 0} → (Request (List ℕ) → E → 
 IsExchangeFor {E} {Reply} forwards gives message exchange =
     (begun : E) × forwards message begun × ((reply : Reply) → gives exchange reply → gives begun reply)
 
-module _ {A Seat : Type 0} where
-  -- the answer may be given to the message, by some seat of the site
-  abbrev pub IsGivenBy : {C : Type 0} → (A → Seat → Seat → Request (List ℕ) → Response C → Type 0) → A
-      → Request (List ℕ) → Response C → Type 0
-  IsGivenBy gives site message answer = (old : Seat) × (new : Seat) × gives site old new message answer
+-- a site, and the number of the seat by which it answers
+pub record Giver (A : Type 0) : Type 0 where
+  pub site : A
+  pub number : ℕ
 
-  -- the message may be forwarded by the exchange, by some seat of the site
-  abbrev pub IsForwardedBy : {E : Type 0} → (A → Seat → Seat → Request (List ℕ) → E → Type 0) → A
+module _ {A Seat : Type 0} (number_of : Seat → ℕ) where
+  -- the answer may be given to the message by the site, by the seat with this number
+  abbrev pub IsGivenBy : {C : Type 0} → (A → Seat → Seat → Request (List ℕ) → Response C → Type 0) → Giver A
+      → Request (List ℕ) → Response C → Type 0
+  IsGivenBy gives giver message answer =
+      (old : Seat) × (new : Seat) × (number_of old ≡ giver.number) × gives giver.site old new message answer
+
+  -- the message may be forwarded by the exchange, by the site and the seat with this number
+  abbrev pub IsForwardedBy : {E : Type 0} → (A → Seat → Seat → Request (List ℕ) → E → Type 0) → Giver A
       → Request (List ℕ) → E → Type 0
-  IsForwardedBy forwards site message exchange = (old : Seat) × (new : Seat) × forwards site old new message exchange
+  IsForwardedBy forwards giver message exchange =
+      (old : Seat) × (new : Seat) × (number_of old ≡ giver.number) × forwards giver.site old new message exchange

@@ -1,8 +1,8 @@
 // The connections that a listener accepts, each a task.
-ghost use Rattle.std.specs.Prelude.{◌≡◌, ◌⊎◌, ◌↔◌, ◌-◌, ◌<◌, IfSome, IsTrue, option_map, true};
+ghost use Rattle.std.specs.Prelude.{◌≡◌, ◌⊎◌, ◌↔◌, ◌-◌, ◌<◌, IfSome, IsTrue, OnSome, false, option_map, true};
 ghost use Rattle.std.specs.IoError.{raw_os_error};
 ghost use Rattle.http_connections.specs.Inner.Accepted.{AreWanted, IsOfListener};
-ghost use Rattle.http_connections.specs.Site.{IsConnectionFor, site_in};
+ghost use Rattle.http_connections.specs.Site.{IsConnectionFor, IsConnectionOf, site_in};
 
 use crate::answers::Answers;
 use crate::connection_task::ConnectionTask;
@@ -38,6 +38,7 @@ pub(crate) struct Accepting<R, A: Answers, M> {
     pool: Arc<SeatPool<A>>,
     left: Option<u64>,
     most: u64,
+    is_open: bool,
     pause: Pause<R>,
     connects: M,
 }
@@ -58,6 +59,7 @@ where
         ensures connects { result.connects ≡ connects }
         ensures pool { result.pool ≡ pool }
         ensures left { result.left ≡ settings.connections }
+        ensures open { result.is_open ≡ true }
     {
         Accepting {
             rt,
@@ -65,54 +67,77 @@ where
             pool,
             left: settings.connections,
             most: settings.max_connections,
+            is_open: true,
             pause,
             connects,
         }
     }
 
     fn wants_more(&self) -> bool
-        ensures { IsTrue result → IfSome self.now.left (λ left. 0 < left) }
+        ensures { IsTrue result ↔ (IfSome self.now.left (λ left. 0 < left) × (self.now.is_open ≡ true)) }
     {
-        self.left != Some(0) && self.pool.is_open(&self.rt)
+        self.left != Some(0) && self.is_open
     }
 
-    // A place with a seat, if the connection can be served.
-    fn place(&self) -> Option<Arc<SeatPlace<A::Seat>>> {
+    // A place with a seat of this number, if the connection can be served.
+    fn place(&mut self) -> Option<(Arc<SeatPlace<A::Seat>>, u64)>
+        ensures open { OnSome result (self.new.is_open ≡ self.old.is_open) }
+        ensures connects { self.new.connects ≡ self.old.connects }
+        ensures pool { self.new.pool ≡ self.old.pool }
+        ensures left { self.new.left ≡ self.old.left }
+    {
         match self.pool.assign(&self.rt, self.rt.alloc()) {
-            Assignment::Place(place) => Some(place),
+            Assignment::Place(place, number) => Some((place, number)),
             Assignment::NoPlace => None,
             Assignment::NoSeat => {
-                self.pool.close(&self.rt);
+                self.close();
                 None
             }
         }
     }
 
+    // No more are accepted.
+    fn close(&mut self)
+        ensures { self.new ≡ record self.old { is_open = false } }
+    {
+        self.is_open = false;
+        self.pool.close(&self.rt);
+    }
+
     // Where the listener itself is wrong, no more are accepted. Any other error is waited out: it is of one connection,
     // or of the moment.
     fn refused(&mut self, error: &io::Error)
-        ensures waits { IsOfListener (raw_os_error error.now) ⊎ (self.new.pause.has_begun ≡ true) }
+        ensures open { (IsOfListener (raw_os_error error.now) × (self.new.is_open ≡ false))
+            ⊎ (¬ (IsOfListener (raw_os_error error.now)) × (self.new.is_open ≡ self.old.is_open)
+            × (self.new.pause.has_begun ≡ true)) }
         ensures connects { self.new.connects ≡ self.old.connects }
         ensures pool { self.new.pool ≡ self.old.pool }
         ensures left { self.new.left ≡ self.old.left }
     {
         if is_of_listener(error) {
-            self.pool.close(&self.rt);
+            self.close();
         } else {
             self.pause.begin();
         }
     }
 
-    // The connection of a socket, whose requests are answered by the seat of the place; `None` where memory runs out.
-    fn connection<F>(&self, socket: TcpStream, place: &Arc<SeatPlace<A::Seat>>) -> Option<F>
+    // The connection of a socket, whose requests are answered by the seat of the place, which has this number; `None`
+    // where memory runs out.
+    fn connection<F>(
+        &self,
+        socket: TcpStream,
+        place: &Arc<SeatPlace<A::Seat>>,
+        number: u64,
+    ) -> Option<F>
     where
         M: Connects<TcpStream, MessageService<R, A>, Connection = F>,
         requires { (service : _) → M.can_connect self.now.connects service }
-        ensures { IfSome result (IsConnectionFor M.makes self.now.connects socket (site_in self.now.pool)) }
+        ensures { IfSome result (IsConnectionFor M.makes self.now.connects socket
+            (record { site = site_in self.now.pool; number = number })) }
     {
         // Answers are written whole, so there is nothing to wait for.
         let _ = socket.set_nodelay(true);
-        let slot = self.pool.slot(self.rt.alloc(), place).ok()?;
+        let slot = self.pool.slot(self.rt.alloc(), place, number).ok()?;
         connection(self.rt, &self.connects, self.pause.timers(), slot, socket)
     }
 
@@ -122,7 +147,7 @@ where
         M: Connects<TcpStream, MessageService<R, A>, Connection = F>,
         F: Future<Output = hyper::Result<()>>,
         requires { (service : _) → M.can_connect self.old.connects service }
-        ensures made { IfSome result (λ task. IsConnectionFor M.makes self.old.connects socket
+        ensures made { IfSome result (λ task. IsConnectionOf M.makes self.old.connects socket
             (site_in self.old.pool) task.connection.value) }
         ensures connects { self.new.connects ≡ self.old.connects }
         ensures pool { self.new.pool ≡ self.old.pool }
@@ -130,8 +155,8 @@ where
     {
         self.left = self.left.map(|left| left.saturating_sub(1));
         let pool = Arc::try_clone(&self.pool).ok()?;
-        let place = self.place()?;
-        let Some(connection) = self.connection(socket, &place) else {
+        let (place, number) = self.place()?;
+        let Some(connection) = self.connection(socket, &place, number) else {
             pool.release(&self.rt, place);
             return None;
         };
@@ -153,7 +178,7 @@ where
 
     // Each task is of a connection over some socket, whose requests the site of the pool answers; and there are no more
     // of them than are wanted.
-    ghost yields = { λ accepting. AreWanted (λ task. (socket : _) × IsConnectionFor M.makes accepting.connects socket
+    ghost yields = { λ accepting. AreWanted (λ task. (socket : _) × IsConnectionOf M.makes accepting.connects socket
         (site_in accepting.pool) task.connection.value) accepting.left };
 
     fn poll_next(&mut self, cx: &mut Context<'_>) -> Poll<Option<ConnectionTask<R, A, F>>> {

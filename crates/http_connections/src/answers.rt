@@ -19,6 +19,9 @@ use std::sync::Wait;
 pub trait Answers: Drop {
     type Seat: Drop;
 
+    /// The number of a seat, which no other has.
+    ghost number_of: { Self.Seat → ℕ };
+
     /// What comes of forwarding a request.
     type Reply: Drop;
 
@@ -47,6 +50,9 @@ pub trait Answers: Drop {
     /// The seat may take over another one so.
     ghost joins: { Self → Self.Seat → Self.Seat → Self.Seat → Result (Unit {0}) Self.Seat → Type 0 };
 
+    fn number(seat: &Self::Seat) -> u64
+        ensures { result ≡ number_of seat.now };
+
     /// The answer to a request whose body has come, or the exchange that forwards it. An error is out of memory for the
     /// answer itself.
     fn begin<R: Wait>(
@@ -61,8 +67,8 @@ pub trait Answers: Drop {
         ensures err { IfErr result (λ error. (error ≡ OutOfMemory)
             × unanswered self.now seat.old seat.new request.now) };
 
-    /// The answer to a request that was forwarded, once its exchange has given what came of it. An error is out of
-    /// memory for the answer itself.
+    /// The answer to a request that was forwarded by this seat, once its exchange has given what came of it. An error
+    /// is out of memory for the answer itself.
     fn finish<R: Wait>(
         &self,
         rt: &R,
@@ -70,8 +76,9 @@ pub trait Answers: Drop {
         seat: &mut Self::Seat,
         reply: Self::Reply,
     ) -> Result<Response<Self::Content>, ServiceError>
-        ensures ok { (message : _) (old : _) (new : _) (exchange : _) → forwards self.now old new message exchange
-            → Self.Exchange.gives exchange reply → IfOk result (gives self.now seat.old seat.new message) }
+        ensures ok { (message : _) (old : _) (new : _) (exchange : _) → number_of old ≡ number_of seat.old
+            → forwards self.now old new message exchange → Self.Exchange.gives exchange reply
+            → IfOk result (gives self.now seat.old seat.new message) }
         ensures err { IfErr result (λ error. (error ≡ OutOfMemory) × unfinished self.now seat.old seat.new) };
 
     /// A new seat for a connection, `None` where the seat can't be split.

@@ -1,6 +1,6 @@
 // What makes a connection of a reader and writer.
 ghost use Rattle.std.specs.Prelude.{◌≡◌, IfOk, IfSome, ⊤};
-ghost use Rattle.http_connections.specs.Site.{IsConnectionFor, site_of};
+ghost use Rattle.http_connections.specs.Site.{IsConnectionFor, giver_of};
 ghost use Rattle.http_connections.specs.Turns.{IsOver};
 ghost use Rattle.hyper.specs.ServerDispatch.{Runs};
 
@@ -134,7 +134,7 @@ where
     I: Drop,
     M: Connects<I, MessageService<R, A>, Connection = F>,
     requires { (service : _) → M.can_connect connects.now service }
-    ensures { IfSome result (IsConnectionFor M.makes connects.now io (site_of slot)) }
+    ensures { IfSome result (IsConnectionFor M.makes connects.now io (giver_of slot)) }
 {
     let begun = Rc::new(rt.alloc(), Cell::new(false)).ok()?;
     let service = MessageService::new(rt, slot, timers.clone().ok()?, begun.clone().ok()?);

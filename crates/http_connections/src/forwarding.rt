@@ -2,7 +2,7 @@
 ghost use Rattle.std.specs.Prelude.{◌≡◌, IfOk};
 ghost use Rattle.http_connections.specs.Content.{IsAnswerFor};
 ghost use Rattle.http_connections.specs.Sent.{IsExchangeFor, IsForwardedBy, IsGivenBy};
-ghost use Rattle.http_connections.specs.Site.{site_of};
+ghost use Rattle.http_connections.specs.Site.{giver_of};
 
 use crate::answers::Answers;
 use crate::refusal::out_of_memory;
@@ -42,8 +42,9 @@ where
     ghost can_poll = { λ f. A.Exchange.can_poll f.exchange.value };
 
     ghost gives = { λ f result. (message : _)
-        → IsExchangeFor (IsForwardedBy A.forwards (site_of f.slot)) A.Exchange.gives message f.exchange.value
-        → IfOk result (IsAnswerFor A.Content.is_default (IsGivenBy A.gives (site_of f.slot)) message) };
+        → IsExchangeFor (IsForwardedBy A.number_of A.forwards (giver_of f.slot)) A.Exchange.gives message
+        f.exchange.value
+        → IfOk result (IsAnswerFor A.Content.is_default (IsGivenBy A.number_of A.gives (giver_of f.slot)) message) };
 
     fn poll(&mut self, cx: &mut Context<'_>) -> Poll<Result<Response<A::Content>, ServiceError>> {
         let reply = ready!(self.exchange.poll(cx));

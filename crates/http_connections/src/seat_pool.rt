@@ -1,6 +1,7 @@
 // The seats of a server: its own, and that of each connection.
 ghost use Rattle.std.specs.Prelude.{◌≡◌, IfOk};
 ghost use Rattle.std.specs.Arc.{arc_value};
+ghost use Rattle.http_connections.specs.Site.{giver_of};
 
 use crate::answers::Answers;
 use crate::seat_place::SeatPlace;
@@ -37,16 +38,17 @@ impl<A: Answers> SeatPool<A> {
         self.seats.lock(rt).assign(rt, alloc, &*self.site)
     }
 
-    /// The place, beside the site.
+    /// The place of the seat with this number, beside the site.
     pub(crate) fn slot(
         &self,
         alloc: Global,
         place: &Arc<SeatPlace<A::Seat>>,
+        number: u64,
     ) -> Result<Arc<SeatSlot<A>>, AllocError>
-        ensures { IfOk result (λ slot. arc_value (arc_value slot).site ≡ arc_value self.now.site) }
+        ensures { IfOk result (λ slot. giver_of slot ≡ record { site = arc_value self.now.site; number = number }) }
     {
         let site = Arc::try_clone(&self.site)?;
-        Ok(Arc::new(alloc, SeatSlot::new(site, Arc::try_clone(place)?))?)
+        Ok(Arc::new(alloc, SeatSlot::new(site, Arc::try_clone(place)?, number))?)
     }
 
     /// Joins the seat of a connection that has ended to the server's own, and frees its place.

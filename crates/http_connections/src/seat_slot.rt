@@ -1,9 +1,10 @@
 // A site, beside the place of a connection's seat.
-ghost use Rattle.std.specs.Prelude.{◌≡◌, IfErr, IfOk, IsTrue, None};
+ghost use Rattle.std.specs.Prelude.{◌≡◌, ◌≢◌, IfErr, IfOk, IfSome, IsTrue};
 ghost use Rattle.std.specs.Arc.{arc_value};
 ghost use Rattle.http_connections.specs.Sent.{IsBegun, IsForwardedBy, IsGivenBy, IsSentFor};
 ghost use Rattle.http_connections.specs.Inner.Begun.{IsSentOf};
 ghost use Rattle.http_connections.specs.Inner.Seat.{OnSeat};
+ghost use Rattle.http_connections.specs.Site.{giver};
 ghost use Rattle.http_messages.specs.Wire.{IsSent};
 ghost use Rattle.http_messages.specs.declared.error.ServiceError.TheVariants.{Broken, OutOfMemory as NoMemory};
 
@@ -18,18 +19,25 @@ use std::alloc::{AllocError, Global};
 use std::sync::{Arc, Wait};
 
 /// A site, and the place of the seat by which it answers the requests of one connection. The seat stays there. It is
-/// locked in each call, and not between the two calls for a request that is forwarded.
+/// locked in each call, and not between the two calls for a request that is forwarded. Where a seat with another number
+/// lies there, nothing is answered by it: `Broken`.
 #[derive(Drop)]
 pub struct SeatSlot<A: Answers> {
     pub site: Arc<A>,
     place: Arc<SeatPlace<A::Seat>>,
+    /// The number of the seat.
+    number: u64,
 }
 
 impl<A: Answers> SeatSlot<A> {
-    pub fn new(site: Arc<A>, place: Arc<SeatPlace<A::Seat>>) -> SeatSlot<A>
-        ensures { arc_value result.site ≡ arc_value site }
+    pub fn new(site: Arc<A>, place: Arc<SeatPlace<A::Seat>>, number: u64) -> SeatSlot<A>
+        ensures { giver result ≡ record { site = arc_value site; number = number } }
     {
-        SeatSlot { site, place }
+        SeatSlot {
+            site,
+            place,
+            number,
+        }
     }
 
     /// What is sent of the answer to a request, or the exchange that forwards it, by the seat.
@@ -40,8 +48,8 @@ impl<A: Answers> SeatSlot<A> {
         request: &Request<Bytes>,
     ) -> Result<Begun<A::Exchange, A::Content>, ServiceError>
         ensures { IfOk result
-            (IsBegun (IsSentFor A.Content.is_default (IsGivenBy A.gives (arc_value self.now.site)))
-            (IsForwardedBy A.forwards (arc_value self.now.site)) A.Exchange.can_poll request.now) }
+            (IsBegun (IsSentFor A.Content.is_default (IsGivenBy A.number_of A.gives (giver self.now)))
+            (IsForwardedBy A.number_of A.forwards (giver self.now)) A.Exchange.can_poll request.now) }
     {
         let begun = self.begin_at_seat(rt, alloc, request);
         // Most answers are sent as they are, and aren't moved to see that.
@@ -58,9 +66,9 @@ impl<A: Answers> SeatSlot<A> {
         alloc: Global,
         reply: A::Reply,
     ) -> Result<Response<A::Content>, ServiceError>
-        ensures { (message : _) (exchange : _) → IsForwardedBy A.forwards (arc_value self.now.site) message exchange
-            → A.Exchange.gives exchange reply
-            → IfOk result (IsSentFor A.Content.is_default (IsGivenBy A.gives (arc_value self.now.site)) message) }
+        ensures { (message : _) (exchange : _)
+            → IsForwardedBy A.number_of A.forwards (giver self.now) message exchange → A.Exchange.gives exchange reply
+            → IfOk result (IsSentFor A.Content.is_default (IsGivenBy A.number_of A.gives (giver self.now)) message) }
     {
         let response = self.finish_at_seat(rt, alloc, reply)?;
         Ok(as_sent(alloc, response)?)
@@ -72,11 +80,11 @@ impl<A: Answers> SeatSlot<A> {
         alloc: Global,
         request: &Request<Bytes>,
     ) -> Result<Begun<A::Exchange, A::Content>, ServiceError>
-        ensures { IfOk result (IsBegun (IsGivenBy A.gives (arc_value self.now.site))
-            (IsForwardedBy A.forwards (arc_value self.now.site)) A.Exchange.can_poll request.now) }
+        ensures { IfOk result (IsBegun (IsGivenBy A.number_of A.gives (giver self.now))
+            (IsForwardedBy A.number_of A.forwards (giver self.now)) A.Exchange.can_poll request.now) }
     {
         let mut held = self.place.seat.lock(rt);
-        begin_by(rt, alloc, &*self.site, &mut *held, request)
+        begin_by(rt, alloc, &*self.site, self.number, &mut *held, request)
     }
 
     fn finish_at_seat<R: Wait>(
@@ -85,53 +93,69 @@ impl<A: Answers> SeatSlot<A> {
         alloc: Global,
         reply: A::Reply,
     ) -> Result<Response<A::Content>, ServiceError>
-        ensures { (message : _) (exchange : _) → IsForwardedBy A.forwards (arc_value self.now.site) message exchange
-            → A.Exchange.gives exchange reply → IfOk result (IsGivenBy A.gives (arc_value self.now.site) message) }
+        ensures { (message : _) (exchange : _)
+            → IsForwardedBy A.number_of A.forwards (giver self.now) message exchange → A.Exchange.gives exchange reply
+            → IfOk result (IsGivenBy A.number_of A.gives (giver self.now) message) }
     {
         let mut held = self.place.seat.lock(rt);
-        finish_by(rt, alloc, &*self.site, &mut *held, reply)
+        finish_by(rt, alloc, &*self.site, self.number, &mut *held, reply)
     }
 }
 
-// What the site says by the seat of a place; `Broken` where that has none.
+// What the site says by the seat of a place; `Broken` where none with this number is there.
 fn begin_by<R: Wait, A: Answers>(
     rt: &R,
     alloc: Global,
     site: &A,
+    number: u64,
     held: &mut Option<A::Seat>,
     request: &Request<Bytes>,
 ) -> Result<Begun<A::Exchange, A::Content>, ServiceError>
-    ensures ok { IfOk result (λ begun. OnSeat held.old held.new (λ old new. IsBegun (A.gives site.now old new)
-        (A.forwards site.now old new) A.Exchange.can_poll request.now begun)) }
+    ensures ok { IfOk result (λ begun. OnSeat held.old held.new (λ old new. (A.number_of old ≡ number)
+        × IsBegun (A.gives site.now old new) (A.forwards site.now old new) A.Exchange.can_poll request.now begun)) }
     ensures err { IfErr result (elim [
-      | NoMemory ↦ OnSeat held.old held.new (λ old new. A.unanswered site.now old new request.now)
-      | Broken ↦ (held.old ≡ None) × (held.new ≡ None)
+      | NoMemory ↦ OnSeat held.old held.new (λ old new. (A.number_of old ≡ number)
+          × A.unanswered site.now old new request.now)
+      | Broken ↦ (held.new ≡ held.old) × IfSome held.old (λ seat. A.number_of seat ≢ number)
     ]) }
 {
     match held {
-        Some(seat) => site.begin(rt, alloc, seat, request),
+        Some(seat) => {
+            if A::number(seat) != number {
+                return Err(ServiceError::Broken);
+            }
+            site.begin(rt, alloc, seat, request)
+        }
         None => Err(ServiceError::Broken),
     }
 }
 
-// What the site says to what came of forwarding a request, by the seat of a place; `Broken` where that has none.
+// What the site says to what came of forwarding a request, by the seat of a place; `Broken` where none with this number
+// is there.
 fn finish_by<R: Wait, A: Answers>(
     rt: &R,
     alloc: Global,
     site: &A,
+    number: u64,
     held: &mut Option<A::Seat>,
     reply: A::Reply,
 ) -> Result<Response<A::Content>, ServiceError>
-    ensures ok { (message : _) (old : _) (new : _) (exchange : _) → A.forwards site.now old new message exchange
-        → A.Exchange.gives exchange reply → IfOk result (λ made. OnSeat held.old held.new
-        (λ old new. A.gives site.now old new message made)) }
+    ensures ok { (message : _) (old : _) (new : _) (exchange : _) → A.number_of old ≡ number
+        → A.forwards site.now old new message exchange → A.Exchange.gives exchange reply
+        → IfOk result (λ made. OnSeat held.old held.new (λ old new. (A.number_of old ≡ number)
+        × A.gives site.now old new message made)) }
     ensures err { IfErr result (elim [
-      | NoMemory ↦ OnSeat held.old held.new (A.unfinished site.now)
-      | Broken ↦ (held.old ≡ None) × (held.new ≡ None)
+      | NoMemory ↦ OnSeat held.old held.new (λ old new. (A.number_of old ≡ number) × A.unfinished site.now old new)
+      | Broken ↦ (held.new ≡ held.old) × IfSome held.old (λ seat. A.number_of seat ≢ number)
     ]) }
 {
     match held {
-        Some(seat) => site.finish(rt, alloc, seat, reply),
+        Some(seat) => {
+            if A::number(seat) == number {
+                return site.finish(rt, alloc, seat, reply);
+            }
+            Err(ServiceError::Broken)
+        }
         None => Err(ServiceError::Broken),
     }
 }

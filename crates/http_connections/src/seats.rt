@@ -1,7 +1,8 @@
 // The seats of a server, as they lie under one lock.
-ghost use Rattle.std.specs.Prelude.{◌≡◌, ◌-◌, ◌⊎◌, ◌∷◌, Err, IfErr, IfOk, IfSome, List, None, Ok, OnOk, Result, Some};
-ghost use Rattle.http_connections.specs.Inner.Seat.{OnSeat};
+ghost use Rattle.std.specs.Prelude.{◌≡◌, ◌-◌, ◌⊎◌, ◌∷◌, IfOk, IfSome, IsSome, IsSomeAnd, List, None, Result, Some};
+ghost use Rattle.http_connections.specs.Inner.Seat.{HasNoSeat, IsJoinedTo, IsTakenOver, OnSeat};
 ghost use Rattle.http_connections.specs.declared.seats.Assignment.TheVariants as given;
+ghost use Rattle.http_connections.specs.declared.seats.Filled.TheVariants as filled;
 
 use crate::answers::Answers;
 use crate::seat_place::SeatPlace;
@@ -23,11 +24,20 @@ pub(crate) struct Seats<S> {
 /// What a connection that was accepted gets.
 #[derive(Drop)]
 pub(crate) enum Assignment<S> {
-    /// A place with a seat.
-    Place(Arc<SeatPlace<S>>),
+    /// A place with a seat of this number.
+    Place(Arc<SeatPlace<S>>, u64),
     /// No memory for a place: the connection is closed.
     NoPlace,
     /// The server's seat can't be split: no more connections are accepted.
+    NoSeat,
+}
+
+/// What became of a place that was free.
+enum Filled {
+    /// It has a seat of this number.
+    Seat(u64),
+    /// It had a seat, which stays there.
+    Occupied,
     NoSeat,
 }
 
@@ -56,29 +66,74 @@ impl<S: Drop> Seats<S> {
         site: &A,
     ) -> Assignment<S>
         ensures { elim result [
-          | given.Place place ↦ OnSeat self.old.own self.new.own (λ old new.
-              (seat : S) × A.splits site.now old new (Some seat))
+          | given.Place place number ↦ OnSeat self.old.own self.new.own (λ old new.
+              (seat : S) × (A.number_of seat ≡ number) × A.splits site.now old new (Some seat))
           | given.NoPlace ↦ self.new.own ≡ self.old.own
-          | given.NoSeat ↦ ((self.old.own ≡ None) × (self.new.own ≡ None))
-              ⊎ OnSeat self.old.own self.new.own (λ old new. A.splits site.now old new None)
+          | given.NoSeat ↦ HasNoSeat (A.splits site.now) self.old.own self.new.own
         ] }
     {
         let Ok(place) = self.free_place(alloc) else {
             return Assignment::NoPlace;
         };
-        let Some(seat) = self.split(rt, site) else {
-            return Assignment::NoSeat;
-        };
-        place.put(rt, seat);
-        self.taken = self.taken.saturating_add(1);
-        Assignment::Place(place)
+        match self.fill_place(rt, site, &place) {
+            Filled::Seat(number) => {
+                self.taken = self.taken.saturating_add(1);
+                Assignment::Place(place, number)
+            }
+            Filled::Occupied => Assignment::NoPlace,
+            Filled::NoSeat => Assignment::NoSeat,
+        }
+    }
+
+    fn fill_place<R: Wait, A: Answers<Seat = S>>(
+        &mut self,
+        rt: &R,
+        site: &A,
+        place: &SeatPlace<S>,
+    ) -> Filled
+        ensures { elim result [
+          | filled.Seat number ↦ OnSeat self.old.own self.new.own (λ old new.
+              (seat : S) × (A.number_of seat ≡ number) × A.splits site.now old new (Some seat))
+          | filled.Occupied ↦ self.new.own ≡ self.old.own
+          | filled.NoSeat ↦ HasNoSeat (A.splits site.now) self.old.own self.new.own
+        ] }
+    {
+        let mut held = place.seat.lock(rt);
+        self.fill(rt, site, &mut *held)
+    }
+
+    // Puts a seat that is split off the server's own where none is.
+    fn fill<R: Wait, A: Answers<Seat = S>>(
+        &mut self,
+        rt: &R,
+        site: &A,
+        held: &mut Option<S>,
+    ) -> Filled
+        ensures { elim result [
+          | filled.Seat number ↦ (held.old ≡ None) × IsSomeAnd held.new (λ seat. (A.number_of seat ≡ number)
+              × OnSeat self.old.own self.new.own (λ old new. A.splits site.now old new (Some seat)))
+          | filled.Occupied ↦ IsSome held.old × (held.new ≡ held.old) × (self.new.own ≡ self.old.own)
+          | filled.NoSeat ↦ (held.old ≡ None) × (held.new ≡ None)
+              × HasNoSeat (A.splits site.now) self.old.own self.new.own
+        ] }
+    {
+        if held.is_some() {
+            return Filled::Occupied;
+        }
+        match self.split(rt, site) {
+            Some(seat) => {
+                let number = A::number(&seat);
+                *held = Some(seat);
+                Filled::Seat(number)
+            }
+            None => Filled::NoSeat,
+        }
     }
 
     fn split<R: Wait, A: Answers<Seat = S>>(&mut self, rt: &R, site: &A) -> Option<S>
         ensures { elim result [
           | Some seat ↦ OnSeat self.old.own self.new.own (λ old new. A.splits site.now old new (Some seat))
-          | None ↦ ((self.old.own ≡ None) × (self.new.own ≡ None))
-              ⊎ OnSeat self.old.own self.new.own (λ old new. A.splits site.now old new None)
+          | None ↦ HasNoSeat (A.splits site.now) self.old.own self.new.own
         ] }
     {
         match &mut self.own {
@@ -112,14 +167,13 @@ impl<S: Drop> Seats<S> {
         ensures taken { self.new.taken ≡ self.old.taken - 1 }
     {
         self.taken = self.taken.saturating_sub(1);
-        if self.take_over(rt, site, &*place) {
+        if self.vacate(rt, site, &*place) {
             // There is room for each place.
             let _ = self.free.push(place);
         }
     }
 
-    // Joins the seat of the place, if it has one. Where it can't, the place keeps it.
-    fn take_over<R: Wait, A: Answers<Seat = S>>(
+    fn vacate<R: Wait, A: Answers<Seat = S>>(
         &mut self,
         rt: &R,
         site: &A,
@@ -129,21 +183,34 @@ impl<S: Drop> Seats<S> {
             (seat : S) × (joined : Result (Unit {0}) S) × A.joins site.now old seat new joined) }
         ensures taken { self.new.taken ≡ self.old.taken }
     {
-        let Some(seat) = place.take(rt) else {
+        let mut held = place.seat.lock(rt);
+        self.take_over(rt, site, &mut *held)
+    }
+
+    // Joins the seat of a place, if it has one. Where it can't, the place keeps it, and isn't free.
+    fn take_over<R: Wait, A: Answers<Seat = S>>(
+        &mut self,
+        rt: &R,
+        site: &A,
+        held: &mut Option<S>,
+    ) -> bool
+        ensures seat { IsTakenOver (A.joins site.now) self.old.own self.new.own held.old held.new result }
+        ensures taken { self.new.taken ≡ self.old.taken }
+    {
+        let Some(seat) = held.take() else {
             return true;
         };
         match self.join(rt, site, seat) {
             Ok(()) => true,
-            Err(seat) => {
-                place.put(rt, seat);
+            Err(kept) => {
+                *held = Some(kept);
                 false
             }
         }
     }
 
     fn join<R: Wait, A: Answers<Seat = S>>(&mut self, rt: &R, site: &A, seat: S) -> Result<(), S>
-        ensures joined { ((self.old.own ≡ None) × (self.new.own ≡ None) × (result ≡ Err seat))
-            ⊎ OnSeat self.old.own self.new.own (λ old new. A.joins site.now old seat new result) }
+        ensures joined { IsJoinedTo (A.joins site.now) self.old.own self.new.own seat result }
         ensures taken { self.new.taken ≡ self.old.taken }
     {
         match &mut self.own {

@@ -1,7 +1,7 @@
 // One connection by itself.
 ghost use Rattle.std.specs.Prelude.{◌≡◌, IfOk, Ok};
 ghost use Rattle.std.specs.Arc.{arc_value};
-ghost use Rattle.http_connections.specs.Site.{IsConnectionFor, site_of};
+ghost use Rattle.http_connections.specs.Site.{IsConnectionFor, giver_of};
 
 use crate::answers::Answers;
 use crate::connects::{Connecting, Connects, connection};
@@ -43,8 +43,9 @@ where
         Ok(place) => place,
         Err(_error) => return (Some(seat), Err(ServiceError::OutOfMemory)),
     };
+    let number = A::number(&seat);
     place.put(&rt, seat);
-    let served = serve_at(rt, runtime, site, &place, turns, io);
+    let served = serve_at(rt, runtime, site, &place, number, turns, io);
     (place.take(&rt), served)
 }
 
@@ -52,19 +53,21 @@ fn slot_of<A: Answers>(
     alloc: Global,
     site: &Arc<A>,
     place: &Arc<SeatPlace<A::Seat>>,
+    number: u64,
 ) -> Result<Arc<SeatSlot<A>>, AllocError>
-    ensures { IfOk result (λ slot. site_of slot ≡ arc_value site.now) }
+    ensures { IfOk result (λ slot. giver_of slot ≡ record { site = arc_value site.now; number = number }) }
 {
     let site = Arc::try_clone(site)?;
-    Ok(Arc::new(alloc, SeatSlot::new(site, Arc::try_clone(place)?))?)
+    Ok(Arc::new(alloc, SeatSlot::new(site, Arc::try_clone(place)?, number))?)
 }
 
-// Serves one connection by the seat of the place.
+// Serves one connection by the seat of the place, which has this number.
 fn serve_at<R, A, I>(
     rt: R,
     runtime: &mut LocalRuntime,
     site: &Arc<A>,
     place: &Arc<SeatPlace<A::Seat>>,
+    number: u64,
     turns: u64,
     io: I,
 ) -> Result<(), ServiceError>
@@ -80,7 +83,7 @@ where
         Ok(connects) => connects,
         Err(error) => return Err(refused(&error)),
     };
-    let slot = slot_of(rt.alloc(), site, place)?;
+    let slot = slot_of(rt.alloc(), site, place, number)?;
     run(rt, runtime, &connects, &timers, slot, io)
 }
 
@@ -101,7 +104,7 @@ where
     F: Future<Output = hyper::Result<()>>,
     requires can_connect { (service : _) → M.can_connect connects.now service }
     requires can_poll { (io : _) (service : _) (made : F) → M.makes connects.now io service made → F.can_poll made }
-    ensures { IfOk result (λ _. (made : F) × IsConnectionFor M.makes connects.now io (site_of slot) made
+    ensures { IfOk result (λ _. (made : F) × IsConnectionFor M.makes connects.now io (giver_of slot) made
         × F.gives made (Ok tt)) }
 {
     let Some(connection) = connection(rt, connects, timers, slot, io) else {

@@ -1,5 +1,6 @@
 // The connections of a listener, each a task.
-ghost use Rattle.std.specs.Prelude.{◌≡◌, IfOk};
+ghost use Rattle.std.specs.Prelude.{◌≡◌, ◌↔◌, IfOk, IsErrAnd, IsOk, IsSome, IsTrue};
+ghost use Rattle.std.specs.IoError.{error_kind};
 ghost use Rattle.std.specs.Arc.{arc_value};
 ghost use Rattle.http_connections.specs.Site.{site_in};
 
@@ -32,8 +33,9 @@ pub struct Served<S> {
 pub enum End {
     /// As many as were wanted were served.
     AllServed,
-    /// A connection couldn't be accepted, or no seat was left for it.
+    /// The listener failed, no seat was left for a connection, or the runtime failed.
     AcceptFailed,
+    /// The runtime had no memory.
     OutOfMemory,
 }
 
@@ -53,11 +55,12 @@ where
     A: Answers,
     A::Content: Body<Data = Bytes, Error: Into<anyhow::Error>>,
     requires { (content : A.Content) → A.Content.can_poll content }
+    ensures { IfOk result (λ served. served.end ≡ End.AllServed → IsSome settings.connections) }
 {
     let pool = pool_of(rt.alloc(), site)?;
     pool.open(&rt, seat);
     let ran = run(rt, runtime, listener, &pool, settings, turns);
-    served_by(&rt, rt.alloc(), &pool, &ran)
+    served_by(&rt, rt.alloc(), &pool, settings, &ran)
 }
 
 // What a pool whose connections have ended leaves.
@@ -65,9 +68,12 @@ fn served_by<R: Wait, A: Answers>(
     rt: &R,
     alloc: Global,
     pool: &SeatPool<A>,
+    settings: Settings,
     ran: &io::Result<()>,
-) -> Result<Served<A::Seat>, AllocError> {
-    let end = end_of(ran, pool.is_open(rt));
+) -> Result<Served<A::Seat>, AllocError>
+    ensures { IfOk result (λ served. served.end ≡ End.AllServed → IsSome settings.connections × IsOk ran.now) }
+{
+    let end = end_of(ran, pool.is_open(rt), settings);
     let seats = pool.take_all(rt, alloc)?;
     Ok(Served { seats, end })
 }
@@ -78,9 +84,13 @@ fn pool_of<A: Answers>(alloc: Global, site: &Arc<A>) -> Result<Arc<SeatPool<A>>,
     Ok(Arc::new(alloc, SeatPool::new(alloc, Arc::try_clone(site)?))?)
 }
 
-fn end_of(ran: &io::Result<()>, is_open: bool) -> End {
+fn end_of(ran: &io::Result<()>, is_open: bool, settings: Settings) -> End
+    ensures served { (result ≡ End.AllServed) ↔ (IsOk ran.now × IsTrue is_open × IsSome settings.connections) }
+    ensures memory { (result ≡ End.OutOfMemory)
+        ↔ IsErrAnd ran.now (λ error. error_kind error ≡ ErrorKind.OutOfMemory) }
+{
     match ran {
-        Ok(()) if is_open => End::AllServed,
+        Ok(()) if is_open && settings.connections.is_some() => End::AllServed,
         Err(error) if error.kind() == ErrorKind::OutOfMemory => End::OutOfMemory,
         _ => End::AcceptFailed,
     }

@@ -1,17 +1,17 @@
 // The requests of one connection.
-ghost use Rattle.std.specs.Prelude.{◌≡◌, ◌<◌, ℕ, List, Result, Some, length, IfOk, IfSome, IsSome, IsTrue};
-ghost use Rattle.std.specs.Prelude.{⊤};
+ghost use Rattle.std.specs.Prelude.{◌≡◌, ◌<◌, ℕ, List, Result, Some, length, IfOk, IsSome, IsTrue};
 ghost use Rattle.futures.specs.Poll.{IfReady, OnPending};
 ghost use Rattle.futures.specs.Task.{IsArmed, Keeps};
 ghost use Rattle.http_connections.specs.declared.content_error.ContentError.{ContentError as GatherError};
 ghost use Rattle.http_connections.specs.declared.service.Answering.TheVariants.{Forwarding as Forwards, Made};
 ghost use Rattle.http_connections.specs.declared.service.Answering.TheVariants.{Waiting as Waits};
 ghost use Rattle.http.specs.Request.{body_of, head_of};
-ghost use Rattle.http_connections.specs.Content.{HasOtherCoding, IsAnswerFor, IsAnswerTo, IsAnsweredAtOnce};
-ghost use Rattle.http_connections.specs.Content.{IsContentAtOnce, IsNewFor, IsTooLong};
+ghost use Rattle.http_connections.specs.Answering.{IsCalled};
+ghost use Rattle.http_connections.specs.Content.{IsAnswerFor, IsAnswerTo, IsContentAtOnce, IsNewFor, IsTooLong};
 ghost use Rattle.http_connections.specs.Inner.Begun.{IsBegunWith};
+ghost use Rattle.http_connections.specs.Inner.Ready.{IsReady};
 ghost use Rattle.http_connections.specs.Sent.{IsExchangeFor, IsForwardedBy, IsGivenBy};
-ghost use Rattle.http_connections.specs.Site.{site_of};
+ghost use Rattle.http_connections.specs.Site.{giver_of};
 ghost use Rattle.mock_request.specs.declared.snapshot.TheConstants.{BODY_LIMIT};
 
 use crate::answers::Answers;
@@ -100,16 +100,8 @@ where
 
     type Future = Answering<R, A, Gathering<R, Incoming<I>>>;
 
-    ghost calls = { λ service request future. elim future [
-      | Made made ↦ IfSome made (λ result. IfOk result (IsAnsweredAtOnce A.Content.is_default
-          (IsGivenBy A.gives (site_of service.slot)) request))
-      | Waits waiting ↦ (head_of waiting.value.request ≡ head_of request)
-          × IsNewFor waiting.value.content (body_of request) × ¬ (HasOtherCoding (head_of request).headers)
-          × (site_of waiting.value.slot ≡ site_of service.slot)
-      | Forwards forwarding ↦ ((content : List ℕ) × IsContentAtOnce (body_of request) content
-          × IsForwardedBy A.forwards (site_of service.slot) (record { head = head_of request; body = content })
-          forwarding.exchange.value) × (site_of forwarding.slot ≡ site_of service.slot)
-    ] };
+    ghost calls = { λ service. IsCalled A.Content.is_default (IsGivenBy A.number_of A.gives)
+        (IsForwardedBy A.number_of A.forwards) (giver_of service.slot) };
 
     // A request without content is answered at once, or forwarded.
     fn call(&self, request: Request<Incoming<I>>) -> Self::Future {
@@ -133,21 +125,9 @@ where
         content: Bytes,
     ) -> Answering<R, A, Gathering<R, Incoming<I>>>
         requires { IsContentAtOnce (body_of request) content }
-        ensures called { elim result [
-          | Made made ↦ IfSome made (λ result. IfOk result (IsAnsweredAtOnce A.Content.is_default
-              (IsGivenBy A.gives (site_of self.now.slot)) request))
-          | Waits waiting ↦ (head_of waiting.value.request ≡ head_of request)
-              × IsNewFor waiting.value.content (body_of request) × ¬ (HasOtherCoding (head_of request).headers)
-              × (site_of waiting.value.slot ≡ site_of self.now.slot)
-          | Forwards forwarding ↦ ((content : List ℕ) × IsContentAtOnce (body_of request) content
-              × IsForwardedBy A.forwards (site_of self.now.slot) (record { head = head_of request; body = content })
-              forwarding.exchange.value) × (site_of forwarding.slot ≡ site_of self.now.slot)
-        ] }
-        ensures can_poll { elim result [
-          | Made made ↦ IsSome made
-          | Waits waiting ↦ ⊤
-          | Forwards forwarding ↦ A.Exchange.can_poll forwarding.exchange.value
-        ] }
+        ensures called { IsCalled A.Content.is_default (IsGivenBy A.number_of A.gives)
+            (IsForwardedBy A.number_of A.forwards) (giver_of self.now.slot) request result }
+        ensures can_poll { IsReady A.Exchange.can_poll result }
     {
         let message = with_content(request, content);
         match self.slot.begin(&self.rt, self.rt.alloc(), &message) {
@@ -165,7 +145,7 @@ where
 
     fn forwarding(&self, exchange: Box<A::Exchange>) -> Result<Forwarding<R, A>, AllocError>
         ensures exchange { IfOk result (λ forwarding. forwarding.exchange ≡ exchange) }
-        ensures site { IfOk result (λ forwarding. site_of forwarding.slot ≡ site_of self.now.slot) }
+        ensures giver { IfOk result (λ forwarding. giver_of forwarding.slot ≡ giver_of self.now.slot) }
     {
         Ok(Forwarding::new(self.rt, Arc::try_clone(&self.slot)?, exchange))
     }
@@ -178,21 +158,9 @@ where
         &self,
         request: Request<Incoming<I>>,
     ) -> Answering<R, A, Gathering<R, Incoming<I>>>
-        ensures called { elim result [
-          | Made made ↦ IfSome made (λ result. IfOk result (IsAnsweredAtOnce A.Content.is_default
-              (IsGivenBy A.gives (site_of self.now.slot)) request))
-          | Waits waiting ↦ (head_of waiting.value.request ≡ head_of request)
-              × IsNewFor waiting.value.content (body_of request) × ¬ (HasOtherCoding (head_of request).headers)
-              × (site_of waiting.value.slot ≡ site_of self.now.slot)
-          | Forwards forwarding ↦ ((content : List ℕ) × IsContentAtOnce (body_of request) content
-              × IsForwardedBy A.forwards (site_of self.now.slot) (record { head = head_of request; body = content })
-              forwarding.exchange.value) × (site_of forwarding.slot ≡ site_of self.now.slot)
-        ] }
-        ensures can_poll { elim result [
-          | Made made ↦ IsSome made
-          | Waits waiting ↦ ⊤
-          | Forwards forwarding ↦ A.Exchange.can_poll forwarding.exchange.value
-        ] }
+        ensures called { IsCalled A.Content.is_default (IsGivenBy A.number_of A.gives)
+            (IsForwardedBy A.number_of A.forwards) (giver_of self.now.slot) request result }
+        ensures can_poll { IsReady A.Exchange.can_poll result }
     {
         if has_other_coding(request.headers()) {
             return Answering::Made(Some(Ok(unknown_coding(self.rt.alloc()))));
@@ -212,21 +180,9 @@ where
         request: Request<Incoming<I>>,
     ) -> Answering<R, A, Gathering<R, Incoming<I>>>
         requires { IsTooLong (body_of request) }
-        ensures called { elim result [
-          | Made made ↦ IfSome made (λ result. IfOk result (IsAnsweredAtOnce A.Content.is_default
-              (IsGivenBy A.gives (site_of self.now.slot)) request))
-          | Waits waiting ↦ (head_of waiting.value.request ≡ head_of request)
-              × IsNewFor waiting.value.content (body_of request) × ¬ (HasOtherCoding (head_of request).headers)
-              × (site_of waiting.value.slot ≡ site_of self.now.slot)
-          | Forwards forwarding ↦ ((content : List ℕ) × IsContentAtOnce (body_of request) content
-              × IsForwardedBy A.forwards (site_of self.now.slot) (record { head = head_of request; body = content })
-              forwarding.exchange.value) × (site_of forwarding.slot ≡ site_of self.now.slot)
-        ] }
-        ensures can_poll { elim result [
-          | Made made ↦ IsSome made
-          | Waits waiting ↦ ⊤
-          | Forwards forwarding ↦ A.Exchange.can_poll forwarding.exchange.value
-        ] }
+        ensures called { IsCalled A.Content.is_default (IsGivenBy A.number_of A.gives)
+            (IsForwardedBy A.number_of A.forwards) (giver_of self.now.slot) request result }
+        ensures can_poll { IsReady A.Exchange.can_poll result }
     {
         match overlong(self.rt.alloc()) {
             Ok(content) => self.at_once(request, content),
@@ -241,7 +197,7 @@ where
     ) -> Result<Box<Waiting<R, A, Gathering<R, Incoming<I>>>>, AllocError>
         ensures head { IfOk result (λ waiting. head_of waiting.value.request ≡ head_of request) }
         ensures content { IfOk result (λ waiting. IsNewFor waiting.value.content (body_of request)) }
-        ensures site { IfOk result (λ waiting. site_of waiting.value.slot ≡ site_of self.now.slot) }
+        ensures giver { IfOk result (λ waiting. giver_of waiting.value.slot ≡ giver_of self.now.slot) }
     {
         let alloc = self.rt.alloc();
         let (head, body) = request.into_parts();
@@ -274,12 +230,13 @@ where
       | Made made ↦ made ≡ Some result
       | Waits waiting ↦ IfOk result (λ made. (gathered : Result (List ℕ) GatherError)
           × G.gives waiting.value.content gathered
-          × IsAnswerTo A.Content.is_default (IsGivenBy A.gives (site_of waiting.value.slot))
+          × IsAnswerTo A.Content.is_default (IsGivenBy A.number_of A.gives (giver_of waiting.value.slot))
           (head_of waiting.value.request) gathered made)
       | Forwards forwarding ↦ (message : _)
-          → IsExchangeFor (IsForwardedBy A.forwards (site_of forwarding.slot)) A.Exchange.gives message
+          → IsExchangeFor (IsForwardedBy A.number_of A.forwards (giver_of forwarding.slot)) A.Exchange.gives message
           forwarding.exchange.value
-          → IfOk result (IsAnswerFor A.Content.is_default (IsGivenBy A.gives (site_of forwarding.slot)) message)
+          → IfOk result (IsAnswerFor A.Content.is_default
+          (IsGivenBy A.number_of A.gives (giver_of forwarding.slot)) message)
     ] };
 
     fn poll(&mut self, cx: &mut Context<'_>) -> Poll<Result<Response<A::Content>, ServiceError>> {
@@ -320,8 +277,8 @@ where
         requires { G.can_poll self.old.content }
         ensures value { IfReady result (λ result. IfOk result (λ begun. (gathered : Result (List ℕ) GatherError)
             × G.gives self.old.content gathered
-            × IsBegunWith A.Content.is_default (IsGivenBy A.gives (site_of self.old.slot))
-            (IsForwardedBy A.forwards (site_of self.old.slot)) A.Exchange.can_poll
+            × IsBegunWith A.Content.is_default (IsGivenBy A.number_of A.gives (giver_of self.old.slot))
+            (IsForwardedBy A.number_of A.forwards (giver_of self.old.slot)) A.Exchange.can_poll
             (head_of self.old.request) gathered begun)) }
         ensures again { OnPending result (G.can_poll self.new.content) }
         ensures same { OnPending result (head_of self.new.request ≡ head_of self.old.request) }
@@ -339,8 +296,8 @@ where
         &mut self,
         gathered: Result<Bytes, ContentError>,
     ) -> Result<Begun<A::Exchange, A::Content>, ServiceError>
-        ensures begun { IfOk result (IsBegunWith A.Content.is_default (IsGivenBy A.gives (site_of self.old.slot))
-            (IsForwardedBy A.forwards (site_of self.old.slot)) A.Exchange.can_poll
+        ensures begun { IfOk result (IsBegunWith A.Content.is_default
+            (IsGivenBy A.number_of A.gives (giver_of self.old.slot)) (IsForwardedBy A.number_of A.forwards (giver_of self.old.slot)) A.Exchange.can_poll
             (head_of self.old.request) gathered) }
         ensures slot { self.new.slot ≡ self.old.slot }
     {
@@ -366,7 +323,7 @@ where
 
     fn forwarding(&self, exchange: Box<A::Exchange>) -> Result<Forwarding<R, A>, AllocError>
         ensures exchange { IfOk result (λ forwarding. forwarding.exchange ≡ exchange) }
-        ensures site { IfOk result (λ forwarding. site_of forwarding.slot ≡ site_of self.now.slot) }
+        ensures giver { IfOk result (λ forwarding. giver_of forwarding.slot ≡ giver_of self.now.slot) }
     {
         Ok(Forwarding::new(self.rt, Arc::try_clone(&self.slot)?, exchange))
     }

@@ -105,24 +105,25 @@ module _ (rules : SiteRules) {E : Type 0} (reaches : List ℕ → Type 0) (sends
 
   -- the exchange has given what came of it
   pub given_later : (old new : Held) (message : Message (List ℕ)) (first_old first_new : Held)
-      (exchange : SiteExchange E)
+      (exchange : SiteExchange E) → first_old.number ≡ old.number
       → IsForwardedBy rules reaches sends exchanged first_old first_new message exchange → (forward : Forward)
       → (forwarded : Result Reply ProxyError) → exchange.forward ≡ Some forward → exchanged exchange.exchange forwarded
       → {Refusal : Type 0} (result : Result (Response (List ℕ)) Refusal)
       → IfOk result (IsFinished rules.origin rules.history old new forward forwarded)
       → IfOk result (IsGiven rules reaches sends exchanged old new message)
-  given_later old new message first_old first_new exchange by forward forwarded held came (Ok response) finished =
+  given_later old new message first_old first_new exchange seat by forward forwarded held came (Ok response) finished =
       let same = some_same by.forward forward (sym by.held ∙ held) in
       inr (inr (record {
         exchange = exchange;
         first_old = first_old;
         first_new = first_new;
+        same = seat;
         by = by;
         forwarded = forwarded;
         came = came;
         finished = subst (λ f. IsFinished rules.origin rules.history old new f forwarded response) (sym same) finished;
       }))
-  given_later old new message first_old first_new exchange by forward forwarded held came (Err error) finished = tt
+  given_later old new message first_old first_new exchange seat by forward forwarded held came (Err error) finished = tt
 
 module _ (origin : Past) (name : Book) (old new : Held) where
   -- the call that clears the journal was refused

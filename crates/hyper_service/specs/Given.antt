@@ -101,12 +101,14 @@ module _ (rules : SiteRules) where
       pub finished : IsFinished rules.origin rules.history begun middle forward forwarded response
       pub kept : IsKept rules.journal rules.origin rules.history middle new
 
-    -- The message was forwarded, the exchange gave this, and the response is the one to that. The seat isn't held
-    -- meanwhile, so before this it need not be as the first of both calls left it.
+    -- The message was forwarded, the exchange gave this, and the response is the one to that. Both calls are of the same
+    -- seat, and in what a seat has seen are all entries of its own (`IsIn`). It isn't held meanwhile, so before the
+    -- second it need not be as the first left it.
     pub record IsGivenLater (old new : Held) (message : Message (List ℕ)) (response : Response (List ℕ)) : Type 0 where
       pub exchange : SiteExchange E
       pub first_old : Held
       pub first_new : Held
+      pub same : first_old.number ≡ old.number
       pub by : IsForwardedBy first_old first_new message exchange
       pub forwarded : Result Reply ProxyError
       pub came : exchanged exchange.exchange forwarded

@@ -86,6 +86,8 @@ where
 
     type Content = Content;
 
+    ghost number_of = { λ seat. seat.number };
+
     ghost gives = { λ answers.
         IsGiven (rules_of L.origin L.book answers) (F.reaches answers.forwarder) F.sends F.Exchange.gives };
 
@@ -99,6 +101,10 @@ where
     ghost splits = { λ _. IsSplit L.origin L.book };
 
     ghost joins = { λ _. IsJoined L.origin L.book };
+
+    fn number(seat: &Seat<L>) -> u64 {
+        seat.number()
+    }
 
     fn begin<R: Wait>(
         &self,

@@ -1,6 +1,14 @@
 -- A command that writes to standard output alone, or to standard error alone.
-use Rattle.std.proofs.Common.{◌≡◌, ◌⊎◌, ℕ, inl, inr, arith}
+use Rattle.std.proofs.Common.{◌≡◌, ◌⊎◌, ℕ, Bool, List, Option, inl, inr, true, false, arith}
 use Rattle.command_output.specs.Output.{WritesOneStream}
+use Rattle.mapping_explanation.specs.Explaining.{Ends}
+
+-- the exit status of a text that was written, or a part of it
+pub of_end : (answered : Bool) (text : List ℕ) (old new : Option (List ℕ)) (status : ℕ)
+    → Ends answered text old new status → status ≡ 0 ⊎ status ≡ 1
+of_end true text old new status (inl (written, is)) = inl is
+of_end false text old new status (inl (written, is)) = inr is
+of_end answered text old new status (inr (begun, one)) = inr one
 
 module _ {O E : Type 0} where
   pub of_output : (out out' : O) (err err' : E) (status : ℕ) → status ≡ 0 ⊎ status ≡ 1 → err' ≡ err

@@ -99,8 +99,8 @@ fn write_to<O: Write>(out: &mut O, made: &Printed) -> u8
     ensures { Ends made.now.is_answered (string_bytes made.now.text) (O.contents out.old) (O.contents out.new) result }
 {
     match put(out, made.text.as_str().as_bytes()) {
-        Ok(()) if made.is_answered => SUCCESS,
-        _ => FAILURE,
+        Ok(()) => if made.is_answered { SUCCESS } else { FAILURE },
+        Err(_error) => FAILURE,
     }
 }
 

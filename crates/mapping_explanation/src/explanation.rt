@@ -141,11 +141,7 @@ fn ids_of(alloc: Global, mappings: &[ReadyMapping]) -> Result<Vec<MappingId>, Al
     Ok(ids)
 }
 
-fn set_states(
-    alloc: Global,
-    book: &mut Book,
-    states: &[GivenState<'_>],
-) -> Result<(), CommandError>
+fn set_states(alloc: Global, book: &mut Book, states: &[GivenState<'_>]) -> Result<(), CommandError>
     ensures { OnOk result (AreSet (map given_of states.now) book.old book.new) }
 {
     for given in states {

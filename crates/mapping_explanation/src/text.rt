@@ -32,11 +32,7 @@ pub(crate) fn text_of(
 }
 
 /// As `mapping 2 (id 3f83df0b-a3bf-5f1c-9b5c-bffae2bac110`.
-fn answer_front(
-    alloc: Global,
-    number: usize,
-    answer: &ServeAnswer,
-) -> Result<String, AllocError>
+fn answer_front(alloc: Global, number: usize, answer: &ServeAnswer) -> Result<String, AllocError>
     ensures { IfOk result (λ text. string_bytes text ≡ front_of number answer.now) }
 {
     match answer {
@@ -61,11 +57,7 @@ fn rest_of(
     let mut text = String::new(alloc);
     if let ServeAnswer::Stub(captured) = &explanation.answer {
         if let Some(name) = &captured.mapping.spec.spec().name {
-            push_part(
-                &mut text,
-                ", name ",
-                quoted(alloc, name.as_str())?.as_str(),
-            )?;
+            push_part(&mut text, ", name ", quoted(alloc, name.as_str())?.as_str())?;
         }
         text.push_str(") answers: status ")?;
     }

@@ -229,7 +229,8 @@ where
     L: Origin,
     R: Clock + Net + AllocGlobal + Copy + Drop,
     ensures { IfOk result (λ answers. rules_of L.origin L.book answers ≡ record {
-      origin = L.origin; history = L.book;
+      origin = L.origin;
+      history = L.book;
       limits = usual_limits;
       escape = arguments.entry.escape;
       journal = arguments.entry.journal_limit;

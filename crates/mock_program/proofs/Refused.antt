@@ -13,6 +13,9 @@ use Rattle.mapping_explanation.specs.declared.explain.Form.{Form}
 use Rattle.mapping_explanation.specs.declared.explain.Form.TheVariants as form
 use Rattle.command_output.specs.declared.files.FileError.TheVariants as file
 
+text_not_json : form.Text ≡ form.Json → ⊥
+text_not_json same = cc
+
 pub without_memory : {O E : Type 0} (out_holds : O → Option (List ℕ)) (err_holds : E → Option (List ℕ))
     (listed : List ℕ → Option (List (List ℕ))) (known : List ℕ → Option (List ℕ))
     (escape : Escape) (asked : Asked) (options : List (List ℕ × List ℕ))
@@ -43,7 +46,7 @@ without_memory out_holds err_holds listed known escape (explain path method targ
       [],
       form.Text,
       record { method_is = refl; target_is = refl; plain_headers = λ none. refl; plain_body = λ none. refl },
-      record { plain_states = λ none. refl; plain_form = λ none. λ () },
+      record { plain_states = λ none. refl; plain_form = λ none. text_not_json },
       alone err_holds
           (λ e. ExplainsFiles out_holds escape (listed path) known sent [] form.Text out out' err e status) err'
           (inr (one, same)),

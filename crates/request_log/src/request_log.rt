@@ -1,8 +1,8 @@
 // What is told of requests.
 use crate::lines::Lines;
 use crate::mapping_name::push_mapping;
-use crate::nearest::nearest_lines;
 pub use crate::nearest::Offer;
+use crate::nearest::nearest_lines;
 use crate::over_budget::over_budget_line;
 use crate::request_line::request_line;
 use admin_table::route::{Route, is_admin, route_of};
@@ -46,12 +46,7 @@ pub struct RequestLog {
 }
 
 impl RequestLog {
-    pub fn new(
-        lines: Arc<Lines>,
-        is_verbose: bool,
-        escape: Escape,
-        limits: Limits,
-    ) -> RequestLog {
+    pub fn new(lines: Arc<Lines>, is_verbose: bool, escape: Escape, limits: Limits) -> RequestLog {
         RequestLog {
             lines,
             is_verbose,

@@ -17,6 +17,10 @@ returns c =
     record {
       cost = cost;
       budget = budget_of program text c.program.ensures.source c.program.ensures.program;
-      steps_are = c.in_ok-checked_add.ensures ∙ ap (λ m. c.args.taken.steps + m) (c.in_ok-steps.ensures.steps ∙ same_steps);
-      bytes_are = c.in_ok-checked_add-2.ensures ∙ ap (λ m. c.args.taken.bytes + m) (c.in_ok-steps.ensures.bytes ∙ same_bytes);
+      steps_are =
+          c.in_ok-checked_add.ensures
+          ∙ ap (λ m. c.args.taken.steps + m) (c.in_ok-steps.ensures.steps ∙ same_steps);
+      bytes_are =
+          c.in_ok-checked_add-2.ensures
+          ∙ ap (λ m. c.args.taken.bytes + m) (c.in_ok-steps.ensures.bytes ∙ same_bytes);
     }
