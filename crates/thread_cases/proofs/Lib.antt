@@ -1,1 +1,2 @@
+mod CapturedLemmas
 mod SiteLemmas
