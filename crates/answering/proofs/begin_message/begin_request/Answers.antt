@@ -1,5 +1,6 @@
 use Rattle.std.proofs.Common.{sym, ◌∙◌, subst, inl, inr}
 use Rattle.std.proofs.lemmas.Bool.{false≢true}
+use Rattle.std.proofs.lemmas.Result.{err_from_is_err_and}
 use Rattle.admin_table.specs.Routes.{IsAdmin}
 use Rattle.answering.specs.Answering.{IsRequestAnswered, IsServeAnswered}
 use Rattle.answering.specs.Inner.Sent.{IsRequestToForward, IsServedToForward}
@@ -25,3 +26,10 @@ returns-then-is_admin g c =
     let is = subst IsAdmin c.url.ensures.value (c.is_admin.ensures.0 c.if-is_admin.true) in
     let made = c.in_ok-response.ensures in
     (made.0, inl (is, made.1), made.2)
+
+pub returns-in_err-response : goal.returns-in_err-response
+returns-in_err-response g c =
+    let is = subst IsAdmin c.url.ensures.value (c.is_admin.ensures.0 c.if-is_admin.true) in
+    let none = err_from_is_err_and c.from_residual.result c.from_residual.ensures.1 in
+    let reply = c.in_err-response.ensures in
+    rw none.1 (reply.0, inl (is, reply.1))
