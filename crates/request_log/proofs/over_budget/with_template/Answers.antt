@@ -18,9 +18,9 @@ returns c =
       cost = cost;
       budget = budget_of program text c.program.ensures.source c.program.ensures.program;
       steps_are =
-          c.in_ok-checked_add.ensures
+          c.in_ok-checked_add.ensures.1
           ∙ ap (λ m. c.args.taken.steps + m) (c.in_ok-steps.ensures.steps ∙ same_steps);
       bytes_are =
-          c.in_ok-checked_add-2.ensures
+          c.in_ok-checked_add-2.ensures.1
           ∙ ap (λ m. c.args.taken.bytes + m) (c.in_ok-steps.ensures.bytes ∙ same_bytes);
     }
