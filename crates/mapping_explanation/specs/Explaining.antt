@@ -24,12 +24,15 @@ use Rattle.uuid.specs.Text.{hyphenated_text, lower}
 abbrev pub given_of : GivenState → List ℕ × List ℕ
 given_of given = (given.scenario.now, given.state.now)
 
--- each scenario was set to its state, one after another, by calls of the book
+-- the scenario was set to the state, by a call of the book
+unfoldable pub IsSetTo : List ℕ → List ℕ → Past → Past → Type 0
+IsSetTo scenario state old new = (accepted : Accepted) × IsAccepted old new (SetScenario scenario state) accepted
+
+-- each scenario was set to its state, one after another
 abbrev pub AreSet : List (List ℕ × List ℕ) → Past → Past → Type 0
 AreSet [] old new = old ≡ new
 AreSet ((scenario, state) ∷ states) old new =
-    (next : Past) × (accepted : Accepted) × IsAccepted old next (SetScenario scenario state) accepted
-    × AreSet states next new
+    (next : Past) × IsSetTo scenario state old next × AreSet states next new
 
 -- what that book answers the request with
 pub record IsAnswer (escape : Escape) (documents : List (List ℕ)) (sent : Sent) (states : List (List ℕ × List ℕ))

@@ -1,12 +1,9 @@
 // Which mapping answers a request, and what each other one wants.
 ghost use Rattle.std.specs.Prelude.{◌≡◌, IfOk, OnOk, map};
 ghost use Rattle.mapping_answer.specs.Answering.{sent_of};
-ghost use Rattle.mapping_explanation.specs.Explaining.{AreSet, IsAnswer, given_of};
+ghost use Rattle.mapping_explanation.specs.Explaining.{AreSet, IsAnswer, IsSetTo, given_of};
 ghost use Rattle.request_journal.specs.Choice.{IsChoice};
 ghost use Rattle.request_journal.specs.Past.{opened};
-ghost use Rattle.request_journal.specs.declared.input.BookInput.TheVariants.{SetScenario};
-ghost use Rattle.stub_book.specs.Growth.{IsAccepted};
-ghost use Rattle.stub_book.specs.declared.accepted.Accepted.{Accepted};
 
 use command_output::error::CommandError;
 use command_output::files::Documents;
@@ -150,9 +147,9 @@ fn set_states(alloc: Global, book: &mut Book, states: &[GivenState<'_>]) -> Resu
     Ok(())
 }
 
+#[tactic(auto, unfolding(crate::specs::Explaining::IsSetTo))]
 fn set_state(alloc: Global, book: &mut Book, given: GivenState<'_>) -> Result<(), CommandError>
-    ensures { OnOk result ((accepted : Accepted)
-        × IsAccepted book.old book.new (SetScenario given.entry.scenario.now given.entry.state.now) accepted) }
+    ensures { OnOk result (IsSetTo given.entry.scenario.now given.entry.state.now book.old book.new) }
 {
     let scenario = Text::from(String::from_str(alloc, given.scenario)?);
     let state = Text::from(String::from_str(alloc, given.state)?);

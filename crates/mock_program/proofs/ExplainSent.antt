@@ -29,11 +29,11 @@ explained out_holds err_holds listed known escape path question options out out'
         method_is = refl;
         target_is = refl;
         plain_headers = λ none. ap headers_of (plain none).0;
-        plain_body = λ none. (plain none).1.0;
+        plain_body = λ none. (plain none).1;
       },
       record {
-        plain_states = λ none. ap (map given_of) (plain none).1.1.0;
-        plain_form = λ none. (plain none).1.1.1;
+        plain_states = λ none. ap (map given_of) (plain none).2;
+        plain_form = λ none. (plain none).3;
       },
       done,
     )

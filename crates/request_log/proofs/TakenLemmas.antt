@@ -1,10 +1,15 @@
 -- What templates may take together, one after another.
-use Rattle.std.proofs.Common.{◌≡◌, ◌+◌, ℕ, List, [], ◌∷◌, refl, sym, subst, arith}
+use Rattle.std.proofs.Common.{◌≡◌, ◌+◌, ◌⊎◌, ℕ, List, [], ◌∷◌, None, Option, Some, ap, inl, inr, refl, sym, subst, arith}
+use Rattle.std.specs.Prelude.{IfSome}
 use Rattle.std.specs.List.{AllZip, sum_by}
 use Rattle.std.proofs.lemmas.List.Sums.{sum_by-cons}
 use Rattle.code_rules.specs.Polynomial.{value}
 use Rattle.code_rules.specs.Regions.{Budget}
+use Rattle.mapping_model.specs.declared.response_spec.Body.{Body}
+use Rattle.mapping_model.specs.declared.response_spec.Body.TheVariants as body
 use Rattle.request_log.specs.Taken.{MayTake, MayTakeMore}
+use Rattle.request_log.specs.declared.over_budget.Taken.{Taken}
+use Rattle.stub_response.specs.Response.{body_templates}
 use Rattle.template_tree.specs.Source.{Source}
 
 pub takes_none : (n : ℕ) → MayTake [] n 0 0
@@ -49,3 +54,22 @@ takes_all all n steps bytes so_far =
     let same_bytes : bytes + 0 ≡ bytes = omega arith in
     subst (λ (m : ℕ). MayTake all n steps m) same_bytes
     (subst (λ (m : ℕ). MayTake all n m (bytes + 0)) same_steps whole)
+
+-- after the last one, where there is a template in the body
+pub takes_last : (result : Option Taken) (template : Source) (all : List Source) (n steps bytes : ℕ)
+    → IfSome result (λ both. MayTakeMore template n steps bytes both.steps both.bytes)
+    → ((x y : ℕ) → MayTake (template ∷ []) n x y → MayTake all n (steps + x) (bytes + y))
+    → IfSome result (λ taken. MayTake all n taken.steps taken.bytes)
+takes_last None template all n steps bytes more so_far = more
+takes_last (Some both) template all n steps bytes more so_far =
+    takes_all all n both.steps both.bytes
+    (takes_more template [] all n steps bytes both.steps both.bytes more so_far)
+
+-- a body without a template
+pub no_template : (content : Body Source)
+    → (content ≡ body.Empty) ⊎ (((text : List ℕ) × (content ≡ body.Json text))
+    ⊎ ((octets : List ℕ) × (content ≡ body.Base64 octets)))
+    → body_templates content ≡ []
+no_template content (inl is) = ap body_templates is
+no_template content (inr (inl (text, is))) = ap body_templates is
+no_template content (inr (inr (octets, is))) = ap body_templates is

@@ -9,11 +9,11 @@ returns-in-Ok-clause-answer g c =
     inl (
       told.0,
       string_bytes c.in-Ok.made.text,
-      told.1.0,
-      told.1.1.0,
+      told.1,
+      told.2,
       subst
           (λ answered. Ends answered (string_bytes c.in-Ok.made.text) (g.O.Write.contents c.args.out.now)
-          (g.O.Write.contents c.write_to.new.out) c.write_to.result) told.1.1.1 c.write_to.ensures,
+          (g.O.Write.contents c.write_to.new.out) c.write_to.result) told.3 c.write_to.ensures,
       refl,
     )
 

@@ -17,7 +17,7 @@ returns-in-Ok g c =
     c.args.out.now c.answer_file.new.out c.args.err.now c.answer_file.new.err c.answer_file.result
     (λ none. (
       c.as_slice.ensures.value ∙ (c.in-Ok.ensures.plain none).0,
-      c.as_slice-in-Ok.ensures.value ∙ (c.in-Ok.ensures.plain none).1.0,
+      c.as_slice-in-Ok.ensures.value ∙ (c.in-Ok.ensures.plain none).1,
     ))
     c.answer_file.ensures
 

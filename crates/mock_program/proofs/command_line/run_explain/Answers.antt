@@ -11,9 +11,9 @@ returns-in-Ok g c =
     c.args.out.now c.explain_file.new.out c.args.err.now c.explain_file.new.err c.explain_file.result
     (λ none. (
       c.as_slice.ensures.value ∙ (c.in-Ok.ensures.plain none).0,
-      c.as_slice-body.ensures.value ∙ (c.in-Ok.ensures.plain none).1.0,
-      c.as_slice-states.ensures.value ∙ (c.in-Ok.ensures.plain none).1.1.0,
-      c.form_of.ensures (c.in-Ok.ensures.plain none).1.1.1,
+      c.as_slice-body.ensures.value ∙ (c.in-Ok.ensures.plain none).1,
+      c.as_slice-states.ensures.value ∙ (c.in-Ok.ensures.plain none).2,
+      c.form_of.ensures (c.in-Ok.ensures.plain none).3,
     ))
     c.explain_file.ensures.answer
 
