@@ -142,17 +142,22 @@ fn set_states(alloc: Global, book: &mut Book, states: &[GivenState<'_>]) -> Resu
     ensures { OnOk result (AreSet (map given_of states.now) book.old book.new) }
 {
     for given in states {
-        set_state(alloc, book, *given)?;
+        set_state(alloc, book, given.scenario, given.state)?;
     }
     Ok(())
 }
 
 #[tactic(auto, unfolding(crate::specs::Explaining::IsSetTo))]
-fn set_state(alloc: Global, book: &mut Book, given: GivenState<'_>) -> Result<(), CommandError>
-    ensures { OnOk result (IsSetTo given.entry.scenario.now given.entry.state.now book.old book.new) }
+fn set_state(
+    alloc: Global,
+    book: &mut Book,
+    scenario: &str,
+    state: &str,
+) -> Result<(), CommandError>
+    ensures { OnOk result (IsSetTo scenario.now state.now book.old book.new) }
 {
-    let scenario = Text::from(String::from_str(alloc, given.scenario)?);
-    let state = Text::from(String::from_str(alloc, given.state)?);
+    let scenario = Text::from(String::from_str(alloc, scenario)?);
+    let state = Text::from(String::from_str(alloc, state)?);
     match book.set_scenario(scenario, state) {
         Ok(_accepted) => Ok(()),
         Err(error) => Err(CommandError::from(error.code)),
