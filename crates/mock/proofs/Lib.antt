@@ -1,2 +1,3 @@
 mod HelpAsked
 mod OtherCommands
+mod Serves
