@@ -113,9 +113,9 @@ module _ {O E : Type 0} (out_holds : O → Option (List ℕ)) (err_holds : E →
       → Explains out_holds escape documents sent states form out out' err err' status
       → WritesOneStream out out' err err' status
   of_explanation escape documents sent states form out out' err err' status
-      (inl (answer, text, is, says, ends, same)) =
+      (inl (given, text, is, says, ends, same)) =
       of_output out out' err err' status
-      (of_end (is_answered answer) text (out_holds out) (out_holds out') status ends) same
+      (of_end (is_answered given) text (out_holds out) (out_holds out') status ends) same
   of_explanation escape documents sent states form out out' err err' status (inr (one, same)) =
       of_error out out' err err' status one same
 

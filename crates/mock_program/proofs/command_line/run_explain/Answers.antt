@@ -6,13 +6,23 @@ use Rattle.mock_program.proofs.command_line.run_explain.Goals as goal
 
 pub returns-in-Ok : goal.returns-in-Ok
 returns-in-Ok g c =
+    let question : Question = record {
+      request = record {
+        method = c.args.method;
+        target = c.args.target;
+        headers = c.as_slice.result;
+        body = c.as_slice-in-Ok.result;
+      };
+      states = c.as_slice-in-Ok-2.result;
+      form = c.form_of.result;
+    } in
     explained g.O.Write.contents g.E.Write.contents (g.F.FileReader.listed c.args.files.now)
-    (g.F.FileReader.content c.args.files.now) c.args.escape c.args.file.now c.question (map given_of c.args.options.now)
+    (g.F.FileReader.content c.args.files.now) c.args.escape c.args.file.now question (map given_of c.args.options.now)
     c.args.out.now c.explain_file.new.out c.args.err.now c.explain_file.new.err c.explain_file.result
     (λ none. (
       c.as_slice.ensures.value ∙ (c.in-Ok.ensures.plain none).0,
-      c.as_slice-body.ensures.value ∙ (c.in-Ok.ensures.plain none).1,
-      c.as_slice-states.ensures.value ∙ (c.in-Ok.ensures.plain none).2,
+      c.as_slice-in-Ok.ensures.value ∙ (c.in-Ok.ensures.plain none).1,
+      c.as_slice-in-Ok-2.ensures.value ∙ (c.in-Ok.ensures.plain none).2,
       c.form_of.ensures (c.in-Ok.ensures.plain none).3,
     ))
     c.explain_file.ensures.answer
