@@ -76,7 +76,7 @@ where
     E: Write,
     W: Write + Drop + Send + 'static,
     ensures serves { ServesBook O.contents E.contents
-        (IsServedBook arguments.escape (option_copied arguments.mappings) (R.listed rt) (R.content rt))
+        (IsServedBook arguments.entry.escape (option_copied arguments.entry.mappings) (R.listed rt) (R.content rt))
         out.old out.new err.new result }
     ensures status { result ≤ 1 }
 {
