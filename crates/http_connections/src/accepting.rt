@@ -1,6 +1,8 @@
 // The connections that a listener accepts, each a task.
 ghost use Rattle.std.specs.Prelude.{◌≡◌, ◌⊎◌, ◌↔◌, ◌-◌, ◌<◌, IfSome, IsTrue, OnSome, false, option_map, true};
 ghost use Rattle.std.specs.IoError.{raw_os_error};
+ghost use Rattle.futures.specs.Poll.{OnPending};
+ghost use Rattle.futures.specs.Task.{IsArmed, Keeps};
 ghost use Rattle.http_connections.specs.Inner.Accepted.{AreWanted, IsOfListener};
 ghost use Rattle.http_connections.specs.Site.{IsConnectionFor, IsConnectionOf, site_in};
 
@@ -18,7 +20,7 @@ use futures::{Future, Stream, ready};
 use std::alloc::AllocGlobal;
 use std::io;
 use std::sync::{Arc, Wait};
-use std::time::Clock;
+use std::time::{Clock, Instant};
 use tokio::net::{TcpListener, TcpStream};
 
 /// The numbers of Linux for what is wrong with a listener itself (accept(2)).
@@ -39,6 +41,8 @@ pub(crate) struct Accepting<R, A: Answers, M> {
     left: Option<u64>,
     most: u64,
     is_open: bool,
+    /// A connection that waits for room.
+    waiting: Option<TcpStream>,
     pause: Pause<R>,
     connects: M,
 }
@@ -68,6 +72,7 @@ where
             left: settings.connections,
             most: settings.max_connections,
             is_open: true,
+            waiting: None,
             pause,
             connects,
         }
@@ -121,6 +126,48 @@ where
         }
     }
 
+    // The socket that waits, or the next one.
+    fn poll_socket(&mut self, cx: &mut Context<'_>) -> Poll<io::Result<TcpStream>>
+        ensures registered { OnPending result (IsArmed cx.new) }
+        ensures kept { Keeps cx.old cx.new }
+        ensures connects { self.new.connects ≡ self.old.connects }
+        ensures pool { self.new.pool ≡ self.old.pool }
+        ensures left { self.new.left ≡ self.old.left }
+        ensures open { self.new.is_open ≡ self.old.is_open }
+    {
+        if let Some(socket) = self.waiting.take() {
+            return Poll::Ready(Ok(socket));
+        }
+        match ready!(self.listener.poll_accept(cx)) {
+            Ok((mut socket, _address)) => {
+                // What the event loop is told of a socket it keeps only from the first poll on: a client that has left
+                // before the task's first one would stay unnoticed.
+                let _ = socket.poll_read_ready(cx);
+                Poll::Ready(Ok(socket))
+            }
+            Err(error) => Poll::Ready(Err(error)),
+        }
+    }
+
+    // The connections' courses go by this hour.
+    fn look(&self) {
+        if let Ok(now) = Instant::now(&self.rt) {
+            self.pool.look(&self.rt, now);
+        }
+    }
+
+    // Asks the connection that has been silent longest to make room. Where none is asked, it is looked at again soon.
+    fn wait_for_room(&mut self)
+        ensures connects { self.new.connects ≡ self.old.connects }
+        ensures pool { self.new.pool ≡ self.old.pool }
+        ensures left { self.new.left ≡ self.old.left }
+        ensures open { self.new.is_open ≡ self.old.is_open }
+    {
+        if !self.pool.make_room(&self.rt) {
+            self.pause.begin();
+        }
+    }
+
     // The connection of a socket, whose requests are answered by the seat of the place, which has this number; `None`
     // where memory runs out.
     fn connection<F>(
@@ -138,7 +185,14 @@ where
         // Answers are written whole, so there is nothing to wait for.
         let _ = socket.set_nodelay(true);
         let slot = self.pool.slot(self.rt.alloc(), place, number).ok()?;
-        connection(self.rt, &self.connects, self.pause.timers(), slot, socket)
+        connection(
+            self.rt,
+            &self.connects,
+            self.pause.timers(),
+            slot,
+            &place.course,
+            socket,
+        )
     }
 
     // The task that serves the connection; `None` where it is closed at once.
@@ -186,24 +240,22 @@ where
             return Poll::Ready(None);
         }
         ready!(self.pause.poll(cx));
-        if !self.pool.has_room(&self.rt, self.most) {
-            self.pause.begin();
-            return cx.yield_now();
-        }
-        match ready!(self.listener.poll_accept(cx)) {
-            Ok((mut socket, _address)) => {
-                // What the event loop is told of a socket it keeps only from the first poll on: a client that has left
-                // before the task's first one would stay unnoticed.
-                let _ = socket.poll_read_ready(cx);
-                match self.task(socket) {
-                    Some(task) => Poll::Ready(Some(task)),
-                    None => cx.yield_now(),
-                }
-            }
+        let socket = match ready!(self.poll_socket(cx)) {
+            Ok(socket) => socket,
             Err(error) => {
                 self.refused(&error);
-                cx.yield_now()
+                return cx.yield_now();
             }
+        };
+        self.look();
+        if !self.pool.has_room(&self.rt, self.most) {
+            self.waiting = Some(socket);
+            self.wait_for_room();
+            return cx.yield_now();
+        }
+        match self.task(socket) {
+            Some(task) => Poll::Ready(Some(task)),
+            None => cx.yield_now(),
         }
     }
 }

@@ -9,6 +9,7 @@ use crate::seat_slot::SeatSlot;
 use crate::seats::{Assignment, Seats};
 use std::alloc::{AllocError, Global};
 use std::sync::{Arc, Mutex, Wait};
+use std::time::Instant;
 
 /// The site of a server, and its seats.
 #[derive(Drop)]
@@ -19,13 +20,13 @@ pub struct SeatPool<A: Answers> {
 
 impl<A: Answers> SeatPool<A> {
     /// A pool without a seat.
-    pub fn new(alloc: Global, site: Arc<A>) -> SeatPool<A>
-        ensures { result.site ≡ site }
+    pub fn new(alloc: Global, site: Arc<A>) -> Result<SeatPool<A>, AllocError>
+        ensures { IfOk result (λ pool. pool.site ≡ site) }
     {
-        SeatPool {
+        Ok(SeatPool {
             site,
-            seats: Mutex::new(Seats::new(alloc)),
-        }
+            seats: Mutex::new(Seats::new(alloc)?),
+        })
     }
 
     /// Lets connections come in, with the seat that theirs are split off.
@@ -59,6 +60,21 @@ impl<A: Answers> SeatPool<A> {
     /// Whether fewer connections than `most` are open.
     pub(crate) fn has_room<R: Wait>(&self, rt: &R, most: u64) -> bool {
         self.seats.lock(rt).taken < most
+    }
+
+    /// Looks at the clock: by this hour the courses of connections say when they were heard.
+    pub(crate) fn look<R: Wait>(&self, rt: &R, now: Instant) {
+        self.seats.lock(rt).room.look(now);
+    }
+
+    /// Asks the connection that has been silent longest, and long enough, to make room; `false` where there is none.
+    pub(crate) fn make_room<R: Wait>(&self, rt: &R) -> bool {
+        self.seats.lock(rt).room.make()
+    }
+
+    /// Asks all connections to leave, each once the answer that it waits for has been given.
+    pub fn clear<R: Wait>(&self, rt: &R) {
+        self.seats.lock(rt).room.clear();
     }
 
     /// No more connections can be accepted.

@@ -81,7 +81,8 @@ fn served_by<R: Wait, A: Answers>(
 fn pool_of<A: Answers>(alloc: Global, site: &Arc<A>) -> Result<Arc<SeatPool<A>>, AllocError>
     ensures { IfOk result (λ pool. site_in pool ≡ arc_value site.now) }
 {
-    Ok(Arc::new(alloc, SeatPool::new(alloc, Arc::try_clone(site)?))?)
+    let pool = SeatPool::new(alloc, Arc::try_clone(site)?)?;
+    Ok(Arc::new(alloc, pool)?)
 }
 
 fn end_of(ran: &io::Result<()>, is_open: bool, settings: Settings) -> End
