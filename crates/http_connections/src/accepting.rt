@@ -1,6 +1,8 @@
 // The connections that a listener accepts, each a task.
 ghost use Rattle.std.specs.Prelude.{◌≡◌, ◌⊎◌, ◌↔◌, ◌-◌, ◌<◌, IfSome, IsTrue, OnSome, false, option_map, true};
 ghost use Rattle.std.specs.IoError.{raw_os_error};
+ghost use Rattle.futures.specs.Poll.{OnPending};
+ghost use Rattle.futures.specs.Task.{IsArmed, Keeps};
 ghost use Rattle.http_connections.specs.Inner.Accepted.{AreWanted, IsOfListener};
 ghost use Rattle.http_connections.specs.Site.{IsConnectionFor, IsConnectionOf, site_in};
 
@@ -10,16 +12,19 @@ use crate::connects::{Connects, connection};
 use crate::pause::Pause;
 use crate::seat_place::SeatPlace;
 use crate::seat_pool::SeatPool;
-use crate::seats::Assignment;
+use crate::seats::{Admission, Assignment};
 use crate::service::MessageService;
 use crate::settings::Settings;
 use futures::task::{Context, Poll};
 use futures::{Future, Stream, ready};
 use std::alloc::AllocGlobal;
 use std::io;
+use std::rc::Rc;
 use std::sync::{Arc, Wait};
 use std::time::Clock;
 use tokio::net::{TcpListener, TcpStream};
+use tokio::runtime::Handle;
+use tokio::sync::OwnedNotified;
 
 /// The numbers of Linux for what is wrong with a listener itself (accept(2)).
 const EBADF: i32 = 9;
@@ -36,10 +41,13 @@ pub(crate) struct Accepting<R, A: Answers, M> {
     rt: R,
     listener: TcpListener,
     pool: Arc<SeatPool<A>>,
+    /// How many this thread may accept at most; how many all threads may is counted in the pool.
     left: Option<u64>,
-    most: u64,
     is_open: bool,
     pause: Pause<R>,
+    /// Is ready once no more are accepted by any thread.
+    ended: OwnedNotified,
+    handle: Rc<Handle>,
     connects: M,
 }
 
@@ -54,6 +62,8 @@ where
         pool: Arc<SeatPool<A>>,
         settings: Settings,
         pause: Pause<R>,
+        ended: OwnedNotified,
+        handle: Rc<Handle>,
         connects: M,
     ) -> Accepting<R, A, M>
         ensures connects { result.connects ≡ connects }
@@ -66,9 +76,10 @@ where
             listener,
             pool,
             left: settings.connections,
-            most: settings.max_connections,
             is_open: true,
             pause,
+            ended,
+            handle,
             connects,
         }
     }
@@ -77,6 +88,20 @@ where
         ensures { IsTrue result ↔ (IfSome self.now.left (λ left. 0 < left) × (self.now.is_open ≡ true)) }
     {
         self.left != Some(0) && self.is_open
+    }
+
+    // Ready once one more may be accepted, or with false once no more are. What it waits for is told by any thread.
+    fn turn(&mut self, cx: &mut Context<'_>) -> Poll<bool>
+        ensures same { self.new ≡ record self.old { pause = self.new.pause; ended = self.new.ended } }
+        ensures registered { OnPending result (IsArmed cx.new) }
+        ensures kept { Keeps cx.old cx.new }
+    {
+        // Where there is no memory to wait for it, the end is seen when the next connection comes.
+        if let Poll::Ready(Ok(())) = self.ended.poll(cx) {
+            return Poll::Ready(false);
+        }
+        ready!(self.pause.poll(cx));
+        Poll::Ready(true)
     }
 
     // A place with a seat of this number, if the connection can be served.
@@ -88,7 +113,7 @@ where
     {
         match self.pool.assign(&self.rt, self.rt.alloc()) {
             Assignment::Place(place, number) => Some((place, number)),
-            Assignment::NoPlace => None,
+            Assignment::Enough | Assignment::NoPlace => None,
             Assignment::NoSeat => {
                 self.close();
                 None
@@ -137,7 +162,8 @@ where
     {
         // Answers are written whole, so there is nothing to wait for.
         let _ = socket.set_nodelay(true);
-        let slot = self.pool.slot(self.rt.alloc(), place, number).ok()?;
+        let handle = self.handle.clone().ok()?;
+        let slot = self.pool.slot(self.rt.alloc(), place, number, handle).ok()?;
         connection(self.rt, &self.connects, self.pause.timers(), slot, socket)
     }
 
@@ -185,10 +211,16 @@ where
         if !self.wants_more() {
             return Poll::Ready(None);
         }
-        ready!(self.pause.poll(cx));
-        if !self.pool.has_room(&self.rt, self.most) {
-            self.pause.begin();
-            return cx.yield_now();
+        if !ready!(self.turn(cx)) {
+            return Poll::Ready(None);
+        }
+        match self.pool.admission(&self.rt) {
+            Admission::Now => {}
+            Admission::Later => {
+                self.pause.begin();
+                return cx.yield_now();
+            }
+            Admission::Never => return Poll::Ready(None),
         }
         match ready!(self.listener.poll_accept(cx)) {
             Ok((mut socket, _address)) => {
