@@ -138,11 +138,11 @@ pub fn serve_all<R, A, W>(
     runtime: &mut LocalRuntime,
     listener: net::TcpListener,
     workers: &W,
+    ender: &Arc<Ender>,
     site: &Arc<A>,
     seat: A::Seat,
     settings: Settings,
     turns: u64,
-    ender: &Arc<Ender>,
 ) -> Result<Served<A::Seat>, AllocError>
 where
     R: Wait + AllocGlobal + Copy + Drop,
