@@ -18,9 +18,11 @@ use std::alloc::{AllocError, AllocGlobal, Global};
 use std::io;
 use std::io::ErrorKind;
 use std::random::RandomSource;
+use std::rc::Rc;
 use std::sync::{Arc, Wait};
 use std::time::Clock;
 use tokio::io::{AsyncRead, AsyncWrite};
+use tokio::runtime;
 use tokio::runtime::LocalRuntime;
 use tokio::time::Handle;
 
@@ -64,11 +66,13 @@ fn slot_of<A: Answers>(
     site: &Arc<A>,
     place: &Arc<SeatPlace<A::Seat>>,
     number: u64,
+    handle: Rc<runtime::Handle>,
 ) -> Result<Arc<SeatSlot<A>>, AllocError>
     ensures { IfOk result (λ slot. giver_of slot ≡ record { site = arc_value site.now; number = number }) }
 {
     let site = Arc::try_clone(site)?;
-    Ok(Arc::new(alloc, SeatSlot::new(site, Arc::try_clone(place)?, number))?)
+    let place = Arc::try_clone(place)?;
+    Ok(Arc::new(alloc, SeatSlot::new(site, place, number, handle))?)
 }
 
 // Serves one connection by the seat of the place, which has this number.
@@ -88,12 +92,16 @@ where
     I: AsyncRead + AsyncWrite,
     requires { (content : A.Content) → A.Content.can_poll content }
 {
-    let timers = runtime.handle().time().clone()?;
+    let handle = runtime.handle().clone()?;
+    let timers = handle.time().clone()?;
     let connects = match Connecting::with_timers(rt, &timers, turns) {
         Ok(connects) => connects,
         Err(error) => return Err(refused(&error)),
     };
-    let slot = slot_of(rt.alloc(), site, place, number)?;
+    let Ok(handle) = Rc::new(rt.alloc(), handle) else {
+        return Err(ServiceError::OutOfMemory);
+    };
+    let slot = slot_of(rt.alloc(), site, place, number, handle)?;
     run(rt, runtime, &connects, &timers, slot, &place.course, io)
 }
 
