@@ -21,7 +21,7 @@ use std::alloc::AllocGlobal;
 use std::io;
 use std::rc::Rc;
 use std::sync::{Arc, Wait};
-use std::time::Clock;
+use std::time::{Clock, Instant};
 use tokio::net::{TcpListener, TcpStream};
 use tokio::runtime::Handle;
 use tokio::sync::OwnedNotified;
@@ -44,6 +44,8 @@ pub(crate) struct Accepting<R, A: Answers, M> {
     /// How many this thread may accept at most; how many all threads may is counted in the pool.
     left: Option<u64>,
     is_open: bool,
+    /// A connection that waits for room.
+    waiting: Option<TcpStream>,
     pause: Pause<R>,
     /// Is ready once no more are accepted by any thread.
     ended: OwnedNotified,
@@ -77,6 +79,7 @@ where
             pool,
             left: settings.connections,
             is_open: true,
+            waiting: None,
             pause,
             ended,
             handle,
@@ -146,6 +149,50 @@ where
         }
     }
 
+    // The socket that waits, or the next one.
+    fn poll_socket(&mut self, cx: &mut Context<'_>) -> Poll<io::Result<TcpStream>>
+        ensures registered { OnPending result (IsArmed cx.new) }
+        ensures kept { Keeps cx.old cx.new }
+        ensures connects { self.new.connects ≡ self.old.connects }
+        ensures pool { self.new.pool ≡ self.old.pool }
+        ensures left { self.new.left ≡ self.old.left }
+        ensures open { self.new.is_open ≡ self.old.is_open }
+    {
+        if let Some(socket) = self.waiting.take() {
+            return Poll::Ready(Ok(socket));
+        }
+        match ready!(self.listener.poll_accept(cx)) {
+            Ok((mut socket, _address)) => {
+                // What the event loop is told of a socket it keeps only from the first poll on: a client that has left
+                // before the task's first one would stay unnoticed.
+                let _ = socket.poll_read_ready(cx);
+                Poll::Ready(Ok(socket))
+            }
+            Err(error) => Poll::Ready(Err(error)),
+        }
+    }
+
+    // The connections' courses go by this hour.
+    fn look(&self) {
+        if let Ok(now) = Instant::now(&self.rt) {
+            self.pool.look(&self.rt, now);
+        }
+    }
+
+    // The socket waits, and the connection that has been silent longest is asked to make room. Where none is, it is
+    // looked at again soon.
+    fn wait_for_room(&mut self, socket: TcpStream)
+        ensures connects { self.new.connects ≡ self.old.connects }
+        ensures pool { self.new.pool ≡ self.old.pool }
+        ensures left { self.new.left ≡ self.old.left }
+        ensures open { self.new.is_open ≡ self.old.is_open }
+    {
+        self.waiting = Some(socket);
+        if !self.pool.make_room(&self.rt) {
+            self.pause.begin();
+        }
+    }
+
     // The connection of a socket, whose requests are answered by the seat of the place, which has this number; `None`
     // where memory runs out.
     fn connection<F>(
@@ -164,7 +211,14 @@ where
         let _ = socket.set_nodelay(true);
         let handle = self.handle.clone().ok()?;
         let slot = self.pool.slot(self.rt.alloc(), place, number, handle).ok()?;
-        connection(self.rt, &self.connects, self.pause.timers(), slot, socket)
+        connection(
+            self.rt,
+            &self.connects,
+            self.pause.timers(),
+            slot,
+            &place.course,
+            socket,
+        )
     }
 
     // The task that serves the connection; `None` where it is closed at once.
@@ -214,28 +268,24 @@ where
         if !ready!(self.turn(cx)) {
             return Poll::Ready(None);
         }
-        match self.pool.admission(&self.rt) {
-            Admission::Now => {}
-            Admission::Later => {
-                self.pause.begin();
-                return cx.yield_now();
-            }
-            Admission::Never => return Poll::Ready(None),
-        }
-        match ready!(self.listener.poll_accept(cx)) {
-            Ok((mut socket, _address)) => {
-                // What the event loop is told of a socket it keeps only from the first poll on: a client that has left
-                // before the task's first one would stay unnoticed.
-                let _ = socket.poll_read_ready(cx);
-                match self.task(socket) {
-                    Some(task) => Poll::Ready(Some(task)),
-                    None => cx.yield_now(),
-                }
-            }
+        let socket = match ready!(self.poll_socket(cx)) {
+            Ok(socket) => socket,
             Err(error) => {
                 self.refused(&error);
+                return cx.yield_now();
+            }
+        };
+        self.look();
+        match self.pool.admission(&self.rt) {
+            Admission::Now => match self.task(socket) {
+                Some(task) => Poll::Ready(Some(task)),
+                None => cx.yield_now(),
+            },
+            Admission::Later => {
+                self.wait_for_room(socket);
                 cx.yield_now()
             }
+            Admission::Never => Poll::Ready(None),
         }
     }
 }

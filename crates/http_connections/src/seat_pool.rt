@@ -12,6 +12,7 @@ use crate::settings::Settings;
 use std::alloc::{AllocError, Global};
 use std::rc::Rc;
 use std::sync::{Arc, Mutex, Wait};
+use std::time::Instant;
 use tokio::runtime::Handle;
 
 /// The site of a server, and its seats, which its threads share.
@@ -26,15 +27,20 @@ pub struct SeatPool<A: Answers> {
 
 impl<A: Answers> SeatPool<A> {
     /// A pool without a seat.
-    pub fn new(alloc: Global, site: Arc<A>, settings: Settings, ender: Arc<Ender>) -> SeatPool<A>
-        ensures { result.site ≡ site }
+    pub fn new(
+        alloc: Global,
+        site: Arc<A>,
+        settings: Settings,
+        ender: Arc<Ender>,
+    ) -> Result<SeatPool<A>, AllocError>
+        ensures { IfOk result (λ pool. pool.site ≡ site) }
     {
-        SeatPool {
+        Ok(SeatPool {
             site,
-            seats: Mutex::new(Seats::new(alloc, settings.connections)),
+            seats: Mutex::new(Seats::new(alloc, settings.connections)?),
             most: settings.max_connections,
             ender,
-        }
+        })
     }
 
     /// Lets connections come in, with the seat that theirs are split off.
@@ -84,6 +90,21 @@ impl<A: Answers> SeatPool<A> {
             return Admission::Never;
         }
         self.seats.lock(rt).admission(self.most)
+    }
+
+    /// Looks at the clock: by this hour the courses of connections say when they were heard.
+    pub(crate) fn look<R: Wait>(&self, rt: &R, now: Instant) {
+        self.seats.lock(rt).room.look(now);
+    }
+
+    /// Asks the connection that has been silent longest, and long enough, to make room; `false` where there is none.
+    pub(crate) fn make_room<R: Wait>(&self, rt: &R) -> bool {
+        self.seats.lock(rt).room.make()
+    }
+
+    /// Asks all connections to leave, each once the answer that it waits for has been given.
+    pub fn clear<R: Wait>(&self, rt: &R) {
+        self.seats.lock(rt).room.clear();
     }
 
     /// No more connections can be accepted.

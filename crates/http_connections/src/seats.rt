@@ -7,6 +7,7 @@ ghost use Rattle.http_connections.specs.declared.seats.Assignment.TheVariants as
 ghost use Rattle.http_connections.specs.declared.seats.Filled.TheVariants as filled;
 
 use crate::answers::Answers;
+use crate::room::Room;
 use crate::seat_place::SeatPlace;
 use std::alloc::{AllocError, Global};
 use std::sync::{Arc, Wait};
@@ -23,6 +24,7 @@ pub(crate) struct Seats<S> {
     /// How many more connections are wanted; `None` for any number.
     wanted: Option<u64>,
     pub(crate) is_open: bool,
+    pub(crate) room: Room,
 }
 
 /// Whether one more connection is accepted.
@@ -57,17 +59,18 @@ enum Filled {
 }
 
 impl<S: Drop> Seats<S> {
-    pub(crate) fn new(alloc: Global, wanted: Option<u64>) -> Seats<S>
-        ensures { result.wanted ≡ wanted }
+    pub(crate) fn new(alloc: Global, wanted: Option<u64>) -> Result<Seats<S>, AllocError>
+        ensures { IfOk result (λ seats. seats.wanted ≡ wanted) }
     {
-        Seats {
+        Ok(Seats {
             own: None,
             places: Vec::new(alloc),
             free: Vec::new(alloc),
             taken: 0,
             wanted,
             is_open: false,
-        }
+            room: Room::new(alloc)?,
+        })
     }
 
     pub(crate) fn open(&mut self, seat: S)
@@ -144,6 +147,7 @@ impl<S: Drop> Seats<S> {
         match self.fill_place(rt, site, &place) {
             Filled::Seat(number) => {
                 self.taken = self.taken.saturating_add(1);
+                place.course.begin();
                 Assignment::Place(place, number)
             }
             Filled::Occupied => Assignment::NoPlace,
@@ -221,7 +225,8 @@ impl<S: Drop> Seats<S> {
         }
         self.places.reserve(1)?;
         self.free.reserve(self.places.len().saturating_add(1))?;
-        let place = Arc::new(alloc, SeatPlace::new())?;
+        let course = self.room.course(alloc)?;
+        let place = Arc::new(alloc, SeatPlace::new(course))?;
         self.places.push(Arc::try_clone(&place)?)?;
         Ok(place)
     }
@@ -237,6 +242,7 @@ impl<S: Drop> Seats<S> {
         ensures taken { self.new.taken ≡ self.old.taken - 1 }
     {
         self.taken = self.taken.saturating_sub(1);
+        place.course.end();
         if self.vacate(rt, site, &*place) {
             // There is room for each place.
             let _ = self.free.push(place);

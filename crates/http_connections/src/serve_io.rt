@@ -5,6 +5,8 @@ ghost use Rattle.http_connections.specs.Site.{IsConnectionFor, giver_of};
 
 use crate::answers::Answers;
 use crate::connects::{Connecting, Connects, connection};
+use crate::course::Course;
+use crate::hour::Hour;
 use crate::seat_place::SeatPlace;
 use crate::seat_slot::SeatSlot;
 use crate::service::MessageService;
@@ -41,7 +43,7 @@ where
     I: AsyncRead + AsyncWrite,
     requires { (content : A.Content) → A.Content.can_poll content }
 {
-    let place = match Arc::new(rt.alloc(), SeatPlace::new()) {
+    let place = match place_of(rt.alloc()) {
         Ok(place) => place,
         Err(_error) => return (Some(seat), Err(ServiceError::OutOfMemory)),
     };
@@ -49,6 +51,14 @@ where
     place.put(&rt, seat);
     let served = serve_at(rt, runtime, site, &place, number, turns, io);
     (place.take(&rt), served)
+}
+
+// A place by itself, which has to make room for no other.
+fn place_of<S: Drop>(alloc: Global) -> Result<Arc<SeatPlace<S>>, AllocError> {
+    let hour = Arc::new(alloc, Hour::new())?;
+    let course = Arc::new(alloc, Course::new(hour))?;
+    course.begin();
+    Ok(Arc::new(alloc, SeatPlace::new(course))?)
 }
 
 fn slot_of<A: Answers>(
@@ -92,7 +102,7 @@ where
         return Err(ServiceError::OutOfMemory);
     };
     let slot = slot_of(rt.alloc(), site, place, number, handle)?;
-    run(rt, runtime, &connects, &timers, slot, io)
+    run(rt, runtime, &connects, &timers, slot, &place.course, io)
 }
 
 // Runs a connection to its end, whose requests are answered by the seat of the slot.
@@ -102,6 +112,7 @@ fn run<R, A, I, M, F>(
     connects: &M,
     timers: &Handle,
     slot: Arc<SeatSlot<A>>,
+    course: &Arc<Course>,
     io: I,
 ) -> Result<(), ServiceError>
 where
@@ -115,7 +126,7 @@ where
     ensures { IfOk result (λ _. (made : F) × IsConnectionFor M.makes connects.now io (giver_of slot) made
         × F.gives made (Ok tt)) }
 {
-    let Some(connection) = connection(rt, connects, timers, slot, io) else {
+    let Some(connection) = connection(rt, connects, timers, slot, course, io) else {
         return Err(ServiceError::OutOfMemory);
     };
     match runtime.block_on(&rt, connection) {

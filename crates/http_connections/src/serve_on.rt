@@ -62,7 +62,7 @@ impl<A: Answers> Server<A> {
         ensures { IfOk result (λ server. site_in server.pool ≡ arc_value site.now) }
     {
         let ender = Arc::try_clone(ender)?;
-        let pool = SeatPool::new(alloc, Arc::try_clone(site)?, settings, ender);
+        let pool = SeatPool::new(alloc, Arc::try_clone(site)?, settings, ender)?;
         Ok(Server {
             pool: Arc::new(alloc, pool)?,
             settings,
