@@ -140,7 +140,7 @@ fn serve_book<L, R, O, E>(
     err: &mut E,
 ) -> u8
 where
-    L: Origin,
+    L: Origin + Send + Sync,
     R: Threads
         + Wait
         + Net<Listener = TcpListener, Stream = TcpStream>
@@ -180,7 +180,7 @@ fn serve_shared<L, R, O, E>(
     err: &mut E,
 ) -> u8
 where
-    L: Origin,
+    L: Origin + Send + Sync,
     R: Threads
         + Wait
         + Net<Listener = TcpListener, Stream = TcpStream>
@@ -216,7 +216,7 @@ fn serve_listening<L, R, O, E>(
     err: &mut E,
 ) -> u8
 where
-    L: Origin,
+    L: Origin + Send + Sync,
     R: Threads
         + Wait
         + Net<Listener = TcpListener, Stream = TcpStream>
