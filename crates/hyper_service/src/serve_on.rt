@@ -4,6 +4,7 @@ ghost use Rattle.hyper_service.specs.Report.{Announces, IsSettling, ReportsServe
 ghost use Rattle.shared_book.specs.Held.{Held};
 
 use crate::log::Log;
+use crate::renders::Renders;
 use crate::report::report;
 use crate::site_answers::SiteAnswers;
 use answering::clock::Clock;
@@ -31,11 +32,11 @@ use tokio::runtime::LocalRuntime;
 /// Serves the connections of a listener, as many as are wanted, each with a seat of its own, and settles once all have
 /// ended. Writes where it listens before it accepts the first, how many events were settled, and an error to `err`.
 /// Gives the exit status.
-pub fn serve_on<R, L, G, C, F, N, O, E>(
+pub fn serve_on<R, L, G, C, F, V, N, O, E>(
     rt: R,
     runtime: &mut LocalRuntime,
     listener: TcpListener,
-    answers: SiteAnswers<L, G, C, F, N>,
+    answers: SiteAnswers<L, G, C, F, V, N>,
     seat: Seat<L>,
     settings: Settings,
     out: &mut O,
@@ -47,6 +48,7 @@ where
     G: Gate + Drop,
     C: Clock + Drop,
     F: Forwards,
+    V: Renders,
     N: Log + Drop,
     O: Write,
     E: Write,
@@ -77,11 +79,11 @@ fn announce<O: Write>(alloc: Global, listener: &TcpListener, out: &mut O) -> io:
 }
 
 // How many events were settled, or why not, and why no more connections were accepted.
-fn serve_site<R, L, G, C, F, N>(
+fn serve_site<R, L, G, C, F, V, N>(
     rt: R,
     runtime: &mut LocalRuntime,
     listener: TcpListener,
-    answers: SiteAnswers<L, G, C, F, N>,
+    answers: SiteAnswers<L, G, C, F, V, N>,
     seat: Seat<L>,
     settings: Settings,
 ) -> Result<(Result<u64, SettleRefusal>, End), AllocError>
@@ -91,6 +93,7 @@ where
     G: Gate + Drop,
     C: Clock + Drop,
     F: Forwards,
+    V: Renders,
     N: Log + Drop,
     ensures { IfOk result (λ served. (seats : List Held) × IsSettling L.origin L.parts L.book seats served.0) }
 {

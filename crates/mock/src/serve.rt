@@ -17,6 +17,7 @@ use command_output::status::FAILURE;
 use error_code::error_code::ErrorCode;
 use http_connections::settings::Settings;
 use hyper_service::journal_limit::JournalLimit;
+use hyper_service::renderer::Renderer;
 use hyper_service::serve_on::serve_on;
 use hyper_service::site_answers::SiteAnswers;
 use proxy_client::client::{Client, SILENCE_SECONDS};
@@ -130,7 +131,7 @@ fn serve_book<L, R, O, E>(
 ) -> u8
 where
     L: Origin,
-    R: Wait + Net + Clock + RandomSource + AllocGlobal + Copy + Drop,
+    R: Threads + Wait + Net + Clock + RandomSource + AllocGlobal + Copy + Drop,
     O: Write,
     E: Write,
     requires name { blank.name ≡ L.name }
@@ -160,7 +161,7 @@ fn serve_shared<L, R, O, E>(
 ) -> u8
 where
     L: Origin,
-    R: Wait + Net + Clock + RandomSource + AllocGlobal + Copy + Drop,
+    R: Threads + Wait + Net + Clock + RandomSource + AllocGlobal + Copy + Drop,
     O: Write,
     E: Write,
     ensures serves { ServesBook O.contents E.contents (λ past. past ≡ L.origin) out.old out.new err.new result }
@@ -184,7 +185,7 @@ fn serve_listening<L, R, O, E>(
 ) -> u8
 where
     L: Origin,
-    R: Wait + Net + Clock + RandomSource + AllocGlobal + Copy + Drop,
+    R: Threads + Wait + Net + Clock + RandomSource + AllocGlobal + Copy + Drop,
     O: Write,
     E: Write,
     ensures serves { ServesBook O.contents E.contents (λ past. past ≡ L.origin) out.old out.new err.new result }
@@ -224,10 +225,13 @@ fn answers_of<L, R>(
     forwarder: Forwarder<R>,
     arguments: ServeArguments<'_>,
     log: ServerLog<L>,
-) -> Result<SiteAnswers<L, NoGate, SystemClock<R>, Forwarder<R>, ServerLog<L>>, AllocError>
+) -> Result<
+    SiteAnswers<L, NoGate, SystemClock<R>, Forwarder<R>, Renderer<R>, ServerLog<L>>,
+    AllocError,
+>
 where
     L: Origin,
-    R: Clock + Net + AllocGlobal + Copy + Drop,
+    R: Threads + Clock + Net + AllocGlobal + Copy + Drop,
     ensures { IfOk result (λ answers. rules_of L.origin L.book answers ≡ record {
       origin = L.origin;
       history = L.book;
@@ -245,8 +249,9 @@ where
         turns: TURN_LIMIT,
     };
     let site = Arc::new(rt.alloc(), site)?;
+    let renderer = Renderer::new(rt)?;
     let journal = JournalLimit::new(arguments.journal_limit);
-    Ok(SiteAnswers::new(site, forwarder, log, journal))
+    Ok(SiteAnswers::new(site, forwarder, renderer, log, journal))
 }
 
 fn out_of_memory<E: Write>(err: &mut E) -> u8
