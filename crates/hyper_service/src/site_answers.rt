@@ -36,6 +36,7 @@ use shared_book::seat::Seat;
 use shared_book::shared_book::SharedBook;
 use std::alloc::{AllocError, Global};
 use std::sync::{Arc, Wait};
+use tokio::runtime::Handle;
 
 /// A site, what forwards its requests, what renders its responses where that takes long, what is told of them, and how
 /// long its journal gets: what the connections of a server are served by.
@@ -126,11 +127,12 @@ where
         &self,
         rt: &R,
         alloc: Global,
+        handle: &Handle,
         seat: &mut Seat<L>,
         request: &Request<Bytes>,
     ) -> Result<Begun<SiteExchange<F::Exchange, V::Run>, Content>, ServiceError> {
         let before = last_number(seat);
-        let begun = self.begin_message(rt, alloc, seat, before, request);
+        let begun = self.begin_message(rt, alloc, handle, seat, before, request);
         self.journal.keep(rt, &self.site.book, seat, before);
         begun
     }
@@ -174,6 +176,7 @@ where
         &self,
         rt: &R,
         alloc: Global,
+        handle: &Handle,
         seat: &mut Seat<L>,
         before: Option<u64>,
         request: &Request<Bytes>,
@@ -189,7 +192,9 @@ where
                 self.log.answered(rt, alloc, request, receipt, &response);
                 Ok(Begun::Answered(response))
             }
-            answering::begun::Begun::ToForward(forward) => self.forward(rt, alloc, seat, forward),
+            answering::begun::Begun::ToForward(forward) => {
+                self.forward(rt, alloc, handle, seat, forward)
+            }
             answering::begun::Begun::ToRender(rendering) => self.render(rt, alloc, rendering),
         }
     }
@@ -201,6 +206,7 @@ where
         &self,
         rt: &R,
         alloc: Global,
+        handle: &Handle,
         seat: &mut Seat<L>,
         forward: Forward,
     ) -> Result<Begun<SiteExchange<F::Exchange, V::Run>, Content>, ServiceError>
@@ -208,7 +214,7 @@ where
             F.sends F.Exchange.gives F.Exchange.can_poll seat.old seat.new forward) }
         ensures err { IfErr result (λ error. (error ≡ NoMemory) × HasMadeNoCall L.origin L.book seat.old seat.new) }
     {
-        match self.exchange(alloc, forward) {
+        match self.exchange(alloc, handle, forward) {
             Ok(exchange) => Ok(Begun::Forwarding(exchange)),
             Err(failed) => {
                 let response = self.finish_forwarded(rt, alloc, seat, failed)?;
@@ -295,6 +301,7 @@ where
     fn exchange(
         &self,
         alloc: Global,
+        handle: &Handle,
         forward: Forward,
     ) -> Result<Box<SiteExchange<F::Exchange, V::Run>>, Forwarded>
         ensures made { IfOk result (λ made. IsForwardingBy (rules_of L.origin L.book self.now)
@@ -303,7 +310,7 @@ where
     {
         match self
             .forwarder
-            .exchange(&forward.target, forward.request.request())
+            .exchange(handle, &forward.target, forward.request.request())
         {
             Ok(exchange) => SiteExchange::forwarding(alloc, forward, exchange),
             Err(error) => Err(Forwarded {

@@ -18,7 +18,7 @@ use error_code::error_code::ErrorCode;
 use mock_program::command_line::write_parser_message;
 use std::alloc::{AllocError, AllocGlobal, Global};
 use std::io::Write;
-use std::net::Net;
+use std::net::{Net, TcpListener, TcpStream};
 use std::random::RandomSource;
 use std::sync::Wait;
 use std::thread::Threads;
@@ -39,7 +39,7 @@ pub fn run<R, O, E, W>(
 where
     R: Threads
         + Wait
-        + Net
+        + Net<Listener = TcpListener, Stream = TcpStream>
         + Clock
         + RandomSource
         + AllocGlobal
@@ -47,6 +47,7 @@ where
         + Copy
         + Drop
         + Send
+        + Sync
         + 'static,
     O: Write,
     E: Write,
@@ -144,7 +145,7 @@ fn run_serve<R, O, E, W>(rt: R, arguments: &[String], out: &mut O, err: &mut E, 
 where
     R: Threads
         + Wait
-        + Net
+        + Net<Listener = TcpListener, Stream = TcpStream>
         + Clock
         + RandomSource
         + AllocGlobal
@@ -152,6 +153,7 @@ where
         + Copy
         + Drop
         + Send
+        + Sync
         + 'static,
     O: Write,
     E: Write,
@@ -168,7 +170,7 @@ fn serve_words<R, O, E, W>(rt: R, words: &[&str], out: &mut O, err: &mut E, log:
 where
     R: Threads
         + Wait
-        + Net
+        + Net<Listener = TcpListener, Stream = TcpStream>
         + Clock
         + RandomSource
         + AllocGlobal
@@ -176,6 +178,7 @@ where
         + Copy
         + Drop
         + Send
+        + Sync
         + 'static,
     O: Write,
     E: Write,
@@ -193,7 +196,7 @@ fn serve_call<R, O, E, W>(rt: R, call: ServeCall<'_>, out: &mut O, err: &mut E, 
 where
     R: Threads
         + Wait
-        + Net
+        + Net<Listener = TcpListener, Stream = TcpStream>
         + Clock
         + RandomSource
         + AllocGlobal
@@ -201,6 +204,7 @@ where
         + Copy
         + Drop
         + Send
+        + Sync
         + 'static,
     O: Write,
     E: Write,

@@ -8,6 +8,7 @@ mod book;
 mod command_line;
 mod serve;
 mod server_log;
+mod serving_threads;
 mod streams;
 
 use command_line::run;

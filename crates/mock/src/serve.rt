@@ -8,6 +8,7 @@ ghost use Rattle.shared_history.specs.Entries.{opening};
 use crate::arguments::ServeArguments;
 use crate::book::book_of;
 use crate::server_log::ServerLog;
+use crate::serving_threads::{MockAnswers, ServingThreads};
 use answering::clock::SystemClock;
 use answering::site::Site;
 use command_output::error::CommandError;
@@ -15,6 +16,7 @@ use command_output::files::FileReader;
 use command_output::output::{put, put_notes};
 use command_output::status::FAILURE;
 use error_code::error_code::ErrorCode;
+use http_connections::ender::Ender;
 use http_connections::settings::Settings;
 use hyper_service::journal_limit::JournalLimit;
 use hyper_service::renderer::Renderer;
@@ -35,7 +37,7 @@ use std::alloc::{AllocError, AllocGlobal, Global};
 use std::io;
 use std::io::{ErrorKind, Write};
 use std::marker::Brand;
-use std::net::{IpAddr, Net, SocketAddr};
+use std::net::{IpAddr, Net, SocketAddr, TcpListener, TcpStream};
 use std::random::RandomSource;
 use std::sync::ledger::Blank;
 use std::sync::{Arc, Wait};
@@ -43,7 +45,6 @@ use std::thread::Threads;
 use std::time::{Clock, Duration};
 use stub_book::book::Book;
 use stub_response::limits::Limits;
-use tokio::net::TcpListener;
 use tokio::runtime::LocalRuntime;
 
 // Into how many parts the ledger is cut: as many connections may be open at once, less one.
@@ -64,7 +65,7 @@ pub fn serve<R, O, E, W>(
 where
     R: Threads
         + Wait
-        + Net
+        + Net<Listener = TcpListener, Stream = TcpStream>
         + Clock
         + RandomSource
         + AllocGlobal
@@ -72,6 +73,7 @@ where
         + Copy
         + Drop
         + Send
+        + Sync
         + 'static,
     O: Write,
     E: Write,
@@ -84,18 +86,26 @@ where
     let Some(book) = book_of(rt.alloc(), &rt, arguments.mappings, arguments.escape, err) else {
         return FAILURE;
     };
+    let Ok(ender) = ender_of(rt.alloc()) else {
+        return out_of_memory(err);
+    };
     match log_to(rt, arguments, log) {
         Ok((lines, log)) => {
             let blank = Blank::new(PARTS);
             let opened = open_history(&rt, &book);
             let status = serve_book::<Brand, R, O, E>(
-                rt, blank, PARTS, opened, book, arguments, log, out, err,
+                rt, blank, PARTS, opened, book, arguments, log, &ender, out, err,
             );
             lines.close(&rt, Duration::from_secs(LOG_SECONDS));
             status
         }
         Err(_error) => out_of_memory(err),
     }
+}
+
+// What ends the server once it is asked to.
+fn ender_of(alloc: Global) -> Result<Arc<Ender>, AllocError> {
+    Ok(Arc::new(alloc, Ender::new(alloc)?)?)
 }
 
 // The lines that a thread writes to `out`, and what tells of requests by them.
@@ -126,12 +136,22 @@ fn serve_book<L, R, O, E>(
     book: Book,
     arguments: ServeArguments<'_>,
     log: RequestLog,
+    ender: &Arc<Ender>,
     out: &mut O,
     err: &mut E,
 ) -> u8
 where
-    L: Origin,
-    R: Threads + Wait + Net + Clock + RandomSource + AllocGlobal + Copy + Drop,
+    L: Origin + Send + Sync,
+    R: Threads
+        + Wait
+        + Net<Listener = TcpListener, Stream = TcpStream>
+        + Clock
+        + RandomSource
+        + AllocGlobal
+        + Copy
+        + Drop
+        + Send
+        + Sync,
     O: Write,
     E: Write,
     requires name { blank.name ≡ L.name }
@@ -145,7 +165,7 @@ where
     ensures status { result ≤ 1 }
 {
     match SharedBook::<L>::new(rt.alloc(), blank, parts, opened, book) {
-        Ok((book, seat)) => serve_shared(rt, book, seat, arguments, log, out, err),
+        Ok((book, seat)) => serve_shared(rt, book, seat, arguments, log, ender, out, err),
         Err(_error) => out_of_memory(err),
     }
 }
@@ -156,19 +176,31 @@ fn serve_shared<L, R, O, E>(
     seat: Seat<L>,
     arguments: ServeArguments<'_>,
     log: RequestLog,
+    ender: &Arc<Ender>,
     out: &mut O,
     err: &mut E,
 ) -> u8
 where
-    L: Origin,
-    R: Threads + Wait + Net + Clock + RandomSource + AllocGlobal + Copy + Drop,
+    L: Origin + Send + Sync,
+    R: Threads
+        + Wait
+        + Net<Listener = TcpListener, Stream = TcpStream>
+        + Clock
+        + RandomSource
+        + AllocGlobal
+        + Copy
+        + Drop
+        + Send
+        + Sync,
     O: Write,
     E: Write,
     ensures serves { ServesBook O.contents E.contents (λ past. past ≡ L.origin) out.old out.new err.new result }
     ensures status { result ≤ 1 }
 {
     match listen(rt, arguments.address, arguments.port) {
-        Ok(listening) => serve_listening(rt, listening, book, seat, arguments, log, out, err),
+        Ok(listening) => serve_listening(
+            rt, listening, book, seat, arguments, log, ender, out, err,
+        ),
         Err(error) => report(rt.alloc(), arguments, &error, err),
     }
 }
@@ -180,12 +212,22 @@ fn serve_listening<L, R, O, E>(
     seat: Seat<L>,
     arguments: ServeArguments<'_>,
     log: RequestLog,
+    ender: &Arc<Ender>,
     out: &mut O,
     err: &mut E,
 ) -> u8
 where
-    L: Origin,
-    R: Threads + Wait + Net + Clock + RandomSource + AllocGlobal + Copy + Drop,
+    L: Origin + Send + Sync,
+    R: Threads
+        + Wait
+        + Net<Listener = TcpListener, Stream = TcpStream>
+        + Clock
+        + RandomSource
+        + AllocGlobal
+        + Copy
+        + Drop
+        + Send
+        + Sync,
     O: Write,
     E: Write,
     ensures serves { ServesBook O.contents E.contents (λ past. past ≡ L.origin) out.old out.new err.new result }
@@ -208,6 +250,10 @@ where
             rt,
             &mut runtime,
             listener,
+            &ServingThreads {
+                count: arguments.threads,
+            },
+            ender,
             answers,
             seat,
             settings,
@@ -225,10 +271,7 @@ fn answers_of<L, R>(
     forwarder: Forwarder<R>,
     arguments: ServeArguments<'_>,
     log: ServerLog<L>,
-) -> Result<
-    SiteAnswers<L, NoGate, SystemClock<R>, Forwarder<R>, Renderer<R>, ServerLog<L>>,
-    AllocError,
->
+) -> Result<MockAnswers<L, R>, AllocError>
 where
     L: Origin,
     R: Threads + Clock + Net + AllocGlobal + Copy + Drop,
@@ -261,7 +304,7 @@ fn out_of_memory<E: Write>(err: &mut E) -> u8
     FAILURE
 }
 
-// A listener of a runtime, and what forwards requests over it.
+// A listener, the runtime of the calling thread, and what forwards requests.
 #[derive(Drop)]
 struct Listening<R> {
     runtime: LocalRuntime,
@@ -275,10 +318,10 @@ where
 {
     let runtime = LocalRuntime::new(&rt)?;
     let address = SocketAddr::from((address, port));
-    let listener = TcpListener::bind(&rt, address, runtime.handle().reactor())?;
+    // By `mio`, whose sockets let as many connections wait as the system allows.
+    let listener = TcpListener::from(mio::net::TcpListener::bind(&rt, address)?);
     let client = Client::new(rt, TURN_LIMIT, Duration::from_secs(SILENCE_SECONDS))?;
-    let handle = runtime.handle().clone()?;
-    let forwarder = Forwarder::new(client, handle, listener.local_addr()?);
+    let forwarder = Forwarder::new(client, listener.local_addr()?);
     Ok(Listening {
         runtime,
         listener,

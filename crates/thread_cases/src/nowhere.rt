@@ -10,6 +10,7 @@ use proxy_client::failure::Failure;
 use proxy_client::forwards::Forwards;
 use recorder::target::Target;
 use std::alloc::AllocError;
+use tokio::runtime::Handle;
 
 /// Each exchange fails before it begins, and so does what would render a response beside the connections.
 #[derive(Clone, Copy, Debug)]
@@ -20,6 +21,7 @@ impl Forwards for Nowhere {
 
     fn exchange(
         &self,
+        _handle: &Handle,
         _target: &Target,
         _request: &Snapshot,
     ) -> Result<Ready<Result<Reply, ProxyError>>, ProxyError> {
