@@ -25,18 +25,28 @@ module _ (origin : Past) (name : Book) (limits : Limits) (escape : Escape) (old 
   is_reply reply is =
       let right = subst (λ kept. IsRendering kept rendering.captured.mapping.spec rendering.request reply)
       begun.kept_to is in
-      inr (rendering.request, begun.received, begun.within, inr (
-        begun.no_admin_call,
-        inl (rendering_receipt rendering, begun.served, right),
-      ))
+      inr (
+        rendering.request,
+        begun.received,
+        begun.within,
+        inr (
+          begun.no_admin_call,
+          inl (rendering_receipt rendering, begun.served, right),
+        ),
+      )
 
   -- memory ran out
   no_memory : IsReply origin name limits escape old new message (error_reply 503 OutOfMemory)
   no_memory =
-      inr (rendering.request, begun.received, begun.within, inr (
-        begun.no_admin_call,
-        inr (OutOfMemory, inr (refl, (rendering_receipt rendering, begun.served)), refl),
-      ))
+      inr (
+        rendering.request,
+        begun.received,
+        begun.within,
+        inr (
+          begun.no_admin_call,
+          inr (OutOfMemory, inr (refl, (rendering_receipt rendering, begun.served)), refl),
+        ),
+      )
 
   pub is_begun : (rendered : Result Reply AllocError) (response : Response (List ℕ))
       → IfOk rendered (IsRenderedReply rendering) → IsResponseOfRendered rendered response

@@ -155,7 +155,7 @@ module _ (rules : SiteRules) {E : Type 0} (reaches : List ℕ → Type 0) (sends
           → IfOk result (Begins rules reaches sends exchanged can_poll rendered can_run old new message)
       render_begun old new message rendering to_render (Ok (Answered response)) begun =
           inl (is_begun rules.origin rules.history rules.limits rules.escape old new message rendering to_render
-              begun.0 response begun.1 begun.2)
+          begun.0 response begun.1 begun.2)
       render_begun old new message rendering to_render (Ok (Forwarding exchange)) begun =
           inr (rendering, to_render, begun)
       render_begun old new message rendering to_render (Err error) begun = tt
@@ -179,19 +179,19 @@ module _ (rules : SiteRules) {E : Type 0} (reaches : List ℕ → Type 0) (sends
         → IfOk result (IsGiven rules reaches sends exchanged old new message)
     given_rendered old new message first_old first_new (kind.Rendering exchange) unchanged seat by rendering reply given
         (Ok response) of =
-            let is = is_rendered first_old first_new message exchange by rendering reply given.0 given.1 in
-            inr (inr (inr (record {
-              first_old = first_old;
-              first_new = first_new;
-              same = seat;
-              given = record {
-                middle = by.middle;
-                begun = is_begun rules.origin rules.history rules.limits rules.escape first_old by.middle message
-                    by.rendering by.begun reply response is.1 of;
-                kept = by.kept;
-              };
-              unchanged = unchanged;
-            })))
+        let is = is_rendered first_old first_new message exchange by rendering reply given.0 given.1 in
+        inr (inr (inr (record {
+          first_old = first_old;
+          first_new = first_new;
+          same = seat;
+          given = record {
+            middle = by.middle;
+            begun = is_begun rules.origin rules.history rules.limits rules.escape first_old by.middle message
+                by.rendering by.begun reply response is.1 of;
+            kept = by.kept;
+          };
+          unchanged = unchanged;
+        })))
     given_rendered old new message first_old first_new (kind.Forwarding exchange) unchanged seat by rendering reply given
         (Ok response) of = absurd given
     given_rendered old new message first_old first_new exchange unchanged seat by rendering reply given (Err error) of =
@@ -208,18 +208,18 @@ module _ (rules : SiteRules) {E : Type 0} (reaches : List ℕ → Type 0) (sends
         → IfOk result (IsGiven rules reaches sends exchanged old new message)
     given_later old new message first_old first_new (kind.Forwarding exchange) seat by forward forwarded given
         (Ok response) finished =
-            let same = some_same by.forward forward (sym by.held ∙ given.0) in
-            inr (inr (inl (record {
-              exchange = exchange;
-              first_old = first_old;
-              first_new = first_new;
-              same = seat;
-              by = by;
-              forwarded = forwarded;
-              came = given.1;
-              finished = subst (λ f. IsFinished rules.origin rules.history old new f forwarded response) (sym same)
-                  finished;
-            })))
+        let same = some_same by.forward forward (sym by.held ∙ given.0) in
+        inr (inr (inl (record {
+          exchange = exchange;
+          first_old = first_old;
+          first_new = first_new;
+          same = seat;
+          by = by;
+          forwarded = forwarded;
+          came = given.1;
+          finished = subst (λ f. IsFinished rules.origin rules.history old new f forwarded response) (sym same)
+              finished;
+        })))
     given_later old new message first_old first_new (kind.Rendering exchange) seat by forward forwarded given
         (Ok response) finished = absurd given
     given_later old new message first_old first_new exchange seat by forward forwarded given (Err error) finished = tt

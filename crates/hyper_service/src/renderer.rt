@@ -17,9 +17,8 @@ use std::snapshot::Snapshot;
 use std::sync::Arc;
 use std::thread;
 use std::thread::{Promise, PromisedHandle, Threads};
-use tokio::sync::oneshot;
 use tokio::sync::oneshot::Receiver;
-use tokio::sync::{AcquireOwned, OwnedSemaphorePermit, Semaphore};
+use tokio::sync::{AcquireOwned, OwnedSemaphorePermit, Semaphore, oneshot};
 
 /// How many responses are rendered at once. Those beyond wait, in the order in which they were begun.
 pub const AT_ONCE: usize = 4;
@@ -150,11 +149,7 @@ impl<R: Threads + AllocGlobal + Drop> Future for ThreadRun<R> {
 }
 
 impl Running {
-    fn poll<R: Threads>(
-        &mut self,
-        rt: &R,
-        cx: &mut Context<'_>,
-    ) -> Poll<Result<Reply, AllocError>>
+    fn poll<R: Threads>(&mut self, rt: &R, cx: &mut Context<'_>) -> Poll<Result<Reply, AllocError>>
         requires { IsSome self.old.thread }
         ensures value { IfReady result (λ reply. IfSome self.old.thread
             (λ thread. IfOk reply (IsRenderedReply thread.promise.0.value))) }

@@ -64,7 +64,9 @@ where
     if announce(rt.alloc(), &listener, out).is_err() {
         return FAILURE;
     }
-    match serve_site(rt, runtime, listener, workers, ender, answers, seat, settings) {
+    match serve_site(
+        rt, runtime, listener, workers, ender, answers, seat, settings,
+    ) {
         Ok((settled, end)) => report(settled, end, out, err),
         Err(_error) => {
             CommandError::from(ErrorCode::OutOfMemory).report(err);

@@ -25,8 +25,14 @@ pub struct ServingThreads {
 }
 
 /// What the connections of `mock serve` are served by.
-pub type MockAnswers<L, R> =
-    SiteAnswers<L, NoGate, SystemClock<R>, Forwarder<R>, Renderer<R>, ServerLog<L>>;
+pub type MockAnswers<L, R> = SiteAnswers<
+    L,
+    NoGate,
+    SystemClock<R>,
+    Forwarder<R>,
+    Renderer<R>,
+    ServerLog<L>,
+>;
 
 // What each thread does.
 #[derive(Drop)]

@@ -29,14 +29,17 @@ returns-in-Ok-ToRender-clause-ok g c =
     let begun = rw c.in-Ok-ToRender.field-0-is at c.in-Ok-ToRender.ensures.ok in
     IfOk-weaker c.rendered_response.result _ _
     (λ response of. inl (is_begun g.L.Origin.origin g.L.Naming.book c.args.site.now.limits c.args.site.now.escape
-        c.args.seat.now c.begin.new.seat c.args.message.now c.in-Ok-ToRender.rendering begun c.reply.result response
-        c.reply.ensures of))
+    c.args.seat.now c.begin.new.seat c.args.message.now c.in-Ok-ToRender.rendering begun c.reply.result response
+    c.reply.ensures of))
     c.rendered_response.ensures.ok
 
 pub returns-in-Ok-ToRender-clause-err : goal.returns-in-Ok-ToRender-clause-err
 returns-in-Ok-ToRender-clause-err g c =
     let begun = rw c.in-Ok-ToRender.field-0-is at c.in-Ok-ToRender.ensures.ok in
     IfErr-weaker c.rendered_response.result _ _
-    (λ error none. (none, inl (is_not_begun g.L.Origin.origin g.L.Naming.book c.args.site.now.limits
-        c.args.site.now.escape c.args.seat.now c.begin.new.seat c.args.message.now c.in-Ok-ToRender.rendering begun)))
+    (λ error none. (
+      none,
+      inl (is_not_begun g.L.Origin.origin g.L.Naming.book c.args.site.now.limits
+          c.args.site.now.escape c.args.seat.now c.begin.new.seat c.args.message.now c.in-Ok-ToRender.rendering begun),
+    ))
     c.rendered_response.ensures.err
