@@ -19,6 +19,7 @@ use error_code::error_code::ErrorCode;
 use http_connections::ender::Ender;
 use http_connections::settings::Settings;
 use hyper_service::journal_limit::JournalLimit;
+use hyper_service::renderer::Renderer;
 use hyper_service::serve_on::serve_on;
 use hyper_service::site_answers::SiteAnswers;
 use proxy_client::client::{Client, SILENCE_SECONDS};
@@ -273,7 +274,7 @@ fn answers_of<L, R>(
 ) -> Result<MockAnswers<L, R>, AllocError>
 where
     L: Origin,
-    R: Clock + Net + AllocGlobal + Copy + Drop,
+    R: Threads + Clock + Net + AllocGlobal + Copy + Drop,
     ensures { IfOk result (λ answers. rules_of L.origin L.book answers ≡ record {
       origin = L.origin;
       history = L.book;
@@ -291,8 +292,9 @@ where
         turns: TURN_LIMIT,
     };
     let site = Arc::new(rt.alloc(), site)?;
+    let renderer = Renderer::new(rt)?;
     let journal = JournalLimit::new(arguments.journal_limit);
-    Ok(SiteAnswers::new(site, forwarder, log, journal))
+    Ok(SiteAnswers::new(site, forwarder, renderer, log, journal))
 }
 
 fn out_of_memory<E: Write>(err: &mut E) -> u8
