@@ -1,10 +1,8 @@
-//! The program: its command line, and its command `mock serve` with its arguments, the book of its file of mappings,
-//! and its server. Every other command is `mock_program`'s. `main` hands on the process's arguments and standard
+//! The program: its command line, and its command `mock serve` with its arguments and its server. Every other command is `mock_program`'s. `main` hands on the process's arguments and standard
 //! streams, and ends with the exit status that comes back.
 #![tactic(auto)]
 
 mod arguments;
-mod book;
 mod command_line;
 mod serve;
 mod server_log;

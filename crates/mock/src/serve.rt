@@ -2,11 +2,11 @@
 ghost use Rattle.std.specs.Prelude.{◌≡◌, ◌<◌, ◌≤◌, ◌∷◌, [], IfOk, option_copied};
 ghost use Rattle.hyper_service.specs.Given.{rules_of};
 ghost use Rattle.mapping_answer.specs.Answering.{usual_limits};
-ghost use Rattle.mock.specs.Served.{IsServedBook, ServesBook};
+ghost use Rattle.mock.specs.Served.{ServesBook};
+ghost use Rattle.served_book.specs.Served.{IsServedBook};
 ghost use Rattle.shared_history.specs.Entries.{opening};
 
 use crate::arguments::ServeArguments;
-use crate::book::book_of;
 use crate::server_log::ServerLog;
 use answering::clock::SystemClock;
 use answering::site::Site;
@@ -25,6 +25,7 @@ use proxy_client::forwarder::Forwarder;
 use request_log::lines::Lines;
 use request_log::request_log::RequestLog;
 use request_log::start::start;
+use served_book::book::{BookArguments, book_of};
 use shared_book::gate::NoGate;
 use shared_book::history::OpenedHistory;
 use shared_book::origin::Origin;
@@ -76,11 +77,18 @@ where
     E: Write,
     W: Write + Drop + Send + 'static,
     ensures serves { ServesBook O.contents E.contents
-        (IsServedBook arguments.entry.escape (option_copied arguments.entry.mappings) (R.listed rt) (R.content rt))
+        (IsServedBook arguments.entry.opening arguments.entry.skips_refused arguments.entry.escape
+        (option_copied arguments.entry.mappings) (R.listed rt) (R.content rt))
         out.old out.new err.new result }
     ensures status { result ≤ 1 }
 {
-    let Some(book) = book_of(rt.alloc(), &rt, arguments.mappings, arguments.escape, err) else {
+    let given = BookArguments {
+        mappings: arguments.mappings,
+        escape: arguments.escape,
+        opening: arguments.opening,
+        skips_refused: arguments.skips_refused,
+    };
+    let Some(book) = book_of(rt.alloc(), &rt, given, err) else {
         return FAILURE;
     };
     match log_to(rt, arguments, log) {
