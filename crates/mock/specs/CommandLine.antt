@@ -4,9 +4,11 @@ use Rattle.std.specs.Prelude.{◌≡◌, ◌⊎◌, ℕ, Bool, true, ◌||◌, L
 use Rattle.std.specs.Str.{bytes_eq}
 
 abbrev pub is_own : List ℕ → Bool
-is_own command = bytes_eq command (codes "serve") || bytes_eq command (codes "save")
+is_own command =
+    bytes_eq command (codes "serve")
+    || (bytes_eq command (codes "record") || bytes_eq command (codes "save"))
 
--- `PROGRAM serve ..`, `PROGRAM save ..`
+-- `PROGRAM serve ..` and the like
 abbrev pub AskForOwn : List (List ℕ) → Type 0
 AskForOwn arguments =
     (program : List ℕ) × (command : List ℕ) × (rest : List (List ℕ)) × (is_own command ≡ true)

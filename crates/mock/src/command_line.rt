@@ -1,4 +1,4 @@
-//! The command line of the program: `mock serve` and `mock save` are done here, each other command by `mock_program`.
+//! The command line of the program: `mock serve`, `mock record` and `mock save` are done here, each other command by `mock_program`.
 ghost use Rattle.std.specs.Prelude.{◌≡◌, ◌⊎◌, ◌≤◌, map, string_bytes};
 ghost use Rattle.command_output.specs.Output.{Followed, WritesOneStream};
 ghost use Rattle.mock_program.specs.CommandLine.{AreInvalid, Asked, AsksFor, CallsForHelp};
@@ -8,8 +8,10 @@ ghost use Rattle.template_tree.specs.declared.escape.Escape.{Escape};
 ghost use Rattle.mock.specs.CommandLine.{AskForOwn, AskToHelp, is_own};
 ghost use Rattle.mock.specs.Inner.Arguments.{ask_for_own, ask_to_help};
 
-use crate::arguments::{Call, call_of};
-use crate::serve::serve;
+use crate::arguments::{Call, ServeArguments, call_of};
+use crate::record::record as record_until;
+use crate::serve::{Plan, serve};
+use crate::watch::Watch;
 use clap::Error;
 use command_output::error::CommandError;
 use command_output::files::FileReader;
@@ -20,7 +22,7 @@ use mock_program::command_line::write_parser_message;
 use saved_mappings::file_writer::FileWriter;
 use saved_mappings::save::save;
 use std::alloc::{AllocError, AllocGlobal, Global};
-use std::io::Write;
+use std::io::{Read, Write};
 use std::net::Net;
 use std::random::RandomSource;
 use std::sync::Wait;
@@ -30,13 +32,14 @@ use std::time::Clock;
 /// Runs the command that the arguments name, the first of them being the program's name, and gives the exit status:
 /// 0; 1 for an error or output that can't be written; 2 for invalid arguments. The text of `clap` for invalid
 /// arguments goes to `err`, its help to `out`. What a server tells of its requests goes to `log`, by a thread of its
-/// own.
-pub fn run<R, O, E, W>(
+/// own. A server may end when `input` does.
+pub fn run<R, O, E, W, I>(
     rt: R,
     arguments: &[String],
     out: &mut O,
     err: &mut E,
     log: W,
+    input: I,
     is_coloured: bool,
 ) -> u8
 where
@@ -55,6 +58,7 @@ where
     O: Write,
     E: Write,
     W: Write + Drop + Send + 'static,
+    I: Read + Drop + Send + 'static,
     // Arguments that ask for a command of `mock_program` do what that command does, each argument taken as it is.
     ensures command { (escape : Escape) (asked : Asked)
         → AsksFor (words_of (map string_bytes arguments.now)) escape asked
@@ -73,7 +77,7 @@ where
         → Followed E.contents (λ e. WritesOneStream out.old out.new err.old e result) err.new }
 {
     if ask_for_own(arguments) {
-        run_own(rt, arguments, out, err, log)
+        run_own(rt, arguments, out, err, log, input)
     } else if ask_to_help(arguments) {
         run_help(rt, arguments, out, err)
     } else {
@@ -93,7 +97,7 @@ fn ask_for_own(arguments: &[String]) -> bool
 fn is_own(command: &str) -> bool
     ensures { result ≡ is_own command.now }
 {
-    command == "serve" || command == "save"
+    command == "serve" || (command == "record" || command == "save")
 }
 
 fn ask_to_help(arguments: &[String]) -> bool
@@ -163,7 +167,7 @@ fn help_arguments(alloc: Global, arguments: &[String]) -> Result<Vec<String>, Al
     Ok(words)
 }
 
-fn run_own<R, O, E, W>(rt: R, arguments: &[String], out: &mut O, err: &mut E, log: W) -> u8
+fn run_own<R, O, E, W, I>(rt: R, arguments: &[String], out: &mut O, err: &mut E, log: W, input: I) -> u8
 where
     R: Threads
         + Wait
@@ -180,15 +184,16 @@ where
     O: Write,
     E: Write,
     W: Write + Drop + Send + 'static,
+    I: Read + Drop + Send + 'static,
     ensures { result ≤ 2 }
 {
     match words_of(rt.alloc(), arguments) {
-        Ok(words) => run_words(rt, words.as_slice(), out, err, log),
+        Ok(words) => run_words(rt, words.as_slice(), out, err, log, input),
         Err(_error) => report_memory(err),
     }
 }
 
-fn run_words<R, O, E, W>(rt: R, words: &[&str], out: &mut O, err: &mut E, log: W) -> u8
+fn run_words<R, O, E, W, I>(rt: R, words: &[&str], out: &mut O, err: &mut E, log: W, input: I) -> u8
 where
     R: Threads
         + Wait
@@ -205,16 +210,17 @@ where
     O: Write,
     E: Write,
     W: Write + Drop + Send + 'static,
+    I: Read + Drop + Send + 'static,
     ensures { result ≤ 2 }
 {
     match call_of(rt.alloc(), words) {
-        Ok(Some(call)) => run_call(rt, call, out, err, log),
+        Ok(Some(call)) => run_call(rt, call, out, err, log, input),
         Ok(None) => FAILURE,
         Err(error) => write_parser_message(&error, out, err),
     }
 }
 
-fn run_call<R, O, E, W>(rt: R, call: Call<'_>, out: &mut O, err: &mut E, log: W) -> u8
+fn run_call<R, O, E, W, I>(rt: R, call: Call<'_>, out: &mut O, err: &mut E, log: W, input: I) -> u8
 where
     R: Threads
         + Wait
@@ -231,13 +237,49 @@ where
     O: Write,
     E: Write,
     W: Write + Drop + Send + 'static,
+    I: Read + Drop + Send + 'static,
     ensures { result ≤ 2 }
 {
     match call {
-        Call::Serve(given) => serve(rt, given, out, err, log),
+        Call::Serve(given) => serve_until(rt, given, out, err, log, input),
+        Call::Record(given, record) => record_until(rt, given, &record, out, err, log, input),
         Call::Save { server, file } => save(rt, server, file, out, err),
         Call::BadAddress(text) => report_address(text, err),
     }
+}
+
+fn serve_until<R, O, E, W, I>(
+    rt: R,
+    given: ServeArguments<'_>,
+    out: &mut O,
+    err: &mut E,
+    log: W,
+    input: I,
+) -> u8
+where
+    R: Threads
+        + Wait
+        + Net
+        + Clock
+        + RandomSource
+        + AllocGlobal
+        + FileReader
+        + FileWriter
+        + Copy
+        + Drop
+        + Send
+        + 'static,
+    O: Write,
+    E: Write,
+    W: Write + Drop + Send + 'static,
+    I: Read + Drop + Send + 'static,
+    ensures { result ≤ 2 }
+{
+    let plan = Plan {
+        recording: None,
+        watch: Watch::of_server(input, given.ends_with_input),
+    };
+    serve(rt, given, plan, out, err, log)
 }
 
 fn report_memory<E: Write>(err: &mut E) -> u8

@@ -1,12 +1,14 @@
-//! The program: its command line, and its command `mock serve` with its arguments and its server. Every other command is `mock_program`'s. `main` hands on the process's arguments and standard
+//! The program: its command line, and its commands `mock serve` and `mock record` with their arguments and their server. Every other command is `mock_program`'s. `main` hands on the process's arguments and standard
 //! streams, and ends with the exit status that comes back.
 #![tactic(auto)]
 
 mod arguments;
 mod command_line;
+mod record;
 mod serve;
 mod server_log;
 mod streams;
+mod watch;
 
 use command_line::run;
 use mock_program::arguments::report_unreadable;
@@ -26,6 +28,7 @@ fn main(rt: HostRuntime) -> ExitCode {
             &mut out,
             &mut err,
             Visible::new(rt.stderr()),
+            rt.stdin(),
             takes_colours(&rt),
         ),
         Err(error) => report_unreadable(&error, &mut err),

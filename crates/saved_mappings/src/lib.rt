@@ -7,4 +7,5 @@ pub mod file_writer;
 pub mod recorded;
 pub mod save;
 pub mod server;
+pub mod start;
 mod store;

@@ -120,8 +120,8 @@ fn skipped_in(alloc: Global, answer: &[u8]) -> u64 {
 }
 
 impl RecordError {
-    /// What failed, and the reason, each in words.
-    pub fn texts(self, alloc: Global, file: &str, har: &str) -> Result<String, AllocError> {
+    /// Lines that say what failed, and why.
+    pub fn text(self, alloc: Global, file: &str, har: &str) -> Result<String, AllocError> {
         match self {
             RecordError::Call(error) => {
                 let reason = error.reason(alloc)?;
