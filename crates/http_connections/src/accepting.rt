@@ -1,6 +1,8 @@
 // The connections that a listener accepts, each a task.
 ghost use Rattle.std.specs.Prelude.{◌≡◌, ◌⊎◌, ◌↔◌, ◌-◌, ◌<◌, IfSome, IsTrue, OnSome, false, option_map, true};
 ghost use Rattle.std.specs.IoError.{raw_os_error};
+ghost use Rattle.futures.specs.Poll.{OnPending};
+ghost use Rattle.futures.specs.Task.{IsArmed, Keeps};
 ghost use Rattle.http_connections.specs.Inner.Accepted.{AreWanted, IsOfListener};
 ghost use Rattle.http_connections.specs.Site.{IsConnectionFor, IsConnectionOf, site_in};
 
@@ -10,16 +12,19 @@ use crate::connects::{Connects, connection};
 use crate::pause::Pause;
 use crate::seat_place::SeatPlace;
 use crate::seat_pool::SeatPool;
-use crate::seats::Assignment;
+use crate::seats::{Admission, Assignment};
 use crate::service::MessageService;
 use crate::settings::Settings;
 use futures::task::{Context, Poll};
 use futures::{Future, Stream, ready};
 use std::alloc::AllocGlobal;
 use std::io;
+use std::rc::Rc;
 use std::sync::{Arc, Wait};
-use std::time::Clock;
+use std::time::{Clock, Instant};
 use tokio::net::{TcpListener, TcpStream};
+use tokio::runtime::Handle;
+use tokio::sync::OwnedNotified;
 
 /// The numbers of Linux for what is wrong with a listener itself (accept(2)).
 const EBADF: i32 = 9;
@@ -36,10 +41,15 @@ pub(crate) struct Accepting<R, A: Answers, M> {
     rt: R,
     listener: TcpListener,
     pool: Arc<SeatPool<A>>,
+    /// How many this thread may accept at most; how many all threads may is counted in the pool.
     left: Option<u64>,
-    most: u64,
     is_open: bool,
+    /// A connection that waits for room.
+    waiting: Option<TcpStream>,
     pause: Pause<R>,
+    /// Is ready once no more are accepted by any thread.
+    ended: OwnedNotified,
+    handle: Rc<Handle>,
     connects: M,
 }
 
@@ -54,6 +64,8 @@ where
         pool: Arc<SeatPool<A>>,
         settings: Settings,
         pause: Pause<R>,
+        ended: OwnedNotified,
+        handle: Rc<Handle>,
         connects: M,
     ) -> Accepting<R, A, M>
         ensures connects { result.connects ≡ connects }
@@ -66,9 +78,11 @@ where
             listener,
             pool,
             left: settings.connections,
-            most: settings.max_connections,
             is_open: true,
+            waiting: None,
             pause,
+            ended,
+            handle,
             connects,
         }
     }
@@ -77,6 +91,20 @@ where
         ensures { IsTrue result ↔ (IfSome self.now.left (λ left. 0 < left) × (self.now.is_open ≡ true)) }
     {
         self.left != Some(0) && self.is_open
+    }
+
+    // Ready once one more may be accepted, or with false once no more are. What it waits for is told by any thread.
+    fn turn(&mut self, cx: &mut Context<'_>) -> Poll<bool>
+        ensures same { self.new ≡ record self.old { pause = self.new.pause; ended = self.new.ended } }
+        ensures registered { OnPending result (IsArmed cx.new) }
+        ensures kept { Keeps cx.old cx.new }
+    {
+        // Where there is no memory to wait for it, the end is seen when the next connection comes.
+        if let Poll::Ready(Ok(())) = self.ended.poll(cx) {
+            return Poll::Ready(false);
+        }
+        ready!(self.pause.poll(cx));
+        Poll::Ready(true)
     }
 
     // A place with a seat of this number, if the connection can be served.
@@ -88,7 +116,7 @@ where
     {
         match self.pool.assign(&self.rt, self.rt.alloc()) {
             Assignment::Place(place, number) => Some((place, number)),
-            Assignment::NoPlace => None,
+            Assignment::Enough | Assignment::NoPlace => None,
             Assignment::NoSeat => {
                 self.close();
                 None
@@ -121,6 +149,50 @@ where
         }
     }
 
+    // The socket that waits, or the next one.
+    fn poll_socket(&mut self, cx: &mut Context<'_>) -> Poll<io::Result<TcpStream>>
+        ensures registered { OnPending result (IsArmed cx.new) }
+        ensures kept { Keeps cx.old cx.new }
+        ensures connects { self.new.connects ≡ self.old.connects }
+        ensures pool { self.new.pool ≡ self.old.pool }
+        ensures left { self.new.left ≡ self.old.left }
+        ensures open { self.new.is_open ≡ self.old.is_open }
+    {
+        if let Some(socket) = self.waiting.take() {
+            return Poll::Ready(Ok(socket));
+        }
+        match ready!(self.listener.poll_accept(cx)) {
+            Ok((mut socket, _address)) => {
+                // What the event loop is told of a socket it keeps only from the first poll on: a client that has left
+                // before the task's first one would stay unnoticed.
+                let _ = socket.poll_read_ready(cx);
+                Poll::Ready(Ok(socket))
+            }
+            Err(error) => Poll::Ready(Err(error)),
+        }
+    }
+
+    // The connections' courses go by this hour.
+    fn look(&self) {
+        if let Ok(now) = Instant::now(&self.rt) {
+            self.pool.look(&self.rt, now);
+        }
+    }
+
+    // The socket waits, and the connection that has been silent longest is asked to make room. Where none is, it is
+    // looked at again soon.
+    fn wait_for_room(&mut self, socket: TcpStream)
+        ensures connects { self.new.connects ≡ self.old.connects }
+        ensures pool { self.new.pool ≡ self.old.pool }
+        ensures left { self.new.left ≡ self.old.left }
+        ensures open { self.new.is_open ≡ self.old.is_open }
+    {
+        self.waiting = Some(socket);
+        if !self.pool.make_room(&self.rt) {
+            self.pause.begin();
+        }
+    }
+
     // The connection of a socket, whose requests are answered by the seat of the place, which has this number; `None`
     // where memory runs out.
     fn connection<F>(
@@ -137,8 +209,16 @@ where
     {
         // Answers are written whole, so there is nothing to wait for.
         let _ = socket.set_nodelay(true);
-        let slot = self.pool.slot(self.rt.alloc(), place, number).ok()?;
-        connection(self.rt, &self.connects, self.pause.timers(), slot, socket)
+        let handle = self.handle.clone().ok()?;
+        let slot = self.pool.slot(self.rt.alloc(), place, number, handle).ok()?;
+        connection(
+            self.rt,
+            &self.connects,
+            self.pause.timers(),
+            slot,
+            &place.course,
+            socket,
+        )
     }
 
     // The task that serves the connection; `None` where it is closed at once.
@@ -185,25 +265,27 @@ where
         if !self.wants_more() {
             return Poll::Ready(None);
         }
-        ready!(self.pause.poll(cx));
-        if !self.pool.has_room(&self.rt, self.most) {
-            self.pause.begin();
-            return cx.yield_now();
+        if !ready!(self.turn(cx)) {
+            return Poll::Ready(None);
         }
-        match ready!(self.listener.poll_accept(cx)) {
-            Ok((mut socket, _address)) => {
-                // What the event loop is told of a socket it keeps only from the first poll on: a client that has left
-                // before the task's first one would stay unnoticed.
-                let _ = socket.poll_read_ready(cx);
-                match self.task(socket) {
-                    Some(task) => Poll::Ready(Some(task)),
-                    None => cx.yield_now(),
-                }
-            }
+        let socket = match ready!(self.poll_socket(cx)) {
+            Ok(socket) => socket,
             Err(error) => {
                 self.refused(&error);
+                return cx.yield_now();
+            }
+        };
+        self.look();
+        match self.pool.admission(&self.rt) {
+            Admission::Now => match self.task(socket) {
+                Some(task) => Poll::Ready(Some(task)),
+                None => cx.yield_now(),
+            },
+            Admission::Later => {
+                self.wait_for_room(socket);
                 cx.yield_now()
             }
+            Admission::Never => Poll::Ready(None),
         }
     }
 }

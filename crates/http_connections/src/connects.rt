@@ -5,6 +5,7 @@ ghost use Rattle.http_connections.specs.Turns.{IsOver};
 ghost use Rattle.hyper.specs.ServerDispatch.{Runs};
 
 use crate::answers::Answers;
+use crate::course::Course;
 use crate::seat_slot::SeatSlot;
 use crate::service::MessageService;
 use crate::watched::{HeadTimer, Watched};
@@ -16,11 +17,9 @@ use hyper::rt::{Timer, TokioTimer};
 use hyper::server::conn::http1::{Builder, Connection};
 use hyper::service::Service;
 use std::alloc::AllocGlobal;
-use std::cell::Cell;
 use std::hash::RandomState;
 use std::io;
 use std::random::RandomSource;
-use std::rc::Rc;
 use std::sync::Arc;
 use std::time::{Clock, Duration};
 use tokio::io::{AsyncRead, AsyncWrite};
@@ -42,8 +41,8 @@ pub(crate) trait Connects<I, S>: Drop {
     /// It may make this connection over this reader and writer, with this service.
     ghost makes: { Self → I → S → Self.Connection → Type 0 } = { λ _ _ _ _. ⊤ };
 
-    /// `begun` is whether something of the next request has come. `None` where there is no memory for a connection.
-    fn connect(&self, io: I, begun: Rc<Cell<bool>>, service: S) -> Option<Self::Connection>
+    /// What comes is told to the course. `None` where there is no memory for a connection.
+    fn connect(&self, io: I, course: &Arc<Course>, service: S) -> Option<Self::Connection>
         requires { can_connect self.now service }
         ensures { IfSome result (makes self.now io service) };
 }
@@ -78,12 +77,13 @@ where
     fn connect(
         &self,
         io: I,
-        begun: Rc<Cell<bool>>,
+        course: &Arc<Course>,
         service: S,
     ) -> Option<Connection<Watched<I>, S, B, HeadTimer<T>>> {
-        let timer = HeadTimer::new(self.timer.clone().ok()?, begun.clone().ok()?);
+        let timer = HeadTimer::new(self.timer.clone().ok()?, Arc::try_clone(course).ok()?);
+        let watched = Watched::new(io, self.turns, Arc::try_clone(course).ok()?);
         let builder = self.builder.clone().ok()?.timer(timer);
-        Some(builder.serve_connection(Watched::new(io, self.turns, begun), service))
+        Some(builder.serve_connection(watched, service))
     }
 }
 
@@ -126,6 +126,7 @@ pub(crate) fn connection<R, A, I, M, F>(
     connects: &M,
     timers: &Handle,
     slot: Arc<SeatSlot<A>>,
+    course: &Arc<Course>,
     io: I,
 ) -> Option<F>
 where
@@ -136,7 +137,7 @@ where
     requires { (service : _) → M.can_connect connects.now service }
     ensures { IfSome result (IsConnectionFor M.makes connects.now io (giver_of slot)) }
 {
-    let begun = Rc::new(rt.alloc(), Cell::new(false)).ok()?;
-    let service = MessageService::new(rt, slot, timers.clone().ok()?, begun.clone().ok()?);
-    connects.connect(io, begun, service)
+    let own = Arc::try_clone(course).ok()?;
+    let service = MessageService::new(rt, slot, timers.clone().ok()?, own);
+    connects.connect(io, course, service)
 }

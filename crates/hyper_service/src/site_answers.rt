@@ -31,6 +31,7 @@ use shared_book::seat::Seat;
 use shared_book::shared_book::SharedBook;
 use std::alloc::{AllocError, Global};
 use std::sync::{Arc, Wait};
+use tokio::runtime::Handle;
 
 /// A site, what forwards its requests, what is told of them, and how long its journal gets: what the connections of a
 /// server are served by.
@@ -110,11 +111,12 @@ where
         &self,
         rt: &R,
         alloc: Global,
+        handle: &Handle,
         seat: &mut Seat<L>,
         request: &Request<Bytes>,
     ) -> Result<Begun<SiteExchange<F::Exchange>, Content>, ServiceError> {
         let before = last_number(seat);
-        let begun = self.begin_message(rt, alloc, seat, before, request);
+        let begun = self.begin_message(rt, alloc, handle, seat, before, request);
         self.journal.keep(rt, &self.site.book, seat, before);
         begun
     }
@@ -154,6 +156,7 @@ where
         &self,
         rt: &R,
         alloc: Global,
+        handle: &Handle,
         seat: &mut Seat<L>,
         before: Option<u64>,
         request: &Request<Bytes>,
@@ -169,7 +172,9 @@ where
                 self.log.answered(rt, alloc, request, receipt, &response);
                 Ok(Begun::Answered(response))
             }
-            answering::begun::Begun::ToForward(forward) => self.forward(rt, alloc, seat, forward),
+            answering::begun::Begun::ToForward(forward) => {
+                self.forward(rt, alloc, handle, seat, forward)
+            }
         }
     }
 
@@ -180,6 +185,7 @@ where
         &self,
         rt: &R,
         alloc: Global,
+        handle: &Handle,
         seat: &mut Seat<L>,
         forward: Forward,
     ) -> Result<Begun<SiteExchange<F::Exchange>, Content>, ServiceError>
@@ -187,7 +193,7 @@ where
             F.sends F.Exchange.gives F.Exchange.can_poll seat.old seat.new forward) }
         ensures err { IfErr result (λ error. (error ≡ NoMemory) × HasMadeNoCall L.origin L.book seat.old seat.new) }
     {
-        match self.exchange(alloc, forward) {
+        match self.exchange(alloc, handle, forward) {
             Ok(exchange) => Ok(Begun::Forwarding(exchange)),
             Err(failed) => {
                 let response = self.finish_forwarded(rt, alloc, seat, failed)?;
@@ -222,6 +228,7 @@ where
     fn exchange(
         &self,
         alloc: Global,
+        handle: &Handle,
         forward: Forward,
     ) -> Result<Box<SiteExchange<F::Exchange>>, Forwarded>
         ensures kept { IfOk result (λ made. made.value.forward ≡ Some forward) }
@@ -232,7 +239,7 @@ where
     {
         match self
             .forwarder
-            .exchange(&forward.target, forward.request.request())
+            .exchange(handle, &forward.target, forward.request.request())
         {
             Ok(exchange) => SiteExchange::new(alloc, forward, exchange),
             Err(error) => Err(Forwarded {

@@ -7,6 +7,7 @@ mod command_line;
 mod record;
 mod serve;
 mod server_log;
+mod serving_threads;
 mod streams;
 mod watch;
 

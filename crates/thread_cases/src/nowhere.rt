@@ -7,6 +7,7 @@ use proxy_client::error::ProxyError;
 use proxy_client::failure::Failure;
 use proxy_client::forwards::Forwards;
 use recorder::target::Target;
+use tokio::runtime::Handle;
 
 /// Each exchange fails before it begins.
 #[derive(Clone, Copy, Debug)]
@@ -17,6 +18,7 @@ impl Forwards for Nowhere {
 
     fn exchange(
         &self,
+        _handle: &Handle,
         _target: &Target,
         _request: &Snapshot,
     ) -> Result<Ready<Result<Reply, ProxyError>>, ProxyError> {
