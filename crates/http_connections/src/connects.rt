@@ -1,11 +1,12 @@
 // What makes a connection of a reader and writer.
-ghost use Rattle.std.specs.Prelude.{◌≡◌, IfOk, IfSome, ⊤};
+ghost use Rattle.std.specs.Prelude.{◌≡◌, IfOk, IfSome, IsSomeAnd, ⊤};
 ghost use Rattle.http_connections.specs.Site.{IsConnectionFor, giver_of};
 ghost use Rattle.http_connections.specs.Turns.{IsOver};
 ghost use Rattle.hyper.specs.ServerDispatch.{Runs};
 
 use crate::answers::Answers;
 use crate::course::Course;
+use crate::leaving::Leaving;
 use crate::seat_slot::SeatSlot;
 use crate::service::MessageService;
 use crate::watched::{HeadTimer, Watched};
@@ -14,7 +15,7 @@ use http::{Request, Response};
 use http_body::Body;
 use hyper::body::Incoming;
 use hyper::rt::{Timer, TokioTimer};
-use hyper::server::conn::http1::{Builder, Connection};
+use hyper::server::conn::http1::Builder;
 use hyper::service::Service;
 use std::alloc::AllocGlobal;
 use std::hash::RandomState;
@@ -65,25 +66,20 @@ where
     B::Error: Into<anyhow::Error>,
     T: Timer,
 {
-    type Connection = Connection<Watched<I>, S, B, HeadTimer<T>>;
+    type Connection = Leaving<I, S, B, T>;
 
     ghost can_connect = { λ _ service. S.can_call service × ((content : B) → B.can_poll content) };
 
-    ghost makes = { λ connecting io service made.
+    ghost makes = { λ connecting io service leaving. IsSomeAnd leaving.connection (λ made.
         Runs ⟦<Watched<I> as AsyncRead>⟧ ⟦<Watched<I> as AsyncWrite>⟧ S.Service S.Future.Future
         B.Body B.Data.Into made.conn × IsOver connecting.turns io made.conn.link.io
-        × (made.conn.service ≡ service) };
+        × (made.conn.service ≡ service)) };
 
-    fn connect(
-        &self,
-        io: I,
-        course: &Arc<Course>,
-        service: S,
-    ) -> Option<Connection<Watched<I>, S, B, HeadTimer<T>>> {
+    fn connect(&self, io: I, course: &Arc<Course>, service: S) -> Option<Leaving<I, S, B, T>> {
         let timer = HeadTimer::new(self.timer.clone().ok()?, Arc::try_clone(course).ok()?);
         let watched = Watched::new(io, self.turns, Arc::try_clone(course).ok()?);
         let builder = self.builder.clone().ok()?.timer(timer);
-        Some(builder.serve_connection(watched, service))
+        Some(Leaving::new(builder.serve_connection(watched, service)))
     }
 }
 

@@ -13,6 +13,7 @@ pub mod ender;
 pub mod forwarding;
 pub mod gathering;
 pub mod hour;
+mod leaving;
 pub mod patience;
 mod pause;
 mod refusal;

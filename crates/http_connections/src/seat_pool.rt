@@ -86,10 +86,20 @@ impl<A: Answers> SeatPool<A> {
 
     /// Whether one more connection is accepted.
     pub(crate) fn admission<R: Wait>(&self, rt: &R) -> Admission {
-        if self.ender.is_asked() {
+        if self.is_asked() {
             return Admission::Never;
         }
         self.seats.lock(rt).admission(self.most)
+    }
+
+    /// Whether a connection of any thread is open.
+    pub(crate) fn has_connections<R: Wait>(&self, rt: &R) -> bool {
+        self.seats.lock(rt).has_connections()
+    }
+
+    /// Whether the end was asked for.
+    pub(crate) fn is_asked(&self) -> bool {
+        self.ender.is_asked()
     }
 
     /// Looks at the clock: by this hour the courses of connections say when they were heard.

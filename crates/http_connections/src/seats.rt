@@ -103,6 +103,13 @@ impl<S: Drop> Seats<S> {
         self.wanted == Some(0)
     }
 
+    /// Whether a connection has a place.
+    pub(crate) fn has_connections(&self) -> bool
+        ensures { IsTrue result ↔ (0 < self.now.taken) }
+    {
+        self.taken > 0
+    }
+
     /// What one more connection gets, which is counted.
     pub(crate) fn assign<R: Wait, A: Answers<Seat = S>>(
         &mut self,

@@ -18,10 +18,13 @@ use std::io::ErrorKind;
 use std::random::RandomSource;
 use std::rc::Rc;
 use std::sync::{Arc, Wait};
-use std::time::Clock;
+use std::time::{Clock, Duration};
 use std::{io, net};
 use tokio::net::TcpListener;
 use tokio::runtime::LocalRuntime;
+
+/// How long answers may go on once the end was asked for, in seconds.
+pub const END_TIME: u64 = 2;
 
 /// The seats of all connections once they have been served, and why there were no more.
 #[derive(Drop)]
@@ -171,7 +174,7 @@ fn served_by<R: Wait, A: Answers>(
 ) -> Result<Served<A::Seat>, AllocError>
     ensures { IfOk result (λ served. served.end ≡ End.AllServed → IsSome settings.connections × IsOk ran.now) }
 {
-    let end = end_of(ran, pool.is_open(rt), pool.ender.is_asked(), settings);
+    let end = end_of(ran, pool.is_open(rt), pool.is_asked(), settings);
     let seats = pool.take_all(rt, alloc)?;
     Ok(Served { seats, end })
 }
@@ -218,5 +221,7 @@ where
         Rc::new(rt.alloc(), handle)?,
         connects,
     );
+    // The stream ends before its connections have only where the end was asked for.
+    runtime.set_shutdown_timeout(Some(Duration::from_secs(END_TIME)));
     runtime.run_all(&rt, accepting)
 }

@@ -77,7 +77,7 @@ impl<I: AsyncRead + AsyncWrite> AsyncRead for Watched<I> {
             return Poll::Ready(Err(error));
         }
         if self.course.must_leave() {
-            return Poll::Ready(Err(self.leave(cx)));
+            return Poll::Ready(Err(io::Error::from(ErrorKind::TimedOut)));
         }
         self.course.wants();
         let polled = self.io.poll_read(cx, buf);
@@ -122,15 +122,15 @@ impl<I: AsyncWrite> AsyncWrite for Watched<I> {
 }
 
 impl<I: AsyncWrite> Watched<I> {
-    // The connection is to end. Of a head that is unfinished the client is told; what else there is, the service answers.
-    fn leave(&mut self, cx: &mut Context<'_>) -> io::Error
+    /// Tells the client that it was too slow, where it has to leave and the head of its request is unfinished. (Where
+    /// the head has come, the service has answered.)
+    pub fn tell_late(&mut self, cx: &mut Context<'_>)
         ensures { Keeps cx.old cx.new }
     {
-        if self.course.is_at(Stage::Head) {
+        if self.course.must_leave() && self.course.is_at(Stage::Head) {
             // Little enough for a socket to take it at once; where it doesn't, the connection ends without it.
             let _ = self.io.poll_write(cx, REQUEST_TIMEOUT);
         }
-        io::Error::from(ErrorKind::TimedOut)
     }
 }
 

@@ -167,7 +167,7 @@ fn serve_book<L, R, O, E, I>(
     err: &mut E,
 ) -> u8
 where
-    L: Origin,
+    L: Origin + Send + Sync,
     R: Threads
         + Wait
         + Net<Listener = TcpListener, Stream = TcpStream>
@@ -213,7 +213,7 @@ fn serve_shared<L, R, O, E, I>(
     err: &mut E,
 ) -> u8
 where
-    L: Origin,
+    L: Origin + Send + Sync,
     R: Threads
         + Wait
         + Net<Listener = TcpListener, Stream = TcpStream>
@@ -260,7 +260,7 @@ fn serve_listening<L, R, O, E, I>(
     err: &mut E,
 ) -> u8
 where
-    L: Origin,
+    L: Origin + Send + Sync,
     R: Threads
         + Wait
         + Net<Listener = TcpListener, Stream = TcpStream>

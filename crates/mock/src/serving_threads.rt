@@ -28,7 +28,7 @@ pub type MockAnswers<L, R> = SiteAnswers<L, NoGate, SystemClock<R>, Forwarder<R>
 
 // What each thread does.
 #[derive(Drop)]
-struct ServerJob<L: Origin, R> {
+struct ServerJob<L: Origin, R: Clock + Net + AllocGlobal + Copy + Drop> {
     server: Arc<Server<MockAnswers<L, R>>>,
 }
 
@@ -55,7 +55,7 @@ where
 
 impl<L, R> Workers<R, MockAnswers<L, R>> for ServingThreads
 where
-    L: Origin,
+    L: Origin + Send + Sync,
     R: Threads
         + Wait
         + Net<Listener = TcpListener, Stream = TcpStream>

@@ -5,6 +5,7 @@ pub use crate::nearest::Offer;
 use crate::nearest::nearest_lines;
 use crate::over_budget::over_budget_line;
 use crate::request_line::request_line;
+use crate::skipped::skipped_lines;
 use admin_table::route::{Route, is_admin, route_of};
 use bytes::Bytes;
 use error_code::error_code::ErrorCode;
@@ -16,6 +17,7 @@ use mapping_json::error::MappingError;
 use mapping_json::read::read_mapping_with;
 use mapping_json::read_request::read_request;
 use mock_request::snapshot::Snapshot;
+use recorder::recording::Recording;
 use request_journal::event::{Event, ServeAnswer};
 use request_parts::error::RequestMatchError;
 use std::alloc::{AllocError, Global};
@@ -24,7 +26,7 @@ use stub_response::limits::Limits;
 use template_tree::escape::Escape;
 
 /// How many characters of a method and of a URL are told.
-const SHOWN: usize = 1000;
+pub(crate) const SHOWN: usize = 1000;
 
 /// The status of the response to a request where the templates of its mapping are over the limits.
 const OVER_BUDGET: u16 = 500;
@@ -117,6 +119,20 @@ impl RequestLog {
         if let Some(failure) = failure {
             let line = failed_line(alloc, request, failure);
             self.add(rt, line);
+        }
+    }
+
+    /// Whether it tells of which exchanges of a recording no mappings were made, once the call of the event was
+    /// answered.
+    pub fn tells_skipped(&self, event: &Event) -> bool {
+        matches!(event, Event::StopRecording { mappings: _, skipped } if *skipped > 0)
+    }
+
+    /// Tells of which exchanges of a recording no mappings were made, where it is stopped still.
+    pub fn stopped<R: Wait>(&self, rt: &R, alloc: Global, recording: &Recording) {
+        if let Recording::Stopped(session) = recording {
+            let lines = skipped_lines(alloc, session);
+            self.add(rt, lines);
         }
     }
 
