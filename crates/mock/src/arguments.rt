@@ -61,9 +61,6 @@ It prints how many mappings it has written, as `saved 4 mappings`.
 Example, while a server runs on port 8080:
   mock save localhost:8080 mappings.json";
 
-/// How many connections are open at once, where the arguments don't say.
-const MAX_CONNECTIONS: u64 = 900;
-
 /// How many threads serve, where the arguments don't say.
 const THREADS: u64 = 1;
 
@@ -79,7 +76,7 @@ pub struct ServeArguments<'a> {
     /// After how many connections it ends.
     pub connections: Option<u64>,
     /// How many connections are open at once.
-    pub max_connections: u64,
+    pub max_connections: Option<u64>,
     /// How many threads serve.
     pub threads: u64,
     /// At how many requests the journal is cleared.
@@ -186,7 +183,7 @@ fn arguments_in<'a>(given: &ArgMatches<'a>, address: IpAddr) -> Option<ServeArgu
         escape: escape_in(given),
         address,
         connections: given.get_one("connections"),
-        max_connections: given.get_one("max-connections").unwrap_or(MAX_CONNECTIONS),
+        max_connections: given.get_one("max-connections"),
         threads: given.get_one("threads").unwrap_or(THREADS),
         journal_limit: given.get_one("journal-limit"),
         opening: first_event.unwrap_or(1).saturating_sub(1),

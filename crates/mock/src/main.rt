@@ -4,6 +4,7 @@
 
 mod arguments;
 mod command_line;
+mod descriptors;
 mod record;
 mod serve;
 mod server_log;

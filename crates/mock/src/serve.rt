@@ -7,6 +7,7 @@ ghost use Rattle.served_book.specs.Served.{IsServedBook};
 ghost use Rattle.shared_history.specs.Entries.{opening};
 
 use crate::arguments::ServeArguments;
+use crate::descriptors::open_connections;
 use crate::server_log::ServerLog;
 use crate::serving_threads::{MockAnswers, ServingThreads};
 use crate::watch::Watch;
@@ -286,7 +287,7 @@ where
     } = listening;
     let settings = Settings {
         connections: arguments.connections,
-        max_connections: arguments.max_connections,
+        max_connections: open_connections(arguments.max_connections, arguments.threads, err),
     };
     let Ok(log) = ServerLog::new(log, &book) else {
         return out_of_memory(err);
