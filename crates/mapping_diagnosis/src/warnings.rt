@@ -18,7 +18,13 @@ pub(crate) fn warnings_of(alloc: Global, value: &Value) -> Result<Vec<String>, A
         add_url(alloc, request, &mut warnings)?;
         add_path_template(alloc, request, &mut warnings)?;
         add_negative(alloc, request, "headers", "header", &mut warnings)?;
-        add_negative(alloc, request, "queryParameters", "query parameter", &mut warnings)?;
+        add_negative(
+            alloc,
+            request,
+            "queryParameters",
+            "query parameter",
+            &mut warnings,
+        )?;
         add_negative(alloc, request, "cookies", "cookie", &mut warnings)?;
         add_placeholder(alloc, request, &mut warnings)?;
     }
@@ -282,7 +288,8 @@ fn add_placeholder(
     };
     for item in items {
         if has_placeholder(alloc, item)? {
-            let warning = "`${json-unit..}` in `equalToJson` is compared as it stands: it is no placeholder";
+            let warning =
+                "`${json-unit..}` in `equalToJson` is compared as it stands: it is no placeholder";
             warnings.push(String::from_str(alloc, warning)?)?;
         }
     }
