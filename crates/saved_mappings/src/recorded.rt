@@ -127,8 +127,13 @@ impl RecordError {
                 let reason = error.reason(alloc)?;
                 format!(in alloc; "error: the recording can't be had from the server\n  {reason}\n")
             }
-            RecordError::NoMappings => String::from_str(alloc, "error: the recording has no mappings\n"),
-            RecordError::File(error) => format!(in alloc; "error: cannot write {file}\n  {error}\n"),
+            RecordError::NoMappings => String::from_str(
+                alloc,
+                "error: the recording has no mappings\n",
+            ),
+            RecordError::File(error) => format!(in alloc;
+                "error: cannot write {file}\n  {error}\n"
+            ),
             RecordError::Har(error) => format!(in alloc; "error: cannot write {har}\n  {error}\n"),
             RecordError::OutOfMemory => String::from_str(alloc, "error 50: out of memory\n"),
         }
