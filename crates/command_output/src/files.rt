@@ -99,6 +99,12 @@ fn files_in(rt: &HostRuntime, alloc: Global, folder: &str) -> io::Result<Listed>
                     None => files.push(path)?,
                 }
             }
+            Ok(entry) if entry.file_name() == "mappings" => {
+                if is_folder(rt, entry.path().path_text()) {
+                    let line = line_on(alloc, entry.path().path_text(), MAPPINGS_FOLDER)?;
+                    passed_over.push(line)?;
+                }
+            }
             Ok(_entry) => {}
             Err(error) if error.kind() == ErrorKind::InvalidFilename => {
                 passed_over.push(line_of_unreadable_name(alloc, folder)?)?;
@@ -113,6 +119,9 @@ fn files_in(rt: &HostRuntime, alloc: Global, folder: &str) -> io::Result<Listed>
         passed_over: joined(alloc, passed_over.as_slice())?,
     })
 }
+
+// WireMock has its files there, in the folder that it is given.
+const MAPPINGS_FOLDER: &str = "it is a folder; give its own path to have the files in it read";
 
 // A name that begins with a dot is hidden, as an editor's copy is.
 fn is_of_mappings(name: &str) -> bool {

@@ -1,5 +1,5 @@
 // The connections that a listener accepts, each a task.
-ghost use Rattle.std.specs.Prelude.{◌≡◌, ◌⊎◌, ◌↔◌, ◌-◌, ◌<◌, IfSome, IsTrue, OnSome, false, option_map, true};
+ghost use Rattle.std.specs.Prelude.{◌≡◌, ◌⊎◌, ◌↔◌, ◌-◌, ◌<◌, IfSome, IsFalse, IsTrue, OnSome, false, option_map, true};
 ghost use Rattle.std.specs.IoError.{raw_os_error};
 ghost use Rattle.futures.specs.Poll.{OnPending};
 ghost use Rattle.futures.specs.Task.{IsArmed, Keeps};
@@ -39,7 +39,8 @@ const ENOTSOCK: i32 = 88;
 #[derive(Drop)]
 pub(crate) struct Accepting<R, A: Answers, M> {
     rt: R,
-    listener: TcpListener,
+    /// `None` once no more are accepted: who comes then is refused.
+    listener: Option<TcpListener>,
     pool: Arc<SeatPool<A>>,
     /// How many this thread may accept at most; how many all threads may is counted in the pool.
     left: Option<u64>,
@@ -75,7 +76,7 @@ where
     {
         Accepting {
             rt,
-            listener,
+            listener: Some(listener),
             pool,
             left: settings.connections,
             is_open: true,
@@ -93,20 +94,36 @@ where
         self.left != Some(0) && self.is_open
     }
 
-    // Ready once one more may be accepted, or with false once no more are. What it waits for is told by any thread.
-    fn turn(&mut self, cx: &mut Context<'_>) -> Poll<bool>
-        ensures registered { OnPending result (IsArmed cx.new) }
+    // Whether no more are accepted by this thread, or by any. Where there is no memory to wait for the last, it is seen
+    // when the next connection comes.
+    fn is_done(&mut self, cx: &mut Context<'_>) -> bool
+        ensures wanted { IsFalse result → IfSome self.old.left (λ left. 0 < left) }
         ensures kept { Keeps cx.old cx.new }
         ensures connects { self.new.connects ≡ self.old.connects }
         ensures pool { self.new.pool ≡ self.old.pool }
         ensures left { self.new.left ≡ self.old.left }
     {
-        // Where there is no memory to wait for it, the end is seen when the next connection comes.
-        if let Poll::Ready(Ok(())) = self.ended.poll(cx) {
-            return Poll::Ready(false);
+        !self.wants_more() || matches!(self.ended.poll(cx), Poll::Ready(Ok(())))
+    }
+
+    // No more are accepted. That is all where the end was asked for: then the connections leave, and the event loop waits
+    // for them as long as it may. Otherwise it goes on until all have ended, which is looked at now and then.
+    fn is_over(&mut self) -> bool
+        ensures connects { self.new.connects ≡ self.old.connects }
+        ensures pool { self.new.pool ≡ self.old.pool }
+        ensures left { self.new.left ≡ self.old.left }
+    {
+        self.listener = None;
+        self.waiting = None;
+        if self.pool.is_asked() {
+            self.pool.clear(&self.rt);
+            return true;
         }
-        ready!(self.pause.poll(cx));
-        Poll::Ready(true)
+        if !self.pool.has_connections(&self.rt) {
+            return true;
+        }
+        self.pause.begin();
+        false
     }
 
     // A place with a seat of this number, if the connection can be served.
@@ -162,7 +179,10 @@ where
         if let Some(socket) = self.waiting.take() {
             return Poll::Ready(Ok(socket));
         }
-        match ready!(self.listener.poll_accept(cx)) {
+        let Some(listener) = &mut self.listener else {
+            return cx.yield_now();
+        };
+        match ready!(listener.poll_accept(cx)) {
             Ok((mut socket, _address)) => {
                 // What the event loop is told of a socket it keeps only from the first poll on: a client that has left
                 // before the task's first one would stay unnoticed.
@@ -262,11 +282,12 @@ where
         (site_in accepting.pool) task.connection.value) accepting.left };
 
     fn poll_next(&mut self, cx: &mut Context<'_>) -> Poll<Option<ConnectionTask<R, A, F>>> {
-        if !self.wants_more() {
-            return Poll::Ready(None);
-        }
-        if !ready!(self.turn(cx)) {
-            return Poll::Ready(None);
+        ready!(self.pause.poll(cx));
+        if self.is_done(cx) {
+            if self.is_over() {
+                return Poll::Ready(None);
+            }
+            return cx.yield_now();
         }
         let socket = match ready!(self.poll_socket(cx)) {
             Ok(socket) => socket,
@@ -285,7 +306,10 @@ where
                 self.wait_for_room(socket);
                 cx.yield_now()
             }
-            Admission::Never => Poll::Ready(None),
+            Admission::Never => {
+                self.is_open = false;
+                cx.yield_now()
+            }
         }
     }
 }

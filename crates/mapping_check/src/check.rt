@@ -64,12 +64,37 @@ pub fn check_documents(
         match add_document(alloc, &mut checked, file, text.as_slice(), escape, notes) {
             Ok(()) => {}
             Err(error) => {
-                let _ = notes.add_document(alloc, file, text.as_slice());
+                note_from(alloc, documents, index, checked.count, escape, notes);
                 return Err(error);
             }
         }
     }
     Ok(checked)
+}
+
+/// Notes what there is to say of the documents from this index on, before which there are so many mappings: also where
+/// one of them has none, so that it hides no other.
+fn note_from(
+    alloc: Global,
+    documents: &Documents,
+    first: usize,
+    count: u64,
+    escape: Escape,
+    notes: &mut Notes,
+) {
+    let mut checked = Checked {
+        text: String::new(alloc),
+        is_refused: false,
+        count,
+    };
+    for index in first..documents.texts.len() {
+        let text = &documents.texts[index];
+        let file = path_at(documents, index);
+        let added = add_document(alloc, &mut checked, file, text.as_slice(), escape, notes);
+        if added.is_err() {
+            let _ = notes.add_document(alloc, file, text.as_slice());
+        }
+    }
 }
 
 fn path_at(documents: &Documents, index: usize) -> &str {

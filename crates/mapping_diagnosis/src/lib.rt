@@ -4,8 +4,10 @@
 //! the order of the JSON tree, that explains the code. No contract says what is found; tables of cases do.
 #![tactic(auto)]
 
+mod budget;
 mod combination;
 mod fault;
+mod known_ids;
 mod leaf;
 pub mod notes;
 mod numbers;

@@ -1,5 +1,6 @@
 //! The lines that follow the first line of an error on standard error, and warnings.
 use crate::fault::Fault;
+use crate::known_ids::KnownIds;
 use crate::part::Part;
 use crate::reasons::json_reason;
 use crate::search::{mapping_fault, part_fault};
@@ -27,6 +28,8 @@ pub struct Notes {
     left: u32,
     /// The number of the next mapping.
     next: u64,
+    /// The ids of the mappings of files.
+    ids: KnownIds,
 }
 
 /// Where a mapping stands.
@@ -46,6 +49,7 @@ impl Notes {
             text: String::new(alloc),
             left: LINE_LIMIT,
             next: 1,
+            ids: KnownIds::new(alloc),
         }
     }
 
@@ -69,6 +73,7 @@ impl Notes {
             text,
             left: _left,
             next: _next,
+            ids: _ids,
         } = self;
         text
     }
@@ -88,6 +93,8 @@ impl Notes {
             let mapping = named(alloc, place, value)?;
             let what = what_of(alloc, place, value, error)?;
             self.add_line(["  ", mapping.as_str(), what.as_str(), "\n"].as_slice())?;
+        } else {
+            self.add_replacement(alloc, place, value)?;
         }
         let warnings = warnings_of(alloc, value)?;
         if warnings.is_empty() {
@@ -95,6 +102,39 @@ impl Notes {
         }
         let mapping = named(alloc, place, value)?;
         self.add_warnings(mapping.as_str(), warnings.as_slice())
+    }
+
+    /// A warning, where an accepted mapping of a file has the id of an earlier one.
+    fn add_replacement(
+        &mut self,
+        alloc: Global,
+        place: Place<'_>,
+        value: &Value,
+    ) -> Result<(), AllocError> {
+        if place.number.is_none() {
+            return Ok(());
+        }
+        let Some(earlier) = self.ids.take(alloc, value, placed(alloc, place)?)? else {
+            return Ok(());
+        };
+        let mapping = named(alloc, place, value)?;
+        let texts = [
+            "warning: ",
+            mapping.as_str(),
+            ": it replaces ",
+            earlier.as_str(),
+            ", which has the same id\n",
+        ];
+        self.add_line(texts.as_slice())
+    }
+
+    /// A warning, where a mapping of the files would be replaced by one that is posted without an id, or recorded, to a
+    /// server whose first event has this number.
+    pub fn add_replaced_later(&mut self, alloc: Global, first: u64) -> Result<(), AllocError> {
+        match self.ids.replaced_later(alloc, first)? {
+            Some(warning) => self.add_line(["warning: ", warning.as_str(), "\n"].as_slice()),
+            None => Ok(()),
+        }
     }
 
     fn add_warnings(&mut self, mapping: &str, warnings: &[String]) -> Result<(), AllocError> {
@@ -342,16 +382,22 @@ fn first_error(answer: &Value) -> Option<(u64, &str)> {
 
 /// As `todo.json, mapping 2 (name "todo")`; where it has no name, its id, or nothing.
 fn named(alloc: Global, place: Place<'_>, value: &Value) -> Result<String, AllocError> {
+    let mut text = placed(alloc, place)?;
+    if let Some(name) = text_at(value, "name") {
+        push_name(alloc, &mut text, " (name ", name)?;
+    } else if let Some(id) = text_at(value, "id") {
+        push_name(alloc, &mut text, " (id ", id)?;
+    }
+    Ok(text)
+}
+
+/// As `todo.json, mapping 2`.
+fn placed(alloc: Global, place: Place<'_>) -> Result<String, AllocError> {
     let mut text = String::from_str(alloc, place.file)?;
     if let Some(number) = place.number {
         let mut digits = Buffer::new();
         text.push_str(", mapping ")?;
         text.push_str(digits.format(number))?;
-    }
-    if let Some(name) = text_at(value, "name") {
-        push_name(alloc, &mut text, " (name ", name)?;
-    } else if let Some(id) = text_at(value, "id") {
-        push_name(alloc, &mut text, " (id ", id)?;
     }
     Ok(text)
 }

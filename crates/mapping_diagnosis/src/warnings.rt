@@ -1,4 +1,5 @@
 // What is taken, and yet hasn't the effect that was probably meant.
+use crate::budget::always_over;
 use crate::part::{Field, Part, field_of};
 use crate::shown::{joined, quoted};
 use path_template::error::PathTemplateError;
@@ -16,10 +17,22 @@ pub(crate) fn warnings_of(alloc: Global, value: &Value) -> Result<Vec<String>, A
         add_method(alloc, request, &mut warnings)?;
         add_url(alloc, request, &mut warnings)?;
         add_path_template(alloc, request, &mut warnings)?;
+        add_negative(alloc, request, "headers", "header", &mut warnings)?;
+        add_negative(
+            alloc,
+            request,
+            "queryParameters",
+            "query parameter",
+            &mut warnings,
+        )?;
+        add_negative(alloc, request, "cookies", "cookie", &mut warnings)?;
+        add_placeholder(alloc, request, &mut warnings)?;
     }
     if let Some(response) = value.get("response") {
+        add_status_message(alloc, response, &mut warnings)?;
         add_body(alloc, response, &mut warnings)?;
         add_json_body(alloc, response, &mut warnings)?;
+        add_budget(alloc, response, &mut warnings)?;
     }
     Ok(warnings)
 }
@@ -213,6 +226,111 @@ fn is_bound(alloc: Global, segment: &str) -> Result<bool, AllocError> {
         Err(PathTemplateError::BadUrl) => Ok(false),
         Err(PathTemplateError::OutOfMemory) => Err(AllocError),
     }
+}
+
+/// Matchers that a request without such a value doesn't meet, and that WireMock takes as met by one.
+fn add_negative(
+    alloc: Global,
+    request: &Value,
+    field: &str,
+    what: &str,
+    warnings: &mut Vec<String>,
+) -> Result<(), AllocError> {
+    let Some(matchers) = request.get(field) else {
+        return Ok(());
+    };
+    let Some(members) = matchers.as_object() else {
+        return Ok(());
+    };
+    for (name, matcher) in members.iter() {
+        if let Some(word) = negative_word(matcher) {
+            warnings.push(not_met(alloc, what, name.as_str(), word)?)?;
+        }
+    }
+    Ok(())
+}
+
+fn not_met(alloc: Global, what: &str, name: &str, word: &str) -> Result<String, AllocError> {
+    let name = quoted(alloc, name)?;
+    let texts = [
+        "a request without the ",
+        what,
+        " ",
+        name.as_str(),
+        " doesn't meet its `",
+        word,
+        "`",
+    ];
+    joined(alloc, texts.as_slice())
+}
+
+fn negative_word(matcher: &Value) -> Option<&'static str> {
+    if matcher.get("doesNotContain").is_some() {
+        Some("doesNotContain")
+    } else if matcher.get("doesNotMatch").is_some() {
+        Some("doesNotMatch")
+    } else {
+        None
+    }
+}
+
+/// What JsonUnit has in place of a value, and is compared as a text.
+fn add_placeholder(
+    alloc: Global,
+    request: &Value,
+    warnings: &mut Vec<String>,
+) -> Result<(), AllocError> {
+    let Some(patterns) = request.get("bodyPatterns") else {
+        return Ok(());
+    };
+    let Some(items) = patterns.as_array() else {
+        return Ok(());
+    };
+    for item in items {
+        if has_placeholder(alloc, item)? {
+            let warning =
+                "`${json-unit..}` in `equalToJson` is compared as it stands: it is no placeholder";
+            warnings.push(String::from_str(alloc, warning)?)?;
+        }
+    }
+    Ok(())
+}
+
+fn has_placeholder(alloc: Global, pattern: &Value) -> Result<bool, AllocError> {
+    let Some(expected) = pattern.get("equalToJson") else {
+        return Ok(false);
+    };
+    let text = expected.to_string(alloc)?;
+    Ok(text.as_str().contains("${json-unit."))
+}
+
+/// The reason phrase of a response is that of its status.
+fn add_status_message(
+    alloc: Global,
+    response: &Value,
+    warnings: &mut Vec<String>,
+) -> Result<(), AllocError> {
+    if response.get("statusMessage").is_none() {
+        return Ok(());
+    }
+    let warning = "`statusMessage` is ignored: the reason phrase is that of the status";
+    warnings.push(String::from_str(alloc, warning)?)?;
+    Ok(())
+}
+
+/// Templates that may take too much for every request.
+fn add_budget(
+    alloc: Global,
+    response: &Value,
+    warnings: &mut Vec<String>,
+) -> Result<(), AllocError> {
+    if !is_templated(response) {
+        return Ok(());
+    }
+    if let Some(warning) = always_over(alloc, response)? {
+        warnings.push(warning)?;
+    }
+    Ok(())
 }
 
 /// A text with tags that is no template.

@@ -1,19 +1,8 @@
--- The book that `mock serve` opens, and what it writes.
-use Rattle.std.specs.Prelude.{◌≡◌, ◌⊎◌, ℕ, List, [], Option, None, Some}
-use Rattle.command_output.specs.Files.{AreDocuments}
+-- What `mock serve` writes.
+use Rattle.std.specs.Prelude.{◌≡◌, ◌⊎◌, ℕ, List, Option}
 use Rattle.hyper_service.specs.Report.{ReportsServed}
 use Rattle.logbook.specs.Pages.{Book}
-use Rattle.mapping_answer.specs.Fresh.{IsFresh}
-use Rattle.request_journal.specs.Past.{Past, opened}
-use Rattle.template_tree.specs.declared.escape.Escape.{Escape}
-
--- It has no event yet, and the mappings of the documents at the path, one document after another; or none without a
--- path. Which files a path names, and what a file has, are known or not.
-abbrev pub IsServedBook : Escape → Option (List ℕ) → (List ℕ → Option (List (List ℕ)))
-    → (List ℕ → Option (List ℕ)) → Past → Type 0
-IsServedBook escape None listed known past = past ≡ opened 0 []
-IsServedBook escape (Some path) listed known past =
-    (documents : List (List ℕ)) × AreDocuments (listed path) known documents × IsFresh escape documents past
+use Rattle.request_journal.specs.Past.{Past}
 
 -- Nothing is written to standard output, and the status is 1: there is no such book, nothing to listen with, or no
 -- memory. Or a book that had the past `origin` is served, after lines on standard error that warn of its files, and

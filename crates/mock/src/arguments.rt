@@ -1,4 +1,4 @@
-//! The arguments of `mock serve`.
+//! The arguments of `mock serve`, `mock record` and `mock save`.
 ghost use Rattle.std.specs.Prelude.{◌≡◌, IfOk, option_map};
 ghost use Rattle.clap.specs.Words.{first_of, found_of, rows_of};
 
@@ -17,6 +17,9 @@ POST /__admin/recordings/start to POST /__admin/recordings/stop, forwards what n
 another server, and makes mappings of its answers.
 With --connections it ends after N connections, and prints how many events its history has, as
 `settled 3 events`, if they are those that the connections have seen.
+Where mappings are refused it says which and why, and ends; with --skip-refused it serves the others.
+With --end-with-stdin it ends when its standard input does, as a test suite's server is ended by closing
+it: what is being answered is answered, for 2 s at most, and then it ends as after N connections.
 What is wrong with a mapping, where, and warnings are written to standard error, also of mappings that
 are posted, and why an admin call was refused or a request was forwarded in vain; with --verbose a
 line for each request, as `7 GET /todo unmatched 404`: the number of its event, the request, what
@@ -38,8 +41,25 @@ A recording of a server on port 9000, as examples/upstream.py is one:
   curl http://127.0.0.1:8080/count
   curl -X POST http://127.0.0.1:8080/__admin/recordings/stop";
 
-/// How many connections are open at once, where the arguments don't say.
-const MAX_CONNECTIONS: u64 = 900;
+const RECORD_HELP: &str =
+    "It serves as `serve` does, and forwards what no mapping matches to TARGET, and gives the reply: as
+http://127.0.0.1:9000; the host is localhost, an IPv4 address, or an IPv6 address in brackets. When its
+standard input ends, as by Ctrl-D, it writes the mappings that give the same replies to FILE, which is
+a file for `serve --mappings`, and prints how many they are, as `recorded 3 mappings, skipped 1`: of
+so many exchanges no mapping can be made, and standard error says of which, and why.
+FILE is written whole or not at all, and so is the file of --har.
+
+Example, with examples/upstream.py on port 9000:
+  mock record http://127.0.0.1:9000 recorded.json --port 8080";
+
+const SAVE_HELP: &str =
+    "FILE is a file for `serve --mappings`: the oldest mapping first, each on a line of its own, so that a
+server that is started with it chooses as the running one does. It is written beside FILE first, and
+then takes the place of FILE: whatever happens, FILE is the old one or the new one as a whole.
+It prints how many mappings it has written, as `saved 4 mappings`.
+
+Example, while a server runs on port 8080:
+  mock save localhost:8080 mappings.json";
 
 /// How many threads serve, where the arguments don't say.
 const THREADS: u64 = 1;
@@ -56,58 +76,121 @@ pub struct ServeArguments<'a> {
     /// After how many connections it ends.
     pub connections: Option<u64>,
     /// How many connections are open at once.
-    pub max_connections: u64,
+    pub max_connections: Option<u64>,
     /// How many threads serve.
     pub threads: u64,
     /// At how many requests the journal is cleared.
     pub journal_limit: Option<u64>,
+    /// The number before that of the first event.
+    pub opening: u64,
+    /// Whether mappings that are refused are left out.
+    pub skips_refused: bool,
+    /// Whether it ends when standard input does.
+    pub ends_with_input: bool,
     /// Whether each request is told of.
     pub verbose: bool,
 }
 
-/// What the arguments of `mock serve` ask for.
-#[derive(Clone, Copy)]
-pub enum ServeCall<'a> {
+/// What is to be recorded, and where it is written.
+#[derive(Drop)]
+pub struct RecordArguments<'a> {
+    pub target: &'a str,
+    pub file: &'a str,
+    pub har: Option<&'a str>,
+    /// The names of the request headers that recorded mappings match.
+    pub captured: Vec<&'a str>,
+}
+
+/// What the arguments ask for.
+#[derive(Drop)]
+pub enum Call<'a> {
     Serve(ServeArguments<'a>),
-    /// The address isn't one.
+    Record(ServeArguments<'a>, RecordArguments<'a>),
+    /// The mappings of a server are to be written to a file.
+    Save {
+        server: &'a str,
+        file: &'a str,
+    },
+    /// The address to listen on isn't one.
     BadAddress(&'a str),
 }
 
-/// What the arguments of `mock serve` ask for, the first being the program's name; or the text of `clap` in place of
-/// them, for help or for arguments that aren't valid.
-pub fn serve_arguments<'a>(
-    alloc: Global,
-    arguments: &'a [&'a str],
-) -> Result<Option<ServeCall<'a>>, Error> {
+/// What the arguments ask for, the first being the program's name and the second that of the command; or the text of
+/// `clap` in place of it, for help or for arguments that aren't valid.
+pub fn call_of<'a>(alloc: Global, arguments: &'a [&'a str]) -> Result<Option<Call<'a>>, Error> {
     let matches = command(alloc)?.try_get_matches_from(arguments)?;
     match matches.subcommand() {
-        Some((_name, given)) => Ok(call_in(given)),
+        Some(("save", given)) => Ok(save_in(given)),
+        Some(("record", given)) => Ok(record_in(alloc, given)?),
+        Some((_name, given)) => Ok(serve_in(given)),
         None => Ok(None),
     }
 }
 
-fn call_in<'a>(given: &ArgMatches<'a>) -> Option<ServeCall<'a>> {
-    match given.get_str("bind-address") {
-        Some(text) => match text.parse::<IpAddr>() {
-            Ok(address) => arguments_in(given, address),
-            Err(_error) => Some(ServeCall::BadAddress(text)),
-        },
-        None => arguments_in(given, IpAddr::V4(Ipv4Addr::LOCALHOST)),
+fn save_in<'a>(given: &ArgMatches<'a>) -> Option<Call<'a>> {
+    Some(Call::Save {
+        server: given.get_str("server")?,
+        file: given.get_str("file")?,
+    })
+}
+
+fn serve_in<'a>(given: &ArgMatches<'a>) -> Option<Call<'a>> {
+    match address_in(given) {
+        Ok(address) => Some(Call::Serve(arguments_in(given, address)?)),
+        Err(text) => Some(Call::BadAddress(text)),
     }
 }
 
-fn arguments_in<'a>(given: &ArgMatches<'a>, address: IpAddr) -> Option<ServeCall<'a>> {
-    Some(ServeCall::Serve(ServeArguments {
+fn record_in<'a>(alloc: Global, given: &ArgMatches<'a>) -> Result<Option<Call<'a>>, AllocError> {
+    let address = match address_in(given) {
+        Ok(address) => address,
+        Err(text) => return Ok(Some(Call::BadAddress(text))),
+    };
+    let captured = match given.get_strs("capture-header") {
+        Some(names) => Vec::from_slice(alloc, names)?,
+        None => Vec::new(alloc),
+    };
+    Ok(match (arguments_in(given, address), given.get_str("target"), given.get_str("file")) {
+        (Some(served), Some(target), Some(file)) => {
+            let record = RecordArguments {
+                target,
+                file,
+                har: given.get_str("har"),
+                captured,
+            };
+            Some(Call::Record(served, record))
+        }
+        _ => None,
+    })
+}
+
+// The address to listen on, or the text that isn't one.
+fn address_in<'a>(given: &ArgMatches<'a>) -> Result<IpAddr, &'a str> {
+    match given.get_str("bind-address") {
+        Some(text) => match text.parse::<IpAddr>() {
+            Ok(address) => Ok(address),
+            Err(_error) => Err(text),
+        },
+        None => Ok(IpAddr::V4(Ipv4Addr::LOCALHOST)),
+    }
+}
+
+fn arguments_in<'a>(given: &ArgMatches<'a>, address: IpAddr) -> Option<ServeArguments<'a>> {
+    let first_event: Option<u64> = given.get_one("first-event");
+    Some(ServeArguments {
         port: given.get_one("port")?,
         mappings: given.get_str("mappings"),
         escape: escape_in(given),
         address,
         connections: given.get_one("connections"),
-        max_connections: given.get_one("max-connections").unwrap_or(MAX_CONNECTIONS),
+        max_connections: given.get_one("max-connections"),
         threads: given.get_one("threads").unwrap_or(THREADS),
         journal_limit: given.get_one("journal-limit"),
+        opening: first_event.unwrap_or(1).saturating_sub(1),
+        skips_refused: given.get_flag("skip-refused"),
+        ends_with_input: given.get_flag("end-with-stdin"),
         verbose: given.get_flag("verbose"),
-    }))
+    })
 }
 
 fn escape_in(given: &ArgMatches<'_>) -> Escape {
@@ -119,9 +202,82 @@ fn escape_in(given: &ArgMatches<'_>) -> Escape {
 }
 
 fn command<'a>(alloc: Global) -> Result<Command<'a>, AllocError> {
-    let serve = Command::new(alloc, "serve")
+    Command::new(alloc, "mock")
+        .version("1")
+        .subcommand_required(true)
+        .subcommand(serve_command(alloc)?)?
+        .subcommand(record_command(alloc)?)?
+        .subcommand(save_command(alloc)?)
+}
+
+fn save_command<'a>(alloc: Global) -> Result<Command<'a>, AllocError> {
+    Command::new(alloc, "save")
+        .about("Writes the mappings of a running server to a file")
+        .after_help(SAVE_HELP)
+        .arg(
+            Arg::new(alloc, "server")
+                .value_name("SERVER")
+                .help("Where the server listens, as 127.0.0.1:8080")
+                .required(true),
+        )?
+        .arg(
+            Arg::new(alloc, "file")
+                .value_name("FILE")
+                .help("The file to write")
+                .required(true),
+        )
+}
+
+fn serve_command<'a>(alloc: Global) -> Result<Command<'a>, AllocError> {
+    let command = Command::new(alloc, "serve")
         .about("Serves the mappings of a file, and takes admin calls")
-        .after_help(SERVE_HELP)
+        .after_help(SERVE_HELP);
+    with_common(alloc, command)?
+        .arg(connections(alloc))?
+        .arg(max_connections(alloc))?
+        .arg(threads(alloc))?
+        .arg(journal_limit(alloc))?
+        .arg(skip_refused(alloc))?
+        .arg(end_with_stdin(alloc))?
+        .arg(verbose(alloc))
+}
+
+fn record_command<'a>(alloc: Global) -> Result<Command<'a>, AllocError> {
+    let command = Command::new(alloc, "record")
+        .about("Serves, forwards to another server, and writes its replies as mappings to a file")
+        .after_help(RECORD_HELP)
+        .arg(
+            Arg::new(alloc, "target")
+                .value_name("TARGET")
+                .help("The server to record, as http://127.0.0.1:9000")
+                .required(true),
+        )?
+        .arg(
+            Arg::new(alloc, "file")
+                .value_name("FILE")
+                .help("The file to write")
+                .required(true),
+        )?;
+    with_common(alloc, command)?
+        .arg(
+            Arg::new(alloc, "capture-header")
+                .long("capture-header")
+                .value_name("NAME")
+                .help("A header of requests that recorded mappings match, too; may be given several times")
+                .action(ArgAction::Append),
+        )?
+        .arg(
+            Arg::new(alloc, "har")
+                .long("har")
+                .value_name("FILE")
+                .help("Also writes the exchanges, as a HAR document, to this file"),
+        )?
+        .arg(verbose(alloc))
+}
+
+// The command with the options that `serve` and `record` have.
+fn with_common<'a>(alloc: Global, command: Command<'a>) -> Result<Command<'a>, AllocError> {
+    command
         .arg(port(alloc))?
         .arg(
             Arg::new(alloc, "mappings")
@@ -134,7 +290,7 @@ fn command<'a>(alloc: Global) -> Result<Command<'a>, AllocError> {
         .arg(
             Arg::new(alloc, "html-escape")
                 .long("html-escape")
-                .help("Escapes what {{x}} prints in templates for HTML, but not {{{x}}}")
+                .help("Escapes what {{x}} prints in templates for HTML, but not what {{{x}}} prints")
                 .action(ArgAction::SetTrue),
         )?
         .arg(
@@ -143,15 +299,7 @@ fn command<'a>(alloc: Global) -> Result<Command<'a>, AllocError> {
                 .value_name("ADDRESS")
                 .help("The IP address to listen on [default: 127.0.0.1]"),
         )?
-        .arg(connections(alloc))?
-        .arg(max_connections(alloc))?
-        .arg(threads(alloc))?
-        .arg(journal_limit(alloc))?
-        .arg(verbose(alloc))?;
-    Command::new(alloc, "mock")
-        .version("1")
-        .subcommand_required(true)
-        .subcommand(serve)
+        .arg(first_event(alloc))
 }
 
 fn port<'a>(alloc: Global) -> Arg<'a> {
@@ -185,6 +333,28 @@ fn journal_limit<'a>(alloc: Global) -> Arg<'a> {
         .value_name("N")
         .help("Clears the journal of requests whenever it shows N of them")
         .value_parser(value_parser!(u64))
+}
+
+fn first_event<'a>(alloc: Global) -> Arg<'a> {
+    Arg::new(alloc, "first-event")
+        .long("first-event")
+        .value_name("N")
+        .help("The number of the first event, from which ids and names are made [default: 1]")
+        .value_parser(value_parser!(u64).range(1..))
+}
+
+fn skip_refused<'a>(alloc: Global) -> Arg<'a> {
+    Arg::new(alloc, "skip-refused")
+        .long("skip-refused")
+        .help("Serves the mappings that are accepted, where others are refused")
+        .action(ArgAction::SetTrue)
+}
+
+fn end_with_stdin<'a>(alloc: Global) -> Arg<'a> {
+    Arg::new(alloc, "end-with-stdin")
+        .long("end-with-stdin")
+        .help("Ends when standard input does")
+        .action(ArgAction::SetTrue)
 }
 
 fn verbose<'a>(alloc: Global) -> Arg<'a> {

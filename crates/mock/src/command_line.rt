@@ -1,23 +1,28 @@
-//! The command line of the program: `mock serve` is done here, each other command by `mock_program`.
+//! The command line of the program: `mock serve`, `mock record` and `mock save` are done here, each other command by `mock_program`.
 ghost use Rattle.std.specs.Prelude.{◌≡◌, ◌⊎◌, ◌≤◌, map, string_bytes};
 ghost use Rattle.command_output.specs.Output.{Followed, WritesOneStream};
 ghost use Rattle.mock_program.specs.CommandLine.{AreInvalid, Asked, AsksFor, CallsForHelp};
 ghost use Rattle.mock_program.specs.Commands.{Does};
 ghost use Rattle.mock_program.specs.Options.{options_of, words_of};
 ghost use Rattle.template_tree.specs.declared.escape.Escape.{Escape};
-ghost use Rattle.mock.specs.CommandLine.{AskToHelp, AskToServe};
-ghost use Rattle.mock.specs.Inner.Arguments.{ask_to_help, ask_to_serve};
+ghost use Rattle.mock.specs.CommandLine.{AskForOwn, AskToHelp, is_own};
+ghost use Rattle.mock.specs.Inner.Arguments.{ask_for_own, ask_to_help};
 
-use crate::arguments::{ServeCall, serve_arguments};
-use crate::serve::serve;
+use crate::arguments::{Call, ServeArguments, call_of};
+use crate::record::record as record_until;
+use crate::serve::{Plan, serve};
+use crate::watch::Watch;
+use clap::Error;
 use command_output::error::CommandError;
 use command_output::files::FileReader;
 use command_output::output::put_all;
 use command_output::status::{FAILURE, INVALID_ARGUMENTS};
 use error_code::error_code::ErrorCode;
 use mock_program::command_line::write_parser_message;
+use saved_mappings::file_writer::FileWriter;
+use saved_mappings::save::save;
 use std::alloc::{AllocError, AllocGlobal, Global};
-use std::io::Write;
+use std::io::{Read, Write};
 use std::net::{Net, TcpListener, TcpStream};
 use std::random::RandomSource;
 use std::sync::Wait;
@@ -27,13 +32,14 @@ use std::time::Clock;
 /// Runs the command that the arguments name, the first of them being the program's name, and gives the exit status:
 /// 0; 1 for an error or output that can't be written; 2 for invalid arguments. The text of `clap` for invalid
 /// arguments goes to `err`, its help to `out`. What a server tells of its requests goes to `log`, by a thread of its
-/// own.
-pub fn run<R, O, E, W>(
+/// own. A server may end when `input` does.
+pub fn run<R, O, E, W, I>(
     rt: R,
     arguments: &[String],
     out: &mut O,
     err: &mut E,
     log: W,
+    input: I,
     is_coloured: bool,
 ) -> u8
 where
@@ -44,6 +50,7 @@ where
         + RandomSource
         + AllocGlobal
         + FileReader
+        + FileWriter
         + Copy
         + Drop
         + Send
@@ -52,7 +59,8 @@ where
     O: Write,
     E: Write,
     W: Write + Drop + Send + 'static,
-    // Arguments that ask for a command other than `serve` do what that command does, each argument taken as it is.
+    I: Read + Drop + Send + 'static,
+    // Arguments that ask for a command of `mock_program` do what that command does, each argument taken as it is.
     ensures command { (escape : Escape) (asked : Asked)
         → AsksFor (words_of (map string_bytes arguments.now)) escape asked
         → Does O.contents E.contents (R.listed rt) (R.content rt) escape asked
@@ -61,16 +69,16 @@ where
     // Help is no mistake, and invalid arguments are one. Where the text can't be made or written, the status is 1.
     ensures help { CallsForHelp (words_of (map string_bytes arguments.now)) → (result ≡ 0) ⊎ (result ≡ 1) }
     ensures invalid { AreInvalid (words_of (map string_bytes arguments.now))
-        → ¬ (AskToServe (map string_bytes arguments.now)) → ¬ (AskToHelp (map string_bytes arguments.now))
+        → ¬ (AskForOwn (map string_bytes arguments.now)) → ¬ (AskToHelp (map string_bytes arguments.now))
         → (result ≡ 2) ⊎ (result ≡ 1) }
     ensures range { result ≤ 2 }
 
     // Apart from lines on standard error that explain or warn, the other commands write to one of both streams.
-    ensures streams { ¬ (AskToServe (map string_bytes arguments.now))
+    ensures streams { ¬ (AskForOwn (map string_bytes arguments.now))
         → Followed E.contents (λ e. WritesOneStream out.old out.new err.old e result) err.new }
 {
-    if ask_to_serve(arguments) {
-        run_serve(rt, arguments, out, err, log)
+    if ask_for_own(arguments) {
+        run_own(rt, arguments, out, err, log, input)
     } else if ask_to_help(arguments) {
         run_help(rt, arguments, out, err)
     } else {
@@ -78,13 +86,19 @@ where
     }
 }
 
-fn ask_to_serve(arguments: &[String]) -> bool
-    ensures { result ≡ ask_to_serve (map string_bytes arguments.now) }
+fn ask_for_own(arguments: &[String]) -> bool
+    ensures { result ≡ ask_for_own (map string_bytes arguments.now) }
 {
     match arguments {
-        [_program, command, ..] => command.as_str() == "serve",
+        [_program, command, ..] => is_own(command.as_str()),
         _ => false,
     }
+}
+
+fn is_own(command: &str) -> bool
+    ensures { result ≡ is_own command.now }
+{
+    command == "serve" || (command == "record" || command == "save")
 }
 
 fn ask_to_help(arguments: &[String]) -> bool
@@ -107,8 +121,8 @@ where
     ensures streams { Followed E.contents (λ e. WritesOneStream out.old out.new err.old e result) err.new }
 {
     match help_arguments(rt.alloc(), arguments) {
-        Ok(words) => if ask_to_serve(words.as_slice()) {
-            serve_help(rt.alloc(), out, err)
+        Ok(words) => if ask_for_own(words.as_slice()) {
+            own_help(rt.alloc(), words.as_slice(), out, err)
         } else {
             mock_program::command_line::run(rt.alloc(), &rt, words.as_slice(), out, err, false)
         },
@@ -120,13 +134,26 @@ where
 }
 
 #[tactic(auto, using(command_output::proofs::PartsWritten::alone))]
-fn serve_help<O: Write, E: Write>(alloc: Global, out: &mut O, err: &mut E) -> u8
+fn own_help<O: Write, E: Write>(
+    alloc: Global,
+    arguments: &[String],
+    out: &mut O,
+    err: &mut E,
+) -> u8
     ensures range { result ≤ 2 }
     ensures streams { Followed E.contents (λ e. WritesOneStream out.old out.new err.old e result) err.new }
 {
-    match serve_arguments(alloc, &["mock", "serve", "--help"]) {
-        Ok(_given) => FAILURE,
-        Err(error) => write_parser_message(&error, out, err),
+    match own_message(alloc, arguments) {
+        Some(error) => write_parser_message(&error, out, err),
+        None => FAILURE,
+    }
+}
+
+// The text of `clap`, where it gives one in place of a call.
+fn own_message(alloc: Global, arguments: &[String]) -> Option<Error> {
+    match words_of(alloc, arguments) {
+        Ok(words) => call_of(alloc, words.as_slice()).err(),
+        Err(_error) => None,
     }
 }
 
@@ -141,7 +168,7 @@ fn help_arguments(alloc: Global, arguments: &[String]) -> Result<Vec<String>, Al
     Ok(words)
 }
 
-fn run_serve<R, O, E, W>(rt: R, arguments: &[String], out: &mut O, err: &mut E, log: W) -> u8
+fn run_own<R, O, E, W, I>(rt: R, arguments: &[String], out: &mut O, err: &mut E, log: W, input: I) -> u8
 where
     R: Threads
         + Wait
@@ -150,6 +177,7 @@ where
         + RandomSource
         + AllocGlobal
         + FileReader
+        + FileWriter
         + Copy
         + Drop
         + Send
@@ -158,15 +186,16 @@ where
     O: Write,
     E: Write,
     W: Write + Drop + Send + 'static,
+    I: Read + Drop + Send + 'static,
     ensures { result ≤ 2 }
 {
     match words_of(rt.alloc(), arguments) {
-        Ok(words) => serve_words(rt, words.as_slice(), out, err, log),
+        Ok(words) => run_words(rt, words.as_slice(), out, err, log, input),
         Err(_error) => report_memory(err),
     }
 }
 
-fn serve_words<R, O, E, W>(rt: R, words: &[&str], out: &mut O, err: &mut E, log: W) -> u8
+fn run_words<R, O, E, W, I>(rt: R, words: &[&str], out: &mut O, err: &mut E, log: W, input: I) -> u8
 where
     R: Threads
         + Wait
@@ -175,6 +204,7 @@ where
         + RandomSource
         + AllocGlobal
         + FileReader
+        + FileWriter
         + Copy
         + Drop
         + Send
@@ -183,16 +213,17 @@ where
     O: Write,
     E: Write,
     W: Write + Drop + Send + 'static,
+    I: Read + Drop + Send + 'static,
     ensures { result ≤ 2 }
 {
-    match serve_arguments(rt.alloc(), words) {
-        Ok(Some(call)) => serve_call(rt, call, out, err, log),
+    match call_of(rt.alloc(), words) {
+        Ok(Some(call)) => run_call(rt, call, out, err, log, input),
         Ok(None) => FAILURE,
         Err(error) => write_parser_message(&error, out, err),
     }
 }
 
-fn serve_call<R, O, E, W>(rt: R, call: ServeCall<'_>, out: &mut O, err: &mut E, log: W) -> u8
+fn run_call<R, O, E, W, I>(rt: R, call: Call<'_>, out: &mut O, err: &mut E, log: W, input: I) -> u8
 where
     R: Threads
         + Wait
@@ -201,6 +232,7 @@ where
         + RandomSource
         + AllocGlobal
         + FileReader
+        + FileWriter
         + Copy
         + Drop
         + Send
@@ -209,12 +241,50 @@ where
     O: Write,
     E: Write,
     W: Write + Drop + Send + 'static,
+    I: Read + Drop + Send + 'static,
     ensures { result ≤ 2 }
 {
     match call {
-        ServeCall::Serve(given) => serve(rt, given, out, err, log),
-        ServeCall::BadAddress(text) => report_address(text, err),
+        Call::Serve(given) => serve_until(rt, given, out, err, log, input),
+        Call::Record(given, record) => record_until(rt, given, &record, out, err, log, input),
+        Call::Save { server, file } => save(rt, server, file, out, err),
+        Call::BadAddress(text) => report_address(text, err),
     }
+}
+
+fn serve_until<R, O, E, W, I>(
+    rt: R,
+    given: ServeArguments<'_>,
+    out: &mut O,
+    err: &mut E,
+    log: W,
+    input: I,
+) -> u8
+where
+    R: Threads
+        + Wait
+        + Net<Listener = TcpListener, Stream = TcpStream>
+        + Clock
+        + RandomSource
+        + AllocGlobal
+        + FileReader
+        + FileWriter
+        + Copy
+        + Drop
+        + Send
+        + Sync
+        + 'static,
+    O: Write,
+    E: Write,
+    W: Write + Drop + Send + 'static,
+    I: Read + Drop + Send + 'static,
+    ensures { result ≤ 2 }
+{
+    let plan = Plan {
+        recording: None,
+        watch: Watch::of_server(input, given.ends_with_input),
+    };
+    serve(rt, given, plan, out, err, log)
 }
 
 fn report_memory<E: Write>(err: &mut E) -> u8

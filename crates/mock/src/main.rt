@@ -1,15 +1,16 @@
-//! The program: its command line, and its command `mock serve` with its arguments, the book of its file of mappings,
-//! and its server. Every other command is `mock_program`'s. `main` hands on the process's arguments and standard
+//! The program: its command line, and its commands `mock serve` and `mock record` with their arguments and their server. Every other command is `mock_program`'s. `main` hands on the process's arguments and standard
 //! streams, and ends with the exit status that comes back.
 #![tactic(auto)]
 
 mod arguments;
-mod book;
 mod command_line;
+mod descriptors;
+mod record;
 mod serve;
 mod server_log;
 mod serving_threads;
 mod streams;
+mod watch;
 
 use command_line::run;
 use mock_program::arguments::report_unreadable;
@@ -29,6 +30,7 @@ fn main(rt: HostRuntime) -> ExitCode {
             &mut out,
             &mut err,
             Visible::new(rt.stderr()),
+            rt.stdin(),
             takes_colours(&rt),
         ),
         Err(error) => report_unreadable(&error, &mut err),

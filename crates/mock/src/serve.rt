@@ -2,31 +2,37 @@
 ghost use Rattle.std.specs.Prelude.{◌≡◌, ◌<◌, ◌≤◌, ◌∷◌, [], IfOk, option_copied};
 ghost use Rattle.hyper_service.specs.Given.{rules_of};
 ghost use Rattle.mapping_answer.specs.Answering.{usual_limits};
-ghost use Rattle.mock.specs.Served.{IsServedBook, ServesBook};
+ghost use Rattle.mock.specs.Served.{ServesBook};
+ghost use Rattle.served_book.specs.Served.{IsServedBook};
 ghost use Rattle.shared_history.specs.Entries.{opening};
 
 use crate::arguments::ServeArguments;
-use crate::book::book_of;
+use crate::descriptors::open_connections;
 use crate::server_log::ServerLog;
 use crate::serving_threads::{MockAnswers, ServingThreads};
+use crate::watch::Watch;
 use answering::clock::SystemClock;
 use answering::site::Site;
 use command_output::error::CommandError;
-use command_output::files::FileReader;
+use command_output::files::{FileReader, reason_line};
 use command_output::output::{put, put_notes};
 use command_output::status::FAILURE;
 use error_code::error_code::ErrorCode;
 use http_connections::ender::Ender;
 use http_connections::settings::Settings;
 use hyper_service::journal_limit::JournalLimit;
+use hyper_service::renderer::Renderer;
 use hyper_service::serve_on::serve_on;
 use hyper_service::site_answers::SiteAnswers;
 use proxy_client::client::{Client, SILENCE_SECONDS};
 use proxy_client::counted::TURN_LIMIT;
 use proxy_client::forwarder::Forwarder;
+use request_journal::input::BookInput;
 use request_log::lines::Lines;
 use request_log::request_log::RequestLog;
 use request_log::start::start;
+use saved_mappings::file_writer::FileWriter;
+use served_book::book::{BookArguments, book_of};
 use shared_book::gate::NoGate;
 use shared_book::history::OpenedHistory;
 use shared_book::origin::Origin;
@@ -34,7 +40,7 @@ use shared_book::seat::Seat;
 use shared_book::shared_book::{SharedBook, open_history};
 use std::alloc::{AllocError, AllocGlobal, Global};
 use std::io;
-use std::io::{ErrorKind, Write};
+use std::io::{ErrorKind, Read, Write};
 use std::marker::Brand;
 use std::net::{IpAddr, Net, SocketAddr, TcpListener, TcpStream};
 use std::random::RandomSource;
@@ -49,14 +55,27 @@ use tokio::runtime::LocalRuntime;
 // Into how many parts the ledger is cut: as many connections may be open at once, less one.
 const PARTS: u64 = 4_294_967_296;
 
+// What a target of a recording is.
+const TARGETS: &str =
+    "  TARGET is http://host[:port][/prefix] with localhost, an IPv4 address or an IPv6 address in brackets as its host\n";
+
 // How long the end waits for what is told of requests to be written, in seconds.
 const LOG_SECONDS: u64 = 1;
 
+/// What a server does beside serving.
+#[derive(Drop)]
+pub(crate) struct Plan<I> {
+    /// What it records from its start on.
+    pub(crate) recording: Option<BookInput>,
+    pub(crate) watch: Watch<I>,
+}
+
 /// Serves as the arguments say, and gives the exit status: 0, or 1 with a line on `err`. First the file is judged, then
 /// its mappings, the book, and the port. What is told of requests is written to `log`, by a thread of its own.
-pub fn serve<R, O, E, W>(
+pub(crate) fn serve<R, O, E, W, I>(
     rt: R,
     arguments: ServeArguments<'_>,
+    plan: Plan<I>,
     out: &mut O,
     err: &mut E,
     log: W,
@@ -69,6 +88,7 @@ where
         + RandomSource
         + AllocGlobal
         + FileReader
+        + FileWriter
         + Copy
         + Drop
         + Send
@@ -77,12 +97,20 @@ where
     O: Write,
     E: Write,
     W: Write + Drop + Send + 'static,
+    I: Read + Drop + Send + 'static,
     ensures serves { ServesBook O.contents E.contents
-        (IsServedBook arguments.entry.escape (option_copied arguments.entry.mappings) (R.listed rt) (R.content rt))
+        (IsServedBook arguments.entry.opening arguments.entry.skips_refused arguments.entry.escape
+        (option_copied arguments.entry.mappings) (R.listed rt) (R.content rt))
         out.old out.new err.new result }
     ensures status { result ≤ 1 }
 {
-    let Some(book) = book_of(rt.alloc(), &rt, arguments.mappings, arguments.escape, err) else {
+    let given = BookArguments {
+        mappings: arguments.mappings,
+        escape: arguments.escape,
+        opening: arguments.opening,
+        skips_refused: arguments.skips_refused,
+    };
+    let Some(book) = book_of(rt.alloc(), &rt, given, err) else {
         return FAILURE;
     };
     let Ok(ender) = ender_of(rt.alloc()) else {
@@ -92,8 +120,8 @@ where
         Ok((lines, log)) => {
             let blank = Blank::new(PARTS);
             let opened = open_history(&rt, &book);
-            let status = serve_book::<Brand, R, O, E>(
-                rt, blank, PARTS, opened, book, arguments, log, &ender, out, err,
+            let status = serve_book::<Brand, R, O, E, I>(
+                rt, blank, PARTS, opened, book, arguments, plan, log, &ender, out, err,
             );
             lines.close(&rt, Duration::from_secs(LOG_SECONDS));
             status
@@ -127,13 +155,14 @@ where
     Ok((lines, log))
 }
 
-fn serve_book<L, R, O, E>(
+fn serve_book<L, R, O, E, I>(
     rt: R,
     blank: Blank,
     parts: u64,
     opened: OpenedHistory,
     book: Book,
     arguments: ServeArguments<'_>,
+    plan: Plan<I>,
     log: RequestLog,
     ender: &Arc<Ender>,
     out: &mut O,
@@ -147,12 +176,15 @@ where
         + Clock
         + RandomSource
         + AllocGlobal
+        + FileWriter
         + Copy
         + Drop
         + Send
-        + Sync,
+        + Sync
+        + 'static,
     O: Write,
     E: Write,
+    I: Read + Drop + Send + 'static,
     requires name { blank.name ≡ L.name }
     requires ledger { blank.parts ≡ L.parts }
     requires parts { parts ≡ L.parts }
@@ -164,16 +196,19 @@ where
     ensures status { result ≤ 1 }
 {
     match SharedBook::<L>::new(rt.alloc(), blank, parts, opened, book) {
-        Ok((book, seat)) => serve_shared(rt, book, seat, arguments, log, ender, out, err),
+        Ok((book, seat)) => serve_shared(
+            rt, book, seat, arguments, plan, log, ender, out, err,
+        ),
         Err(_error) => out_of_memory(err),
     }
 }
 
-fn serve_shared<L, R, O, E>(
+fn serve_shared<L, R, O, E, I>(
     rt: R,
     book: SharedBook<L>,
     seat: Seat<L>,
     arguments: ServeArguments<'_>,
+    plan: Plan<I>,
     log: RequestLog,
     ender: &Arc<Ender>,
     out: &mut O,
@@ -187,29 +222,40 @@ where
         + Clock
         + RandomSource
         + AllocGlobal
+        + FileWriter
         + Copy
         + Drop
         + Send
-        + Sync,
+        + Sync
+        + 'static,
     O: Write,
     E: Write,
+    I: Read + Drop + Send + 'static,
     ensures serves { ServesBook O.contents E.contents (λ past. past ≡ L.origin) out.old out.new err.new result }
     ensures status { result ≤ 1 }
 {
+    let mut seat = seat;
+    let Plan { recording, watch } = plan;
+    if let Some(start) = recording {
+        if let Err(error) = seat.apply(&rt, &book, start) {
+            return report_recording(error.code, err);
+        }
+    }
     match listen(rt, arguments.address, arguments.port) {
         Ok(listening) => serve_listening(
-            rt, listening, book, seat, arguments, log, ender, out, err,
+            rt, listening, book, seat, arguments, watch, log, ender, out, err,
         ),
         Err(error) => report(rt.alloc(), arguments, &error, err),
     }
 }
 
-fn serve_listening<L, R, O, E>(
+fn serve_listening<L, R, O, E, I>(
     rt: R,
     listening: Listening<R>,
     book: SharedBook<L>,
     seat: Seat<L>,
     arguments: ServeArguments<'_>,
+    watch: Watch<I>,
     log: RequestLog,
     ender: &Arc<Ender>,
     out: &mut O,
@@ -223,12 +269,15 @@ where
         + Clock
         + RandomSource
         + AllocGlobal
+        + FileWriter
         + Copy
         + Drop
         + Send
-        + Sync,
+        + Sync
+        + 'static,
     O: Write,
     E: Write,
+    I: Read + Drop + Send + 'static,
     ensures serves { ServesBook O.contents E.contents (λ past. past ≡ L.origin) out.old out.new err.new result }
     ensures status { result ≤ 1 }
 {
@@ -239,11 +288,14 @@ where
     } = listening;
     let settings = Settings {
         connections: arguments.connections,
-        max_connections: arguments.max_connections,
+        max_connections: open_connections(arguments.max_connections, arguments.threads, err),
     };
     let Ok(log) = ServerLog::new(log, &book) else {
         return out_of_memory(err);
     };
+    if let Err(error) = start_watch(rt, &listener, watch, ender) {
+        return report_watch(rt.alloc(), &error, err);
+    }
     match answers_of(rt, book, forwarder, arguments, log) {
         Ok(answers) => serve_on(
             rt,
@@ -263,6 +315,51 @@ where
     }
 }
 
+// From now on the server may be ended with the input.
+fn start_watch<R, I>(
+    rt: R,
+    listener: &TcpListener,
+    watch: Watch<I>,
+    ender: &Arc<Ender>,
+) -> io::Result<()>
+where
+    R: Threads
+        + Wait
+        + Net
+        + Clock
+        + RandomSource
+        + AllocGlobal
+        + FileWriter
+        + Copy
+        + Drop
+        + Send
+        + 'static,
+    I: Read + Drop + Send + 'static,
+{
+    watch.start(rt, listener.local_addr()?, Arc::try_clone(ender)?)
+}
+
+// Why nothing can be recorded.
+fn report_recording<E: Write>(code: ErrorCode, err: &mut E) -> u8
+    ensures { result ≡ FAILURE }
+{
+    CommandError::from(code).report(err);
+    if code == ErrorCode::BadTarget {
+        put_notes(err, TARGETS);
+    }
+    FAILURE
+}
+
+// Why nobody waits for the end of standard input.
+fn report_watch<E: Write>(alloc: Global, error: &io::Error, err: &mut E) -> u8
+    ensures { result ≡ FAILURE }
+{
+    // The exit status is 1 in any case.
+    let _ = put(err, "error: cannot wait for the end of standard input\n".as_bytes());
+    put_notes(err, reason_line(alloc, error).as_str());
+    FAILURE
+}
+
 // What the connections are served by.
 fn answers_of<L, R>(
     rt: R,
@@ -273,7 +370,7 @@ fn answers_of<L, R>(
 ) -> Result<MockAnswers<L, R>, AllocError>
 where
     L: Origin,
-    R: Clock + Net + AllocGlobal + Copy + Drop,
+    R: Threads + Clock + Net + AllocGlobal + Copy + Drop,
     ensures { IfOk result (λ answers. rules_of L.origin L.book answers ≡ record {
       origin = L.origin;
       history = L.book;
@@ -291,8 +388,9 @@ where
         turns: TURN_LIMIT,
     };
     let site = Arc::new(rt.alloc(), site)?;
+    let renderer = Renderer::new(rt)?;
     let journal = JournalLimit::new(arguments.journal_limit);
-    Ok(SiteAnswers::new(site, forwarder, log, journal))
+    Ok(SiteAnswers::new(site, forwarder, renderer, log, journal))
 }
 
 fn out_of_memory<E: Write>(err: &mut E) -> u8

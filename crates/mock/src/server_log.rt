@@ -1,5 +1,6 @@
 // What the server tells of its requests.
 use answering::content::Content;
+use answering::rendering::Rendering;
 use bytes::Bytes;
 use http::{Request, Response};
 use hyper_service::log::Log;
@@ -107,5 +108,16 @@ impl<L: Origin> Log for ServerLog<L> {
         };
         self.log
             .forwarded(rt, alloc, number, request, status, failure);
+    }
+
+    fn rendered<R: Wait>(&self, rt: &R, alloc: Global, rendering: &Rendering, status: u16) {
+        self.log.rendered(
+            rt,
+            alloc,
+            rendering.number,
+            rendering.request.request(),
+            &rendering.captured,
+            status,
+        );
     }
 }

@@ -10,13 +10,15 @@ ghost use Rattle.mock_program.specs.Inner.Parser.{render_app, render_in, require
 use clap::{Arg, ArgMatches, Command, Error};
 use std::alloc::{AllocError, Global};
 
-// The help of the program: with the command `serve`, whose arguments `mock` itself reads.
+// The help of the program: also with the commands whose arguments `mock` itself reads.
 const MOCK_HELP: &str = "A stub server for HTTP, like WireMock, whose answers are proved
 
 Usage: mock <COMMAND>
 
 Commands:
   serve    Serves the mappings of a file, and takes admin calls
+  record   Serves, forwards to another server, and writes its replies as mappings to a file
+  save     Writes the mappings of a running server to a file
   check    Says which mappings of a file are accepted, and what their templates may cost
   answer   Prints what a server with the mappings of a file replies to one request
   explain  Says which mapping of a file answers a request, and why each other one doesn't

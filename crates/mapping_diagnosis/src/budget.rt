@@ -1,0 +1,108 @@
+// Templates that are over the limits of a response for every request.
+use crate::shown::joined;
+use itoa::Buffer;
+use serde_json::Value;
+use std::alloc::{AllocError, Global};
+use stub_response::limits::{BYTE_LIMIT, STEP_LIMIT};
+use template_machine::error::ProgramError;
+use template_machine::program::Program;
+
+/// No request has data of a smaller size: that of `GET /` without headers has 248.
+const SMALLEST: u64 = 240;
+
+/// A text of fewer bytes, and without a loop, is never over the limits at that size.
+const LARGE: usize = 10_000;
+
+/// What templates may take together over data of that size.
+#[derive(Clone, Copy)]
+struct Taken {
+    steps: u128,
+    bytes: u128,
+}
+
+/// A sentence, where the templates of the response are over the limits for every request.
+pub(crate) fn always_over(alloc: Global, response: &Value) -> Result<Option<String>, AllocError> {
+    let mut taken = Taken { steps: 0, bytes: 0 };
+    if let Some(body) = response.get("body") {
+        taken = with_text(alloc, taken, body)?;
+    }
+    if let Some(headers) = response.get("headers") {
+        taken = with_headers(alloc, taken, headers)?;
+    }
+    if taken.steps <= u128::from(STEP_LIMIT) && taken.bytes <= u128::from(BYTE_LIMIT) {
+        return Ok(None);
+    }
+    Ok(Some(said(alloc, taken)?))
+}
+
+fn with_headers(alloc: Global, taken: Taken, headers: &Value) -> Result<Taken, AllocError> {
+    let mut taken = taken;
+    let Some(members) = headers.as_object() else {
+        return Ok(taken);
+    };
+    for (_name, member) in members.iter() {
+        taken = match member.as_array() {
+            Some(items) => with_items(alloc, taken, items)?,
+            None => with_text(alloc, taken, member)?,
+        };
+    }
+    Ok(taken)
+}
+
+fn with_items(alloc: Global, taken: Taken, items: &Vec<Value>) -> Result<Taken, AllocError> {
+    let mut taken = taken;
+    for item in items {
+        taken = with_text(alloc, taken, item)?;
+    }
+    Ok(taken)
+}
+
+fn with_text(alloc: Global, taken: Taken, text: &Value) -> Result<Taken, AllocError> {
+    let Some(text) = text.as_str() else {
+        return Ok(taken);
+    };
+    if text.len() < LARGE && !text.contains("{{#each") {
+        return Ok(taken);
+    }
+    match Program::from_text(alloc, text) {
+        Ok(program) => Ok(with_program(taken, &program)),
+        Err(ProgramError::OutOfMemory) => Err(AllocError),
+        // It is refused.
+        Err(_error) => Ok(taken),
+    }
+}
+
+fn with_program(taken: Taken, program: &Program) -> Taken {
+    match program.budget().at(SMALLEST) {
+        Some((steps, bytes)) => Taken {
+            steps: taken.steps.saturating_add(steps),
+            bytes: taken.bytes.saturating_add(bytes),
+        },
+        None => Taken {
+            steps: u128::MAX,
+            bytes: u128::MAX,
+        },
+    }
+}
+
+fn said(alloc: Global, taken: Taken) -> Result<String, AllocError> {
+    let mut size = Buffer::new();
+    let mut steps = Buffer::new();
+    let mut step_limit = Buffer::new();
+    let mut bytes = Buffer::new();
+    let mut byte_limit = Buffer::new();
+    let texts = [
+        "every request is answered 500: even over data of size ",
+        size.format(SMALLEST),
+        ", and no request has less, the templates may take ",
+        steps.format(taken.steps),
+        " steps (limit ",
+        step_limit.format(STEP_LIMIT),
+        ") and write ",
+        bytes.format(taken.bytes),
+        " bytes (limit ",
+        byte_limit.format(BYTE_LIMIT),
+        ")",
+    ];
+    joined(alloc, texts.as_slice())
+}

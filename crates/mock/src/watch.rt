@@ -1,0 +1,156 @@
+// The thread that waits for the end of standard input, ends the recording then, and the server.
+use http_connections::ender::Ender;
+use saved_mappings::file_writer::FileWriter;
+use saved_mappings::recorded::{RecordError, Recorded, end_recording};
+use std::alloc::{AllocError, AllocGlobal, Global};
+use std::io;
+use std::io::{ErrorKind, Read};
+use std::net::{IpAddr, Ipv4Addr, Ipv6Addr, Net, SocketAddr};
+use std::random::RandomSource;
+use std::sync::{Arc, Mutex, Wait};
+use std::thread;
+use std::thread::Threads;
+use std::time::Clock;
+
+/// What is done when standard input ends.
+#[derive(Drop)]
+pub(crate) struct Watch<I> {
+    /// `None` where nothing is.
+    input: Option<I>,
+    recording: Option<RecordedFiles>,
+}
+
+/// Where a recording is written, and whether it was.
+#[derive(Drop)]
+pub(crate) struct RecordedFiles {
+    file: String,
+    har: Option<String>,
+    outcome: Arc<Outcome>,
+}
+
+/// What became of a recording.
+#[derive(Drop)]
+pub(crate) struct Outcome {
+    /// `None` as long as it is on.
+    ended: Mutex<Option<Result<Recorded, RecordError>>>,
+}
+
+impl Outcome {
+    pub(crate) fn new() -> Outcome {
+        Outcome {
+            ended: Mutex::new(None),
+        }
+    }
+
+    pub(crate) fn get<R: Wait>(&self, rt: &R) -> Option<Result<Recorded, RecordError>> {
+        *self.ended.lock(rt)
+    }
+
+    fn set<R: Wait>(&self, rt: &R, ended: Result<Recorded, RecordError>) {
+        *self.ended.lock(rt) = Some(ended);
+    }
+}
+
+impl RecordedFiles {
+    pub(crate) fn new(
+        alloc: Global,
+        file: &str,
+        har: Option<&str>,
+        outcome: Arc<Outcome>,
+    ) -> Result<RecordedFiles, AllocError> {
+        Ok(RecordedFiles {
+            file: String::from_str(alloc, file)?,
+            har: match har {
+                Some(path) => Some(String::from_str(alloc, path)?),
+                None => None,
+            },
+            outcome,
+        })
+    }
+
+    fn write<R>(&self, rt: &R, address: &str)
+    where
+        R: Wait + Net + Clock + RandomSource + AllocGlobal + FileWriter + Copy + Drop,
+    {
+        let har = match &self.har {
+            Some(path) => Some(path.as_str()),
+            None => None,
+        };
+        let ended = end_recording(rt, address, self.file.as_str(), har);
+        self.outcome.set(rt, ended);
+    }
+}
+
+impl<I: Read + Drop + Send + 'static> Watch<I> {
+    /// The server ends with the input, or goes on.
+    pub(crate) fn of_server(input: I, ends_with_input: bool) -> Watch<I> {
+        Watch {
+            input: if ends_with_input { Some(input) } else { None },
+            recording: None,
+        }
+    }
+
+    /// What is recorded is written once the input has ended.
+    pub(crate) fn of_recording(input: I, files: RecordedFiles) -> Watch<I> {
+        Watch {
+            input: Some(input),
+            recording: Some(files),
+        }
+    }
+
+    /// Starts the thread, if there is something to do. The server listens at the address.
+    pub(crate) fn start<R>(self, rt: R, address: SocketAddr, ender: Arc<Ender>) -> io::Result<()>
+    where
+        R: Threads
+            + Wait
+            + Net
+            + Clock
+            + RandomSource
+            + AllocGlobal
+            + FileWriter
+            + Copy
+            + Drop
+            + Send
+            + 'static,
+    {
+        let Watch { input, recording } = self;
+        let Some(input) = input else {
+            return Ok(());
+        };
+        let address = reached_at(address);
+        let address = format!(in rt.alloc(); "{address}")?;
+        let _thread = thread::spawn(&rt, move || {
+            wait_for_end(&rt, input);
+            if let Some(files) = &recording {
+                files.write(&rt, address.as_str());
+            }
+            ender.end();
+        })?;
+        Ok(())
+    }
+}
+
+// A server that listens at every address is at the machine's own.
+fn reached_at(address: SocketAddr) -> SocketAddr {
+    let ip = match address.ip() {
+        IpAddr::V4(ip) if ip.is_unspecified() => IpAddr::V4(Ipv4Addr::LOCALHOST),
+        IpAddr::V6(ip) if ip.is_unspecified() => IpAddr::V6(Ipv6Addr::LOCALHOST),
+        ip => ip,
+    };
+    SocketAddr::from((ip, address.port()))
+}
+
+// Reads on to the end. An input that can't be read has ended, too.
+fn wait_for_end<R: Wait, I: Read + Drop>(rt: &R, input: I) {
+    let mut input = input;
+    let mut buffer = [0u8; 4096];
+    for _ in rt.forever() {
+        match input.read(buffer.as_mut_slice()) {
+            Ok(0) => break,
+            Ok(_count) => {}
+            Err(error) => if error.kind() != ErrorKind::Interrupted {
+                break;
+            },
+        }
+    }
+}
