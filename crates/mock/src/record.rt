@@ -75,7 +75,7 @@ fn planned<I: Read + Drop + Send + 'static>(
     input: I,
 ) -> Result<(Plan<I>, Arc<Outcome>), BodyError> {
     let start = recording_start(alloc, given.target, given.captured.as_slice())?;
-    let outcome = Arc::new(alloc, Outcome::new())?;
+    let outcome = new_outcome(alloc)?;
     let theirs = Arc::try_clone(&outcome)?;
     let files = RecordedFiles::new(alloc, given.file, given.har, theirs)?;
     let plan = Plan {
@@ -83,6 +83,10 @@ fn planned<I: Read + Drop + Send + 'static>(
         watch: Watch::of_recording(input, files),
     };
     Ok((plan, outcome))
+}
+
+fn new_outcome(alloc: Global) -> Result<Arc<Outcome>, AllocError> {
+    Ok(Arc::new(alloc, Outcome::new())?)
 }
 
 fn put_recorded<O: Write>(recorded: Recorded, status: u8, out: &mut O) -> u8
