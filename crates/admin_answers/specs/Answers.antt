@@ -96,7 +96,7 @@ module _ (origin : Past) (name : Book) where
       ⊎ ((reason ≡ code.OutOfMemory) × ((receipt : Receipt) × Gains old new asked receipt))
 
   -- the call was answered: what it changed is the seat's next call in the one history, and what it read is what the
-  -- history says then, which makes no entry
+  -- history says at the entry of the reading
   abbrev pub IsAnswered : Held → Held → AdminCall → Reply → Type 0
   IsAnswered old new (call.AddMapping mapping) reply = IsChanged old new (input.Add mapping) reply
   IsAnswered old new (call.EditMapping id mapping) reply = IsChanged old new (input.Edit id mapping) reply

@@ -84,11 +84,12 @@ module _ {C : Type 0} (IsEmpty : C → Type 0) where
     pub answers : (response.head_of made).status ≡ status
     pub empty : IsEmpty (response.body_of made)
 
-  -- how the connection itself refuses a request: where its content is malformed, and where memory runs out
+  -- how the connection itself refuses a request: where its content is malformed, or late while another connection waits
+  -- for its place, and where memory runs out
   abbrev pub Refuses : Result (List ℕ) ContentError → Response C → Type 0
   Refuses (Ok content) made = IsRefusal 503 made
   Refuses (Err TooLong) made = IsRefusal 503 made
-  Refuses (Err Malformed) made = IsRefusal 400 made
+  Refuses (Err Malformed) made = IsRefusal 400 made ⊎ IsRefusal 408 made
   Refuses (Err OutOfMemory) made = IsRefusal 503 made
 
   -- what is sent for the message, or that memory ran out for it

@@ -1,6 +1,8 @@
 // The connections that a listener accepts, each a task.
-ghost use Rattle.std.specs.Prelude.{◌≡◌, ◌⊎◌, ◌↔◌, ◌-◌, ◌<◌, IfSome, IsTrue, OnSome, false, option_map, true};
+ghost use Rattle.std.specs.Prelude.{◌≡◌, ◌⊎◌, ◌↔◌, ◌-◌, ◌<◌, IfSome, IsFalse, IsTrue, OnSome, false, option_map, true};
 ghost use Rattle.std.specs.IoError.{raw_os_error};
+ghost use Rattle.futures.specs.Poll.{OnPending};
+ghost use Rattle.futures.specs.Task.{IsArmed, Keeps};
 ghost use Rattle.http_connections.specs.Inner.Accepted.{AreWanted, IsOfListener};
 ghost use Rattle.http_connections.specs.Site.{IsConnectionFor, IsConnectionOf, site_in};
 
@@ -10,16 +12,19 @@ use crate::connects::{Connects, connection};
 use crate::pause::Pause;
 use crate::seat_place::SeatPlace;
 use crate::seat_pool::SeatPool;
-use crate::seats::Assignment;
+use crate::seats::{Admission, Assignment};
 use crate::service::MessageService;
 use crate::settings::Settings;
 use futures::task::{Context, Poll};
 use futures::{Future, Stream, ready};
 use std::alloc::AllocGlobal;
 use std::io;
+use std::rc::Rc;
 use std::sync::{Arc, Wait};
-use std::time::Clock;
+use std::time::{Clock, Instant};
 use tokio::net::{TcpListener, TcpStream};
+use tokio::runtime::Handle;
+use tokio::sync::OwnedNotified;
 
 /// The numbers of Linux for what is wrong with a listener itself (accept(2)).
 const EBADF: i32 = 9;
@@ -34,12 +39,18 @@ const ENOTSOCK: i32 = 88;
 #[derive(Drop)]
 pub(crate) struct Accepting<R, A: Answers, M> {
     rt: R,
-    listener: TcpListener,
+    /// `None` once no more are accepted: who comes then is refused.
+    listener: Option<TcpListener>,
     pool: Arc<SeatPool<A>>,
+    /// How many this thread may accept at most; how many all threads may is counted in the pool.
     left: Option<u64>,
-    most: u64,
     is_open: bool,
+    /// A connection that waits for room.
+    waiting: Option<TcpStream>,
     pause: Pause<R>,
+    /// Is ready once no more are accepted by any thread.
+    ended: OwnedNotified,
+    handle: Rc<Handle>,
     connects: M,
 }
 
@@ -54,6 +65,8 @@ where
         pool: Arc<SeatPool<A>>,
         settings: Settings,
         pause: Pause<R>,
+        ended: OwnedNotified,
+        handle: Rc<Handle>,
         connects: M,
     ) -> Accepting<R, A, M>
         ensures connects { result.connects ≡ connects }
@@ -63,12 +76,14 @@ where
     {
         Accepting {
             rt,
-            listener,
+            listener: Some(listener),
             pool,
             left: settings.connections,
-            most: settings.max_connections,
             is_open: true,
+            waiting: None,
             pause,
+            ended,
+            handle,
             connects,
         }
     }
@@ -77,6 +92,38 @@ where
         ensures { IsTrue result ↔ (IfSome self.now.left (λ left. 0 < left) × (self.now.is_open ≡ true)) }
     {
         self.left != Some(0) && self.is_open
+    }
+
+    // Whether no more are accepted by this thread, or by any. Where there is no memory to wait for the last, it is seen
+    // when the next connection comes.
+    fn is_done(&mut self, cx: &mut Context<'_>) -> bool
+        ensures wanted { IsFalse result → IfSome self.old.left (λ left. 0 < left) }
+        ensures kept { Keeps cx.old cx.new }
+        ensures connects { self.new.connects ≡ self.old.connects }
+        ensures pool { self.new.pool ≡ self.old.pool }
+        ensures left { self.new.left ≡ self.old.left }
+    {
+        !self.wants_more() || matches!(self.ended.poll(cx), Poll::Ready(Ok(())))
+    }
+
+    // No more are accepted. That is all where the end was asked for: then the connections leave, and the event loop waits
+    // for them as long as it may. Otherwise it goes on until all have ended, which is looked at now and then.
+    fn is_over(&mut self) -> bool
+        ensures connects { self.new.connects ≡ self.old.connects }
+        ensures pool { self.new.pool ≡ self.old.pool }
+        ensures left { self.new.left ≡ self.old.left }
+    {
+        self.listener = None;
+        self.waiting = None;
+        if self.pool.is_asked() {
+            self.pool.clear(&self.rt);
+            return true;
+        }
+        if !self.pool.has_connections(&self.rt) {
+            return true;
+        }
+        self.pause.begin();
+        false
     }
 
     // A place with a seat of this number, if the connection can be served.
@@ -88,7 +135,7 @@ where
     {
         match self.pool.assign(&self.rt, self.rt.alloc()) {
             Assignment::Place(place, number) => Some((place, number)),
-            Assignment::NoPlace => None,
+            Assignment::Enough | Assignment::NoPlace => None,
             Assignment::NoSeat => {
                 self.close();
                 None
@@ -121,6 +168,51 @@ where
         }
     }
 
+    // The socket that waits, or the next one.
+    fn poll_socket(&mut self, cx: &mut Context<'_>) -> Poll<io::Result<TcpStream>>
+        ensures registered { OnPending result (IsArmed cx.new) }
+        ensures kept { Keeps cx.old cx.new }
+        ensures connects { self.new.connects ≡ self.old.connects }
+        ensures pool { self.new.pool ≡ self.old.pool }
+        ensures left { self.new.left ≡ self.old.left }
+    {
+        if let Some(socket) = self.waiting.take() {
+            return Poll::Ready(Ok(socket));
+        }
+        let Some(listener) = &mut self.listener else {
+            return cx.yield_now();
+        };
+        match ready!(listener.poll_accept(cx)) {
+            Ok((mut socket, _address)) => {
+                // What the event loop is told of a socket it keeps only from the first poll on: a client that has left
+                // before the task's first one would stay unnoticed.
+                let _ = socket.poll_read_ready(cx);
+                Poll::Ready(Ok(socket))
+            }
+            Err(error) => Poll::Ready(Err(error)),
+        }
+    }
+
+    // The connections' courses go by this hour.
+    fn look(&self) {
+        if let Ok(now) = Instant::now(&self.rt) {
+            self.pool.look(&self.rt, now);
+        }
+    }
+
+    // The socket waits, and the connection that has been silent longest is asked to make room. Where none is, it is
+    // looked at again soon.
+    fn wait_for_room(&mut self, socket: TcpStream)
+        ensures connects { self.new.connects ≡ self.old.connects }
+        ensures pool { self.new.pool ≡ self.old.pool }
+        ensures left { self.new.left ≡ self.old.left }
+    {
+        self.waiting = Some(socket);
+        if !self.pool.make_room(&self.rt) {
+            self.pause.begin();
+        }
+    }
+
     // The connection of a socket, whose requests are answered by the seat of the place, which has this number; `None`
     // where memory runs out.
     fn connection<F>(
@@ -137,8 +229,16 @@ where
     {
         // Answers are written whole, so there is nothing to wait for.
         let _ = socket.set_nodelay(true);
-        let slot = self.pool.slot(self.rt.alloc(), place, number).ok()?;
-        connection(self.rt, &self.connects, self.pause.timers(), slot, socket)
+        let handle = self.handle.clone().ok()?;
+        let slot = self.pool.slot(self.rt.alloc(), place, number, handle).ok()?;
+        connection(
+            self.rt,
+            &self.connects,
+            self.pause.timers(),
+            slot,
+            &place.course,
+            socket,
+        )
     }
 
     // The task that serves the connection; `None` where it is closed at once.
@@ -182,26 +282,32 @@ where
         (site_in accepting.pool) task.connection.value) accepting.left };
 
     fn poll_next(&mut self, cx: &mut Context<'_>) -> Poll<Option<ConnectionTask<R, A, F>>> {
-        if !self.wants_more() {
-            return Poll::Ready(None);
-        }
         ready!(self.pause.poll(cx));
-        if !self.pool.has_room(&self.rt, self.most) {
-            self.pause.begin();
+        if self.is_done(cx) {
+            if self.is_over() {
+                return Poll::Ready(None);
+            }
             return cx.yield_now();
         }
-        match ready!(self.listener.poll_accept(cx)) {
-            Ok((mut socket, _address)) => {
-                // What the event loop is told of a socket it keeps only from the first poll on: a client that has left
-                // before the task's first one would stay unnoticed.
-                let _ = socket.poll_read_ready(cx);
-                match self.task(socket) {
-                    Some(task) => Poll::Ready(Some(task)),
-                    None => cx.yield_now(),
-                }
-            }
+        let socket = match ready!(self.poll_socket(cx)) {
+            Ok(socket) => socket,
             Err(error) => {
                 self.refused(&error);
+                return cx.yield_now();
+            }
+        };
+        self.look();
+        match self.pool.admission(&self.rt) {
+            Admission::Now => match self.task(socket) {
+                Some(task) => Poll::Ready(Some(task)),
+                None => cx.yield_now(),
+            },
+            Admission::Later => {
+                self.wait_for_room(socket);
+                cx.yield_now()
+            }
+            Admission::Never => {
+                self.is_open = false;
                 cx.yield_now()
             }
         }

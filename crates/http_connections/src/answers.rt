@@ -12,6 +12,7 @@ use http::{Request, Response};
 use http_messages::error::ServiceError;
 use std::alloc::Global;
 use std::sync::Wait;
+use tokio::runtime::Handle;
 
 /// Answers the requests of connections, each of which has a seat of its own. A request that is forwarded is answered in
 /// two calls; its exchange runs between them, without the seat. What is said of a call speaks of who answers, and of
@@ -53,12 +54,13 @@ pub trait Answers: Drop {
     fn number(seat: &Self::Seat) -> u64
         ensures { result ≡ number_of seat.now };
 
-    /// The answer to a request whose body has come, or the exchange that forwards it. An error is out of memory for the
-    /// answer itself.
+    /// The answer to a request whose body has come, or the exchange that forwards it, which the runtime of this handle
+    /// drives. An error is out of memory for the answer itself.
     fn begin<R: Wait>(
         &self,
         rt: &R,
         alloc: Global,
+        handle: &Handle,
         seat: &mut Self::Seat,
         request: &Request<Bytes>,
     ) -> Result<Begun<Self::Exchange, Self::Content>, ServiceError>

@@ -1,5 +1,6 @@
 // A connection as a task.
 ghost use Rattle.std.specs.Prelude.{◌≡◌, IfSome};
+ghost use Rattle.futures.specs.Task.{Keeps};
 
 use crate::answers::Answers;
 use crate::seat_place::SeatPlace;
@@ -16,6 +17,8 @@ pub struct ConnectionTask<R, A: Answers, C> {
     rt: R,
     pool: Arc<SeatPool<A>>,
     place: Option<Arc<SeatPlace<A::Seat>>>,
+    /// Whether it is woken when the connection has to leave.
+    attends: bool,
     connection: Box<C>,
 }
 
@@ -42,8 +45,24 @@ where
             rt,
             pool,
             place: Some(place),
+            attends: false,
             connection,
         })
+    }
+}
+
+impl<R, A: Answers, C> ConnectionTask<R, A, C> {
+    // A task has the same waker each time it is polled.
+    fn attend(&mut self, cx: &mut Context<'_>)
+        ensures kept { Keeps cx.old cx.new }
+        ensures same { self.new.connection ≡ self.old.connection }
+    {
+        if !self.attends
+            && let Some(place) = &self.place
+        {
+            place.course.attend(cx);
+            self.attends = true;
+        }
     }
 }
 
@@ -61,6 +80,7 @@ where
     ghost gives = { λ f _. (ended : _) × C.gives f.connection.value ended };
 
     fn poll(&mut self, cx: &mut Context<'_>) -> Poll<()> {
+        self.attend(cx);
         // How it ended concerns its peer alone.
         let _ended = ready!(self.connection.poll(cx));
         if let Some(place) = self.place.take() {

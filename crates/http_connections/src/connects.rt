@@ -1,10 +1,12 @@
 // What makes a connection of a reader and writer.
-ghost use Rattle.std.specs.Prelude.{◌≡◌, IfOk, IfSome, ⊤};
+ghost use Rattle.std.specs.Prelude.{◌≡◌, IfOk, IfSome, IsSomeAnd, ⊤};
 ghost use Rattle.http_connections.specs.Site.{IsConnectionFor, giver_of};
 ghost use Rattle.http_connections.specs.Turns.{IsOver};
 ghost use Rattle.hyper.specs.ServerDispatch.{Runs};
 
 use crate::answers::Answers;
+use crate::course::Course;
+use crate::leaving::Leaving;
 use crate::seat_slot::SeatSlot;
 use crate::service::MessageService;
 use crate::watched::{HeadTimer, Watched};
@@ -13,14 +15,12 @@ use http::{Request, Response};
 use http_body::Body;
 use hyper::body::Incoming;
 use hyper::rt::{Timer, TokioTimer};
-use hyper::server::conn::http1::{Builder, Connection};
+use hyper::server::conn::http1::Builder;
 use hyper::service::Service;
 use std::alloc::AllocGlobal;
-use std::cell::Cell;
 use std::hash::RandomState;
 use std::io;
 use std::random::RandomSource;
-use std::rc::Rc;
 use std::sync::Arc;
 use std::time::{Clock, Duration};
 use tokio::io::{AsyncRead, AsyncWrite};
@@ -42,8 +42,8 @@ pub(crate) trait Connects<I, S>: Drop {
     /// It may make this connection over this reader and writer, with this service.
     ghost makes: { Self → I → S → Self.Connection → Type 0 } = { λ _ _ _ _. ⊤ };
 
-    /// `begun` is whether something of the next request has come. `None` where there is no memory for a connection.
-    fn connect(&self, io: I, begun: Rc<Cell<bool>>, service: S) -> Option<Self::Connection>
+    /// What comes is told to the course. `None` where there is no memory for a connection.
+    fn connect(&self, io: I, course: &Arc<Course>, service: S) -> Option<Self::Connection>
         requires { can_connect self.now service }
         ensures { IfSome result (makes self.now io service) };
 }
@@ -66,24 +66,20 @@ where
     B::Error: Into<anyhow::Error>,
     T: Timer,
 {
-    type Connection = Connection<Watched<I>, S, B, HeadTimer<T>>;
+    type Connection = Leaving<I, S, B, T>;
 
     ghost can_connect = { λ _ service. S.can_call service × ((content : B) → B.can_poll content) };
 
-    ghost makes = { λ connecting io service made.
+    ghost makes = { λ connecting io service leaving. IsSomeAnd leaving.connection (λ made.
         Runs ⟦<Watched<I> as AsyncRead>⟧ ⟦<Watched<I> as AsyncWrite>⟧ S.Service S.Future.Future
         B.Body B.Data.Into made.conn × IsOver connecting.turns io made.conn.link.io
-        × (made.conn.service ≡ service) };
+        × (made.conn.service ≡ service)) };
 
-    fn connect(
-        &self,
-        io: I,
-        begun: Rc<Cell<bool>>,
-        service: S,
-    ) -> Option<Connection<Watched<I>, S, B, HeadTimer<T>>> {
-        let timer = HeadTimer::new(self.timer.clone().ok()?, begun.clone().ok()?);
+    fn connect(&self, io: I, course: &Arc<Course>, service: S) -> Option<Leaving<I, S, B, T>> {
+        let timer = HeadTimer::new(self.timer.clone().ok()?, Arc::try_clone(course).ok()?);
+        let watched = Watched::new(io, self.turns, Arc::try_clone(course).ok()?);
         let builder = self.builder.clone().ok()?.timer(timer);
-        Some(builder.serve_connection(Watched::new(io, self.turns, begun), service))
+        Some(Leaving::new(builder.serve_connection(watched, service)))
     }
 }
 
@@ -126,6 +122,7 @@ pub(crate) fn connection<R, A, I, M, F>(
     connects: &M,
     timers: &Handle,
     slot: Arc<SeatSlot<A>>,
+    course: &Arc<Course>,
     io: I,
 ) -> Option<F>
 where
@@ -136,7 +133,7 @@ where
     requires { (service : _) → M.can_connect connects.now service }
     ensures { IfSome result (IsConnectionFor M.makes connects.now io (giver_of slot)) }
 {
-    let begun = Rc::new(rt.alloc(), Cell::new(false)).ok()?;
-    let service = MessageService::new(rt, slot, timers.clone().ok()?, begun.clone().ok()?);
-    connects.connect(io, begun, service)
+    let own = Arc::try_clone(course).ok()?;
+    let service = MessageService::new(rt, slot, timers.clone().ok()?, own);
+    connects.connect(io, course, service)
 }

@@ -1,17 +1,21 @@
 // Where a connection's seat lies.
-use std::sync::{Mutex, Wait};
+use crate::course::Course;
+use std::sync::{Arc, Mutex, Wait};
 
 /// The place of one connection's seat, which has none while it is free.
 #[derive(Drop)]
 pub struct SeatPlace<S> {
     pub(crate) seat: Mutex<Option<S>>,
+    /// That of the connection.
+    pub(crate) course: Arc<Course>,
 }
 
 impl<S: Drop> SeatPlace<S> {
     /// A place without a seat.
-    pub fn new() -> SeatPlace<S> {
+    pub fn new(course: Arc<Course>) -> SeatPlace<S> {
         SeatPlace {
             seat: Mutex::new(None),
+            course,
         }
     }
 

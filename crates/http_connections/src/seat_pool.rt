@@ -4,28 +4,43 @@ ghost use Rattle.std.specs.Arc.{arc_value};
 ghost use Rattle.http_connections.specs.Site.{giver_of};
 
 use crate::answers::Answers;
+use crate::ender::Ender;
 use crate::seat_place::SeatPlace;
 use crate::seat_slot::SeatSlot;
-use crate::seats::{Assignment, Seats};
+use crate::seats::{Admission, Assignment, Seats};
+use crate::settings::Settings;
 use std::alloc::{AllocError, Global};
+use std::rc::Rc;
 use std::sync::{Arc, Mutex, Wait};
+use std::time::Instant;
+use tokio::runtime::Handle;
 
-/// The site of a server, and its seats.
+/// The site of a server, and its seats, which its threads share.
 #[derive(Drop)]
 pub struct SeatPool<A: Answers> {
     pub site: Arc<A>,
     seats: Mutex<Seats<A::Seat>>,
+    /// How many connections are open at a time.
+    most: u64,
+    pub(crate) ender: Arc<Ender>,
 }
 
 impl<A: Answers> SeatPool<A> {
     /// A pool without a seat.
-    pub fn new(alloc: Global, site: Arc<A>) -> SeatPool<A>
-        ensures { result.site ≡ site }
+    pub fn new(
+        alloc: Global,
+        site: Arc<A>,
+        settings: Settings,
+        ender: Arc<Ender>,
+    ) -> Result<SeatPool<A>, AllocError>
+        ensures { IfOk result (λ pool. pool.site ≡ site) }
     {
-        SeatPool {
+        Ok(SeatPool {
             site,
-            seats: Mutex::new(Seats::new(alloc)),
-        }
+            seats: Mutex::new(Seats::new(alloc, settings.connections)?),
+            most: settings.max_connections,
+            ender,
+        })
     }
 
     /// Lets connections come in, with the seat that theirs are split off.
@@ -33,22 +48,35 @@ impl<A: Answers> SeatPool<A> {
         self.seats.lock(rt).open(seat);
     }
 
-    /// Gives a connection a place with a seat that is split off the server's own.
+    /// Gives a connection a place with a seat that is split off the server's own. The last that is wanted ends
+    /// accepting.
     pub(crate) fn assign<R: Wait>(&self, rt: &R, alloc: Global) -> Assignment<A::Seat> {
-        self.seats.lock(rt).assign(rt, alloc, &*self.site)
+        let (assignment, are_enough) = self.assign_locked(rt, alloc);
+        if are_enough {
+            self.ender.tell();
+        }
+        assignment
     }
 
-    /// The place of the seat with this number, beside the site.
+    fn assign_locked<R: Wait>(&self, rt: &R, alloc: Global) -> (Assignment<A::Seat>, bool) {
+        let mut seats = self.seats.lock(rt);
+        let assignment = seats.assign(rt, alloc, &*self.site);
+        (assignment, seats.are_enough())
+    }
+
+    /// The place of the seat with this number, beside the site and the runtime of its connection.
     pub(crate) fn slot(
         &self,
         alloc: Global,
         place: &Arc<SeatPlace<A::Seat>>,
         number: u64,
+        handle: Rc<Handle>,
     ) -> Result<Arc<SeatSlot<A>>, AllocError>
         ensures { IfOk result (λ slot. giver_of slot ≡ record { site = arc_value self.now.site; number = number }) }
     {
         let site = Arc::try_clone(&self.site)?;
-        Ok(Arc::new(alloc, SeatSlot::new(site, Arc::try_clone(place)?, number))?)
+        let place = Arc::try_clone(place)?;
+        Ok(Arc::new(alloc, SeatSlot::new(site, place, number, handle))?)
     }
 
     /// Joins the seat of a connection that has ended to the server's own, and frees its place.
@@ -56,14 +84,43 @@ impl<A: Answers> SeatPool<A> {
         self.seats.lock(rt).release(rt, &*self.site, place);
     }
 
-    /// Whether fewer connections than `most` are open.
-    pub(crate) fn has_room<R: Wait>(&self, rt: &R, most: u64) -> bool {
-        self.seats.lock(rt).taken < most
+    /// Whether one more connection is accepted.
+    pub(crate) fn admission<R: Wait>(&self, rt: &R) -> Admission {
+        if self.is_asked() {
+            return Admission::Never;
+        }
+        self.seats.lock(rt).admission(self.most)
+    }
+
+    /// Whether a connection of any thread is open.
+    pub(crate) fn has_connections<R: Wait>(&self, rt: &R) -> bool {
+        self.seats.lock(rt).has_connections()
+    }
+
+    /// Whether the end was asked for.
+    pub(crate) fn is_asked(&self) -> bool {
+        self.ender.is_asked()
+    }
+
+    /// Looks at the clock: by this hour the courses of connections say when they were heard.
+    pub(crate) fn look<R: Wait>(&self, rt: &R, now: Instant) {
+        self.seats.lock(rt).room.look(now);
+    }
+
+    /// Asks the connection that has been silent longest, and long enough, to make room; `false` where there is none.
+    pub(crate) fn make_room<R: Wait>(&self, rt: &R) -> bool {
+        self.seats.lock(rt).room.make()
+    }
+
+    /// Asks all connections to leave, each once the answer that it waits for has been given.
+    pub fn clear<R: Wait>(&self, rt: &R) {
+        self.seats.lock(rt).room.clear();
     }
 
     /// No more connections can be accepted.
     pub fn close<R: Wait>(&self, rt: &R) {
         self.seats.lock(rt).is_open = false;
+        self.ender.tell();
     }
 
     /// Whether connections can be accepted.

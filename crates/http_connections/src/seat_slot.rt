@@ -16,7 +16,9 @@ use http::{Request, Response};
 use http_messages::error::ServiceError;
 use http_messages::wire::{is_as_sent, sent};
 use std::alloc::{AllocError, Global};
+use std::rc::Rc;
 use std::sync::{Arc, Wait};
+use tokio::runtime::Handle;
 
 /// A site, and the place of the seat by which it answers the requests of one connection. The seat stays there. It is
 /// locked in each call, and not between the two calls for a request that is forwarded. Where a seat with another number
@@ -27,16 +29,24 @@ pub struct SeatSlot<A: Answers> {
     place: Arc<SeatPlace<A::Seat>>,
     /// The number of the seat.
     number: u64,
+    /// The runtime that drives the connection.
+    handle: Rc<Handle>,
 }
 
 impl<A: Answers> SeatSlot<A> {
-    pub fn new(site: Arc<A>, place: Arc<SeatPlace<A::Seat>>, number: u64) -> SeatSlot<A>
+    pub fn new(
+        site: Arc<A>,
+        place: Arc<SeatPlace<A::Seat>>,
+        number: u64,
+        handle: Rc<Handle>,
+    ) -> SeatSlot<A>
         ensures { giver result ≡ record { site = arc_value site; number = number } }
     {
         SeatSlot {
             site,
             place,
             number,
+            handle,
         }
     }
 
@@ -84,7 +94,15 @@ impl<A: Answers> SeatSlot<A> {
             (IsForwardedBy A.number_of A.forwards (giver self.now)) A.Exchange.can_poll request.now) }
     {
         let mut held = self.place.seat.lock(rt);
-        begin_by(rt, alloc, &*self.site, self.number, &mut *held, request)
+        begin_by(
+            rt,
+            alloc,
+            &*self.handle,
+            &*self.site,
+            self.number,
+            &mut *held,
+            request,
+        )
     }
 
     fn finish_at_seat<R: Wait>(
@@ -106,6 +124,7 @@ impl<A: Answers> SeatSlot<A> {
 fn begin_by<R: Wait, A: Answers>(
     rt: &R,
     alloc: Global,
+    handle: &Handle,
     site: &A,
     number: u64,
     held: &mut Option<A::Seat>,
@@ -124,7 +143,7 @@ fn begin_by<R: Wait, A: Answers>(
             if A::number(seat) != number {
                 return Err(ServiceError::Broken);
             }
-            site.begin(rt, alloc, seat, request)
+            site.begin(rt, alloc, handle, seat, request)
         }
         None => Err(ServiceError::Broken),
     }

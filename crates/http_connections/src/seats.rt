@@ -1,10 +1,13 @@
 // The seats of a server, as they lie under one lock.
-ghost use Rattle.std.specs.Prelude.{◌≡◌, ◌-◌, ◌⊎◌, ◌∷◌, IfOk, IfSome, IsSome, IsSomeAnd, List, None, Result, Some};
+ghost use Rattle.std.specs.Prelude.{◌≡◌, ◌≢◌, ◌-◌, ◌⊎◌, ◌∷◌, ◌<◌, ◌≤◌, IfOk, IfSome, IsSome, IsSomeAnd, IsTrue, List, None};
+ghost use Rattle.std.specs.Prelude.{◌↔◌, Result, Some, false, option_map, true};
 ghost use Rattle.http_connections.specs.Inner.Seat.{HasNoSeat, IsJoinedTo, IsTakenOver, OnSeat};
+ghost use Rattle.http_connections.specs.declared.seats.Admission.TheVariants as admission;
 ghost use Rattle.http_connections.specs.declared.seats.Assignment.TheVariants as given;
 ghost use Rattle.http_connections.specs.declared.seats.Filled.TheVariants as filled;
 
 use crate::answers::Answers;
+use crate::room::Room;
 use crate::seat_place::SeatPlace;
 use std::alloc::{AllocError, Global};
 use std::sync::{Arc, Wait};
@@ -17,8 +20,20 @@ pub(crate) struct Seats<S> {
     places: Vec<Arc<SeatPlace<S>>>,
     free: Vec<Arc<SeatPlace<S>>>,
     /// How many places connections have.
-    pub(crate) taken: u64,
+    taken: u64,
+    /// How many more connections are wanted; `None` for any number.
+    wanted: Option<u64>,
     pub(crate) is_open: bool,
+    pub(crate) room: Room,
+}
+
+/// Whether one more connection is accepted.
+pub(crate) enum Admission {
+    Now,
+    /// As many as may be are open.
+    Later,
+    /// As many as were wanted were accepted, or none can be.
+    Never,
 }
 
 /// What a connection that was accepted gets.
@@ -26,6 +41,8 @@ pub(crate) struct Seats<S> {
 pub(crate) enum Assignment<S> {
     /// A place with a seat of this number.
     Place(Arc<SeatPlace<S>>, u64),
+    /// As many as were wanted were accepted before: the connection is closed.
+    Enough,
     /// No memory for a place: the connection is closed.
     NoPlace,
     /// The server's seat can't be split: no more connections are accepted.
@@ -42,14 +59,18 @@ enum Filled {
 }
 
 impl<S: Drop> Seats<S> {
-    pub(crate) fn new(alloc: Global) -> Seats<S> {
-        Seats {
+    pub(crate) fn new(alloc: Global, wanted: Option<u64>) -> Result<Seats<S>, AllocError>
+        ensures { IfOk result (λ seats. seats.wanted ≡ wanted) }
+    {
+        Ok(Seats {
             own: None,
             places: Vec::new(alloc),
             free: Vec::new(alloc),
             taken: 0,
+            wanted,
             is_open: false,
-        }
+            room: Room::new(alloc)?,
+        })
     }
 
     pub(crate) fn open(&mut self, seat: S)
@@ -59,18 +80,73 @@ impl<S: Drop> Seats<S> {
         self.is_open = true;
     }
 
+    pub(crate) fn admission(&self, most: u64) -> Admission
+        ensures { elim result [
+          | admission.Now ↦ (self.now.is_open ≡ true) × (self.now.wanted ≢ Some 0) × (self.now.taken < most)
+          | admission.Later ↦ (self.now.is_open ≡ true) × (self.now.wanted ≢ Some 0) × (most ≤ self.now.taken)
+          | admission.Never ↦ (self.now.is_open ≡ false) ⊎ (self.now.wanted ≡ Some 0)
+        ] }
+    {
+        if !self.is_open || self.wanted == Some(0) {
+            Admission::Never
+        } else if self.taken < most {
+            Admission::Now
+        } else {
+            Admission::Later
+        }
+    }
+
+    /// Whether as many connections as were wanted were accepted.
+    pub(crate) fn are_enough(&self) -> bool
+        ensures { IsTrue result ↔ (self.now.wanted ≡ Some 0) }
+    {
+        self.wanted == Some(0)
+    }
+
+    /// Whether a connection has a place.
+    pub(crate) fn has_connections(&self) -> bool
+        ensures { IsTrue result ↔ (0 < self.now.taken) }
+    {
+        self.taken > 0
+    }
+
+    /// What one more connection gets, which is counted.
     pub(crate) fn assign<R: Wait, A: Answers<Seat = S>>(
         &mut self,
         rt: &R,
         alloc: Global,
         site: &A,
     ) -> Assignment<S>
-        ensures { elim result [
+        ensures given { elim result [
+          | given.Place place number ↦ (self.old.wanted ≢ Some 0) × OnSeat self.old.own self.new.own (λ old new.
+              (seat : S) × (A.number_of seat ≡ number) × A.splits site.now old new (Some seat))
+          | given.Enough ↦ (self.old.wanted ≡ Some 0) × (self.new.own ≡ self.old.own)
+          | given.NoPlace ↦ (self.old.wanted ≢ Some 0) × (self.new.own ≡ self.old.own)
+          | given.NoSeat ↦ (self.old.wanted ≢ Some 0) × HasNoSeat (A.splits site.now) self.old.own self.new.own
+        ] }
+        ensures wanted { self.new.wanted ≡ option_map (λ wanted. wanted - 1) self.old.wanted }
+    {
+        if self.are_enough() {
+            return Assignment::Enough;
+        }
+        self.wanted = self.wanted.map(|wanted| wanted.saturating_sub(1));
+        self.assign_place(rt, alloc, site)
+    }
+
+    fn assign_place<R: Wait, A: Answers<Seat = S>>(
+        &mut self,
+        rt: &R,
+        alloc: Global,
+        site: &A,
+    ) -> Assignment<S>
+        ensures given { elim result [
           | given.Place place number ↦ OnSeat self.old.own self.new.own (λ old new.
               (seat : S) × (A.number_of seat ≡ number) × A.splits site.now old new (Some seat))
+          | given.Enough ↦ ⊥
           | given.NoPlace ↦ self.new.own ≡ self.old.own
           | given.NoSeat ↦ HasNoSeat (A.splits site.now) self.old.own self.new.own
         ] }
+        ensures wanted { self.new.wanted ≡ self.old.wanted }
     {
         let Ok(place) = self.free_place(alloc) else {
             return Assignment::NoPlace;
@@ -78,6 +154,7 @@ impl<S: Drop> Seats<S> {
         match self.fill_place(rt, site, &place) {
             Filled::Seat(number) => {
                 self.taken = self.taken.saturating_add(1);
+                place.course.begin();
                 Assignment::Place(place, number)
             }
             Filled::Occupied => Assignment::NoPlace,
@@ -91,12 +168,13 @@ impl<S: Drop> Seats<S> {
         site: &A,
         place: &SeatPlace<S>,
     ) -> Filled
-        ensures { elim result [
+        ensures filled { elim result [
           | filled.Seat number ↦ OnSeat self.old.own self.new.own (λ old new.
               (seat : S) × (A.number_of seat ≡ number) × A.splits site.now old new (Some seat))
           | filled.Occupied ↦ self.new.own ≡ self.old.own
           | filled.NoSeat ↦ HasNoSeat (A.splits site.now) self.old.own self.new.own
         ] }
+        ensures wanted { self.new.wanted ≡ self.old.wanted }
     {
         let mut held = place.seat.lock(rt);
         self.fill(rt, site, &mut *held)
@@ -109,13 +187,14 @@ impl<S: Drop> Seats<S> {
         site: &A,
         held: &mut Option<S>,
     ) -> Filled
-        ensures { elim result [
+        ensures filled { elim result [
           | filled.Seat number ↦ (held.old ≡ None) × IsSomeAnd held.new (λ seat. (A.number_of seat ≡ number)
               × OnSeat self.old.own self.new.own (λ old new. A.splits site.now old new (Some seat)))
           | filled.Occupied ↦ IsSome held.old × (held.new ≡ held.old) × (self.new.own ≡ self.old.own)
           | filled.NoSeat ↦ (held.old ≡ None) × (held.new ≡ None)
               × HasNoSeat (A.splits site.now) self.old.own self.new.own
         ] }
+        ensures wanted { self.new.wanted ≡ self.old.wanted }
     {
         if held.is_some() {
             return Filled::Occupied;
@@ -131,10 +210,11 @@ impl<S: Drop> Seats<S> {
     }
 
     fn split<R: Wait, A: Answers<Seat = S>>(&mut self, rt: &R, site: &A) -> Option<S>
-        ensures { elim result [
+        ensures split { elim result [
           | Some seat ↦ OnSeat self.old.own self.new.own (λ old new. A.splits site.now old new (Some seat))
           | None ↦ HasNoSeat (A.splits site.now) self.old.own self.new.own
         ] }
+        ensures wanted { self.new.wanted ≡ self.old.wanted }
     {
         match &mut self.own {
             Some(own) => site.split(rt, own),
@@ -144,14 +224,16 @@ impl<S: Drop> Seats<S> {
 
     // A place that is free, or a new one.
     fn free_place(&mut self, alloc: Global) -> Result<Arc<SeatPlace<S>>, AllocError>
-        ensures { self.new.own ≡ self.old.own }
+        ensures own { self.new.own ≡ self.old.own }
+        ensures wanted { self.new.wanted ≡ self.old.wanted }
     {
         if let Some(place) = self.free.pop() {
             return Ok(place);
         }
         self.places.reserve(1)?;
         self.free.reserve(self.places.len().saturating_add(1))?;
-        let place = Arc::new(alloc, SeatPlace::new())?;
+        let course = self.room.course(alloc)?;
+        let place = Arc::new(alloc, SeatPlace::new(course))?;
         self.places.push(Arc::try_clone(&place)?)?;
         Ok(place)
     }
@@ -167,6 +249,7 @@ impl<S: Drop> Seats<S> {
         ensures taken { self.new.taken ≡ self.old.taken - 1 }
     {
         self.taken = self.taken.saturating_sub(1);
+        place.course.end();
         if self.vacate(rt, site, &*place) {
             // There is room for each place.
             let _ = self.free.push(place);

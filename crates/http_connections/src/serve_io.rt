@@ -5,6 +5,8 @@ ghost use Rattle.http_connections.specs.Site.{IsConnectionFor, giver_of};
 
 use crate::answers::Answers;
 use crate::connects::{Connecting, Connects, connection};
+use crate::course::Course;
+use crate::hour::Hour;
 use crate::seat_place::SeatPlace;
 use crate::seat_slot::SeatSlot;
 use crate::service::MessageService;
@@ -16,9 +18,11 @@ use std::alloc::{AllocError, AllocGlobal, Global};
 use std::io;
 use std::io::ErrorKind;
 use std::random::RandomSource;
+use std::rc::Rc;
 use std::sync::{Arc, Wait};
 use std::time::Clock;
 use tokio::io::{AsyncRead, AsyncWrite};
+use tokio::runtime;
 use tokio::runtime::LocalRuntime;
 use tokio::time::Handle;
 
@@ -39,7 +43,7 @@ where
     I: AsyncRead + AsyncWrite,
     requires { (content : A.Content) → A.Content.can_poll content }
 {
-    let place = match Arc::new(rt.alloc(), SeatPlace::new()) {
+    let place = match place_of(rt.alloc()) {
         Ok(place) => place,
         Err(_error) => return (Some(seat), Err(ServiceError::OutOfMemory)),
     };
@@ -49,16 +53,26 @@ where
     (place.take(&rt), served)
 }
 
+// A place by itself, which has to make room for no other.
+fn place_of<S: Drop>(alloc: Global) -> Result<Arc<SeatPlace<S>>, AllocError> {
+    let hour = Arc::new(alloc, Hour::new())?;
+    let course = Arc::new(alloc, Course::new(hour))?;
+    course.begin();
+    Ok(Arc::new(alloc, SeatPlace::new(course))?)
+}
+
 fn slot_of<A: Answers>(
     alloc: Global,
     site: &Arc<A>,
     place: &Arc<SeatPlace<A::Seat>>,
     number: u64,
+    handle: Rc<runtime::Handle>,
 ) -> Result<Arc<SeatSlot<A>>, AllocError>
     ensures { IfOk result (λ slot. giver_of slot ≡ record { site = arc_value site.now; number = number }) }
 {
     let site = Arc::try_clone(site)?;
-    Ok(Arc::new(alloc, SeatSlot::new(site, Arc::try_clone(place)?, number))?)
+    let place = Arc::try_clone(place)?;
+    Ok(Arc::new(alloc, SeatSlot::new(site, place, number, handle))?)
 }
 
 // Serves one connection by the seat of the place, which has this number.
@@ -78,13 +92,17 @@ where
     I: AsyncRead + AsyncWrite,
     requires { (content : A.Content) → A.Content.can_poll content }
 {
-    let timers = runtime.handle().time().clone()?;
+    let handle = runtime.handle().clone()?;
+    let timers = handle.time().clone()?;
     let connects = match Connecting::with_timers(rt, &timers, turns) {
         Ok(connects) => connects,
         Err(error) => return Err(refused(&error)),
     };
-    let slot = slot_of(rt.alloc(), site, place, number)?;
-    run(rt, runtime, &connects, &timers, slot, io)
+    let Ok(handle) = Rc::new(rt.alloc(), handle) else {
+        return Err(ServiceError::OutOfMemory);
+    };
+    let slot = slot_of(rt.alloc(), site, place, number, handle)?;
+    run(rt, runtime, &connects, &timers, slot, &place.course, io)
 }
 
 // Runs a connection to its end, whose requests are answered by the seat of the slot.
@@ -94,6 +112,7 @@ fn run<R, A, I, M, F>(
     connects: &M,
     timers: &Handle,
     slot: Arc<SeatSlot<A>>,
+    course: &Arc<Course>,
     io: I,
 ) -> Result<(), ServiceError>
 where
@@ -107,7 +126,7 @@ where
     ensures { IfOk result (λ _. (made : F) × IsConnectionFor M.makes connects.now io (giver_of slot) made
         × F.gives made (Ok tt)) }
 {
-    let Some(connection) = connection(rt, connects, timers, slot, io) else {
+    let Some(connection) = connection(rt, connects, timers, slot, course, io) else {
         return Err(ServiceError::OutOfMemory);
     };
     match runtime.block_on(&rt, connection) {

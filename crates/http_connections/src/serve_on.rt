@@ -1,5 +1,5 @@
 // The connections of a listener, each a task.
-ghost use Rattle.std.specs.Prelude.{◌≡◌, ◌↔◌, IfOk, IsErrAnd, IsOk, IsSome, IsTrue};
+ghost use Rattle.std.specs.Prelude.{◌≡◌, ◌↔◌, IfOk, IsErrAnd, IsFalse, IsOk, IsSome, IsTrue};
 ghost use Rattle.std.specs.IoError.{error_kind};
 ghost use Rattle.std.specs.Arc.{arc_value};
 ghost use Rattle.http_connections.specs.Site.{site_in};
@@ -7,19 +7,24 @@ ghost use Rattle.http_connections.specs.Site.{site_in};
 use crate::accepting::Accepting;
 use crate::answers::Answers;
 use crate::connects::Connecting;
+use crate::ender::Ender;
 use crate::pause::Pause;
 use crate::seat_pool::SeatPool;
 use crate::settings::Settings;
 use bytes::Bytes;
 use http_body::Body;
 use std::alloc::{AllocError, AllocGlobal, Global};
-use std::io;
 use std::io::ErrorKind;
 use std::random::RandomSource;
+use std::rc::Rc;
 use std::sync::{Arc, Wait};
-use std::time::Clock;
+use std::time::{Clock, Duration};
+use std::{io, net};
 use tokio::net::TcpListener;
 use tokio::runtime::LocalRuntime;
+
+/// How long answers may go on once the end was asked for, in seconds.
+pub const END_TIME: u64 = 2;
 
 /// The seats of all connections once they have been served, and why there were no more.
 #[derive(Drop)]
@@ -33,34 +38,130 @@ pub struct Served<S> {
 pub enum End {
     /// As many as were wanted were served.
     AllServed,
+    /// The end was asked for.
+    Asked,
     /// The listener failed, no seat was left for a connection, or the runtime failed.
     AcceptFailed,
     /// The runtime had no memory.
     OutOfMemory,
 }
 
-/// Serves the connections of a listener, as many as are wanted, each with a seat of its own that is split off `seat`,
-/// all on the calling thread. `turns` is how often each connection's socket is polled at most.
-pub fn serve_all<R, A>(
+/// What the threads of a server share.
+#[derive(Drop)]
+pub struct Server<A: Answers> {
+    pool: Arc<SeatPool<A>>,
+    settings: Settings,
+    turns: u64,
+}
+
+impl<A: Answers> Server<A> {
+    fn new(
+        alloc: Global,
+        site: &Arc<A>,
+        settings: Settings,
+        turns: u64,
+        ender: &Arc<Ender>,
+    ) -> Result<Server<A>, AllocError>
+        ensures { IfOk result (λ server. site_in server.pool ≡ arc_value site.now) }
+    {
+        let ender = Arc::try_clone(ender)?;
+        let pool = SeatPool::new(alloc, Arc::try_clone(site)?, settings, ender)?;
+        Ok(Server {
+            pool: Arc::new(alloc, pool)?,
+            settings,
+            turns,
+        })
+    }
+
+    /// Serves the connections of a listener of this runtime, as long as any are accepted, on the calling thread. After
+    /// an error none are accepted on other threads either.
+    pub fn serve<R>(
+        &self,
+        rt: R,
+        runtime: &mut LocalRuntime,
+        listener: TcpListener,
+    ) -> io::Result<()>
+    where
+        R: Wait + Clock + RandomSource + AllocGlobal + Copy + Drop,
+        A::Content: Body<Data = Bytes, Error: Into<anyhow::Error>>,
+        requires { (content : A.Content) → A.Content.can_poll content }
+    {
+        let served = run(rt, runtime, listener, &self.pool, self.settings, self.turns);
+        if served.is_err() {
+            self.pool.close(&rt);
+        }
+        served
+    }
+}
+
+/// The threads of a server.
+pub trait Workers<R, A>: Drop
+where
+    A: Answers,
+    A::Content: Body<Data = Bytes, Error: Into<anyhow::Error>>,
+{
+    /// Serves the connections of a listener, as long as any are accepted, on the calling thread, which drives this
+    /// runtime, and on others. An error of any thread is given.
+    fn serve(
+        &self,
+        rt: R,
+        runtime: &mut LocalRuntime,
+        listener: net::TcpListener,
+        server: &Arc<Server<A>>,
+    ) -> io::Result<()>
+        requires { (content : A.Content) → A.Content.can_poll content };
+}
+
+/// The calling thread alone.
+#[derive(Clone, Copy, Debug, Drop)]
+pub struct OneThread;
+
+impl<R, A> Workers<R, A> for OneThread
+where
+    R: Wait + Clock + RandomSource + AllocGlobal + Copy + Drop,
+    A: Answers,
+    A::Content: Body<Data = Bytes, Error: Into<anyhow::Error>>,
+{
+    fn serve(
+        &self,
+        rt: R,
+        runtime: &mut LocalRuntime,
+        listener: net::TcpListener,
+        server: &Arc<Server<A>>,
+    ) -> io::Result<()> {
+        let listener = TcpListener::from_std(listener, runtime.handle().reactor())?;
+        server.serve(rt, runtime, listener)
+    }
+}
+
+/// Serves the connections of a listener, as many as are wanted, each with a seat of its own that is split off `seat`.
+/// `turns` is how often each connection's socket is polled at most.
+pub fn serve_all<R, A, W>(
     rt: R,
     runtime: &mut LocalRuntime,
-    listener: TcpListener,
+    listener: net::TcpListener,
+    workers: &W,
+    ender: &Arc<Ender>,
     site: &Arc<A>,
     seat: A::Seat,
     settings: Settings,
     turns: u64,
 ) -> Result<Served<A::Seat>, AllocError>
 where
-    R: Wait + Clock + RandomSource + AllocGlobal + Copy + Drop,
+    R: Wait + AllocGlobal + Copy + Drop,
     A: Answers,
     A::Content: Body<Data = Bytes, Error: Into<anyhow::Error>>,
+    W: Workers<R, A>,
     requires { (content : A.Content) → A.Content.can_poll content }
     ensures { IfOk result (λ served. served.end ≡ End.AllServed → IsSome settings.connections) }
 {
-    let pool = pool_of(rt.alloc(), site)?;
-    pool.open(&rt, seat);
-    let ran = run(rt, runtime, listener, &pool, settings, turns);
-    served_by(&rt, rt.alloc(), &pool, settings, &ran)
+    let server = Arc::new(
+        rt.alloc(),
+        Server::new(rt.alloc(), site, settings, turns, ender)?,
+    )?;
+    server.pool.open(&rt, seat);
+    let served = workers.serve(rt, runtime, listener, &server);
+    served_by(&rt, rt.alloc(), &server.pool, settings, &served)
 }
 
 // What a pool whose connections have ended leaves.
@@ -73,23 +174,20 @@ fn served_by<R: Wait, A: Answers>(
 ) -> Result<Served<A::Seat>, AllocError>
     ensures { IfOk result (λ served. served.end ≡ End.AllServed → IsSome settings.connections × IsOk ran.now) }
 {
-    let end = end_of(ran, pool.is_open(rt), settings);
+    let end = end_of(ran, pool.is_open(rt), pool.is_asked(), settings);
     let seats = pool.take_all(rt, alloc)?;
     Ok(Served { seats, end })
 }
 
-fn pool_of<A: Answers>(alloc: Global, site: &Arc<A>) -> Result<Arc<SeatPool<A>>, AllocError>
-    ensures { IfOk result (λ pool. site_in pool ≡ arc_value site.now) }
-{
-    Ok(Arc::new(alloc, SeatPool::new(alloc, Arc::try_clone(site)?))?)
-}
-
-fn end_of(ran: &io::Result<()>, is_open: bool, settings: Settings) -> End
-    ensures served { (result ≡ End.AllServed) ↔ (IsOk ran.now × IsTrue is_open × IsSome settings.connections) }
+fn end_of(ran: &io::Result<()>, is_open: bool, is_asked: bool, settings: Settings) -> End
+    ensures served { (result ≡ End.AllServed)
+        ↔ (IsOk ran.now × IsTrue is_open × IsFalse is_asked × IsSome settings.connections) }
+    ensures asked { (result ≡ End.Asked) ↔ (IsOk ran.now × IsTrue is_open × IsTrue is_asked) }
     ensures memory { (result ≡ End.OutOfMemory)
         ↔ IsErrAnd ran.now (λ error. error_kind error ≡ ErrorKind.OutOfMemory) }
 {
     match ran {
+        Ok(()) if is_open && is_asked => End::Asked,
         Ok(()) if is_open && settings.connections.is_some() => End::AllServed,
         Err(error) if error.kind() == ErrorKind::OutOfMemory => End::OutOfMemory,
         _ => End::AcceptFailed,
@@ -110,16 +208,20 @@ where
     A::Content: Body<Data = Bytes, Error: Into<anyhow::Error>>,
     requires { (content : A.Content) → A.Content.can_poll content }
 {
-    let timers = runtime.handle().time();
-    let connects = Connecting::with_timers(rt, timers, turns)?;
-    let pause = Pause::new(rt, timers)?;
+    let handle = runtime.handle().clone()?;
+    let connects = Connecting::with_timers(rt, handle.time(), turns)?;
+    let pause = Pause::new(rt, handle.time())?;
     let accepting = Accepting::new(
         rt,
         listener,
         Arc::try_clone(pool)?,
         settings,
         pause,
+        pool.ender.notified()?,
+        Rc::new(rt.alloc(), handle)?,
         connects,
     );
+    // The stream ends before its connections have only where the end was asked for.
+    runtime.set_shutdown_timeout(Some(Duration::from_secs(END_TIME)));
     runtime.run_all(&rt, accepting)
 }

@@ -1,5 +1,5 @@
 // The requests of one connection.
-ghost use Rattle.std.specs.Prelude.{◌≡◌, ◌<◌, ℕ, List, Result, Some, length, IfOk, IsSome, IsTrue};
+ghost use Rattle.std.specs.Prelude.{◌≡◌, ◌⊎◌, ◌<◌, ℕ, List, Result, Some, length, IfOk, IsSome, IsTrue};
 ghost use Rattle.futures.specs.Poll.{IfReady, OnPending};
 ghost use Rattle.futures.specs.Task.{IsArmed, Keeps};
 ghost use Rattle.http_connections.specs.declared.content_error.ContentError.{ContentError as GatherError};
@@ -17,6 +17,7 @@ ghost use Rattle.mock_request.specs.declared.snapshot.TheConstants.{BODY_LIMIT};
 use crate::answers::Answers;
 use crate::begun::Begun;
 use crate::content_error::ContentError;
+use crate::course::Course;
 use crate::forwarding::Forwarding;
 use crate::gathering::Gathering;
 use crate::patience::Patience;
@@ -32,8 +33,6 @@ use hyper::body::Incoming;
 use hyper::service::Service;
 use mock_request::snapshot::BODY_LIMIT;
 use std::alloc::{AllocError, AllocGlobal, Global};
-use std::cell::Cell;
-use std::rc::Rc;
 use std::sync::{Arc, Wait};
 use std::time::Clock;
 use tokio::time::Handle;
@@ -44,8 +43,7 @@ pub struct MessageService<R, A: Answers> {
     rt: R,
     slot: Arc<SeatSlot<A>>,
     timers: Handle,
-    /// Whether something of the next request has come.
-    begun: Rc<Cell<bool>>,
+    course: Arc<Course>,
 }
 
 /// The answer to one request.
@@ -67,7 +65,7 @@ pub struct Waiting<R, A: Answers, G> {
     /// Its body is empty until the content has come whole.
     request: Request<Bytes>,
     content: G,
-    begun: Rc<Cell<bool>>,
+    course: Arc<Course>,
 }
 
 impl<R, A: Answers> MessageService<R, A> {
@@ -75,7 +73,7 @@ impl<R, A: Answers> MessageService<R, A> {
         rt: R,
         slot: Arc<SeatSlot<A>>,
         timers: Handle,
-        begun: Rc<Cell<bool>>,
+        course: Arc<Course>,
     ) -> MessageService<R, A>
         ensures { result.slot ≡ slot }
     {
@@ -83,7 +81,7 @@ impl<R, A: Answers> MessageService<R, A> {
             rt,
             slot,
             timers,
-            begun,
+            course,
         }
     }
 }
@@ -105,7 +103,7 @@ where
 
     // A request without content is answered at once, or forwarded.
     fn call(&self, request: Request<Incoming<I>>) -> Self::Future {
-        self.begun.set(false);
+        self.course.answers();
         if request.body().size_hint().exact() == Some(0) {
             return self.at_once(request, Bytes::new());
         }
@@ -206,9 +204,11 @@ where
             slot: Arc::try_clone(&self.slot)?,
             request: Request::from_parts(head, Bytes::new()),
             content: Gathering::new(alloc, body, Patience::new(self.rt, self.timers.clone()?)),
-            begun: self.begun.clone()?,
+            course: Arc::try_clone(&self.course)?,
         };
-        Ok(Box::new(alloc, waiting)?)
+        let waiting = Box::new(alloc, waiting)?;
+        self.course.gathers();
+        Ok(waiting)
     }
 }
 
@@ -301,7 +301,7 @@ where
             (head_of self.old.request) gathered) }
         ensures slot { self.new.slot ≡ self.old.slot }
     {
-        self.begun.set(false);
+        self.course.answers();
         let alloc = self.rt.alloc();
         let content = match gathered {
             Ok(content) => content,
@@ -310,7 +310,7 @@ where
                 Err(AllocError) => return Ok(Begun::Answered(out_of_memory(alloc))),
             },
             Err(ContentError::Malformed) => {
-                return Ok(Begun::Answered(refusal(alloc, StatusCode::BAD_REQUEST)));
+                return Ok(Begun::Answered(refusal(alloc, self.cut_status())));
             }
             Err(ContentError::OutOfMemory) => return Ok(Begun::Answered(out_of_memory(alloc))),
         };
@@ -318,6 +318,18 @@ where
         match self.slot.begin(&self.rt, alloc, &self.request) {
             Err(ServiceError::OutOfMemory) => Ok(Begun::Answered(out_of_memory(alloc))),
             begun => begun,
+        }
+    }
+
+    // The status of a request whose content doesn't come whole: its client was too slow where the connection has to
+    // leave.
+    fn cut_status(&self) -> StatusCode
+        ensures { (result ≡ 400) ⊎ (result ≡ 408) }
+    {
+        if self.course.must_leave() {
+            StatusCode::REQUEST_TIMEOUT
+        } else {
+            StatusCode::BAD_REQUEST
         }
     }
 

@@ -1,14 +1,15 @@
-// A reader and writer that tells whether something has come, and is asked a limited number of times.
+// A reader and writer that tells the course of a connection, and is asked a limited number of times.
 ghost use Rattle.std.specs.Prelude.{◌≡◌, ◌+◌, OnErr, OnOk, ⊤};
+ghost use Rattle.futures.specs.Task.{Keeps};
 ghost use Rattle.http_connections.specs.Turns.{Costs, IsOver, costs_in_order, costs_nothing};
 
+use crate::course::{Course, Stage};
 use futures::task::{Context, Poll};
 use hyper::rt::Timer;
 use std::alloc::AllocError;
-use std::cell::Cell;
 use std::io;
 use std::io::ErrorKind;
-use std::rc::Rc;
+use std::sync::Arc;
 use std::time::{Instant, SystemTime};
 use tokio::io::{AsyncRead, AsyncWrite};
 use tokio::time::Sleep;
@@ -16,28 +17,33 @@ use tokio::time::Sleep;
 /// The most turns that the loop over the bytes of a connection has.
 pub const TURN_LIMIT: u64 = 100_000_000;
 
-/// A reader and writer that sets `begun` when a byte has come, and that fails once it was polled as often as it may be.
+/// What a client is sent that has to leave, where something of its request has come (RFC 9110, section 15.5.9).
+const REQUEST_TIMEOUT: &[u8] =
+    b"HTTP/1.1 408 Request Timeout\r\nconnection: close\r\ncontent-length: 0\r\n\r\n";
+
+/// A reader and writer that tells the course of a connection what comes, and that fails once the connection has to
+/// leave, or once it was polled as often as it may be.
 #[derive(Drop)]
 pub struct Watched<I> {
     io: I,
     turns: u64,
-    begun: Rc<Cell<bool>>,
+    course: Arc<Course>,
 }
 
 /// A timer whose clock can't be read until a byte has come, so that the time of a head begins then.
 #[derive(Drop)]
 pub struct HeadTimer<T> {
     timer: T,
-    begun: Rc<Cell<bool>>,
+    course: Arc<Course>,
 }
 
 impl<I> Watched<I> {
     /// Each poll of a read, a write, a flush or a shutdown is a turn.
-    pub fn new(io: I, turns: u64, begun: Rc<Cell<bool>>) -> Watched<I>
+    pub fn new(io: I, turns: u64, course: Arc<Course>) -> Watched<I>
         ensures { IsOver turns io result }
     {
         let turns = turns.min(TURN_LIMIT);
-        Watched { io, turns, begun }
+        Watched { io, turns, course }
     }
 
     fn take_turn(&mut self) -> io::Result<()>
@@ -55,8 +61,8 @@ impl<I> Watched<I> {
     }
 }
 
-impl<I: AsyncRead> AsyncRead for Watched<I> {
-    ghost needs = { λ w. I.needs w.io };
+impl<I: AsyncRead + AsyncWrite> AsyncRead for Watched<I> {
+    ghost needs = { λ w. I.AsyncRead.needs w.io };
 
     ghost reads = { Costs I.reads };
 
@@ -70,11 +76,15 @@ impl<I: AsyncRead> AsyncRead for Watched<I> {
         if let Err(error) = self.take_turn() {
             return Poll::Ready(Err(error));
         }
+        if self.course.must_leave() {
+            return Poll::Ready(Err(io::Error::from(ErrorKind::TimedOut)));
+        }
+        self.course.wants();
         let polled = self.io.poll_read(cx, buf);
         if let Poll::Ready(Ok(count)) = &polled
             && *count > 0
         {
-            self.begun.set(true);
+            self.course.hears();
         }
         polled
     }
@@ -111,9 +121,22 @@ impl<I: AsyncWrite> AsyncWrite for Watched<I> {
     }
 }
 
+impl<I: AsyncWrite> Watched<I> {
+    /// Tells the client that it was too slow, where it has to leave and the head of its request is unfinished. (Where
+    /// the head has come, the service has answered.)
+    pub fn tell_late(&mut self, cx: &mut Context<'_>)
+        ensures { Keeps cx.old cx.new }
+    {
+        if self.course.must_leave() && self.course.is_at(Stage::Head) {
+            // Little enough for a socket to take it at once; where it doesn't, the connection ends without it.
+            let _ = self.io.poll_write(cx, REQUEST_TIMEOUT);
+        }
+    }
+}
+
 impl<T> HeadTimer<T> {
-    pub fn new(timer: T, begun: Rc<Cell<bool>>) -> HeadTimer<T> {
-        HeadTimer { timer, begun }
+    pub fn new(timer: T, course: Arc<Course>) -> HeadTimer<T> {
+        HeadTimer { timer, course }
     }
 }
 
@@ -121,14 +144,14 @@ impl<T: Clone> Clone for HeadTimer<T> {
     ghost is_clone = { λ _ _. ⊤ };
 
     fn clone(&self) -> Result<HeadTimer<T>, AllocError> {
-        let begun = self.begun.clone()?;
-        Ok(HeadTimer::new(self.timer.clone()?, begun))
+        let course = Arc::try_clone(&self.course)?;
+        Ok(HeadTimer::new(self.timer.clone()?, course))
     }
 }
 
 impl<T: Timer> Timer for HeadTimer<T> {
     fn now(&self) -> Option<Instant> {
-        if self.begun.get() {
+        if self.course.is_at(Stage::Head) {
             self.timer.now()
         } else {
             None

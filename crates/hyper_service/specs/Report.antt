@@ -25,9 +25,10 @@ refusal_line (refusal.Mismatch number kept) = codes "error: history mismatch\n"
 refusal_line refusal.OutOfMemory = error_line out_of_memory
 
 -- Why no more connections were accepted is reported, as far as standard error takes the line (1), unless as many as
--- were wanted were served (0).
+-- were wanted were served or the end was asked for (0).
 abbrev pub ReportsEnd : {E : Type 0} → (E → Option (List ℕ)) → End → E → E → ℕ → Type 0
 ReportsEnd holds end.AllServed err err' status = (status ≡ 0) × (err' ≡ err)
+ReportsEnd holds end.Asked err err' status = (status ≡ 0) × (err' ≡ err)
 ReportsEnd holds end.AcceptFailed err err' status =
     (status ≡ 1) × AppendsFront (holds err) (holds err') (codes "error: accept failed\n")
 ReportsEnd holds end.OutOfMemory err err' status =

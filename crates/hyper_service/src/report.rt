@@ -51,7 +51,7 @@ fn report_end<E: Write>(end: End, err: &mut E) -> u8
     ensures status { result ≤ 1 }
 {
     match end {
-        End::AllServed => return SUCCESS,
+        End::AllServed | End::Asked => return SUCCESS,
         End::AcceptFailed => report_line("error: accept failed\n", err),
         End::OutOfMemory => CommandError::from(ErrorCode::OutOfMemory).report(err),
     }

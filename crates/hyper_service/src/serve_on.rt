@@ -4,6 +4,7 @@ ghost use Rattle.hyper_service.specs.Report.{Announces, IsSettling, ReportsServe
 ghost use Rattle.shared_book.specs.Held.{Held};
 
 use crate::log::Log;
+use crate::renders::Renders;
 use crate::report::report;
 use crate::site_answers::SiteAnswers;
 use answering::clock::Clock;
@@ -11,7 +12,8 @@ use command_output::error::CommandError;
 use command_output::output::put;
 use command_output::status::FAILURE;
 use error_code::error_code::ErrorCode;
-use http_connections::serve_on::{End, Served, serve_all};
+use http_connections::ender::Ender;
+use http_connections::serve_on::{End, Served, Workers, serve_all};
 use http_connections::settings::Settings;
 use proxy_client::forwards::Forwards;
 use shared_book::gate::Gate;
@@ -23,19 +25,22 @@ use shared_book::shared_book::SharedBook;
 use std::alloc::{AllocError, AllocGlobal, Global};
 use std::io;
 use std::io::Write;
+use std::net::TcpListener;
 use std::random::RandomSource;
 use std::sync::{Arc, Wait};
-use tokio::net::TcpListener;
 use tokio::runtime::LocalRuntime;
 
 /// Serves the connections of a listener, as many as are wanted, each with a seat of its own, and settles once all have
-/// ended. Writes where it listens before it accepts the first, how many events were settled, and an error to `err`.
+/// ended. It is served on the threads of `workers`, and ends, too, when `ender` is asked. Writes where it listens before
+/// it accepts the first, how many events were settled, and an error to `err`.
 /// Gives the exit status.
-pub fn serve_on<R, L, G, C, F, N, O, E>(
+pub fn serve_on<R, L, G, C, F, V, N, W, O, E>(
     rt: R,
     runtime: &mut LocalRuntime,
     listener: TcpListener,
-    answers: SiteAnswers<L, G, C, F, N>,
+    workers: &W,
+    ender: &Arc<Ender>,
+    answers: SiteAnswers<L, G, C, F, V, N>,
     seat: Seat<L>,
     settings: Settings,
     out: &mut O,
@@ -47,7 +52,9 @@ where
     G: Gate + Drop,
     C: Clock + Drop,
     F: Forwards,
+    V: Renders,
     N: Log + Drop,
+    W: Workers<R, SiteAnswers<L, G, C, F, V, N>>,
     O: Write,
     E: Write,
     ensures written { ReportsServed O.contents E.contents L.origin L.parts L.book
@@ -57,7 +64,9 @@ where
     if announce(rt.alloc(), &listener, out).is_err() {
         return FAILURE;
     }
-    match serve_site(rt, runtime, listener, answers, seat, settings) {
+    match serve_site(
+        rt, runtime, listener, workers, ender, answers, seat, settings,
+    ) {
         Ok((settled, end)) => report(settled, end, out, err),
         Err(_error) => {
             CommandError::from(ErrorCode::OutOfMemory).report(err);
@@ -77,11 +86,13 @@ fn announce<O: Write>(alloc: Global, listener: &TcpListener, out: &mut O) -> io:
 }
 
 // How many events were settled, or why not, and why no more connections were accepted.
-fn serve_site<R, L, G, C, F, N>(
+fn serve_site<R, L, G, C, F, V, N, W>(
     rt: R,
     runtime: &mut LocalRuntime,
     listener: TcpListener,
-    answers: SiteAnswers<L, G, C, F, N>,
+    workers: &W,
+    ender: &Arc<Ender>,
+    answers: SiteAnswers<L, G, C, F, V, N>,
     seat: Seat<L>,
     settings: Settings,
 ) -> Result<(Result<u64, SettleRefusal>, End), AllocError>
@@ -91,13 +102,17 @@ where
     G: Gate + Drop,
     C: Clock + Drop,
     F: Forwards,
+    V: Renders,
     N: Log + Drop,
+    W: Workers<R, SiteAnswers<L, G, C, F, V, N>>,
     ensures { IfOk result (λ served. (seats : List Held) × IsSettling L.origin L.parts L.book seats served.0) }
 {
     let book = answers.book()?;
     let turns = answers.turns();
     let answers = Arc::new(rt.alloc(), answers)?;
-    let Served { seats, end } = serve_all(rt, runtime, listener, &answers, seat, settings, turns)?;
+    let Served { seats, end } = serve_all(
+        rt, runtime, listener, workers, ender, &answers, seat, settings, turns,
+    )?;
     Ok((events(&rt, rt.alloc(), book, seats), end))
 }
 

@@ -1,3 +1,4 @@
 pub mod CommandLine
+pub mod Descriptors
 pub mod Inner
 pub mod Served

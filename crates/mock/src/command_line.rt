@@ -23,7 +23,7 @@ use saved_mappings::file_writer::FileWriter;
 use saved_mappings::save::save;
 use std::alloc::{AllocError, AllocGlobal, Global};
 use std::io::{Read, Write};
-use std::net::Net;
+use std::net::{Net, TcpListener, TcpStream};
 use std::random::RandomSource;
 use std::sync::Wait;
 use std::thread::Threads;
@@ -45,7 +45,7 @@ pub fn run<R, O, E, W, I>(
 where
     R: Threads
         + Wait
-        + Net
+        + Net<Listener = TcpListener, Stream = TcpStream>
         + Clock
         + RandomSource
         + AllocGlobal
@@ -54,6 +54,7 @@ where
         + Copy
         + Drop
         + Send
+        + Sync
         + 'static,
     O: Write,
     E: Write,
@@ -171,7 +172,7 @@ fn run_own<R, O, E, W, I>(rt: R, arguments: &[String], out: &mut O, err: &mut E,
 where
     R: Threads
         + Wait
-        + Net
+        + Net<Listener = TcpListener, Stream = TcpStream>
         + Clock
         + RandomSource
         + AllocGlobal
@@ -180,6 +181,7 @@ where
         + Copy
         + Drop
         + Send
+        + Sync
         + 'static,
     O: Write,
     E: Write,
@@ -197,7 +199,7 @@ fn run_words<R, O, E, W, I>(rt: R, words: &[&str], out: &mut O, err: &mut E, log
 where
     R: Threads
         + Wait
-        + Net
+        + Net<Listener = TcpListener, Stream = TcpStream>
         + Clock
         + RandomSource
         + AllocGlobal
@@ -206,6 +208,7 @@ where
         + Copy
         + Drop
         + Send
+        + Sync
         + 'static,
     O: Write,
     E: Write,
@@ -224,7 +227,7 @@ fn run_call<R, O, E, W, I>(rt: R, call: Call<'_>, out: &mut O, err: &mut E, log:
 where
     R: Threads
         + Wait
-        + Net
+        + Net<Listener = TcpListener, Stream = TcpStream>
         + Clock
         + RandomSource
         + AllocGlobal
@@ -233,6 +236,7 @@ where
         + Copy
         + Drop
         + Send
+        + Sync
         + 'static,
     O: Write,
     E: Write,
@@ -259,7 +263,7 @@ fn serve_until<R, O, E, W, I>(
 where
     R: Threads
         + Wait
-        + Net
+        + Net<Listener = TcpListener, Stream = TcpStream>
         + Clock
         + RandomSource
         + AllocGlobal
@@ -268,6 +272,7 @@ where
         + Copy
         + Drop
         + Send
+        + Sync
         + 'static,
     O: Write,
     E: Write,

@@ -4,9 +4,11 @@
 
 mod arguments;
 mod command_line;
+mod descriptors;
 mod record;
 mod serve;
 mod server_log;
+mod serving_threads;
 mod streams;
 mod watch;
 

@@ -16,7 +16,7 @@ use saved_mappings::recorded::{RecordError, Recorded};
 use saved_mappings::start::recording_start;
 use std::alloc::{AllocError, AllocGlobal, Global};
 use std::io::{Read, Write};
-use std::net::Net;
+use std::net::{Net, TcpListener, TcpStream};
 use std::random::RandomSource;
 use std::sync::{Arc, Wait};
 use std::thread::Threads;
@@ -36,7 +36,7 @@ pub(crate) fn record<R, O, E, W, I>(
 where
     R: Threads
         + Wait
-        + Net
+        + Net<Listener = TcpListener, Stream = TcpStream>
         + Clock
         + RandomSource
         + AllocGlobal
@@ -45,6 +45,7 @@ where
         + Copy
         + Drop
         + Send
+        + Sync
         + 'static,
     O: Write,
     E: Write,

@@ -7,7 +7,9 @@ ghost use Rattle.served_book.specs.Served.{IsServedBook};
 ghost use Rattle.shared_history.specs.Entries.{opening};
 
 use crate::arguments::ServeArguments;
+use crate::descriptors::open_connections;
 use crate::server_log::ServerLog;
+use crate::serving_threads::{MockAnswers, ServingThreads};
 use crate::watch::Watch;
 use answering::clock::SystemClock;
 use answering::site::Site;
@@ -19,6 +21,7 @@ use error_code::error_code::ErrorCode;
 use http_connections::ender::Ender;
 use http_connections::settings::Settings;
 use hyper_service::journal_limit::JournalLimit;
+use hyper_service::renderer::Renderer;
 use hyper_service::serve_on::serve_on;
 use hyper_service::site_answers::SiteAnswers;
 use proxy_client::client::{Client, SILENCE_SECONDS};
@@ -39,7 +42,7 @@ use std::alloc::{AllocError, AllocGlobal, Global};
 use std::io;
 use std::io::{ErrorKind, Read, Write};
 use std::marker::Brand;
-use std::net::{IpAddr, Net, SocketAddr};
+use std::net::{IpAddr, Net, SocketAddr, TcpListener, TcpStream};
 use std::random::RandomSource;
 use std::sync::ledger::Blank;
 use std::sync::{Arc, Wait};
@@ -47,7 +50,6 @@ use std::thread::Threads;
 use std::time::{Clock, Duration};
 use stub_book::book::Book;
 use stub_response::limits::Limits;
-use tokio::net::TcpListener;
 use tokio::runtime::LocalRuntime;
 
 // Into how many parts the ledger is cut: as many connections may be open at once, less one.
@@ -81,7 +83,7 @@ pub(crate) fn serve<R, O, E, W, I>(
 where
     R: Threads
         + Wait
-        + Net
+        + Net<Listener = TcpListener, Stream = TcpStream>
         + Clock
         + RandomSource
         + AllocGlobal
@@ -90,6 +92,7 @@ where
         + Copy
         + Drop
         + Send
+        + Sync
         + 'static,
     O: Write,
     E: Write,
@@ -110,18 +113,26 @@ where
     let Some(book) = book_of(rt.alloc(), &rt, given, err) else {
         return FAILURE;
     };
+    let Ok(ender) = ender_of(rt.alloc()) else {
+        return out_of_memory(err);
+    };
     match log_to(rt, arguments, log) {
         Ok((lines, log)) => {
             let blank = Blank::new(PARTS);
             let opened = open_history(&rt, &book);
             let status = serve_book::<Brand, R, O, E, I>(
-                rt, blank, PARTS, opened, book, arguments, plan, log, out, err,
+                rt, blank, PARTS, opened, book, arguments, plan, log, &ender, out, err,
             );
             lines.close(&rt, Duration::from_secs(LOG_SECONDS));
             status
         }
         Err(_error) => out_of_memory(err),
     }
+}
+
+// What ends the server once it is asked to.
+fn ender_of(alloc: Global) -> Result<Arc<Ender>, AllocError> {
+    Ok(Arc::new(alloc, Ender::new(alloc)?)?)
 }
 
 // The lines that a thread writes to `out`, and what tells of requests by them.
@@ -153,14 +164,15 @@ fn serve_book<L, R, O, E, I>(
     arguments: ServeArguments<'_>,
     plan: Plan<I>,
     log: RequestLog,
+    ender: &Arc<Ender>,
     out: &mut O,
     err: &mut E,
 ) -> u8
 where
-    L: Origin,
+    L: Origin + Send + Sync,
     R: Threads
         + Wait
-        + Net
+        + Net<Listener = TcpListener, Stream = TcpStream>
         + Clock
         + RandomSource
         + AllocGlobal
@@ -168,6 +180,7 @@ where
         + Copy
         + Drop
         + Send
+        + Sync
         + 'static,
     O: Write,
     E: Write,
@@ -183,7 +196,9 @@ where
     ensures status { result ≤ 1 }
 {
     match SharedBook::<L>::new(rt.alloc(), blank, parts, opened, book) {
-        Ok((book, seat)) => serve_shared(rt, book, seat, arguments, plan, log, out, err),
+        Ok((book, seat)) => serve_shared(
+            rt, book, seat, arguments, plan, log, ender, out, err,
+        ),
         Err(_error) => out_of_memory(err),
     }
 }
@@ -195,14 +210,15 @@ fn serve_shared<L, R, O, E, I>(
     arguments: ServeArguments<'_>,
     plan: Plan<I>,
     log: RequestLog,
+    ender: &Arc<Ender>,
     out: &mut O,
     err: &mut E,
 ) -> u8
 where
-    L: Origin,
+    L: Origin + Send + Sync,
     R: Threads
         + Wait
-        + Net
+        + Net<Listener = TcpListener, Stream = TcpStream>
         + Clock
         + RandomSource
         + AllocGlobal
@@ -210,6 +226,7 @@ where
         + Copy
         + Drop
         + Send
+        + Sync
         + 'static,
     O: Write,
     E: Write,
@@ -226,7 +243,7 @@ where
     }
     match listen(rt, arguments.address, arguments.port) {
         Ok(listening) => serve_listening(
-            rt, listening, book, seat, arguments, watch, log, out, err,
+            rt, listening, book, seat, arguments, watch, log, ender, out, err,
         ),
         Err(error) => report(rt.alloc(), arguments, &error, err),
     }
@@ -240,14 +257,15 @@ fn serve_listening<L, R, O, E, I>(
     arguments: ServeArguments<'_>,
     watch: Watch<I>,
     log: RequestLog,
+    ender: &Arc<Ender>,
     out: &mut O,
     err: &mut E,
 ) -> u8
 where
-    L: Origin,
+    L: Origin + Send + Sync,
     R: Threads
         + Wait
-        + Net
+        + Net<Listener = TcpListener, Stream = TcpStream>
         + Clock
         + RandomSource
         + AllocGlobal
@@ -255,6 +273,7 @@ where
         + Copy
         + Drop
         + Send
+        + Sync
         + 'static,
     O: Write,
     E: Write,
@@ -269,24 +288,26 @@ where
     } = listening;
     let settings = Settings {
         connections: arguments.connections,
-        max_connections: arguments.max_connections,
+        max_connections: open_connections(arguments.max_connections, arguments.threads, err),
     };
     let Ok(log) = ServerLog::new(log, &book) else {
         return out_of_memory(err);
     };
-    let ender = match watched(rt, &listener, watch) {
-        Ok(ender) => ender,
-        Err(error) => return report_watch(rt.alloc(), &error, err),
-    };
+    if let Err(error) = start_watch(rt, &listener, watch, ender) {
+        return report_watch(rt.alloc(), &error, err);
+    }
     match answers_of(rt, book, forwarder, arguments, log) {
         Ok(answers) => serve_on(
             rt,
             &mut runtime,
             listener,
+            &ServingThreads {
+                count: arguments.threads,
+            },
+            ender,
             answers,
             seat,
             settings,
-            &ender,
             out,
             err,
         ),
@@ -294,8 +315,13 @@ where
     }
 }
 
-// What ends the server, if something does.
-fn watched<R, I>(rt: R, listener: &TcpListener, watch: Watch<I>) -> io::Result<Arc<Ender>>
+// From now on the server may be ended with the input.
+fn start_watch<R, I>(
+    rt: R,
+    listener: &TcpListener,
+    watch: Watch<I>,
+    ender: &Arc<Ender>,
+) -> io::Result<()>
 where
     R: Threads
         + Wait
@@ -310,9 +336,7 @@ where
         + 'static,
     I: Read + Drop + Send + 'static,
 {
-    let ender = Arc::new(rt.alloc(), Ender::new(rt.alloc())?)?;
-    watch.start(rt, listener.local_addr()?, Arc::try_clone(&ender)?)?;
-    Ok(ender)
+    watch.start(rt, listener.local_addr()?, Arc::try_clone(ender)?)
 }
 
 // Why nothing can be recorded.
@@ -343,10 +367,10 @@ fn answers_of<L, R>(
     forwarder: Forwarder<R>,
     arguments: ServeArguments<'_>,
     log: ServerLog<L>,
-) -> Result<SiteAnswers<L, NoGate, SystemClock<R>, Forwarder<R>, ServerLog<L>>, AllocError>
+) -> Result<MockAnswers<L, R>, AllocError>
 where
     L: Origin,
-    R: Clock + Net + AllocGlobal + Copy + Drop,
+    R: Threads + Clock + Net + AllocGlobal + Copy + Drop,
     ensures { IfOk result (λ answers. rules_of L.origin L.book answers ≡ record {
       origin = L.origin;
       history = L.book;
@@ -364,8 +388,9 @@ where
         turns: TURN_LIMIT,
     };
     let site = Arc::new(rt.alloc(), site)?;
+    let renderer = Renderer::new(rt)?;
     let journal = JournalLimit::new(arguments.journal_limit);
-    Ok(SiteAnswers::new(site, forwarder, log, journal))
+    Ok(SiteAnswers::new(site, forwarder, renderer, log, journal))
 }
 
 fn out_of_memory<E: Write>(err: &mut E) -> u8
@@ -375,7 +400,7 @@ fn out_of_memory<E: Write>(err: &mut E) -> u8
     FAILURE
 }
 
-// A listener of a runtime, and what forwards requests over it.
+// A listener, the runtime of the calling thread, and what forwards requests.
 #[derive(Drop)]
 struct Listening<R> {
     runtime: LocalRuntime,
@@ -389,10 +414,10 @@ where
 {
     let runtime = LocalRuntime::new(&rt)?;
     let address = SocketAddr::from((address, port));
-    let listener = TcpListener::bind(&rt, address, runtime.handle().reactor())?;
+    // By `mio`, whose sockets let as many connections wait as the system allows.
+    let listener = TcpListener::from(mio::net::TcpListener::bind(&rt, address)?);
     let client = Client::new(rt, TURN_LIMIT, Duration::from_secs(SILENCE_SECONDS))?;
-    let handle = runtime.handle().clone()?;
-    let forwarder = Forwarder::new(client, handle, listener.local_addr()?);
+    let forwarder = Forwarder::new(client, listener.local_addr()?);
     Ok(Listening {
         runtime,
         listener,

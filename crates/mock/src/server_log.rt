@@ -1,5 +1,6 @@
 // What the server tells of its requests.
 use answering::content::Content;
+use answering::rendering::Rendering;
 use bytes::Bytes;
 use http::{Request, Response};
 use hyper_service::log::Log;
@@ -50,6 +51,17 @@ impl<L: Origin> ServerLog<L> {
     }
 }
 
+impl<L: Origin> ServerLog<L> {
+    // Tells of the recording that was stopped. The lock is held while its exchanges are shared.
+    fn tell_skipped<R: Wait>(&self, rt: &R, alloc: Global) {
+        if let Ok(ReadAnswer::Recording(recording)) =
+            self.book.peek(rt, alloc, BookRead::Recording)
+        {
+            self.log.stopped(rt, alloc, &recording);
+        }
+    }
+}
+
 impl<L: Origin> Log for ServerLog<L> {
     fn answered<R: Wait>(
         &self,
@@ -74,6 +86,11 @@ impl<L: Origin> Log for ServerLog<L> {
         };
         self.log
             .answered(rt, alloc, message, event, status, body, offer);
+        if let Some((_number, event)) = event
+            && self.log.tells_skipped(event)
+        {
+            self.tell_skipped(rt, alloc);
+        }
     }
 
     fn forwarded<R: Wait>(
@@ -91,5 +108,16 @@ impl<L: Origin> Log for ServerLog<L> {
         };
         self.log
             .forwarded(rt, alloc, number, request, status, failure);
+    }
+
+    fn rendered<R: Wait>(&self, rt: &R, alloc: Global, rendering: &Rendering, status: u16) {
+        self.log.rendered(
+            rt,
+            alloc,
+            rendering.number,
+            rendering.request.request(),
+            &rendering.captured,
+            status,
+        );
     }
 }

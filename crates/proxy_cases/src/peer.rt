@@ -6,13 +6,13 @@ use std::alloc::{AllocError, Global};
 
 /// What is to be sent.
 pub const SENT: &str =
-    "POST /api/things?x=1&y HTTP/1.1\r\nhost: 127.0.0.1:9000\r\nx-b: 2\r\naccept: text/plain\r\n\
-    x-a: 1\r\ncontent-length: 15\r\n\r\nhello, upstream";
+    "POST /api/things?x=1&y HTTP/1.1\r\nhost: 127.0.0.1:9000\r\nx-mock-forwarded: 1\r\nx-b: 2\r\n\
+    accept: text/plain\r\nx-a: 1\r\ncontent-length: 15\r\n\r\nhello, upstream";
 
 /// A reply whose length is said.
 pub const REPLY: &str =
-    "HTTP/1.1 200 OK\r\nDate: Thu, 26 Nov 2026 18:00:00 GMT\r\nX-B: 2\r\nConnection: close\r\n\
-    Content-Type: text/plain\r\nSet-Cookie: b=1\r\nX-A: 1\r\nSet-Cookie: a=2\r\nContent-Length: 12\r\n\r\n\
+    "HTTP/1.1 200 OK\r\nDate: Thu, 26 Nov 2026 18:00:00 GMT\r\nX-B: 2\r\nConnection: close, x-hop\r\n\
+    X-Hop: 1\r\nContent-Type: text/plain\r\nSet-Cookie: b=1\r\nX-A: 1\r\nSet-Cookie: a=2\r\nContent-Length: 12\r\n\r\n\
     hello, there";
 
 /// The same in chunks.
@@ -37,7 +37,8 @@ pub fn request(alloc: Global) -> Result<Snapshot, AllocError> {
     for (name, value) in [
         ("Host", "mock.test"),
         ("X-B", "2"),
-        ("Connection", "keep-alive"),
+        ("Connection", "keep-alive, X-Hop"),
+        ("X-Hop", "1"),
         ("Accept", "text/plain"),
         ("Accept-Encoding", "gzip"),
         ("Content-Length", "15"),

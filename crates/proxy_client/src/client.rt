@@ -7,6 +7,7 @@ ghost use Rattle.proxy_client.specs.declared.stage.Start.{Start as Begun};
 
 use crate::address::address_of;
 use crate::error::ProxyError;
+use crate::motion::Motion;
 use crate::sent::message_of;
 use crate::stage::{Stage, Start};
 use crate::timed::Timed;
@@ -85,17 +86,17 @@ impl<R: Clock + AllocGlobal + Copy + Drop> Client<R> {
             × (start.turns ≡ self.now.turns)) }
     {
         let alloc = self.rt.alloc();
-        let moved = flag(alloc)?;
+        let motion = still(alloc)?;
         let start = Start {
             alloc,
             builder: self.builder,
             message: message_of(alloc, target, request)?,
             turns: self.turns,
-            moved: moved.clone()?,
+            motion: motion.clone()?,
         };
         let sleep = handle.time().sleep(&self.rt, self.silence)?;
         let stage = Stage::Connecting(connect, Some(start));
-        Ok(Timed::new(self.rt, self.silence, sleep, moved, stage))
+        Ok(Timed::new(self.rt, self.silence, sleep, motion, stage))
     }
 }
 
@@ -124,6 +125,6 @@ impl<R: Clock + Net + AllocGlobal + Copy + Drop> Client<R> {
     }
 }
 
-fn flag(alloc: Global) -> Result<Rc<Cell<bool>>, AllocError> {
-    Ok(Rc::new(alloc, Cell::new(false))?)
+fn still(alloc: Global) -> Result<Rc<Cell<Motion>>, AllocError> {
+    Ok(Rc::new(alloc, Cell::new(Motion::Still))?)
 }

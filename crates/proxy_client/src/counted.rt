@@ -2,6 +2,8 @@
 ghost use Rattle.std.specs.Prelude.{◌≡◌, ◌+◌, min, OnOk, OnErr};
 ghost use Rattle.proxy_client.specs.Turns.{Costs, costs_nothing, costs_in_order};
 
+use crate::interim::InterimReplies;
+use crate::motion::Motion;
 use futures::task::{Context, Poll};
 use std::cell::Cell;
 use std::io;
@@ -12,23 +14,30 @@ use tokio::io::{AsyncRead, AsyncWrite};
 /// The most turns that a loop over the bytes of a connection has.
 pub const TURN_LIMIT: u64 = 100_000_000;
 
-/// A reader and writer that fails once it was polled as often as it may be, and that tells when it has moved a byte.
+/// A reader and writer that fails once it was polled as often as it may be, or has read more interim replies than an
+/// exchange may have; it tells when it has moved a byte, and why it failed.
 #[derive(Drop)]
 pub struct Counted<I> {
     io: I,
     turns: u64,
-    moved: Rc<Cell<bool>>,
+    interim: InterimReplies,
+    motion: Rc<Cell<Motion>>,
 }
 
 impl<I> Counted<I> {
-    /// Each poll of a read, a write, a flush or a shutdown is a turn. Whenever bytes move, `moved` is set.
-    pub fn new(io: I, turns: u64, moved: Rc<Cell<bool>>) -> Counted<I>
+    /// Each poll of a read, a write, a flush or a shutdown is a turn. Whenever bytes move, `motion` is set.
+    pub fn new(io: I, turns: u64, motion: Rc<Cell<Motion>>) -> Counted<I>
         ensures turns { result.turns ≡ min turns TURN_LIMIT }
         ensures io { result.io ≡ io }
-        ensures moved { result.moved ≡ moved }
+        ensures motion { result.motion ≡ motion }
     {
         let turns = turns.min(TURN_LIMIT);
-        Counted { io, turns, moved }
+        Counted {
+            io,
+            turns,
+            interim: InterimReplies::none(),
+            motion,
+        }
     }
 
     fn take_turn(&mut self) -> io::Result<()>
@@ -49,7 +58,23 @@ impl<I> Counted<I> {
         if let Poll::Ready(Ok(count)) = polled
             && *count > 0
         {
-            self.moved.set(true);
+            self.motion.set(Motion::Moved);
+        }
+    }
+
+    // Counts the interim replies in what was read.
+    fn note_read(&mut self, buf: &[u8], polled: &Poll<io::Result<usize>>)
+        ensures io { self.new.io ≡ self.old.io }
+        ensures turns { self.new.turns ≡ self.old.turns }
+    {
+        self.note(polled);
+        if let Poll::Ready(Ok(count)) = polled
+            && let Some(bytes) = buf.get(..*count)
+        {
+            self.interim.take(bytes);
+        }
+        if self.interim.are_too_many() {
+            self.motion.set(Motion::TooManyInterim);
         }
     }
 }
@@ -69,8 +94,11 @@ impl<I: AsyncRead> AsyncRead for Counted<I> {
         if let Err(error) = self.take_turn() {
             return Poll::Ready(Err(error));
         }
+        if self.interim.are_too_many() {
+            return Poll::Ready(Err(io::Error::from(ErrorKind::QuotaExceeded)));
+        }
         let polled = self.io.poll_read(cx, buf);
-        self.note(&polled);
+        self.note_read(buf, &polled);
         polled
     }
 }

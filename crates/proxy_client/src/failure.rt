@@ -5,6 +5,8 @@
 pub enum Failure {
     /// The target is the server that forwards.
     OwnTarget,
+    /// The request has been forwarded as often as a request is.
+    ForwardedTooOften,
     /// The request has a method, a URL or headers that can't be passed on.
     Unsendable,
     /// There is no connection to the target.
@@ -17,6 +19,8 @@ pub enum Failure {
     NotHttp,
     /// The reply's content is in a transfer coding that can't be read.
     OtherCoding,
+    /// There were more interim replies than an exchange may have.
+    TooManyInterim,
     /// The head or the content of the reply is over its limit.
     TooLong,
     /// No byte was taken or given for the time that this may take.
@@ -28,6 +32,9 @@ impl Failure {
     pub fn reason(self) -> &'static str {
         match self {
             Failure::OwnTarget => "the target is this server itself",
+            Failure::ForwardedTooOften => {
+                "the request has been forwarded too often, as between servers that forward to one another"
+            }
             Failure::Unsendable =>
                 "the request has a method, a URL or headers that can't be passed on",
             Failure::NotConnected => "there is no connection to the target",
@@ -38,6 +45,7 @@ impl Failure {
             Failure::NotHttp => "what came is no well-formed reply of HTTP/1",
             Failure::OtherCoding =>
                 "the reply's content is in a transfer coding that can't be read",
+            Failure::TooManyInterim => "the target sent too many interim replies",
             Failure::TooLong => "the reply is too long",
             Failure::Silent => "the target took and gave nothing for too long",
         }

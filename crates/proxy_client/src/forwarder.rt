@@ -21,26 +21,20 @@ use std::time::Clock;
 use tokio::net::TcpStream;
 use tokio::runtime::Handle;
 
-/// Forwards requests over connections of a runtime, each request over one of its own.
+/// Forwards requests over connections, each request over one of its own.
 #[derive(Drop)]
 pub struct Forwarder<R> {
     client: Client<R>,
-    handle: Handle,
     own: SocketAddr,
 }
 
 impl<R> Forwarder<R> {
     /// `own` is where the server itself listens: a request that is forwarded there would be forwarded again and again.
-    pub fn new(client: Client<R>, handle: Handle, own: SocketAddr) -> Forwarder<R>
+    pub fn new(client: Client<R>, own: SocketAddr) -> Forwarder<R>
         ensures client { result.client ≡ client }
-        ensures handle { result.handle ≡ handle }
         ensures own { result.own ≡ own }
     {
-        Forwarder {
-            client,
-            handle,
-            own,
-        }
+        Forwarder { client, own }
     }
 }
 
@@ -55,6 +49,7 @@ impl<R: Clock + Net + AllocGlobal + Copy + Drop> Forwards for Forwarder<R> {
 
     fn exchange(
         &self,
+        handle: &Handle,
         target: &Target,
         request: &Snapshot,
     ) -> Result<Exchange<R, Elsewhere, TcpStream>, ProxyError> {
@@ -62,10 +57,9 @@ impl<R: Clock + Net + AllocGlobal + Copy + Drop> Forwards for Forwarder<R> {
         if is_own(address, self.own) {
             return Err(ProxyError::UpstreamFailed(Failure::OwnTarget));
         }
-        let connect = self.client.start(&self.handle, address);
+        let connect = self.client.start(handle, address);
         let elsewhere = Elsewhere::new(connect, self.own);
-        self.client
-            .exchange(&self.handle, elsewhere, target, request)
+        self.client.exchange(handle, elsewhere, target, request)
     }
 }
 

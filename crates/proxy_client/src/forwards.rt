@@ -8,6 +8,7 @@ use futures::Future;
 use mapping_model::reply::Reply;
 use mock_request::snapshot::Snapshot;
 use recorder::target::Target;
+use tokio::runtime::Handle;
 
 /// Forwards requests to their targets.
 pub trait Forwards: Drop {
@@ -23,8 +24,14 @@ pub trait Forwards: Drop {
     /// Requests to that target are forwarded.
     ghost reaches: { Self → List ℕ → Type 0 } = { λ _ _. ⊤ };
 
-    /// The exchange for a request with its target. It is a future that never blocks.
-    fn exchange(&self, target: &Target, request: &Snapshot) -> Result<Self::Exchange, ProxyError>
+    /// The exchange for a request with its target, which the runtime of this handle drives. It is a future that never
+    /// blocks.
+    fn exchange(
+        &self,
+        handle: &Handle,
+        target: &Target,
+        request: &Snapshot,
+    ) -> Result<Self::Exchange, ProxyError>
         ensures can_poll { IfOk result Self.Exchange.can_poll }
         ensures sends { IfOk result (sends target.now request.now) }
         ensures reaches { IfOk result (λ exchange. reaches self.now target.now) }

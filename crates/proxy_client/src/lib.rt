@@ -14,6 +14,8 @@ pub mod failure;
 pub mod forward;
 pub mod forwarder;
 pub mod forwards;
+pub mod interim;
+pub mod motion;
 pub mod reply;
 pub mod scripted_io;
 pub mod sent;

@@ -1,29 +1,39 @@
 // The message that is sent to a target for a request.
-ghost use Rattle.std.specs.Prelude.{◌≡◌, IfOk, None, string_bytes};
+ghost use Rattle.std.specs.Prelude.{◌≡◌, Err, IfOk, None, string_bytes, true};
 ghost use Rattle.http.specs.declared.version.TheConstants.Version.{HTTP_11};
 ghost use Rattle.http_uri.specs.Grammar.{without_fragment};
 ghost use Rattle.http_uri.specs.Uri.{HasParts};
 ghost use Rattle.proxy_client.specs.Messages.{IsForwarded};
+ghost use Rattle.proxy_client.specs.declared.error.ProxyError.TheVariants.{UpstreamFailed};
+ghost use Rattle.proxy_client.specs.declared.failure.Failure.TheVariants.{ForwardedTooOften};
+ghost use Rattle.recorder.specs.ForwardCount.{is_forwarded_too_often};
 
 use crate::error::ProxyError;
+use crate::failure::Failure;
 use bytes::Bytes;
 use http::request::Parts;
 use http::uri::PathAndQuery;
 use http::{HeaderMap, Method, Request, Uri, Version, uri};
 use http_body_util::Full;
 use mock_request::snapshot::Snapshot;
+use recorder::forward_count::is_forwarded_too_often;
 use recorder::forwarding::{forwarded_headers, forwarded_path};
 use recorder::target::Target;
 use std::alloc::Global;
 
-/// The message that is sent to the target for a request.
+/// The message that is sent to the target for a request, unless that was forwarded too often.
 pub fn message_of(
     alloc: Global,
     target: &Target,
     request: &Snapshot,
 ) -> Result<Request<Full<Bytes>>, ProxyError>
-    ensures { IfOk result (IsForwarded target.now request.now) }
+    ensures value { IfOk result (IsForwarded target.now request.now) }
+    ensures often { is_forwarded_too_often request.now.headers ≡ true
+        → result ≡ Err (UpstreamFailed ForwardedTooOften) }
 {
+    if is_forwarded_too_often(request) {
+        return Err(ProxyError::UpstreamFailed(Failure::ForwardedTooOften));
+    }
     let path = forwarded_path(alloc, target, request.url())?;
     let headers = forwarded_headers(alloc, target, request)?;
     let head = head_of(alloc, request.method(), path, headers)?;

@@ -10,6 +10,7 @@ ghost use Rattle.proxy_client.specs.declared.stage.Stage.TheVariants.{Connecting
 use crate::counted::Counted;
 use crate::error::ProxyError;
 use crate::failure::Failure;
+use crate::motion::Motion;
 use crate::talk::{HttpTalk, http_talk};
 use bytes::Bytes;
 use futures::task::{Context, Poll};
@@ -48,7 +49,7 @@ pub struct Start {
     pub builder: Builder,
     pub message: Request<Full<Bytes>>,
     pub turns: u64,
-    pub moved: Rc<Cell<bool>>,
+    pub motion: Rc<Cell<Motion>>,
 }
 
 impl Start {
@@ -61,9 +62,9 @@ impl Start {
             builder,
             message,
             turns,
-            moved,
+            motion,
         } = self;
-        let talk = http_talk(alloc, &builder, Counted::new(io, turns, moved), message)?;
+        let talk = http_talk(alloc, &builder, Counted::new(io, turns, motion), message)?;
         match Box::new(alloc, talk) {
             Ok(talk) => Ok(talk),
             Err(_refused) => Err(ProxyError::OutOfMemory),

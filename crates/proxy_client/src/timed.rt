@@ -5,6 +5,7 @@ ghost use Rattle.futures.specs.Task.{IsArmed, Keeps};
 
 use crate::error::ProxyError;
 use crate::failure::Failure;
+use crate::motion::Motion;
 use futures::task::{Context, Poll};
 use futures::{Future, ready};
 use std::cell::Cell;
@@ -12,12 +13,13 @@ use std::rc::Rc;
 use std::time::{Clock, Duration, Instant};
 use tokio::time::Sleep;
 
-/// A future that fails once no byte has moved for a time. What moves bytes sets `moved`.
+/// A future that fails once no byte has moved for a time, or there were too many interim replies. What moves bytes sets
+/// `motion`.
 pub struct Timed<R, F> {
     clock: R,
     limit: Duration,
     sleep: Sleep,
-    moved: Rc<Cell<bool>>,
+    motion: Rc<Cell<Motion>>,
     inner: F,
 }
 
@@ -28,7 +30,7 @@ impl<R: Drop, F: Drop> Drop for Timed<R, F> {
             clock: _clock,
             limit: _limit,
             sleep: _sleep,
-            moved: _moved,
+            motion: _motion,
             inner: _inner,
         } = self;
     }
@@ -40,20 +42,20 @@ impl<R, F> Timed<R, F> {
         clock: R,
         limit: Duration,
         sleep: Sleep,
-        moved: Rc<Cell<bool>>,
+        motion: Rc<Cell<Motion>>,
         inner: F,
     ) -> Timed<R, F>
         ensures clock { result.clock ≡ clock }
         ensures limit { result.limit ≡ limit }
         ensures sleep { result.sleep ≡ sleep }
-        ensures moved { result.moved ≡ moved }
+        ensures motion { result.motion ≡ motion }
         ensures inner { result.inner ≡ inner }
     {
         Timed {
             clock,
             limit,
             sleep,
-            moved,
+            motion,
             inner,
         }
     }
@@ -63,6 +65,7 @@ impl<R, F, T> Future for Timed<R, F>
 where
     R: Clock + Drop,
     F: Future<Output = Result<T, ProxyError>>,
+    T: Drop,
 {
     type Output = Result<T, ProxyError>;
 
@@ -71,7 +74,11 @@ where
     ghost gives = { λ t result. IfOk result (λ value. F.gives t.inner (Ok value)) };
 
     fn poll(&mut self, cx: &mut Context<'_>) -> Poll<Result<T, ProxyError>> {
-        if let Poll::Ready(output) = self.inner.poll(cx) {
+        let polled = self.inner.poll(cx);
+        if self.motion.get() == Motion::TooManyInterim {
+            return Poll::Ready(Err(ProxyError::UpstreamFailed(Failure::TooManyInterim)));
+        }
+        if let Poll::Ready(output) = polled {
             return Poll::Ready(output);
         }
         ready!(self.poll_silence(cx));
@@ -86,7 +93,7 @@ impl<R: Clock, F> Timed<R, F> {
         ensures kept { Keeps cx.old cx.new }
         ensures same { self.new.inner ≡ self.old.inner }
     {
-        if self.moved.replace(false)
+        if self.motion.replace(Motion::Still) == Motion::Moved
             && let Some(deadline) = self.deadline()
         {
             self.sleep.reset(deadline);

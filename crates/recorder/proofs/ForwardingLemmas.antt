@@ -37,26 +37,28 @@ map_of_more front header =
 
 -- a map that had the headers before this one has it after the next step of the loop
 pub map_with_next
-    : (front headers : List Header) (i : ℕ) (header : Header) → i < length headers
+    : (message front headers : List Header) (i : ℕ) (header : Header) → i < length headers
     → Some header ≡ slice_get headers i
-    → (old new : Entries FieldValue) → old ≡ map_of (front ++ passed_on (take i headers))
-    → new ≡ (if is_left_out_of_request header.name then old else append old header.name (plain_value header.value))
-    → new ≡ map_of (front ++ passed_on (take (i + 1) headers))
-map_with_next front headers i header within here old new before step =
-    let taken : passed_on (take (i + 1) headers) ≡ passed_on (take i headers) ++ passed_on (header ∷ []) =
-    ap passed_on (more_taken headers i header within here)
-    ∙ filter-append (λ (h : Header). not (is_left_out_of_request h.name)) (take i headers) (header ∷ []) in
-    elim (cases_Bool (is_left_out_of_request header.name)) [
+    → (old new : Entries FieldValue) → old ≡ map_of (front ++ passed_on message (take i headers))
+    → new ≡ (if is_left_out_of_request message header.name then old
+    else append old header.name (plain_value header.value))
+    → new ≡ map_of (front ++ passed_on message (take (i + 1) headers))
+map_with_next message front headers i header within here old new before step =
+    let earlier = passed_on message (take i headers) in
+    let left_out = is_left_out_of_request message header.name in
+    let taken : passed_on message (take (i + 1) headers) ≡ earlier ++ passed_on message (header ∷ []) =
+    ap (passed_on message) (more_taken headers i header within here)
+    ∙ filter-append (λ (h : Header). not (is_left_out_of_request message h.name)) (take i headers) (header ∷ []) in
+    elim (cases_Bool left_out) [
       | inl left ↦
-          step ∙ cond-true (is_left_out_of_request header.name) _ _ left ∙ before
-          ∙ ap (λ t. map_of (front ++ t)) (sym (taken ∙ ap (λ t. passed_on (take i headers) ++ t) (rw left refl)
-          ∙ append-nil (passed_on (take i headers))))
+          step ∙ cond-true left_out _ _ left ∙ before
+          ∙ ap (λ t. map_of (front ++ t)) (sym (taken ∙ ap (λ t. earlier ++ t) (rw left refl) ∙ append-nil earlier))
       | inr other ↦
-          step ∙ cond-false (is_left_out_of_request header.name) _ _ other
+          step ∙ cond-false left_out _ _ other
           ∙ ap (λ m. append m header.name (plain_value header.value)) before
-          ∙ sym (map_of_more (front ++ passed_on (take i headers)) header)
-          ∙ ap map_of (append_assoc front (passed_on (take i headers)) (header ∷ [])
-          ∙ ap (λ t. front ++ t) (sym (taken ∙ ap (λ t. passed_on (take i headers) ++ t) (rw other refl))))
+          ∙ sym (map_of_more (front ++ earlier) header)
+          ∙ ap map_of (append_assoc front earlier (header ∷ [])
+          ∙ ap (λ t. front ++ t) (sym (taken ∙ ap (λ t. earlier ++ t) (rw other refl))))
     ]
 
 -- ---- the order of names
@@ -89,7 +91,7 @@ module _ {F : Type 0} {g : Mut F (Bor ReplyHeader × (Bor ReplyHeader × Unit {0
 
 -- ---- a reply
 
-pub relayed_by : (received : List Header) (unsorted sorted : List ReplyHeader) → unsorted ≡ passed_back received
+pub relayed_by : (received : List Header) (unsorted sorted : List ReplyHeader) → unsorted ≡ passed_back received received
     → All IsField unsorted → IsPermutation unsorted sorted
     → IsSortedByKey (λ (header : ReplyHeader). header.name) (slice_cmp nat_cmp) sorted
     → IsStableByKey (λ (header : ReplyHeader). header.name) (slice_cmp nat_cmp) unsorted sorted

@@ -3,5 +3,6 @@ pub mod LastLemmas
 pub mod AuthorityLemmas
 pub mod TargetLemmas
 pub mod KeyLemmas
+pub mod ConnectionLemmas
 pub mod ForwardingLemmas
 pub mod SendableLemmas

@@ -86,14 +86,16 @@ not_sendable front rest header (inr refuses) sendable =
     absurd (omega (arith, full, few, longer))
 
 -- the header at an index is passed on, after those before it
-pub passed_on_at : (headers : List Header) (i : ℕ) (header : Header) → i < length headers
-    → Some header ≡ slice_get headers i → is_left_out_of_request header.name ≡ false
-    → passed_on headers ≡ passed_on (take i headers) ++ header ∷ passed_on (drop (i + 1) headers)
-passed_on_at headers i header within here other =
-    let test : Header → Bool = λ h. not (is_left_out_of_request h.name) in
-    ap passed_on (sym (take-append-drop (i + 1) headers)
+pub passed_on_at : (message headers : List Header) (i : ℕ) (header : Header) → i < length headers
+    → Some header ≡ slice_get headers i → is_left_out_of_request message header.name ≡ false
+    → passed_on message headers
+    ≡ passed_on message (take i headers) ++ header ∷ passed_on message (drop (i + 1) headers)
+passed_on_at message headers i header within here other =
+    let test : Header → Bool = λ h. not (is_left_out_of_request message h.name) in
+    let before = passed_on message (take i headers) in
+    let after = passed_on message (drop (i + 1) headers) in
+    ap (passed_on message) (sym (take-append-drop (i + 1) headers)
     ∙ ap (λ t. t ++ drop (i + 1) headers) (more_taken headers i header within here))
     ∙ filter-append test (take i headers ++ header ∷ []) (drop (i + 1) headers)
-    ∙ ap (λ t. t ++ passed_on (drop (i + 1) headers)) (filter-append test (take i headers) (header ∷ [])
-    ∙ ap (λ t. passed_on (take i headers) ++ t) (rw other refl))
-    ∙ append_assoc (passed_on (take i headers)) (header ∷ []) (passed_on (drop (i + 1) headers))
+    ∙ ap (λ t. t ++ after) (filter-append test (take i headers) (header ∷ []) ∙ ap (λ t. before ++ t) (rw other refl))
+    ∙ append_assoc before (header ∷ []) after

@@ -1,6 +1,6 @@
 -- What is sent to a target for a request, and what is relayed of the reply: the part of an intermediary (RFC 9110,
 -- section 7.6).
-use Rattle.std.specs.Prelude.{ℕ, ◌≤◌, Bool, not, List, [], ◌∷◌, ◌++◌, length, map, All, IsPermutation}
+use Rattle.std.specs.Prelude.{ℕ, ◌≤◌, Bool, not, ◌||◌, List, [], ◌∷◌, ◌++◌, length, map, All, IsPermutation}
 use Rattle.std.specs.Prelude.{codes, bytes_eq, if◌then◌else◌}
 use Rattle.std.specs.Cmp.Lexicographic.{slice_cmp}
 use Rattle.std.specs.List.{filter, list_any}
@@ -11,6 +11,8 @@ use Rattle.http_header.specs.FieldValue.{FieldValue, IsFieldValue, plain_value}
 use Rattle.http_header.specs.HeaderMap.{Entries, append_all}
 use Rattle.mapping_model.specs.declared.reply.ReplyHeader.{ReplyHeader}
 use Rattle.mock_request.specs.Request.{Header, Request}
+use Rattle.recorder.specs.Connection.{is_of_connection}
+use Rattle.recorder.specs.ForwardCount.{count_header, count_name}
 use Rattle.recorder.specs.Target.{scheme, after_scheme, authority_of, target_prefix}
 
 -- ---- the URL
@@ -29,20 +31,16 @@ forwarded_url target url = scheme ++ (target_authority target ++ forwarded_path 
 
 -- ---- headers that aren't passed on
 
--- those of a single connection and its messages' framing (RFC 9110, section 7.6.1; RFC 9112, section 6)
-abbrev pub connection_names : List (List ℕ)
-connection_names =
-    codes "connection" ∷ codes "keep-alive" ∷ codes "proxy-connection" ∷ codes "transfer-encoding" ∷ codes "te"
-    ∷ codes "trailer" ∷ codes "upgrade" ∷ codes "content-length" ∷ []
+-- those of the connection, and of a request `host`, which is that of the target, `accept-encoding`, so that replies
+-- aren't compressed, and the count of forwards, which is set anew
+abbrev pub is_left_out_of_request : List Header → List ℕ → Bool
+is_left_out_of_request message name =
+    list_any (bytes_eq name) (codes "host" ∷ codes "accept-encoding" ∷ count_name ∷ [])
+    || is_of_connection message name
 
--- and of a request: `host`, which is that of the target, and `accept-encoding`, so that replies aren't compressed
-abbrev pub is_left_out_of_request : List ℕ → Bool
-is_left_out_of_request name =
-    list_any (bytes_eq name) (codes "host" ∷ codes "accept-encoding" ∷ connection_names)
-
--- and of a reply: `date`, since it is given again at other times
-abbrev pub is_left_out_of_reply : List ℕ → Bool
-is_left_out_of_reply name = list_any (bytes_eq name) (codes "date" ∷ connection_names)
+-- and of a reply `date`, since it is given again at other times
+abbrev pub is_left_out_of_reply : List Header → List ℕ → Bool
+is_left_out_of_reply message name = bytes_eq name (codes "date") || is_of_connection message name
 
 -- ---- the request
 
@@ -59,13 +57,17 @@ length_headers method [] =
     if expects_content method then record { name = codes "content-length"; value = codes "0" } ∷ [] else []
 length_headers method (b ∷ bs) = []
 
-abbrev pub passed_on : List Header → List Header
-passed_on headers = filter (λ header. not (is_left_out_of_request header.name)) headers
+-- those that this program sets; `host` is the first (RFC 9110, section 7.2)
+abbrev pub own_headers : List ℕ → Request → List Header
+own_headers target request =
+    host_header target ∷ count_header request.headers ∷ length_headers request.method request.body
 
--- `host` is the first (RFC 9110, section 7.2)
+-- of some headers of a message those that are passed on
+abbrev pub passed_on : List Header → List Header → List Header
+passed_on message headers = filter (λ header. not (is_left_out_of_request message header.name)) headers
+
 abbrev pub forwarded_headers : List ℕ → Request → List Header
-forwarded_headers target request =
-    host_header target ∷ (length_headers request.method request.body ++ passed_on request.headers)
+forwarded_headers target request = own_headers target request ++ passed_on request.headers request.headers
 
 -- the headers one after the other in a map
 abbrev pub field_of : Header → List ℕ × FieldValue
@@ -88,8 +90,10 @@ pub record AreSendable (headers : List Header) : Type 0 where
 abbrev pub reply_header : Header → ReplyHeader
 reply_header header = record { name = header.name; value = header.value }
 
-abbrev pub passed_back : List Header → List ReplyHeader
-passed_back headers = map reply_header (filter (λ header. not (is_left_out_of_reply header.name)) headers)
+-- of some headers of a message those that are passed back
+abbrev pub passed_back : List Header → List Header → List ReplyHeader
+passed_back message headers =
+    map reply_header (filter (λ header. not (is_left_out_of_reply message header.name)) headers)
 
 -- its name is in lower case, and its value one that a header may have
 abbrev pub IsField : ReplyHeader → Type 0
@@ -97,7 +101,8 @@ IsField header = IsHeaderName header.name × IsFieldValue header.value
 
 -- the headers of a reply in the order of their names, those of a name in the order in which they were received
 pub record IsRelayed (received : List Header) (relayed : List ReplyHeader) : Type 0 where
-  pub same : IsPermutation (passed_back received) relayed
+  pub same : IsPermutation (passed_back received received) relayed
   pub in_order : IsSortedByKey (λ (header : ReplyHeader). header.name) (slice_cmp nat_cmp) relayed
-  pub stable : IsStableByKey (λ (header : ReplyHeader). header.name) (slice_cmp nat_cmp) (passed_back received) relayed
+  pub stable :
+      IsStableByKey (λ (header : ReplyHeader). header.name) (slice_cmp nat_cmp) (passed_back received received) relayed
   pub fields : All IsField relayed

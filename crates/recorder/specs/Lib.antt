@@ -1,4 +1,6 @@
 pub mod Target
+pub mod Connection
+pub mod ForwardCount
 pub mod Forwarding
 pub mod Recording
 pub mod Key

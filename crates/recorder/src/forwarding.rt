@@ -1,8 +1,7 @@
 // What is sent to a target for a request, and what is relayed of the reply to it.
 ghost use Rattle.std.specs.Prelude.{◌≡◌, ◌≢◌, ◌⊎◌, List, ◌++◌, ◌∷◌, [], All, IsPermutation};
-ghost use Rattle.std.specs.Prelude.{IfOk, OnOk, IsErrOf, false, codes, bytes_eq, if◌then◌else◌, string_bytes};
+ghost use Rattle.std.specs.Prelude.{IfOk, OnOk, IsErrOf, false, codes, if◌then◌else◌, string_bytes};
 ghost use Rattle.std.specs.Cmp.Lexicographic.{slice_cmp};
-ghost use Rattle.std.specs.List.{list_any};
 ghost use Rattle.std.specs.List.Sorted.{IsSortedByKey, IsStableByKey};
 ghost use Rattle.std.specs.Ordering.{nat_cmp};
 ghost use Rattle.http_header.specs.FieldName.{IsHeaderName};
@@ -12,13 +11,17 @@ ghost use Rattle.mapping_model.specs.declared.reply.ReplyHeader.{ReplyHeader as 
 ghost use Rattle.mock_request.specs.Request.{Header, header_of, headers_of};
 ghost use Rattle.recorder.specs.Forwarding.{AreSendable, IsRelayed, expects_content, forwarded_headers, forwarded_path};
 ghost use Rattle.recorder.specs.Forwarding.{forwarded_url, is_left_out_of_reply, is_left_out_of_request};
-ghost use Rattle.recorder.specs.Forwarding.{connection_names, length_headers, map_of, passed_back, IsField};
+ghost use Rattle.recorder.specs.Forwarding.{length_headers, map_of, own_headers, passed_back, IsField};
+ghost use Rattle.recorder.specs.ForwardCount.{count_header, count_name};
 
+use crate::connection::{is_of_reply_connection, is_of_request_connection};
+use crate::forward_count::forward_count;
 use crate::target::Target;
 use http_header::{
     HeaderMap, HeaderMapError, HeaderName, HeaderNameError, HeaderValue, HeaderValueError,
     IntoHeaderName,
 };
+use itoa::Buffer;
 use mapping_model::field_name::FieldName;
 use mapping_model::reply::ReplyHeader;
 use mock_request::snapshot::Snapshot;
@@ -112,15 +115,46 @@ pub fn forwarded_headers(
     ensures unsendable { IsErrOf result ForwardError.Unsendable
         → ¬ (AreSendable (forwarded_headers target.now request.now)) }
 {
-    let mut headers = HeaderMap::new(alloc);
-    push(alloc, &mut headers, "host", target.authority().as_bytes())?;
-    push_length(alloc, &mut headers, request.method(), request.body())?;
+    let mut headers = own_headers(alloc, target, request)?;
     for index in 0..request.header_count() {
         if let Some((name, value)) = request.header(index) {
-            push_passed_on(alloc, &mut headers, name, value)?;
+            push_passed_on(alloc, &mut headers, request, name, value)?;
         }
     }
     Ok(headers)
+}
+
+// The headers that this program sets.
+fn own_headers(
+    alloc: Global,
+    target: &Target,
+    request: &Snapshot,
+) -> Result<HeaderMap, ForwardError>
+    ensures value { IfOk result (λ headers. headers ≡ map_of (own_headers target.now request.now)) }
+    ensures unsendable { IsErrOf result ForwardError.Unsendable
+        → (rest : List Header) → ¬ (AreSendable (own_headers target.now request.now ++ rest)) }
+{
+    let mut headers = HeaderMap::new(alloc);
+    push(alloc, &mut headers, "host", target.authority().as_bytes())?;
+    push_count(alloc, &mut headers, request)?;
+    push_length(alloc, &mut headers, request.method(), request.body())?;
+    Ok(headers)
+}
+
+// Says how often the request has been forwarded, this time as well.
+fn push_count(
+    alloc: Global,
+    headers: &mut HeaderMap,
+    request: &Snapshot,
+) -> Result<(), ForwardError>
+    ensures value { OnOk result (headers.new
+        ≡ append headers.old count_name (plain_value (count_header request.now.headers).value)) }
+    ensures unsendable { IsErrOf result ForwardError.Unsendable
+        → ¬ (IsFieldValue (count_header request.now.headers).value) ⊎ RefusesAppend headers.old count_name }
+{
+    let mut buffer = Buffer::new();
+    let count = buffer.format(forward_count(request) + 1);
+    push(alloc, headers, "x-mock-forwarded", count.as_bytes())
 }
 
 // Says that there is no content where the method leads one to expect some.
@@ -151,16 +185,18 @@ fn expects_content(method: &str) -> bool
 fn push_passed_on(
     alloc: Global,
     headers: &mut HeaderMap,
+    request: &Snapshot,
     name: &str,
     value: &[u8],
 ) -> Result<(), ForwardError>
     requires { IsHeaderName name.now }
-    ensures value { OnOk result (headers.new ≡ (if is_left_out_of_request name.now then headers.old
+    ensures value { OnOk result (headers.new ≡ (if is_left_out_of_request request.now.headers name.now
+        then headers.old
         else append headers.old name.now (plain_value value.now))) }
-    ensures unsendable { IsErrOf result ForwardError.Unsendable → (is_left_out_of_request name.now ≡ false)
+    ensures unsendable { IsErrOf result ForwardError.Unsendable → (is_left_out_of_request request.now.headers name.now ≡ false)
         × (¬ (IsFieldValue value.now) ⊎ RefusesAppend headers.old name.now) }
 {
-    if is_left_out_of_request(name) {
+    if is_left_out_of_request(request, name) {
         return Ok(());
     }
     push(
@@ -186,29 +222,19 @@ fn push<K: IntoHeaderName>(
     Ok(())
 }
 
-fn is_left_out_of_request(name: &str) -> bool
-    ensures { result ≡ is_left_out_of_request name.now }
+fn is_left_out_of_request(request: &Snapshot, name: &str) -> bool
+    ensures { result ≡ is_left_out_of_request request.now.headers name.now }
 {
-    name == "host" || name == "accept-encoding" || is_of_connection(name)
+    name == "host"
+        || name == "accept-encoding"
+        || name == "x-mock-forwarded"
+        || is_of_request_connection(request, name)
 }
 
-fn is_left_out_of_reply(name: &str) -> bool
-    ensures { result ≡ is_left_out_of_reply name.now }
+fn is_left_out_of_reply(received: &HeaderMap, name: &str) -> bool
+    ensures { result ≡ is_left_out_of_reply (headers_of (pairs received.now)) name.now }
 {
-    name == "date" || is_of_connection(name)
-}
-
-fn is_of_connection(name: &str) -> bool
-    ensures { result ≡ list_any (bytes_eq name.now) connection_names }
-{
-    name == "connection"
-        || name == "keep-alive"
-        || name == "proxy-connection"
-        || name == "transfer-encoding"
-        || name == "te"
-        || name == "trailer"
-        || name == "upgrade"
-        || name == "content-length"
+    name == "date" || is_of_reply_connection(received, name)
 }
 
 /// The headers of a reply that are relayed and recorded.
@@ -220,7 +246,7 @@ pub fn relayed_headers(
 {
     let mut relayed = Vec::new(alloc);
     for (name, value) in received.iter() {
-        push_relayed(alloc, &mut relayed, name, value)?;
+        push_relayed(alloc, &mut relayed, received, name, value)?;
     }
     sort(&mut relayed)?;
     Ok(Items::from(relayed))
@@ -230,14 +256,15 @@ pub fn relayed_headers(
 fn push_relayed(
     alloc: Global,
     relayed: &mut Vec<ReplyHeader>,
+    received: &HeaderMap,
     name: &HeaderName,
     value: &HeaderValue,
 ) -> Result<(), AllocError>
     ensures pushed { OnOk result (relayed.new.items
-        ≡ relayed.old.items ++ passed_back (header_of (name.now, value.now) ∷ [])) }
+        ≡ relayed.old.items ++ passed_back (headers_of (pairs received.now)) (header_of (name.now, value.now) ∷ [])) }
     ensures fields { OnOk result (All IsField relayed.old.items → All IsField relayed.new.items) }
 {
-    if !is_left_out_of_reply(name.as_str()) {
+    if !is_left_out_of_reply(received, name.as_str()) {
         relayed.push(reply_header(alloc, name, value)?)?;
     }
     Ok(())

@@ -1,8 +1,8 @@
-use Rattle.std.proofs.Common.{◌≡◌, ◌∷◌, ◌++◌, take}
-use Rattle.recorder.specs.Forwarding.{host_header, length_headers, map_of, passed_on}
+use Rattle.std.proofs.Common.{◌≡◌, ◌++◌, take}
+use Rattle.recorder.specs.Forwarding.{map_of, own_headers, passed_on}
 use Rattle.recorder.proofs.forwarding.forwarded_headers.Given as goal
 
 abbrev pub invariant-loop-index : goal.invariant-loop-index
 invariant-loop-index l =
-    l.headers ≡ map_of (host_header l.target
-    ∷ (length_headers l.request.method l.request.body ++ passed_on (take l.index l.request.headers)))
+    l.headers ≡ map_of (own_headers l.target l.request
+    ++ passed_on l.request.headers (take l.index l.request.headers))

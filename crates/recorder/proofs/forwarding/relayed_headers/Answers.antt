@@ -10,8 +10,8 @@ returns c =
     let received = headers_of (pairs c.args.received.now) in
     let unsorted = c.loop-name.relayed.items in
     let ended : c.loop-name.name-iterator ≡ [] = search rules in
-    let whole : unsorted ≡ passed_back received =
-    sym (append-nil unsorted) ∙ ap (λ rest. unsorted ++ passed_back (headers_of rest)) (sym ended)
+    let whole : unsorted ≡ passed_back received received =
+    sym (append-nil unsorted) ∙ ap (λ rest. unsorted ++ passed_back received (headers_of rest)) (sym ended)
     ∙ c.loop-name.invariant.whole in
     subst (IsRelayed received) (sym c.from.ensures)
     (relayed_by received unsorted c.sort.new.headers.items whole c.loop-name.invariant.fields c.sort.ensures.same

@@ -6,7 +6,7 @@ use Rattle.recorder.proofs.forwarding.relayed_headers.Given as goal
 
 abbrev pub invariant-loop-name : goal.invariant-loop-name
 invariant-loop-name l = record {
-  whole : l.relayed.items ++ passed_back (headers_of l.name-iterator)
-      ≡ passed_back (headers_of (pairs l.fn.received));
+  whole : l.relayed.items ++ passed_back (headers_of (pairs l.fn.received)) (headers_of l.name-iterator)
+      ≡ passed_back (headers_of (pairs l.fn.received)) (headers_of (pairs l.fn.received));
   fields : All IsField l.relayed.items;
 }
