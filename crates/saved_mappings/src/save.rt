@@ -101,7 +101,10 @@ fn report_call<E: Write>(alloc: Global, address: &str, error: CallError, err: &m
 fn report_answer<E: Write>(err: &mut E) -> u8
     ensures { result ≡ FAILURE }
 {
-    put_notes(err, "error: the answer of the server is no list of mappings\n");
+    put_notes(
+        err,
+        "error: the answer of the server is no list of mappings\n",
+    );
     FAILURE
 }
 
