@@ -1,4 +1,5 @@
-//! The command line of the program: `mock serve`, `mock record` and `mock save` are done here, each other command by `mock_program`.
+//! The command line of the program: `mock serve`, `mock record` and `mock save` are done here, each other command by
+//! `mock_program`.
 ghost use Rattle.std.specs.Prelude.{◌≡◌, ◌⊎◌, ◌≤◌, map, string_bytes};
 ghost use Rattle.command_output.specs.Output.{Followed, WritesOneStream};
 ghost use Rattle.mock_program.specs.CommandLine.{AreInvalid, Asked, AsksFor, CallsForHelp};

@@ -1,5 +1,5 @@
 // The book that is served.
-ghost use Rattle.std.specs.Prelude.{◌≡◌, ◌≤◌, ◌×◌, [], IfOk, IfSome, Some, length, map, option_copied};
+ghost use Rattle.std.specs.Prelude.{◌≡◌, ◌≤◌, [], IfOk, IfSome, Some, length, map, option_copied};
 ghost use Rattle.request_journal.specs.Live.{live};
 ghost use Rattle.request_journal.specs.Past.{opened};
 ghost use Rattle.request_journal.specs.declared.limits.TheConstants.{LIVE_LIMIT};
