@@ -2,6 +2,7 @@ mod FinishLemmas
 mod ForeignLemmas
 mod HeaderLemmas
 mod MessageLemmas
+pub mod RenderedLemmas
 mod RenderingLemmas
 mod ResultLemmas
 mod ServeLemmas

@@ -8,11 +8,13 @@ use Rattle.http_header.specs.FieldName.{IsHeaderName}
 use Rattle.http_messages.specs.Received.{IsReceived, target_of}
 use Rattle.answering.specs.Answering.{IsNotBegun, IsNotRead, IsReply, IsRequestAnswered, IsUnread, refusal}
 use Rattle.answering.specs.Forwarding.{IsToForward, serve_receipt}
-use Rattle.answering.specs.Inner.Sent.{HasBegun, IsRequestToForward}
+use Rattle.answering.specs.Inner.Sent.{HasBegun, IsRequestToForward, IsRequestToRender}
+use Rattle.answering.specs.Rendering.{IsToRender, rendering_receipt}
 use Rattle.answering.specs.Served.{GainsServe}
 use Rattle.answering.specs.declared.begun.Begun.{Begun}
-use Rattle.answering.specs.declared.begun.Begun.TheVariants.{Answered, ToForward}
+use Rattle.answering.specs.declared.begun.Begun.TheVariants.{Answered, ToForward, ToRender}
 use Rattle.answering.specs.declared.forward.Forward.{Forward}
+use Rattle.answering.specs.declared.rendering.Rendering.{Rendering}
 use Rattle.logbook.specs.Pages.{Book}
 use Rattle.mapping_model.specs.declared.reply.Reply.{Reply}
 use Rattle.mock_request.specs.Request.{Header, Request}
@@ -50,6 +52,21 @@ to_forward origin name old middle new message request forward same received with
   names = subst (λ (r : Request). All (λ (h : Header). IsHeaderName h.name) r.headers) (sym is.1.0) names;
 }
 
+-- what is to be rendered of a request of the message
+to_render
+    : (origin : Past) (name : Book) (limits : Limits) (old middle new : Held) (message : Message (List ℕ))
+    (request : Request) (rendering : Rendering)
+    → middle ≡ old → IsReceived message request → length (body_of message) ≤ BODY_LIMIT
+    → IsRequestToRender origin name limits middle new request rendering
+    → IsToRender origin name limits old new message rendering
+to_render origin name limits old middle new message request rendering same received within is = record {
+  received = subst (IsReceived message) (sym is.1.0) received;
+  within = within;
+  no_admin_call = subst (λ (r : Request). ¬ (IsAdmin r.url)) (sym is.1.0) is.0;
+  served = subst (λ held. GainsServe origin name held new rendering.request (rendering_receipt rendering)) same is.1.2;
+  kept_to = is.1.1;
+}
+
 -- its request begins what the message begins
 pub of_request : {E : Type 0} (origin : Past) (name : Book) (limits : Limits) (escape : Escape) (old middle new : Held)
     (message : Message (List ℕ)) (request : Request) (result : Result Begun E)
@@ -57,10 +74,11 @@ pub of_request : {E : Type 0} (origin : Past) (name : Book) (limits : Limits) (e
     → All (λ (h : Header). IsHeaderName h.name) request.headers
     → MatchResult result
     (HasBegun (IsRequestAnswered origin name limits escape middle new request)
-    (IsRequestToForward origin name middle new request))
+    (IsRequestToForward origin name middle new request) (IsRequestToRender origin name limits middle new request))
     (λ _. (reply : Reply) × IsRequestAnswered origin name limits escape middle new request reply)
     → MatchResult result
-    (HasBegun (IsReply origin name limits escape old new message) (IsToForward origin name old new message))
+    (HasBegun (IsReply origin name limits escape old new message) (IsToForward origin name old new message)
+    (IsToRender origin name limits old new message))
     (λ _. IsNotBegun origin name limits escape old new message)
 of_request origin name limits escape old middle new message request (Ok (Answered response)) same received within
     names is = (
@@ -75,6 +93,8 @@ of_request origin name limits escape old middle new message request (Ok (Answere
     )
 of_request origin name limits escape old middle new message request (Ok (ToForward forward)) same received within
     names is = to_forward origin name old middle new message request forward same received within names is
+of_request origin name limits escape old middle new message request (Ok (ToRender rendering)) same received within
+    names is = to_render origin name limits old middle new message request rendering same received within is
 of_request origin name limits escape old middle new message request (Err error) same received within names is = (
   is.0,
   inr (

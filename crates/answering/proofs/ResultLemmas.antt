@@ -7,8 +7,9 @@ use Rattle.http.specs.declared.response.Response.{Response}
 use Rattle.answering.specs.Inner.Sent.{HasBegun, HasReply}
 use Rattle.answering.specs.Reply.{IsResponseOf}
 use Rattle.answering.specs.declared.begun.Begun.{Begun}
-use Rattle.answering.specs.declared.begun.Begun.TheVariants.{Answered, ToForward}
+use Rattle.answering.specs.declared.begun.Begun.TheVariants.{Answered, ToForward, ToRender}
 use Rattle.answering.specs.declared.forward.Forward.{Forward}
+use Rattle.answering.specs.declared.rendering.Rendering.{Rendering}
 use Rattle.mapping_model.specs.declared.reply.Reply.{Reply}
 
 -- the reply that an answer is, is right
@@ -38,10 +39,12 @@ of_right P reply (Ok response) is h = (reply, is, h)
 of_right P reply (Err error) is h = tt
 
 -- what begins in one sense begins in another
-pub begun_weaker : {E : Type 0} (P Q : Reply → Type 0) (F G : Forward → Type 0) → ((r : Reply) → P r → Q r)
-    → ((f : Forward) → F f → G f) → (result : Result Begun E)
-    → MatchResult result (HasBegun P F) (λ _. (r : Reply) × P r)
-    → MatchResult result (HasBegun Q G) (λ _. (r : Reply) × Q r)
-begun_weaker P Q F G reply to_forward (Ok (Answered response)) h = (h.0, reply h.0 h.1, h.2)
-begun_weaker P Q F G reply to_forward (Ok (ToForward forward)) h = to_forward forward h
-begun_weaker P Q F G reply to_forward (Err error) h = (h.0, reply h.0 h.1)
+pub begun_weaker : {E : Type 0} (P Q : Reply → Type 0) (F G : Forward → Type 0) (R S : Rendering → Type 0)
+    → ((r : Reply) → P r → Q r) → ((f : Forward) → F f → G f) → ((r : Rendering) → R r → S r)
+    → (result : Result Begun E)
+    → MatchResult result (HasBegun P F R) (λ _. (r : Reply) × P r)
+    → MatchResult result (HasBegun Q G S) (λ _. (r : Reply) × Q r)
+begun_weaker P Q F G R S reply to_forward to_render (Ok (Answered response)) h = (h.0, reply h.0 h.1, h.2)
+begun_weaker P Q F G R S reply to_forward to_render (Ok (ToForward forward)) h = to_forward forward h
+begun_weaker P Q F G R S reply to_forward to_render (Ok (ToRender rendering)) h = to_render rendering h
+begun_weaker P Q F G R S reply to_forward to_render (Err error) h = (h.0, reply h.0 h.1)

@@ -8,9 +8,10 @@ use Rattle.http.specs.declared.request.Request.{Request as Message}
 use Rattle.http.specs.declared.response.Response.{Response}
 use Rattle.http_messages.specs.Received.{IsReceived, target_of}
 use Rattle.answering.specs.Forwarding.{IsFinished, IsToForward}
+use Rattle.answering.specs.Rendering.{IsToRender}
 use Rattle.answering.specs.Reply.{IsResponseOf}
 use Rattle.answering.specs.declared.begun.Begun.{Begun}
-use Rattle.answering.specs.declared.begun.Begun.TheVariants.{Answered, ToForward}
+use Rattle.answering.specs.declared.begun.Begun.TheVariants.{Answered, ToForward, ToRender}
 use Rattle.answering.specs.declared.forward.Forward.{Forward}
 use Rattle.logbook.specs.Pages.{Book}
 use Rattle.mapping_model.specs.declared.reply.Reply.{Reply}
@@ -81,11 +82,13 @@ abbrev pub IsNotBegun : Past → Book → Limits → Escape → Held → Held �
 IsNotBegun origin name limits escape old new message =
     (reply : Reply) × IsReply origin name limits escape old new message reply
 
--- what is answered at once, or is to be forwarded
+-- what is answered at once, or is to be forwarded or rendered
 abbrev pub Begins : Past → Book → Limits → Escape → Held → Held → Message (List ℕ) → Begun → Type 0
 Begins origin name limits escape old new message (Answered response) =
     IsBegun origin name limits escape old new message response
 Begins origin name limits escape old new message (ToForward forward) = IsToForward origin name old new message forward
+Begins origin name limits escape old new message (ToRender rendering) =
+    IsToRender origin name limits old new message rendering
 
 -- the message was forwarded after the first of its events, and this is the response to what came of that
 pub record IsAnsweredLater (origin : Past) (name : Book) (old new : Held) (message : Message (List ℕ))

@@ -4,5 +4,6 @@ pub mod Content
 pub mod Foreign
 pub mod Forwarding
 pub mod Inner
+pub mod Rendering
 pub mod Reply
 pub mod Served

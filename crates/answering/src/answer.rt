@@ -8,6 +8,7 @@ use crate::begun::Begun;
 use crate::clock::Clock;
 use crate::content::Content;
 use crate::finish::finish;
+use crate::rendering::rendered_response;
 use crate::site::Site;
 use bytes::Bytes;
 use http::{Request, Response};
@@ -21,7 +22,7 @@ use std::net::Net;
 use std::random::RandomSource;
 use std::sync::Wait;
 
-/// Answers a message: begins, waits for the reply where it is to be forwarded, and finishes. The events that were made
+/// Answers a message: begins, waits for the reply where it is to be forwarded, and finishes; or renders it. The events that were made
 /// before memory ran out stand, and the answer is 503. The error says that there was no memory for that 503 either.
 pub fn answer<L: Origin, R, G: Gate, C: Clock>(
     rt: &R,
@@ -43,6 +44,7 @@ where
             let forwarded = forward(rt, &begun.target, begun.request.request(), site.turns);
             finish(rt, alloc, site, seat, begun, forwarded)
         }
+        Ok(Begun::ToRender(rendering)) => rendered_response(alloc, rendering.reply(alloc)),
         Err(error) => Err(error),
     }
 }

@@ -1,4 +1,4 @@
-// The response to a message, or what is to be forwarded to have one.
+// The response to a message, or what is to be forwarded or rendered to have one.
 ghost use Rattle.std.specs.Prelude.{◌≡◌, IfErr, IfOk};
 ghost use Rattle.http_messages.specs.declared.error.ServiceError.TheVariants.{OutOfMemory as NoMemory};
 ghost use Rattle.answering.specs.Answering.{Begins, IsNotBegun};
@@ -19,8 +19,8 @@ use std::alloc::Global;
 use std::sync::Wait;
 
 /// Answers a message as far as that takes no other server. A request that is no admin call is one serve of the book.
-/// Its response is made after the lock was released; or it is to be forwarded, and `finish` takes what came of that.
-/// Where memory runs out after the serve, that stands, and the answer is 503. The error says that there was no memory
+/// Its response is made after the lock was released; or it is to be forwarded, and `finish` takes what came of that; or
+/// it takes long and is to be rendered, as any thread may do. Where memory runs out after the serve, that stands, and the answer is 503. The error says that there was no memory
 /// for that 503 either.
 pub fn begin<L: Origin, R: Wait, G: Gate, C: Clock>(
     rt: &R,

@@ -1,6 +1,6 @@
 // Requests that were served.
 ghost use Rattle.std.specs.Prelude.{◌≡◌, IfOk};
-ghost use Rattle.answering.specs.Inner.Sent.{HasBegun, IsForwardOf};
+ghost use Rattle.answering.specs.Inner.Sent.{HasBegun, IsForwardOf, IsRenderingOf};
 ghost use Rattle.answering.specs.Reply.{IsResponseOf};
 ghost use Rattle.answering.specs.Served.{IsEventReply};
 ghost use Rattle.stub_book.specs.Growth.{IsServed};
@@ -11,18 +11,21 @@ use crate::clock::Clock;
 use crate::content::Content;
 use crate::forward::Forward;
 use crate::mapping_response::mapping_response;
+use crate::rendering::Rendering;
 use crate::response::response_of;
 use crate::site::Site;
+use crate::slow::is_slow;
 use http::Response;
 use recorder::target::Target;
-use request_journal::event::{Event, ServeAnswer};
+use request_journal::event::{Captured, Event, ServeAnswer};
 use request_journal::shared_request::SharedRequest;
 use shared_book::gate::Gate;
 use shared_book::origin::Origin;
 use std::alloc::{AllocError, Global};
+use stub_response::limits::Limits;
 use stub_response::unmatched_reply::unmatched_reply;
 
-/// The response by the event of the serve, or what is to be forwarded by it.
+/// The response by the event of the serve, or what is to be forwarded or rendered by it.
 pub(crate) fn begin_event<L: Origin, G: Gate, C: Clock>(
     alloc: Global,
     site: &Site<L, G, C>,
@@ -30,7 +33,8 @@ pub(crate) fn begin_event<L: Origin, G: Gate, C: Clock>(
     event: &Event,
 ) -> Result<Begun, AllocError>
     requires { (request : _) × IsServed request event.now }
-    ensures { IfOk result (HasBegun (IsEventReply site.now.limits event.now) (IsForwardOf number event.now)) }
+    ensures { IfOk result (HasBegun (IsEventReply site.now.limits event.now) (IsForwardOf number event.now)
+        (IsRenderingOf site.now.limits number event.now)) }
 {
     let Event::Serve { request, answer } = event else {
         unreachable!()
@@ -39,6 +43,10 @@ pub(crate) fn begin_event<L: Origin, G: Gate, C: Clock>(
         ServeAnswer::Stub(captured) => {
             site.gate.between_choice_and_render(number);
             let spec = &captured.mapping.spec;
+            if is_slow(spec, request.request()) {
+                let rendering = rendering_of(number, request, captured, site.limits)?;
+                return Ok(Begun::ToRender(rendering));
+            }
             let response = mapping_response(alloc, spec, request.request(), site.limits)?;
             Ok(Begun::Answered(response))
         }
@@ -70,6 +78,27 @@ fn forward_of<C: Clock>(
         request: request.try_clone()?,
         target: target.try_clone()?,
         started_ms: clock.now_ms(),
+    })
+}
+
+// What is to be rendered. It shares all of it with the event.
+#[inline(never)]
+fn rendering_of(
+    number: u64,
+    request: &SharedRequest,
+    captured: &Captured,
+    limits: Limits,
+) -> Result<Rendering, AllocError>
+    ensures number { IfOk result (λ rendering. rendering.number ≡ number) }
+    ensures request { IfOk result (λ rendering. rendering.request ≡ request.now) }
+    ensures captured { IfOk result (λ rendering. rendering.captured ≡ captured.now) }
+    ensures limits { IfOk result (λ rendering. rendering.limits ≡ limits) }
+{
+    Ok(Rendering {
+        number,
+        request: request.try_clone()?,
+        captured: captured.try_clone()?,
+        limits,
     })
 }
 

@@ -7,7 +7,8 @@ ghost use Rattle.mock_request.specs.declared.snapshot.TheConstants.{BODY_LIMIT};
 ghost use Rattle.answering.specs.Admin.{IsAdminAnswered};
 ghost use Rattle.answering.specs.Answering.{IsNotBegun, IsReply, IsRequestAnswered, refusal};
 ghost use Rattle.answering.specs.Forwarding.{IsToForward};
-ghost use Rattle.answering.specs.Inner.Sent.{HasBegun, HasReply, IsRequestToForward};
+ghost use Rattle.answering.specs.Inner.Sent.{HasBegun, HasReply, IsRequestToForward, IsRequestToRender};
+ghost use Rattle.answering.specs.Rendering.{IsToRender};
 ghost use Rattle.answering.specs.Reply.{IsResponseOf};
 
 use crate::admin_answer::admin_answer;
@@ -41,7 +42,8 @@ pub(crate) fn begin_message<L: Origin, R: Wait, G: Gate, C: Clock>(
 ) -> Result<Begun, AllocError>
     ensures { MatchResult result
         (HasBegun (IsReply L.origin L.book site.now.limits site.now.escape seat.old seat.new message.now)
-        (IsToForward L.origin L.book seat.old seat.new message.now))
+        (IsToForward L.origin L.book seat.old seat.new message.now)
+        (IsToRender L.origin L.book site.now.limits seat.old seat.new message.now))
         (λ _. IsNotBegun L.origin L.book site.now.limits site.now.escape seat.old seat.new message.now) }
 {
     match request_of(alloc, seat, message) {
@@ -95,7 +97,8 @@ fn begin_request<L: Origin, R: Wait, G: Gate, C: Clock>(
 ) -> Result<Begun, AllocError>
     ensures { MatchResult result
         (HasBegun (IsRequestAnswered L.origin L.book site.now.limits site.now.escape seat.old seat.new request)
-        (IsRequestToForward L.origin L.book seat.old seat.new request))
+        (IsRequestToForward L.origin L.book seat.old seat.new request)
+        (IsRequestToRender L.origin L.book site.now.limits seat.old seat.new request))
         (λ _. (reply : _) × IsRequestAnswered L.origin L.book site.now.limits site.now.escape seat.old
         seat.new request reply) }
 {

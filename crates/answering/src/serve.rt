@@ -1,7 +1,7 @@
 // Requests that are no admin calls.
 ghost use Rattle.std.specs.Prelude.{MatchResult};
 ghost use Rattle.answering.specs.Answering.{IsServeAnswered};
-ghost use Rattle.answering.specs.Inner.Sent.{HasBegun, IsServedToForward};
+ghost use Rattle.answering.specs.Inner.Sent.{HasBegun, IsServedToForward, IsServedToRender};
 
 use crate::begin_event::begin_event;
 use crate::begun::Begun;
@@ -15,7 +15,7 @@ use shared_book::seat::Seat;
 use std::alloc::{AllocError, Global};
 use std::sync::Wait;
 
-/// Serves the request, and gives the response or what is to be forwarded. That is made after the lock was released,
+/// Serves the request, and gives the response or what is to be forwarded or rendered. That is made after the lock was released,
 /// from the event that the receipt has. The error says that there was no memory to write the response.
 pub(crate) fn serve<L: Origin, R: Wait, G: Gate, C: Clock>(
     rt: &R,
@@ -26,7 +26,8 @@ pub(crate) fn serve<L: Origin, R: Wait, G: Gate, C: Clock>(
 ) -> Result<Begun, AllocError>
     ensures { MatchResult result
         (HasBegun (IsServeAnswered L.origin L.book site.now.limits seat.old seat.new request)
-        (IsServedToForward L.origin L.book seat.old seat.new request))
+        (IsServedToForward L.origin L.book seat.old seat.new request)
+        (IsServedToRender L.origin L.book site.now.limits seat.old seat.new request))
         (λ _. (reply : _) × IsServeAnswered L.origin L.book site.now.limits seat.old seat.new request reply) }
 {
     match seat.serve(rt, &site.book, request) {

@@ -1,14 +1,21 @@
--- What a site may answer to a message, at once or after it was forwarded, and what its seat is before and after that.
+-- What a site may answer to a message, at once or after it was forwarded or rendered, and what its seat is before and
+-- after that.
 use Rattle.std.specs.Prelude.{◌≡◌, ◌⊎◌, ℕ, List, IfOk, IsErr, IsSome, Option, Result, Some}
 use Rattle.std.specs.Arc.{arc_value}
+use Rattle.std.specs.declared.alloc.AllocError.{AllocError}
 use Rattle.admin_answers.specs.Answers.{Gains}
 use Rattle.answering.specs.Answering.{IsBegun, IsNotBegun}
 use Rattle.answering.specs.Forwarding.{IsFinished, IsToForward}
+use Rattle.answering.specs.Rendering.{IsRenderedReply, IsToRender}
 use Rattle.answering.specs.declared.forward.Forward.{Forward}
+use Rattle.answering.specs.declared.rendering.Rendering.{Rendering}
 use Rattle.http.specs.declared.request.Request.{Request as Message}
 use Rattle.http.specs.declared.response.Response.{Response}
+use Rattle.hyper_service.specs.declared.forward_exchange.ForwardExchange.{ForwardExchange}
+use Rattle.hyper_service.specs.declared.render_exchange.RenderExchange.{RenderExchange}
 use Rattle.hyper_service.specs.declared.site_answers.SiteAnswers.{SiteAnswers}
 use Rattle.hyper_service.specs.declared.site_exchange.SiteExchange.{SiteExchange}
+use Rattle.hyper_service.specs.declared.site_exchange.SiteExchange.TheVariants as kind
 use Rattle.logbook.specs.Pages.{Book}
 use Rattle.mapping_model.specs.declared.reply.Reply.{Reply}
 use Rattle.mock_request.specs.Request.{Request}
@@ -32,7 +39,7 @@ pub record SiteRules : Type 0 where
   pub journal : Option ℕ
 
 -- those of the site that answers
-abbrev pub rules_of : {L G C F N : Type 0} → Past → Book → SiteAnswers L G C F N → SiteRules
+abbrev pub rules_of : {L G C F V N : Type 0} → Past → Book → SiteAnswers L G C F V N → SiteRules
 rules_of origin name answers =
     record {
       origin = origin;
@@ -56,6 +63,28 @@ module _ (rules : SiteRules) where
     pub middle : Held
     pub begun : IsBegun rules.origin rules.history rules.limits rules.escape old middle message response
     pub kept : IsKept rules.journal rules.origin rules.history middle new
+
+  -- The response was rendered after the call that served the message, and is one that this call may have given at once.
+  -- That call was of the same seat, which need not be as it left it. Now nothing is asked of the book.
+  pub record IsGivenRendered (old new : Held) (message : Message (List ℕ)) (response : Response (List ℕ))
+      : Type 0 where
+    pub first_old : Held
+    pub first_new : Held
+    pub same : first_old.number ≡ old.number
+    pub given : IsGivenAtOnce first_old first_new message response
+    pub unchanged : new ≡ old
+
+  -- The message was served, and the exchange holds what is kept of it: all that this gives is the reply of the version in
+  -- the receipt of that serve.
+  pub record IsRenderedBy {V : Type 0} (rendered : V → Result Reply AllocError → Type 0) (old new : Held)
+      (message : Message (List ℕ)) (exchange : RenderExchange V) : Type 0 where
+    pub rendering : Rendering
+    pub held : exchange.rendering ≡ Some rendering
+    pub middle : Held
+    pub begun : IsToRender rules.origin rules.history rules.limits old middle message rendering
+    pub kept : IsKept rules.journal rules.origin rules.history middle new
+    pub genuine : (given : Result Reply AllocError) → rendered exchange.run given
+        → IfOk given (IsRenderedReply rendering)
 
   -- there is no memory for an answer; or for that to a message that couldn't be forwarded
   abbrev pub IsLeft : Held → Held → Message (List ℕ) → Type 0
@@ -81,7 +110,7 @@ module _ (rules : SiteRules) where
       pub genuine : (forwarded : Result Reply ProxyError) → exchanged exchange forwarded → IfOk forwarded IsSomeReply
 
     -- the message was begun to be forwarded by the exchange, which holds what is kept of it
-    pub record IsForwardedBy (old new : Held) (message : Message (List ℕ)) (exchange : SiteExchange E) : Type 0 where
+    pub record IsForwardedBy (old new : Held) (message : Message (List ℕ)) (exchange : ForwardExchange E) : Type 0 where
       pub forward : Forward
       pub held : exchange.forward ≡ Some forward
       pub middle : Held
@@ -105,7 +134,7 @@ module _ (rules : SiteRules) where
     -- seat, and in what a seat has seen are all entries of its own (`IsIn`). It isn't held meanwhile, so before the
     -- second it need not be as the first left it.
     pub record IsGivenLater (old new : Held) (message : Message (List ℕ)) (response : Response (List ℕ)) : Type 0 where
-      pub exchange : SiteExchange E
+      pub exchange : ForwardExchange E
       pub first_old : Held
       pub first_new : Held
       pub same : first_old.number ≡ old.number
@@ -117,4 +146,11 @@ module _ (rules : SiteRules) where
     abbrev pub IsGiven : Held → Held → Message (List ℕ) → Response (List ℕ) → Type 0
     IsGiven old new message response =
         IsGivenAtOnce old new message response
-        ⊎ (IsGivenWithout old new message response ⊎ IsGivenLater old new message response)
+        ⊎ (IsGivenWithout old new message response
+        ⊎ (IsGivenLater old new message response ⊎ IsGivenRendered old new message response))
+
+    -- the message was begun to be forwarded, or was served and begun to be rendered, by the exchange
+    abbrev pub IsPassedTo : {V : Type 0} → (V → Result Reply AllocError → Type 0) → Held → Held → Message (List ℕ)
+        → SiteExchange E V → Type 0
+    IsPassedTo rendered old new message (kind.Forwarding forwards) = IsForwardedBy old new message forwards
+    IsPassedTo rendered old new message (kind.Rendering renders) = IsRenderedBy rendered old new message renders

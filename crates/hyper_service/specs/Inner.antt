@@ -1,3 +1,5 @@
 -- Words of private clauses.
 pub mod Begins
+pub mod Exchange
 pub mod Failure
+pub mod Started

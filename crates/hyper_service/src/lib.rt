@@ -2,9 +2,13 @@
 //! gathered and where seats lie is `http_connections`'; what the answer to a request is, `answering`'s.
 #![tactic(auto)]
 
+pub mod forward_exchange;
 mod gained;
 pub mod journal_limit;
 pub mod log;
+pub mod render_exchange;
+pub mod renderer;
+pub mod renders;
 mod report;
 pub mod serve_io;
 pub mod serve_on;

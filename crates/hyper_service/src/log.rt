@@ -1,5 +1,6 @@
 // What is told of messages once they are answered.
 use answering::content::Content;
+use answering::rendering::Rendering;
 use bytes::Bytes;
 use http::{Request, Response};
 use mock_request::snapshot::Snapshot;
@@ -32,6 +33,9 @@ pub trait Log {
         status: u16,
         failure: Option<Failure>,
     );
+
+    /// A request whose response was rendered beside the connections was answered with this status.
+    fn rendered<R: Wait>(&self, rt: &R, alloc: Global, rendering: &Rendering, status: u16);
 }
 
 /// Nothing is told.
@@ -57,4 +61,6 @@ impl Log for NoLog {
         _status: u16,
         _failure: Option<Failure>,
     ) {}
+
+    fn rendered<R: Wait>(&self, _rt: &R, _alloc: Global, _rendering: &Rendering, _status: u16) {}
 }

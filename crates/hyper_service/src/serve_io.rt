@@ -1,5 +1,6 @@
 // One connection by itself.
 use crate::log::Log;
+use crate::renders::Renders;
 use crate::site_answers::SiteAnswers;
 use answering::clock::Clock;
 use http_messages::error::ServiceError;
@@ -15,10 +16,10 @@ use tokio::runtime::LocalRuntime;
 
 /// Serves one connection over a reader and writer until it ends, as `serve_on` does each of those that it accepts, and
 /// gives its seat back, however it ends.
-pub fn serve_io<R, L, G, C, F, N, I>(
+pub fn serve_io<R, L, G, C, F, V, N, I>(
     rt: R,
     runtime: &mut LocalRuntime,
-    answers: &Arc<SiteAnswers<L, G, C, F, N>>,
+    answers: &Arc<SiteAnswers<L, G, C, F, V, N>>,
     seat: Seat<L>,
     io: I,
 ) -> (Option<Seat<L>>, Result<(), ServiceError>)
@@ -28,6 +29,7 @@ where
     G: Gate + Drop,
     C: Clock + Drop,
     F: Forwards,
+    V: Renders,
     N: Log + Drop,
     I: AsyncRead + AsyncWrite,
 {

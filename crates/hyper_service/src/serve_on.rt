@@ -4,6 +4,7 @@ ghost use Rattle.hyper_service.specs.Report.{Announces, IsSettling, ReportsServe
 ghost use Rattle.shared_book.specs.Held.{Held};
 
 use crate::log::Log;
+use crate::renders::Renders;
 use crate::report::report;
 use crate::site_answers::SiteAnswers;
 use answering::clock::Clock;
@@ -33,13 +34,13 @@ use tokio::runtime::LocalRuntime;
 /// ended. It is served on the threads of `workers`, and ends, too, when `ender` is asked. Writes where it listens before
 /// it accepts the first, how many events were settled, and an error to `err`.
 /// Gives the exit status.
-pub fn serve_on<R, L, G, C, F, N, W, O, E>(
+pub fn serve_on<R, L, G, C, F, V, N, W, O, E>(
     rt: R,
     runtime: &mut LocalRuntime,
     listener: TcpListener,
     workers: &W,
     ender: &Arc<Ender>,
-    answers: SiteAnswers<L, G, C, F, N>,
+    answers: SiteAnswers<L, G, C, F, V, N>,
     seat: Seat<L>,
     settings: Settings,
     out: &mut O,
@@ -51,8 +52,9 @@ where
     G: Gate + Drop,
     C: Clock + Drop,
     F: Forwards,
+    V: Renders,
     N: Log + Drop,
-    W: Workers<R, SiteAnswers<L, G, C, F, N>>,
+    W: Workers<R, SiteAnswers<L, G, C, F, V, N>>,
     O: Write,
     E: Write,
     ensures written { ReportsServed O.contents E.contents L.origin L.parts L.book
@@ -62,7 +64,9 @@ where
     if announce(rt.alloc(), &listener, out).is_err() {
         return FAILURE;
     }
-    match serve_site(rt, runtime, listener, workers, ender, answers, seat, settings) {
+    match serve_site(
+        rt, runtime, listener, workers, ender, answers, seat, settings,
+    ) {
         Ok((settled, end)) => report(settled, end, out, err),
         Err(_error) => {
             CommandError::from(ErrorCode::OutOfMemory).report(err);
@@ -82,13 +86,13 @@ fn announce<O: Write>(alloc: Global, listener: &TcpListener, out: &mut O) -> io:
 }
 
 // How many events were settled, or why not, and why no more connections were accepted.
-fn serve_site<R, L, G, C, F, N, W>(
+fn serve_site<R, L, G, C, F, V, N, W>(
     rt: R,
     runtime: &mut LocalRuntime,
     listener: TcpListener,
     workers: &W,
     ender: &Arc<Ender>,
-    answers: SiteAnswers<L, G, C, F, N>,
+    answers: SiteAnswers<L, G, C, F, V, N>,
     seat: Seat<L>,
     settings: Settings,
 ) -> Result<(Result<u64, SettleRefusal>, End), AllocError>
@@ -98,8 +102,9 @@ where
     G: Gate + Drop,
     C: Clock + Drop,
     F: Forwards,
+    V: Renders,
     N: Log + Drop,
-    W: Workers<R, SiteAnswers<L, G, C, F, N>>,
+    W: Workers<R, SiteAnswers<L, G, C, F, V, N>>,
     ensures { IfOk result (λ served. (seats : List Held) × IsSettling L.origin L.parts L.book seats served.0) }
 {
     let book = answers.book()?;

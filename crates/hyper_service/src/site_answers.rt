@@ -1,21 +1,26 @@
 // A site answers the requests of connections.
-ghost use Rattle.std.specs.Prelude.{◌≡◌, IfErr, IfOk, Some};
+ghost use Rattle.std.specs.Prelude.{◌≡◌, IfErr, IfOk};
 ghost use Rattle.answering.specs.Forwarding.{IsFinished};
+ghost use Rattle.answering.specs.Rendering.{IsResponseOfRendered};
 ghost use Rattle.http_messages.specs.declared.error.ServiceError.TheVariants.{OutOfMemory as NoMemory};
-ghost use Rattle.hyper_service.specs.Given.{IsForwardedBy, IsGiven, IsLeft, IsSentBy, IsUnanswered};
+ghost use Rattle.hyper_service.specs.Given.{IsGiven, IsLeft, IsPassedTo, IsUnanswered};
 ghost use Rattle.hyper_service.specs.Given.{rules_of};
-ghost use Rattle.hyper_service.specs.Inner.Begins.{Begins, IsForwardBegun};
+ghost use Rattle.hyper_service.specs.Inner.Begins.{Begins, IsForwardBegun, IsForwardingBy, IsRenderBegun, IsRenderingBy};
 ghost use Rattle.hyper_service.specs.Inner.Failure.{IsFailure};
 ghost use Rattle.hyper_service.specs.Seats.{IsJoined, IsSplit};
 ghost use Rattle.shared_book.specs.Seen.{HasMadeNoCall};
 
+use crate::forward_exchange::Forwarded;
 use crate::gained::{gained, last_number};
 use crate::journal_limit::JournalLimit;
 use crate::log::Log;
-use crate::site_exchange::{Forwarded, SiteExchange};
+use crate::render_exchange::Rendered;
+use crate::renders::Renders;
+use crate::site_exchange::{SiteExchange, SiteReply};
 use answering::clock::Clock;
 use answering::content::Content;
 use answering::forward::Forward;
+use answering::rendering::{Rendering, rendered_response};
 use answering::site::Site;
 use bytes::Bytes;
 use http::{Request, Response};
@@ -33,28 +38,37 @@ use std::alloc::{AllocError, Global};
 use std::sync::{Arc, Wait};
 use tokio::runtime::Handle;
 
-/// A site, what forwards its requests, what is told of them, and how long its journal gets: what the connections of a
-/// server are served by.
+/// A site, what forwards its requests, what renders its responses where that takes long, what is told of them, and how
+/// long its journal gets: what the connections of a server are served by.
 #[derive(Drop)]
-pub struct SiteAnswers<L: Origin, G, C, F, N> {
+pub struct SiteAnswers<L: Origin, G, C, F, V, N> {
     site: Arc<Site<L, G, C>>,
     forwarder: F,
+    renderer: V,
     log: N,
     journal: JournalLimit,
 }
 
-impl<L: Origin, G, C, F, N> SiteAnswers<L, G, C, F, N> {
+impl<L: Origin, G, C, F, V, N> SiteAnswers<L, G, C, F, V, N> {
     pub fn new(
         site: Arc<Site<L, G, C>>,
         forwarder: F,
+        renderer: V,
         log: N,
         journal: JournalLimit,
-    ) -> SiteAnswers<L, G, C, F, N>
-        ensures { result ≡ record { site = site; forwarder = forwarder; log = log; journal = journal } }
+    ) -> SiteAnswers<L, G, C, F, V, N>
+        ensures { result ≡ record {
+          site = site;
+          forwarder = forwarder;
+          renderer = renderer;
+          log = log;
+          journal = journal;
+        } }
     {
         SiteAnswers {
             site,
             forwarder,
+            renderer,
             log,
             journal,
         }
@@ -71,19 +85,20 @@ impl<L: Origin, G, C, F, N> SiteAnswers<L, G, C, F, N> {
     }
 }
 
-impl<L, G, C, F, N> Answers for SiteAnswers<L, G, C, F, N>
+impl<L, G, C, F, V, N> Answers for SiteAnswers<L, G, C, F, V, N>
 where
     L: Origin,
     G: Gate + Drop,
     C: Clock + Drop,
     F: Forwards,
+    V: Renders,
     N: Log + Drop,
 {
     type Seat = Seat<L>;
 
-    type Reply = Forwarded;
+    type Reply = SiteReply;
 
-    type Exchange = SiteExchange<F::Exchange>;
+    type Exchange = SiteExchange<F::Exchange, V::Run>;
 
     type Content = Content;
 
@@ -93,7 +108,8 @@ where
         IsGiven (rules_of L.origin L.book answers) (F.reaches answers.forwarder) F.sends F.Exchange.gives };
 
     ghost forwards = { λ answers.
-        IsForwardedBy (rules_of L.origin L.book answers) (F.reaches answers.forwarder) F.sends F.Exchange.gives };
+        IsPassedTo (rules_of L.origin L.book answers) (F.reaches answers.forwarder) F.sends F.Exchange.gives
+        V.Run.gives };
 
     ghost unanswered = { λ answers. IsUnanswered (rules_of L.origin L.book answers) };
 
@@ -114,7 +130,7 @@ where
         handle: &Handle,
         seat: &mut Seat<L>,
         request: &Request<Bytes>,
-    ) -> Result<Begun<SiteExchange<F::Exchange>, Content>, ServiceError> {
+    ) -> Result<Begun<SiteExchange<F::Exchange, V::Run>, Content>, ServiceError> {
         let before = last_number(seat);
         let begun = self.begin_message(rt, alloc, handle, seat, before, request);
         self.journal.keep(rt, &self.site.book, seat, before);
@@ -126,9 +142,12 @@ where
         rt: &R,
         alloc: Global,
         seat: &mut Seat<L>,
-        reply: Forwarded,
+        reply: SiteReply,
     ) -> Result<Response<Content>, ServiceError> {
-        self.finish_forwarded(rt, alloc, seat, reply)
+        match reply {
+            SiteReply::Forwarded(forwarded) => self.finish_forwarded(rt, alloc, seat, forwarded),
+            SiteReply::Rendered(rendered) => self.finish_rendered(rt, alloc, rendered),
+        }
     }
 
     fn split<R: Wait>(&self, rt: &R, seat: &mut Seat<L>) -> Option<Seat<L>> {
@@ -143,15 +162,16 @@ where
     }
 }
 
-impl<L, G, C, F, N> SiteAnswers<L, G, C, F, N>
+impl<L, G, C, F, V, N> SiteAnswers<L, G, C, F, V, N>
 where
     L: Origin,
     G: Gate + Drop,
     C: Clock + Drop,
     F: Forwards,
+    V: Renders,
     N: Log + Drop,
 {
-    // The answer to a request, or the exchange that forwards it. `before` is the number of the seat's last receipt.
+    // The answer to a request, or the exchange that forwards it or renders its response. `before` is the number of the seat's last receipt.
     fn begin_message<R: Wait>(
         &self,
         rt: &R,
@@ -160,9 +180,9 @@ where
         seat: &mut Seat<L>,
         before: Option<u64>,
         request: &Request<Bytes>,
-    ) -> Result<Begun<SiteExchange<F::Exchange>, Content>, ServiceError>
+    ) -> Result<Begun<SiteExchange<F::Exchange, V::Run>, Content>, ServiceError>
         ensures ok { IfOk result (Begins (rules_of L.origin L.book self.now) (F.reaches self.now.forwarder) F.sends
-            F.Exchange.gives F.Exchange.can_poll seat.old seat.new request.now) }
+            F.Exchange.gives F.Exchange.can_poll V.Run.gives V.Run.can_poll seat.old seat.new request.now) }
         ensures err { IfErr result (λ error. (error ≡ NoMemory)
             × IsLeft (rules_of L.origin L.book self.now) seat.old seat.new request.now) }
     {
@@ -175,6 +195,7 @@ where
             answering::begun::Begun::ToForward(forward) => {
                 self.forward(rt, alloc, handle, seat, forward)
             }
+            answering::begun::Begun::ToRender(rendering) => self.render(rt, alloc, rendering),
         }
     }
 
@@ -188,7 +209,7 @@ where
         handle: &Handle,
         seat: &mut Seat<L>,
         forward: Forward,
-    ) -> Result<Begun<SiteExchange<F::Exchange>, Content>, ServiceError>
+    ) -> Result<Begun<SiteExchange<F::Exchange, V::Run>, Content>, ServiceError>
         ensures ok { IfOk result (IsForwardBegun (rules_of L.origin L.book self.now) (F.reaches self.now.forwarder)
             F.sends F.Exchange.gives F.Exchange.can_poll seat.old seat.new forward) }
         ensures err { IfErr result (λ error. (error ≡ NoMemory) × HasMadeNoCall L.origin L.book seat.old seat.new) }
@@ -225,23 +246,73 @@ where
         Ok(response)
     }
 
+    // What renders the response beside the connections; or the response, where there can't be that. Not inlined, as
+    // `forward`.
+    #[inline(never)]
+    fn render<R: Wait>(
+        &self,
+        rt: &R,
+        alloc: Global,
+        rendering: Rendering,
+    ) -> Result<Begun<SiteExchange<F::Exchange, V::Run>, Content>, ServiceError>
+        ensures ok { IfOk result (IsRenderBegun V.Run.gives V.Run.can_poll rendering) }
+        ensures err { IfErr result (λ error. error ≡ NoMemory) }
+    {
+        match self.render_exchange(alloc, rendering) {
+            Ok(exchange) => Ok(Begun::Forwarding(exchange)),
+            Err(rendering) => {
+                let reply = rendering.reply(alloc);
+                let response = self.finish_rendered(rt, alloc, Rendered { rendering, reply })?;
+                Ok(Begun::Answered(response))
+            }
+        }
+    }
+
+    fn finish_rendered<R: Wait>(
+        &self,
+        rt: &R,
+        alloc: Global,
+        rendered: Rendered,
+    ) -> Result<Response<Content>, ServiceError>
+        ensures ok { IfOk result (IsResponseOfRendered rendered.reply) }
+        ensures err { IfErr result (λ error. error ≡ NoMemory) }
+    {
+        let Rendered { rendering, reply } = rendered;
+        let response = rendered_response(alloc, reply)?;
+        self.log
+            .rendered(rt, alloc, &rendering, response.status().as_u16());
+        Ok(response)
+    }
+
+    fn render_exchange(
+        &self,
+        alloc: Global,
+        rendering: Rendering,
+    ) -> Result<Box<SiteExchange<F::Exchange, V::Run>>, Rendering>
+        ensures made { IfOk result (λ made. IsRenderingBy V.Run.gives V.Run.can_poll rendering made.value) }
+        ensures none { IfErr result (λ same. same ≡ rendering) }
+    {
+        match self.renderer.start(&rendering) {
+            Some(run) => SiteExchange::rendering(alloc, rendering, run),
+            None => Err(rendering),
+        }
+    }
+
     fn exchange(
         &self,
         alloc: Global,
         handle: &Handle,
         forward: Forward,
-    ) -> Result<Box<SiteExchange<F::Exchange>>, Forwarded>
-        ensures kept { IfOk result (λ made. made.value.forward ≡ Some forward) }
-        ensures sent { IfOk result (λ made. IsSentBy (rules_of L.origin L.book self.now)
-            (F.reaches self.now.forwarder) F.sends F.Exchange.gives forward made.value.exchange) }
-        ensures can_poll { IfOk result (λ made. F.Exchange.can_poll made.value.exchange) }
+    ) -> Result<Box<SiteExchange<F::Exchange, V::Run>>, Forwarded>
+        ensures made { IfOk result (λ made. IsForwardingBy (rules_of L.origin L.book self.now)
+            (F.reaches self.now.forwarder) F.sends F.Exchange.gives F.Exchange.can_poll forward made.value) }
         ensures none { IfErr result (IsFailure forward) }
     {
         match self
             .forwarder
             .exchange(handle, &forward.target, forward.request.request())
         {
-            Ok(exchange) => SiteExchange::new(alloc, forward, exchange),
+            Ok(exchange) => SiteExchange::forwarding(alloc, forward, exchange),
             Err(error) => Err(Forwarded {
                 forward,
                 reply: Err(error),

@@ -21,6 +21,7 @@ use error_code::error_code::ErrorCode;
 use http_connections::ender::Ender;
 use http_connections::settings::Settings;
 use hyper_service::journal_limit::JournalLimit;
+use hyper_service::renderer::Renderer;
 use hyper_service::serve_on::serve_on;
 use hyper_service::site_answers::SiteAnswers;
 use proxy_client::client::{Client, SILENCE_SECONDS};
@@ -195,9 +196,7 @@ where
     ensures status { result ≤ 1 }
 {
     match SharedBook::<L>::new(rt.alloc(), blank, parts, opened, book) {
-        Ok((book, seat)) => serve_shared(
-            rt, book, seat, arguments, plan, log, ender, out, err,
-        ),
+        Ok((book, seat)) => serve_shared(rt, book, seat, arguments, plan, log, ender, out, err),
         Err(_error) => out_of_memory(err),
     }
 }
@@ -354,7 +353,10 @@ fn report_watch<E: Write>(alloc: Global, error: &io::Error, err: &mut E) -> u8
     ensures { result ≡ FAILURE }
 {
     // The exit status is 1 in any case.
-    let _ = put(err, "error: cannot wait for the end of standard input\n".as_bytes());
+    let _ = put(
+        err,
+        "error: cannot wait for the end of standard input\n".as_bytes(),
+    );
     put_notes(err, reason_line(alloc, error).as_str());
     FAILURE
 }
@@ -369,7 +371,7 @@ fn answers_of<L, R>(
 ) -> Result<MockAnswers<L, R>, AllocError>
 where
     L: Origin,
-    R: Clock + Net + AllocGlobal + Copy + Drop,
+    R: Threads + Clock + Net + AllocGlobal + Copy + Drop,
     ensures { IfOk result (λ answers. rules_of L.origin L.book answers ≡ record {
       origin = L.origin;
       history = L.book;
@@ -387,8 +389,9 @@ where
         turns: TURN_LIMIT,
     };
     let site = Arc::new(rt.alloc(), site)?;
+    let renderer = Renderer::new(rt)?;
     let journal = JournalLimit::new(arguments.journal_limit);
-    Ok(SiteAnswers::new(site, forwarder, log, journal))
+    Ok(SiteAnswers::new(site, forwarder, renderer, log, journal))
 }
 
 fn out_of_memory<E: Write>(err: &mut E) -> u8

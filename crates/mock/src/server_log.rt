@@ -1,5 +1,6 @@
 // What the server tells of its requests.
 use answering::content::Content;
+use answering::rendering::Rendering;
 use bytes::Bytes;
 use http::{Request, Response};
 use hyper_service::log::Log;
@@ -53,8 +54,9 @@ impl<L: Origin> ServerLog<L> {
 impl<L: Origin> ServerLog<L> {
     // Tells of the recording that was stopped. The lock is held while its exchanges are shared.
     fn tell_skipped<R: Wait>(&self, rt: &R, alloc: Global) {
-        if let Ok(ReadAnswer::Recording(recording)) =
-            self.book.peek(rt, alloc, BookRead::Recording)
+        if let Ok(ReadAnswer::Recording(recording)) = self
+            .book
+            .peek(rt, alloc, BookRead::Recording)
         {
             self.log.stopped(rt, alloc, &recording);
         }
@@ -107,5 +109,16 @@ impl<L: Origin> Log for ServerLog<L> {
         };
         self.log
             .forwarded(rt, alloc, number, request, status, failure);
+    }
+
+    fn rendered<R: Wait>(&self, rt: &R, alloc: Global, rendering: &Rendering, status: u16) {
+        self.log.rendered(
+            rt,
+            alloc,
+            rendering.number,
+            rendering.request.request(),
+            &rendering.captured,
+            status,
+        );
     }
 }

@@ -3,6 +3,7 @@ use crate::server_log::ServerLog;
 use answering::clock::SystemClock;
 use http_connections::serve_on::{OneThread, Server, Workers};
 use http_connections::threads::{Job, on_threads};
+use hyper_service::renderer::Renderer;
 use hyper_service::site_answers::SiteAnswers;
 use proxy_client::forwarder::Forwarder;
 use shared_book::gate::NoGate;
@@ -24,18 +25,26 @@ pub struct ServingThreads {
 }
 
 /// What the connections of `mock serve` are served by.
-pub type MockAnswers<L, R> = SiteAnswers<L, NoGate, SystemClock<R>, Forwarder<R>, ServerLog<L>>;
+pub type MockAnswers<L, R> = SiteAnswers<
+    L,
+    NoGate,
+    SystemClock<R>,
+    Forwarder<R>,
+    Renderer<R>,
+    ServerLog<L>,
+>;
 
 // What each thread does.
 #[derive(Drop)]
-struct ServerJob<L: Origin, R: Clock + Net + AllocGlobal + Copy + Drop> {
+struct ServerJob<L: Origin, R: Threads + Clock + Net + AllocGlobal + Copy + Drop> {
     server: Arc<Server<MockAnswers<L, R>>>,
 }
 
 impl<L, R> Job<R> for ServerJob<L, R>
 where
     L: Origin,
-    R: Wait
+    R: Threads
+        + Wait
         + Net<Listener = TcpListener, Stream = TcpStream>
         + Clock
         + RandomSource

@@ -18,7 +18,7 @@ use mapping_json::read::read_mapping_with;
 use mapping_json::read_request::read_request;
 use mock_request::snapshot::Snapshot;
 use recorder::recording::Recording;
-use request_journal::event::{Event, ServeAnswer};
+use request_journal::event::{Captured, Event, ServeAnswer};
 use request_parts::error::RequestMatchError;
 use std::alloc::{AllocError, Global};
 use std::sync::{Arc, Wait};
@@ -136,6 +136,23 @@ impl RequestLog {
         }
     }
 
+    /// Tells of a request whose response was rendered after others had been answered. Its event has this number, and
+    /// captured this mapping.
+    pub fn rendered<R: Wait>(
+        &self,
+        rt: &R,
+        alloc: Global,
+        number: u64,
+        request: &Snapshot,
+        captured: &Captured,
+        status: u16,
+    ) {
+        if self.is_verbose {
+            let lines = rendered_lines(alloc, number, request, captured, status, self.limits);
+            self.add(rt, lines);
+        }
+    }
+
     // The line of a request, and those that say why it was answered so. Where there is no memory for these, the line
     // alone.
     fn lines_of(
@@ -182,6 +199,33 @@ fn forwarded_line(
         "proxied",
         status,
     )
+}
+
+// The line of a request whose response was rendered, and why its templates were not run, if they weren't. Where there is
+// no memory for that, the line alone.
+fn rendered_lines(
+    alloc: Global,
+    number: u64,
+    request: &Snapshot,
+    captured: &Captured,
+    status: u16,
+    limits: Limits,
+) -> Result<String, AllocError> {
+    let method = cut(alloc, request.method(), SHOWN)?;
+    let url = cut(alloc, request.url(), SHOWN)?;
+    let mapping = mapping_text(alloc, captured)?;
+    let mut lines = request_line(
+        alloc,
+        Some(number),
+        method.as_str(),
+        url.as_str(),
+        mapping.as_str(),
+        status,
+    )?;
+    if let Ok(reason) = stub_reason(alloc, request, captured, status, limits) {
+        lines.push_str(reason.as_str())?;
+    }
+    Ok(lines)
 }
 
 // Why a request was forwarded in vain.
@@ -241,12 +285,29 @@ fn reason_of(
     };
     match (answer, offer) {
         (ServeAnswer::Unmatched, Some(offer)) => nearest_lines(alloc, request.request(), offer),
-        (ServeAnswer::Stub(captured), _) if status == OVER_BUDGET => {
-            let mapping = captured.mapping.spec.spec();
-            Ok(over_budget_line(alloc, mapping, request.request(), limits)?)
-        }
+        (ServeAnswer::Stub(captured), _) => Ok(stub_reason(
+            alloc,
+            request.request(),
+            captured,
+            status,
+            limits,
+        )?),
         _ => Ok(String::new(alloc)),
     }
+}
+
+// What is too much, where the templates of a mapping were not run.
+fn stub_reason(
+    alloc: Global,
+    request: &Snapshot,
+    captured: &Captured,
+    status: u16,
+    limits: Limits,
+) -> Result<String, AllocError> {
+    if status != OVER_BUDGET {
+        return Ok(String::new(alloc));
+    }
+    over_budget_line(alloc, captured.mapping.spec.spec(), request, limits)
 }
 
 // By what a request was answered that made this event.
@@ -259,14 +320,17 @@ fn answerer_of(alloc: Global, event: &Event) -> Result<String, AllocError> {
         return String::from_str(alloc, "admin");
     };
     match answer {
-        ServeAnswer::Stub(captured) => {
-            let mut text = String::new(alloc);
-            push_mapping(alloc, &mut text, &captured.mapping)?;
-            Ok(text)
-        }
+        ServeAnswer::Stub(captured) => mapping_text(alloc, captured),
         ServeAnswer::Proxy(_target) => String::from_str(alloc, "proxied"),
         ServeAnswer::Unmatched => String::from_str(alloc, "unmatched"),
     }
+}
+
+// What tells which mapping was captured.
+fn mapping_text(alloc: Global, captured: &Captured) -> Result<String, AllocError> {
+    let mut text = String::new(alloc);
+    push_mapping(alloc, &mut text, &captured.mapping)?;
+    Ok(text)
 }
 
 // Why an admin call was refused, and what there is to say of a document that was posted with it. Not inlined: a

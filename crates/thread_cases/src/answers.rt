@@ -5,6 +5,7 @@ use answering::begin::begin;
 use answering::begun::Begun;
 use answering::clock::Clock;
 use answering::content::Content;
+use answering::rendering::rendered_response;
 use answering::site::Site;
 use http::Response;
 use http_body::Body;
@@ -33,6 +34,12 @@ pub fn answer_to<L: Origin, R: Wait, G: Gate, C: Clock>(
     match begin(rt, alloc, site, seat, &message) {
         Ok(Begun::Answered(response)) => described(&response),
         Ok(Begun::ToForward(_forward)) => Err(AllocError),
+        Ok(Begun::ToRender(rendering)) => {
+            match rendered_response(alloc, rendering.reply(alloc)) {
+                Ok(response) => described(&response),
+                Err(_error) => Err(AllocError),
+            }
+        }
         Err(_error) => Err(AllocError),
     }
 }

@@ -303,7 +303,7 @@ fn answers_of<L: Origin>(
     alloc: Global,
     book: SharedBook<L>,
     turns: u64,
-) -> Result<Arc<SiteAnswers<L, NoGate, NoClock, Nowhere, NoLog>>, AllocError> {
+) -> Result<Arc<SiteAnswers<L, NoGate, NoClock, Nowhere, Nowhere, NoLog>>, AllocError> {
     let site = Site {
         book,
         limits: Limits::usual(),
@@ -315,7 +315,7 @@ fn answers_of<L: Origin>(
     let site = Arc::new(alloc, site)?;
     Ok(Arc::new(
         alloc,
-        SiteAnswers::new(site, Nowhere, NoLog, JournalLimit::new(None)),
+        SiteAnswers::new(site, Nowhere, Nowhere, NoLog, JournalLimit::new(None)),
     )?)
 }
 

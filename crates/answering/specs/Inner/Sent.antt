@@ -1,28 +1,32 @@
--- For private clauses: what a response is, of which no reply was made, and what is to be forwarded.
+-- For private clauses: what a response is, of which no reply was made, and what is to be forwarded or rendered.
 use Rattle.std.specs.Prelude.{◌≡◌, ℕ, List}
 use Rattle.admin_table.specs.Routes.{IsAdmin}
 use Rattle.http.specs.declared.response.Response.{Response}
 use Rattle.answering.specs.Forwarding.{serve_receipt}
+use Rattle.answering.specs.Rendering.{rendering_receipt}
 use Rattle.answering.specs.Reply.{IsResponseOf}
 use Rattle.answering.specs.Served.{GainsServe}
 use Rattle.answering.specs.declared.begun.Begun.{Begun}
-use Rattle.answering.specs.declared.begun.Begun.TheVariants.{Answered, ToForward}
+use Rattle.answering.specs.declared.begun.Begun.TheVariants.{Answered, ToForward, ToRender}
 use Rattle.answering.specs.declared.forward.Forward.{Forward}
+use Rattle.answering.specs.declared.rendering.Rendering.{Rendering}
 use Rattle.logbook.specs.Pages.{Book}
 use Rattle.mapping_model.specs.declared.reply.Reply.{Reply}
 use Rattle.mock_request.specs.Request.{Request}
 use Rattle.request_journal.specs.Past.{Past}
 use Rattle.request_journal.specs.declared.event.Event.{Event}
 use Rattle.shared_book.specs.Held.{Held}
+use Rattle.stub_response.specs.declared.limits.Limits.{Limits}
 
 -- the response is that of a reply of which this holds
 abbrev pub HasReply : (Reply → Type 0) → Response (List ℕ) → Type 0
 HasReply Holds response = (reply : Reply) × Holds reply × IsResponseOf reply response
 
--- a response of which the one holds, or what is to be forwarded, of which the other does
-abbrev pub HasBegun : (Reply → Type 0) → (Forward → Type 0) → Begun → Type 0
-HasBegun Holds Forwards (Answered response) = HasReply Holds response
-HasBegun Holds Forwards (ToForward forward) = Forwards forward
+-- a response of which the first holds, or what is to be forwarded or rendered, of which the second or the third does
+abbrev pub HasBegun : (Reply → Type 0) → (Forward → Type 0) → (Rendering → Type 0) → Begun → Type 0
+HasBegun Holds Forwards Renders (Answered response) = HasReply Holds response
+HasBegun Holds Forwards Renders (ToForward forward) = Forwards forward
+HasBegun Holds Forwards Renders (ToRender rendering) = Renders rendering
 
 -- it has the number and the event of the receipt
 abbrev pub IsForwardOf : ℕ → Event → Forward → Type 0
@@ -38,3 +42,20 @@ IsServedToForward origin name old new request forward =
 abbrev pub IsRequestToForward : Past → Book → Held → Held → Request → Forward → Type 0
 IsRequestToForward origin name old new request forward =
     ¬ (IsAdmin request.url) × IsServedToForward origin name old new request forward
+
+-- it has the number and the event of the receipt, and keeps to these limits
+abbrev pub IsRenderingOf : Limits → ℕ → Event → Rendering → Type 0
+IsRenderingOf limits number event rendering =
+    ((rendering_receipt rendering).number ≡ number) × ((rendering_receipt rendering).event ≡ event)
+    × (rendering.limits ≡ limits)
+
+-- the request was served, and it is what is to be rendered
+abbrev pub IsServedToRender : Past → Book → Limits → Held → Held → Request → Rendering → Type 0
+IsServedToRender origin name limits old new request rendering =
+    (rendering.request ≡ request) × (rendering.limits ≡ limits)
+    × GainsServe origin name old new rendering.request (rendering_receipt rendering)
+
+-- it is no admin call
+abbrev pub IsRequestToRender : Past → Book → Limits → Held → Held → Request → Rendering → Type 0
+IsRequestToRender origin name limits old new request rendering =
+    ¬ (IsAdmin request.url) × IsServedToRender origin name limits old new request rendering

@@ -1,5 +1,6 @@
-use Rattle.std.proofs.Common.{inr}
+use Rattle.std.proofs.Common.{inl, inr}
 use Rattle.std.proofs.lemmas.Result.{IfErr-weaker, IfOk-weaker}
+use Rattle.answering.proofs.RenderedLemmas.{is_begun, is_not_begun}
 use Rattle.answering.proofs.answer.answer.Goals as goal
 
 pub returns-in-Ok-ToForward-clause-ok : goal.returns-in-Ok-ToForward-clause-ok
@@ -22,3 +23,23 @@ returns-in-Ok-ToForward-clause-err g c =
     IfErr-weaker c.finish.result _ _
     (λ error none. (none.0, inr (c.in-Ok-ToForward.begun, c.begin.new.seat, begun, none.1)))
     c.finish.ensures.err
+
+pub returns-in-Ok-ToRender-clause-ok : goal.returns-in-Ok-ToRender-clause-ok
+returns-in-Ok-ToRender-clause-ok g c =
+    let begun = rw c.in-Ok-ToRender.field-0-is at c.in-Ok-ToRender.ensures.ok in
+    IfOk-weaker c.rendered_response.result _ _
+    (λ response of. inl (is_begun g.L.Origin.origin g.L.Naming.book c.args.site.now.limits c.args.site.now.escape
+    c.args.seat.now c.begin.new.seat c.args.message.now c.in-Ok-ToRender.rendering begun c.reply.result response
+    c.reply.ensures of))
+    c.rendered_response.ensures.ok
+
+pub returns-in-Ok-ToRender-clause-err : goal.returns-in-Ok-ToRender-clause-err
+returns-in-Ok-ToRender-clause-err g c =
+    let begun = rw c.in-Ok-ToRender.field-0-is at c.in-Ok-ToRender.ensures.ok in
+    IfErr-weaker c.rendered_response.result _ _
+    (λ error none. (
+      none,
+      inl (is_not_begun g.L.Origin.origin g.L.Naming.book c.args.site.now.limits
+          c.args.site.now.escape c.args.seat.now c.begin.new.seat c.args.message.now c.in-Ok-ToRender.rendering begun),
+    ))
+    c.rendered_response.ensures.err

@@ -3,7 +3,7 @@ use Rattle.std.proofs.lemmas.Bool.{false≢true}
 use Rattle.std.proofs.lemmas.Result.{err_from_is_err_and}
 use Rattle.admin_table.specs.Routes.{IsAdmin}
 use Rattle.answering.specs.Answering.{IsRequestAnswered, IsServeAnswered}
-use Rattle.answering.specs.Inner.Sent.{IsRequestToForward, IsServedToForward}
+use Rattle.answering.specs.Inner.Sent.{IsRequestToForward, IsRequestToRender, IsServedToForward, IsServedToRender}
 use Rattle.answering.proofs.ResultLemmas.{begun_weaker}
 use Rattle.answering.proofs.begin_message.begin_request.Goals as goal
 
@@ -19,7 +19,12 @@ returns g c =
     c.serve.new.seat c.args.request)
     (IsServedToForward g.L.Origin.origin g.L.Naming.book c.args.seat.now c.serve.new.seat c.args.request)
     (IsRequestToForward g.L.Origin.origin g.L.Naming.book c.args.seat.now c.serve.new.seat c.args.request)
-    (λ reply is. inr (other, is)) (λ forward is. (other, is)) c.serve.result c.serve.ensures
+    (IsServedToRender g.L.Origin.origin g.L.Naming.book c.args.site.now.limits c.args.seat.now c.serve.new.seat
+    c.args.request)
+    (IsRequestToRender g.L.Origin.origin g.L.Naming.book c.args.site.now.limits c.args.seat.now c.serve.new.seat
+    c.args.request)
+    (λ reply is. inr (other, is)) (λ forward is. (other, is)) (λ rendering is. (other, is)) c.serve.result
+    c.serve.ensures
 
 pub returns-then-is_admin : goal.returns-then-is_admin
 returns-then-is_admin g c =

@@ -2,7 +2,7 @@ use Rattle.std.proofs.Common.{inl, inr, refl, subst}
 use Rattle.std.specs.Prelude.{IfOk}
 use Rattle.std.proofs.lemmas.Result.{err_from_is_err_and}
 use Rattle.stub_response.specs.ErrorReply.{error_reply}
-use Rattle.answering.specs.Inner.Sent.{HasBegun, IsForwardOf}
+use Rattle.answering.specs.Inner.Sent.{HasBegun, IsForwardOf, IsRenderingOf}
 use Rattle.answering.specs.Served.{IsEventReply}
 use Rattle.answering.proofs.ServeLemmas.{of_event}
 use Rattle.shared_book.specs.Lent.{LendsServed}
@@ -18,7 +18,8 @@ returns-in-Ok g c =
     c.in-Ok.receipt.now c.begin_event.result
     (record { gained = lent.0; served = lent.1; entered = lent.2 })
     (subst (λ event. IfOk c.begin_event.result
-    (HasBegun (IsEventReply c.args.site.now.limits event) (IsForwardOf c.in-Ok.receipt.now.number event)))
+    (HasBegun (IsEventReply c.args.site.now.limits event) (IsForwardOf c.in-Ok.receipt.now.number event)
+    (IsRenderingOf c.args.site.now.limits c.in-Ok.receipt.now.number event)))
     c.event.ensures c.begin_event.ensures)
 
 pub returns-in_err-response-in-Err : goal.returns-in_err-response-in-Err

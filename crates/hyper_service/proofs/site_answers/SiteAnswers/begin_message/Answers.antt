@@ -2,7 +2,7 @@ use Rattle.std.proofs.Common.{◌≡◌, inl, subst}
 use Rattle.std.proofs.lemmas.Result.{err_from_is_err_and}
 use Rattle.answering.specs.Answering.{Begins}
 use Rattle.http_messages.specs.declared.error.ServiceError.TheVariants.{OutOfMemory}
-use Rattle.hyper_service.proofs.Givens.{forward_begun, left_unfinished}
+use Rattle.hyper_service.proofs.Givens.{forward_begun, left_unfinished, left_unrendered, render_begun}
 use Rattle.hyper_service.proofs.site_answers.SiteAnswers.begin_message.Goals as goal
 use Rattle.hyper_service.specs.Given.{rules_of}
 
@@ -24,7 +24,8 @@ returns-in-ToForward-clause-ok g c =
     let site = c.deref.result.now in
     forward_begun (rules_of g.L.Origin.origin g.L.Naming.book c.args.self.now) (g.F.Forwards.reaches
     c.args.self.now.forwarder)
-    g.F.Forwards.sends g.F.Exchange.Future.gives g.F.Exchange.Future.can_poll c.args.seat.now c.begin.new.seat
+    g.F.Forwards.sends g.F.Exchange.Future.gives g.V.Run.Future.gives g.F.Exchange.Future.can_poll
+    g.V.Run.Future.can_poll c.args.seat.now c.begin.new.seat
     c.forward.new.seat c.args.request.now c.in-ToForward.forward
     (subst (Begins g.L.Origin.origin g.L.Naming.book site.limits site.escape c.args.seat.now c.begin.new.seat
     c.args.request.now)
@@ -39,3 +40,23 @@ returns-in-ToForward-clause-err g c =
     (subst (Begins g.L.Origin.origin g.L.Naming.book site.limits site.escape c.args.seat.now c.begin.new.seat
     c.args.request.now)
     c.in-ToForward.is c.in_ok-response.ensures.ok) c.forward.result c.forward.ensures.err
+
+pub returns-in-ToRender-clause-ok : goal.returns-in-ToRender-clause-ok
+returns-in-ToRender-clause-ok g c =
+    let site = c.deref.result.now in
+    render_begun (rules_of g.L.Origin.origin g.L.Naming.book c.args.self.now) (g.F.Forwards.reaches
+    c.args.self.now.forwarder)
+    g.F.Forwards.sends g.F.Exchange.Future.gives g.V.Run.Future.gives g.F.Exchange.Future.can_poll
+    g.V.Run.Future.can_poll c.args.seat.now c.begin.new.seat c.args.request.now c.in-ToRender.rendering
+    (rw c.deref.ensures at (subst (Begins g.L.Origin.origin g.L.Naming.book site.limits site.escape c.args.seat.now
+    c.begin.new.seat c.args.request.now)
+    c.in-ToRender.is c.in_ok-response.ensures.ok)) c.render.result c.render.ensures.ok
+
+pub returns-in-ToRender-clause-err : goal.returns-in-ToRender-clause-err
+returns-in-ToRender-clause-err g c =
+    let site = c.deref.result.now in
+    left_unrendered (rules_of g.L.Origin.origin g.L.Naming.book c.args.self.now) (λ error. error ≡ OutOfMemory)
+    c.args.seat.now c.begin.new.seat c.args.request.now c.in-ToRender.rendering
+    (rw c.deref.ensures at (subst (Begins g.L.Origin.origin g.L.Naming.book site.limits site.escape c.args.seat.now
+    c.begin.new.seat c.args.request.now)
+    c.in-ToRender.is c.in_ok-response.ensures.ok)) c.render.result c.render.ensures.err

@@ -8,7 +8,8 @@ pub returns-clause-ok : goal.returns-clause-ok
 returns-clause-ok g c =
     kept_with (rules_of g.L.Origin.origin g.L.Naming.book c.args.self.now) (g.F.Forwards.reaches
     c.args.self.now.forwarder)
-    g.F.Forwards.sends g.F.Exchange.Future.gives g.F.Exchange.Future.can_poll c.args.seat.now
+    g.F.Forwards.sends g.F.Exchange.Future.gives g.V.Run.Future.gives g.F.Exchange.Future.can_poll
+    g.V.Run.Future.can_poll c.args.seat.now
     c.begin_message-begun.new.seat c.keep.new.seat c.args.request.now c.keep.ensures c.begin_message-begun.result
     c.begin_message-begun.ensures.ok
 
