@@ -8,7 +8,11 @@ use std::net::{IpAddr, Ipv4Addr, Ipv6Addr, Net, SocketAddr};
 use std::random::RandomSource;
 use std::sync::{Arc, Mutex, Wait};
 use std::thread::Threads;
-use std::time::Clock;
+use std::time::{Clock, Duration};
+
+// After how long the end is asked for again.
+const AGAIN_MILLISECONDS: u64 = 50;
+
 use std::{io, thread};
 
 /// What is done when standard input ends.
@@ -118,14 +122,31 @@ impl<I: Read + Drop + Send + 'static> Watch<I> {
         };
         let address = reached_at(address);
         let address = format!(in rt.alloc(); "{address}")?;
-        let _thread = thread::spawn(&rt, move || {
-            wait_for_end(&rt, input);
-            if let Some(files) = &recording {
-                files.write(&rt, address.as_str());
-            }
-            ender.end();
-        })?;
+        let _thread = thread::spawn(&rt, move || watch(rt, input, recording, address, ender))?;
         Ok(())
+    }
+}
+
+// What the thread does. It ends with the process.
+fn watch<R, I>(
+    rt: R,
+    input: I,
+    recording: Option<RecordedFiles>,
+    address: String,
+    ender: Arc<Ender>,
+)
+where
+    R: Wait + Net + Clock + RandomSource + AllocGlobal + FileWriter + Copy + Drop,
+    I: Read + Drop,
+{
+    wait_for_end(&rt, input);
+    if let Some(files) = &recording {
+        files.write(&rt, address.as_str());
+    }
+    // A server that begins to accept only now hears what is asked from then on.
+    for _ in rt.forever() {
+        ender.end();
+        thread::sleep(&rt, Duration::from_millis(AGAIN_MILLISECONDS));
     }
 }
 

@@ -62,14 +62,28 @@ fn text_of(alloc: Global, values: &[Value], listed: Listed) -> Result<FileText, 
         × (string_bytes made.text ≡ file_text (in_order listed texts))) }
     ensures count { IfOk result (λ made. made.count ≡ length values.now) }
 {
-    let mut texts = texts_of(alloc, values)?;
-    if listed == Listed::NewestFirst {
-        texts.reverse();
-    }
+    let texts = texts_of(alloc, values)?;
+    let text = ordered_text(alloc, texts, listed)?;
     Ok(FileText {
-        text: joined(alloc, texts.as_slice())?,
+        text,
         count: values.len(),
     })
+}
+
+// The text of a file with these, the oldest first.
+#[tactic(auto, using(crate::proofs::Reversed::map_reverse))]
+fn ordered_text(alloc: Global, texts: Vec<String>, listed: Listed) -> Result<String, AllocError>
+    ensures { IfOk result (λ text.
+        string_bytes text ≡ file_text (in_order listed (map string_bytes texts.items))) }
+{
+    match listed {
+        Listed::OldestFirst => joined(alloc, texts.as_slice()),
+        Listed::NewestFirst => {
+            let mut texts = texts;
+            texts.reverse();
+            joined(alloc, texts.as_slice())
+        }
+    }
 }
 
 // The compact text of each value.

@@ -66,7 +66,7 @@ where
 {
     let alloc = rt.alloc();
     let target = target_of(alloc, address)?;
-    let request = Snapshot::new(alloc, method, path, [].as_slice(), [].as_slice())?;
+    let request = Snapshot::new(alloc, method, path, &[], &[])?;
     let Reply {
         status,
         headers: _headers,
