@@ -107,10 +107,7 @@ pub enum Call<'a> {
     Serve(ServeArguments<'a>),
     Record(ServeArguments<'a>, RecordArguments<'a>),
     /// The mappings of a server are to be written to a file.
-    Save {
-        server: &'a str,
-        file: &'a str,
-    },
+    Save { server: &'a str, file: &'a str },
     /// The address to listen on isn't one.
     BadAddress(&'a str),
 }
@@ -150,18 +147,24 @@ fn record_in<'a>(alloc: Global, given: &ArgMatches<'a>) -> Result<Option<Call<'a
         Some(names) => Vec::from_slice(alloc, names)?,
         None => Vec::new(alloc),
     };
-    Ok(match (arguments_in(given, address), given.get_str("target"), given.get_str("file")) {
-        (Some(served), Some(target), Some(file)) => {
-            let record = RecordArguments {
-                target,
-                file,
-                har: given.get_str("har"),
-                captured,
-            };
-            Some(Call::Record(served, record))
-        }
-        _ => None,
-    })
+    Ok(
+        match (
+            arguments_in(given, address),
+            given.get_str("target"),
+            given.get_str("file"),
+        ) {
+            (Some(served), Some(target), Some(file)) => {
+                let record = RecordArguments {
+                    target,
+                    file,
+                    har: given.get_str("har"),
+                    captured,
+                };
+                Some(Call::Record(served, record))
+            }
+            _ => None,
+        },
+    )
 }
 
 // The address to listen on, or the text that isn't one.
@@ -263,14 +266,15 @@ fn record_command<'a>(alloc: Global) -> Result<Command<'a>, AllocError> {
             Arg::new(alloc, "capture-header")
                 .long("capture-header")
                 .value_name("NAME")
-                .help("A header of requests that recorded mappings match, too; may be given several times")
+                .help(
+                    "A header of requests that recorded mappings match, too; may be given several times",
+                )
                 .action(ArgAction::Append),
         )?
         .arg(
-            Arg::new(alloc, "har")
-                .long("har")
-                .value_name("FILE")
-                .help("Also writes the exchanges, as a HAR document, to this file"),
+            Arg::new(alloc, "har").long("har").value_name("FILE").help(
+                "Also writes the exchanges, as a HAR document, to this file",
+            ),
         )?
         .arg(verbose(alloc))
 }
@@ -290,7 +294,9 @@ fn with_common<'a>(alloc: Global, command: Command<'a>) -> Result<Command<'a>, A
         .arg(
             Arg::new(alloc, "html-escape")
                 .long("html-escape")
-                .help("Escapes what {{x}} prints in templates for HTML, but not what {{{x}}} prints")
+                .help(
+                    "Escapes what {{x}} prints in templates for HTML, but not what {{{x}}} prints",
+                )
                 .action(ArgAction::SetTrue),
         )?
         .arg(

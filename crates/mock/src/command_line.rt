@@ -1,4 +1,5 @@
-//! The command line of the program: `mock serve`, `mock record` and `mock save` are done here, each other command by `mock_program`.
+//! The command line of the program: `mock serve`, `mock record` and `mock save` are done here, each other command by
+//! `mock_program`.
 ghost use Rattle.std.specs.Prelude.{◌≡◌, ◌⊎◌, ◌≤◌, map, string_bytes};
 ghost use Rattle.command_output.specs.Output.{Followed, WritesOneStream};
 ghost use Rattle.mock_program.specs.CommandLine.{AreInvalid, Asked, AsksFor, CallsForHelp};
@@ -134,12 +135,7 @@ where
 }
 
 #[tactic(auto, using(command_output::proofs::PartsWritten::alone))]
-fn own_help<O: Write, E: Write>(
-    alloc: Global,
-    arguments: &[String],
-    out: &mut O,
-    err: &mut E,
-) -> u8
+fn own_help<O: Write, E: Write>(alloc: Global, arguments: &[String], out: &mut O, err: &mut E) -> u8
     ensures range { result ≤ 2 }
     ensures streams { Followed E.contents (λ e. WritesOneStream out.old out.new err.old e result) err.new }
 {
@@ -168,7 +164,14 @@ fn help_arguments(alloc: Global, arguments: &[String]) -> Result<Vec<String>, Al
     Ok(words)
 }
 
-fn run_own<R, O, E, W, I>(rt: R, arguments: &[String], out: &mut O, err: &mut E, log: W, input: I) -> u8
+fn run_own<R, O, E, W, I>(
+    rt: R,
+    arguments: &[String],
+    out: &mut O,
+    err: &mut E,
+    log: W,
+    input: I,
+) -> u8
 where
     R: Threads
         + Wait

@@ -27,7 +27,10 @@ pub fn open_connections<E: Write>(given: Option<u64>, threads: u64, err: &mut E)
     };
     let count = connections_within(limit, threads);
     if count < USUAL_CONNECTIONS {
-        let _ = write!(err, "at most {count} connections are open at a time: the process may have {limit} descriptors\n");
+        let _ = write!(
+            err,
+            "at most {count} connections are open at a time: the process may have {limit} descriptors\n"
+        );
     }
     count
 }

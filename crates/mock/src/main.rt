@@ -1,5 +1,6 @@
-//! The program: its command line, and its commands `mock serve` and `mock record` with their arguments and their server. Every other command is `mock_program`'s. `main` hands on the process's arguments and standard
-//! streams, and ends with the exit status that comes back.
+//! The program: its command line, and its commands `mock serve` and `mock record` with their arguments and their server.
+//! Every other command is done by a crate of its own. `main` hands on the process's arguments and standard streams, and
+//! ends with the exit status that comes back.
 #![tactic(auto)]
 
 mod arguments;

@@ -196,9 +196,7 @@ where
     ensures status { result ≤ 1 }
 {
     match SharedBook::<L>::new(rt.alloc(), blank, parts, opened, book) {
-        Ok((book, seat)) => serve_shared(
-            rt, book, seat, arguments, plan, log, ender, out, err,
-        ),
+        Ok((book, seat)) => serve_shared(rt, book, seat, arguments, plan, log, ender, out, err),
         Err(_error) => out_of_memory(err),
     }
 }
@@ -355,7 +353,10 @@ fn report_watch<E: Write>(alloc: Global, error: &io::Error, err: &mut E) -> u8
     ensures { result ≡ FAILURE }
 {
     // The exit status is 1 in any case.
-    let _ = put(err, "error: cannot wait for the end of standard input\n".as_bytes());
+    let _ = put(
+        err,
+        "error: cannot wait for the end of standard input\n".as_bytes(),
+    );
     put_notes(err, reason_line(alloc, error).as_str());
     FAILURE
 }

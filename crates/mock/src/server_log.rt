@@ -54,8 +54,9 @@ impl<L: Origin> ServerLog<L> {
 impl<L: Origin> ServerLog<L> {
     // Tells of the recording that was stopped. The lock is held while its exchanges are shared.
     fn tell_skipped<R: Wait>(&self, rt: &R, alloc: Global) {
-        if let Ok(ReadAnswer::Recording(recording)) =
-            self.book.peek(rt, alloc, BookRead::Recording)
+        if let Ok(ReadAnswer::Recording(recording)) = self
+            .book
+            .peek(rt, alloc, BookRead::Recording)
         {
             self.log.stopped(rt, alloc, &recording);
         }

@@ -3,14 +3,13 @@ use http_connections::ender::Ender;
 use saved_mappings::file_writer::FileWriter;
 use saved_mappings::recorded::{RecordError, Recorded, end_recording};
 use std::alloc::{AllocError, AllocGlobal, Global};
-use std::io;
 use std::io::{ErrorKind, Read};
 use std::net::{IpAddr, Ipv4Addr, Ipv6Addr, Net, SocketAddr};
 use std::random::RandomSource;
 use std::sync::{Arc, Mutex, Wait};
-use std::thread;
 use std::thread::Threads;
 use std::time::Clock;
+use std::{io, thread};
 
 /// What is done when standard input ends.
 #[derive(Drop)]

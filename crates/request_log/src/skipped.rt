@@ -33,7 +33,13 @@ pub(crate) fn skipped_lines(alloc: Global, session: &Session) -> Result<String, 
     for index in 0..exchanges.len() {
         let exchange = exchanges[index].exchange();
         if let Some(reason) = reason_of(exchange, session.captured.as_slice()) {
-            push_line(alloc, &mut lines, index.saturating_add(1), &exchange.request, reason)?;
+            push_line(
+                alloc,
+                &mut lines,
+                index.saturating_add(1),
+                &exchange.request,
+                reason,
+            )?;
         }
     }
     Ok(lines)

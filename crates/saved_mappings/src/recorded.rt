@@ -1,5 +1,6 @@
-//! What `mock record` writes when it ends: the mappings that its server has recorded, and the exchanges as a HAR document.
-ghost use Rattle.std.specs.Prelude.{◌≡◌, ◌×◌, IfOk, List, OnOk, ℕ};
+//! What `mock record` writes when it ends: the mappings that its server has recorded, and the exchanges as a HAR
+//! document.
+ghost use Rattle.std.specs.Prelude.{◌≡◌, IfOk, List, OnOk, ℕ};
 ghost use Rattle.saved_mappings.specs.Saved.{IsFileText};
 ghost use Rattle.saved_mappings.specs.declared.file_text.Listed.TheVariants.{OldestFirst};
 
@@ -127,8 +128,13 @@ impl RecordError {
                 let reason = error.reason(alloc)?;
                 format!(in alloc; "error: the recording can't be had from the server\n  {reason}\n")
             }
-            RecordError::NoMappings => String::from_str(alloc, "error: the recording has no mappings\n"),
-            RecordError::File(error) => format!(in alloc; "error: cannot write {file}\n  {error}\n"),
+            RecordError::NoMappings => String::from_str(
+                alloc,
+                "error: the recording has no mappings\n",
+            ),
+            RecordError::File(error) => format!(in alloc;
+                "error: cannot write {file}\n  {error}\n"
+            ),
             RecordError::Har(error) => format!(in alloc; "error: cannot write {har}\n  {error}\n"),
             RecordError::OutOfMemory => String::from_str(alloc, "error 50: out of memory\n"),
         }

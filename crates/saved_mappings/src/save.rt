@@ -1,5 +1,5 @@
 //! `mock save`: the mappings of a running server.
-ghost use Rattle.std.specs.Prelude.{◌≡◌, ◌≤◌, ◌×◌, List, OnOk, ℕ};
+ghost use Rattle.std.specs.Prelude.{◌≡◌, ◌≤◌, List, OnOk, ℕ};
 ghost use Rattle.std.specs.Io.KnownBytes.{Appends};
 ghost use Rattle.saved_mappings.specs.Saved.{IsFileText, saved_line};
 ghost use Rattle.saved_mappings.specs.declared.file_text.Listed.TheVariants.{NewestFirst};
@@ -101,7 +101,10 @@ fn report_call<E: Write>(alloc: Global, address: &str, error: CallError, err: &m
 fn report_answer<E: Write>(err: &mut E) -> u8
     ensures { result ≡ FAILURE }
 {
-    put_notes(err, "error: the answer of the server is no list of mappings\n");
+    put_notes(
+        err,
+        "error: the answer of the server is no list of mappings\n",
+    );
     FAILURE
 }
 

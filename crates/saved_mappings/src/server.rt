@@ -58,8 +58,8 @@ impl From<SnapshotError> for CallError {
     }
 }
 
-/// The content of what the server at the address, as `127.0.0.1:8080`, answers to a call without a body, if its status is
-/// 200.
+/// The content of what the server at the address, as `127.0.0.1:8080`, answers to a call without a body, if its status
+/// is 200.
 pub fn call<R>(rt: &R, address: &str, method: &str, path: &str) -> Result<Bytes, CallError>
 where
     R: Wait + Net + Clock + RandomSource + AllocGlobal + Copy + Drop,

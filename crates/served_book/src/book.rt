@@ -1,5 +1,5 @@
 // The book that is served.
-ghost use Rattle.std.specs.Prelude.{◌≡◌, ◌≤◌, ◌×◌, [], IfOk, IfSome, Some, length, map, option_copied};
+ghost use Rattle.std.specs.Prelude.{◌≡◌, ◌≤◌, [], IfOk, IfSome, Some, length, map, option_copied};
 ghost use Rattle.request_journal.specs.Live.{live};
 ghost use Rattle.request_journal.specs.Past.{opened};
 ghost use Rattle.request_journal.specs.declared.limits.TheConstants.{LIVE_LIMIT};
@@ -123,11 +123,7 @@ fn opened(
     }
 }
 
-fn book_from(
-    alloc: Global,
-    mappings: Vec<ReadyMapping>,
-    opening: u64,
-) -> Result<Book, CommandError>
+fn book_from(alloc: Global, mappings: Vec<ReadyMapping>, opening: u64) -> Result<Book, CommandError>
     ensures is { IfOk result (λ book. book ≡ opened opening mappings.items) }
     ensures few { IfOk result (λ book. length (live book) ≤ LIVE_LIMIT) }
 {
@@ -150,7 +146,9 @@ fn report_skipped<E: Write>(alloc: Global, skipped: Skipped, err: &mut E) {
     let mapping_word = if mappings == 1 { "mapping" } else { "mappings" };
     let file_word = if files == 1 { "file" } else { "files" };
     // It is said if there is memory for it.
-    if let Ok(line) = format!(in alloc; "skipped {mappings} {mapping_word}, {files} {file_word}\n") {
+    if let Ok(line) = format!(in alloc;
+        "skipped {mappings} {mapping_word}, {files} {file_word}\n"
+    ) {
         put_notes(err, line.as_str());
     }
 }

@@ -7,6 +7,6 @@ use Rattle.served_book.proofs.accepted.add_results.Given as goal
 abbrev pub invariant-loop-result : goal.invariant-loop-result
 invariant-loop-result l = record {
   counted : into_iter_len l.result-iterator ≡ length (into_iter_items l.result-iterator);
-  whole : l.fn.accepted.now.mappings.items ++ accepted_of l.fn.results.items
-      ≡ l.accepted.now.mappings.items ++ accepted_of (into_iter_items l.result-iterator);
+  whole : l.initial.accepted.mappings.items ++ accepted_of l.fn.results.items
+      ≡ l.accepted.mappings.items ++ accepted_of (into_iter_items l.result-iterator);
 }
