@@ -104,18 +104,12 @@ where
         out.old out.new err.new result }
     ensures status { result ≤ 1 }
 {
-    let ServeArguments {
-        mappings,
-        escape,
-        opening,
-        skips_refused,
-        ..
-    } = arguments;
+    let escape = arguments.escape;
     let given = BookArguments {
-        mappings,
+        mappings: arguments.mappings,
         escape,
-        opening,
-        skips_refused,
+        opening: arguments.opening,
+        skips_refused: arguments.skips_refused,
     };
     let Some(book) = book_of(rt.alloc(), &rt, given, err) else {
         return FAILURE;
