@@ -8,7 +8,7 @@ use Rattle.http_body.specs.declared.frame.Frame.{Frame}
 use Rattle.http_connections.specs.Content.{Exceeds, Gathers, IsGathered}
 use Rattle.http_connections.specs.Inner.Pushed.{IsPushed}
 use Rattle.http_connections.specs.declared.content_error.ContentError.{ContentError}
-use Rattle.http_connections.specs.declared.content_error.ContentError.TheVariants.{Malformed, OutOfMemory}
+use Rattle.http_connections.specs.declared.content_error.ContentError.TheVariants.{Late, Malformed, OutOfMemory}
 use Rattle.http_connections.specs.declared.content_error.ContentError.TheVariants.{TooLong}
 use Rattle.mock_request.specs.declared.snapshot.TheConstants.{BODY_LIMIT}
 
@@ -27,6 +27,7 @@ module _ {E : Type 0} (old : Runs (Result (Frame (List ℕ)) E)) where
   }
   ended false held (Err TooLong) value too_long came = absurd (true≢false (sym (too_long refl)))
   ended false held (Err Malformed) value too_long came = tt
+  ended false held (Err Late) value too_long came = tt
   ended false held (Err OutOfMemory) value too_long came = tt
 
   -- enough of what is too long has come
@@ -41,6 +42,7 @@ module _ {E : Type 0} (old : Runs (Result (Frame (List ℕ)) E)) where
   broke true held error other = tt
   broke false held TooLong other = absurd (other refl)
   broke false held Malformed other = tt
+  broke false held Late other = tt
   broke false held OutOfMemory other = tt
 
   module _ (frame : Frame (List ℕ)) where
@@ -55,6 +57,7 @@ module _ {E : Type 0} (old : Runs (Result (Frame (List ℕ)) E)) where
     failed true held next error pushed came = tt
     failed false held next TooLong pushed came = first_exceeds held came (pushed refl)
     failed false held next Malformed pushed came = tt
+    failed false held next Late pushed came = tt
     failed false held next OutOfMemory pushed came = tt
 
     module _ (new : Runs (Result (Frame (List ℕ)) E)) (came : old [] (Some (Ok frame)))
@@ -94,4 +97,5 @@ module _ {E : Type 0} (old : Runs (Result (Frame (List ℕ)) E)) where
       gathered_after false held false next pushed (Err TooLong) more =
           exceeds_after held (subst (λ bytes. Exceeds new bytes) pushed more)
       gathered_after false held is_too_long' next pushed (Err Malformed) more = tt
+      gathered_after false held is_too_long' next pushed (Err Late) more = tt
       gathered_after false held is_too_long' next pushed (Err OutOfMemory) more = tt

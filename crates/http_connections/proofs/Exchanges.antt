@@ -9,7 +9,7 @@ use Rattle.http.specs.declared.response.Response.{Response}
 use Rattle.http_connections.specs.Content.{IsAnswerFor, IsAnswerTo, IsContentOf, IsRefusal, Refuses}
 use Rattle.http_connections.specs.Sent.{IsExchangeFor, IsSentFor}
 use Rattle.http_connections.specs.declared.content_error.ContentError.{ContentError}
-use Rattle.http_connections.specs.declared.content_error.ContentError.TheVariants.{Malformed, OutOfMemory, TooLong}
+use Rattle.http_connections.specs.declared.content_error.ContentError.TheVariants.{Late, Malformed, OutOfMemory, TooLong}
 
 -- memory ran out for a request that has content to be answered with
 refused : {C : Type 0} (IsEmpty : C → Type 0) (gathered : Result (List ℕ) ContentError) (body : List ℕ)
@@ -18,6 +18,7 @@ refused : {C : Type 0} (IsEmpty : C → Type 0) (gathered : Result (List ℕ) Co
 refused IsEmpty (Ok content) body is made refusal = refusal
 refused IsEmpty (Err TooLong) body is made refusal = refusal
 refused IsEmpty (Err Malformed) body none made refusal = absurd none
+refused IsEmpty (Err Late) body none made refusal = absurd none
 refused IsEmpty (Err OutOfMemory) body none made refusal = absurd none
 
 module _ {Refusal C : Type 0} (IsEmpty : C → Type 0) (gives : Request (List ℕ) → Response C → Type 0) where

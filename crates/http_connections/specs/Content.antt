@@ -16,7 +16,7 @@ use Rattle.hyper.specs.Incoming.{size_left}
 use Rattle.hyper.specs.declared.body.incoming.Incoming.{Incoming}
 use Rattle.http_connections.specs.Sent.{IsSentFor}
 use Rattle.http_connections.specs.declared.content_error.ContentError.{ContentError}
-use Rattle.http_connections.specs.declared.content_error.ContentError.TheVariants.{Malformed, OutOfMemory}
+use Rattle.http_connections.specs.declared.content_error.ContentError.TheVariants.{Late, Malformed, OutOfMemory}
 use Rattle.http_connections.specs.declared.content_error.ContentError.TheVariants.{TooLong}
 use Rattle.http_connections.specs.declared.gathering.Gathering.{Gathering}
 use Rattle.mock_request.specs.declared.snapshot.TheConstants.{BODY_LIMIT}
@@ -44,6 +44,7 @@ IsGathered source true held (Err error) = ⊤
 IsGathered source false held (Ok content) = Gathers source held content
 IsGathered source false held (Err TooLong) = Exceeds source held
 IsGathered source false held (Err Malformed) = ⊤
+IsGathered source false held (Err Late) = ⊤
 IsGathered source false held (Err OutOfMemory) = ⊤
 
 -- what gathers the content of the body, of which nothing is there
@@ -76,6 +77,7 @@ abbrev pub IsContentOf : Result (List ℕ) ContentError → List ℕ → Type 0
 IsContentOf (Ok content) body = body ≡ content
 IsContentOf (Err TooLong) body = BODY_LIMIT < length body
 IsContentOf (Err Malformed) body = ⊥
+IsContentOf (Err Late) body = ⊥
 IsContentOf (Err OutOfMemory) body = ⊥
 
 module _ {C : Type 0} (IsEmpty : C → Type 0) where
@@ -89,7 +91,8 @@ module _ {C : Type 0} (IsEmpty : C → Type 0) where
   abbrev pub Refuses : Result (List ℕ) ContentError → Response C → Type 0
   Refuses (Ok content) made = IsRefusal 503 made
   Refuses (Err TooLong) made = IsRefusal 503 made
-  Refuses (Err Malformed) made = IsRefusal 400 made ⊎ IsRefusal 408 made
+  Refuses (Err Malformed) made = IsRefusal 400 made
+  Refuses (Err Late) made = IsRefusal 408 made
   Refuses (Err OutOfMemory) made = IsRefusal 503 made
 
   -- what is sent for the message, or that memory ran out for it

@@ -9,6 +9,8 @@ use std::alloc::AllocError;
 pub enum ContentError {
     /// What came is no content: a chunk without its size or its end, say, or content that ends early.
     Malformed,
+    /// It hadn't come whole when the connection had to leave.
+    Late,
     TooLong,
     OutOfMemory,
 }

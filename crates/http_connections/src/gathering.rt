@@ -6,6 +6,7 @@ ghost use Rattle.http_connections.specs.Inner.Pushed.{IsPushed};
 ghost use Rattle.http_connections.specs.declared.content_error.ContentError.TheVariants.{TooLong};
 
 use crate::content_error::{ContentError, content_error};
+use crate::course::Course;
 use crate::patience::Patience;
 use bytes::{Bytes, BytesMut};
 use futures::task::{Context, Poll};
@@ -14,6 +15,7 @@ use http_body::{Body, Frame};
 use mock_request::snapshot::BODY_LIMIT;
 use std::alloc::Global;
 use std::mem;
+use std::sync::Arc;
 use std::time::Clock;
 
 /// Content that is too long is read on up to this number of bytes (64 MiB), and as long as there is patience: a client
@@ -29,6 +31,7 @@ const PIECES: usize = BODY_LIMIT + SKIPPED;
 pub struct Gathering<R, B> {
     alloc: Global,
     body: B,
+    course: Arc<Course>,
     patience: Patience<R>,
     pieces: usize,
     gathered: BytesMut,
@@ -37,12 +40,18 @@ pub struct Gathering<R, B> {
 }
 
 impl<R, B> Gathering<R, B> {
-    pub fn new(alloc: Global, body: B, patience: Patience<R>) -> Gathering<R, B>
+    pub fn new(
+        alloc: Global,
+        body: B,
+        course: Arc<Course>,
+        patience: Patience<R>,
+    ) -> Gathering<R, B>
         ensures { IsNewFor result body }
     {
         Gathering {
             alloc,
             body,
+            course,
             patience,
             pieces: 0,
             gathered: BytesMut::new(alloc),
@@ -67,6 +76,9 @@ where
 
     // One frame a poll: a connection hands its frames over one by one, and others are served between them.
     fn poll(&mut self, cx: &mut Context<'_>) -> Poll<Result<Bytes, ContentError>> {
+        if self.course.must_leave() {
+            return Poll::Ready(Err(ContentError::Late));
+        }
         if is_enough(self.is_too_long, &mut self.patience, cx) {
             return Poll::Ready(Err(ContentError::TooLong));
         }

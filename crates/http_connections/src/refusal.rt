@@ -22,12 +22,26 @@ pub(crate) fn out_of_memory<C: Default>(alloc: Global) -> Response<C>
     refusal(alloc, StatusCode::SERVICE_UNAVAILABLE)
 }
 
-/// The answer to a request in a coding that isn't known. The connection ends after it.
+/// The answer to a request in a coding that isn't known.
 pub(crate) fn unknown_coding<C: Default>(alloc: Global) -> Response<C>
     ensures { IsRefusal C.is_default 501 result }
 {
+    last_refusal(alloc, StatusCode::NOT_IMPLEMENTED)
+}
+
+/// The answer to a request that hadn't come whole when its connection had to leave.
+pub(crate) fn late<C: Default>(alloc: Global) -> Response<C>
+    ensures { IsRefusal C.is_default 408 result }
+{
+    last_refusal(alloc, StatusCode::REQUEST_TIMEOUT)
+}
+
+// An answer without content, after which the connection ends.
+fn last_refusal<C: Default>(alloc: Global, status: StatusCode) -> Response<C>
+    ensures { IsRefusal C.is_default status result }
+{
     let mut head = Parts::new(alloc);
-    head.status = StatusCode::NOT_IMPLEMENTED;
+    head.status = status;
     // Where there is no memory for it, the connection ends when the rest of the content doesn't come.
     let _ = head
         .headers

@@ -1,5 +1,5 @@
 // The requests of one connection.
-ghost use Rattle.std.specs.Prelude.{◌≡◌, ◌⊎◌, ◌<◌, ℕ, List, Result, Some, length, IfOk, IsSome, IsTrue};
+ghost use Rattle.std.specs.Prelude.{◌≡◌, ◌<◌, ℕ, List, Result, Some, length, IfOk, IsSome, IsTrue};
 ghost use Rattle.futures.specs.Poll.{IfReady, OnPending};
 ghost use Rattle.futures.specs.Task.{IsArmed, Keeps};
 ghost use Rattle.http_connections.specs.declared.content_error.ContentError.{ContentError as GatherError};
@@ -21,7 +21,9 @@ use crate::course::Course;
 use crate::forwarding::Forwarding;
 use crate::gathering::Gathering;
 use crate::patience::Patience;
-use crate::refusal::{awaits_leave, has_other_coding, out_of_memory, refusal, unknown_coding};
+use crate::refusal::{
+    awaits_leave, has_other_coding, late, out_of_memory, refusal, unknown_coding,
+};
 use crate::seat_slot::SeatSlot;
 use bytes::{Bytes, BytesMut};
 use futures::task::{Context, Poll};
@@ -203,7 +205,12 @@ where
             rt: self.rt,
             slot: Arc::try_clone(&self.slot)?,
             request: Request::from_parts(head, Bytes::new()),
-            content: Gathering::new(alloc, body, Patience::new(self.rt, self.timers.clone()?)),
+            content: Gathering::new(
+                alloc,
+                body,
+                Arc::try_clone(&self.course)?,
+                Patience::new(self.rt, self.timers.clone()?),
+            ),
             course: Arc::try_clone(&self.course)?,
         };
         let waiting = Box::new(alloc, waiting)?;
@@ -310,26 +317,15 @@ where
                 Err(AllocError) => return Ok(Begun::Answered(out_of_memory(alloc))),
             },
             Err(ContentError::Malformed) => {
-                return Ok(Begun::Answered(refusal(alloc, self.cut_status())));
+                return Ok(Begun::Answered(refusal(alloc, StatusCode::BAD_REQUEST)));
             }
+            Err(ContentError::Late) => return Ok(Begun::Answered(late(alloc))),
             Err(ContentError::OutOfMemory) => return Ok(Begun::Answered(out_of_memory(alloc))),
         };
         *self.request.body_mut() = content;
         match self.slot.begin(&self.rt, alloc, &self.request) {
             Err(ServiceError::OutOfMemory) => Ok(Begun::Answered(out_of_memory(alloc))),
             begun => begun,
-        }
-    }
-
-    // The status of a request whose content doesn't come whole: its client was too slow where the connection has to
-    // leave.
-    fn cut_status(&self) -> StatusCode
-        ensures { (result ≡ 400) ⊎ (result ≡ 408) }
-    {
-        if self.course.must_leave() {
-            StatusCode::REQUEST_TIMEOUT
-        } else {
-            StatusCode::BAD_REQUEST
         }
     }
 

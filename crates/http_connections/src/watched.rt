@@ -76,7 +76,7 @@ impl<I: AsyncRead + AsyncWrite> AsyncRead for Watched<I> {
         if let Err(error) = self.take_turn() {
             return Poll::Ready(Err(error));
         }
-        if self.course.must_leave() {
+        if self.course.must_leave() && !self.course.is_at(Stage::Content) {
             return Poll::Ready(Err(io::Error::from(ErrorKind::TimedOut)));
         }
         self.course.wants();
