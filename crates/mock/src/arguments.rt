@@ -117,10 +117,20 @@ pub enum Call<'a> {
 pub fn call_of<'a>(alloc: Global, arguments: &'a [&'a str]) -> Result<Option<Call<'a>>, Error> {
     let matches = command(alloc)?.try_get_matches_from(arguments)?;
     match matches.subcommand() {
-        Some(("save", given)) => Ok(save_in(given)),
-        Some(("record", given)) => Ok(record_in(alloc, given)?),
-        Some((_name, given)) => Ok(serve_in(given)),
+        Some((name, given)) => Ok(call_in(alloc, name, given)?),
         None => Ok(None),
+    }
+}
+
+fn call_in<'a>(
+    alloc: Global,
+    name: &str,
+    given: &ArgMatches<'a>,
+) -> Result<Option<Call<'a>>, AllocError> {
+    match name {
+        "save" => Ok(save_in(given)),
+        "record" => record_in(alloc, given),
+        _ => Ok(serve_in(given)),
     }
 }
 
@@ -139,32 +149,45 @@ fn serve_in<'a>(given: &ArgMatches<'a>) -> Option<Call<'a>> {
 }
 
 fn record_in<'a>(alloc: Global, given: &ArgMatches<'a>) -> Result<Option<Call<'a>>, AllocError> {
-    let address = match address_in(given) {
-        Ok(address) => address,
-        Err(text) => return Ok(Some(Call::BadAddress(text))),
+    match address_in(given) {
+        Ok(address) => record_at(alloc, given, address),
+        Err(text) => Ok(Some(Call::BadAddress(text))),
+    }
+}
+
+fn record_at<'a>(
+    alloc: Global,
+    given: &ArgMatches<'a>,
+    address: IpAddr,
+) -> Result<Option<Call<'a>>, AllocError> {
+    let Some(served) = arguments_in(given, address) else {
+        return Ok(None);
     };
-    let captured = match given.get_strs("capture-header") {
-        Some(names) => Vec::from_slice(alloc, names)?,
-        None => Vec::new(alloc),
+    let Some(target) = given.get_str("target") else {
+        return Ok(None);
     };
-    Ok(
-        match (
-            arguments_in(given, address),
-            given.get_str("target"),
-            given.get_str("file"),
-        ) {
-            (Some(served), Some(target), Some(file)) => {
-                let record = RecordArguments {
-                    target,
-                    file,
-                    har: given.get_str("har"),
-                    captured,
-                };
-                Some(Call::Record(served, record))
-            }
-            _ => None,
-        },
-    )
+    let Some(file) = given.get_str("file") else {
+        return Ok(None);
+    };
+    let mut captured = Vec::new(alloc);
+    if let Some(names) = given.get_strs("capture-header") {
+        push_names(&mut captured, names)?;
+    }
+    let har = given.get_str("har");
+    let record = RecordArguments {
+        target,
+        file,
+        har,
+        captured,
+    };
+    Ok(Some(Call::Record(served, record)))
+}
+
+fn push_names<'a>(all: &mut Vec<&'a str>, names: &[&'a str]) -> Result<(), AllocError> {
+    for name in names {
+        all.push(*name)?;
+    }
+    Ok(())
 }
 
 // The address to listen on, or the text that isn't one.

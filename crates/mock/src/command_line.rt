@@ -148,7 +148,10 @@ fn own_help<O: Write, E: Write>(alloc: Global, arguments: &[String], out: &mut O
 // The text of `clap`, where it gives one in place of a call.
 fn own_message(alloc: Global, arguments: &[String]) -> Option<Error> {
     match words_of(alloc, arguments) {
-        Ok(words) => call_of(alloc, words.as_slice()).err(),
+        Ok(words) => match call_of(alloc, words.as_slice()) {
+            Ok(_call) => None,
+            Err(error) => Some(error),
+        },
         Err(_error) => None,
     }
 }

@@ -104,9 +104,10 @@ where
         out.old out.new err.new result }
     ensures status { result ≤ 1 }
 {
+    let escape = arguments.escape;
     let given = BookArguments {
         mappings: arguments.mappings,
-        escape: arguments.escape,
+        escape,
         opening: arguments.opening,
         skips_refused: arguments.skips_refused,
     };
@@ -235,8 +236,8 @@ where
     let mut seat = seat;
     let Plan { recording, watch } = plan;
     if let Some(start) = recording {
-        if let Err(error) = seat.apply(&rt, &book, start) {
-            return report_recording(error.code, err);
+        if let Err(code) = begin_recording(&rt, &book, &mut seat, start) {
+            return report_recording(code, err);
         }
     }
     match listen(rt, arguments.address, arguments.port) {
@@ -335,6 +336,18 @@ where
     I: Read + Drop + Send + 'static,
 {
     watch.start(rt, listener.local_addr()?, Arc::try_clone(ender)?)
+}
+
+fn begin_recording<L: Origin, R: Wait>(
+    rt: &R,
+    book: &SharedBook<L>,
+    seat: &mut Seat<L>,
+    start: BookInput,
+) -> Result<(), ErrorCode> {
+    match seat.apply(rt, book, start) {
+        Ok(_receipt) => Ok(()),
+        Err(error) => Err(error.code),
+    }
 }
 
 // Why nothing can be recorded.
