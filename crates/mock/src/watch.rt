@@ -9,11 +9,10 @@ use std::random::RandomSource;
 use std::sync::{Arc, Mutex, Wait};
 use std::thread::Threads;
 use std::time::{Clock, Duration};
+use std::{io, thread};
 
 // After how long the end is asked for again.
 const AGAIN_MILLISECONDS: u64 = 50;
-
-use std::{io, thread};
 
 /// What is done when standard input ends.
 #[derive(Drop)]
@@ -122,13 +121,13 @@ impl<I: Read + Drop + Send + 'static> Watch<I> {
         };
         let address = reached_at(address);
         let address = format!(in rt.alloc(); "{address}")?;
-        let _thread = thread::spawn(&rt, move || watch(rt, input, recording, address, ender))?;
+        let _thread = thread::spawn(&rt, move || end_with(rt, input, recording, address, ender))?;
         Ok(())
     }
 }
 
 // What the thread does. It ends with the process.
-fn watch<R, I>(
+fn end_with<R, I>(
     rt: R,
     input: I,
     recording: Option<RecordedFiles>,
