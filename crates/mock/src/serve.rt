@@ -324,7 +324,7 @@ fn start_watch<R, I>(
 where
     R: Threads
         + Wait
-        + Net
+        + Net<Listener = TcpListener, Stream = TcpStream>
         + Clock
         + RandomSource
         + AllocGlobal
@@ -384,7 +384,12 @@ fn answers_of<L, R>(
 ) -> Result<MockAnswers<L, R>, AllocError>
 where
     L: Origin,
-    R: Threads + Clock + Net + AllocGlobal + Copy + Drop,
+    R: Threads
+        + Clock
+        + Net<Listener = TcpListener, Stream = TcpStream>
+        + AllocGlobal
+        + Copy
+        + Drop,
     ensures { IfOk result (λ answers. rules_of L.origin L.book answers ≡ record {
       origin = L.origin;
       history = L.book;
@@ -424,7 +429,12 @@ struct Listening<R> {
 
 fn listen<R>(rt: R, address: IpAddr, port: u16) -> io::Result<Listening<R>>
 where
-    R: Net + Clock + RandomSource + AllocGlobal + Copy + Drop,
+    R: Net<Listener = TcpListener, Stream = TcpStream>
+        + Clock
+        + RandomSource
+        + AllocGlobal
+        + Copy
+        + Drop,
 {
     let runtime = LocalRuntime::new(&rt)?;
     let address = SocketAddr::from((address, port));

@@ -36,7 +36,15 @@ pub type MockAnswers<L, R> = SiteAnswers<
 
 // What each thread does.
 #[derive(Drop)]
-struct ServerJob<L: Origin, R: Threads + Clock + Net + AllocGlobal + Copy + Drop> {
+struct ServerJob<
+    L: Origin,
+    R: Threads
+        + Clock
+        + Net<Listener = TcpListener, Stream = TcpStream>
+        + AllocGlobal
+        + Copy
+        + Drop,
+> {
     server: Arc<Server<MockAnswers<L, R>>>,
 }
 

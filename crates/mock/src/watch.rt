@@ -4,7 +4,7 @@ use saved_mappings::file_writer::FileWriter;
 use saved_mappings::recorded::{RecordError, Recorded, end_recording};
 use std::alloc::{AllocError, AllocGlobal, Global};
 use std::io::{ErrorKind, Read};
-use std::net::{IpAddr, Ipv4Addr, Ipv6Addr, Net, SocketAddr};
+use std::net::{IpAddr, Ipv4Addr, Ipv6Addr, Net, SocketAddr, TcpListener, TcpStream};
 use std::random::RandomSource;
 use std::sync::{Arc, Mutex, Wait};
 use std::thread::Threads;
@@ -72,7 +72,14 @@ impl RecordedFiles {
 
     fn write<R>(&self, rt: &R, address: &str)
     where
-        R: Wait + Net + Clock + RandomSource + AllocGlobal + FileWriter + Copy + Drop,
+        R: Wait
+            + Net<Listener = TcpListener, Stream = TcpStream>
+            + Clock
+            + RandomSource
+            + AllocGlobal
+            + FileWriter
+            + Copy
+            + Drop,
     {
         let har = match &self.har {
             Some(path) => Some(path.as_str()),
@@ -105,7 +112,7 @@ impl<I: Read + Drop + Send + 'static> Watch<I> {
     where
         R: Threads
             + Wait
-            + Net
+            + Net<Listener = TcpListener, Stream = TcpStream>
             + Clock
             + RandomSource
             + AllocGlobal
@@ -135,7 +142,14 @@ fn end_with<R, I>(
     ender: Arc<Ender>,
 )
 where
-    R: Wait + Net + Clock + RandomSource + AllocGlobal + FileWriter + Copy + Drop,
+    R: Wait
+        + Net<Listener = TcpListener, Stream = TcpStream>
+        + Clock
+        + RandomSource
+        + AllocGlobal
+        + FileWriter
+        + Copy
+        + Drop,
     I: Read + Drop,
 {
     wait_for_end(&rt, input);
