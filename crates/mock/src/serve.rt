@@ -324,7 +324,7 @@ fn start_watch<R, I>(
 where
     R: Threads
         + Wait
-        + Net
+        + Net<Listener = TcpListener, Stream = TcpStream>
         + Clock
         + RandomSource
         + AllocGlobal

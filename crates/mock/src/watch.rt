@@ -4,7 +4,7 @@ use saved_mappings::file_writer::FileWriter;
 use saved_mappings::recorded::{RecordError, Recorded, end_recording};
 use std::alloc::{AllocError, AllocGlobal, Global};
 use std::io::{ErrorKind, Read};
-use std::net::{IpAddr, Ipv4Addr, Ipv6Addr, Net, SocketAddr};
+use std::net::{IpAddr, Ipv4Addr, Ipv6Addr, Net, SocketAddr, TcpListener, TcpStream};
 use std::random::RandomSource;
 use std::sync::{Arc, Mutex, Wait};
 use std::thread::Threads;
@@ -105,7 +105,7 @@ impl<I: Read + Drop + Send + 'static> Watch<I> {
     where
         R: Threads
             + Wait
-            + Net
+            + Net<Listener = TcpListener, Stream = TcpStream>
             + Clock
             + RandomSource
             + AllocGlobal
