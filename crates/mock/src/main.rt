@@ -9,7 +9,6 @@ mod descriptors;
 mod record;
 mod serve;
 mod server_log;
-mod serving_threads;
 mod streams;
 mod watch;
 

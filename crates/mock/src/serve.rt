@@ -9,7 +9,6 @@ ghost use Rattle.shared_history.specs.Entries.{opening};
 use crate::arguments::ServeArguments;
 use crate::descriptors::open_connections;
 use crate::server_log::ServerLog;
-use crate::serving_threads::{MockAnswers, ServingThreads};
 use crate::watch::Watch;
 use answering::clock::SystemClock;
 use answering::site::Site;
@@ -19,6 +18,7 @@ use command_output::output::{put, put_notes};
 use command_output::status::FAILURE;
 use error_code::error_code::ErrorCode;
 use http_connections::ender::Ender;
+use http_connections::serve_on::OneThread;
 use http_connections::settings::Settings;
 use hyper_service::journal_limit::JournalLimit;
 use hyper_service::renderer::Renderer;
@@ -69,6 +69,16 @@ pub(crate) struct Plan<I> {
     pub(crate) recording: Option<BookInput>,
     pub(crate) watch: Watch<I>,
 }
+
+/// What the connections of `mock serve` are served by.
+type MockAnswers<L, R> = SiteAnswers<
+    L,
+    NoGate,
+    SystemClock<R>,
+    Forwarder<R>,
+    Renderer<R>,
+    ServerLog<L>,
+>;
 
 /// Serves as the arguments say, and gives the exit status: 0, or 1 with a line on `err`. First the file is judged, then
 /// its mappings, the book, and the port. What is told of requests is written to `log`, by a thread of its own.
@@ -287,7 +297,7 @@ where
     } = listening;
     let settings = Settings {
         connections: arguments.connections,
-        max_connections: open_connections(arguments.max_connections, arguments.threads, err),
+        max_connections: open_connections(arguments.max_connections, err),
     };
     let Ok(log) = ServerLog::new(log, &book) else {
         return out_of_memory(err);
@@ -300,9 +310,7 @@ where
             rt,
             &mut runtime,
             listener,
-            &ServingThreads {
-                count: arguments.threads,
-            },
+            &OneThread,
             ender,
             answers,
             seat,
