@@ -3,8 +3,8 @@ use Rattle.mock.proofs.Serves.{serves_as}
 use Rattle.mock.proofs.serve.serve.Goals as goal
 use Rattle.served_book.specs.Served.{IsServedBook}
 
-pub returns-in-Ok-clause-serves : goal.returns-in-Ok-clause-serves
-returns-in-Ok-clause-serves g c =
+pub returns-in-Ok-log_to-clause-serves : goal.returns-in-Ok-clause-serves
+returns-in-Ok-log_to-clause-serves g c =
     let given = c.args.arguments in
     let IsServed = IsServedBook given.opening given.skips_refused given.escape (option_copied given.mappings)
     (g.R.FileReader.listed c.args.rt) (g.R.FileReader.content c.args.rt) in
