@@ -3,7 +3,7 @@ use Rattle.mock.proofs.Serves.{serves_as}
 use Rattle.mock.proofs.serve.serve.Goals as goal
 use Rattle.served_book.specs.Served.{IsServedBook}
 
-pub returns-in-Ok-log_to-clause-serves : goal.returns-in-Ok-clause-serves
+pub returns-in-Ok-log_to-clause-serves : goal.returns-in-Ok-log_to-clause-serves
 returns-in-Ok-log_to-clause-serves g c =
     let given = c.args.arguments in
     let IsServed = IsServedBook given.opening given.skips_refused given.escape (option_copied given.mappings)
