@@ -1,0 +1,3 @@
+pub mod Segments
+pub mod Suffixes
+pub mod Search
