@@ -1,3 +1,5 @@
 pub mod Segments
 pub mod Suffixes
 pub mod Search
+pub mod Texts
+pub mod Parameters
