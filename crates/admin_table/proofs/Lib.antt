@@ -1,1 +1,1 @@
-pub mod TableLemmas
+pub mod AdminLemmas

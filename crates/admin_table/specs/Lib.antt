@@ -1,3 +1,4 @@
+pub mod Places
 pub mod Routes
 pub mod Segment
 pub mod Inner

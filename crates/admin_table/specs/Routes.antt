@@ -1,6 +1,9 @@
 -- The table of the admin calls (WireMock's documentation, "Admin API"): the method and the path of each.
-use Rattle.std.specs.Prelude.{◌≡◌, ◌≢◌, ℕ, List, [], ◌∷◌, codes}
+use Rattle.std.specs.Prelude.{◌≡◌, ℕ, List, [], ◌∷◌, codes}
 use Rattle.std.specs.List.{slice_split}
+use Rattle.admin_table.specs.Places.{IsPath}
+use Rattle.admin_table.specs.declared.place.Place.{Place}
+use Rattle.admin_table.specs.declared.place.Place.TheVariants as place
 use Rattle.admin_table.specs.declared.route.Route.{Route}
 use Rattle.admin_table.specs.declared.route.Route.TheVariants.{ListMappings, AddMapping, DeleteMappings}
 use Rattle.admin_table.specs.declared.route.Route.TheVariants.{ReadMapping, EditMapping, DeleteMapping}
@@ -34,42 +37,41 @@ method_of StopRecording = codes "POST"
 method_of ReadRecordingStatus = codes "GET"
 method_of ReadRecordingHar = codes "GET"
 
--- the segments of its path after `/__admin`, as they were sent: escapes aren't decoded
-abbrev pub path_below : Route → List (List ℕ)
-path_below ListMappings = codes "mappings" ∷ []
-path_below AddMapping = codes "mappings" ∷ []
-path_below DeleteMappings = codes "mappings" ∷ []
-path_below (ReadMapping id) = codes "mappings" ∷ id ∷ []
-path_below (EditMapping id) = codes "mappings" ∷ id ∷ []
-path_below (DeleteMapping id) = codes "mappings" ∷ id ∷ []
-path_below ResetMappings = codes "mappings" ∷ codes "reset" ∷ []
-path_below ResetAll = codes "reset" ∷ []
-path_below ListRequests = codes "requests" ∷ []
-path_below ClearRequests = codes "requests" ∷ []
-path_below ListUnmatched = codes "requests" ∷ codes "unmatched" ∷ []
-path_below FindRequests = codes "requests" ∷ codes "find" ∷ []
-path_below CountRequests = codes "requests" ∷ codes "count" ∷ []
-path_below ListScenarios = codes "scenarios" ∷ []
-path_below ResetScenarios = codes "scenarios" ∷ codes "reset" ∷ []
-path_below (SetScenario name) = codes "scenarios" ∷ name ∷ codes "state" ∷ []
-path_below StartRecording = codes "recordings" ∷ codes "start" ∷ []
-path_below StopRecording = codes "recordings" ∷ codes "stop" ∷ []
-path_below ReadRecordingStatus = codes "recordings" ∷ codes "status" ∷ []
-path_below ReadRecordingHar = codes "recordings" ∷ codes "har" ∷ []
+abbrev pub place_of : Route → Place
+place_of ListMappings = place.Mappings
+place_of AddMapping = place.Mappings
+place_of DeleteMappings = place.Mappings
+place_of (ReadMapping id) = place.Mapping
+place_of (EditMapping id) = place.Mapping
+place_of (DeleteMapping id) = place.Mapping
+place_of ResetMappings = place.Mapping
+place_of ResetAll = place.Reset
+place_of ListRequests = place.Requests
+place_of ClearRequests = place.Requests
+place_of ListUnmatched = place.Unmatched
+place_of FindRequests = place.Find
+place_of CountRequests = place.Count
+place_of ListScenarios = place.Scenarios
+place_of ResetScenarios = place.ScenariosReset
+place_of (SetScenario name) = place.ScenarioState
+place_of StartRecording = place.RecordingStart
+place_of StopRecording = place.RecordingStop
+place_of ReadRecordingStatus = place.RecordingStatus
+place_of ReadRecordingHar = place.RecordingHar
 
--- what is in the place of an id or of a name isn't empty
-abbrev pub HasParameter : Route → Type 0
-HasParameter (ReadMapping id) = id ≢ []
-HasParameter (EditMapping id) = id ≢ []
-HasParameter (DeleteMapping id) = id ≢ []
-HasParameter (SetScenario name) = name ≢ []
-HasParameter other = Unit {0}
+-- what is in the place of an id or of a name: `POST /__admin/mappings/reset` has the id `reset`
+abbrev pub parameter_of : Route → List ℕ
+parameter_of (ReadMapping id) = id
+parameter_of (EditMapping id) = id
+parameter_of (DeleteMapping id) = id
+parameter_of ResetMappings = codes "reset"
+parameter_of (SetScenario name) = name
+parameter_of other = []
 
--- the method and the path of the URL, between its slashes, are those of the call
+-- the method and the path of the URL are those of the call
 pub record Names (method url : List ℕ) (route : Route) : Type 0 where
   pub same_method : method ≡ method_of route
-  pub same_path : slice_split is_slash (path_of url) ≡ [] ∷ codes "__admin" ∷ path_below route
-  pub has_parameter : HasParameter route
+  pub is_path : IsPath (place_of route) (parameter_of route) (path_of url)
 
 -- the path of the URL is `/__admin`, or below it
 abbrev pub IsAdmin : List ℕ → Type 0

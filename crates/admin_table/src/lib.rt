@@ -2,5 +2,10 @@
 // cite `specs/Routes.antt` (the table) and `specs/Segment.antt` (what is in the place of a name).
 #![tactic(auto)]
 
+mod methods;
+mod place;
 pub mod route;
+pub mod router;
 pub mod segment;
+mod table;
+pub mod url;

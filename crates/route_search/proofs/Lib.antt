@@ -1,3 +1,4 @@
+pub mod Literals
 pub mod Segments
 pub mod Suffixes
 pub mod Search

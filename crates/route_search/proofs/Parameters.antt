@@ -12,6 +12,7 @@ use Rattle.matchit.specs.Params.{walk, wild_from, wild_stop, part_of}
 use Rattle.matchit.specs.Rows.{param_token}
 use Rattle.matchit.specs.Seek.{segment, has_slash}
 use Rattle.route_search.specs.Fits.{slash, IsSegment, Begins, Fits, EndsSegment}
+use Rattle.route_search.proofs.Literals.{Follows, follows}
 use Rattle.route_search.proofs.Segments.{has_no_slash, cut_at}
 
 drop_front : (front back : List ℕ) → drop (length front) (front ++ back) ≡ back
@@ -165,3 +166,48 @@ segment_is_text front value after rest text goes = subst IsUtf8 (take-append_sea
         let cut = IsCharBoundary-before_ascii (value ++ slash ∷ r) (length value) (omega arith) (omega arith) in
         subst (λ r. IsUtf8 (take (length value) (value ++ r))) (sym left)
         (IsUtf8-take (value ++ slash ∷ r) (length value) text cut)
+
+-- ---- a pattern with one parameter, after a slash
+
+-- the path is the front of the pattern, a segment, and what fits the rest of the pattern
+pub record IsAround (front after path value rest : List ℕ) : Type 0 where
+  pub whole : path ≡ (front ++ slash ∷ []) ++ (value ++ rest)
+  pub segment : IsSegment value
+  pub left : Fits after rest
+
+pub around
+    : (front after path : List ℕ) → IsText (front ++ slash ∷ [])
+    → Fits ((front ++ slash ∷ []) ++ param_token ∷ after) path
+    → (value : List ℕ) × (rest : List ℕ) × IsAround front after path value rest
+around front after path bytes fits = by (follows (front ++ slash ∷ []) (param_token ∷ after) path bytes fits)
+  where
+    by : Follows (front ++ slash ∷ []) (param_token ∷ after) path
+        → (value : List ℕ) × (rest : List ℕ) × IsAround front after path value rest
+    by later = at later.left
+      where
+        at : Fits (param_token ∷ after) later.rest
+            → (value : List ℕ) × (rest : List ℕ) × IsAround front after path value rest
+        at (rest, inl (byte, same), fits) = absurd (omega (arith, byte))
+        at (rest, inr (param, (value, segment, same)), fits) = (
+          value,
+          rest,
+          record {
+            whole = later.whole ∙ ap (λ x. (front ++ slash ∷ []) ++ x) same;
+            segment = segment;
+            left = fits;
+          },
+        )
+
+-- what the only name took of it is that segment, and a text
+pub around_takes
+    : (front after path value rest text : List ℕ) (name : ℕ × ℕ) → IsText (front ++ slash ∷ [])
+    → EndsSegment after → IsAround front after path value rest → IsUtf8 path
+    → (walk ((front ++ slash ∷ []) ++ param_token ∷ after) text path (name ∷ []) 0 0
+    ≡ (part_of text name.0 name.1, value) ∷ []) × IsUtf8 value
+around_takes front after path value rest text name bytes ends is utf8 =
+    let before : List ℕ = front ++ slash ∷ [] in
+    let goes = goes_on after rest ends is.left in (
+      ap (λ p. walk (before ++ param_token ∷ after) text p (name ∷ []) 0 0) is.whole
+      ∙ takes_segment before after value rest text name bytes goes is.segment,
+      segment_is_text front value after rest (subst IsUtf8 is.whole utf8) goes,
+    )

@@ -1,9 +1,9 @@
 use Rattle.std.proofs.Common.{true≢false, sym, ap, ◌∙◌}
 use Rattle.std.specs.List.{slice_split}
-use Rattle.admin_table.proofs.TableLemmas.{admin_begins, is_admin_means}
-use Rattle.admin_table.specs.Inner.Table.{is_admin_in}
+use Rattle.admin_table.proofs.AdminLemmas.{admin_begins, is_admin_means}
+use Rattle.admin_table.specs.Inner.Paths.{is_admin_in}
 use Rattle.mock_request.specs.Url.{is_slash}
-use Rattle.admin_table.proofs.route.is_admin.Goals as goal
+use Rattle.admin_table.proofs.url.is_admin.Goals as goal
 
 pub returns-then-starts_with : goal.returns-then-starts_with
 returns-then-starts_with c =
