@@ -1,1 +1,3 @@
 pub mod AdminLemmas
+pub mod RowLemmas
+pub mod CallLemmas
