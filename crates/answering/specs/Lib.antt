@@ -4,6 +4,7 @@ pub mod Content
 pub mod Foreign
 pub mod Forwarding
 pub mod Inner
+pub mod Page
 pub mod Rendering
 pub mod Reply
 pub mod Served

@@ -34,9 +34,9 @@ pub fn answer<L: Origin, R, G: Gate, C: Clock>(
 where
     R: Wait + Net + std::time::Clock + RandomSource + AllocGlobal + Copy + Drop,
     ensures ok { IfOk result
-        (IsAnswered L.origin L.book site.now.limits site.now.escape seat.old seat.new message.now) }
+        (IsAnswered L.origin L.book site.now.limits site.now.escape site.now.page seat.old seat.new message.now) }
     ensures err { IfErr result (λ error. (error ≡ NoMemory)
-        × IsNotAnswered L.origin L.book site.now.limits site.now.escape seat.old seat.new message.now) }
+        × IsNotAnswered L.origin L.book site.now.limits site.now.escape site.now.page seat.old seat.new message.now) }
 {
     match begin(rt, alloc, site, seat, message) {
         Ok(Begun::Answered(response)) => Ok(response),

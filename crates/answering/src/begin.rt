@@ -29,9 +29,9 @@ pub fn begin<L: Origin, R: Wait, G: Gate, C: Clock>(
     seat: &mut Seat<L>,
     message: &Request<Bytes>,
 ) -> Result<Begun, ServiceError>
-    ensures ok { IfOk result (Begins L.origin L.book site.now.limits site.now.escape seat.old seat.new message.now) }
+    ensures ok { IfOk result (Begins L.origin L.book site.now.limits site.now.escape site.now.page seat.old seat.new message.now) }
     ensures err { IfErr result (λ error. (error ≡ NoMemory)
-        × IsNotBegun L.origin L.book site.now.limits site.now.escape seat.old seat.new message.now) }
+        × IsNotBegun L.origin L.book site.now.limits site.now.escape site.now.page seat.old seat.new message.now) }
 {
     match begin_message(rt, alloc, site, seat, message) {
         Ok(begun) => Ok(begun),

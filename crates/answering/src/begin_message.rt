@@ -41,10 +41,10 @@ pub(crate) fn begin_message<L: Origin, R: Wait, G: Gate, C: Clock>(
     message: &Request<Bytes>,
 ) -> Result<Begun, AllocError>
     ensures { MatchResult result
-        (HasBegun (IsReply L.origin L.book site.now.limits site.now.escape seat.old seat.new message.now)
+        (HasBegun (IsReply L.origin L.book site.now.limits site.now.escape site.now.page seat.old seat.new message.now)
         (IsToForward L.origin L.book seat.old seat.new message.now)
         (IsToRender L.origin L.book site.now.limits seat.old seat.new message.now))
-        (λ _. IsNotBegun L.origin L.book site.now.limits site.now.escape seat.old seat.new message.now) }
+        (λ _. IsNotBegun L.origin L.book site.now.limits site.now.escape site.now.page seat.old seat.new message.now) }
 {
     match request_of(alloc, seat, message) {
         Ok(request) => {
@@ -96,10 +96,10 @@ fn begin_request<L: Origin, R: Wait, G: Gate, C: Clock>(
     request: Snapshot,
 ) -> Result<Begun, AllocError>
     ensures { MatchResult result
-        (HasBegun (IsRequestAnswered L.origin L.book site.now.limits site.now.escape seat.old seat.new request)
+        (HasBegun (IsRequestAnswered L.origin L.book site.now.limits site.now.escape site.now.page seat.old seat.new request)
         (IsRequestToForward L.origin L.book seat.old seat.new request)
         (IsRequestToRender L.origin L.book site.now.limits seat.old seat.new request))
-        (λ _. (reply : _) × IsRequestAnswered L.origin L.book site.now.limits site.now.escape seat.old
+        (λ _. (reply : _) × IsRequestAnswered L.origin L.book site.now.limits site.now.escape site.now.page seat.old
         seat.new request reply) }
 {
     if is_admin(request.url()) {
@@ -119,10 +119,10 @@ fn admin_response<L: Origin, R: Wait, G: Gate, C: Clock>(
     request: &Snapshot,
 ) -> Result<Response<Content>, AllocError>
     ensures { MatchResult result
-        (HasReply (IsAdminAnswered L.origin L.book site.now.escape seat.old seat.new request.now))
-        (λ _. (reply : _) × IsAdminAnswered L.origin L.book site.now.escape seat.old seat.new request.now reply) }
+        (HasReply (IsAdminAnswered L.origin L.book site.now.escape site.now.page seat.old seat.new request.now))
+        (λ _. (reply : _) × IsAdminAnswered L.origin L.book site.now.escape site.now.page seat.old seat.new request.now reply) }
 {
-    match admin_answer(rt, alloc, &site.book, seat, request, site.escape)? {
+    match admin_answer(rt, alloc, site, seat, request)? {
         AdminAnswer::Whole(reply) => response_of(alloc, reply),
         AdminAnswer::Listed(listing) => listed_response(alloc, listing),
     }

@@ -28,7 +28,7 @@ pub returns-in-Ok-ToRender-clause-ok : goal.returns-in-Ok-ToRender-clause-ok
 returns-in-Ok-ToRender-clause-ok g c =
     let begun = rw c.in-Ok-ToRender.field-0-is at c.in-Ok-ToRender.ensures.ok in
     IfOk-weaker c.rendered_response.result _ _
-    (λ response of. inl (is_begun g.L.Origin.origin g.L.Naming.book c.args.site.now.limits c.args.site.now.escape
+    (λ response of. inl (is_begun g.L.Origin.origin g.L.Naming.book c.args.site.now.limits c.args.site.now.escape c.args.site.now.page
     c.args.seat.now c.begin.new.seat c.args.message.now c.in-Ok-ToRender.rendering begun c.reply.result response
     c.reply.ensures of))
     c.rendered_response.ensures.ok
@@ -40,6 +40,6 @@ returns-in-Ok-ToRender-clause-err g c =
     (λ error none. (
       none,
       inl (is_not_begun g.L.Origin.origin g.L.Naming.book c.args.site.now.limits
-          c.args.site.now.escape c.args.seat.now c.begin.new.seat c.args.message.now c.in-Ok-ToRender.rendering begun),
+          c.args.site.now.escape c.args.site.now.page c.args.seat.now c.begin.new.seat c.args.message.now c.in-Ok-ToRender.rendering begun),
     ))
     c.rendered_response.ensures.err

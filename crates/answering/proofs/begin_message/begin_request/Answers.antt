@@ -15,7 +15,7 @@ returns g c =
     begun_weaker
     (IsServeAnswered g.L.Origin.origin g.L.Naming.book c.args.site.now.limits c.args.seat.now c.serve.new.seat
     c.args.request)
-    (IsRequestAnswered g.L.Origin.origin g.L.Naming.book c.args.site.now.limits c.args.site.now.escape c.args.seat.now
+    (IsRequestAnswered g.L.Origin.origin g.L.Naming.book c.args.site.now.limits c.args.site.now.escape c.args.site.now.page c.args.seat.now
     c.serve.new.seat c.args.request)
     (IsServedToForward g.L.Origin.origin g.L.Naming.book c.args.seat.now c.serve.new.seat c.args.request)
     (IsRequestToForward g.L.Origin.origin g.L.Naming.book c.args.seat.now c.serve.new.seat c.args.request)
