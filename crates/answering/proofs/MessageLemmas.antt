@@ -12,7 +12,7 @@ use Rattle.answering.specs.Inner.Sent.{HasBegun, IsRequestToForward, IsRequestTo
 use Rattle.answering.specs.Rendering.{IsToRender, rendering_receipt}
 use Rattle.answering.specs.Served.{GainsServe}
 use Rattle.answering.specs.declared.begun.Begun.{Begun}
-use Rattle.answering.specs.declared.begun.Begun.TheVariants.{Answered, ToForward, ToRender}
+use Rattle.answering.specs.declared.begun.Begun.TheVariants.{Answered, Refused, ToForward, ToRender}
 use Rattle.answering.specs.declared.forward.Forward.{Forward}
 use Rattle.answering.specs.declared.rendering.Rendering.{Rendering}
 use Rattle.logbook.specs.Pages.{Book}
@@ -68,7 +68,8 @@ to_render origin name limits old middle new message request rendering same recei
 }
 
 -- its request begins what the message begins
-pub of_request : {E : Type 0} (origin : Past) (name : Book) (limits : Limits) (escape : Escape) (page : Option (List ℕ)) (old middle new : Held)
+pub of_request : {E : Type 0} (origin : Past) (name : Book) (limits : Limits) (escape : Escape)
+    (page : Option (List ℕ)) (old middle new : Held)
     (message : Message (List ℕ)) (request : Request) (result : Result Begun E)
     → middle ≡ old → IsReceived message request → length (body_of message) ≤ BODY_LIMIT
     → All (λ (h : Header). IsHeaderName h.name) request.headers
@@ -81,6 +82,17 @@ pub of_request : {E : Type 0} (origin : Past) (name : Book) (limits : Limits) (e
     (IsToRender origin name limits old new message))
     (λ _. IsNotBegun origin name limits escape page old new message)
 of_request origin name limits escape page old middle new message request (Ok (Answered response)) same received within
+    names is = (
+      is.0,
+      inr (
+        request,
+        received,
+        within,
+        subst (λ held. IsRequestAnswered origin name limits escape page held new request is.0) same is.1,
+      ),
+      is.2,
+    )
+of_request origin name limits escape page old middle new message request (Ok (Refused refused)) same received within
     names is = (
       is.0,
       inr (

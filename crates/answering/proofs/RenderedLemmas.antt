@@ -17,7 +17,8 @@ use Rattle.stub_response.specs.Response.{IsRendering}
 use Rattle.stub_response.specs.declared.limits.Limits.{Limits}
 use Rattle.template_tree.specs.declared.escape.Escape.{Escape}
 
-module _ (origin : Past) (name : Book) (limits : Limits) (escape : Escape) (page : Option (List ℕ)) (old new : Held) (message : Message (List ℕ))
+module _ (origin : Past) (name : Book) (limits : Limits) (escape : Escape) (page : Option (List ℕ)) (old new : Held)
+    (message : Message (List ℕ))
     (rendering : Rendering) (begun : IsToRender origin name limits old new message rendering) where
   -- a reply of the version of the receipt
   is_reply : (reply : Reply) → IsRenderedReply rendering reply

@@ -7,6 +7,7 @@ use Rattle.admin_routes.specs.declared.call.AdminCall.{AdminCall}
 use Rattle.admin_routes.specs.declared.error.AdminError.{AdminError}
 use Rattle.answering.specs.Foreign.{IsForeign}
 use Rattle.answering.specs.Page.{IsGivenPage, page_reply}
+use Rattle.answering.specs.Reason.{IsRefusalReply}
 use Rattle.error_code.specs.Codes.{status_of}
 use Rattle.error_code.specs.declared.error_code.ErrorCode.{ErrorCode}
 use Rattle.logbook.specs.Pages.{Book}
@@ -21,18 +22,20 @@ use Rattle.template_tree.specs.declared.escape.Escape.{Escape}
 abbrev pub reporting : ErrorCode → Reply
 reporting reason = error_reply (unwrap_or (status_of reason) 500) reason
 
--- the request is no admin call, which is reported, and the seat is as before
+-- The request is no admin call, which is reported, and the seat is as before. The client of a call that is refused is
+-- told why, beside the error.
 abbrev pub IsRefusedCall : Escape → Held → Held → Request → Reply → Type 0
 IsRefusedCall escape old new request reply =
     (new ≡ old)
     × ((why : AdminError) × IsAdminError escape request.method request.url request.body why
-    × (reply ≡ reporting (error_code_of why)))
+    × IsRefusalReply (reporting (error_code_of why)) reply)
 
 -- it is the call, and its answer is the shared book's, or reports why there is none
 abbrev pub IsAnsweredCall : Past → Book → Held → Held → AdminCall → Reply → Type 0
 IsAnsweredCall origin name old new call reply =
     IsAnswered origin name old new call reply
-    ⊎ ((reason : ErrorCode) × IsNotAnswered origin name old new call reason × (reply ≡ reporting reason))
+    ⊎ ((reason : ErrorCode) × IsNotAnswered origin name old new call reason
+    × IsRefusalReply (reporting reason) reply)
 
 -- how a call is answered that asks for no page
 abbrev pub IsCallAnswered : Past → Book → Escape → Held → Held → Request → Reply → Type 0
@@ -60,5 +63,5 @@ foreign_reply = json_reply 403 (codes "{\"errors\":[{\"title\":\"not for pages o
 -- a page of another site can't steer the server: its call is refused, and the seat is as before
 abbrev pub IsAdminAnswered : Past → Book → Escape → Option (List ℕ) → Held → Held → Request → Reply → Type 0
 IsAdminAnswered origin name escape page old new request reply =
-    (IsForeign request.headers × (new ≡ old) × (reply ≡ foreign_reply))
+    (IsForeign request.headers × (new ≡ old) × IsRefusalReply foreign_reply reply)
     ⊎ (¬ (IsForeign request.headers) × IsOwnAnswered origin name escape page old new request reply)

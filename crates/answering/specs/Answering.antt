@@ -11,7 +11,7 @@ use Rattle.answering.specs.Forwarding.{IsFinished, IsToForward}
 use Rattle.answering.specs.Rendering.{IsToRender}
 use Rattle.answering.specs.Reply.{IsResponseOf}
 use Rattle.answering.specs.declared.begun.Begun.{Begun}
-use Rattle.answering.specs.declared.begun.Begun.TheVariants.{Answered, ToForward, ToRender}
+use Rattle.answering.specs.declared.begun.Begun.TheVariants.{Answered, Refused, ToForward, ToRender}
 use Rattle.answering.specs.declared.forward.Forward.{Forward}
 use Rattle.logbook.specs.Pages.{Book}
 use Rattle.mapping_model.specs.declared.reply.Reply.{Reply}
@@ -86,7 +86,10 @@ IsNotBegun origin name limits escape page old new message =
 abbrev pub Begins : Past → Book → Limits → Escape → Option (List ℕ) → Held → Held → Message (List ℕ) → Begun → Type 0
 Begins origin name limits escape page old new message (Answered response) =
     IsBegun origin name limits escape page old new message response
-Begins origin name limits escape page old new message (ToForward forward) = IsToForward origin name old new message forward
+Begins origin name limits escape page old new message (Refused refused) =
+    IsBegun origin name limits escape page old new message refused.value.response
+Begins origin name limits escape page old new message (ToForward forward) =
+    IsToForward origin name old new message forward
 Begins origin name limits escape page old new message (ToRender rendering) =
     IsToRender origin name limits old new message rendering
 
@@ -104,7 +107,8 @@ pub record IsAnsweredLater (origin : Past) (name : Book) (old new : Held) (messa
 abbrev pub IsAnswered : Past → Book → Limits → Escape → Option (List ℕ) → Held → Held → Message (List ℕ)
     → Response (List ℕ) → Type 0
 IsAnswered origin name limits escape page old new message response =
-    IsBegun origin name limits escape page old new message response ⊎ IsAnsweredLater origin name old new message response
+    IsBegun origin name limits escape page old new message response
+    ⊎ IsAnsweredLater origin name old new message response
 
 -- there is none, and the seat is as a reply leaves it, or has made no call since the first event of what is to be
 -- forwarded

@@ -5,6 +5,7 @@ pub mod Foreign
 pub mod Forwarding
 pub mod Inner
 pub mod Page
+pub mod Reason
 pub mod Rendering
 pub mod Reply
 pub mod Served

@@ -10,11 +10,7 @@ use plain_text::text::Text;
 use std::alloc::{AllocError, Global};
 
 /// A header line. The name is a token (RFC 9110, section 5.6.2), as a test says that is computed where it is called.
-pub(crate) fn header(
-    alloc: Global,
-    name: &str,
-    value: Octets,
-) -> Result<ReplyHeader, AllocError>
+pub(crate) fn header(alloc: Global, name: &str, value: Octets) -> Result<ReplyHeader, AllocError>
     requires some { 0 < length name.now }
     requires token { IsTrue (list_all token_test name.now) }
     ensures { IfOk result (λ header. header ≡ record { name = name.now; value = value }) }
@@ -26,11 +22,7 @@ pub(crate) fn header(
 }
 
 /// The same, with the value of this text.
-pub(crate) fn text_header(
-    alloc: Global,
-    name: &str,
-    value: &str,
-) -> Result<ReplyHeader, AllocError>
+pub(crate) fn text_header(alloc: Global, name: &str, value: &str) -> Result<ReplyHeader, AllocError>
     requires some { 0 < length name.now }
     requires token { IsTrue (list_all token_test name.now) }
     ensures { IfOk result (λ header. header ≡ record { name = name.now; value = value.now }) }

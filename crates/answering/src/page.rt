@@ -23,7 +23,11 @@ pub(crate) fn page_in<'p>(page: &'p Option<Bytes>, request: &Snapshot) -> Option
     ensures none { IsNone result → (bytes : _) → ¬ (IsGivenPage page.now request.now bytes) }
 {
     match page {
-        Some(bytes) => if is_page_call(request) { Some(bytes) } else { None },
+        Some(bytes) => if is_page_call(request) {
+            Some(bytes)
+        } else {
+            None
+        },
         None => None,
     }
 }

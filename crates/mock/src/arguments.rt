@@ -355,10 +355,9 @@ fn journal_limit<'a>(alloc: Global) -> Arg<'a> {
 }
 
 fn page<'a>(alloc: Global) -> Arg<'a> {
-    Arg::new(alloc, "page")
-        .long("page")
-        .value_name("FILE")
-        .help("An HTML file that is the answer to GET /__admin/page, as dist/page.html is one")
+    Arg::new(alloc, "page").long("page").value_name("FILE").help(
+        "An HTML file that is the answer to GET /__admin/page, as dist/page.html is one",
+    )
 }
 
 fn first_event<'a>(alloc: Global) -> Arg<'a> {

@@ -160,12 +160,7 @@ where
     W: Write + Drop + Send + 'static,
 {
     let lines = start(rt, out)?;
-    let log = RequestLog::new(
-        Arc::try_clone(&lines)?,
-        arguments.verbose,
-        arguments.escape,
-        Limits::usual(),
-    );
+    let log = RequestLog::new(Arc::try_clone(&lines)?, arguments.verbose, Limits::usual());
     Ok((lines, log))
 }
 

@@ -1,6 +1,7 @@
-use Rattle.std.proofs.Common.{refl, ap, inl, inr}
+use Rattle.std.proofs.Common.{refl, inl, inr}
+use Rattle.admin_routes.specs.Errors.{error_code_of}
 use Rattle.answering.specs.Admin.{IsCallAnswered, IsAnsweredCall, reporting}
-use Rattle.answering.proofs.ResultLemmas.{given, weaker}
+use Rattle.answering.proofs.ResultLemmas.{refused_with, weaker}
 use Rattle.answering.proofs.admin_answer.made_answer.Goals as goal
 
 pub returns-in-Ok : goal.returns-in-Ok
@@ -14,7 +15,7 @@ returns-in-Ok g c =
 pub returns-in-Err : goal.returns-in-Err
 returns-in-Err g c =
     let is = rw (c.method.ensures, c.url.ensures.value, c.body.ensures.value) at c.in-Err.ensures.error in
-    given (IsCallAnswered g.L.Origin.origin g.L.Naming.book c.args.escape c.args.seat.now c.args.seat.now
+    refused_with (IsCallAnswered g.L.Origin.origin g.L.Naming.book c.args.escape c.args.seat.now c.args.seat.now
     c.args.request.now)
-    (reporting c.error_code.result) c.reporting.result
-    (inl (refl, (c.in-Err.error, is, ap reporting c.error_code.ensures))) c.reporting.ensures
+    (reporting (error_code_of c.in-Err.error)) c.reporting.result
+    (λ reply why. inl (refl, (c.in-Err.error, is, why))) (rw c.error_code.ensures at c.reporting.ensures)
