@@ -311,6 +311,7 @@ fn answers_of<L: Origin>(
         gate: NoGate,
         clock: NoClock,
         turns,
+        page: None,
     };
     let site = Arc::new(alloc, site)?;
     Ok(Arc::new(

@@ -33,6 +33,7 @@ pub fn full<L: Origin, R: Wait>(
         gate: NoGate,
         clock: NoClock,
         turns: 0,
+        page: None,
     };
     add_answer(rt, alloc, cells, &site, &mut seat)?;
     cells.add(", then ");
@@ -45,6 +46,7 @@ pub fn full<L: Origin, R: Wait>(
         gate: _gate,
         clock: _clock,
         turns: _turns,
+        page: _page,
     } = site;
     add_settled(rt, alloc, cells, book, seat)
 }

@@ -36,6 +36,7 @@ pub fn site_of<L: Origin>(book: SharedBook<L>) -> Site<L, FirstWaits, NoClock> {
         gate: FirstWaits::new(),
         clock: NoClock,
         turns: 0,
+        page: None,
     }
 }
 
@@ -48,6 +49,7 @@ pub fn book_of<L: Origin>(site: Site<L, FirstWaits, NoClock>) -> Result<SharedBo
         gate,
         clock: _clock,
         turns: _turns,
+        page: _page,
     } = site;
     gate.held()?;
     Ok(book)

@@ -17,6 +17,7 @@ pub fn site_of<L: Origin, C>(book: SharedBook<L>, clock: C) -> Site<L, NoGate, C
         gate: NoGate,
         clock,
         turns: TURN_LIMIT,
+        page: None,
     }
 }
 
@@ -29,6 +30,7 @@ pub fn parts_of<L: Origin, C>(site: Site<L, NoGate, C>) -> (SharedBook<L>, C) {
         gate: _gate,
         clock,
         turns: _turns,
+        page: _page,
     } = site;
     (book, clock)
 }
