@@ -1,3 +1,0 @@
-pub mod AdminLemmas
-pub mod RowLemmas
-pub mod CallLemmas

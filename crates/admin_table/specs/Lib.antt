@@ -1,4 +1,0 @@
-pub mod Places
-pub mod Routes
-pub mod Segment
-pub mod Inner
