@@ -17,7 +17,7 @@ use crate::service::MessageService;
 use crate::settings::Settings;
 use futures::task::{Context, Poll};
 use futures::{Future, Stream, ready};
-use std::alloc::AllocGlobal;
+use std::alloc::{AllocError, AllocGlobal};
 use std::io;
 use std::rc::Rc;
 use std::sync::{Arc, Wait};
@@ -48,8 +48,8 @@ pub(crate) struct Accepting<R, A: Answers, M> {
     /// A connection that waits for room.
     waiting: Option<TcpStream>,
     pause: Pause<R>,
-    /// Is ready once no more are accepted by any thread.
-    ended: OwnedNotified,
+    /// Is ready once there is something to look at: no more may be accepted, there may be room, or none may be left.
+    told: OwnedNotified,
     handle: Rc<Handle>,
     connects: M,
 }
@@ -65,7 +65,7 @@ where
         pool: Arc<SeatPool<A>>,
         settings: Settings,
         pause: Pause<R>,
-        ended: OwnedNotified,
+        told: OwnedNotified,
         handle: Rc<Handle>,
         connects: M,
     ) -> Accepting<R, A, M>
@@ -82,7 +82,7 @@ where
             is_open: true,
             waiting: None,
             pause,
-            ended,
+            told,
             handle,
             connects,
         }
@@ -94,21 +94,63 @@ where
         self.left != Some(0) && self.is_open
     }
 
-    // Whether no more are accepted by this thread, or by any. Where there is no memory to wait for the last, it is seen
-    // when the next connection comes.
-    fn is_done(&mut self, cx: &mut Context<'_>) -> bool
-        ensures wanted { IsFalse result → IfSome self.old.left (λ left. 0 < left) }
+    // Waits for what is told from now on, so that nothing is missed that is looked at afterwards. What was told before
+    // ends a pause. Where there is no memory to wait for it, it is looked at after one.
+    fn listen(&mut self, cx: &mut Context<'_>)
         ensures kept { Keeps cx.old cx.new }
         ensures connects { self.new.connects ≡ self.old.connects }
         ensures pool { self.new.pool ≡ self.old.pool }
         ensures left { self.new.left ≡ self.old.left }
     {
-        !self.wants_more() || matches!(self.ended.poll(cx), Poll::Ready(Ok(())))
+        if matches!(self.told.poll(cx), Poll::Pending) {
+            return;
+        }
+        self.pause.end();
+        if let Ok(told) = self.pool.ender.notified() {
+            self.told = told;
+        }
+        self.listen_again(cx);
+    }
+
+    fn listen_again(&mut self, cx: &mut Context<'_>)
+        ensures kept { Keeps cx.old cx.new }
+        ensures connects { self.new.connects ≡ self.old.connects }
+        ensures pool { self.new.pool ≡ self.old.pool }
+        ensures left { self.new.left ≡ self.old.left }
+    {
+        match self.told.poll(cx) {
+            Poll::Pending => {}
+            Poll::Ready(Ok(())) => {
+                let _: Poll<()> = cx.yield_now();
+            }
+            Poll::Ready(Err(AllocError)) => self.pause.begin(),
+        }
+    }
+
+    // Ready where there is no pause, or once it is over.
+    fn poll_pause(&mut self, cx: &mut Context<'_>) -> Poll<()>
+        ensures registered { OnPending result (IsArmed cx.new) }
+        ensures kept { Keeps cx.old cx.new }
+        ensures connects { self.new.connects ≡ self.old.connects }
+        ensures pool { self.new.pool ≡ self.old.pool }
+        ensures left { self.new.left ≡ self.old.left }
+    {
+        self.listen(cx);
+        self.pause.poll(cx)
+    }
+
+    // Whether no more are accepted, by this thread or by any.
+    fn is_done(&self) -> bool
+        ensures { IsFalse result → IfSome self.now.left (λ left. 0 < left) }
+    {
+        !self.wants_more() || self.pool.is_done(&self.rt)
     }
 
     // No more are accepted. That is all where the end was asked for: then the connections leave, and the event loop waits
-    // for them as long as it may. Otherwise it goes on until all have ended, which is looked at now and then.
-    fn is_over(&mut self) -> bool
+    // for them as long as it may. Otherwise it goes on until all have ended.
+    fn poll_end(&mut self, cx: &mut Context<'_>) -> Poll<()>
+        ensures registered { OnPending result (IsArmed cx.new) }
+        ensures kept { Keeps cx.old cx.new }
         ensures connects { self.new.connects ≡ self.old.connects }
         ensures pool { self.new.pool ≡ self.old.pool }
         ensures left { self.new.left ≡ self.old.left }
@@ -117,13 +159,17 @@ where
         self.waiting = None;
         if self.pool.is_asked() {
             self.pool.clear(&self.rt);
-            return true;
+            return Poll::Ready(());
         }
         if !self.pool.has_connections(&self.rt) {
-            return true;
+            return Poll::Ready(());
         }
+        if matches!(self.told.poll(cx), Poll::Pending) {
+            return Poll::Pending;
+        }
+        // Something was told meanwhile, or there is no memory to wait for it.
         self.pause.begin();
-        false
+        cx.yield_now()
     }
 
     // A place with a seat of this number, if the connection can be served.
@@ -200,17 +246,16 @@ where
         }
     }
 
-    // The socket waits, and the connection that has been silent longest is asked to make room. Where none is, it is
-    // looked at again soon.
+    // The socket waits, and the connection that has been silent longest is asked to make room. It is looked at again
+    // once there is room, and soon in any case: another may have been silent long enough then.
     fn wait_for_room(&mut self, socket: TcpStream)
         ensures connects { self.new.connects ≡ self.old.connects }
         ensures pool { self.new.pool ≡ self.old.pool }
         ensures left { self.new.left ≡ self.old.left }
     {
         self.waiting = Some(socket);
-        if !self.pool.make_room(&self.rt) {
-            self.pause.begin();
-        }
+        self.pool.make_room(&self.rt);
+        self.pause.begin();
     }
 
     // The connection of a socket, whose requests are answered by the seat of the place, which has this number; `None`
@@ -282,12 +327,10 @@ where
         (site_in accepting.pool) task.connection.value) accepting.left };
 
     fn poll_next(&mut self, cx: &mut Context<'_>) -> Poll<Option<ConnectionTask<R, A, F>>> {
-        ready!(self.pause.poll(cx));
-        if self.is_done(cx) {
-            if self.is_over() {
-                return Poll::Ready(None);
-            }
-            return cx.yield_now();
+        ready!(self.poll_pause(cx));
+        if self.is_done() {
+            ready!(self.poll_end(cx));
+            return Poll::Ready(None);
         }
         let socket = match ready!(self.poll_socket(cx)) {
             Ok(socket) => socket,
