@@ -94,8 +94,38 @@ where
         self.left != Some(0) && self.is_open
     }
 
-    // Waits for what is told from now on, so that nothing is missed that is looked at afterwards. What was told before
-    // ends a pause. Where there is no memory to wait for it, it is looked at after one.
+    // Ready where there is no pause, or once it is over. From then on nothing is missed that is told.
+    fn poll_turn(&mut self, cx: &mut Context<'_>) -> Poll<()>
+        ensures registered { OnPending result (IsArmed cx.new) }
+        ensures kept { Keeps cx.old cx.new }
+        ensures connects { self.new.connects ≡ self.old.connects }
+        ensures pool { self.new.pool ≡ self.old.pool }
+        ensures left { self.new.left ≡ self.old.left }
+    {
+        ready!(self.poll_pause(cx));
+        self.listen(cx);
+        Poll::Ready(())
+    }
+
+    // What is told ends a pause.
+    fn poll_pause(&mut self, cx: &mut Context<'_>) -> Poll<()>
+        ensures registered { OnPending result (IsArmed cx.new) }
+        ensures kept { Keeps cx.old cx.new }
+        ensures connects { self.new.connects ≡ self.old.connects }
+        ensures pool { self.new.pool ≡ self.old.pool }
+        ensures left { self.new.left ≡ self.old.left }
+    {
+        if let Poll::Ready(()) = self.pause.poll(cx) {
+            return Poll::Ready(());
+        }
+        if let Poll::Ready(Ok(())) = self.told.poll(cx) {
+            self.pause.end();
+            return Poll::Ready(());
+        }
+        Poll::Pending
+    }
+
+    // Waits for what is told from now on. Whatever there is to look at is looked at afterwards.
     fn listen(&mut self, cx: &mut Context<'_>)
         ensures kept { Keeps cx.old cx.new }
         ensures connects { self.new.connects ≡ self.old.connects }
@@ -105,38 +135,28 @@ where
         if matches!(self.told.poll(cx), Poll::Pending) {
             return;
         }
-        self.pause.end();
         if let Ok(told) = self.pool.ender.notified() {
             self.told = told;
         }
-        self.listen_again(cx);
-    }
-
-    fn listen_again(&mut self, cx: &mut Context<'_>)
-        ensures kept { Keeps cx.old cx.new }
-        ensures connects { self.new.connects ≡ self.old.connects }
-        ensures pool { self.new.pool ≡ self.old.pool }
-        ensures left { self.new.left ≡ self.old.left }
-    {
         match self.told.poll(cx) {
             Poll::Pending => {}
             Poll::Ready(Ok(())) => {
                 let _: Poll<()> = cx.yield_now();
             }
-            Poll::Ready(Err(AllocError)) => self.pause.begin(),
+            Poll::Ready(Err(AllocError)) => self.look_again_soon(cx),
         }
     }
 
-    // Ready where there is no pause, or once it is over.
-    fn poll_pause(&mut self, cx: &mut Context<'_>) -> Poll<()>
-        ensures registered { OnPending result (IsArmed cx.new) }
+    // Where there is no memory to wait for what is told, it is looked at again after a pause.
+    fn look_again_soon(&mut self, cx: &mut Context<'_>)
+        ensures armed { IsArmed cx.new }
         ensures kept { Keeps cx.old cx.new }
-        ensures connects { self.new.connects ≡ self.old.connects }
-        ensures pool { self.new.pool ≡ self.old.pool }
-        ensures left { self.new.left ≡ self.old.left }
+        ensures same { self.new ≡ record self.old { pause = self.new.pause } }
     {
-        self.listen(cx);
-        self.pause.poll(cx)
+        self.pause.begin();
+        if let Poll::Ready(()) = self.pause.poll(cx) {
+            let _: Poll<()> = cx.yield_now();
+        }
     }
 
     // Whether no more are accepted, by this thread or by any.
@@ -168,8 +188,8 @@ where
             return Poll::Pending;
         }
         // Something was told meanwhile, or there is no memory to wait for it.
-        self.pause.begin();
-        cx.yield_now()
+        self.look_again_soon(cx);
+        Poll::Pending
     }
 
     // A place with a seat of this number, if the connection can be served.
@@ -327,7 +347,7 @@ where
         (site_in accepting.pool) task.connection.value) accepting.left };
 
     fn poll_next(&mut self, cx: &mut Context<'_>) -> Poll<Option<ConnectionTask<R, A, F>>> {
-        ready!(self.poll_pause(cx));
+        ready!(self.poll_turn(cx));
         if self.is_done() {
             ready!(self.poll_end(cx));
             return Poll::Ready(None);
