@@ -125,8 +125,10 @@ where
         Poll::Pending
     }
 
-    // Waits for what is told from now on. Whatever there is to look at is looked at afterwards.
+    // Waits for what is told from now on, or where there is no memory for that, for the end of a pause. Whatever there is
+    // to look at is looked at afterwards.
     fn listen(&mut self, cx: &mut Context<'_>)
+        ensures armed { IsArmed cx.new }
         ensures kept { Keeps cx.old cx.new }
         ensures connects { self.new.connects ≡ self.old.connects }
         ensures pool { self.new.pool ≡ self.old.pool }
@@ -147,7 +149,7 @@ where
         }
     }
 
-    // Where there is no memory to wait for what is told, it is looked at again after a pause.
+    // It is looked at again after a pause.
     fn look_again_soon(&mut self, cx: &mut Context<'_>)
         ensures armed { IsArmed cx.new }
         ensures kept { Keeps cx.old cx.new }
