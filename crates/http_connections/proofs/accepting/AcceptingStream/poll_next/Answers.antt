@@ -3,6 +3,13 @@ use Rattle.http_connections.proofs.Accepted.{closed, handed_on, none_accepted}
 use Rattle.http_connections.proofs.accepting.AcceptingStream.poll_next.Goals as goal
 use Rattle.http_connections.specs.Site.{IsConnectionOf, site_in}
 
+pub returns-clause-same : goal.returns-clause-same
+returns-clause-same g c = λ tasks last wanted.
+    none_accepted (λ connects pool task. (socket : _) × IsConnectionOf g.M.Connects.makes connects socket
+    (site_in pool) task.connection.value) c.args.self.now.connects c.poll_turn.new.self.connects
+    c.args.self.now.pool c.poll_turn.new.self.pool c.args.self.now.left c.poll_turn.new.self.left tasks last
+    c.poll_turn.ensures.connects c.poll_turn.ensures.pool c.poll_turn.ensures.left wanted
+
 pub returns-2-clause-same : goal.returns-2-clause-same
 returns-2-clause-same g c = λ tasks last wanted.
     none_accepted (λ connects pool task. (socket : _) × IsConnectionOf g.M.Connects.makes connects socket
@@ -13,7 +20,7 @@ returns-2-clause-same g c = λ tasks last wanted.
     (c.poll_socket.ensures.left ∙ (c.poll_turn.ensures.left)) wanted
 
 pub returns-in-Err-clause-same : goal.returns-in-Err-clause-same
-returns-in-Err-clause-same g c = rw c.yield_now-in-Err.ensures.pending (λ tasks last wanted.
+returns-in-Err-clause-same g c = rw c.yield_now.ensures.pending (λ tasks last wanted.
     none_accepted (λ connects pool task. (socket : _) × IsConnectionOf g.M.Connects.makes connects socket
     (site_in pool) task.connection.value) c.args.self.now.connects c.refused.new.self.connects
     c.args.self.now.pool c.refused.new.self.pool c.args.self.now.left c.refused.new.self.left tasks last
@@ -61,8 +68,8 @@ returns-in-Later-clause-same g c = rw c.yield_now-in-Later.ensures.pending (λ t
     (c.wait_for_room.ensures.pool ∙ (c.poll_socket.ensures.pool ∙ (c.poll_turn.ensures.pool)))
     (c.wait_for_room.ensures.left ∙ (c.poll_socket.ensures.left ∙ (c.poll_turn.ensures.left))) wanted)
 
-pub returns-then-is_done-1-clause-same : goal.returns-then-is_done-1-clause-same
-returns-then-is_done-1-clause-same g c = λ tasks last wanted.
+pub returns-then-is_done-clause-same : goal.returns-then-is_done-clause-same
+returns-then-is_done-clause-same g c = λ tasks last wanted.
     none_accepted (λ connects pool task. (socket : _) × IsConnectionOf g.M.Connects.makes connects socket
     (site_in pool) task.connection.value) c.args.self.now.connects c.poll_end.new.self.connects
     c.args.self.now.pool c.poll_end.new.self.pool c.args.self.now.left c.poll_end.new.self.left tasks last
