@@ -205,11 +205,6 @@ impl Notes {
         self.add_line(["refused ", call, ": ", reason, "\n"].as_slice())
     }
 
-    /// A warning of an admin call that was made.
-    pub fn add_warning(&mut self, call: &str, warning: &str) -> Result<(), AllocError> {
-        self.add_line(["warning: ", call, ": ", warning, "\n"].as_slice())
-    }
-
     /// What there is to say of a mapping that was posted, and which has this error, if it has one.
     pub fn add_posted(
         &mut self,
