@@ -1,7 +1,7 @@
 -- What a message begins, by what its request does.
 use Rattle.std.proofs.Common.{◌≡◌, ◌≤◌, ◌<◌, ℕ, List, All, length, Ok, Err, refl, subst, sym, inr}
 use Rattle.std.specs.Prelude.{Option, Result, IsErrOf, MatchResult}
-use Rattle.admin_table.specs.Routes.{IsAdmin}
+use Rattle.admin_routes.specs.Routes.{IsAdmin}
 use Rattle.http.specs.Request.{body_of}
 use Rattle.http.specs.declared.request.Request.{Request as Message}
 use Rattle.http_header.specs.FieldName.{IsHeaderName}

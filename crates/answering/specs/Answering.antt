@@ -1,6 +1,6 @@
 -- How a message is answered.
 use Rattle.std.specs.Prelude.{◌≡◌, ◌⊎◌, ◌<◌, ◌≤◌, ℕ, List, IfOk, Option, Result, length}
-use Rattle.admin_table.specs.Routes.{IsAdmin}
+use Rattle.admin_routes.specs.Routes.{IsAdmin}
 use Rattle.error_code.specs.declared.error_code.ErrorCode.{ErrorCode}
 use Rattle.error_code.specs.declared.error_code.ErrorCode.TheVariants.{BadUrl, OutOfMemory, TooLarge}
 use Rattle.http.specs.Request.{body_of}

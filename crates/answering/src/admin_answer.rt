@@ -15,6 +15,7 @@ use admin_answers::admin_answer::AdminAnswer;
 use admin_answers::answer::answer_admin;
 use admin_routes::admin::admin_with;
 use admin_routes::call::AdminCall;
+use admin_routes::router::AdminRoutes;
 use bytes::Bytes;
 use call_refusal::refusal::Refusal;
 use call_refusal::told::{Told, told_of};
@@ -58,17 +59,21 @@ pub(crate) fn admin_answer<L: Origin, R: Wait, G: Gate, C: Clock>(
         reply) }
 {
     if is_foreign(request) {
-        return foreign_outcome(alloc, request);
+        return foreign_outcome(alloc, &site.routes, request);
     }
     own_answer(rt, alloc, site, seat, request)
 }
 
 // What comes of a call that a page of another site makes.
-fn foreign_outcome(alloc: Global, request: &Snapshot) -> Result<AdminOutcome, AllocError>
+fn foreign_outcome(
+    alloc: Global,
+    routes: &AdminRoutes,
+    request: &Snapshot,
+) -> Result<AdminOutcome, AllocError>
     ensures { IfOk result (λ outcome. IsRefusalReply foreign_reply (reply_in outcome)) }
 {
     let reply = foreign_reply(alloc)?;
-    Ok(refusing(alloc, request, reply, Refusal::Foreign))
+    Ok(refusing(alloc, routes, request, reply, Refusal::Foreign))
 }
 
 fn foreign_reply(alloc: Global) -> Result<Reply, AllocError>
@@ -94,7 +99,10 @@ fn own_answer<L: Origin, R: Wait, G: Gate, C: Clock>(
 {
     match page_in(&site.page, request) {
         Some(page) => page_answer(alloc, page),
-        None => made_answer(rt, alloc, &site.book, seat, request, site.escape),
+        None => {
+            let (shared, routes) = (&site.book, &site.routes);
+            made_answer(rt, alloc, shared, routes, seat, request, site.escape)
+        }
     }
 }
 
@@ -110,6 +118,7 @@ fn made_answer<L: Origin, R: Wait>(
     rt: &R,
     alloc: Global,
     shared: &SharedBook<L>,
+    routes: &AdminRoutes,
     seat: &mut Seat<L>,
     request: &Snapshot,
     escape: Escape,
@@ -120,15 +129,16 @@ fn made_answer<L: Origin, R: Wait>(
 {
     match admin_with(
         alloc,
+        routes,
         request.method(),
         request.url(),
         request.body(),
         escape,
     ) {
-        Ok(call) => call_answer(rt, alloc, shared, seat, request, call),
+        Ok(call) => call_answer(rt, alloc, shared, routes, seat, request, call),
         Err(error) => {
             let why = Refusal::NoCall(error);
-            reporting(alloc, request, error.error_code(), why)
+            reporting(alloc, routes, request, error.error_code(), why)
         }
     }
 }
@@ -137,6 +147,7 @@ fn call_answer<L: Origin, R: Wait>(
     rt: &R,
     alloc: Global,
     shared: &SharedBook<L>,
+    routes: &AdminRoutes,
     seat: &mut Seat<L>,
     request: &Snapshot,
     call: AdminCall,
@@ -149,7 +160,7 @@ fn call_answer<L: Origin, R: Wait>(
         Ok(answer) => Ok(AdminOutcome::Answered(answer)),
         Err(error) => {
             let why = Refusal::Unanswered(error.code);
-            reporting(alloc, request, error.code, why)
+            reporting(alloc, routes, request, error.code, why)
         }
     }
 }
@@ -157,6 +168,7 @@ fn call_answer<L: Origin, R: Wait>(
 // The reply that reports the error, which tells the client why.
 fn reporting(
     alloc: Global,
+    routes: &AdminRoutes,
     request: &Snapshot,
     reason: ErrorCode,
     why: Refusal,
@@ -164,7 +176,7 @@ fn reporting(
     ensures { IfOk result (λ outcome. IsRefusalReply (reporting reason) (reply_in outcome)) }
 {
     let reply = reporting_reply(alloc, reason)?;
-    Ok(refusing(alloc, request, reply, why))
+    Ok(refusing(alloc, routes, request, reply, why))
 }
 
 fn reporting_reply(alloc: Global, reason: ErrorCode) -> Result<Reply, AllocError>
@@ -174,10 +186,23 @@ fn reporting_reply(alloc: Global, reason: ErrorCode) -> Result<Reply, AllocError
 }
 
 // The reply, which tells the client why the call is refused. Without memory for that, it is the reply alone.
-fn refusing(alloc: Global, request: &Snapshot, reply: Reply, why: Refusal) -> AdminOutcome
+fn refusing(
+    alloc: Global,
+    routes: &AdminRoutes,
+    request: &Snapshot,
+    reply: Reply,
+    why: Refusal,
+) -> AdminOutcome
     ensures { IsRefusalReply reply (reply_in result) }
 {
-    match told_of(alloc, request.method(), request.url(), request.body(), why) {
+    match told_of(
+        alloc,
+        routes,
+        request.method(),
+        request.url(),
+        request.body(),
+        why,
+    ) {
         Ok(told) => {
             let Told { lines, reason } = told;
             AdminOutcome::Refused(with_reason(alloc, reply, reason), lines)

@@ -22,7 +22,8 @@ use crate::response::{error_response, listed_response, response_of};
 use crate::serve::serve;
 use crate::site::Site;
 use admin_answers::admin_answer::AdminAnswer;
-use admin_table::route::is_admin;
+use admin_routes::router::AdminRoutes;
+use admin_routes::url::is_admin;
 use bytes::Bytes;
 use call_refusal::refusal::Refusal;
 use call_refusal::told::told_of;
@@ -56,7 +57,7 @@ pub(crate) fn begin_message<L: Origin, R: Wait, G: Gate, C: Clock>(
             request.law_names();
             begin_request(rt, alloc, site, seat, request)
         }
-        Err(error) => unread(alloc, message, error),
+        Err(error) => unread(alloc, &site.routes, message, error),
     }
 }
 
@@ -84,6 +85,7 @@ fn request_of<L: Origin>(
 #[inline(never)]
 fn unread(
     alloc: Global,
+    routes: &AdminRoutes,
     message: &Request<Bytes>,
     error: SnapshotError,
 ) -> Result<Begun, AllocError>
@@ -95,7 +97,7 @@ fn unread(
         return Ok(Begun::Answered(response));
     }
     let why = Refusal::Unanswered(error.error_code());
-    let lines = match told_of(alloc, message.method().as_str(), path, b"", why) {
+    let lines = match told_of(alloc, routes, message.method().as_str(), path, b"", why) {
         Ok(told) => told.into_lines(),
         Err(AllocError) => String::new(alloc),
     };

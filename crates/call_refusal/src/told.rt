@@ -3,6 +3,7 @@ use crate::methods::methods_of;
 use crate::reason::Reason;
 use crate::refusal::Refusal;
 use admin_routes::error::AdminError;
+use admin_routes::router::AdminRoutes;
 use error_code::error_code::ErrorCode;
 use itoa::Buffer;
 use mapping_diagnosis::notes::Notes;
@@ -34,6 +35,7 @@ impl Told {
 /// Why the call with this method, URL and body is refused, for the server's user and for the client.
 pub fn told_of(
     alloc: Global,
+    routes: &AdminRoutes,
     method: &str,
     url: &str,
     body: &[u8],
@@ -42,7 +44,7 @@ pub fn told_of(
     let path = path_of(url);
     let call = call_of(alloc, method, path)?;
     let mut notes = Notes::new(alloc);
-    let title = title_of(alloc, path, refusal)?;
+    let title = title_of(alloc, routes, path, refusal)?;
     notes.add_refusal(call.as_str(), title.as_str())?;
     add_body(alloc, &mut notes, call.as_str(), body, refusal)?;
     let lines = notes.into_string();
@@ -70,10 +72,15 @@ pub fn path_of(url: &str) -> &str {
 }
 
 // As `error 12: unsupported field`.
-fn title_of(alloc: Global, path: &str, refusal: Refusal) -> Result<String, AllocError> {
+fn title_of(
+    alloc: Global,
+    routes: &AdminRoutes,
+    path: &str,
+    refusal: Refusal,
+) -> Result<String, AllocError> {
     match refusal {
         Refusal::Foreign => String::from_str(alloc, "not for pages of other sites"),
-        Refusal::NoCall(AdminError::UnknownCall) => unknown_title(alloc, path),
+        Refusal::NoCall(AdminError::UnknownCall) => unknown_title(alloc, routes, path),
         Refusal::NoCall(error) => error_title(alloc, error.error_code()),
         Refusal::Unanswered(code) => error_title(alloc, code),
     }
@@ -88,9 +95,13 @@ fn error_title(alloc: Global, code: ErrorCode) -> Result<String, AllocError> {
 }
 
 // Of a path that calls with other methods have, it names these.
-fn unknown_title(alloc: Global, path: &str) -> Result<String, AllocError> {
+fn unknown_title(
+    alloc: Global,
+    routes: &AdminRoutes,
+    path: &str,
+) -> Result<String, AllocError> {
     let mut title = error_title(alloc, ErrorCode::UnknownAdminCall)?;
-    let methods = methods_of(alloc, path)?;
+    let methods = methods_of(alloc, routes, path)?;
     if !methods.is_empty() {
         title.push_str(": this path has the methods ")?;
         title.push_str(methods.as_str())?;

@@ -10,6 +10,7 @@ use crate::arguments::ServeArguments;
 use crate::descriptors::open_connections;
 use crate::server_log::ServerLog;
 use crate::watch::Watch;
+use admin_routes::router::AdminRoutes;
 use answering::clock::SystemClock;
 use answering::site::Site;
 use bytes::Bytes;
@@ -418,6 +419,7 @@ where
         gate: NoGate,
         clock: SystemClock::new(rt),
         turns: TURN_LIMIT,
+        routes: AdminRoutes::new(rt.alloc())?,
         page,
     };
     let site = Arc::new(rt.alloc(), site)?;

@@ -7,7 +7,7 @@ use crate::over_budget::over_budget_line;
 use crate::request_line::request_line;
 use crate::shared_names::{have_scenario, shared_name_lines};
 use crate::skipped::skipped_lines;
-use admin_table::route::is_admin;
+use admin_routes::url::is_admin;
 use bytes::Bytes;
 use call_refusal::told::call_of;
 use error_code::error_code::ErrorCode;

@@ -1,6 +1,6 @@
 -- For private clauses: what a response is, of which no reply was made, and what is to be forwarded or rendered.
 use Rattle.std.specs.Prelude.{◌≡◌, ℕ, List}
-use Rattle.admin_table.specs.Routes.{IsAdmin}
+use Rattle.admin_routes.specs.Routes.{IsAdmin}
 use Rattle.http.specs.declared.response.Response.{Response}
 use Rattle.answering.specs.Forwarding.{serve_receipt}
 use Rattle.answering.specs.Rendering.{rendering_receipt}

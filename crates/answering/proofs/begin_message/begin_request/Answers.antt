@@ -1,6 +1,6 @@
 use Rattle.std.proofs.Common.{sym, ◌∙◌, subst, inl, inr}
 use Rattle.std.proofs.lemmas.Bool.{false≢true}
-use Rattle.admin_table.specs.Routes.{IsAdmin}
+use Rattle.admin_routes.specs.Routes.{IsAdmin}
 use Rattle.answering.specs.Admin.{IsAdminAnswered}
 use Rattle.answering.specs.Answering.{IsRequestAnswered, IsServeAnswered}
 use Rattle.answering.specs.Inner.Sent.{IsRequestToForward, IsRequestToRender, IsServedToForward, IsServedToRender}
