@@ -53,6 +53,7 @@ cut_at value rest none =
       | true ↦ refl
       | false ↦ slashed bs
     ]
+
     first : (text : List ℕ) → has_slash text ≡ false → segment (text ++ slash ∷ rest) ≡ text ++ slash ∷ []
     first [] e = refl
     first (b ∷ bs) e =

@@ -209,6 +209,7 @@ module _ {K : Type 0} where
     where
       cuts_it : cuts (segment path) end ≡ true
       cuts_it = rw cut.first (slash_cuts (b ∷ bs) (omega arith))
+
       by : (longest_suffix (segment path) rows ≡ []) ⊎ (longest_suffix (segment path) rows ≡ end)
           → ((param_step rows path).1 ≡ []) ⊎ Takes rows path (param_step rows path)
       by (inl none) = inl (takes_none rows path (b ∷ bs) rest cut none)
