@@ -8,6 +8,9 @@ returns-clause-sends g c = IfOk-weaker c.exchange.result _ _
 
 pub returns-clause-reaches : goal.returns-clause-reaches
 returns-clause-reaches g c = IfOk-weaker c.exchange.result _ _
-    (λ exchange start. (c.address_of.result, c.address_of.ensures,
-    rw c.in_ok-elsewhere.was at c.connect.ensures.elsewhere))
+    (λ exchange start. (
+      c.address_of.result,
+      c.address_of.ensures,
+      rw c.in_ok-elsewhere.was at c.connect.ensures.elsewhere,
+    ))
     c.exchange.ensures.start
