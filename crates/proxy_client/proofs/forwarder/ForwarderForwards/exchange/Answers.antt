@@ -3,7 +3,7 @@ use Rattle.proxy_client.proofs.forwarder.ForwarderForwards.exchange.Goals as goa
 
 pub returns-clause-sends : goal.returns-clause-sends
 returns-clause-sends g c = IfOk-weaker c.exchange.result _ _
-    (λ exchange (start, stage, sent, builder, turns). (c.in_ok-elsewhere.field-0, start, stage, sent))
+    (λ exchange (start, stage, sent, builder, turns). (c.in_ok-elsewhere.elsewhere, start, stage, sent))
     c.exchange.ensures.start
 
 pub returns-clause-reaches : goal.returns-clause-reaches
