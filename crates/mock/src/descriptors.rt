@@ -13,6 +13,10 @@ const USUAL_CONNECTIONS: u64 = 900;
 /// Descriptors that are no connection's: the standard streams, what listens, a file, and what the event loop has.
 const OWN_DESCRIPTORS: u64 = 16;
 
+/// Descriptors that are kept for connections to targets, where there are more than twice as many: a request that is
+/// forwarded has one while its connection waits.
+const FORWARD_DESCRIPTORS: u64 = 108;
+
 /// How many connections may be open at a time: as many as the arguments say, or else as descriptors allow, which is
 /// said where it is fewer than usual.
 pub fn open_connections<E: Write>(given: Option<u64>, err: &mut E) -> u64 {
@@ -32,12 +36,15 @@ pub fn open_connections<E: Write>(given: Option<u64>, err: &mut E) -> u64 {
     count
 }
 
-// As many as there are descriptors for beside those of the process, and one at least.
+// As many as there are descriptors for beside those of the process and those for targets, and one at least. Of few
+// descriptors half are for targets, so that each connection may wait for one; more aren't kept than leave the usual
+// number of connections with 1,024.
 fn connections_within(limit: u64) -> u64
     ensures { result ≡ connections_within limit }
 {
-    limit
-        .saturating_sub(OWN_DESCRIPTORS)
+    let free = limit.saturating_sub(OWN_DESCRIPTORS);
+    (free / 2)
+        .max(free.saturating_sub(FORWARD_DESCRIPTORS))
         .max(1)
         .min(USUAL_CONNECTIONS)
 }
