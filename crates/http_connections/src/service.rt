@@ -6,6 +6,7 @@ ghost use Rattle.http_connections.specs.declared.content_error.ContentError.{Con
 ghost use Rattle.http_connections.specs.declared.service.Answering.TheVariants.{Forwarding as Forwards, Made};
 ghost use Rattle.http_connections.specs.declared.service.Answering.TheVariants.{Waiting as Waits};
 ghost use Rattle.http.specs.Request.{body_of, head_of};
+ghost use Rattle.hyper.specs.Incoming.{size_left};
 ghost use Rattle.http_connections.specs.Answering.{IsCalled};
 ghost use Rattle.http_connections.specs.Content.{IsAnswerFor, IsAnswerTo, IsContentAtOnce, IsNewFor, IsTooLong};
 ghost use Rattle.http_connections.specs.Inner.Begun.{IsBegunWith};
@@ -105,7 +106,7 @@ where
 
     // A request without content is answered at once, or forwarded.
     fn call(&self, request: Request<Incoming<I>>) -> Self::Future {
-        if request.body().size_hint().exact() == Some(0) {
+        if is_empty(request.body()) {
             let message = with_content(request, Bytes::new());
             return self.at_once(&message);
         }
@@ -347,6 +348,12 @@ fn with_content<I: Drop>(request: Request<Incoming<I>>, content: Bytes) -> Reque
 {
     let (head, _body) = request.into_parts();
     Request::from_parts(head, content)
+}
+
+fn is_empty<I: Drop>(body: &Incoming<I>) -> bool
+    ensures { IsTrue result → size_left body.now.kind ≡ Some 0 }
+{
+    body.size_hint().exact() == Some(0)
 }
 
 fn is_too_long<I: Drop>(body: &Incoming<I>) -> bool
