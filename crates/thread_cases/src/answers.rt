@@ -33,6 +33,7 @@ pub fn answer_to<L: Origin, R: Wait, G: Gate, C: Clock>(
     let message = message(alloc, asked)?;
     match begin(rt, alloc, site, seat, &message) {
         Ok(Begun::Answered(response)) => described(&response),
+        Ok(Begun::Refused(refused)) => described(&refused.response),
         Ok(Begun::ToForward(_forward)) => Err(AllocError),
         Ok(Begun::ToRender(rendering)) => {
             match rendered_response(alloc, rendering.reply(alloc)) {
