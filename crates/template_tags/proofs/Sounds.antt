@@ -184,7 +184,7 @@ module _ (limit : ℕ) (levels : List Level) where
   loop_value_sound (suc loops) First = (omega arith, omega arith)
   loop_value_sound (suc loops) Last = (omega arith, omega arith)
 
-  value_sound : (text : List ℕ) (w : Word) → FitWord limit w → SoundRead 0 (word_value levels text w)
+  pub value_sound : (text : List ℕ) (w : Word) → FitWord limit w → SoundRead 0 (word_value levels text w)
   value_sound text (text_word literal) h = (h, omega arith)
   value_sound text (number_word n) h = (h, omega arith)
   value_sound text (truth_word b) h = (tt, omega arith)

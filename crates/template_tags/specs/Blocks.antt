@@ -14,9 +14,11 @@ use Rattle.template_tags.specs.Expression.{Expression, datum}
 use Rattle.template_tags.specs.Items.{Item, word, left_parenthesis, right_parenthesis}
 use Rattle.template_tags.specs.Levels.{block_name, loops_open}
 use Rattle.template_tags.specs.Tags.{Tag, open_if, open_each, begin_else, close}
-use Rattle.template_tags.specs.Terms.{Terms, Nest, nest_of, is_balanced}
+use Rattle.template_tags.specs.Terms.{terms_in, is_matched}
 use Rattle.template_tags.specs.declared.expression.Datum.{Datum}
 use Rattle.template_tags.specs.declared.level.TheConstants.{BLOCK_LIMIT, LOOP_LIMIT}
+use Rattle.template_tags.specs.declared.level.Block.{Block}
+use Rattle.template_tags.specs.declared.level.Block.TheVariants.{If, Unless, Each}
 use Rattle.template_tags.specs.declared.level.Level.{Level}
 
 -- ---- parameters
@@ -75,14 +77,9 @@ has_parameters items = is_some (loop_items items).parameter || has_names items
 
 -- ---- what an opening tag takes
 
--- the errors of terms that no call and no block takes
-abbrev pub unused_errors : List Level → List Terms → Option TagError
-unused_errors levels [] = None
-unused_errors levels (terms ∷ later) = joined (errors_in (arguments levels terms)) (unused_errors levels later)
-
 -- a parenthesis without its other one is a malformed word
-abbrev pub nest_error : List Level → Nest → Option TagError
-nest_error levels nest = joined (error_if BadPath (not (is_balanced nest))) (unused_errors levels nest.later)
+abbrev pub match_error : List Item → Option TagError
+match_error items = error_if BadPath (not (is_matched items))
 
 -- the argument, where there is one
 abbrev pub only_one : List (Result Expression TagError) → Result Expression TagError
@@ -91,8 +88,8 @@ only_one (a ∷ []) = a
 only_one (a ∷ b ∷ more) = beside (errors_in (a ∷ b ∷ more)) (Err WrongArguments)
 
 -- the one argument of a block
-abbrev pub block_argument : List Level → Nest → Result Expression TagError
-block_argument levels nest = beside (nest_error levels nest) (only_one (arguments levels nest.terms))
+abbrev pub block_argument : List Level → List Item → Result Expression TagError
+block_argument levels items = beside (match_error items) (only_one (arguments levels (terms_in items)))
 
 -- another block, or another loop, in those that are open
 abbrev pub block_error : List Level → Option TagError
@@ -112,7 +109,7 @@ abbrev pub test_said : List Level → Bool → List Item → Result Tag TagError
 test_said levels unless items =
     beside (block_error levels)
     (beside (error_if UnsupportedTag (has_parameters items))
-    (if_read unless (block_argument levels (nest_of items))))
+    (if_read unless (block_argument levels items)))
 
 abbrev pub data_only : Result Expression TagError → Result Datum TagError
 data_only (Ok (datum d)) = Ok d
@@ -130,7 +127,7 @@ each_read parameter read = read >>= λ over. Ok (open_each over parameter)
 abbrev pub loop_said : List Level → LoopItems → Result Tag TagError
 loop_said levels loop =
     beside (error_if UnsupportedTag (is_taken loop.parameter))
-    (each_read loop.parameter (data_only (block_argument levels (nest_of loop.items))))
+    (each_read loop.parameter (data_only (block_argument levels loop.items)))
 
 -- an `each` has one parameter at most
 abbrev pub each_said : List Level → List Item → Result Tag TagError
@@ -138,13 +135,12 @@ each_said levels items =
     beside (loop_error levels)
     (beside (error_if UnsupportedTag (has_names items)) (loop_said levels (loop_items items)))
 
--- a tag with `#` and that name
-abbrev pub opening_said : List Level → List ℕ → List Item → Result Tag TagError
-opening_said levels name items =
-    if bytes_eq name (codes "if") then test_said levels false items
-    else if bytes_eq name (codes "unless") then test_said levels true items
-    else if bytes_eq name (codes "each") then each_said levels items
-    else Err UnsupportedTag
+-- a tag that opens a block
+abbrev pub opening_said : List Level → Option Block → List Item → Result Tag TagError
+opening_said levels None items = Err UnsupportedTag
+opening_said levels (Some If) items = test_said levels false items
+opening_said levels (Some Unless) items = test_said levels true items
+opening_said levels (Some Each) items = each_said levels items
 
 -- ---- else and close
 
@@ -166,11 +162,11 @@ close_alone [] = Ok close
 close_alone (item ∷ items) = Err UnsupportedTag
 
 -- the errors of a tag's words, as arguments
-abbrev pub all_errors : List Level → Nest → Option TagError
-all_errors levels nest = unused_errors levels (nest.terms ∷ nest.later)
+abbrev pub all_errors : List Level → List Item → Option TagError
+all_errors levels items = joined (match_error items) (errors_in (arguments levels (terms_in items)))
 
 -- a tag with `/` and that name, which closes the innermost open block
 abbrev pub closing_said : List Level → List ℕ → List Item → Result Tag TagError
 closing_said levels name items =
     if is_innermost name levels then close_alone items
-    else beside (all_errors levels (nest_of items)) (Err UnexpectedClose)
+    else beside (all_errors levels items) (Err UnexpectedClose)

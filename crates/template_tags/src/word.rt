@@ -241,6 +241,20 @@ pub fn argument_word(
     word_value(alloc, levels, word.text, word_of(alloc, word)?)
 }
 
+/// The value of a word.
+pub fn read_value(
+    alloc: Global,
+    levels: &[Level],
+    word: WordText<'_>,
+) -> Result<Result<Expression, TagError>, AllocError>
+    requires { length levels.now < 2 ^ 32 }
+    ensures { IfOk result
+        (λ read. read_view read
+        ≡ word_value (reverse levels.now) word.entry.text.now (word_of word.entry.text.now)) }
+{
+    word_value(alloc, levels, word.text, word_of(alloc, word)?)
+}
+
 /// The value of a word alone in a tag.
 pub fn lone_value(
     alloc: Global,
