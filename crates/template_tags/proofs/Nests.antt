@@ -9,9 +9,9 @@ use Rattle.helper_set.specs.declared.helper.Helper.{Helper}
 use Rattle.template_words.specs.Errors.{joined}
 use Rattle.template_words.specs.declared.error.TagError.{TagError}
 use Rattle.template_words.specs.declared.error.TagError.TheVariants.{UnknownHelper}
-use Rattle.template_tags.specs.Blocks.{match_error, only_one, block_argument, all_errors}
-use Rattle.template_tags.specs.Calls.{beside, error_in, errors_in, limited, argument, arguments, call_of}
-use Rattle.template_tags.specs.Calls.{call_read, helper_read}
+use Rattle.template_tags.specs.Inner.BlockReads.{match_error, only_one, block_argument, all_errors}
+use Rattle.template_tags.specs.Inner.CallReads.{beside, error_in, errors_in, limited, argument, arguments, call_of}
+use Rattle.template_tags.specs.Inner.CallReads.{call_read, helper_read}
 use Rattle.template_tags.specs.Expression.{Expression}
 use Rattle.template_tags.specs.Inner.Pieces.{Piece, Parts, word_piece, group_piece, capped, piece_of, pieces_of}
 use Rattle.template_tags.specs.Inner.Pieces.{stack_pieces, parts_of, word_pieces, greatest, piece_height}
@@ -19,7 +19,7 @@ use Rattle.template_tags.specs.Inner.Pieces.{piece_argument, piece_arguments, pi
 use Rattle.template_tags.specs.Inner.Pieces.{grouped_pieces, group_of_height, piece_before, pieces_before}
 use Rattle.template_tags.specs.Inner.Pieces.{all_parts_error, block_parts, value_pieces, print_parts}
 use Rattle.template_tags.specs.Items.{Item, word, left_parenthesis, right_parenthesis}
-use Rattle.template_tags.specs.Said.{value_said, print_read, print_said}
+use Rattle.template_tags.specs.Inner.TagReads.{value_said, print_read, print_said}
 use Rattle.template_tags.specs.Terms.{Term, single, group, Terms, no_terms, first_term, height, greatest_height}
 use Rattle.template_tags.specs.Terms.{grouped_before, grouped, only_list, terms_of, words_of, terms_in, is_matched}
 use Rattle.template_tags.specs.declared.expression.TheConstants.{CALL_LIMIT}

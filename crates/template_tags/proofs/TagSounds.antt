@@ -2,7 +2,7 @@
 use Rattle.std.proofs.Common.{◌≡◌, ℕ, suc, ◌<◌, nat_le, ◌||◌}
 use Rattle.std.proofs.Common.{Bool, true, false, List, [], ◌∷◌, length, drop, Option, Some, None, Result, Ok}
 use Rattle.std.proofs.Common.{Err}
-use Rattle.std.proofs.Common.{IfOk, refl, subst, arith}
+use Rattle.std.proofs.Common.{IfOk, refl, subst, ◌∙◌, arith}
 use Rattle.std.specs.Prelude.{codes}
 use Rattle.std.specs.Str.{bytes_eq}
 use Rattle.std.proofs.lemmas.Bool.{cond_both, leb-false, true≢false}
@@ -10,22 +10,26 @@ use Rattle.template_words.specs.Marks.{begins}
 use Rattle.template_words.specs.declared.error.TagError.{TagError}
 use Rattle.template_words.specs.declared.error.TagError.TheVariants.{UnsupportedTag, WrongArguments, TooDeep}
 use Rattle.template_words.specs.declared.error.TagError.TheVariants.{UnexpectedClose}
-use Rattle.template_tags.specs.Blocks.{block_argument, only_one, data_only, test_said, loop_said}
-use Rattle.template_tags.specs.Blocks.{each_said, opening_said, first_else, else_said, is_innermost, close_alone}
-use Rattle.template_tags.specs.Blocks.{closing_said, all_errors, match_error, LoopItems, loop_items}
-use Rattle.template_tags.specs.Blocks.{has_names, has_parameters, is_taken}
-use Rattle.template_tags.specs.Calls.{error_if, errors_in}
-use Rattle.template_tags.specs.Calls.{argument, arguments}
+use Rattle.template_tags.specs.Inner.BlockReads.{block_argument, only_one, data_only, test_said, loop_said}
+use Rattle.template_tags.specs.Blocks.{is_innermost}
+use Rattle.template_tags.specs.Inner.BlockReads.{each_said, opening_said, first_else, else_said, close_alone}
+use Rattle.template_tags.specs.Blocks.{LoopItems, loop_items}
+use Rattle.template_tags.specs.Inner.BlockReads.{closing_said, all_errors, match_error}
+use Rattle.template_tags.specs.Blocks.{has_names, has_parameters, is_reserved_name}
+use Rattle.template_tags.specs.Inner.CallReads.{error_if, errors_in}
+use Rattle.template_tags.specs.Inner.CallReads.{argument, arguments}
 use Rattle.template_tags.specs.Expression.{Expression, datum, index, key, first, last, number, truth, call, call_two}
 use Rattle.template_tags.specs.Expression as expressions
 use Rattle.template_tags.specs.Levels.{loops_open, block_named}
-use Rattle.template_tags.specs.Said.{value_said, print_said, is_marked, word_said, items_said, space_error}
+use Rattle.template_tags.specs.Inner.TagReads.{tag_read, value_said, print_said, is_marked, word_said, items_said}
+use Rattle.template_tags.specs.Inner.TagReads.{space_error}
 use Rattle.template_tags.specs.Said.{tag_said}
 use Rattle.template_tags.specs.Items.{Item, word, left_parenthesis, right_parenthesis, items_of}
 use Rattle.template_tags.specs.Sound.{IsSoundDatum, IsSoundTag}
 use Rattle.template_tags.specs.Tags.{Tag}
 use Rattle.template_tags.specs.Terms.{single, group, Terms, no_terms, first_term, terms_in, is_matched}
-use Rattle.template_tags.specs.Words.{word_of, word_value, lone_value}
+use Rattle.template_tags.specs.Words.{word_of}
+use Rattle.template_tags.specs.Inner.WordReads.{word_value, lone_value}
 use Rattle.template_tags.specs.declared.expression.TheConstants.{CALL_LIMIT}
 use Rattle.template_tags.specs.declared.level.TheConstants.{BLOCK_LIMIT, LOOP_LIMIT}
 use Rattle.template_tags.specs.declared.level.Block.{Block}
@@ -33,10 +37,12 @@ use Rattle.template_tags.specs.declared.level.Block.TheVariants.{If, Unless, Eac
 use Rattle.template_tags.specs.declared.level.Level.{Level}
 use Rattle.template_tags.specs.declared.tag.Opening.{Opening}
 use Rattle.template_tags.specs.declared.tag.Opening.TheVariants.{Double, Triple}
+use Rattle.template_tags.proofs.Reported.{tag_is}
 use Rattle.template_tags.proofs.Shorts.{ShortTerms, ShortItems, short_terms, short_loop_items}
 use Rattle.template_tags.proofs.Shorts.{short_items_of}
 use Rattle.template_tags.proofs.Sounds.{beside_ok, beside_none, bind_ok, word_fits, Sound, SoundRead, SoundReads}
-use Rattle.template_tags.proofs.Sounds.{higher, value_sound, lone_sound, argument_sound, arguments_sound, own_call_sound}
+use Rattle.template_tags.proofs.Sounds.{higher, value_sound, lone_sound, argument_sound, arguments_sound}
+use Rattle.template_tags.proofs.Sounds.{own_call_sound}
 
 module _ (limit : ℕ) (levels : List Level) where
   abbrev Said : Result Tag TagError → Type 0
@@ -51,11 +57,7 @@ module _ (limit : ℕ) (levels : List Level) where
   print_value false (first_term (single text) no_terms) short =
       higher limit levels 0 (suc CALL_LIMIT) (word_value levels text (word_of text)) (omega arith)
       (value_sound limit levels text (word_of text) (word_fits limit text short.0))
-  print_value matched (first_term (group ts) no_terms) short =
-      cond_both matched (Err UnsupportedTag) (argument levels (group ts))
-      (SoundRead limit levels (suc CALL_LIMIT)) (λ t. tt)
-      (λ f. higher limit levels CALL_LIMIT (suc CALL_LIMIT) (argument levels (group ts)) (omega arith)
-      (argument_sound limit levels (group ts) short.0))
+  print_value matched (first_term (group ts) no_terms) short = tt
   print_value matched (first_term t (first_term u ts)) short =
       own_call_sound limit levels (first_term t (first_term u ts)) short
 
@@ -106,7 +108,7 @@ module _ (limit : ℕ) (levels : List Level) where
   loop_sound : (loop : LoopItems) → ShortItems limit loop.items → length levels < BLOCK_LIMIT
       → loops_open levels < LOOP_LIMIT → Said (loop_said levels loop)
   loop_sound loop short few loops =
-      beside_ok (IsSoundTag limit levels) (error_if UnsupportedTag (is_taken loop.parameter)) _
+      beside_ok (IsSoundTag limit levels) (error_if UnsupportedTag (is_reserved_name loop.parameter)) _
       (bind_ok (IsSoundDatum limit (loops_open levels)) (IsSoundTag limit levels)
       (data_only (block_argument levels loop.items)) _
       (data_sound (block_argument levels loop.items) (block_sound loop.items short))
@@ -186,8 +188,8 @@ items_sound limit opening levels (right_parenthesis ∷ items) short =
     print_sound limit levels (right_parenthesis ∷ items) short
 
 said_sound : (opening : Opening) (content : List ℕ) (levels : List Level)
-    → IfOk (tag_said opening content levels) (IsSoundTag (length content) levels)
-unfolding tag_said
+    → IfOk (tag_read opening content levels) (IsSoundTag (length content) levels)
+unfolding tag_read
 said_sound opening content levels =
     beside_ok (IsSoundTag (length content) levels) (space_error content) (items_said opening levels (items_of content))
     (items_sound (length content) opening levels (items_of content) (short_items_of content))
@@ -196,4 +198,4 @@ pub tag_sound : (opening : Opening) (content : List ℕ) (levels : List Level) (
     → tag_said opening content levels ≡ Ok tag → IsSoundTag (length content) levels tag
 tag_sound opening content levels tag said =
     let P : Result Tag TagError → Type 0 = λ r. IfOk r (IsSoundTag (length content) levels) in
-    subst P said (said_sound opening content levels)
+    subst P (tag_is opening content levels ∙ said) (said_sound opening content levels)

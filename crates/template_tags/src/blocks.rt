@@ -2,11 +2,14 @@
 ghost use Rattle.std.specs.Prelude.{◌≡◌, ◌<◌, ◌^◌, not, is_some, length, map, reverse, IfOk};
 ghost use Rattle.template_tags.specs.Blocks.{parameter_in, loop_items, is_word, are_last_names, are_names, has_names};
 ghost use Rattle.template_tags.specs.Blocks.{has_parameters};
-ghost use Rattle.template_tags.specs.Blocks.{only_one, block_argument, block_error, loop_error, test_said, data_only};
-ghost use Rattle.template_tags.specs.Blocks.{if_read, each_read, is_taken, loop_said, each_said, opening_said};
-ghost use Rattle.template_tags.specs.Blocks.{first_else, else_said};
-ghost use Rattle.template_tags.specs.Blocks.{is_innermost, close_alone, all_errors, closing_said};
-ghost use Rattle.template_tags.specs.Calls.{error_if};
+ghost use Rattle.template_tags.specs.Inner.BlockReads.{only_one, block_argument, block_error, loop_error, test_said};
+ghost use Rattle.template_tags.specs.Inner.BlockReads.{data_only};
+ghost use Rattle.template_tags.specs.Blocks.{is_reserved_name};
+ghost use Rattle.template_tags.specs.Inner.BlockReads.{if_read, each_read, loop_said, each_said, opening_said};
+ghost use Rattle.template_tags.specs.Inner.BlockReads.{first_else, else_said};
+ghost use Rattle.template_tags.specs.Blocks.{is_innermost};
+ghost use Rattle.template_tags.specs.Inner.BlockReads.{close_alone, all_errors, closing_said};
+ghost use Rattle.template_tags.specs.Inner.CallReads.{error_if};
 ghost use Rattle.template_tags.specs.Inner.Pieces.{block_parts, all_parts_error};
 ghost use Rattle.template_tags.specs.Inner.Scan.{item_view, item_is, with_items, loop_view};
 ghost use Rattle.template_tags.specs.Inner.Views.{read_view, parts_view, said_view};
@@ -250,8 +253,8 @@ fn data_only(read: Result<Expression, TagError>) -> Result<Datum, TagError>
 }
 
 // Whether paths begin with that name already.
-fn is_taken(parameter: Option<&str>) -> bool
-    ensures { result ≡ is_taken (part_view parameter.entry) }
+fn is_reserved_name(parameter: Option<&str>) -> bool
+    ensures { result ≡ is_reserved_name (part_view parameter.entry) }
 {
     match parameter {
         Some(name) => name == "request" || name == "this",
@@ -289,7 +292,7 @@ fn loop_said(
     ensures { IfOk result (λ said. said_view said
         ≡ loop_said (reverse levels.now) (with_items (map item_view items.now) (part_view parameter.entry))) }
 {
-    let taken = error_if(TagError::UnsupportedTag, is_taken(parameter));
+    let taken = error_if(TagError::UnsupportedTag, is_reserved_name(parameter));
     let name = copied(alloc, parameter)?;
     let tag = each_read(name, data_only(block_argument(alloc, levels, items)?));
     Ok(beside(taken, tag))

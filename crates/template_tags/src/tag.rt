@@ -4,8 +4,11 @@ ghost use Rattle.template_tags.specs.Inner.Pieces.{lone_piece, value_pieces, pri
 ghost use Rattle.template_tags.specs.Inner.Scan.{item_view};
 ghost use Rattle.template_tags.specs.Inner.Views.{read_view, piece_view, pieces_view, parts_view, said_view};
 ghost use Rattle.template_tags.specs.Items.{word};
-ghost use Rattle.template_tags.specs.Said.{print_read, print_said, has_foreign_mark, is_marked, word_said};
-ghost use Rattle.template_tags.specs.Said.{items_said, space_error, tag_said};
+ghost use Rattle.template_tags.specs.Said.{has_foreign_mark};
+ghost use Rattle.template_tags.specs.Inner.TagReads.{print_read, print_said, is_marked, word_said};
+ghost use Rattle.template_tags.specs.Inner.TagReads.{tag_read};
+ghost use Rattle.template_tags.specs.Said.{tag_said};
+ghost use Rattle.template_tags.specs.Inner.TagReads.{items_said, space_error};
 ghost use Rattle.template_tags.specs.Tags.{tag_view};
 ghost use Rattle.template_words.specs.Reading.{Gives};
 
@@ -68,8 +71,7 @@ fn lone_piece(
         Piece::Group {
             value: _,
             height: _,
-        } if matched => Ok(Err(TagError::UnsupportedTag)),
-        Piece::Group { value, height: _ } => Ok(value),
+        } => Ok(Err(TagError::UnsupportedTag)),
     }
 }
 
@@ -216,8 +218,25 @@ fn space_error(content: &str) -> Option<TagError>
     error_if(TagError::BadPath, lacks_space(content.as_bytes()))
 }
 
+// What the content of a tag says, read part by part.
+#[tactic(auto, unfolding(crate::specs::Inner::TagReads::tag_read), using(crate::proofs::Besides::said_beside))]
+fn tag_read(
+    alloc: Global,
+    opening: Opening,
+    content: &str,
+    levels: &[Level],
+) -> Result<Result<Tag, TagError>, AllocError>
+    requires content { length content.now < 2 ^ 31 }
+    requires levels { length levels.now < 2 ^ 32 }
+    ensures { IfOk result (λ said. said_view said ≡ tag_read opening content.now (reverse levels.now)) }
+{
+    let items = items_of(alloc, content)?;
+    let said = items_said(alloc, opening, levels, items.as_slice())?;
+    Ok(beside(space_error(content), said))
+}
+
 /// What the content of a tag (between its marks; no comment) says where these blocks are open, the innermost last.
-#[tactic(auto, unfolding(crate::specs::Said::tag_said), using(crate::proofs::Besides::said_beside))]
+#[tactic(auto, using(crate::proofs::Reported::tag_is))]
 pub fn read_tag(
     alloc: Global,
     opening: Opening,
@@ -228,9 +247,7 @@ pub fn read_tag(
     requires levels { length levels.now < 2 ^ 32 }
     ensures { Gives tag_view result (tag_said opening content.now (reverse levels.now)) }
 {
-    let items = items_of(alloc, content)?;
-    let said = items_said(alloc, opening, levels, items.as_slice())?;
-    match beside(space_error(content), said) {
+    match tag_read(alloc, opening, content, levels)? {
         Ok(tag) => Ok(tag),
         Err(error) => Err(ReadError::Tag(error)),
     }

@@ -6,15 +6,16 @@ use Rattle.template_words.specs.Errors.{joined}
 use Rattle.template_words.specs.declared.error.TagError.{TagError}
 use Rattle.template_words.specs.declared.error.TagError.TheVariants.{UnknownHelper, WrongArguments, BadPath}
 use Rattle.template_words.specs.declared.error.TagError.TheVariants.{UnsupportedTag}
-use Rattle.template_tags.specs.Blocks.{only_one}
-use Rattle.template_tags.specs.Calls.{beside, error_if, error_in, errors_in, call_of, head_word, limited}
-use Rattle.template_tags.specs.Calls.{argument}
+use Rattle.template_tags.specs.Inner.BlockReads.{only_one}
+use Rattle.template_tags.specs.Inner.CallReads.{beside, error_if, error_in, errors_in, call_of, head_word, limited}
+use Rattle.template_tags.specs.Inner.CallReads.{argument}
 use Rattle.template_tags.specs.Expression.{Expression}
 use Rattle.template_tags.specs.Items.{Item, word, left_parenthesis, right_parenthesis}
-use Rattle.template_tags.specs.Said.{print_read}
+use Rattle.template_tags.specs.Inner.TagReads.{print_read}
 use Rattle.template_tags.specs.Tags.{Tag}
 use Rattle.template_tags.specs.Terms.{Term, single, group, Terms, no_terms, first_term, height, terms_in, is_matched}
-use Rattle.template_tags.specs.Words.{word_of, argument_word, word_value, lone_value}
+use Rattle.template_tags.specs.Words.{word_of}
+use Rattle.template_tags.specs.Inner.WordReads.{argument_word, word_value, lone_value}
 use Rattle.template_tags.specs.declared.expression.TheConstants.{CALL_LIMIT}
 use Rattle.template_tags.specs.declared.level.Level.{Level}
 
@@ -110,7 +111,7 @@ block_parts levels parts = beside (parts_error parts) (only_one (piece_arguments
 abbrev pub lone_piece : List Level → Bool → Piece → Result Expression TagError
 lone_piece levels matched (word_piece text) =
     if matched then lone_value levels text (word_of text) else word_value levels text (word_of text)
-lone_piece levels matched (group_piece read h) = if matched then Err UnsupportedTag else read
+lone_piece levels matched (group_piece read h) = Err UnsupportedTag
 
 abbrev pub value_pieces : List Level → Bool → List Piece → Result Expression TagError
 value_pieces levels matched [] = Err (if matched then UnsupportedTag else BadPath)
