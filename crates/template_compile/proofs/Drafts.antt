@@ -10,12 +10,11 @@ use Rattle.template_tags.specs.declared.expression.Datum.{Datum}
 use Rattle.template_tags.specs.Expression.{Expression, call_two}
 use Rattle.template_tree.specs.Meaning.{second_parameter}
 use Rattle.template_tree.specs.Tree.{Node, Nodes, first_node, if_then, if_else, each, each_else}
-use Rattle.template_compile.specs.Compiled.{Gen, ◌▸◌, instructions, branch_over, jump_over, each_over, again}
+use Rattle.template_compile.specs.Compiled.{Gen, ◌▸◌, instructions, branch_over, jump_over, each_over, again, size}
 use Rattle.template_compile.specs.Compiled.{datum_code}
 use Rattle.template_compile.specs.Compiled.{expression_code, code_for, test_code, node_code, nodes_code}
 use Rattle.template_compile.specs.Inner.Drafts.{extended_by}
 use Rattle.template_compile.specs.Kinds.{conversion, expression_kind}
-use Rattle.template_compile.specs.Length.{nodes_length}
 use Rattle.template_compile.proofs.HasCode.{extended_by-join}
 
 two-steps : (a b c : StackCode) (f g : Gen) → b ≡ extended_by a f → c ≡ extended_by b g →
@@ -61,55 +60,55 @@ call_two-steps h e f p q m n a b c d k l is_p is_q is_m is_n one two three four 
 
 pub if-steps :
     (unless : Bool) (test : Expression) (body : Nodes) (n : ℕ) (a b c d : StackCode)
-    → n ≡ nodes_length body → b ≡ extended_by a (test_code unless test) → c ≡ extended_by b (branch_over n)
+    → n ≡ size (nodes_code body) → b ≡ extended_by a (test_code unless test) → c ≡ extended_by b (branch_over n)
     → d ≡ extended_by c (nodes_code body) → d ≡ extended_by a (node_code (if_then unless test body))
 if-steps unless test body n a b c d is one two three =
-    let over = branch_over (nodes_length body) in
+    let over = branch_over (size (nodes_code body)) in
     two-steps a b d (test_code unless test) (over ▸ nodes_code body) one
-    (two-steps b c d over (nodes_code body) (renamed branch_over n (nodes_length body) b c is two) three)
+    (two-steps b c d over (nodes_code body) (renamed branch_over n (size (nodes_code body)) b c is two) three)
 
 pub if_else-steps :
     (unless : Bool) (test : Expression) (body otherwise : Nodes) (m n : ℕ) (a b c d e f : StackCode)
-    → m ≡ nodes_length body → n ≡ nodes_length otherwise → b ≡ extended_by a (test_code unless test)
+    → m ≡ size (nodes_code body) → n ≡ size (nodes_code otherwise) → b ≡ extended_by a (test_code unless test)
     → c ≡ extended_by b (branch_over (m + 1)) → d ≡ extended_by c (nodes_code body)
     → e ≡ extended_by d (jump_over n) → f ≡ extended_by e (nodes_code otherwise)
     → f ≡ extended_by a (node_code (if_else unless test body otherwise))
 if_else-steps unless test body otherwise m n a b c d e f is also one two three four five =
-    let size = nodes_length body in
-    let rest = jump_over (nodes_length otherwise) ▸ nodes_code otherwise in
-    two-steps a b f (test_code unless test) (branch_over (size + 1) ▸ nodes_code body ▸ rest) one
-    (two-steps b c f (branch_over (size + 1)) (nodes_code body ▸ rest)
-    (renamed (λ k. branch_over (k + 1)) m size b c is two)
+    let long = size (nodes_code body) in
+    let rest = jump_over (size (nodes_code otherwise)) ▸ nodes_code otherwise in
+    two-steps a b f (test_code unless test) (branch_over (long + 1) ▸ nodes_code body ▸ rest) one
+    (two-steps b c f (branch_over (long + 1)) (nodes_code body ▸ rest)
+    (renamed (λ k. branch_over (k + 1)) m long b c is two)
     (two-steps c d f (nodes_code body) rest three
-    (two-steps d e f (jump_over (nodes_length otherwise)) (nodes_code otherwise)
-    (renamed jump_over n (nodes_length otherwise) d e also four) five)))
+    (two-steps d e f (jump_over (size (nodes_code otherwise))) (nodes_code otherwise)
+    (renamed jump_over n (size (nodes_code otherwise)) d e also four) five)))
 
 pub each-steps :
     (over : Datum) (body : Nodes) (n : ℕ) (a b c d e : StackCode)
-    → n ≡ nodes_length body → b ≡ extended_by a (datum_code over) → c ≡ extended_by b (each_over (n + 1))
+    → n ≡ size (nodes_code body) → b ≡ extended_by a (datum_code over) → c ≡ extended_by b (each_over (n + 1))
     → d ≡ extended_by c (nodes_code body) → e ≡ extended_by d (again n)
     → e ≡ extended_by a (node_code (each over body))
 each-steps over body n a b c d e is one two three four =
-    let size = nodes_length body in
-    two-steps a b e (datum_code over) (each_over (size + 1) ▸ nodes_code body ▸ again size) one
-    (two-steps b c e (each_over (size + 1)) (nodes_code body ▸ again size)
-    (renamed (λ k. each_over (k + 1)) n size b c is two)
-    (two-steps c d e (nodes_code body) (again size) three (renamed again n size d e is four)))
+    let long = size (nodes_code body) in
+    two-steps a b e (datum_code over) (each_over (long + 1) ▸ nodes_code body ▸ again long) one
+    (two-steps b c e (each_over (long + 1)) (nodes_code body ▸ again long)
+    (renamed (λ k. each_over (k + 1)) n long b c is two)
+    (two-steps c d e (nodes_code body) (again long) three (renamed again n long d e is four)))
 
 pub each_else-steps :
     (over : Datum) (body otherwise : Nodes) (m n : ℕ) (a b c d e f g : StackCode)
-    → m ≡ nodes_length body → n ≡ nodes_length otherwise → b ≡ extended_by a (datum_code over)
+    → m ≡ size (nodes_code body) → n ≡ size (nodes_code otherwise) → b ≡ extended_by a (datum_code over)
     → c ≡ extended_by b (each_over (m + 2)) → d ≡ extended_by c (nodes_code body)
     → e ≡ extended_by d (again m)
     → f ≡ extended_by e (jump_over n) → g ≡ extended_by f (nodes_code otherwise)
     → g ≡ extended_by a (node_code (each_else over body otherwise))
 each_else-steps over body otherwise m n a b c d e f g is also one two three four five six =
-    let size = nodes_length body in
-    let rest = jump_over (nodes_length otherwise) ▸ nodes_code otherwise in
-    two-steps a b g (datum_code over) (each_over (size + 2) ▸ nodes_code body ▸ again size ▸ rest) one
-    (two-steps b c g (each_over (size + 2)) (nodes_code body ▸ again size ▸ rest)
-    (renamed (λ k. each_over (k + 2)) m size b c is two)
-    (two-steps c d g (nodes_code body) (again size ▸ rest) three
-    (two-steps d e g (again size) rest (renamed again m size d e is four)
-    (two-steps e f g (jump_over (nodes_length otherwise)) (nodes_code otherwise)
-    (renamed jump_over n (nodes_length otherwise) e f also five) six))))
+    let long = size (nodes_code body) in
+    let rest = jump_over (size (nodes_code otherwise)) ▸ nodes_code otherwise in
+    two-steps a b g (datum_code over) (each_over (long + 2) ▸ nodes_code body ▸ again long ▸ rest) one
+    (two-steps b c g (each_over (long + 2)) (nodes_code body ▸ again long ▸ rest)
+    (renamed (λ k. each_over (k + 2)) m long b c is two)
+    (two-steps c d g (nodes_code body) (again long ▸ rest) three
+    (two-steps d e g (again long) rest (renamed again m long d e is four)
+    (two-steps e f g (jump_over (size (nodes_code otherwise))) (nodes_code otherwise)
+    (renamed jump_over n (size (nodes_code otherwise)) e f also five) six))))

@@ -1,5 +1,5 @@
 -- Worked examples, which the checker computes.
-use Rattle.std.specs.Prelude.{◌≡◌, true, false, List, [], ◌∷◌, codes}
+use Rattle.std.specs.Prelude.{◌≡◌, true, false, List, [], ◌∷◌, length, codes}
 use Rattle.std.proofs.Common.{refl}
 use Rattle.data_tree.specs.Tree.{Tree, text, fields, named, no_items, item, no_members, member}
 use Rattle.data_tree.specs.declared.step.Step.{Step}
@@ -15,7 +15,6 @@ use Rattle.template_tree.specs.declared.escape.Escape.TheVariants.{Off, Html}
 use Rattle.template_tree.specs.Meaning.{template_text}
 use Rattle.template_tree.specs.Tree.{piece, print, if_then, if_else, each_else, Nodes, no_nodes, first_node}
 use Rattle.template_compile.specs.Compiled.{stack_code}
-use Rattle.template_compile.specs.Length.{code_length}
 
 -- the path of `GET /hi/Ann`
 abbrev ann_path : Tree
@@ -35,7 +34,7 @@ hello = first_node (piece (codes "Hello ")) (first_node (print Off (datum (datum
 text_of_hello : template_text hello ann [] ≡ codes "Hello Ann"
 text_of_hello = refl
 
-length_of_hello : code_length hello ≡ 5
+length_of_hello : length (stack_code hello).instrs ≡ 5
 length_of_hello = refl
 
 code_of_hello : stack_code hello ≡ record {
@@ -62,7 +61,7 @@ text_of_escaped_hello = refl
 text_of_unescaped_hello : template_text hello tag [] ≡ codes "Hello <a>"
 text_of_unescaped_hello = refl
 
-length_of_escaped_hello : code_length escaped_hello ≡ 6
+length_of_escaped_hello : length (stack_code escaped_hello).instrs ≡ 6
 length_of_escaped_hello = refl
 
 code_of_escaped_hello : stack_code escaped_hello ≡ record {
@@ -117,7 +116,7 @@ code_of_query_or_none : stack_code query_or_none ≡ record {
 }
 code_of_query_or_none = refl
 
-length_of_query_or_none : code_length query_or_none ≡ 10
+length_of_query_or_none : length (stack_code query_or_none).instrs ≡ 10
 length_of_query_or_none = refl
 
 -- `{{#each request.query.q as |v|}}{{@index}}:{{v}}{{#unless @last}};{{/unless}}{{else}}none{{/each}}`

@@ -1,5 +1,5 @@
 -- The code of each part has as many instructions as the part's length.
-use Rattle.std.proofs.Common.{◌≡◌, ℕ, ◌+◌, Bool, true, false, [], ◌∷◌, length, refl, ◌∙◌, arith}
+use Rattle.std.proofs.Common.{◌≡◌, ℕ, ◌+◌, Bool, true, false, [], ◌∷◌, length, refl, sym, ap, ◌∙◌, arith}
 use Rattle.std.proofs.Common.{length-append}
 use Rattle.helper_set.specs.Helpers.{signature_of}
 use Rattle.helper_set.specs.declared.kind.Kind.{Kind}
@@ -14,13 +14,14 @@ use Rattle.template_tree.specs.declared.escape.Escape.{Escape}
 use Rattle.template_tree.specs.declared.escape.Escape.TheVariants.{Off, Html}
 use Rattle.template_tree.specs.Meaning.{second_parameter}
 use Rattle.template_tree.specs.Tree.{Node, piece, print, if_then, if_else, each, each_else, Nodes, no_nodes, first_node}
-use Rattle.template_compile.specs.Compiled.{Offsets, start_offsets, Gen, ◌▸◌, instructions, branch_over}
+use Rattle.template_compile.specs.Compiled.{Offsets, start_offsets, Gen, ◌▸◌, instructions, size, branch_over}
 use Rattle.template_compile.specs.Compiled.{jump_over, each_over, again, datum_code, argument_code, expression_code}
 use Rattle.template_compile.specs.Compiled.{code_for, print_instrs, negation, test_code, node_code, nodes_code}
 use Rattle.template_compile.specs.Compiled.{stack_code}
 use Rattle.template_compile.specs.Kinds.{expression_kind, conversion}
-use Rattle.template_compile.specs.Length.{datum_length, argument_length, expression_length, length_for, print_length}
-use Rattle.template_compile.specs.Length.{test_length, node_length, nodes_length, code_length}
+use Rattle.template_compile.specs.Inner.Length.{datum_length, argument_length, expression_length, length_for}
+use Rattle.template_compile.specs.Inner.Length.{print_length}
+use Rattle.template_compile.specs.Inner.Length.{test_length, node_length, nodes_length, code_length}
 use Rattle.template_compile.proofs.HasCode.{after_part}
 
 -- the part has that many instructions, wherever it begins
@@ -101,6 +102,16 @@ length-test false test = λ offsets.
 as_sum : (f : Gen) (n m : ℕ) → n ≡ m → HasLength f n → HasLength f m
 as_sum f n m e h offsets = h offsets ∙ e
 
+-- the jump before an else part, and the part
+abbrev else_part : Nodes → Gen
+else_part otherwise = jump_over (size (nodes_code otherwise)) ▸ nodes_code otherwise
+
+length-else : (otherwise : Nodes) → HasLength (nodes_code otherwise) (nodes_length otherwise)
+    → HasLength (else_part otherwise) (1 + nodes_length otherwise)
+length-else otherwise long =
+    length-join (jump_over (size (nodes_code otherwise))) (nodes_code otherwise) 1 (nodes_length otherwise)
+    (λ o. refl) long
+
 mutual
   pub length-node : (node : Node) → HasLength (node_code node) (node_length node)
   length-node (piece bytes) = λ offsets. refl
@@ -111,8 +122,9 @@ mutual
       let t = test_length unless test in
       let n = nodes_length body in
       as_sum (node_code (if_then unless test body)) (t + (1 + n)) (t + 1 + n) (omega arith)
-      (length-join (test_code unless test) (branch_over n ▸ nodes_code body) t (1 + n) (length-test unless test)
-      (length-join (branch_over n) (nodes_code body) 1 n (λ o. refl) (length-nodes body)))
+      (length-join (test_code unless test) (branch_over (size (nodes_code body)) ▸ nodes_code body) t (1 + n)
+      (length-test unless test)
+      (length-join (branch_over (size (nodes_code body))) (nodes_code body) 1 n (λ o. refl) (length-nodes body)))
   length-node (if_else unless test body otherwise) =
       let t = test_length unless test in
       let n = nodes_length body in
@@ -120,20 +132,21 @@ mutual
       as_sum (node_code (if_else unless test body otherwise)) (t + (1 + (n + (1 + m)))) (t + 1 + n + 1 + m)
       (omega arith)
       (length-join (test_code unless test)
-      (branch_over (n + 1) ▸ nodes_code body ▸ jump_over m ▸ nodes_code otherwise) t (1 + (n + (1 + m)))
+      (branch_over (size (nodes_code body) + 1) ▸ nodes_code body ▸ else_part otherwise) t (1 + (n + (1 + m)))
       (length-test unless test)
-      (length-join (branch_over (n + 1)) (nodes_code body ▸ jump_over m ▸ nodes_code otherwise) 1 (n + (1 + m))
-      (λ o. refl)
-      (length-join (nodes_code body) (jump_over m ▸ nodes_code otherwise) n (1 + m) (length-nodes body)
-      (length-join (jump_over m) (nodes_code otherwise) 1 m (λ o. refl) (length-nodes otherwise)))))
+      (length-join (branch_over (size (nodes_code body) + 1)) (nodes_code body ▸ else_part otherwise) 1
+      (n + (1 + m)) (λ o. refl)
+      (length-join (nodes_code body) (else_part otherwise) n (1 + m) (length-nodes body)
+      (length-else otherwise (length-nodes otherwise)))))
   length-node (each over body) =
       let d = datum_length over in
       let n = nodes_length body in
       as_sum (node_code (each over body)) (d + (1 + (n + 1))) (d + 1 + n + 1) (omega arith)
-      (length-join (datum_code over) (each_over (n + 1) ▸ nodes_code body ▸ again n) d (1 + (n + 1))
-      (length-datum over)
-      (length-join (each_over (n + 1)) (nodes_code body ▸ again n) 1 (n + 1) (λ o. refl)
-      (length-join (nodes_code body) (again n) n 1 (length-nodes body) (λ o. refl))))
+      (length-join (datum_code over) (each_over (size (nodes_code body) + 1) ▸ nodes_code body
+      ▸ again (size (nodes_code body))) d (1 + (n + 1)) (length-datum over)
+      (length-join (each_over (size (nodes_code body) + 1)) (nodes_code body ▸ again (size (nodes_code body))) 1
+      (n + 1) (λ o. refl)
+      (length-join (nodes_code body) (again (size (nodes_code body))) n 1 (length-nodes body) (λ o. refl))))
   length-node (each_else over body otherwise) =
       let d = datum_length over in
       let n = nodes_length body in
@@ -141,14 +154,14 @@ mutual
       as_sum (node_code (each_else over body otherwise)) (d + (1 + (n + (1 + (1 + m))))) (d + 1 + n + 1 + 1 + m)
       (omega arith)
       (length-join (datum_code over)
-      (each_over (n + 2) ▸ nodes_code body ▸ again n ▸ jump_over m ▸ nodes_code otherwise) d
-      (1 + (n + (1 + (1 + m)))) (length-datum over)
-      (length-join (each_over (n + 2)) (nodes_code body ▸ again n ▸ jump_over m ▸ nodes_code otherwise) 1
-      (n + (1 + (1 + m))) (λ o. refl)
-      (length-join (nodes_code body) (again n ▸ jump_over m ▸ nodes_code otherwise) n (1 + (1 + m))
+      (each_over (size (nodes_code body) + 2) ▸ nodes_code body ▸ again (size (nodes_code body))
+      ▸ else_part otherwise) d (1 + (n + (1 + (1 + m)))) (length-datum over)
+      (length-join (each_over (size (nodes_code body) + 2))
+      (nodes_code body ▸ again (size (nodes_code body)) ▸ else_part otherwise) 1 (n + (1 + (1 + m))) (λ o. refl)
+      (length-join (nodes_code body) (again (size (nodes_code body)) ▸ else_part otherwise) n (1 + (1 + m))
       (length-nodes body)
-      (length-join (again n) (jump_over m ▸ nodes_code otherwise) 1 (1 + m) (λ o. refl)
-      (length-join (jump_over m) (nodes_code otherwise) 1 m (λ o. refl) (length-nodes otherwise))))))
+      (length-join (again (size (nodes_code body))) (else_part otherwise) 1 (1 + m) (λ o. refl)
+      (length-else otherwise (length-nodes otherwise))))))
 
   pub length-nodes : (nodes : Nodes) → HasLength (nodes_code nodes) (nodes_length nodes)
   length-nodes no_nodes = λ offsets. refl
@@ -156,7 +169,17 @@ mutual
       length-join (node_code node) (nodes_code nodes) (node_length node) (nodes_length nodes) (length-node node)
       (length-nodes nodes)
 
-pub length-stack_code : (nodes : Nodes) → length (stack_code nodes).instrs ≡ code_length nodes
-length-stack_code nodes =
+pub counted : (nodes : Nodes) → length (stack_code nodes).instrs ≡ code_length nodes
+counted nodes =
     length-join (nodes_code nodes) (instructions (instrs.Halt ∷ [])) (nodes_length nodes) 1 (length-nodes nodes)
     (λ o. refl) start_offsets
+
+pub sized : (nodes : Nodes) → size (nodes_code nodes) ≡ nodes_length nodes
+sized nodes = length-nodes nodes start_offsets
+
+-- the size of a part's code is its length, wherever it begins
+pub sized-nodes : (nodes : Nodes) → HasLength (nodes_code nodes) (size (nodes_code nodes))
+sized-nodes nodes offsets = length-nodes nodes offsets ∙ sym (sized nodes)
+
+pub long-stack_code : (nodes : Nodes) → length (stack_code nodes).instrs ≡ size (nodes_code nodes) + 1
+long-stack_code nodes = counted nodes ∙ ap (λ n. n + 1) (sym (sized nodes))

@@ -21,17 +21,16 @@ use Rattle.template_tags.specs.Expression.{Expression}
 use Rattle.template_tree.specs.declared.escape.Escape.{Escape}
 use Rattle.template_tree.specs.declared.escape.Escape.TheVariants.{Off, Html}
 use Rattle.template_tree.specs.Tree.{Node, piece, print, if_then, if_else, each, each_else, Nodes, no_nodes, first_node}
-use Rattle.template_compile.specs.Compiled.{start_offsets, ◌▸◌, instructions, emit_code, branch_over, jump_over}
+use Rattle.template_compile.specs.Compiled.{start_offsets, ◌▸◌, instructions, emit_code, branch_over, jump_over, size}
 use Rattle.template_compile.specs.Compiled.{each_over, again, datum_code, code_for, print_instrs, negation, test_code}
 use Rattle.template_compile.specs.Compiled.{node_code, nodes_code, stack_code}
-use Rattle.template_compile.specs.Length.{nodes_length, code_length}
 use Rattle.template_tags.specs.Sound.{depth_of}
 use Rattle.template_tree.specs.Sound.{SoundExpression, SoundNode, SoundNodes}
 use Rattle.template_compile.proofs.Blocks.{lays-if, lays-if_else, lays-each, lays-each_else}
 use Rattle.template_compile.proofs.ExpressionLayout.{lays-datum, lays-code_for}
 use Rattle.template_compile.proofs.HasCode.{after_part, has_part-front, has_part-back, has_code-itself}
 use Rattle.template_compile.proofs.Heights.{cap, cap-some, cap-nine}
-use Rattle.template_compile.proofs.Lengths.{length-nodes, length-stack_code}
+use Rattle.template_compile.proofs.Lengths.{sized-nodes, long-stack_code}
 use Rattle.template_compile.proofs.Stretch.{Covers, covers-join, slot, Weigh, Stands, heaviest, FollowsAt}
 use Rattle.template_compile.proofs.Stretch.{Lays, lays-nothing, lays-join, laid-one, lays-straight}
 
@@ -156,37 +155,37 @@ module _ (code : StackCode) where
         (slot Kind.Text most ∷ []) [] (lays-code_for code nest shallow (Of Kind.Text) e tt sound.0 sound.1)
         (lays-escaped code nest shallow escape most (omega (arith, cap-nine (depth_of e) sound.1)))
     lays-node (if_then unless test body) nest shallow sound =
-        let n = nodes_length body in
+        let n = size (nodes_code body) in
         let most = cap (depth_of test) in
         lays-join code (test_code unless test) (branch_over n ▸ nodes_code body) nest []
         (slot Kind.Truth most ∷ []) []
         (lays-test code nest shallow unless test sound.0.0 sound.0.1)
-        (lays-if code n most (nodes_code body) nest shallow (length-nodes body)
+        (lays-if code n most (nodes_code body) nest shallow (sized-nodes body)
         (lays-nodes body nest shallow sound.1))
     lays-node (if_else unless test body otherwise) nest shallow sound =
-        let m = nodes_length body in
-        let n = nodes_length otherwise in
+        let m = size (nodes_code body) in
+        let n = size (nodes_code otherwise) in
         let most = cap (depth_of test) in
         lays-join code (test_code unless test)
         (branch_over (m + 1) ▸ nodes_code body ▸ jump_over n ▸ nodes_code otherwise) nest []
         (slot Kind.Truth most ∷ []) [] (lays-test code nest shallow unless test sound.0.0 sound.0.1)
-        (lays-if_else code m n most (nodes_code body) (nodes_code otherwise) nest shallow (length-nodes body)
-        (length-nodes otherwise) (lays-nodes body nest shallow sound.1) (lays-nodes otherwise nest shallow sound.2))
+        (lays-if_else code m n most (nodes_code body) (nodes_code otherwise) nest shallow (sized-nodes body)
+        (sized-nodes otherwise) (lays-nodes body nest shallow sound.1) (lays-nodes otherwise nest shallow sound.2))
     lays-node (each over body) nest shallow sound =
-        let n = nodes_length body in
+        let n = size (nodes_code body) in
         lays-join code (datum_code over) (each_over (n + 1) ▸ nodes_code body ▸ again n) nest []
         (slot Kind.Data (cap 0) ∷ []) [] (lays-datum code nest shallow over [] sound.0 (omega arith))
-        (lays-each code n (cap 0) (nodes_code body) nest (omega (arith, sound.1)) (length-nodes body)
+        (lays-each code n (cap 0) (nodes_code body) nest (omega (arith, sound.1)) (sized-nodes body)
         (λ opener. lays-nodes body (opener ∷ nest) (omega (arith, sound.1)) sound.2))
     lays-node (each_else over body otherwise) nest shallow sound =
-        let m = nodes_length body in
-        let n = nodes_length otherwise in
+        let m = size (nodes_code body) in
+        let n = size (nodes_code otherwise) in
         lays-join code (datum_code over)
         (each_over (m + 2) ▸ nodes_code body ▸ again m ▸ jump_over n ▸ nodes_code otherwise) nest []
         (slot Kind.Data (cap 0) ∷ []) [] (lays-datum code nest shallow over [] sound.0 (omega arith))
         (lays-each_else code m n (cap 0) (nodes_code body) (nodes_code otherwise) nest (omega (arith, sound.1))
-        (length-nodes body)
-        (length-nodes otherwise) (λ opener. lays-nodes body (opener ∷ nest) (omega (arith, sound.1)) sound.2)
+        (sized-nodes body)
+        (sized-nodes otherwise) (λ opener. lays-nodes body (opener ∷ nest) (omega (arith, sound.1)) sound.2)
         (lays-nodes otherwise nest shallow sound.3))
 
     lays-nodes :
@@ -209,7 +208,7 @@ laid-whole nodes sound =
     let whole = has_code-itself code in
     let halt = (has_part-back code start_offsets (nodes_code nodes) (instructions (Halt ∷ [])) whole).instrs.0 in
     let long : suc end.index ≡ length code.instrs =
-    omega (arith, length-stack_code nodes, length-nodes nodes start_offsets) in
+    omega (arith, long-stack_code nodes) in
     let start : Stands code 0 [] [] = record { entry = refl; bounds = tt } in
     let body =
     lays-nodes code nodes [] (omega arith) sound start_offsets
@@ -234,24 +233,23 @@ laid-whole nodes sound =
     (covers-join (FollowsAt code) 0 end.index (suc end.index) body.each last.each)
 
 pub stack_code-well_formed :
-    (nodes : Nodes) → SoundNodes 0 nodes → code_length nodes ≤ MAX_INSTRUCTIONS
+    (nodes : Nodes) → SoundNodes 0 nodes → length (stack_code nodes).instrs ≤ MAX_INSTRUCTIONS
     → IsWellFormed (stack_code nodes)
 stack_code-well_formed nodes sound short =
     let code = stack_code nodes in
-    let long = length-stack_code nodes in
     let laid = laid-whole nodes sound in
-    formed-from code (omega (arith, long)) (omega (arith, long, short))
+    formed-from code (omega (arith, long-stack_code nodes)) (omega (arith, short))
     (λ index i there.
     (laid index (omega arith) (slice_get_within code.instrs index i there) i there).alone)
     (λ index target i there jump.
     (laid index (omega arith) (slice_get_within code.instrs index i there) i there).lands target jump)
 
 pub stack_code-within_limits :
-    (nodes : Nodes) → SoundNodes 0 nodes → code_length nodes ≤ MAX_INSTRUCTIONS
+    (nodes : Nodes) → SoundNodes 0 nodes → length (stack_code nodes).instrs ≤ MAX_INSTRUCTIONS
     → IsWithinLimits (stack_code nodes)
 stack_code-within_limits nodes sound short =
     let code = stack_code nodes in
     let laid = laid-whole nodes sound in
-    within-light code heaviest (omega arith) (omega (arith, length-stack_code nodes, short))
+    within-light code heaviest (omega arith) (omega (arith, short))
     (λ index i there.
     (laid index (omega arith) (slice_get_within code.instrs index i there) i there).light)

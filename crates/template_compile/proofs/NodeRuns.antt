@@ -21,19 +21,18 @@ use Rattle.template_tree.specs.declared.escape.Escape.{Escape}
 use Rattle.template_tree.specs.declared.escape.Escape.TheVariants.{Off, Html}
 use Rattle.template_tree.specs.Tree.{Node, piece, print, if_then, if_else, each, each_else, Nodes, no_nodes, first_node}
 use Rattle.template_tree.specs.Meaning.{Turn, turns_of, datum_at, value_of, escaped, is_taken, node_text, template_text}
-use Rattle.template_compile.specs.Compiled.{◌▸◌, start_offsets, instructions, branch_over, jump_over, each_over}
+use Rattle.template_compile.specs.Compiled.{◌▸◌, start_offsets, instructions, branch_over, jump_over, each_over, size}
 use Rattle.template_compile.specs.Compiled.{again, datum_code, code_for, print_instrs, negation, test_code, node_code}
 use Rattle.template_compile.specs.Compiled.{nodes_code}
 use Rattle.template_compile.specs.Compiled.{stack_code}
 use Rattle.template_compile.specs.Correct.{WritesTextOf}
-use Rattle.template_compile.specs.Length.{nodes_length}
 use Rattle.template_tree.specs.Sound.{SoundExpression, SoundNode, SoundNodes}
 use Rattle.template_compile.proofs.ExpressionRuns.{goes-datum, goes-code_for}
 use Rattle.template_compile.proofs.Fits.{TurnFits, LoopsFit, length-turns_of, turn-fits}
 use Rattle.template_compile.proofs.Goes.{Goes, goes-nothing, goes-join, goes-then, goes-instr, goes-emit, goes-if}
 use Rattle.template_compile.proofs.Goes.{goes-if_else}
 use Rattle.template_compile.proofs.HasCode.{after_part, has_part-front, has_part-back, has_code-itself}
-use Rattle.template_compile.proofs.Lengths.{length-nodes}
+use Rattle.template_compile.proofs.Lengths.{sized-nodes}
 use Rattle.template_compile.proofs.LoopRuns.{texts_or, Turning, goes-each, goes-each_else}
 
 module _ (code : StackCode) (root : Tree) (loops : List Loop) where
@@ -86,11 +85,11 @@ module _ (code : StackCode) (root : Tree) (empty : EmptyNameFindsNothing root) w
       (body : Nodes) (over : Tree) (loops : List Loop) (turns : List Turn) (stack : List Value)
       → ((l : Loop) (t : Turn) → TurnFits l t
       → Goes code root (nodes_code body) (l ∷ loops) stack stack (template_text body root (t ∷ turns)))
-      → Turning code root loops Turn (nodes_code body) (nodes_length body) stack over
+      → Turning code root loops Turn (nodes_code body) (size (nodes_code body)) stack over
   turning body over loops turns stack inside = record {
     turns = turns_of over;
     text = λ turn. template_text body root (turn ∷ turns);
-    long = length-nodes body;
+    long = sized-nodes body;
     counted = length-turns_of over;
     each_turn = λ k turn there. inside (at_turn over k) turn (turn-fits over k turn there);
   }
@@ -124,29 +123,29 @@ module _ (code : StackCode) (root : Tree) (empty : EmptyNameFindsNothing root) w
         (goes-escaped code root loops escape (text_of v) stack)
     goes-node (if_then unless test body) loops turns stack fits sound =
         let b = is_taken unless (truth_of (value_of test root turns)) in
-        let n = nodes_length body in
+        let n = size (nodes_code body) in
         goes-then code root loops (test_code unless test) (branch_over n ▸ nodes_code body)
         stack (a_truth b ∷ stack)
         stack (node_text (if_then unless test body) root turns)
         (goes-test loops turns unless test stack fits sound.0.0)
-        (goes-if code root loops b n (nodes_code body) stack (template_text body root turns) (length-nodes body)
+        (goes-if code root loops b n (nodes_code body) stack (template_text body root turns) (sized-nodes body)
         (goes-nodes body loops turns stack fits sound.1))
     goes-node (if_else unless test body otherwise) loops turns stack fits sound =
         let b = is_taken unless (truth_of (value_of test root turns)) in
-        let m = nodes_length body in
-        let n = nodes_length otherwise in
+        let m = size (nodes_code body) in
+        let n = size (nodes_code otherwise) in
         goes-then code root loops (test_code unless test)
         (branch_over (m + 1) ▸ nodes_code body ▸ jump_over n ▸ nodes_code otherwise) stack
         (a_truth b ∷ stack) stack
         (node_text (if_else unless test body otherwise) root turns)
         (goes-test loops turns unless test stack fits sound.0.0)
         (goes-if_else code root loops b m n (nodes_code body) (nodes_code otherwise) stack
-        (template_text body root turns) (template_text otherwise root turns) (length-nodes body)
-        (length-nodes otherwise) (goes-nodes body loops turns stack fits sound.1)
+        (template_text body root turns) (template_text otherwise root turns) (sized-nodes body)
+        (sized-nodes otherwise) (goes-nodes body loops turns stack fits sound.1)
         (goes-nodes otherwise loops turns stack fits sound.2))
     goes-node (each over body) loops turns stack fits sound =
         let t = datum_at over root turns in
-        let n = nodes_length body in
+        let n = size (nodes_code body) in
         goes-then code root loops (datum_code over) (each_over (n + 1) ▸ nodes_code body ▸ again n) stack
         (a_datum t ∷ stack) stack (node_text (each over body) root turns)
         (goes-datum code root loops turns fits empty over stack sound.0)
@@ -154,8 +153,8 @@ module _ (code : StackCode) (root : Tree) (empty : EmptyNameFindsNothing root) w
         (λ l turn at. goes-nodes body (l ∷ loops) (turn ∷ turns) stack (at, fits) sound.2)))
     goes-node (each_else over body otherwise) loops turns stack fits sound =
         let t = datum_at over root turns in
-        let n = nodes_length body in
-        let m = nodes_length otherwise in
+        let n = size (nodes_code body) in
+        let m = size (nodes_code otherwise) in
         goes-then code root loops (datum_code over)
         (each_over (n + 2) ▸ nodes_code body ▸ again n ▸ jump_over m ▸ nodes_code otherwise)
         stack (a_datum t ∷ stack)
@@ -170,7 +169,7 @@ module _ (code : StackCode) (root : Tree) (empty : EmptyNameFindsNothing root) w
         (turning body t loops turns stack
         (λ l turn at. goes-nodes body (l ∷ loops) (turn ∷ turns) stack (at, fits) sound.2))
         m (nodes_code otherwise)
-        (template_text otherwise root turns) (length-nodes otherwise)
+        (template_text otherwise root turns) (sized-nodes otherwise)
         (goes-nodes otherwise loops turns stack fits sound.3)))
 
     goes-nodes :

@@ -20,7 +20,6 @@ use Rattle.template_tree.specs.declared.escape.Escape.TheVariants.{Off, Html}
 use Rattle.template_tree.specs.Meaning.{second_parameter}
 use Rattle.template_tree.specs.Tree.{Node, piece, print, if_then, if_else, each, each_else, Nodes, no_nodes, first_node}
 use Rattle.template_compile.specs.Kinds.{expression_kind, conversion}
-use Rattle.template_compile.specs.Length.{nodes_length}
 
 -- how many instructions, texts and paths come before
 pub record Offsets : Type 0 where
@@ -94,6 +93,10 @@ each_over n offsets = without_tables (instrs.Each (offsets.index + 1 + n) ∷ []
 abbrev pub again : ℕ → Gen
 again n offsets = without_tables (instrs.Next (offsets.index - n) ∷ [])
 
+-- how many instructions a part has, wherever it begins
+abbrev pub size : Gen → ℕ
+size f = length (f start_offsets).instrs
+
 -- ---- expressions
 
 -- a path that finds nothing in the data of a request
@@ -154,15 +157,15 @@ abbrev mutual
   node_code (piece bytes) = emit_code bytes
   node_code (print escape e) = code_for (Of Kind.Text) e ▸ instructions (print_instrs escape)
   node_code (if_then unless test body) =
-      test_code unless test ▸ branch_over (nodes_length body) ▸ nodes_code body
+      test_code unless test ▸ branch_over (size (nodes_code body)) ▸ nodes_code body
   node_code (if_else unless test body otherwise) =
-      test_code unless test ▸ branch_over (nodes_length body + 1) ▸ nodes_code body
-      ▸ jump_over (nodes_length otherwise) ▸ nodes_code otherwise
+      test_code unless test ▸ branch_over (size (nodes_code body) + 1) ▸ nodes_code body
+      ▸ jump_over (size (nodes_code otherwise)) ▸ nodes_code otherwise
   node_code (each over body) =
-      datum_code over ▸ each_over (nodes_length body + 1) ▸ nodes_code body ▸ again (nodes_length body)
+      datum_code over ▸ each_over (size (nodes_code body) + 1) ▸ nodes_code body ▸ again (size (nodes_code body))
   node_code (each_else over body otherwise) =
-      datum_code over ▸ each_over (nodes_length body + 2) ▸ nodes_code body ▸ again (nodes_length body)
-      ▸ jump_over (nodes_length otherwise) ▸ nodes_code otherwise
+      datum_code over ▸ each_over (size (nodes_code body) + 2) ▸ nodes_code body ▸ again (size (nodes_code body))
+      ▸ jump_over (size (nodes_code otherwise)) ▸ nodes_code otherwise
 
   pub nodes_code : Nodes → Gen
   nodes_code no_nodes = instructions []

@@ -1,12 +1,12 @@
 //! From a tree to code: nodes.
-ghost use Rattle.std.specs.Prelude.{◌≡◌, ◌<◌, ◌≤◌, ◌↔◌, IfOk, OnOk, IsErrOf};
+ghost use Rattle.std.specs.Prelude.{◌≡◌, ◌<◌, ◌≤◌, ◌↔◌, length, IfOk, OnOk, IsErrOf};
 ghost use Rattle.code_rules.specs.Verdict.{IsWellFormed, IsWithinLimits};
 ghost use Rattle.template_code.specs.declared.limits.TheConstants.{MAX_INSTRUCTIONS};
 ghost use Rattle.template_compile.specs.Compiled.{instructions, print_instrs, test_code, node_code, nodes_code};
 ghost use Rattle.template_compile.specs.Compiled.{stack_code};
 ghost use Rattle.template_compile.specs.Correct.{WritesTextOf};
 ghost use Rattle.template_compile.specs.Inner.Drafts.{extended_by};
-ghost use Rattle.template_compile.specs.Length.{node_length, nodes_length, code_length};
+ghost use Rattle.template_compile.specs.Inner.Length.{node_length, nodes_length};
 ghost use Rattle.template_tags.specs.Expression.{expression_view};
 ghost use Rattle.template_tree.specs.Template.{tree_of};
 ghost use Rattle.template_tree.specs.Tree.{node_view, nodes_view};
@@ -28,13 +28,15 @@ use template_tree::template::Template;
 
 /// The code of a template, whose texts and paths become the tables of the code. It is refused where it would have
 /// more than `MAX_INSTRUCTIONS` instructions, before any memory is taken.
+#[tactic(auto, using(crate::proofs::Lengths::counted))]
 pub fn compile(alloc: Global, template: Template) -> Result<Code, CompileError>
     ensures translated { IfOk result (λ code. code ≡ stack_code (tree_of template)) }
     ensures runs { IfOk result (λ code. WritesTextOf code (tree_of template)) }
     ensures well_formed { IfOk result IsWellFormed }
     ensures within_limits { IfOk result IsWithinLimits }
     // Also where there is no memory.
-    ensures too_long { IsErrOf result CompileError.TooLong ↔ MAX_INSTRUCTIONS < code_length (tree_of template) }
+    ensures too_long { IsErrOf result CompileError.TooLong
+        ↔ MAX_INSTRUCTIONS < length (stack_code (tree_of template)).instrs }
 {
     let nodes = template.into_nodes();
     if is_too_long(&nodes) {
@@ -65,7 +67,7 @@ fn add_nodes(draft: &mut Draft, alloc: Global, nodes: Vec<Node>) -> Result<(), A
 }
 
 #[cycle(add_nodes)]
-#[tactic(auto, using(template_tree::proofs::Views::view_if, template_tree::proofs::Views::view_if_else, template_tree::proofs::Views::view_each, template_tree::proofs::Views::view_each_else))]
+#[tactic(auto, using(template_tree::proofs::Views::view_if, template_tree::proofs::Views::view_if_else, template_tree::proofs::Views::view_each, template_tree::proofs::Views::view_each_else, crate::proofs::Lengths::sized))]
 fn add_node(draft: &mut Draft, alloc: Global, node: Node) -> Result<(), AllocError>
     requires { node_length (node_view node) ≤ MAX_INSTRUCTIONS }
     ensures { OnOk result (draft.new ≡ extended_by draft.old (node_code (node_view node))) }

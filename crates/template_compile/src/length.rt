@@ -2,10 +2,12 @@
 //! is left for instructions, so that no sum of lengths is too large.
 ghost use Rattle.std.specs.Prelude.{◌≡◌, ◌<◌, ◌≤◌, ◌↔◌, length, IsTrue};
 ghost use Rattle.template_code.specs.declared.limits.TheConstants.{MAX_INSTRUCTIONS};
+ghost use Rattle.template_compile.specs.Compiled.{size, nodes_code, stack_code};
 ghost use Rattle.template_compile.specs.Inner.Room.{TakesRoom};
 ghost use Rattle.template_compile.specs.Kinds.{conversion};
-ghost use Rattle.template_compile.specs.Length.{datum_length, expression_length, length_for, print_length, test_length};
-ghost use Rattle.template_compile.specs.Length.{node_length, nodes_length, code_length};
+ghost use Rattle.template_compile.specs.Inner.Length.{datum_length, expression_length, length_for, print_length};
+ghost use Rattle.template_compile.specs.Inner.Length.{test_length};
+ghost use Rattle.template_compile.specs.Inner.Length.{node_length, nodes_length};
 ghost use Rattle.template_tags.specs.Expression.{expression_view};
 ghost use Rattle.template_tree.specs.Tree.{node_view, nodes_view};
 
@@ -18,16 +20,18 @@ use template_tree::escape::Escape;
 use template_tree::node::Node;
 
 /// Whether the code of these nodes, with its `Halt`, has more than `MAX_INSTRUCTIONS` instructions.
+#[tactic(auto, using(crate::proofs::Lengths::counted))]
 pub fn is_too_long(nodes: &Vec<Node>) -> bool
-    ensures { IsTrue result ↔ MAX_INSTRUCTIONS < code_length (nodes_view nodes.now.items) }
+    ensures { IsTrue result ↔ MAX_INSTRUCTIONS < length (stack_code (nodes_view nodes.now.items)).instrs }
 {
     after_nodes(MAX_INSTRUCTIONS - 1, nodes).is_none()
 }
 
 /// How many instructions the code of these nodes has.
+#[tactic(auto, using(crate::proofs::Lengths::sized))]
 pub fn nodes_length(nodes: &Vec<Node>) -> usize
     requires { nodes_length (nodes_view nodes.now.items) ≤ MAX_INSTRUCTIONS }
-    ensures { result ≡ nodes_length (nodes_view nodes.now.items) }
+    ensures { result ≡ size (nodes_code (nodes_view nodes.now.items)) }
 {
     match after_nodes(MAX_INSTRUCTIONS, nodes) {
         Some(rest) => MAX_INSTRUCTIONS - rest,

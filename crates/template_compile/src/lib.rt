@@ -1,6 +1,6 @@
 //! The compiler: from a template's tree to stack code. It uses `template_tree`, `template_tags` (the expressions of a
-//! tree) and `template_code`. The contract of `compile` cites `specs/Length.antt` (how many instructions a template's
-//! code has), `Compiled` (the code of each node) and `Correct` (that it writes what the template means).
+//! tree) and `template_code`. The contract of `compile` cites `specs/Compiled.antt` (the code of each node) and
+//! `Correct` (that it writes what the template means).
 #![tactic(auto)]
 
 pub mod compiler;

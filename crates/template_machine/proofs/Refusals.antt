@@ -14,8 +14,6 @@ use Rattle.template_tree.specs.Grammar.{Spells, IsParseError}
 use Rattle.template_tree.specs.declared.error.ParseError.{ParseError}
 use Rattle.template_tree.specs.declared.error.ParseError.TheVariants as parse
 use Rattle.template_compile.specs.Compiled.{stack_code}
-use Rattle.template_compile.specs.Length.{code_length}
-use Rattle.template_compile.proofs.Lengths.{length-stack_code}
 use Rattle.template_compile.specs.declared.error.CompileError.{CompileError}
 use Rattle.template_compile.specs.declared.error.CompileError.TheVariants as compile
 use Rattle.template_machine.specs.Program.{ProgramParts, IsProgram, IsMeant}
@@ -47,19 +45,21 @@ parse_error source parse.OutOfMemory is only = record { reported = tt; exactly =
 pub compile_error :
     (source : Source) (tree : Nodes) (e : CompileError)
     → Spells source tree → ((other : Nodes) → Spells source other → tree ≡ other)
-    → (e ≡ compile.TooLong → MAX_INSTRUCTIONS < code_length tree)
+    → (e ≡ compile.TooLong → MAX_INSTRUCTIONS < length (stack_code tree).instrs)
     → IsOnlyErrorOf source (of_compile e)
 compile_error source tree compile.TooLong spelled one long =
     record {
       reported = (tree, spelled, long refl);
-      exactly = λ p. let same = ap code_length (one p.0 p.1) in absurd (omega (arith, p.2, same, long refl));
+      exactly = λ p.
+          let same = ap (λ t. length (stack_code t).instrs) (one p.0 p.1) in
+          absurd (omega (arith, p.2, same, long refl));
     }
 compile_error source tree compile.OutOfMemory spelled one long = record { reported = tt; exactly = λ p. refl }
 
 -- the code of a text is no longer than code may be
 pub short_code :
     (code : StackCode) (tree : Nodes)
-    → IsWellFormed code → code ≡ stack_code tree → code_length tree ≤ MAX_INSTRUCTIONS
+    → IsWellFormed code → code ≡ stack_code tree → length (stack_code tree).instrs ≤ MAX_INSTRUCTIONS
 short_code code tree well translated =
     let same = ap (λ (c : StackCode). length c.instrs) translated in
-    omega (arith, formed-few code well, same, length-stack_code tree)
+    omega (arith, formed-few code well, same)

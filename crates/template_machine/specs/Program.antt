@@ -1,5 +1,5 @@
 -- Which text is a program's, what a program keeps, and what rendering it gives.
-use Rattle.std.specs.Prelude.{◌≡◌, ℕ, ◌<◌, ◌≤◌, List, []}
+use Rattle.std.specs.Prelude.{◌≡◌, ℕ, ◌<◌, ◌≤◌, List, [], length}
 use Rattle.data_tree.specs.Tree.{Tree}
 use Rattle.template_tree.specs.Tree.{Nodes}
 use Rattle.template_tree.specs.Source.{Source}
@@ -10,7 +10,6 @@ use Rattle.template_code.specs.Finds.{FindSame}
 use Rattle.template_code.specs.declared.limits.TheConstants.{MAX_INSTRUCTIONS}
 use Rattle.template_compile.specs.Compiled.{stack_code}
 use Rattle.template_compile.specs.Correct.{WritesTextOf}
-use Rattle.template_compile.specs.Length.{code_length}
 
 -- a program as contracts see it
 pub record ProgramParts : Type 0 where
@@ -19,11 +18,12 @@ pub record ProgramParts : Type 0 where
 
 -- it spells a tree whose code isn't too long
 abbrev pub IsProgramText : Source → Type 0
-IsProgramText source = (tree : Nodes) × Spells source tree × (code_length tree ≤ MAX_INSTRUCTIONS)
+IsProgramText source =
+    (tree : Nodes) × Spells source tree × (length (stack_code tree).instrs ≤ MAX_INSTRUCTIONS)
 
 -- it spells a tree whose code is too long
 abbrev pub IsTooLong : Source → Type 0
-IsTooLong source = (tree : Nodes) × Spells source tree × (MAX_INSTRUCTIONS < code_length tree)
+IsTooLong source = (tree : Nodes) × Spells source tree × (MAX_INSTRUCTIONS < length (stack_code tree).instrs)
 
 -- the code is that of the tree that the source spells, and its runs write the tree's text
 pub record IsProgram (p : ProgramParts) : Type 0 where

@@ -1,5 +1,5 @@
 //! Programs: templates that are compiled and verified, ready to be rendered.
-ghost use Rattle.std.specs.Prelude.{◌≡◌, ◌≤◌, ℕ, length, string_bytes, IfOk, IfErr, OnOk, IsErrOf};
+ghost use Rattle.std.specs.Prelude.{◌≡◌, ◌<◌, ◌≤◌, ℕ, length, string_bytes, IfOk, IfErr, OnOk, IsErrOf};
 ghost use Rattle.data_tree.specs.Json.{size};
 ghost use Rattle.data_tree.specs.Tree.{Tree};
 ghost use Rattle.needed_data.specs.Needed.{Includes, AreAlike};
@@ -13,7 +13,9 @@ ghost use Rattle.template_machine.specs.Errors.{IsErrorOf};
 ghost use Rattle.template_machine.specs.Inner.Programs.{IsCodeOf, IsOnlyErrorOf};
 ghost use Rattle.template_machine.specs.Program.{IsProgram, IsProgramText, IsMeant, FindsSame};
 ghost use Rattle.safe_code.specs.Safe.{IsSafe};
-ghost use Rattle.template_machine.specs.declared.error.ProgramError.TheVariants.{CodeRefused, OutOfMemory};
+ghost use Rattle.template_machine.specs.declared.error.ProgramError.TheVariants.{Template, CodeRefused, OutOfMemory};
+ghost use Rattle.template_tree.specs.declared.error.TemplateErrorKind.TheVariants.{TooLong};
+ghost use Rattle.template_tree.specs.declared.parser.TheConstants.{TEXT_LIMIT};
 
 use crate::error::ProgramError;
 use crate::needs::add_code;
@@ -59,6 +61,9 @@ impl Program {
         ensures ok { OnOk result (IsProgramText (unescaped text.now)) }
         ensures exactly { IsProgramText (unescaped text.now) → IfErr result (λ error. error ≡ OutOfMemory) }
         ensures reported { IfErr result (λ error. IsErrorOf (unescaped text.now) error) }
+        // However little memory there is.
+        ensures too_long { TEXT_LIMIT < length text.now →
+            IsErrOf result (Template (record { kind = TooLong; at = TEXT_LIMIT })) }
         ensures never_refused { (index : ℕ) (rule : Rule) → IsErrOf result (CodeRefused index rule) → ⊥ }
     {
         Program::from_text_with(alloc, text, Escape::Off)
@@ -78,6 +83,9 @@ impl Program {
         ensures exactly { IsProgramText (with_escape escape text.now)
             → IfErr result (λ error. error ≡ OutOfMemory) }
         ensures reported { IfErr result (λ error. IsErrorOf (with_escape escape text.now) error) }
+        // However little memory there is.
+        ensures too_long { TEXT_LIMIT < length text.now →
+            IsErrOf result (Template (record { kind = TooLong; at = TEXT_LIMIT })) }
         ensures never_refused { (index : ℕ) (rule : Rule) → IsErrOf result (CodeRefused index rule) → ⊥ }
     {
         let verified = verified_code(alloc, text, escape)?;
@@ -130,6 +138,8 @@ impl Program {
 fn verified_code(alloc: Global, text: &str, escape: Escape) -> Result<Verified, ProgramError>
     ensures ok { IfOk result (λ code. IsCodeOf (with_escape escape text.now) code) }
     ensures err { IfErr result (λ error. IsOnlyErrorOf (with_escape escape text.now) error) }
+    ensures too_long { TEXT_LIMIT < length text.now →
+        IsErrOf result (Template (record { kind = TooLong; at = TEXT_LIMIT })) }
 {
     let template = parse_with(alloc, text, escape)?;
     let code = compile(alloc, template)?;

@@ -1,7 +1,7 @@
 -- An error beside what is read, seen by the views.
 use Rattle.std.proofs.Common.{◌≡◌, Option, Some, None, Result, Ok, Err, refl}
 use Rattle.template_words.specs.declared.error.TagError.{TagError}
-use Rattle.template_tags.specs.Calls.{beside}
+use Rattle.template_tags.specs.Inner.CallReads.{beside}
 use Rattle.template_tags.specs.Inner.Views.{read_view, said_view}
 use Rattle.template_tags.specs.declared.expression.Expression.{Expression}
 use Rattle.template_tags.specs.declared.tag.Tag.{Tag}

@@ -1,39 +1,47 @@
 -- Terms and their items.
-use Rattle.std.proofs.Common.{◌≡◌, Bool, false, List, [], ◌∷◌, ◌↔◌, refl, sym, ap, ◌∙◌}
-use Rattle.std.proofs.lemmas.Bool.{true≢false}
+use Rattle.std.proofs.Common.{◌≡◌, List, [], ◌∷◌, Option, Some, None, ◌↔◌, refl, sym, ap, subst, ◌∙◌}
+use Rattle.std.proofs.lemmas.Option.{none-some, same_Some}
 use Rattle.template_tags.specs.Items.{Item, word, left_parenthesis, right_parenthesis}
-use Rattle.template_tags.specs.Terms.{Term, single, group, Terms, no_terms, first_term, Nest, balanced}
-use Rattle.template_tags.specs.Terms.{grouped, item_before, nest_of, flat_term, flat}
+use Rattle.template_tags.specs.Terms.{Term, single, group, Terms, no_terms, first_term, grouped_before, grouped}
+use Rattle.template_tags.specs.Terms.{only_list, terms_of, flat_term, flat}
 
--- ---- the items of a nest
+-- ---- the items of what is grouped
 
 abbrev flat_later : List Terms → List Item
 flat_later [] = []
 flat_later (ts ∷ later) = right_parenthesis ∷ flat ts (flat_later later)
 
-abbrev flat_nest : Nest → List Item
-flat_nest nest = flat nest.terms (flat_later nest.later)
+-- what is grouped has these items
+abbrev IsBack : List Item → Option (List Terms) → Type 0
+IsBack items None = Unit {0}
+IsBack items (Some []) = ⊥
+IsBack items (Some (ts ∷ later)) = flat ts (flat_later later) ≡ items
 
-flat_grouped : (ts : Terms) (later : List Terms) (unclosed : Bool) → (grouped ts later unclosed).unclosed ≡ false
-    → flat_nest (grouped ts later unclosed) ≡ left_parenthesis ∷ flat ts (flat_later later)
-flat_grouped ts [] unclosed closed = absurd (true≢false closed)
-flat_grouped ts (outer ∷ later) unclosed closed = refl
+back_before : (item : Item) (items : List Item) (found : Option (List Terms)) → IsBack items found
+    → IsBack (item ∷ items) (grouped_before item found)
+back_before (word text) items None back = tt
+back_before (word text) items (Some []) back = absurd back
+back_before (word text) items (Some (ts ∷ later)) back = ap (λ xs. word text ∷ xs) back
+back_before right_parenthesis items None back = tt
+back_before right_parenthesis items (Some []) back = absurd back
+back_before right_parenthesis items (Some (ts ∷ later)) back = ap (λ xs. right_parenthesis ∷ xs) back
+back_before left_parenthesis items None back = tt
+back_before left_parenthesis items (Some []) back = absurd back
+back_before left_parenthesis items (Some (ts ∷ [])) back = tt
+back_before left_parenthesis items (Some (ts ∷ outer ∷ later)) back = ap (λ xs. left_parenthesis ∷ xs) back
 
-closed_inside : (ts : Terms) (later : List Terms) (unclosed : Bool) → (grouped ts later unclosed).unclosed ≡ false
-    → unclosed ≡ false
-closed_inside ts [] unclosed closed = absurd (true≢false closed)
-closed_inside ts (outer ∷ later) unclosed closed = closed
+is_back : (items : List Item) → IsBack items (grouped items)
+is_back [] = refl
+is_back (item ∷ items) = back_before item items (grouped items) (is_back items)
 
-flat_back : (items : List Item) → (nest_of items).unclosed ≡ false → flat_nest (nest_of items) ≡ items
-flat_back [] closed = refl
-flat_back (word text ∷ items) closed = ap (λ xs. word text ∷ xs) (flat_back items closed)
-flat_back (right_parenthesis ∷ items) closed = ap (λ xs. right_parenthesis ∷ xs) (flat_back items closed)
-flat_back (left_parenthesis ∷ items) closed =
-    let nest = nest_of items in
-    flat_grouped nest.terms nest.later nest.unclosed closed
-    ∙ ap (λ xs. left_parenthesis ∷ xs) (flat_back items (closed_inside nest.terms nest.later nest.unclosed closed))
+only_back : (items : List Item) (found : Option (List Terms)) (ts : Terms) → IsBack items found
+    → only_list found ≡ Some ts → flat ts [] ≡ items
+only_back items None ts back e = absurd (none-some ts e)
+only_back items (Some []) ts back e = absurd back
+only_back items (Some (us ∷ [])) ts back e = subst (λ t. flat t [] ≡ items) (same_Some us ts e) back
+only_back items (Some (us ∷ more ∷ later)) ts back e = absurd (none-some ts e)
 
--- ---- the nest of the items of terms
+-- ---- what the items of terms group
 
 abbrev onto : Terms → Terms → Terms
 onto no_terms us = us
@@ -43,28 +51,23 @@ onto_none : (ts : Terms) → onto ts no_terms ≡ ts
 onto_none no_terms = refl
 onto_none (first_term t ts) = ap (first_term t) (onto_none ts)
 
-abbrev with_terms : Terms → Nest → Nest
-with_terms ts nest = record { terms = onto ts nest.terms; later = nest.later; unclosed = nest.unclosed }
-
 mutual
-  term_nest : (t : Term) (items : List Item)
-      → nest_of (flat_term t items) ≡ with_terms (first_term t no_terms) (nest_of items)
-  term_nest (single text) items = refl
-  term_nest (group ts) items =
-      ap (item_before left_parenthesis) (terms_nest ts (right_parenthesis ∷ items))
-      ∙ ap (λ us. grouped us ((nest_of items).terms ∷ (nest_of items).later) (nest_of items).unclosed)
-      (onto_none ts)
+  term_grouped : (t : Term) (items : List Item) (us : Terms) (later : List Terms)
+      → grouped items ≡ Some (us ∷ later) → grouped (flat_term t items) ≡ Some (first_term t us ∷ later)
+  term_grouped (single text) items us later e = ap (grouped_before (word text)) e
+  term_grouped (group ts) items us later e =
+      ap (grouped_before left_parenthesis)
+      (terms_grouped ts (right_parenthesis ∷ items) no_terms (us ∷ later) (ap (grouped_before right_parenthesis) e))
+      ∙ ap (λ g. Some (first_term (group g) us ∷ later)) (onto_none ts)
 
-  terms_nest : (ts : Terms) (items : List Item) → nest_of (flat ts items) ≡ with_terms ts (nest_of items)
-  terms_nest no_terms items = refl
-  terms_nest (first_term t ts) items =
-      term_nest t (flat ts items) ∙ ap (with_terms (first_term t no_terms)) (terms_nest ts items)
+  terms_grouped : (ts : Terms) (items : List Item) (us : Terms) (later : List Terms)
+      → grouped items ≡ Some (us ∷ later) → grouped (flat ts items) ≡ Some (onto ts us ∷ later)
+  terms_grouped no_terms items us later e = e
+  terms_grouped (first_term t ts) items us later e =
+      term_grouped t (flat ts items) (onto ts us) later (terms_grouped ts items us later e)
 
-balanced_nest : (ts : Terms) → nest_of (flat ts []) ≡ balanced ts
-balanced_nest ts = terms_nest ts [] ∙ ap balanced (onto_none ts)
+flat_terms : (ts : Terms) → terms_of (flat ts []) ≡ Some ts
+flat_terms ts = ap only_list (terms_grouped ts [] no_terms [] refl) ∙ ap Some (onto_none ts)
 
-pub terms_are_items : (items : List Item) (ts : Terms) → (nest_of items ≡ balanced ts) ↔ (flat ts [] ≡ items)
-terms_are_items items ts = (
-  λ e. sym (ap flat_nest e) ∙ flat_back items (ap (λ nest. nest.unclosed) e),
-  λ e. sym (ap nest_of e) ∙ balanced_nest ts,
-)
+pub terms_are_items : (items : List Item) (ts : Terms) → (terms_of items ≡ Some ts) ↔ (flat ts [] ≡ items)
+terms_are_items items ts = (only_back items (grouped items) ts (is_back items), λ e. sym (ap terms_of e) ∙ flat_terms ts)

@@ -3,7 +3,7 @@ use Rattle.std.proofs.Common.{◌≡◌, ◌≤◌, nat_le, true, false, Option,
 use Rattle.std.proofs.Common.{◌∙◌, arith, ◌-◌, List, length, map, take, drop, get_or, Result}
 use Rattle.std.proofs.lemmas.Bool.{cases_Bool, leb-true, leb-false, le-leb}
 use Rattle.template_tags.proofs.Fronts.{first_split}
-use Rattle.template_tags.specs.Calls.{error_in, errors_in}
+use Rattle.template_tags.specs.Inner.CallReads.{error_in, errors_in}
 use Rattle.template_tags.specs.Inner.Views.{read_view}
 use Rattle.template_tags.specs.declared.expression.Expression.{Expression}
 use Rattle.template_words.specs.Errors.{rank, earlier, joined}
@@ -16,6 +16,17 @@ first_is d e h = rw h refl
 
 second_is : (d e : TagError) → nat_le (rank d) (rank e) ≡ false → earlier d e ≡ e
 second_is d e h = rw h refl
+
+pub earlier_same : (e : TagError) → earlier e e ≡ e
+earlier_same e = first_is e e (le-leb (rank e) (rank e) (omega arith))
+
+pub earlier_back : (d e : TagError) → earlier (earlier d e) d ≡ earlier d e
+earlier_back d e = elim (cases_Bool (nat_le (rank d) (rank e))) [
+  | inl t ↦ ap (λ x. earlier x d) (first_is d e t) ∙ earlier_same d ∙ sym (first_is d e t)
+  | inr f ↦
+      let le : rank e ≤ rank d = omega (arith, leb-false (rank d) (rank e) f) in
+      ap (λ x. earlier x d) (second_is d e f) ∙ first_is e d (le-leb (rank e) (rank d) le) ∙ sym (second_is d e f)
+]
 
 pub earlier_assoc : (d e f : TagError) → earlier (earlier d e) f ≡ earlier d (earlier e f)
 earlier_assoc d e f = elim (cases_Bool (nat_le (rank d) (rank e))) [

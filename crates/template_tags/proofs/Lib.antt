@@ -1,6 +1,7 @@
 pub mod Vectors
 pub mod Fronts
 pub mod Joins
+pub mod Reported
 pub mod Besides
 pub mod Helpers
 pub mod Names

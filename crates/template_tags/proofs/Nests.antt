@@ -1,26 +1,27 @@
 -- The pass over a tag's items reads what their parentheses group.
-use Rattle.std.proofs.Common.{◌≡◌, ℕ, suc, min, max, nat_lt, Bool, true, false, not, ◌&&◌}
-use Rattle.std.proofs.Common.{List, [], ◌∷◌, ◌++◌, map, Result, Ok, Err, inl, inr, refl, ap}
-use Rattle.std.proofs.Common.{◌∙◌, arith}
+use Rattle.std.proofs.Common.{◌≡◌, ℕ, suc, min, max, nat_lt, Bool, true, false}
+use Rattle.std.proofs.Common.{List, [], ◌∷◌, ◌++◌, map, Option, Some, None, option_map, Result, Ok, Err, inl, inr}
+use Rattle.std.proofs.Common.{refl, sym, ap, ◌∙◌, arith}
+use Rattle.std.specs.Prelude.{is_some, unwrap_or}
+use Rattle.std.proofs.lemmas.Option.{none-some, same_Some}
 use Rattle.std.proofs.lemmas.Bool.{cases_Bool, ltb-true, ltb-false, lt-ltb}
 use Rattle.helper_set.specs.declared.helper.Helper.{Helper}
 use Rattle.template_words.specs.Errors.{joined}
 use Rattle.template_words.specs.declared.error.TagError.{TagError}
-use Rattle.template_words.specs.declared.error.TagError.TheVariants.{UnknownHelper, BadPath}
-use Rattle.template_tags.specs.Blocks.{unused_errors, nest_error, only_one, block_argument, all_errors}
-use Rattle.template_tags.specs.Calls.{beside, error_if, error_in, errors_in, limited, argument, arguments, call_of}
-use Rattle.template_tags.specs.Calls.{call_read, helper_read}
+use Rattle.template_words.specs.declared.error.TagError.TheVariants.{UnknownHelper}
+use Rattle.template_tags.specs.Inner.BlockReads.{match_error, only_one, block_argument, all_errors}
+use Rattle.template_tags.specs.Inner.CallReads.{beside, error_in, errors_in, limited, argument, arguments, call_of}
+use Rattle.template_tags.specs.Inner.CallReads.{call_read, helper_read}
 use Rattle.template_tags.specs.Expression.{Expression}
-use Rattle.template_tags.specs.Inner.Pieces.{group_piece, PieceNest, capped, piece_of, pieces_of}
-use Rattle.template_tags.specs.Inner.Pieces.{nest_pieces, is_balanced, has_none, greatest, piece_height, piece_argument}
-use Rattle.template_tags.specs.Inner.Pieces.{piece_arguments, piece_helper, piece_call, grouped_pieces, outer_pieces}
-use Rattle.template_tags.specs.Inner.Pieces.{group_of_height, piece_before, pieces_before, unused_pieces, pieces_error}
-use Rattle.template_tags.specs.Inner.Pieces.{all_pieces_error, block_pieces, value_pieces, print_pieces}
+use Rattle.template_tags.specs.Inner.Pieces.{Piece, Parts, word_piece, group_piece, capped, piece_of, pieces_of}
+use Rattle.template_tags.specs.Inner.Pieces.{stack_pieces, parts_of, word_pieces, greatest, piece_height}
+use Rattle.template_tags.specs.Inner.Pieces.{piece_argument, piece_arguments, piece_helper, piece_call}
+use Rattle.template_tags.specs.Inner.Pieces.{grouped_pieces, group_of_height, piece_before, pieces_before}
+use Rattle.template_tags.specs.Inner.Pieces.{all_parts_error, block_parts, value_pieces, print_parts}
 use Rattle.template_tags.specs.Items.{Item, word, left_parenthesis, right_parenthesis}
-use Rattle.template_tags.specs.Said.{value_said, print_read, print_said}
-use Rattle.template_tags.specs.Terms as terms
-use Rattle.template_tags.specs.Terms.{Term, single, group, Terms, no_terms, first_term, height, greatest_height, Nest}
-use Rattle.template_tags.specs.Terms.{empty_nest, grouped, item_before, nest_of}
+use Rattle.template_tags.specs.Inner.TagReads.{value_said, print_read, print_said}
+use Rattle.template_tags.specs.Terms.{Term, single, group, Terms, no_terms, first_term, height, greatest_height}
+use Rattle.template_tags.specs.Terms.{grouped_before, grouped, only_list, terms_of, words_of, terms_in, is_matched}
 use Rattle.template_tags.specs.declared.expression.TheConstants.{CALL_LIMIT}
 use Rattle.template_tags.specs.declared.level.Level.{Level}
 
@@ -99,79 +100,128 @@ group_is levels ts =
 
 -- ---- items
 
-outer_is : (levels : List Level) (ts : Terms) (later : List Terms) (unclosed : Bool)
-    → outer_pieces (piece_of levels (group ts)) (map (pieces_of levels) later) unclosed
-    ≡ nest_pieces levels (grouped ts later unclosed)
-outer_is levels ts [] unclosed = refl
-outer_is levels ts (outer ∷ later) unclosed = refl
-
-before_is : (levels : List Level) (item : Item) (nest : Nest)
-    → piece_before levels item (nest_pieces levels nest) ≡ nest_pieces levels (item_before item nest)
-before_is levels (word text) nest = refl
-before_is levels right_parenthesis nest = refl
-before_is levels left_parenthesis nest =
-    ap (λ p. outer_pieces p (map (pieces_of levels) nest.later) nest.unclosed) (group_is levels nest.terms)
-    ∙ outer_is levels nest.terms nest.later nest.unclosed
+before_is : (levels : List Level) (item : Item) (found : Option (List Terms))
+    → piece_before levels item (stack_pieces levels found) ≡ stack_pieces levels (grouped_before item found)
+before_is levels (word text) None = refl
+before_is levels (word text) (Some []) = refl
+before_is levels (word text) (Some (ts ∷ later)) = refl
+before_is levels right_parenthesis None = refl
+before_is levels right_parenthesis (Some later) = refl
+before_is levels left_parenthesis None = refl
+before_is levels left_parenthesis (Some []) = refl
+before_is levels left_parenthesis (Some (ts ∷ [])) = refl
+before_is levels left_parenthesis (Some (ts ∷ outer ∷ later)) =
+    ap (λ p. Some ((p ∷ pieces_of levels outer) ∷ map (pieces_of levels) later)) (group_is levels ts)
 
 pub nest_is : (levels : List Level) (items : List Item)
-    → pieces_before levels items (nest_pieces levels empty_nest) ≡ nest_pieces levels (nest_of items)
+    → pieces_before levels items (Some ([] ∷ [])) ≡ stack_pieces levels (grouped items)
 nest_is levels [] = refl
 nest_is levels (item ∷ items) =
-    ap (piece_before levels item) (nest_is levels items) ∙ before_is levels item (nest_of items)
+    ap (piece_before levels item) (nest_is levels items) ∙ before_is levels item (grouped items)
 
-pub pieces_before-append : (levels : List Level) (xs : List Item) (item : Item) (nest : PieceNest)
-    → pieces_before levels (xs ++ item ∷ []) nest ≡ pieces_before levels xs (piece_before levels item nest)
-pieces_before-append levels [] item nest = refl
-pieces_before-append levels (x ∷ xs) item nest = ap (piece_before levels x) (pieces_before-append levels xs item nest)
+pub pieces_before-append :
+    (levels : List Level) (xs : List Item) (item : Item) (stack : Option (List (List Piece)))
+    → pieces_before levels (xs ++ item ∷ []) stack ≡ pieces_before levels xs (piece_before levels item stack)
+pieces_before-append levels [] item stack = refl
+pieces_before-append levels (x ∷ xs) item stack = ap (piece_before levels x) (pieces_before-append levels xs item stack)
+
+before_none : (levels : List Level) (item : Item) → piece_before levels item None ≡ None
+before_none levels (word text) = refl
+before_none levels right_parenthesis = refl
+before_none levels left_parenthesis = refl
+
+pub pieces_before_none : (levels : List Level) (items : List Item) → pieces_before levels items None ≡ None
+pieces_before_none levels [] = refl
+pieces_before_none levels (item ∷ items) =
+    ap (piece_before levels item) (pieces_before_none levels items) ∙ before_none levels item
+
+abbrev only_pieces : Option (List (List Piece)) → Option (List Piece)
+only_pieces (Some (pieces ∷ [])) = Some pieces
+only_pieces found = None
+
+only_is : (levels : List Level) (found : Option (List Terms))
+    → only_pieces (stack_pieces levels found) ≡ option_map (pieces_of levels) (only_list found)
+only_is levels None = refl
+only_is levels (Some []) = refl
+only_is levels (Some (ts ∷ [])) = refl
+only_is levels (Some (ts ∷ us ∷ later)) = refl
+
+-- the pieces of a stack without more lists are those of the terms, and no terms are there otherwise
+pub terms_found : (levels : List Level) (items : List Item) (pieces : List Piece)
+    → ◌≡◌ {A = Option (List (List Piece))} (Some (pieces ∷ [])) (stack_pieces levels (grouped items))
+    → Some pieces ≡ option_map (pieces_of levels) (terms_of items)
+terms_found levels items pieces e = ap only_pieces e ∙ only_is levels (grouped items)
+
+pub no_terms_found : (levels : List Level) (items : List Item) (pieces more : List Piece) (later : List (List Piece))
+    → ◌≡◌ {A = Option (List (List Piece))} (Some (pieces ∷ more ∷ later)) (stack_pieces levels (grouped items))
+    → None ≡ option_map (pieces_of levels) (terms_of items)
+no_terms_found levels items pieces more later e = ap only_pieces e ∙ only_is levels (grouped items)
+
+pub none_found : (levels : List Level) (items : List Item)
+    → ◌≡◌ {A = Option (List (List Piece))} None (stack_pieces levels (grouped items))
+    → None ≡ option_map (pieces_of levels) (terms_of items)
+none_found levels items e = ap only_pieces e ∙ only_is levels (grouped items)
+
+words_are : (levels : List Level) (items : List Item) → pieces_of levels (words_of items) ≡ word_pieces items
+words_are levels [] = refl
+words_are levels (word text ∷ items) = ap (λ ps. word_piece text ∷ ps) (words_are levels items)
+words_are levels (left_parenthesis ∷ items) = words_are levels items
+words_are levels (right_parenthesis ∷ items) = words_are levels items
+
+pub word_pieces-append : (xs : List Item) (item : Item)
+    → word_pieces (xs ++ item ∷ []) ≡ word_pieces xs ++ word_pieces (item ∷ [])
+word_pieces-append [] item = refl
+word_pieces-append (word text ∷ xs) item = ap (λ ps. word_piece text ∷ ps) (word_pieces-append xs item)
+word_pieces-append (left_parenthesis ∷ xs) item = word_pieces-append xs item
+word_pieces-append (right_parenthesis ∷ xs) item = word_pieces-append xs item
+
+matched_is : (levels : List Level) (found : Option Terms) (words : Terms) (pieces : List Piece)
+    → Some pieces ≡ option_map (pieces_of levels) found
+    → ◌≡◌ {A = Parts} (record { pieces = pieces; matched = true })
+    (record { pieces = pieces_of levels (unwrap_or found words); matched = is_some found })
+matched_is levels None words pieces e = absurd (none-some pieces (sym e))
+matched_is levels (Some ts) words pieces e =
+    ap (λ ps. record { pieces = ps; matched = true }) (same_Some pieces (pieces_of levels ts) e)
+
+unmatched_is : (levels : List Level) (found : Option Terms) (words : Terms) (pieces : List Piece)
+    → None ≡ option_map (pieces_of levels) found → pieces ≡ pieces_of levels words
+    → ◌≡◌ {A = Parts} (record { pieces = pieces; matched = false })
+    (record { pieces = pieces_of levels (unwrap_or found words); matched = is_some found })
+unmatched_is levels None words pieces e is = ap (λ ps. record { pieces = ps; matched = false }) is
+unmatched_is levels (Some ts) words pieces e is = absurd (none-some (pieces_of levels ts) e)
+
+pub matched_parts : (levels : List Level) (items : List Item) (pieces : List Piece)
+    → Some pieces ≡ option_map (pieces_of levels) (terms_of items)
+    → ◌≡◌ {A = Parts} (record { pieces = pieces; matched = true }) (parts_of levels items)
+matched_parts levels items pieces e = matched_is levels (terms_of items) (words_of items) pieces e
+
+pub unmatched_parts : (levels : List Level) (items : List Item) (pieces : List Piece)
+    → None ≡ option_map (pieces_of levels) (terms_of items) → pieces ≡ word_pieces items
+    → ◌≡◌ {A = Parts} (record { pieces = pieces; matched = false }) (parts_of levels items)
+unmatched_parts levels items pieces e is =
+    unmatched_is levels (terms_of items) (words_of items) pieces e (is ∙ sym (words_are levels items))
 
 -- ---- what tags take
 
-none_is : (levels : List Level) (later : List Terms)
-    → has_none (map (pieces_of levels) later) ≡ terms.has_none later
-none_is levels [] = refl
-none_is levels (ts ∷ later) = refl
+pub all_errors_are : (levels : List Level) (items : List Item)
+    → all_parts_error levels (parts_of levels items) ≡ all_errors levels items
+all_errors_are levels items =
+    ap (λ reads. joined (match_error items) (errors_in reads)) (arguments_are levels (terms_in items))
 
-balanced_is : (levels : List Level) (nest : Nest) → is_balanced (nest_pieces levels nest) ≡ terms.is_balanced nest
-balanced_is levels nest = ap (λ b. not nest.unclosed && b) (none_is levels nest.later)
+pub block_parts_are : (levels : List Level) (items : List Item)
+    → block_parts levels (parts_of levels items) ≡ block_argument levels items
+block_parts_are levels items =
+    ap (λ reads. beside (match_error items) (only_one reads)) (arguments_are levels (terms_in items))
 
-unused_are : (levels : List Level) (later : List Terms)
-    → unused_pieces levels (map (pieces_of levels) later) ≡ unused_errors levels later
-unused_are levels [] = refl
-unused_are levels (ts ∷ later) =
-    let first = arguments_are levels ts in
-    let rest = unused_are levels later in
-    λ i. joined (errors_in (first i)) (rest i)
+value_is : (levels : List Level) (matched : Bool) (ts : Terms)
+    → value_pieces levels matched (pieces_of levels ts) ≡ value_said levels matched ts
+value_is levels matched no_terms = refl
+value_is levels matched (first_term (single text) no_terms) = refl
+value_is levels matched (first_term (group ts) no_terms) = refl
+value_is levels matched (first_term head (first_term t ts)) = call_is levels (first_term head (first_term t ts))
 
-nest_error_is : (levels : List Level) (nest : Nest)
-    → pieces_error levels (is_balanced (nest_pieces levels nest)) (map (pieces_of levels) nest.later)
-    ≡ nest_error levels nest
-nest_error_is levels nest =
-    let balanced = balanced_is levels nest in
-    let unused = unused_are levels nest.later in
-    λ i. joined (error_if BadPath (not (balanced i))) (unused i)
-
-pub all_errors_are : (levels : List Level) (nest : Nest)
-    → all_pieces_error levels (nest_pieces levels nest) ≡ all_errors levels nest
-all_errors_are levels nest = unused_are levels (nest.terms ∷ nest.later)
-
-pub block_pieces_are : (levels : List Level) (nest : Nest)
-    → block_pieces levels (nest_pieces levels nest) ≡ block_argument levels nest
-block_pieces_are levels nest =
-    let e = nest_error_is levels nest in
-    let read = arguments_are levels nest.terms in
-    λ i. beside (e i) (only_one (read i))
-
-value_is : (levels : List Level) (balanced : Bool) (ts : Terms)
-    → value_pieces levels balanced (pieces_of levels ts) ≡ value_said levels balanced ts
-value_is levels balanced no_terms = refl
-value_is levels balanced (first_term (single text) no_terms) = refl
-value_is levels balanced (first_term (group ts) no_terms) = refl
-value_is levels balanced (first_term head (first_term t ts)) = call_is levels (first_term head (first_term t ts))
-
-pub print_pieces_are : (levels : List Level) (nest : Nest)
-    → print_pieces levels (nest_pieces levels nest) ≡ print_said levels nest
-print_pieces_are levels nest =
-    let e = nest_error_is levels nest in
-    let balanced = balanced_is levels nest in
-    (λ i. print_read (beside (e i) (value_pieces levels (balanced i) (pieces_of levels nest.terms))))
-    ∙ ap (λ v. print_read (beside (nest_error levels nest) v)) (value_is levels (terms.is_balanced nest) nest.terms)
+pub print_parts_are : (levels : List Level) (items : List Item)
+    → print_parts levels (parts_of levels items) ≡ print_said levels items
+print_parts_are levels items =
+    ap (λ read. print_read (beside (match_error items) read))
+    (value_is levels (is_matched items) (terms_in items))

@@ -1,6 +1,7 @@
 -- No word of a tag is longer than the tag's content.
 use Rattle.std.proofs.Common.{ℕ, suc, ◌≤◌, ◌==◌, ◌&&◌, Bool, true, false, List, [], ◌∷◌, length}
 use Rattle.std.proofs.Common.{Option, Some, None, arith}
+use Rattle.std.specs.Prelude.{unwrap_or}
 use Rattle.std.proofs.lemmas.Bool.{cond_both}
 use Rattle.template_words.specs.Modes.{mode_after, is_outside}
 use Rattle.template_words.specs.Words.{is_break}
@@ -9,8 +10,8 @@ use Rattle.template_words.specs.declared.mode.Mode.TheVariants.{Start}
 use Rattle.template_tags.specs.Blocks.{LoopItems, parameter_in, last_two, loop_item, loop_items}
 use Rattle.template_tags.specs.Items.{Item, word, left_parenthesis, right_parenthesis, break_before, word_before}
 use Rattle.template_tags.specs.Items.{byte_before, cut, items_of}
-use Rattle.template_tags.specs.Terms.{Term, single, group, Terms, no_terms, first_term, Nest, grouped, item_before}
-use Rattle.template_tags.specs.Terms.{nest_of}
+use Rattle.template_tags.specs.Terms.{Term, single, group, Terms, no_terms, first_term, grouped_before, grouped}
+use Rattle.template_tags.specs.Terms.{only_list, terms_of, words_of, terms_in}
 
 abbrev pub ShortItem : ℕ → Item → Type 0
 ShortItem limit (word text) = length text ≤ limit
@@ -86,28 +87,50 @@ short_loop_items limit (a ∷ b ∷ []) s = two_short limit a b (parameter_in a 
 short_loop_items limit (a ∷ b ∷ c ∷ items) s =
     onto_short limit a (loop_items (b ∷ c ∷ items)) s.0 (short_loop_items limit (b ∷ c ∷ items) s.1)
 
--- ---- nests
+-- ---- terms
 
-abbrev ShortAll : ℕ → Nest → Type 0
-ShortAll limit nest = ShortTerms limit nest.terms × ShortLater limit nest.later
+abbrev ShortAll : ℕ → Option (List Terms) → Type 0
+ShortAll limit None = Unit {0}
+ShortAll limit (Some later) = ShortLater limit later
 
-grouped_short : (limit : ℕ) (ts : Terms) (later : List Terms) (unclosed : Bool) → ShortTerms limit ts
-    → ShortLater limit later → ShortAll limit (grouped ts later unclosed)
-grouped_short limit ts [] unclosed s later = ((s, tt), tt)
-grouped_short limit ts (outer ∷ more) unclosed s later = ((s, later.0), later.1)
+abbrev ShortFound : ℕ → Option Terms → Type 0
+ShortFound limit None = Unit {0}
+ShortFound limit (Some ts) = ShortTerms limit ts
 
-before_short : (limit : ℕ) (item : Item) (nest : Nest) → ShortItem limit item → ShortAll limit nest
-    → ShortAll limit (item_before item nest)
-before_short limit (word text) nest s all = ((s, all.0), all.1)
-before_short limit right_parenthesis nest s all = (tt, (all.0, all.1))
-before_short limit left_parenthesis nest s all = grouped_short limit nest.terms nest.later nest.unclosed all.0 all.1
+before_short : (limit : ℕ) (item : Item) (found : Option (List Terms)) → ShortItem limit item → ShortAll limit found
+    → ShortAll limit (grouped_before item found)
+before_short limit (word text) None s all = tt
+before_short limit (word text) (Some []) s all = tt
+before_short limit (word text) (Some (ts ∷ later)) s all = ((s, all.0), all.1)
+before_short limit right_parenthesis None s all = tt
+before_short limit right_parenthesis (Some later) s all = (tt, all)
+before_short limit left_parenthesis None s all = tt
+before_short limit left_parenthesis (Some []) s all = tt
+before_short limit left_parenthesis (Some (ts ∷ [])) s all = tt
+before_short limit left_parenthesis (Some (ts ∷ outer ∷ later)) s all = ((all.0, all.1.0), all.1.1)
 
-all_short : (limit : ℕ) (items : List Item) → ShortItems limit items → ShortAll limit (nest_of items)
+all_short : (limit : ℕ) (items : List Item) → ShortItems limit items → ShortAll limit (grouped items)
 all_short limit [] s = (tt, tt)
-all_short limit (item ∷ items) s = before_short limit item (nest_of items) s.0 (all_short limit items s.1)
+all_short limit (item ∷ items) s = before_short limit item (grouped items) s.0 (all_short limit items s.1)
 
-abbrev pub ShortNest : ℕ → Nest → Type 0
-ShortNest limit nest = ShortTerms limit nest.terms
+only_short : (limit : ℕ) (found : Option (List Terms)) → ShortAll limit found → ShortFound limit (only_list found)
+only_short limit None s = tt
+only_short limit (Some []) s = tt
+only_short limit (Some (ts ∷ [])) s = s.0
+only_short limit (Some (ts ∷ us ∷ later)) s = tt
 
-pub short_nest : (limit : ℕ) (items : List Item) → ShortItems limit items → ShortNest limit (nest_of items)
-short_nest limit items s = (all_short limit items s).0
+words_short : (limit : ℕ) (items : List Item) → ShortItems limit items → ShortTerms limit (words_of items)
+words_short limit [] s = tt
+words_short limit (word text ∷ items) s = (s.0, words_short limit items s.1)
+words_short limit (left_parenthesis ∷ items) s = words_short limit items s.1
+words_short limit (right_parenthesis ∷ items) s = words_short limit items s.1
+
+found_short : (limit : ℕ) (found : Option Terms) (words : Terms) → ShortFound limit found → ShortTerms limit words
+    → ShortTerms limit (unwrap_or found words)
+found_short limit None words s w = w
+found_short limit (Some ts) words s w = s
+
+pub short_terms : (limit : ℕ) (items : List Item) → ShortItems limit items → ShortTerms limit (terms_in items)
+short_terms limit items s =
+    found_short limit (terms_of items) (words_of items) (only_short limit (grouped items) (all_short limit items s))
+    (words_short limit items s)

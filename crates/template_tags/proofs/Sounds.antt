@@ -14,7 +14,7 @@ use Rattle.json_bridge.specs.PathFound.{path_of}
 use Rattle.template_words.specs.Literals.{text_literal, whole_number, truth_literal}
 use Rattle.template_words.specs.Marks.{begins}
 use Rattle.template_words.specs.Names.{is_hash_argument, first_part}
-use Rattle.template_words.specs.Paths.{reference_of}
+use Rattle.template_words.specs.Inner.PathReads.{reference_of}
 use Rattle.template_words.specs.Reading.{◌>>=◌}
 use Rattle.template_words.specs.Words.{is_foreign_helper}
 use Rattle.template_words.specs.declared.error.TagError.{TagError}
@@ -23,10 +23,11 @@ use Rattle.template_words.specs.declared.reference.Reference.{Reference}
 use Rattle.template_words.specs.declared.reference.Reference.TheVariants as references
 use Rattle.template_words.proofs.Numbers.{number_fits}
 use Rattle.template_words.proofs.Literals.{literal_short}
-use Rattle.template_tags.specs.Calls.{beside, error_if, errors_in, one_value, two_values, literal_in, is_body}
-use Rattle.template_tags.specs.Calls.{body_call, json_path_call, called, call_of, limited, argument, arguments}
-use Rattle.template_tags.specs.Calls.{call_read}
-use Rattle.template_tags.specs.Calls.{helper_read}
+use Rattle.template_tags.specs.Inner.CallReads.{beside, error_if, errors_in, one_value, two_values, literal_in, is_body}
+use Rattle.template_tags.specs.Inner.CallReads.{body_call, json_path_call, called, call_of, limited, argument}
+use Rattle.template_tags.specs.Inner.CallReads.{arguments}
+use Rattle.template_tags.specs.Inner.CallReads.{call_read}
+use Rattle.template_tags.specs.Inner.CallReads.{helper_read}
 use Rattle.template_tags.specs.Expression.{Expression, datum, index, key, first, last, number, truth, call, call_two}
 use Rattle.template_tags.specs.Expression as expressions
 use Rattle.template_tags.specs.Levels.{is_loop, is_parameter, count_loop, loops_open, loop_at, loop_named}
@@ -36,8 +37,9 @@ use Rattle.template_tags.specs.Terms.{Term, single, group, Terms, no_terms, firs
 use Rattle.template_tags.specs.Words.{Word, text_word, number_word, truth_word, loop_word, helper_word, foreign_word}
 use Rattle.template_tags.specs.Words.{path_word, wrong_word, helper_named, loop_word_of, path_read, other_word}
 use Rattle.template_tags.specs.Words.{literal_of}
-use Rattle.template_tags.specs.Words.{known_word, word_of, found_datum, named_datum, loop_value, word_value}
-use Rattle.template_tags.specs.Words.{argument_word, lone_value}
+use Rattle.template_tags.specs.Words.{known_word, word_of, found_datum, named_datum, loop_value}
+use Rattle.template_tags.specs.Inner.WordReads.{word_value}
+use Rattle.template_tags.specs.Inner.WordReads.{argument_word, lone_value}
 use Rattle.template_tags.specs.declared.expression.TheConstants.{CALL_LIMIT}
 use Rattle.template_tags.specs.declared.level.Level.{Level}
 use Rattle.template_tags.specs.declared.word.LoopWord.{LoopWord}
@@ -184,7 +186,7 @@ module _ (limit : ℕ) (levels : List Level) where
   loop_value_sound (suc loops) First = (omega arith, omega arith)
   loop_value_sound (suc loops) Last = (omega arith, omega arith)
 
-  value_sound : (text : List ℕ) (w : Word) → FitWord limit w → SoundRead 0 (word_value levels text w)
+  pub value_sound : (text : List ℕ) (w : Word) → FitWord limit w → SoundRead 0 (word_value levels text w)
   value_sound text (text_word literal) h = (h, omega arith)
   value_sound text (number_word n) h = (h, omega arith)
   value_sound text (truth_word b) h = (tt, omega arith)

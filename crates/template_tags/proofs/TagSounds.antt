@@ -1,8 +1,8 @@
 -- What a tag says is sound.
 use Rattle.std.proofs.Common.{◌≡◌, ℕ, suc, ◌<◌, nat_le, ◌||◌}
-use Rattle.std.proofs.Common.{Bool, true, false, List, [], ◌∷◌, length, drop, Result, Ok}
+use Rattle.std.proofs.Common.{Bool, true, false, List, [], ◌∷◌, length, drop, Option, Some, None, Result, Ok}
 use Rattle.std.proofs.Common.{Err}
-use Rattle.std.proofs.Common.{IfOk, refl, subst, arith}
+use Rattle.std.proofs.Common.{IfOk, refl, subst, ◌∙◌, arith}
 use Rattle.std.specs.Prelude.{codes}
 use Rattle.std.specs.Str.{bytes_eq}
 use Rattle.std.proofs.lemmas.Bool.{cond_both, leb-false, true≢false}
@@ -10,58 +10,63 @@ use Rattle.template_words.specs.Marks.{begins}
 use Rattle.template_words.specs.declared.error.TagError.{TagError}
 use Rattle.template_words.specs.declared.error.TagError.TheVariants.{UnsupportedTag, WrongArguments, TooDeep}
 use Rattle.template_words.specs.declared.error.TagError.TheVariants.{UnexpectedClose}
-use Rattle.template_tags.specs.Blocks.{block_argument, only_one, data_only, test_said, loop_said}
-use Rattle.template_tags.specs.Blocks.{each_said, opening_said, first_else, else_said, is_innermost, close_alone}
-use Rattle.template_tags.specs.Blocks.{closing_said, all_errors, nest_error, LoopItems, loop_items}
-use Rattle.template_tags.specs.Blocks.{has_names, has_parameters, is_taken}
-use Rattle.template_tags.specs.Calls.{error_if, errors_in}
-use Rattle.template_tags.specs.Calls.{argument, arguments}
+use Rattle.template_tags.specs.Inner.BlockReads.{block_argument, only_one, data_only, test_said, loop_said}
+use Rattle.template_tags.specs.Blocks.{is_innermost}
+use Rattle.template_tags.specs.Inner.BlockReads.{each_said, opening_said, first_else, else_said, close_alone}
+use Rattle.template_tags.specs.Blocks.{LoopItems, loop_items}
+use Rattle.template_tags.specs.Inner.BlockReads.{closing_said, all_errors, match_error}
+use Rattle.template_tags.specs.Blocks.{has_names, has_parameters, is_reserved_name}
+use Rattle.template_tags.specs.Inner.CallReads.{error_if, errors_in}
+use Rattle.template_tags.specs.Inner.CallReads.{argument, arguments}
 use Rattle.template_tags.specs.Expression.{Expression, datum, index, key, first, last, number, truth, call, call_two}
 use Rattle.template_tags.specs.Expression as expressions
-use Rattle.template_tags.specs.Levels.{loops_open}
-use Rattle.template_tags.specs.Said.{value_said, print_said, is_marked, word_said, items_said, space_error}
+use Rattle.template_tags.specs.Levels.{loops_open, block_named}
+use Rattle.template_tags.specs.Inner.TagReads.{tag_read, value_said, print_said, is_marked, word_said, items_said}
+use Rattle.template_tags.specs.Inner.TagReads.{space_error}
 use Rattle.template_tags.specs.Said.{tag_said}
 use Rattle.template_tags.specs.Items.{Item, word, left_parenthesis, right_parenthesis, items_of}
 use Rattle.template_tags.specs.Sound.{IsSoundDatum, IsSoundTag}
 use Rattle.template_tags.specs.Tags.{Tag}
-use Rattle.template_tags.specs.Terms.{single, group, Terms, no_terms, first_term, Nest}
-use Rattle.template_tags.specs.Terms.{nest_of, is_balanced}
+use Rattle.template_tags.specs.Terms.{single, group, Terms, no_terms, first_term, terms_in, is_matched}
 use Rattle.template_tags.specs.Words.{word_of}
-use Rattle.template_tags.specs.Words.{lone_value}
+use Rattle.template_tags.specs.Inner.WordReads.{word_value, lone_value}
 use Rattle.template_tags.specs.declared.expression.TheConstants.{CALL_LIMIT}
 use Rattle.template_tags.specs.declared.level.TheConstants.{BLOCK_LIMIT, LOOP_LIMIT}
+use Rattle.template_tags.specs.declared.level.Block.{Block}
+use Rattle.template_tags.specs.declared.level.Block.TheVariants.{If, Unless, Each}
 use Rattle.template_tags.specs.declared.level.Level.{Level}
 use Rattle.template_tags.specs.declared.tag.Opening.{Opening}
 use Rattle.template_tags.specs.declared.tag.Opening.TheVariants.{Double, Triple}
-use Rattle.template_tags.proofs.Shorts.{ShortTerms, ShortNest, ShortItems, short_nest, short_loop_items}
+use Rattle.template_tags.proofs.Reported.{tag_is}
+use Rattle.template_tags.proofs.Shorts.{ShortTerms, ShortItems, short_terms, short_loop_items}
 use Rattle.template_tags.proofs.Shorts.{short_items_of}
 use Rattle.template_tags.proofs.Sounds.{beside_ok, beside_none, bind_ok, word_fits, Sound, SoundRead, SoundReads}
-use Rattle.template_tags.proofs.Sounds.{higher, lone_sound, argument_sound, arguments_sound, own_call_sound}
+use Rattle.template_tags.proofs.Sounds.{higher, value_sound, lone_sound, argument_sound, arguments_sound}
+use Rattle.template_tags.proofs.Sounds.{own_call_sound}
 
 module _ (limit : ℕ) (levels : List Level) where
   abbrev Said : Result Tag TagError → Type 0
   Said said = IfOk said (IsSoundTag limit levels)
 
-  print_value : (balanced : Bool) (ts : Terms) → ShortTerms limit ts
-      → SoundRead limit levels (suc CALL_LIMIT) (value_said levels balanced ts)
-  print_value balanced no_terms short = tt
-  print_value balanced (first_term (single text) no_terms) short =
+  print_value : (matched : Bool) (ts : Terms) → ShortTerms limit ts
+      → SoundRead limit levels (suc CALL_LIMIT) (value_said levels matched ts)
+  print_value matched no_terms short = tt
+  print_value true (first_term (single text) no_terms) short =
       higher limit levels 0 (suc CALL_LIMIT) (lone_value levels text (word_of text)) (omega arith)
       (lone_sound limit levels text (word_of text) (word_fits limit text short.0))
-  print_value balanced (first_term (group ts) no_terms) short =
-      cond_both balanced (Err UnsupportedTag) (argument levels (group ts))
-      (SoundRead limit levels (suc CALL_LIMIT)) (λ t. tt)
-      (λ f. higher limit levels CALL_LIMIT (suc CALL_LIMIT) (argument levels (group ts)) (omega arith)
-      (argument_sound limit levels (group ts) short.0))
-  print_value balanced (first_term t (first_term u ts)) short =
+  print_value false (first_term (single text) no_terms) short =
+      higher limit levels 0 (suc CALL_LIMIT) (word_value levels text (word_of text)) (omega arith)
+      (value_sound limit levels text (word_of text) (word_fits limit text short.0))
+  print_value matched (first_term (group ts) no_terms) short = tt
+  print_value matched (first_term t (first_term u ts)) short =
       own_call_sound limit levels (first_term t (first_term u ts)) short
 
-  print_sound : (nest : Nest) → ShortNest limit nest → Said (print_said levels nest)
-  print_sound nest short =
+  print_sound : (items : List Item) → ShortItems limit items → Said (print_said levels items)
+  print_sound items short =
       bind_ok (Sound limit levels (suc CALL_LIMIT)) (IsSoundTag limit levels) _ _
-      (beside_ok (Sound limit levels (suc CALL_LIMIT)) (nest_error levels nest)
-      (value_said levels (is_balanced nest) nest.terms)
-      (print_value (is_balanced nest) nest.terms short))
+      (beside_ok (Sound limit levels (suc CALL_LIMIT)) (match_error items)
+      (value_said levels (is_matched items) (terms_in items))
+      (print_value (is_matched items) (terms_in items) (short_terms limit items short)))
       (λ x h. h)
 
   only_sound : (reads : List (Result Expression TagError)) → SoundReads limit levels CALL_LIMIT reads
@@ -71,18 +76,19 @@ module _ (limit : ℕ) (levels : List Level) where
   only_sound (a ∷ b ∷ more) s =
       beside_ok (Sound limit levels CALL_LIMIT) (errors_in (a ∷ b ∷ more)) (Err WrongArguments) tt
 
-  block_sound : (nest : Nest) → ShortNest limit nest
-      → SoundRead limit levels CALL_LIMIT (block_argument levels nest)
-  block_sound nest short =
-      beside_ok (Sound limit levels CALL_LIMIT) (nest_error levels nest) (only_one (arguments levels nest.terms))
-      (only_sound (arguments levels nest.terms) (arguments_sound limit levels nest.terms short))
+  block_sound : (items : List Item) → ShortItems limit items
+      → SoundRead limit levels CALL_LIMIT (block_argument levels items)
+  block_sound items short =
+      beside_ok (Sound limit levels CALL_LIMIT) (match_error items) (only_one (arguments levels (terms_in items)))
+      (only_sound (arguments levels (terms_in items))
+      (arguments_sound limit levels (terms_in items) (short_terms limit items short)))
 
   test_sound : (unless : Bool) (items : List Item) → ShortItems limit items → Said (test_said levels unless items)
   test_sound unless items short =
       beside_none (IsSoundTag limit levels) TooDeep (nat_le BLOCK_LIMIT (length levels)) _
       (λ few. beside_ok (IsSoundTag limit levels) (error_if UnsupportedTag (has_parameters items)) _
-      (bind_ok (Sound limit levels CALL_LIMIT) (IsSoundTag limit levels) (block_argument levels (nest_of items)) _
-      (block_sound (nest_of items) (short_nest limit items short))
+      (bind_ok (Sound limit levels CALL_LIMIT) (IsSoundTag limit levels) (block_argument levels items) _
+      (block_sound items short)
       (λ x h. ((h.0, omega (arith, h.1)), leb-false BLOCK_LIMIT (length levels) few))))
 
   data_sound : (read : Result Expression TagError) → SoundRead limit levels CALL_LIMIT read
@@ -102,11 +108,10 @@ module _ (limit : ℕ) (levels : List Level) where
   loop_sound : (loop : LoopItems) → ShortItems limit loop.items → length levels < BLOCK_LIMIT
       → loops_open levels < LOOP_LIMIT → Said (loop_said levels loop)
   loop_sound loop short few loops =
-      beside_ok (IsSoundTag limit levels) (error_if UnsupportedTag (is_taken loop.parameter)) _
+      beside_ok (IsSoundTag limit levels) (error_if UnsupportedTag (is_reserved_name loop.parameter)) _
       (bind_ok (IsSoundDatum limit (loops_open levels)) (IsSoundTag limit levels)
-      (data_only (block_argument levels (nest_of loop.items))) _
-      (data_sound (block_argument levels (nest_of loop.items))
-      (block_sound (nest_of loop.items) (short_nest limit loop.items short)))
+      (data_only (block_argument levels loop.items)) _
+      (data_sound (block_argument levels loop.items) (block_sound loop.items short))
       (λ d h. (h, few, loops)))
 
   each_sound : (items : List Item) → ShortItems limit items → Said (each_said levels items)
@@ -122,14 +127,12 @@ module _ (limit : ℕ) (levels : List Level) where
       neither true b e = absurd (true≢false e)
       neither false b e = (refl, e)
 
-  opening_sound : (name : List ℕ) (items : List Item) → ShortItems limit items
-      → Said (opening_said levels name items)
-  opening_sound name items short =
-      cond_both (bytes_eq name (codes "if")) (test_said levels false items) _ Said (λ t. test_sound false items short)
-      (λ f. cond_both (bytes_eq name (codes "unless")) (test_said levels true items) _ Said
-      (λ t. test_sound true items short)
-      (λ g. cond_both (bytes_eq name (codes "each")) (each_said levels items) (Err UnsupportedTag) Said
-      (λ t. each_sound items short) (λ h. tt)))
+  opening_sound : (block : Option Block) (items : List Item) → ShortItems limit items
+      → Said (opening_said levels block items)
+  opening_sound None items short = tt
+  opening_sound (Some If) items short = test_sound false items short
+  opening_sound (Some Unless) items short = test_sound true items short
+  opening_sound (Some Each) items short = each_sound items short
 
 first_else_sound : (limit : ℕ) (levels : List Level) → IfOk (first_else levels) (IsSoundTag limit levels)
 first_else_sound limit [] = tt
@@ -150,12 +153,12 @@ close_sound limit levels (item ∷ items) some = tt
 closing_sound : (limit : ℕ) (name : List ℕ) (levels : List Level) (items : List Item)
     → IfOk (closing_said levels name items) (IsSoundTag limit levels)
 closing_sound limit name [] items =
-    beside_ok (IsSoundTag limit []) (all_errors [] (nest_of items)) (Err UnexpectedClose) tt
+    beside_ok (IsSoundTag limit []) (all_errors [] items) (Err UnexpectedClose) tt
 closing_sound limit name (level ∷ levels) items =
     cond_both (is_innermost name (level ∷ levels)) (close_alone items) _
     (λ said. IfOk said (IsSoundTag limit (level ∷ levels)))
     (λ t. close_sound limit (level ∷ levels) items (omega arith))
-    (λ f. beside_ok (IsSoundTag limit (level ∷ levels)) (all_errors (level ∷ levels) (nest_of items))
+    (λ f. beside_ok (IsSoundTag limit (level ∷ levels)) (all_errors (level ∷ levels) items)
     (Err UnexpectedClose) tt)
 
 -- ---- all tags
@@ -163,15 +166,15 @@ closing_sound limit name (level ∷ levels) items =
 word_tag_sound : (limit : ℕ) (opening : Opening) (levels : List Level) (text : List ℕ) (items : List Item)
     → ShortItems limit (word text ∷ items) → IfOk (word_said opening levels text items) (IsSoundTag limit levels)
 word_tag_sound limit Triple levels text items short =
-    print_sound limit levels (nest_of (word text ∷ items)) (short_nest limit (word text ∷ items) short)
+    print_sound limit levels (word text ∷ items) short
 word_tag_sound limit Double levels text items short =
-    cond_both (begins (codes "#") text) (opening_said levels (drop 1 text) items) _ (Said limit levels)
-    (λ t. opening_sound limit levels (drop 1 text) items short.1)
+    cond_both (begins (codes "#") text) (opening_said levels (block_named (drop 1 text)) items) _ (Said limit levels)
+    (λ t. opening_sound limit levels (block_named (drop 1 text)) items short.1)
     (λ f. cond_both (begins (codes "/") text) (closing_said levels (drop 1 text) items) _ (Said limit levels)
     (λ t. closing_sound limit (drop 1 text) levels items)
     (λ g. cond_both (bytes_eq text (codes "else")) (else_said levels items) _ (Said limit levels)
     (λ t. else_sound limit levels items)
-    (λ h. print_sound limit levels (nest_of (word text ∷ items)) (short_nest limit (word text ∷ items) short))))
+    (λ h. print_sound limit levels (word text ∷ items) short)))
 
 items_sound : (limit : ℕ) (opening : Opening) (levels : List Level) (items : List Item) → ShortItems limit items
     → IfOk (items_said opening levels items) (IsSoundTag limit levels)
@@ -180,15 +183,13 @@ items_sound limit opening levels (word text ∷ items) short =
     cond_both (is_marked text) (Err UnsupportedTag) (word_said opening levels text items) (Said limit levels)
     (λ t. tt) (λ f. word_tag_sound limit opening levels text items short)
 items_sound limit opening levels (left_parenthesis ∷ items) short =
-    print_sound limit levels (nest_of (left_parenthesis ∷ items))
-    (short_nest limit (left_parenthesis ∷ items) short)
+    print_sound limit levels (left_parenthesis ∷ items) short
 items_sound limit opening levels (right_parenthesis ∷ items) short =
-    print_sound limit levels (nest_of (right_parenthesis ∷ items))
-    (short_nest limit (right_parenthesis ∷ items) short)
+    print_sound limit levels (right_parenthesis ∷ items) short
 
 said_sound : (opening : Opening) (content : List ℕ) (levels : List Level)
-    → IfOk (tag_said opening content levels) (IsSoundTag (length content) levels)
-unfolding tag_said
+    → IfOk (tag_read opening content levels) (IsSoundTag (length content) levels)
+unfolding tag_read
 said_sound opening content levels =
     beside_ok (IsSoundTag (length content) levels) (space_error content) (items_said opening levels (items_of content))
     (items_sound (length content) opening levels (items_of content) (short_items_of content))
@@ -197,4 +198,4 @@ pub tag_sound : (opening : Opening) (content : List ℕ) (levels : List Level) (
     → tag_said opening content levels ≡ Ok tag → IsSoundTag (length content) levels tag
 tag_sound opening content levels tag said =
     let P : Result Tag TagError → Type 0 = λ r. IfOk r (IsSoundTag (length content) levels) in
-    subst P said (said_sound opening content levels)
+    subst P (tag_is opening content levels ∙ said) (said_sound opening content levels)

@@ -1,7 +1,7 @@
 -- The examples, computed.
 use Rattle.std.proofs.Common.{refl}
-use Rattle.template_words.specs.Paths.{reference_from, step_of}
-use Rattle.template_tags.specs.Examples.{ArePrints, AreBlocks, AreErrors}
+use Rattle.template_words.specs.Inner.PathReads.{reference_from, step_of}
+use Rattle.template_tags.specs.Examples.{ArePrints, AreBlocks, AreErrors, AreUnmatched}
 use Rattle.template_tags.specs.Said.{tag_said}
 use Rattle.template_tags.specs.Words.{word_of}
 
@@ -79,8 +79,6 @@ are_errors = record {
   bracket_first = refl;
   no_space = refl;
   no_space_after_text = refl;
-  not_closed = refl;
-  not_opened = refl;
   malformed_hash = refl;
   spaced_bars = refl;
   no_name_in_bars = refl;
@@ -98,4 +96,28 @@ are_errors = record {
   fifth_loop = refl;
   ninth_group = refl;
   ninth_group_in_test = refl;
+}
+
+pub are_unmatched : AreUnmatched
+unfolding tag_said word_of reference_from step_of
+are_unmatched = record {
+  no_helper_before = refl;
+  no_helper_after = refl;
+  no_helper_open = refl;
+  literal_with_words = refl;
+  helper_inside = refl;
+  literal = refl;
+  literal_after = refl;
+  alone = refl;
+  no_word = refl;
+  group_beside = refl;
+  foreign = refl;
+  hash_argument = refl;
+  no_hash_argument = refl;
+  other_at_word = refl;
+  reserved = refl;
+  in_test = refl;
+  in_loop = refl;
+  other_block_in_three_braces = refl;
+  other_block_with_words = refl;
 }

@@ -1,21 +1,22 @@
--- What the tags of blocks say (Handlebars' `if`, `unless` and `each`, their else and their closes).
-use Rattle.std.specs.Prelude.{ℕ, nat_le, Bool, true, false, ◌&&◌, ◌||◌, not, List, [], ◌∷◌, length}
-use Rattle.std.specs.Prelude.{Option, Some, None, is_some, Result, Ok, Err, if◌then◌else◌, codes}
+-- What the tags of blocks say (Handlebars' `if`, `unless` and `each`, their else and their closes), and the errors that
+-- they have.
+use Rattle.std.specs.Prelude.{ℕ, nat_le, Bool, true, false, ◌&&◌, ◌||◌, not, List, [], ◌∷◌, ◌++◌, length}
+use Rattle.std.specs.Prelude.{Option, Some, None, is_some, if◌then◌else◌, codes}
 use Rattle.std.specs.Str.{bytes_eq}
-use Rattle.template_words.specs.Errors.{joined, earlier}
 use Rattle.template_words.specs.Names.{name_in_bars, is_name_after_bar, name_before_bar}
 use Rattle.template_words.specs.Paths.{is_name}
-use Rattle.template_words.specs.Reading.{◌>>=◌}
 use Rattle.template_words.specs.declared.error.TagError.{TagError}
 use Rattle.template_words.specs.declared.error.TagError.TheVariants.{UnexpectedClose, WrongArguments, TooDeep, BadPath}
 use Rattle.template_words.specs.declared.error.TagError.TheVariants.{UnsupportedTag}
-use Rattle.template_tags.specs.Calls.{beside, error_if, errors_in, arguments}
+use Rattle.template_tags.specs.Calls.{values, all_errors}
 use Rattle.template_tags.specs.Expression.{Expression, datum}
 use Rattle.template_tags.specs.Items.{Item, word, left_parenthesis, right_parenthesis}
 use Rattle.template_tags.specs.Levels.{block_name, loops_open}
-use Rattle.template_tags.specs.Tags.{Tag, open_if, open_each, begin_else, close}
-use Rattle.template_tags.specs.Terms.{Terms, Nest, nest_of, is_balanced}
+use Rattle.template_tags.specs.Reported.{has_count, when}
+use Rattle.template_tags.specs.Terms.{terms_in, is_matched}
+use Rattle.template_tags.specs.Words.{no_value}
 use Rattle.template_tags.specs.declared.expression.Datum.{Datum}
+use Rattle.template_tags.specs.declared.expression.Datum.TheVariants.{Nothing}
 use Rattle.template_tags.specs.declared.level.TheConstants.{BLOCK_LIMIT, LOOP_LIMIT}
 use Rattle.template_tags.specs.declared.level.Level.{Level}
 
@@ -73,104 +74,78 @@ has_names (item ∷ items) = (is_word (codes "as") item && are_names items) || h
 abbrev pub has_parameters : List Item → Bool
 has_parameters items = is_some (loop_items items).parameter || has_names items
 
--- ---- what an opening tag takes
+-- paths begin with `request` and `this` that mean something else
+abbrev pub is_reserved_name : Option (List ℕ) → Bool
+is_reserved_name None = false
+is_reserved_name (Some name) = bytes_eq name (codes "request") || bytes_eq name (codes "this")
 
--- the errors of terms that no call and no block takes
-abbrev pub unused_errors : List Level → List Terms → Option TagError
-unused_errors levels [] = None
-unused_errors levels (terms ∷ later) = joined (errors_in (arguments levels terms)) (unused_errors levels later)
+-- ---- arguments
 
--- a parenthesis without its other one is a malformed word
-abbrev pub nest_error : List Level → Nest → Option TagError
-nest_error levels nest = joined (error_if BadPath (not (is_balanced nest))) (unused_errors levels nest.later)
+-- the errors of items as arguments. A parenthesis without its other one is a malformed word
+abbrev pub argument_errors : List Level → List Item → List TagError
+argument_errors levels items = when (not (is_matched items)) BadPath ++ all_errors levels (terms_in items)
 
--- the argument, where there is one
-abbrev pub only_one : List (Result Expression TagError) → Result Expression TagError
-only_one [] = Err WrongArguments
-only_one (a ∷ []) = a
-only_one (a ∷ b ∷ more) = beside (errors_in (a ∷ b ∷ more)) (Err WrongArguments)
+-- the errors of items as the one argument of a block
+abbrev pub one_errors : List Level → List Item → List TagError
+one_errors levels items =
+    argument_errors levels items ++ when (not (has_count 1 (values levels (terms_in items)))) WrongArguments
 
--- the one argument of a block
-abbrev pub block_argument : List Level → Nest → Result Expression TagError
-block_argument levels nest = beside (nest_error levels nest) (only_one (arguments levels nest.terms))
+abbrev pub first_value : List Expression → Expression
+first_value [] = no_value
+first_value (x ∷ xs) = x
 
--- another block, or another loop, in those that are open
-abbrev pub block_error : List Level → Option TagError
-block_error levels = error_if TooDeep (nat_le BLOCK_LIMIT (length levels))
-
-abbrev pub loop_error : List Level → Option TagError
-loop_error levels =
-    error_if TooDeep (nat_le BLOCK_LIMIT (length levels) || nat_le LOOP_LIMIT (loops_open levels))
+abbrev pub one_value : List Level → List Item → Expression
+one_value levels items = first_value (values levels (terms_in items))
 
 -- ---- opening tags
 
-abbrev pub if_read : Bool → Result Expression TagError → Result Tag TagError
-if_read unless read = read >>= λ test. Ok (open_if unless test)
+-- `if` and `unless` are another block in those that are open, and have no name for items
+abbrev pub test_errors : List Level → List Item → List TagError
+test_errors levels items =
+    when (nat_le BLOCK_LIMIT (length levels)) TooDeep ++ when (has_parameters items) UnsupportedTag
+    ++ one_errors levels items
 
--- `if` and `unless` have no parameters
-abbrev pub test_said : List Level → Bool → List Item → Result Tag TagError
-test_said levels unless items =
-    beside (block_error levels)
-    (beside (error_if UnsupportedTag (has_parameters items))
-    (if_read unless (block_argument levels (nest_of items))))
+abbrev pub is_datum : Expression → Bool
+is_datum (datum d) = true
+is_datum x = false
 
-abbrev pub data_only : Result Expression TagError → Result Datum TagError
-data_only (Ok (datum d)) = Ok d
-data_only (Ok x) = Err WrongArguments
-data_only (Err e) = Err (earlier WrongArguments e)
+abbrev pub datum_in : Expression → Datum
+datum_in (datum d) = d
+datum_in x = Nothing
 
--- `request` and `this`, with which paths begin that mean something else
-abbrev pub is_taken : Option (List ℕ) → Bool
-is_taken None = false
-is_taken (Some name) = bytes_eq name (codes "request") || bytes_eq name (codes "this")
+-- an `each` goes over data; what has an error is none
+abbrev pub over_errors : List TagError → Expression → List TagError
+over_errors errors x = when (not (has_count 0 errors && is_datum x)) WrongArguments ++ errors
 
-abbrev pub each_read : Option (List ℕ) → Result Datum TagError → Result Tag TagError
-each_read parameter read = read >>= λ over. Ok (open_each over parameter)
+abbrev pub loop_errors : List Level → LoopItems → List TagError
+loop_errors levels loop =
+    when (is_reserved_name loop.parameter) UnsupportedTag
+    ++ over_errors (one_errors levels loop.items) (one_value levels loop.items)
 
-abbrev pub loop_said : List Level → LoopItems → Result Tag TagError
-loop_said levels loop =
-    beside (error_if UnsupportedTag (is_taken loop.parameter))
-    (each_read loop.parameter (data_only (block_argument levels (nest_of loop.items))))
-
--- an `each` has one parameter at most
-abbrev pub each_said : List Level → List Item → Result Tag TagError
-each_said levels items =
-    beside (loop_error levels)
-    (beside (error_if UnsupportedTag (has_names items)) (loop_said levels (loop_items items)))
-
--- a tag with `#` and that name
-abbrev pub opening_said : List Level → List ℕ → List Item → Result Tag TagError
-opening_said levels name items =
-    if bytes_eq name (codes "if") then test_said levels false items
-    else if bytes_eq name (codes "unless") then test_said levels true items
-    else if bytes_eq name (codes "each") then each_said levels items
-    else Err UnsupportedTag
+-- an `each` is another block, and another loop, in those that are open, and has one name for items at most
+abbrev pub each_errors : List Level → List Item → List TagError
+each_errors levels items =
+    when (nat_le BLOCK_LIMIT (length levels) || nat_le LOOP_LIMIT (loops_open levels)) TooDeep
+    ++ when (has_names items) UnsupportedTag ++ loop_errors levels (loop_items items)
 
 -- ---- else and close
 
--- an else is the first one of the innermost open block
-abbrev pub first_else : List Level → Result Tag TagError
-first_else [] = Err UnexpectedClose
-first_else (level ∷ levels) = if level.in_else then Err UnexpectedClose else Ok begin_else
+-- an else is possible: the first one of the innermost open block
+abbrev pub awaits_else : List Level → Bool
+awaits_else [] = false
+awaits_else (level ∷ levels) = not level.in_else
 
-abbrev pub else_said : List Level → List Item → Result Tag TagError
-else_said levels [] = first_else levels
-else_said levels (item ∷ items) = Err UnsupportedTag
+-- an else has no words after it
+abbrev pub else_errors : List Level → List Item → List TagError
+else_errors levels items =
+    when (not (has_count 0 items)) UnsupportedTag ++ when (not (awaits_else levels)) UnexpectedClose
 
 abbrev pub is_innermost : List ℕ → List Level → Bool
 is_innermost name [] = false
 is_innermost name (level ∷ levels) = bytes_eq name (block_name level.block)
 
-abbrev pub close_alone : List Item → Result Tag TagError
-close_alone [] = Ok close
-close_alone (item ∷ items) = Err UnsupportedTag
-
--- the errors of a tag's words, as arguments
-abbrev pub all_errors : List Level → Nest → Option TagError
-all_errors levels nest = unused_errors levels (nest.terms ∷ nest.later)
-
--- a tag with `/` and that name, which closes the innermost open block
-abbrev pub closing_said : List Level → List ℕ → List Item → Result Tag TagError
-closing_said levels name items =
-    if is_innermost name levels then close_alone items
-    else beside (all_errors levels (nest_of items)) (Err UnexpectedClose)
+-- a close has the name of the innermost open block, and no words after it
+abbrev pub close_errors : List Level → List ℕ → List Item → List TagError
+close_errors levels name items =
+    if is_innermost name levels then when (not (has_count 0 items)) UnsupportedTag
+    else argument_errors levels items ++ UnexpectedClose ∷ []

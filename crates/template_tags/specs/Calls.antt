@@ -1,65 +1,70 @@
--- The values that the arguments and the calls of a tag name (Handlebars' helpers and subexpressions), or, of the errors
--- that they have, the one that is reported.
-use Rattle.std.specs.Prelude.{ℕ, suc, nat_lt, Bool, true, false, ◌&&◌, List, [], ◌∷◌, Option, Some, None}
-use Rattle.std.specs.Prelude.{Result, Ok, Err, is_some, if◌then◌else◌, codes}
+-- The values that arguments and calls name (Handlebars' helpers and subexpressions), and the errors that they have.
+use Rattle.std.specs.Prelude.{ℕ, nat_lt, Bool, true, false, ◌&&◌, not, List, [], ◌∷◌, ◌++◌}
+use Rattle.std.specs.Prelude.{Option, Some, None, is_some, if◌then◌else◌, codes}
 use Rattle.data_tree.specs.declared.step.Step.{Step}
 use Rattle.helper_set.specs.Helpers.{signature_of}
 use Rattle.helper_set.specs.declared.helper.Helper.{Helper}
 use Rattle.helper_set.specs.declared.helper.Helper.TheVariants.{JsonPath}
-use Rattle.helper_set.specs.declared.signature.Parameter.{Parameter}
 use Rattle.json_bridge.specs.PathFound.{path_of}
-use Rattle.template_words.specs.Errors.{joined, earlier}
 use Rattle.template_words.specs.Paths.{is_step}
-use Rattle.template_words.specs.Reading.{◌>>=◌}
 use Rattle.template_words.specs.declared.error.TagError.{TagError}
 use Rattle.template_words.specs.declared.error.TagError.TheVariants.{UnknownHelper, WrongArguments, TooDeep, BadPath}
 use Rattle.template_tags.specs.Expression.{Expression, datum, text_literal, call, call_two}
-use Rattle.template_tags.specs.Terms.{Term, single, group, Terms, no_terms, first_term, greatest_height}
-use Rattle.template_tags.specs.Words.{Word, helper_word, wrong_word, word_of, argument_word}
+use Rattle.template_tags.specs.Reported.{has_count, when}
+use Rattle.template_tags.specs.Terms.{Term, single, group, Terms, no_terms, first_term, height}
+use Rattle.template_tags.specs.Words.{Word, helper_word, wrong_word, word_of, argument_of, word_value, word_errors}
+use Rattle.template_tags.specs.Words.{no_value}
 use Rattle.template_tags.specs.declared.expression.TheConstants.{CALL_LIMIT}
 use Rattle.template_tags.specs.declared.expression.Datum.TheVariants.{Root, BodyPath}
 use Rattle.template_tags.specs.declared.level.Level.{Level}
 
--- what is read, or the error that is reported where this one is found beside it
-abbrev pub beside : {A : Type 0} → Option TagError → Result A TagError → Result A TagError
-beside None read = read
-beside (Some e) (Ok x) = Err e
-beside (Some e) (Err d) = Err (earlier e d)
+-- ---- values
 
--- the error, if it was found
-abbrev pub error_if : TagError → Bool → Option TagError
-error_if e true = Some e
-error_if e false = None
+-- the text of a text literal
+abbrev pub literal_in : Expression → Option (List ℕ)
+literal_in (text_literal text) = Some text
+literal_in x = None
 
-abbrev pub error_in : {A : Type 0} → Result A TagError → Option TagError
-error_in (Ok x) = None
-error_in (Err e) = Some e
+-- a JSON path, which is the text of a literal, in the body of the request
+abbrev pub body_value : Option (List ℕ) → Expression
+body_value None = no_value
+body_value (Some text) = datum (BodyPath text)
 
-abbrev pub errors_in : {A : Type 0} → List (Result A TagError) → Option TagError
-errors_in [] = None
-errors_in (read ∷ reads) = joined (error_in read) (errors_in reads)
+abbrev pub pair_value : Helper → Expression → Expression → Expression
+pair_value JsonPath x y = body_value (literal_in y)
+pair_value h x y = call_two h x y
 
--- a helper's call on one value, and on two
-abbrev pub one_value : Helper → List (Result Expression TagError) → Result Expression TagError
-one_value h [] = Err WrongArguments
-one_value h (a ∷ []) = a >>= λ x. Ok (call h x)
-one_value h (a ∷ b ∷ more) = Err WrongArguments
+-- what a helper's call on these names
+abbrev pub called : Option Helper → List Expression → Expression
+called (Some h) (x ∷ []) = call h x
+called (Some h) (x ∷ y ∷ []) = pair_value h x y
+called h xs = no_value
 
-abbrev pub pair_call : Helper → Result Expression TagError → Result Expression TagError
-    → Result Expression TagError
-pair_call h a b = a >>= λ x. b >>= λ y. Ok (call_two h x y)
+abbrev pub helper_in : Word → Option Helper
+helper_in (helper_word h) = Some h
+helper_in w = None
 
-abbrev pub two_values : Helper → List (Result Expression TagError) → Result Expression TagError
-two_values h [] = Err WrongArguments
-two_values h (a ∷ []) = Err WrongArguments
-two_values h (a ∷ b ∷ []) = pair_call h a b
-two_values h (a ∷ b ∷ c ∷ more) = Err WrongArguments
+-- the helper that is called; a group is none
+abbrev pub helper_of : Term → Option Helper
+helper_of (single text) = helper_in (word_of text)
+helper_of (group terms) = None
 
--- a helper's call on as many values as it takes
-abbrev pub helper_call : Option Parameter → Helper → List (Result Expression TagError)
-    → Result Expression TagError
-helper_call None h arguments = one_value h arguments
-helper_call (Some second) h arguments = two_values h arguments
+abbrev mutual
+  -- the value of an argument; a group is a call
+  pub value : List Level → Term → Expression
+  value levels (single text) = word_value levels text (argument_of text)
+  value levels (group terms) = call_value levels terms
+
+  pub values : List Level → Terms → List Expression
+  values levels no_terms = []
+  values levels (first_term term terms) = value levels term ∷ values levels terms
+
+  -- the value of a helper and its arguments
+  pub call_value : List Level → Terms → Expression
+  call_value levels no_terms = no_value
+  call_value levels (first_term head terms) = called (helper_of head) (values levels terms)
+
+-- ---- errors
 
 abbrev pub is_body_path : List Step → Bool
 is_body_path [] = false
@@ -68,65 +73,53 @@ is_body_path (a ∷ b ∷ []) = is_step (codes "request") a && is_step (codes "b
 is_body_path (a ∷ b ∷ c ∷ steps) = false
 
 -- the path `request.body`
-abbrev pub is_body : Result Expression TagError → Bool
-is_body (Ok (datum (Root steps))) = is_body_path steps
-is_body read = false
+abbrev pub is_body : Expression → Bool
+is_body (datum (Root steps)) = is_body_path steps
+is_body x = false
 
--- the text of a text literal
-abbrev pub literal_in : Result Expression TagError → Option (List ℕ)
-literal_in (Ok (text_literal text)) = Some text
-literal_in read = None
+-- `jsonPath` takes a JSON path between quotes as its second argument
+abbrev pub path_errors : Option (List ℕ) → List TagError
+path_errors None = WrongArguments ∷ []
+path_errors (Some text) = when (not (is_some (path_of text))) BadPath
 
--- a JSON path in the body of the request, where the other arguments of `jsonPath` fit. A text that is no JSON path has
--- an error, whatever they are
-abbrev pub body_call : Bool → Option (List ℕ) → Result Expression TagError
-body_call fits None = Err WrongArguments
-body_call fits (Some text) =
-    if is_some (path_of text) then (if fits then Ok (datum (BodyPath text)) else Err WrongArguments) else Err BadPath
+-- and the path `request.body` as its first
+abbrev pub json_path_errors : List Expression → List TagError
+json_path_errors (x ∷ y ∷ []) = when (not (is_body x)) WrongArguments ++ path_errors (literal_in y)
+json_path_errors (x ∷ y ∷ z ∷ more) = WrongArguments ∷ path_errors (literal_in y)
+json_path_errors xs = WrongArguments ∷ []
 
--- the arguments of `jsonPath`: the path `request.body`, and a JSON path between quotes
-abbrev pub json_path_call : List (Result Expression TagError) → Result Expression TagError
-json_path_call [] = Err WrongArguments
-json_path_call (a ∷ []) = Err WrongArguments
-json_path_call (a ∷ b ∷ []) = body_call (is_body a) (literal_in b)
-json_path_call (a ∷ b ∷ c ∷ more) = body_call false (literal_in b)
+abbrev pub parameter_count : Helper → ℕ
+parameter_count h = if is_some (signature_of h).second then 2 else 1
 
--- a helper's call on these arguments
-abbrev pub called : Helper → List (Result Expression TagError) → Result Expression TagError
-called JsonPath arguments = json_path_call arguments
-called h arguments = helper_call (signature_of h).second h arguments
+-- other helpers take as many arguments as they have parameters
+abbrev pub form_errors : Option Helper → List Expression → List TagError
+form_errors None xs = []
+form_errors (Some JsonPath) xs = json_path_errors xs
+form_errors (Some h) xs = when (not (has_count (parameter_count h) xs)) WrongArguments
 
--- a call, of which each argument is looked at for errors
-abbrev pub call_of : Result Helper TagError → List (Result Expression TagError) → Result Expression TagError
-call_of head arguments = beside (errors_in arguments) (head >>= λ h. called h arguments)
-
--- the helper that a word with arguments names
-abbrev pub head_word : Word → Result Helper TagError
-head_word (helper_word h) = Ok h
-head_word (wrong_word e) = Err (earlier UnknownHelper e)
-head_word w = Err UnknownHelper
-
--- a group of that height, in which the groups inside are counted
-abbrev pub limited : ℕ → Result Expression TagError → Result Expression TagError
-limited height (Ok x) = if nat_lt CALL_LIMIT height then Err TooDeep else Ok x
-limited height (Err e) = Err e
+-- the errors of a word that has arguments
+abbrev pub head_word_errors : Word → List TagError
+head_word_errors (helper_word h) = []
+head_word_errors (wrong_word e) = UnknownHelper ∷ e ∷ []
+head_word_errors w = UnknownHelper ∷ []
 
 abbrev mutual
-  -- the value of an argument; a group is a call
-  pub argument : List Level → Term → Result Expression TagError
-  argument levels (single text) = argument_word levels text
-  argument levels (group terms) = limited (suc (greatest_height terms)) (call_read levels terms)
+  -- of an argument
+  pub errors : List Level → Term → List TagError
+  errors levels (single text) = word_errors (argument_of text)
+  errors levels (group terms) =
+      when (nat_lt CALL_LIMIT (height (group terms))) TooDeep ++ call_errors levels terms
 
-  pub arguments : List Level → Terms → List (Result Expression TagError)
-  arguments levels no_terms = []
-  arguments levels (first_term term terms) = argument levels term ∷ arguments levels terms
+  pub all_errors : List Level → Terms → List TagError
+  all_errors levels no_terms = []
+  all_errors levels (first_term term terms) = errors levels term ++ all_errors levels terms
 
-  -- a helper and its arguments
-  pub call_read : List Level → Terms → Result Expression TagError
-  call_read levels no_terms = Err WrongArguments
-  call_read levels (first_term head terms) = call_of (helper_read levels head) (arguments levels terms)
+  -- of a helper and its arguments
+  pub call_errors : List Level → Terms → List TagError
+  call_errors levels no_terms = WrongArguments ∷ []
+  call_errors levels (first_term head terms) =
+      all_errors levels terms ++ head_errors levels head ++ form_errors (helper_of head) (values levels terms)
 
-  -- a group is no helper, and is looked at for errors
-  pub helper_read : List Level → Term → Result Helper TagError
-  helper_read levels (single text) = head_word (word_of text)
-  helper_read levels (group terms) = beside (error_in (call_read levels terms)) (Err UnknownHelper)
+  pub head_errors : List Level → Term → List TagError
+  head_errors levels (single text) = head_word_errors (word_of text)
+  head_errors levels (group terms) = call_errors levels terms ++ UnknownHelper ∷ []

@@ -121,8 +121,6 @@ pub record AreErrors : Type 0 where
   pub bracket_first : Fails (codes "[a b]") [] BadPath
   pub no_space : Fails (codes "upper(lower x)") [] BadPath
   pub no_space_after_text : Fails (codes "upper \"a\"b") [] BadPath
-  pub not_closed : Fails (codes "upper (lower x") [] BadPath
-  pub not_opened : Fails (codes "upper x)") [] BadPath
   pub malformed_hash : Fails (codes "upper x = 1") [] BadPath
   pub spaced_bars : Fails (codes "#each q as | x |") [] BadPath
   pub no_name_in_bars : Fails (codes "#each q as ||") [] BadPath
@@ -140,3 +138,26 @@ pub record AreErrors : Type 0 where
   pub fifth_loop : Fails (codes "#each x") four_loops TooDeep
   pub ninth_group : Fails (codes "not (not (not (not (not (not (not (not (not (not 1)))))))))") [] TooDeep
   pub ninth_group_in_test : Fails (codes "#if (not (not (not (not (not (not (not (not (not 1)))))))))") [] TooDeep
+
+-- parentheses that don't match only separate words
+pub record AreUnmatched : Type 0 where
+  pub no_helper_before : Fails (codes "foo ) 1") [] UnknownHelper
+  pub no_helper_after : Fails (codes "foo 1 )") [] UnknownHelper
+  pub no_helper_open : Fails (codes "foo ( 1") [] UnknownHelper
+  pub literal_with_words : Fails (codes "\"a\" ) 1") [] UnknownHelper
+  pub helper_inside : Fails (codes "(upper x") [] BadPath
+  pub literal : Fails (codes "\"a\")") [] BadPath
+  pub literal_after : Fails (codes ")\"a\"") [] BadPath
+  pub alone : Fails (codes "foo (") [] BadPath
+  pub no_word : Fails (codes ") (") [] BadPath
+  pub group_beside : Fails (codes "upper ((lower x)") [] BadPath
+  pub foreign : Fails (codes "upper (now") [] UnknownHelper
+  pub hash_argument : Fails (codes "upper (a=b") [] UnsupportedTag
+  -- where they match, it is the first word of its group
+  pub no_hash_argument : Fails (codes "upper (a=b)") [] UnknownHelper
+  pub other_at_word : Fails (codes "@foo )") [] UnsupportedTag
+  pub reserved : Fails (codes "upper request.id)") [] UnsupportedTag
+  pub in_test : Fails (codes "#if (upper x") [] BadPath
+  pub in_loop : Fails (codes "#each )x") [] BadPath
+  pub other_block_in_three_braces : tag_said Triple (codes "#foo") [] ≡ Err UnsupportedTag
+  pub other_block_with_words : tag_said Triple (codes "#foo x") [] ≡ Err UnsupportedTag

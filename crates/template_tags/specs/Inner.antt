@@ -3,3 +3,7 @@ pub mod Scan
 pub mod Views
 pub mod Pieces
 pub mod OneProof
+pub mod WordReads
+pub mod CallReads
+pub mod BlockReads
+pub mod TagReads

@@ -1,6 +1,6 @@
 -- The blocks that are open where a tag is, the innermost first.
 use Rattle.std.specs.Prelude.{ℕ, suc, Bool, true, false, ◌&&◌, not, List, [], ◌∷◌, Option, Some, None}
-use Rattle.std.specs.Prelude.{option_map, codes}
+use Rattle.std.specs.Prelude.{option_map, codes, if◌then◌else◌}
 use Rattle.std.specs.Str.{bytes_eq}
 use Rattle.template_tags.specs.declared.level.Block.{Block}
 use Rattle.template_tags.specs.declared.level.Block.TheVariants.{If, Unless, Each}
@@ -11,6 +11,14 @@ abbrev pub block_name : Block → List ℕ
 block_name If = codes "if"
 block_name Unless = codes "unless"
 block_name Each = codes "each"
+
+-- the block of that name
+abbrev pub block_named : List ℕ → Option Block
+block_named name =
+    if bytes_eq name (codes "if") then Some If
+    else if bytes_eq name (codes "unless") then Some Unless
+    else if bytes_eq name (codes "each") then Some Each
+    else None
 
 abbrev pub is_each : Block → Bool
 is_each If = false

@@ -4,6 +4,7 @@ pub mod Tags
 pub mod Items
 pub mod Terms
 pub mod Words
+pub mod Reported
 pub mod Calls
 pub mod Blocks
 pub mod Said

@@ -1,5 +1,5 @@
 -- What a tag's parentheses group (Handlebars' subexpressions).
-use Rattle.std.specs.Prelude.{ℕ, suc, max, Bool, true, false, ◌&&◌, not, List, [], ◌∷◌}
+use Rattle.std.specs.Prelude.{ℕ, suc, max, Bool, List, [], ◌∷◌, Option, Some, None, is_some, unwrap_or}
 use Rattle.template_tags.specs.Items.{Item, word, left_parenthesis, right_parenthesis}
 
 -- a word, or what is between a `(` and its `)`
@@ -12,44 +12,40 @@ mutual
     no_terms : Terms
     first_term : Term → Terms → Terms
 
--- what some items of a tag, from one of them to the last, group: the terms up to the first `)` whose `(` is before
--- these items, then those up to the next such `)`, and so on; and whether one of the items is a `(` without its `)`
-pub record Nest : Type 0 where
-  pub terms : Terms
-  pub later : List Terms
-  pub unclosed : Bool
+-- what some items, up to the last of a tag, group: the terms up to the first `)` whose `(` is before these items, then
+-- those up to the next such `)`, and so on. There are none where a `(` has no `)`
+abbrev pub grouped_before : Item → Option (List Terms) → Option (List Terms)
+grouped_before (word text) (Some (terms ∷ later)) = Some (first_term (single text) terms ∷ later)
+grouped_before right_parenthesis (Some later) = Some (no_terms ∷ later)
+grouped_before left_parenthesis (Some (terms ∷ outer ∷ later)) = Some (first_term (group terms) outer ∷ later)
+grouped_before item later = None
 
-abbrev pub empty_nest : Nest
-empty_nest = record { terms = no_terms; later = []; unclosed = false }
+abbrev pub grouped : List Item → Option (List Terms)
+grouped [] = Some (no_terms ∷ [])
+grouped (item ∷ items) = grouped_before item (grouped items)
 
--- a `(` before terms and what follows their `)`. Without that, the terms end with the tag
-abbrev pub grouped : Terms → List Terms → Bool → Nest
-grouped terms [] unclosed = record { terms = first_term (group terms) no_terms; later = []; unclosed = true }
-grouped terms (outer ∷ later) unclosed =
-    record { terms = first_term (group terms) outer; later = later; unclosed = unclosed }
+abbrev pub only_list : Option (List Terms) → Option Terms
+only_list (Some (terms ∷ [])) = Some terms
+only_list found = None
 
-abbrev pub item_before : Item → Nest → Nest
-item_before (word text) nest =
-    record { terms = first_term (single text) nest.terms; later = nest.later; unclosed = nest.unclosed }
-item_before right_parenthesis nest =
-    record { terms = no_terms; later = nest.terms ∷ nest.later; unclosed = nest.unclosed }
-item_before left_parenthesis nest = grouped nest.terms nest.later nest.unclosed
+-- the terms of items, where each parenthesis has its other one
+abbrev pub terms_of : List Item → Option Terms
+terms_of items = only_list (grouped items)
 
-abbrev pub nest_of : List Item → Nest
-nest_of [] = empty_nest
-nest_of (item ∷ items) = item_before item (nest_of items)
+-- the words among items
+abbrev pub words_of : List Item → Terms
+words_of [] = no_terms
+words_of (word text ∷ items) = first_term (single text) (words_of items)
+words_of (left_parenthesis ∷ items) = words_of items
+words_of (right_parenthesis ∷ items) = words_of items
 
--- terms whose parentheses each have their other one
-abbrev pub balanced : Terms → Nest
-balanced terms = record { terms = terms; later = []; unclosed = false }
-
-abbrev pub has_none : List Terms → Bool
-has_none [] = true
-has_none (terms ∷ later) = false
+-- the terms of items. Where their parentheses don't match, these only separate words
+abbrev pub terms_in : List Item → Terms
+terms_in items = unwrap_or (terms_of items) (words_of items)
 
 -- each parenthesis has its other one
-abbrev pub is_balanced : Nest → Bool
-is_balanced nest = not nest.unclosed && has_none nest.later
+abbrev pub is_matched : List Item → Bool
+is_matched items = is_some (terms_of items)
 
 -- how deep groups nest
 abbrev mutual

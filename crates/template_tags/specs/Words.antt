@@ -1,5 +1,5 @@
 -- What a word of a tag is, and the value that it names.
-use Rattle.std.specs.Prelude.{ℕ, zero, suc, ℤ, nat_lt, Bool, List, [], ◌∷◌, Option, Some, None, option_map}
+use Rattle.std.specs.Prelude.{ℕ, zero, suc, ℤ, nat_lt, Bool, true, false, List, [], ◌∷◌, Option, Some, None, option_map}
 use Rattle.std.specs.Prelude.{Result, Ok, Err}
 use Rattle.std.specs.Prelude.{if◌then◌else◌, codes}
 use Rattle.std.specs.Option.{option_or, unwrap_or}
@@ -13,7 +13,8 @@ use Rattle.helper_set.specs.declared.helper.Helper.TheVariants.{UrlEncode, Defau
 use Rattle.template_words.specs.Literals.{text_literal, whole_number, truth_literal}
 use Rattle.template_words.specs.Marks.{begins}
 use Rattle.template_words.specs.Names.{is_hash_argument, first_part}
-use Rattle.template_words.specs.Paths.{reference_of, rest_of_steps}
+use Rattle.template_words.specs.Paths.{rest_of_steps}
+use Rattle.template_words.specs.Inner.PathReads.{reference_of}
 use Rattle.template_words.specs.Words.{is_foreign_helper}
 use Rattle.template_words.specs.declared.error.TagError.{TagError}
 use Rattle.template_words.specs.declared.error.TagError.TheVariants.{UnknownHelper, WrongArguments, UnsupportedTag}
@@ -115,24 +116,32 @@ abbrev pub loop_value : ℕ → LoopWord → Expression
 loop_value zero w = datum Nothing
 loop_value (suc loops) w = loop_word_value w
 
-abbrev pub word_value : List Level → List ℕ → Word → Result Expression TagError
-word_value levels text (text_word literal) = Ok (expressions.text_literal literal)
-word_value levels text (number_word n) = Ok (number n)
-word_value levels text (truth_word b) = Ok (truth b)
-word_value levels text (loop_word w) = Ok (loop_value (loops_open levels) w)
-word_value levels text (helper_word h) = Err WrongArguments
-word_value levels text foreign_word = Err UnknownHelper
-word_value levels text (path_word reference) = Ok (datum (datum_of levels text reference))
-word_value levels text (wrong_word e) = Err e
+-- a word that is an argument: there are no hash arguments here
+abbrev pub argument_of : List ℕ → Word
+argument_of text = if is_hash_argument text then wrong_word UnsupportedTag else word_of text
 
--- the value of a word that is an argument: there are no hash arguments here
-abbrev pub argument_word : List Level → List ℕ → Result Expression TagError
-argument_word levels text =
-    if is_hash_argument text then Err UnsupportedTag else word_value levels text (word_of text)
+-- stands for the value of what has an error, and so is never read
+abbrev pub no_value : Expression
+no_value = truth false
 
--- a word alone in a tag; a literal is none
-abbrev pub lone_value : List Level → List ℕ → Word → Result Expression TagError
-lone_value levels text (text_word literal) = Err UnsupportedTag
-lone_value levels text (number_word n) = Err UnsupportedTag
-lone_value levels text (truth_word b) = Err UnsupportedTag
-lone_value levels text w = word_value levels text w
+-- the value that a word names
+abbrev pub word_value : List Level → List ℕ → Word → Expression
+word_value levels text (text_word literal) = expressions.text_literal literal
+word_value levels text (number_word n) = number n
+word_value levels text (truth_word b) = truth b
+word_value levels text (loop_word w) = loop_value (loops_open levels) w
+word_value levels text (path_word reference) = datum (datum_of levels text reference)
+word_value levels text w = no_value
+
+-- the errors of a word that is to name a value
+abbrev pub word_errors : Word → List TagError
+word_errors (helper_word h) = WrongArguments ∷ []
+word_errors foreign_word = UnknownHelper ∷ []
+word_errors (wrong_word e) = e ∷ []
+word_errors w = []
+
+abbrev pub is_literal : Word → Bool
+is_literal (text_word literal) = true
+is_literal (number_word n) = true
+is_literal (truth_word b) = true
+is_literal w = false

@@ -1,17 +1,19 @@
 // What the tags of blocks say.
-ghost use Rattle.std.specs.Prelude.{◌≡◌, ◌<◌, ◌^◌, is_some, length, map, reverse, IfOk};
+ghost use Rattle.std.specs.Prelude.{◌≡◌, ◌<◌, ◌^◌, not, is_some, length, map, reverse, IfOk};
 ghost use Rattle.template_tags.specs.Blocks.{parameter_in, loop_items, is_word, are_last_names, are_names, has_names};
 ghost use Rattle.template_tags.specs.Blocks.{has_parameters};
-ghost use Rattle.template_tags.specs.Blocks.{only_one, block_argument, block_error, loop_error, test_said, data_only};
-ghost use Rattle.template_tags.specs.Blocks.{if_read, each_read, is_taken, loop_said, each_said, opening_said};
-ghost use Rattle.template_tags.specs.Blocks.{first_else, else_said};
-ghost use Rattle.template_tags.specs.Blocks.{is_innermost, close_alone, all_errors, closing_said};
-ghost use Rattle.template_tags.specs.Calls.{error_if, errors_in};
-ghost use Rattle.template_tags.specs.Inner.Pieces.{piece_arguments, unused_pieces, block_pieces, pieces_error};
-ghost use Rattle.template_tags.specs.Inner.Pieces.{all_pieces_error};
+ghost use Rattle.template_tags.specs.Inner.BlockReads.{only_one, block_argument, block_error, loop_error, test_said};
+ghost use Rattle.template_tags.specs.Inner.BlockReads.{data_only};
+ghost use Rattle.template_tags.specs.Blocks.{is_reserved_name};
+ghost use Rattle.template_tags.specs.Inner.BlockReads.{if_read, each_read, loop_said, each_said, opening_said};
+ghost use Rattle.template_tags.specs.Inner.BlockReads.{first_else, else_said};
+ghost use Rattle.template_tags.specs.Blocks.{is_innermost};
+ghost use Rattle.template_tags.specs.Inner.BlockReads.{close_alone, all_errors, closing_said};
+ghost use Rattle.template_tags.specs.Inner.CallReads.{error_if};
+ghost use Rattle.template_tags.specs.Inner.Pieces.{block_parts, all_parts_error};
 ghost use Rattle.template_tags.specs.Inner.Scan.{item_view, item_is, with_items, loop_view};
-ghost use Rattle.template_tags.specs.Inner.Views.{read_view, pieces_view, later_view, nest_view, said_view};
-ghost use Rattle.template_tags.specs.Terms.{nest_of};
+ghost use Rattle.template_tags.specs.Inner.Views.{read_view, parts_view, said_view};
+ghost use Rattle.template_words.specs.declared.error.TagError.TheVariants.{BadPath};
 ghost use Rattle.template_words.specs.Views.{part_view};
 ghost use Rattle.template_words.specs.Names.{is_name_after_bar, name_before_bar};
 ghost use Rattle.template_words.specs.Paths.{is_name};
@@ -19,8 +21,8 @@ ghost use Rattle.template_words.specs.Paths.{is_name};
 use crate::calls::{arguments, beside, error_if, errors_in};
 use crate::expression::{Datum, Expression};
 use crate::items::Item;
-use crate::level::{BLOCK_LIMIT, LOOP_LIMIT, Level, loops_open};
-use crate::nest::{Nest, Piece, nest_of};
+use crate::level::{BLOCK_LIMIT, Block, LOOP_LIMIT, Level, loops_open};
+use crate::nest::{Parts, parts_of};
 use crate::tag::Tag;
 use data_tree::plain_text::PlainText;
 use std::alloc::{AllocError, Global};
@@ -136,49 +138,11 @@ fn has_parameters(items: &[Item<'_>]) -> bool
     parameter.is_some() || has_names(items)
 }
 
-// The error of pieces that no call and no block takes.
-fn unused_error(
-    alloc: Global,
-    levels: &[Level],
-    pieces: Vec<Piece<'_>>,
-) -> Result<Option<TagError>, AllocError>
-    requires { length levels.now < 2 ^ 32 }
-    ensures { IfOk result (λ e.
-        e ≡ errors_in (piece_arguments (reverse levels.now) (pieces_view pieces.entry.items))) }
+/// The error of parentheses that don't match.
+pub fn match_error(matched: bool) -> Option<TagError>
+    ensures { result ≡ error_if BadPath (not matched) }
 {
-    Ok(errors_in(arguments(alloc, levels, pieces)?.as_slice()))
-}
-
-#[tactic(auto, using(crate::proofs::Joins::joined_assoc, crate::proofs::Joins::joined_none))]
-fn unused_errors(
-    alloc: Global,
-    levels: &[Level],
-    mut later: Vec<Vec<Piece<'_>>>,
-) -> Result<Option<TagError>, AllocError>
-    requires { length levels.now < 2 ^ 32 }
-    ensures { IfOk result (λ e. e ≡ unused_pieces (reverse levels.now) (later_view later.entry.items)) }
-{
-    let mut error = None;
-    while let Some(pieces) = later.pop() {
-        error = joined(error, unused_error(alloc, levels, pieces)?);
-    }
-    Ok(error)
-}
-
-// The error of parentheses without their other one, and of what follows them.
-pub fn nest_error(
-    alloc: Global,
-    levels: &[Level],
-    balanced: bool,
-    later: Vec<Vec<Piece<'_>>>,
-) -> Result<Option<TagError>, AllocError>
-    requires { length levels.now < 2 ^ 32 }
-    ensures { IfOk result (λ e. e ≡ pieces_error (reverse levels.now) balanced (later_view later.entry.items)) }
-{
-    Ok(joined(
-        error_if(TagError::BadPath, !balanced),
-        unused_errors(alloc, levels, later)?,
-    ))
+    error_if(TagError::BadPath, !matched)
 }
 
 #[tactic(auto, using(crate::proofs::Besides::read_beside))]
@@ -202,23 +166,18 @@ fn only_one(mut arguments: Vec<Result<Expression, TagError>>) -> Result<Expressi
 fn piece_argument(
     alloc: Global,
     levels: &[Level],
-    nest: Nest<'_>,
+    parts: Parts<'_>,
 ) -> Result<Result<Expression, TagError>, AllocError>
     requires { length levels.now < 2 ^ 32 }
-    ensures { IfOk result (λ read. read_view read ≡ block_pieces (reverse levels.now) (nest_view nest.entry)) }
+    ensures { IfOk result (λ read. read_view read ≡ block_parts (reverse levels.now) (parts_view parts.entry)) }
 {
-    let balanced = nest.is_balanced();
-    let Nest {
-        pieces,
-        later,
-        unclosed: _,
-    } = nest;
-    let error = nest_error(alloc, levels, balanced, later)?;
-    Ok(beside(error, only_one(arguments(alloc, levels, pieces)?)))
+    let Parts { pieces, matched } = parts;
+    let argument = only_one(arguments(alloc, levels, pieces)?);
+    Ok(beside(match_error(matched), argument))
 }
 
 // The one argument of a block.
-#[tactic(auto, using(crate::proofs::Nests::block_pieces_are))]
+#[tactic(auto, using(crate::proofs::Nests::block_parts_are))]
 fn block_argument(
     alloc: Global,
     levels: &[Level],
@@ -226,9 +185,9 @@ fn block_argument(
 ) -> Result<Result<Expression, TagError>, AllocError>
     requires { length levels.now < 2 ^ 32 }
     ensures { IfOk result
-        (λ read. read_view read ≡ block_argument (reverse levels.now) (nest_of (map item_view items.now))) }
+        (λ read. read_view read ≡ block_argument (reverse levels.now) (map item_view items.now)) }
 {
-    piece_argument(alloc, levels, nest_of(alloc, levels, items)?)
+    piece_argument(alloc, levels, parts_of(alloc, levels, items)?)
 }
 
 // Another block in those that are open.
@@ -294,8 +253,8 @@ fn data_only(read: Result<Expression, TagError>) -> Result<Datum, TagError>
 }
 
 // Whether paths begin with that name already.
-fn is_taken(parameter: Option<&str>) -> bool
-    ensures { result ≡ is_taken (part_view parameter.entry) }
+fn is_reserved_name(parameter: Option<&str>) -> bool
+    ensures { result ≡ is_reserved_name (part_view parameter.entry) }
 {
     match parameter {
         Some(name) => name == "request" || name == "this",
@@ -333,7 +292,7 @@ fn loop_said(
     ensures { IfOk result (λ said. said_view said
         ≡ loop_said (reverse levels.now) (with_items (map item_view items.now) (part_view parameter.entry))) }
 {
-    let taken = error_if(TagError::UnsupportedTag, is_taken(parameter));
+    let taken = error_if(TagError::UnsupportedTag, is_reserved_name(parameter));
     let name = copied(alloc, parameter)?;
     let tag = each_read(name, data_only(block_argument(alloc, levels, items)?));
     Ok(beside(taken, tag))
@@ -354,22 +313,22 @@ fn each_said(
     Ok(beside(loop_error(levels), beside(named, tag)))
 }
 
-/// What a tag with `#` and that name says.
+/// What a tag that opens a block says.
 pub fn opening_said(
     alloc: Global,
     levels: &[Level],
-    name: &str,
+    block: Option<Block>,
     items: &[Item<'_>],
 ) -> Result<Result<Tag, TagError>, AllocError>
     requires { length levels.now < 2 ^ 32 }
     ensures { IfOk result
-        (λ said. said_view said ≡ opening_said (reverse levels.now) name.now (map item_view items.now)) }
+        (λ said. said_view said ≡ opening_said (reverse levels.now) block (map item_view items.now)) }
 {
-    match name {
-        "if" => test_said(alloc, levels, false, items),
-        "unless" => test_said(alloc, levels, true, items),
-        "each" => each_said(alloc, levels, items),
-        _ => Ok(Err(TagError::UnsupportedTag)),
+    match block {
+        Some(Block::If) => test_said(alloc, levels, false, items),
+        Some(Block::Unless) => test_said(alloc, levels, true, items),
+        Some(Block::Each) => each_said(alloc, levels, items),
+        None => Ok(Err(TagError::UnsupportedTag)),
     }
 }
 
@@ -412,22 +371,18 @@ fn close_alone(items: &[Item<'_>]) -> Result<Tag, TagError>
     }
 }
 
-// The error of all that pieces are, as arguments.
-fn all_pieces(
+// The error of all pieces, as arguments.
+fn all_parts_error(
     alloc: Global,
     levels: &[Level],
-    nest: Nest<'_>,
+    parts: Parts<'_>,
 ) -> Result<Option<TagError>, AllocError>
     requires { length levels.now < 2 ^ 32 }
-    ensures { IfOk result (λ e. e ≡ all_pieces_error (reverse levels.now) (nest_view nest.entry)) }
+    ensures { IfOk result (λ e. e ≡ all_parts_error (reverse levels.now) (parts_view parts.entry)) }
 {
-    let Nest {
-        pieces,
-        mut later,
-        unclosed: _,
-    } = nest;
-    later.push(pieces)?;
-    unused_errors(alloc, levels, later)
+    let Parts { pieces, matched } = parts;
+    let arguments = arguments(alloc, levels, pieces)?;
+    Ok(joined(match_error(matched), errors_in(arguments.as_slice())))
 }
 
 // The error of all items, as arguments.
@@ -438,9 +393,9 @@ fn all_errors(
     items: &[Item<'_>],
 ) -> Result<Option<TagError>, AllocError>
     requires { length levels.now < 2 ^ 32 }
-    ensures { IfOk result (λ e. e ≡ all_errors (reverse levels.now) (nest_of (map item_view items.now))) }
+    ensures { IfOk result (λ e. e ≡ all_errors (reverse levels.now) (map item_view items.now)) }
 {
-    all_pieces(alloc, levels, nest_of(alloc, levels, items)?)
+    all_parts_error(alloc, levels, parts_of(alloc, levels, items)?)
 }
 
 /// What a tag with `/` and that name says.

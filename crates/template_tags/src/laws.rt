@@ -1,12 +1,12 @@
 // Laws over the definitions of tags, each on a function that does nothing.
 ghost use Rattle.std.specs.Prelude.{◌≡◌, ◌≤◌, ◌↔◌, ℕ, true, false, List, [], ◌∷◌, ◌++◌};
-ghost use Rattle.std.specs.Prelude.{Ok, length};
-ghost use Rattle.template_tags.specs.Examples.{ArePrints, AreBlocks, AreErrors};
+ghost use Rattle.std.specs.Prelude.{Some, Ok, length};
+ghost use Rattle.template_tags.specs.Examples.{ArePrints, AreBlocks, AreErrors, AreUnmatched};
 ghost use Rattle.template_tags.specs.Items.{Item, break_before, word_before, items_after};
 ghost use Rattle.template_tags.specs.Said.{tag_said};
 ghost use Rattle.template_tags.specs.Sound.{IsSoundTag};
 ghost use Rattle.template_tags.specs.Tags.{Tag};
-ghost use Rattle.template_tags.specs.Terms.{Terms, flat, nest_of, balanced};
+ghost use Rattle.template_tags.specs.Terms.{Terms, flat, terms_of};
 ghost use Rattle.template_tags.specs.declared.level.Level.{Level};
 ghost use Rattle.template_tags.specs.declared.tag.Opening.{Opening};
 ghost use Rattle.template_words.specs.Modes.{mode_after_bytes, mode_of_byte, is_outside};
@@ -24,9 +24,9 @@ pub fn law_words_are_between_breaks()
         items_after mode text ≡ word_before text [] }
 {}
 
-/// Items group to terms, with no parenthesis left, exactly where they are the items of these terms.
+/// Items group to terms exactly where they are the items of these terms.
 pub fn law_terms_are_their_items()
-    ensures { (items : List Item) (terms : Terms) → (nest_of items ≡ balanced terms) ↔ (flat terms [] ≡ items) }
+    ensures { (items : List Item) (terms : Terms) → (terms_of items ≡ Some terms) ↔ (flat terms [] ≡ items) }
 {}
 
 /// What a tag says has its words of loops in loops, as many arguments as helpers take, and nests within the limits.
@@ -40,4 +40,5 @@ pub fn law_examples()
     ensures prints { ArePrints }
     ensures blocks { AreBlocks }
     ensures errors { AreErrors }
+    ensures unmatched { AreUnmatched }
 {}

@@ -1,6 +1,6 @@
 // The blocks that are open where a tag is.
 ghost use Rattle.std.specs.Prelude.{◌≡◌, ◌<◌, ◌^◌, length, reverse};
-ghost use Rattle.template_tags.specs.Levels.{block_name, is_each, loops_open, loop_named};
+ghost use Rattle.template_tags.specs.Levels.{block_name, block_named, is_each, loops_open, loop_named};
 
 use data_tree::plain_text::PlainText;
 
@@ -27,6 +27,18 @@ impl Block {
             Block::If => "if",
             Block::Unless => "unless",
             Block::Each => "each",
+        }
+    }
+
+    /// The block of that name.
+    pub(crate) fn from_name(name: &str) -> Option<Block>
+        ensures { result ≡ block_named name.now }
+    {
+        match name {
+            "if" => Some(Block::If),
+            "unless" => Some(Block::Unless),
+            "each" => Some(Block::Each),
+            _ => None,
         }
     }
 

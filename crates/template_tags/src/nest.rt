@@ -1,11 +1,11 @@
 // What a tag's parentheses group, read in one pass over the items of the tag from the last to the first. Groups nest as
 // deep as a text has parentheses, so nothing here goes down them by recursion.
-ghost use Rattle.std.specs.Prelude.{◌≡◌, ◌<◌, ◌^◌, length, map, reverse, IfOk};
-ghost use Rattle.template_tags.specs.Inner.Pieces.{nest_pieces, is_balanced, piece_height, greatest, grouped_pieces};
-ghost use Rattle.template_tags.specs.Inner.Pieces.{piece_before};
+ghost use Rattle.std.specs.Prelude.{◌≡◌, ◌<◌, ◌^◌, [], ◌∷◌, ◌++◌, Some, length, map, option_map, reverse, IfOk};
+ghost use Rattle.template_tags.specs.Inner.Pieces.{pieces_of, parts_of, word_pieces, piece_height, greatest};
+ghost use Rattle.template_tags.specs.Inner.Pieces.{grouped_pieces, piece_before};
 ghost use Rattle.template_tags.specs.Inner.Scan.{item_view};
-ghost use Rattle.template_tags.specs.Inner.Views.{piece_view, pieces_view, nest_view};
-ghost use Rattle.template_tags.specs.Terms.{nest_of};
+ghost use Rattle.template_tags.specs.Inner.Views.{piece_view, pieces_view, stack_view, grouped_view, parts_view};
+ghost use Rattle.template_tags.specs.Terms.{terms_of};
 
 use crate::calls::{call_read, limited};
 use crate::expression::{CALL_LIMIT, Expression};
@@ -37,24 +37,21 @@ impl Piece<'_> {
     }
 }
 
+/// The pieces of a tag. The first piece is the last element.
+#[derive(Debug, Drop)]
+pub struct Parts<'a> {
+    pub pieces: Vec<Piece<'a>>,
+    /// Whether each parenthesis has its other one. Where not, the pieces are the words of the tag.
+    pub matched: bool,
+}
+
 /// What some items of a tag, from one of them to the last, group. In each list the first piece is the last element.
 #[derive(Debug, Drop)]
-pub struct Nest<'a> {
+pub struct Stack<'a> {
     /// Up to the first `)` whose `(` is before these items.
     pub pieces: Vec<Piece<'a>>,
     /// After it, up to the next such `)`, and so on. The first list is the last element.
     pub later: Vec<Vec<Piece<'a>>>,
-    /// Whether one of the items is a `(` without its `)`.
-    pub unclosed: bool,
-}
-
-impl Nest<'_> {
-    /// Whether each parenthesis has its other one.
-    pub fn is_balanced(&self) -> bool
-        ensures { result ≡ is_balanced (nest_view self.now) }
-    {
-        !self.unclosed && self.later.is_empty()
-    }
 }
 
 fn greatest_height(pieces: &[Piece<'_>]) -> usize
@@ -83,73 +80,120 @@ fn group_piece<'a>(
     Ok(Piece::Group { value, height })
 }
 
+// The stack, and that item before it. There is none where a `(` has no `)`.
 fn item_before<'a>(
     alloc: Global,
     levels: &[Level],
     item: Item<'a>,
-    nest: Nest<'a>,
-) -> Result<Nest<'a>, AllocError>
+    stack: Stack<'a>,
+) -> Result<Option<Stack<'a>>, AllocError>
     requires { length levels.now < 2 ^ 32 }
-    ensures { IfOk result (λ made.
-        nest_view made ≡ piece_before (reverse levels.now) (item_view item.entry) (nest_view nest.entry)) }
+    ensures { IfOk result (λ made. option_map stack_view made
+        ≡ piece_before (reverse levels.now) (item_view item.entry) (Some (stack_view stack.entry))) }
 {
-    let Nest {
+    let Stack {
         mut pieces,
         mut later,
-        unclosed,
-    } = nest;
+    } = stack;
     match item {
         Item::Word(word) => {
             pieces.push(Piece::Word(word))?;
-            Ok(Nest {
-                pieces,
-                later,
-                unclosed,
-            })
+            Ok(Some(Stack { pieces, later }))
         }
         Item::RightParenthesis => {
             later.push(pieces)?;
-            Ok(Nest {
+            Ok(Some(Stack {
                 pieces: Vec::new(alloc),
                 later,
-                unclosed,
-            })
+            }))
         }
         Item::LeftParenthesis => {
             let group = group_piece(alloc, levels, pieces)?;
-            let (mut outer, unclosed) = match later.pop() {
-                Some(outer) => (outer, unclosed),
-                None => (Vec::new(alloc), true),
-            };
-            outer.push(group)?;
-            Ok(Nest {
-                pieces: outer,
-                later,
-                unclosed,
-            })
+            match later.pop() {
+                None => Ok(None),
+                Some(mut outer) => {
+                    outer.push(group)?;
+                    Ok(Some(Stack {
+                        pieces: outer,
+                        later,
+                    }))
+                }
+            }
         }
     }
 }
 
-/// What the items group.
-pub fn nest_of<'a>(
+// What the items group, where each parenthesis has its other one.
+fn grouped<'a>(
     alloc: Global,
     levels: &[Level],
     items: &[Item<'a>],
-) -> Result<Nest<'a>, AllocError>
+) -> Result<Option<Vec<Piece<'a>>>, AllocError>
     requires { length levels.now < 2 ^ 32 }
-    ensures { IfOk result (λ nest.
-        nest_view nest ≡ nest_pieces (reverse levels.now) (nest_of (map item_view items.now))) }
+    ensures { IfOk result (λ found. grouped_view found
+        ≡ option_map (pieces_of (reverse levels.now)) (terms_of (map item_view items.now))) }
 {
-    let mut nest = Nest {
+    let mut stack = Stack {
         pieces: Vec::new(alloc),
         later: Vec::new(alloc),
-        unclosed: false,
     };
     let mut left = items;
     while let [before @ .., item] = left {
-        nest = item_before(alloc, levels, *item, nest)?;
+        match item_before(alloc, levels, *item, stack)? {
+            Some(next) => stack = next,
+            None => return Ok(None),
+        }
         left = before;
     }
-    Ok(nest)
+    let Stack { pieces, later } = stack;
+    if later.is_empty() {
+        Ok(Some(pieces))
+    } else {
+        Ok(None)
+    }
+}
+
+// The pieces, and that item before them, if it is a word.
+fn with_word<'a>(mut pieces: Vec<Piece<'a>>, item: Item<'a>) -> Result<Vec<Piece<'a>>, AllocError>
+    ensures { IfOk result (λ made. pieces_view made.items
+        ≡ word_pieces (item_view item.entry ∷ []) ++ pieces_view pieces.entry.items) }
+{
+    if let Item::Word(word) = item {
+        pieces.push(Piece::Word(word))?;
+    }
+    Ok(pieces)
+}
+
+// The words among the items.
+fn words_of<'a>(alloc: Global, items: &[Item<'a>]) -> Result<Vec<Piece<'a>>, AllocError>
+    ensures { IfOk result (λ pieces. pieces_view pieces.items ≡ word_pieces (map item_view items.now)) }
+{
+    let mut pieces = Vec::new(alloc);
+    let mut left = items;
+    while let [before @ .., item] = left {
+        pieces = with_word(pieces, *item)?;
+        left = before;
+    }
+    Ok(pieces)
+}
+
+/// What the items group; where their parentheses don't match, their words.
+pub fn parts_of<'a>(
+    alloc: Global,
+    levels: &[Level],
+    items: &[Item<'a>],
+) -> Result<Parts<'a>, AllocError>
+    requires { length levels.now < 2 ^ 32 }
+    ensures { IfOk result (λ parts. parts_view parts ≡ parts_of (reverse levels.now) (map item_view items.now)) }
+{
+    match grouped(alloc, levels, items)? {
+        Some(pieces) => Ok(Parts {
+            pieces,
+            matched: true,
+        }),
+        None => Ok(Parts {
+            pieces: words_of(alloc, items)?,
+            matched: false,
+        }),
+    }
 }

@@ -1,22 +1,24 @@
 // What the content of a tag says.
 ghost use Rattle.std.specs.Prelude.{◌≡◌, ◌<◌, ◌^◌, ◌∷◌, drop, length, map, reverse, IfOk};
-ghost use Rattle.template_tags.specs.Inner.Pieces.{lone_piece, value_pieces, print_pieces};
+ghost use Rattle.template_tags.specs.Inner.Pieces.{lone_piece, value_pieces, print_parts};
 ghost use Rattle.template_tags.specs.Inner.Scan.{item_view};
-ghost use Rattle.template_tags.specs.Inner.Views.{read_view, piece_view, pieces_view, nest_view, said_view};
+ghost use Rattle.template_tags.specs.Inner.Views.{read_view, piece_view, pieces_view, parts_view, said_view};
 ghost use Rattle.template_tags.specs.Items.{word};
-ghost use Rattle.template_tags.specs.Said.{print_read, print_said, is_marked, word_said, items_said, space_error};
+ghost use Rattle.template_tags.specs.Said.{has_foreign_mark};
+ghost use Rattle.template_tags.specs.Inner.TagReads.{print_read, print_said, is_marked, word_said};
+ghost use Rattle.template_tags.specs.Inner.TagReads.{tag_read};
 ghost use Rattle.template_tags.specs.Said.{tag_said};
+ghost use Rattle.template_tags.specs.Inner.TagReads.{items_said, space_error};
 ghost use Rattle.template_tags.specs.Tags.{tag_view};
-ghost use Rattle.template_tags.specs.Terms.{nest_of};
 ghost use Rattle.template_words.specs.Reading.{Gives};
 
-use crate::blocks::{closing_said, else_said, nest_error, opening_said};
+use crate::blocks::{closing_said, else_said, match_error, opening_said};
 use crate::calls::{beside, call_read, error_if};
 use crate::expression::{Datum, Expression};
 use crate::items::{Item, items_of, lacks_space};
-use crate::level::Level;
-use crate::nest::{Nest, Piece, nest_of};
-use crate::word::lone_value;
+use crate::level::{Block, Level};
+use crate::nest::{Parts, Piece, parts_of};
+use crate::word::{lone_value, read_value};
 use data_tree::plain_text::PlainText;
 use std::alloc::{AllocError, Global};
 use template_words::error::{ReadError, TagError};
@@ -56,20 +58,20 @@ pub enum Tag {
 fn lone_piece(
     alloc: Global,
     levels: &[Level],
-    balanced: bool,
+    matched: bool,
     piece: Piece<'_>,
 ) -> Result<Result<Expression, TagError>, AllocError>
     requires { length levels.now < 2 ^ 32 }
     ensures { IfOk result
-        (λ read. read_view read ≡ lone_piece (reverse levels.now) balanced (piece_view piece.entry)) }
+        (λ read. read_view read ≡ lone_piece (reverse levels.now) matched (piece_view piece.entry)) }
 {
     match piece {
-        Piece::Word(word) => lone_value(alloc, levels, word),
+        Piece::Word(word) if matched => lone_value(alloc, levels, word),
+        Piece::Word(word) => read_value(alloc, levels, word),
         Piece::Group {
             value: _,
             height: _,
-        } if balanced => Ok(Err(TagError::UnsupportedTag)),
-        Piece::Group { value, height: _ } => Ok(value),
+        } => Ok(Err(TagError::UnsupportedTag)),
     }
 }
 
@@ -77,22 +79,24 @@ fn lone_piece(
 fn value_said(
     alloc: Global,
     levels: &[Level],
-    balanced: bool,
+    matched: bool,
     mut pieces: Vec<Piece<'_>>,
 ) -> Result<Result<Expression, TagError>, AllocError>
     requires { length levels.now < 2 ^ 32 }
     ensures { IfOk result
-        (λ read. read_view read ≡ value_pieces (reverse levels.now) balanced (pieces_view pieces.entry.items)) }
+        (λ read. read_view read ≡ value_pieces (reverse levels.now) matched (pieces_view pieces.entry.items)) }
 {
     if pieces.len() != 1 {
-        return if pieces.is_empty() {
-            Ok(Err(TagError::BadPath))
-        } else {
+        return if !pieces.is_empty() {
             call_read(alloc, levels, pieces)
+        } else if matched {
+            Ok(Err(TagError::UnsupportedTag))
+        } else {
+            Ok(Err(TagError::BadPath))
         };
     }
     match pieces.pop() {
-        Some(piece) => lone_piece(alloc, levels, balanced, piece),
+        Some(piece) => lone_piece(alloc, levels, matched, piece),
         None => unreachable!(),
     }
 }
@@ -110,24 +114,18 @@ fn print_read(read: Result<Expression, TagError>) -> Result<Tag, TagError>
 fn piece_said(
     alloc: Global,
     levels: &[Level],
-    nest: Nest<'_>,
+    parts: Parts<'_>,
 ) -> Result<Result<Tag, TagError>, AllocError>
     requires { length levels.now < 2 ^ 32 }
-    ensures { IfOk result (λ said. said_view said ≡ print_pieces (reverse levels.now) (nest_view nest.entry)) }
+    ensures { IfOk result (λ said. said_view said ≡ print_parts (reverse levels.now) (parts_view parts.entry)) }
 {
-    let balanced = nest.is_balanced();
-    let Nest {
-        pieces,
-        later,
-        unclosed: _,
-    } = nest;
-    let error = nest_error(alloc, levels, balanced, later)?;
-    let value = beside(error, value_said(alloc, levels, balanced, pieces)?);
-    Ok(print_read(value))
+    let Parts { pieces, matched } = parts;
+    let value = value_said(alloc, levels, matched, pieces)?;
+    Ok(print_read(beside(match_error(matched), value)))
 }
 
 // What a tag says that prints.
-#[tactic(auto, using(crate::proofs::Nests::print_pieces_are))]
+#[tactic(auto, using(crate::proofs::Nests::print_parts_are))]
 fn print_said(
     alloc: Global,
     levels: &[Level],
@@ -135,18 +133,31 @@ fn print_said(
 ) -> Result<Result<Tag, TagError>, AllocError>
     requires { length levels.now < 2 ^ 32 }
     ensures { IfOk result
-        (λ said. said_view said ≡ print_said (reverse levels.now) (nest_of (map item_view items.now))) }
+        (λ said. said_view said ≡ print_said (reverse levels.now) (map item_view items.now)) }
 {
-    piece_said(alloc, levels, nest_of(alloc, levels, items)?)
+    piece_said(alloc, levels, parts_of(alloc, levels, items)?)
 }
 
 // Whether the text begins with a byte that marks a tag which templates don't have.
-fn is_marked(text: &[u8]) -> bool
-    ensures { result ≡ is_marked text.now }
+fn has_foreign_mark(text: &[u8]) -> bool
+    ensures { result ≡ has_foreign_mark text.now }
 {
     match text {
         [byte, ..] => b">&^*~{".contains(byte),
         [] => false,
+    }
+}
+
+// Whether the text begins with such a byte, or with `#` and no block's name.
+fn is_marked(text: &str) -> bool
+    ensures { result ≡ is_marked text.now }
+{
+    if has_foreign_mark(text.as_bytes()) {
+        return true;
+    }
+    match after_mark(text, "#") {
+        Some(name) => Block::from_name(name).is_none(),
+        None => false,
     }
 }
 
@@ -171,7 +182,7 @@ fn word_said(
         return print_said(alloc, levels, items);
     }
     if let Some(name) = after_mark(text, "#") {
-        opening_said(alloc, levels, name, rest)
+        opening_said(alloc, levels, Block::from_name(name), rest)
     } else if let Some(name) = after_mark(text, "/") {
         closing_said(alloc, levels, name, rest)
     } else if text == "else" {
@@ -196,7 +207,7 @@ fn items_said(
     };
     match first.text() {
         None => print_said(alloc, levels, items),
-        Some(text) if is_marked(text.as_bytes()) => Ok(Err(TagError::UnsupportedTag)),
+        Some(text) if is_marked(text) => Ok(Err(TagError::UnsupportedTag)),
         Some(text) => word_said(alloc, opening, levels, text, items),
     }
 }
@@ -207,8 +218,25 @@ fn space_error(content: &str) -> Option<TagError>
     error_if(TagError::BadPath, lacks_space(content.as_bytes()))
 }
 
+// What the content of a tag says, read part by part.
+#[tactic(auto, unfolding(crate::specs::Inner::TagReads::tag_read), using(crate::proofs::Besides::said_beside))]
+fn tag_read(
+    alloc: Global,
+    opening: Opening,
+    content: &str,
+    levels: &[Level],
+) -> Result<Result<Tag, TagError>, AllocError>
+    requires content { length content.now < 2 ^ 31 }
+    requires levels { length levels.now < 2 ^ 32 }
+    ensures { IfOk result (λ said. said_view said ≡ tag_read opening content.now (reverse levels.now)) }
+{
+    let items = items_of(alloc, content)?;
+    let said = items_said(alloc, opening, levels, items.as_slice())?;
+    Ok(beside(space_error(content), said))
+}
+
 /// What the content of a tag (between its marks; no comment) says where these blocks are open, the innermost last.
-#[tactic(auto, unfolding(crate::specs::Said::tag_said), using(crate::proofs::Besides::said_beside))]
+#[tactic(auto, using(crate::proofs::Reported::tag_is))]
 pub fn read_tag(
     alloc: Global,
     opening: Opening,
@@ -219,9 +247,7 @@ pub fn read_tag(
     requires levels { length levels.now < 2 ^ 32 }
     ensures { Gives tag_view result (tag_said opening content.now (reverse levels.now)) }
 {
-    let items = items_of(alloc, content)?;
-    let said = items_said(alloc, opening, levels, items.as_slice())?;
-    match beside(space_error(content), said) {
+    match tag_read(alloc, opening, content, levels)? {
         Ok(tag) => Ok(tag),
         Err(error) => Err(ReadError::Tag(error)),
     }

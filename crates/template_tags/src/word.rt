@@ -1,8 +1,9 @@
 // What a word of a tag is, and the value that it names.
 ghost use Rattle.std.specs.Prelude.{◌≡◌, ◌<◌, ◌^◌, length, reverse, option_map, IfOk};
 ghost use Rattle.template_tags.specs.Words.{loop_word_of, helper_named, literal_of, known_word, other_word, word_of};
-ghost use Rattle.template_tags.specs.Words.{steps_in, found_datum, datum_of, loop_value, word_value, argument_word};
-ghost use Rattle.template_tags.specs.Words.{lone_value};
+ghost use Rattle.template_tags.specs.Words.{steps_in, found_datum, datum_of, loop_value};
+ghost use Rattle.template_tags.specs.Inner.WordReads.{word_value, argument_word};
+ghost use Rattle.template_tags.specs.Inner.WordReads.{lone_value};
 ghost use Rattle.template_tags.specs.Expression.{expression_view};
 ghost use Rattle.template_tags.specs.Inner.Views.{word_view, read_view};
 ghost use Rattle.template_words.specs.Paths.{rest_of_steps};
@@ -238,6 +239,20 @@ pub fn argument_word(
     if is_hash_argument(word.text) {
         return Ok(Err(TagError::UnsupportedTag));
     }
+    word_value(alloc, levels, word.text, word_of(alloc, word)?)
+}
+
+/// The value of a word.
+pub fn read_value(
+    alloc: Global,
+    levels: &[Level],
+    word: WordText<'_>,
+) -> Result<Result<Expression, TagError>, AllocError>
+    requires { length levels.now < 2 ^ 32 }
+    ensures { IfOk result
+        (λ read. read_view read
+        ≡ word_value (reverse levels.now) word.entry.text.now (word_of word.entry.text.now)) }
+{
     word_value(alloc, levels, word.text, word_of(alloc, word)?)
 }
 

@@ -1,18 +1,20 @@
 -- A short text spells a tree, or has an error.
 use Rattle.std.proofs.Common.{◌≡◌, ℕ, zero, suc, ◌+◌, ◌-◌, ◌≤◌, ◌⊎◌, inl, inr, List, []}
-use Rattle.std.proofs.Common.{◌∷◌, length, refl, subst, arith}
+use Rattle.std.proofs.Common.{◌∷◌, ◌<◌, nat_le, length, Result, Ok, Err, refl, ap, subst, arith}
+use Rattle.std.proofs.lemmas.Bool.{cases_Bool, leb-true, leb-false}
 use Rattle.template_tree.specs.declared.error.TemplateError.{TemplateError}
 use Rattle.template_words.specs.declared.error.TagError.{TagError}
 use Rattle.template_words.specs.declared.error.TagError.TheVariants.{UnclosedTag}
-use Rattle.template_tree.specs.declared.error.TemplateErrorKind.TheVariants.{Tag}
+use Rattle.template_tree.specs.declared.error.TemplateErrorKind.TheVariants.{Tag, TooLong}
 use Rattle.template_tree.specs.declared.parser.TheConstants.{TEXT_LIMIT}
 use Rattle.template_tags.specs.declared.level.Level.{Level}
-use Rattle.template_tree.specs.Grammar.{Spells, IsTemplateError}
+use Rattle.template_tree.specs.Grammar.{Spells, IsTemplateError, IsRead}
 use Rattle.template_tree.specs.Inner.Frames.{Nest, with_token, BeginWithin, Read}
 use Rattle.template_tree.specs.Source.{Source}
 use Rattle.template_tree.specs.Tokens.{token, tag_error, ended, next_of}
 use Rattle.template_tree.specs.Tree.{Nodes}
 use Rattle.template_tree.proofs.Progress.{nothing_read, read_none, read_more, read_all, read_open, read_error_at}
+use Rattle.template_tree.proofs.Unique.{one_tree, never_both, one_error}
 use Rattle.template_tree.proofs.Rows.{token_shorter, mark_fits, ended_empty, leads_shorter}
 
 -- where reading ends
@@ -62,13 +64,41 @@ decided source short (stopped nest rest mark f r w) =
     ) in
     inr (found f at, read_error_at source nest rest (Tag f) at short r (mark, w, offset))
 
-pub tree_or_error : (source : Source) → length source.text ≤ TEXT_LIMIT
+tree_or_error : (source : Source) → length source.text ≤ TEXT_LIMIT
     → ((tree : Nodes) × Spells source tree) ⊎ ((e : TemplateError) × IsTemplateError source.text e)
 tree_or_error source short =
     decided source short
     (outcome source (length source.text) nothing_read source.text short (omega arith) (read_none source))
 
-pub tree_if_no_error : (source : Source) → length source.text ≤ TEXT_LIMIT
-    → ((e : TemplateError) → IsTemplateError source.text e → ⊥) → (tree : Nodes) × Spells source tree
-tree_if_no_error source short none =
-    elim (tree_or_error source short) [ inl t ↦ t | inr f ↦ absurd (none f.0 f.1) ]
+same_outcome : (source : Source) (a b : Result Nodes TemplateError) → IsRead source a → IsRead source b → a ≡ b
+same_outcome source (Ok t) (Ok u) p q = ap Ok (one_tree source t u p q)
+same_outcome source (Ok t) (Err e) p q = absurd (never_both source t e p q)
+same_outcome source (Err e) (Ok t) p q = absurd (never_both source t e q p)
+same_outcome source (Err d) (Err e) p q = ap Err (one_error source.text d e p q)
+
+-- a source is read so, and as nothing else
+abbrev IsOutcome : Source → Result Nodes TemplateError → Type 0
+IsOutcome source outcome =
+    IsRead source outcome × ((other : Result Nodes TemplateError) → IsRead source other → outcome ≡ other)
+
+is_outcome : (source : Source) (outcome : Result Nodes TemplateError) → IsRead source outcome
+    → IsOutcome source outcome
+is_outcome source outcome is = (is, λ other h. same_outcome source outcome other is h)
+
+too_long : TemplateError
+too_long = record { kind = TooLong; at = TEXT_LIMIT }
+
+is_too_long : (source : Source) → TEXT_LIMIT < length source.text → IsRead source (Err too_long)
+unfolding too_long
+is_too_long source long = (long, refl)
+
+pub one_outcome : (source : Source) → (outcome : Result Nodes TemplateError) × IsOutcome source outcome
+one_outcome source = elim (cases_Bool (nat_le (length source.text) TEXT_LIMIT)) [
+  | inl t ↦ elim (tree_or_error source (leb-true (length source.text) TEXT_LIMIT t)) [
+    | inl tree ↦ (Ok tree.0, is_outcome source (Ok tree.0) tree.1)
+    | inr error ↦ (Err error.0, is_outcome source (Err error.0) error.1)
+  ]
+  | inr f ↦
+      (Err too_long, is_outcome source (Err too_long) (is_too_long source
+      (leb-false (length source.text) TEXT_LIMIT f)))
+]

@@ -4,7 +4,7 @@ use Rattle.std.proofs.Common.{inl, inr, codes, refl, ap, subst, arith}
 use Rattle.template_words.specs.declared.error.TagError.{TagError}
 use Rattle.template_words.specs.declared.error.TagError.TheVariants as errors
 use Rattle.template_words.specs.Marks.{offset_of}
-use Rattle.template_words.specs.Paths.{reference_from, step_of}
+use Rattle.template_words.specs.Inner.PathReads.{reference_from, step_of}
 use Rattle.template_tags.specs.declared.level.Block.TheVariants.{If}
 use Rattle.template_tags.specs.declared.level.Level.{Level}
 use Rattle.template_tags.specs.Said.{tag_said}

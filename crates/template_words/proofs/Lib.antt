@@ -5,3 +5,4 @@ pub mod Steps
 pub mod Closes
 pub mod Numbers
 pub mod Literals
+pub mod Spelled

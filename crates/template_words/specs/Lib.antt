@@ -6,6 +6,8 @@ pub mod Words
 pub mod Literals
 pub mod Paths
 pub mod Names
+pub mod Spelled
 pub mod Reading
 pub mod Views
 pub mod Laws
+pub mod Inner

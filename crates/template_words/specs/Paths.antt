@@ -1,5 +1,5 @@
--- Which word of a tag spells which path (Handlebars' paths with `.`, `..`, `this` and `[segment literals]`).
-use Rattle.std.specs.Prelude.{ℕ, ◌+◌, ◌==◌, Bool, true, false, ◌&&◌, ◌||◌, not, List, [], ◌∷◌}
+-- Names and steps of paths, and what a path means (Handlebars' paths). `Spelled` says which word spells which path.
+use Rattle.std.specs.Prelude.{ℕ, ◌==◌, Bool, true, false, ◌&&◌, ◌||◌, not, List, [], ◌∷◌}
 use Rattle.std.specs.Prelude.{map, Option, Some, None, Result, Ok, Err, if◌then◌else◌, codes}
 use Rattle.std.specs.Char.{to_ascii_lowercase}
 use Rattle.std.specs.List.{list_any, list_all}
@@ -8,13 +8,11 @@ use Rattle.data_tree.specs.Digits.{index_of}
 use Rattle.data_tree.specs.declared.step.Step.{Step}
 use Rattle.data_tree.specs.declared.step.Step.TheVariants.{Name, Index}
 use Rattle.template_words.specs.declared.error.TagError.{TagError}
-use Rattle.template_words.specs.declared.error.TagError.TheVariants.{BadPath, UnsupportedTag}
+use Rattle.template_words.specs.declared.error.TagError.TheVariants.{UnsupportedTag}
 use Rattle.template_words.specs.declared.reference.Reference.{Reference}
 use Rattle.template_words.specs.declared.reference.Reference.TheVariants.{Root, Item}
 use Rattle.template_words.specs.Bytes.{dot, open_bracket, close_bracket}
-use Rattle.template_words.specs.Marks.{begins}
-use Rattle.template_words.specs.Reading.{◌>>=◌}
-use Rattle.template_words.specs.Words.{is_nil, enclosed}
+use Rattle.template_words.specs.Words.{is_nil}
 
 -- the bytes that a name outside of brackets can't have
 abbrev pub no_name_bytes : List ℕ
@@ -32,17 +30,6 @@ step_of_index (Some index) text = Index index
 
 abbrev pub step_named : List ℕ → Step
 step_named text = step_of_index (index_of text) text
-
-abbrev pub name_step : List ℕ → Result Step TagError
-name_step text = if is_name text then Ok (step_named text) else Err BadPath
-
-abbrev pub bracketed_step : List ℕ → Option (List ℕ) → Result Step TagError
-bracketed_step text None = name_step text
-bracketed_step text (Some inner) = Ok (step_named inner)
-
--- a name, or any text without `]` in brackets
-unfoldable pub step_of : List ℕ → Result Step TagError
-step_of text = bracketed_step text (enclosed (codes "[") (codes "]") text)
 
 abbrev pub onto_first : ℕ → List (List ℕ) → List (List ℕ)
 onto_first b [] = (b ∷ []) ∷ []
@@ -63,11 +50,6 @@ abbrev pub parts_of : Bool → List ℕ → List (List ℕ)
 parts_of inside [] = [] ∷ []
 parts_of inside (b ∷ bs) =
     if is_separator inside b then [] ∷ parts_of false bs else onto_first b (parts_of (next_in_bracket inside b) bs)
-
--- each part as a step
-abbrev pub all_steps : List (List ℕ) → Result (List Step) TagError
-all_steps [] = Ok []
-all_steps (part ∷ parts) = step_of part >>= λ step. all_steps parts >>= λ steps. Ok (step ∷ steps)
 
 abbrev pub is_step : List ℕ → Step → Bool
 is_step name (Name text) = bytes_eq text name
@@ -119,23 +101,3 @@ reference_at depth steps =
 
 abbrev pub unreserved : ℕ → List Step → Result Reference TagError
 unreserved depth steps = if is_reserved steps then Err UnsupportedTag else Ok (reference_at depth steps)
-
--- what the rest of a word, after `depth` times `../`, refers to
-abbrev pub reference_below : ℕ → List ℕ → Result Reference TagError
-reference_below depth text =
-    if bytes_eq text (codes ".") then Ok (Item depth [])
-    else if bytes_eq text (codes "..") then Ok (Item (depth + 1) [])
-    else if begins (codes "[") text then Err BadPath
-    else (all_steps (parts_of false text) >>= unreserved depth)
-
--- what a word refers to that comes after `depth` times `../`
-unfoldable pub reference_from : ℕ → List ℕ → Result Reference TagError
-reference_from depth [] = reference_below depth []
-reference_from depth (a ∷ []) = reference_below depth (a ∷ [])
-reference_from depth (a ∷ b ∷ []) = reference_below depth (a ∷ b ∷ [])
-reference_from depth (a ∷ b ∷ c ∷ text) =
-    if begins (codes "../") (a ∷ b ∷ c ∷ text) then reference_from (depth + 1) text
-    else reference_below depth (a ∷ b ∷ c ∷ text)
-
-abbrev pub reference_of : List ℕ → Result Reference TagError
-reference_of text = reference_from 0 text

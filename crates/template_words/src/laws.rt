@@ -1,7 +1,11 @@
-// Laws over the definitions of marks and closes, each on a function that does nothing.
-ghost use Rattle.std.specs.Prelude.{◌≡◌, ◌<◌, ◌↔◌, ℕ, List, Some, length};
+// Laws over the definitions of marks, closes and paths, each on a function that does nothing.
+ghost use Rattle.std.specs.Prelude.{◌≡◌, ◌<◌, ◌↔◌, ℕ, List, Some, Result, length};
 ghost use Rattle.template_words.specs.Laws.{IsFirstMark, IsFirstClose};
 ghost use Rattle.template_words.specs.Marks.{offset_of, close_from, around};
+ghost use Rattle.template_words.specs.Inner.PathReads.{reference_of};
+ghost use Rattle.template_words.specs.Spelled.{IsReadOf};
+ghost use Rattle.template_words.specs.declared.error.TagError.{TagError};
+ghost use Rattle.template_words.specs.declared.reference.Reference.{Reference};
 ghost use Rattle.template_words.specs.declared.mode.Mode.TheVariants.{Start};
 
 /// A mark is found at its first occurrence in a text.
@@ -15,4 +19,9 @@ pub fn law_first_close_is_found()
     ensures { (close text content rest : List ℕ) → 0 < length close →
         (around close text (close_from close Start text) ≡ Some (content, rest))
         ↔ IsFirstClose close text content rest }
+{}
+
+/// A word is read as the path that it spells, and is malformed exactly where it spells none.
+pub fn law_word_is_read_as_spelled()
+    ensures { (text : List ℕ) (read : Result Reference TagError) → (reference_of text ≡ read) ↔ IsReadOf text read }
 {}

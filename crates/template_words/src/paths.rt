@@ -3,11 +3,14 @@ ghost use Rattle.std.specs.Prelude.{◌≡◌, ◌+◌, ◌<◌, ◌^◌, false,
 ghost use Rattle.std.specs.Prelude.{slice_index, MatchOption, IfSome, IfNone};
 ghost use Rattle.std.specs.List.{list_all};
 ghost use Rattle.template_words.specs.Bytes.{dot};
-ghost use Rattle.template_words.specs.Paths.{is_name_byte, is_name, step_named, step_of, next_in_bracket, is_separator};
-ghost use Rattle.template_words.specs.Paths.{parts_of, all_steps, is_step, begins_with_step};
+ghost use Rattle.template_words.specs.Paths.{is_name_byte, is_name, step_named, next_in_bracket, is_separator};
+ghost use Rattle.template_words.specs.Inner.PathReads.{step_of};
+ghost use Rattle.template_words.specs.Paths.{parts_of, is_step, begins_with_step};
+ghost use Rattle.template_words.specs.Inner.PathReads.{all_steps};
 ghost use Rattle.template_words.specs.Paths.{rest_of_steps, is_reserved};
 ghost use Rattle.template_words.specs.Paths.{in_lower_case, names_header, header_in_lower_case};
-ghost use Rattle.template_words.specs.Paths.{reference_at, reference_below, reference_of};
+ghost use Rattle.template_words.specs.Paths.{reference_at};
+ghost use Rattle.template_words.specs.Inner.PathReads.{reference_below, reference_of};
 ghost use Rattle.template_words.specs.Reading.{Gives};
 
 use crate::error::{ReadError, TagError};
@@ -49,7 +52,7 @@ fn step_named(alloc: Global, text: &str) -> Result<Step, ReadError>
     }
 }
 
-#[tactic(auto, unfolding(crate::specs::Paths::step_of))]
+#[tactic(auto, unfolding(crate::specs::Inner::PathReads::step_of))]
 fn step_of(alloc: Global, text: &str) -> Result<Step, ReadError>
     ensures { Gives (λ step. step) result (step_of text.now) }
 {

@@ -1,20 +1,21 @@
 -- What a tag's parentheses group, as a pass over its items keeps it: groups as what they are read as.
-use Rattle.std.specs.Prelude.{ℕ, suc, min, max, Bool, true, false, not, ◌&&◌, List, [], ◌∷◌, map, Option}
-use Rattle.std.specs.Prelude.{None, Result, Err, if◌then◌else◌}
+use Rattle.std.specs.Prelude.{ℕ, suc, min, max, Bool, not, List, [], ◌∷◌, map, Option, Some, None, option_map}
+use Rattle.std.specs.Prelude.{Result, Err, if◌then◌else◌}
 use Rattle.helper_set.specs.declared.helper.Helper.{Helper}
 use Rattle.template_words.specs.Errors.{joined}
 use Rattle.template_words.specs.declared.error.TagError.{TagError}
 use Rattle.template_words.specs.declared.error.TagError.TheVariants.{UnknownHelper, WrongArguments, BadPath}
 use Rattle.template_words.specs.declared.error.TagError.TheVariants.{UnsupportedTag}
-use Rattle.template_tags.specs.Blocks.{only_one}
-use Rattle.template_tags.specs.Calls.{beside, error_if, error_in, errors_in, call_of, head_word, limited}
-use Rattle.template_tags.specs.Calls.{argument}
+use Rattle.template_tags.specs.Inner.BlockReads.{only_one}
+use Rattle.template_tags.specs.Inner.CallReads.{beside, error_if, error_in, errors_in, call_of, head_word, limited}
+use Rattle.template_tags.specs.Inner.CallReads.{argument}
 use Rattle.template_tags.specs.Expression.{Expression}
 use Rattle.template_tags.specs.Items.{Item, word, left_parenthesis, right_parenthesis}
-use Rattle.template_tags.specs.Said.{print_read}
+use Rattle.template_tags.specs.Inner.TagReads.{print_read}
 use Rattle.template_tags.specs.Tags.{Tag}
-use Rattle.template_tags.specs.Terms.{Term, single, group, Terms, no_terms, first_term, height, Nest}
-use Rattle.template_tags.specs.Words.{word_of, argument_word, lone_value}
+use Rattle.template_tags.specs.Terms.{Term, single, group, Terms, no_terms, first_term, height, terms_in, is_matched}
+use Rattle.template_tags.specs.Words.{word_of}
+use Rattle.template_tags.specs.Inner.WordReads.{argument_word, word_value, lone_value}
 use Rattle.template_tags.specs.declared.expression.TheConstants.{CALL_LIMIT}
 use Rattle.template_tags.specs.declared.level.Level.{Level}
 
@@ -23,10 +24,10 @@ pub data Piece : Type 0 where
   word_piece : List ℕ → Piece
   group_piece : Result Expression TagError → ℕ → Piece
 
-pub record PieceNest : Type 0 where
+-- the pieces of a tag, and whether its parentheses match; where they don't, the pieces are its words
+pub record Parts : Type 0 where
   pub pieces : List Piece
-  pub later : List (List Piece)
-  pub unclosed : Bool
+  pub matched : Bool
 
 -- ---- what terms are kept as
 
@@ -42,16 +43,17 @@ abbrev pub pieces_of : List Level → Terms → List Piece
 pieces_of levels no_terms = []
 pieces_of levels (first_term term terms) = piece_of levels term ∷ pieces_of levels terms
 
-abbrev pub nest_pieces : List Level → Nest → PieceNest
-nest_pieces levels nest =
-    record { pieces = pieces_of levels nest.terms; later = map (pieces_of levels) nest.later; unclosed = nest.unclosed }
+abbrev pub stack_pieces : List Level → Option (List Terms) → Option (List (List Piece))
+stack_pieces levels stack = option_map (map (pieces_of levels)) stack
 
-abbrev pub has_none : List (List Piece) → Bool
-has_none [] = true
-has_none (pieces ∷ later) = false
+abbrev pub parts_of : List Level → List Item → Parts
+parts_of levels items = record { pieces = pieces_of levels (terms_in items); matched = is_matched items }
 
-abbrev pub is_balanced : PieceNest → Bool
-is_balanced nest = not nest.unclosed && has_none nest.later
+abbrev pub word_pieces : List Item → List Piece
+word_pieces [] = []
+word_pieces (word text ∷ items) = word_piece text ∷ word_pieces items
+word_pieces (left_parenthesis ∷ items) = word_pieces items
+word_pieces (right_parenthesis ∷ items) = word_pieces items
 
 -- ---- how they are read
 
@@ -84,49 +86,37 @@ group_of_height h read = group_piece (limited h read) h
 abbrev pub grouped_pieces : List Level → List Piece → Piece
 grouped_pieces levels pieces = group_of_height (suc (min (greatest pieces) CALL_LIMIT)) (piece_call levels pieces)
 
-abbrev pub outer_pieces : Piece → List (List Piece) → Bool → PieceNest
-outer_pieces piece [] unclosed = record { pieces = piece ∷ []; later = []; unclosed = true }
-outer_pieces piece (outer ∷ later) unclosed = record { pieces = piece ∷ outer; later = later; unclosed = unclosed }
+abbrev pub piece_before : List Level → Item → Option (List (List Piece)) → Option (List (List Piece))
+piece_before levels (word text) (Some (pieces ∷ later)) = Some ((word_piece text ∷ pieces) ∷ later)
+piece_before levels right_parenthesis (Some later) = Some ([] ∷ later)
+piece_before levels left_parenthesis (Some (pieces ∷ outer ∷ later)) =
+    Some ((grouped_pieces levels pieces ∷ outer) ∷ later)
+piece_before levels item stack = None
 
-abbrev pub piece_before : List Level → Item → PieceNest → PieceNest
-piece_before levels (word text) nest =
-    record { pieces = word_piece text ∷ nest.pieces; later = nest.later; unclosed = nest.unclosed }
-piece_before levels right_parenthesis nest =
-    record { pieces = []; later = nest.pieces ∷ nest.later; unclosed = nest.unclosed }
-piece_before levels left_parenthesis nest =
-    outer_pieces (grouped_pieces levels nest.pieces) nest.later nest.unclosed
-
-abbrev pub pieces_before : List Level → List Item → PieceNest → PieceNest
-pieces_before levels [] nest = nest
-pieces_before levels (item ∷ items) nest = piece_before levels item (pieces_before levels items nest)
+abbrev pub pieces_before : List Level → List Item → Option (List (List Piece)) → Option (List (List Piece))
+pieces_before levels [] stack = stack
+pieces_before levels (item ∷ items) stack = piece_before levels item (pieces_before levels items stack)
 
 -- ---- what tags take of them
 
-abbrev pub unused_pieces : List Level → List (List Piece) → Option TagError
-unused_pieces levels [] = None
-unused_pieces levels (pieces ∷ later) =
-    joined (errors_in (piece_arguments levels pieces)) (unused_pieces levels later)
+abbrev pub parts_error : Parts → Option TagError
+parts_error parts = error_if BadPath (not parts.matched)
 
-abbrev pub pieces_error : List Level → Bool → List (List Piece) → Option TagError
-pieces_error levels balanced later = joined (error_if BadPath (not balanced)) (unused_pieces levels later)
+abbrev pub all_parts_error : List Level → Parts → Option TagError
+all_parts_error levels parts = joined (parts_error parts) (errors_in (piece_arguments levels parts.pieces))
 
-abbrev pub all_pieces_error : List Level → PieceNest → Option TagError
-all_pieces_error levels nest = unused_pieces levels (nest.pieces ∷ nest.later)
-
-abbrev pub block_pieces : List Level → PieceNest → Result Expression TagError
-block_pieces levels nest =
-    beside (pieces_error levels (is_balanced nest) nest.later) (only_one (piece_arguments levels nest.pieces))
+abbrev pub block_parts : List Level → Parts → Result Expression TagError
+block_parts levels parts = beside (parts_error parts) (only_one (piece_arguments levels parts.pieces))
 
 abbrev pub lone_piece : List Level → Bool → Piece → Result Expression TagError
-lone_piece levels balanced (word_piece text) = lone_value levels text (word_of text)
-lone_piece levels balanced (group_piece read h) = if balanced then Err UnsupportedTag else read
+lone_piece levels matched (word_piece text) =
+    if matched then lone_value levels text (word_of text) else word_value levels text (word_of text)
+lone_piece levels matched (group_piece read h) = Err UnsupportedTag
 
 abbrev pub value_pieces : List Level → Bool → List Piece → Result Expression TagError
-value_pieces levels balanced [] = Err BadPath
-value_pieces levels balanced (piece ∷ []) = lone_piece levels balanced piece
-value_pieces levels balanced (head ∷ piece ∷ pieces) = piece_call levels (head ∷ piece ∷ pieces)
+value_pieces levels matched [] = Err (if matched then UnsupportedTag else BadPath)
+value_pieces levels matched (piece ∷ []) = lone_piece levels matched piece
+value_pieces levels matched (head ∷ piece ∷ pieces) = piece_call levels (head ∷ piece ∷ pieces)
 
-abbrev pub print_pieces : List Level → PieceNest → Result Tag TagError
-print_pieces levels nest =
-    print_read (beside (pieces_error levels (is_balanced nest) nest.later)
-    (value_pieces levels (is_balanced nest) nest.pieces))
+abbrev pub print_parts : List Level → Parts → Result Tag TagError
+print_parts levels parts = print_read (beside (parts_error parts) (value_pieces levels parts.matched parts.pieces))

@@ -1,5 +1,5 @@
 -- What the values of this crate's private types are seen as.
-use Rattle.std.specs.Prelude.{List, map, reverse, Result, Ok, Err}
+use Rattle.std.specs.Prelude.{List, ◌∷◌, map, reverse, Option, option_map, Result, Ok, Err}
 use Rattle.std.specs.Global.{Vec}
 use Rattle.template_words.specs.declared.error.TagError.{TagError}
 use Rattle.template_tags.specs.Expression.{Expression, expression_view}
@@ -12,7 +12,8 @@ use Rattle.template_tags.specs.declared.word.Word.{Word}
 use Rattle.template_tags.specs.declared.word.Word.TheVariants as kinds
 use Rattle.template_tags.specs.declared.nest.Piece.{Piece}
 use Rattle.template_tags.specs.declared.nest.Piece.TheVariants as pieces
-use Rattle.template_tags.specs.declared.nest.Nest.{Nest}
+use Rattle.template_tags.specs.declared.nest.Stack.{Stack}
+use Rattle.template_tags.specs.declared.nest.Parts.{Parts}
 
 abbrev pub read_view : Result declared.Expression TagError → Result Expression TagError
 read_view (Ok x) = Ok (expression_view x)
@@ -40,12 +41,14 @@ pieces_view elements = map piece_view (reverse elements)
 abbrev pub later_view : List (Vec Piece) → List (List spelled.Piece)
 later_view lists = map (λ elements. pieces_view elements.items) (reverse lists)
 
-abbrev pub nest_view : Nest → spelled.PieceNest
-nest_view nest = record {
-  pieces = pieces_view nest.pieces.items;
-  later = later_view nest.later.items;
-  unclosed = nest.unclosed;
-}
+abbrev pub stack_view : Stack → List (List spelled.Piece)
+stack_view stack = pieces_view stack.pieces.items ∷ later_view stack.later.items
+
+abbrev pub grouped_view : Option (Vec Piece) → Option (List spelled.Piece)
+grouped_view found = option_map (λ elements. pieces_view elements.items) found
+
+abbrev pub parts_view : Parts → spelled.Parts
+parts_view parts = record { pieces = pieces_view parts.pieces.items; matched = parts.matched }
 
 abbrev pub said_view : Result tags.Tag TagError → Result Tag TagError
 said_view (Ok tag) = Ok (tag_view tag)

@@ -2,7 +2,7 @@ use Rattle.std.proofs.Common.{◌≡◌, ◌≤◌}
 use Rattle.template_code.specs.declared.limits.TheConstants.{MAX_INSTRUCTIONS}
 use Rattle.template_compile.specs.Compiled.{nodes_code}
 use Rattle.template_compile.specs.Inner.Drafts.{extended_by}
-use Rattle.template_compile.specs.Length.{nodes_length}
+use Rattle.template_compile.specs.Inner.Length.{nodes_length}
 use Rattle.template_tree.specs.Tree.{nodes_view}
 use Rattle.template_compile.proofs.compiler.+add_nodes.Given as goal
 

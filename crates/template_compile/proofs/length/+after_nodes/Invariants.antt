@@ -1,5 +1,5 @@
 use Rattle.std.proofs.Common.{◌≡◌, ◌+◌, drop}
-use Rattle.template_compile.specs.Length.{nodes_length}
+use Rattle.template_compile.specs.Inner.Length.{nodes_length}
 use Rattle.template_tree.specs.Tree.{nodes_view}
 use Rattle.template_compile.proofs.length.+after_nodes.Given as goal
 

@@ -1,6 +1,6 @@
 use Rattle.std.proofs.Common.{◌≡◌, length, map}
 use Rattle.template_words.specs.Errors.{joined}
-use Rattle.template_tags.specs.Calls.{errors_in}
+use Rattle.template_tags.specs.Inner.CallReads.{errors_in}
 use Rattle.template_tags.specs.Inner.Views.{read_view}
 use Rattle.template_tags.proofs.calls.errors_in.Given as goal
 

@@ -1,7 +1,7 @@
 use Rattle.std.proofs.Common.{◌≡◌, ◌≤◌, false, List, [], ◌∷◌, length, get_or, map, Result, IfOk, sym}
 use Rattle.std.proofs.Common.{ap, subst, ◌∙◌, arith}
 use Rattle.template_words.specs.declared.error.TagError.{TagError}
-use Rattle.template_tags.specs.Calls.{literal_in, body_call, json_path_call}
+use Rattle.template_tags.specs.Inner.CallReads.{literal_in, body_call, json_path_call}
 use Rattle.template_tags.specs.Expression as spelled
 use Rattle.template_tags.specs.Inner.Views.{read_view}
 use Rattle.template_tags.specs.declared.expression.Expression.{Expression}

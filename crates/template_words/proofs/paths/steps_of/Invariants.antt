@@ -1,7 +1,8 @@
 use Rattle.std.proofs.Common.{◌≡◌, false, length}
 use denote.Text.{Utf8}
 use denote.Shadow.{shadow}
-use Rattle.template_words.specs.Paths.{parts_of, all_steps}
+use Rattle.template_words.specs.Paths.{parts_of}
+use Rattle.template_words.specs.Inner.PathReads.{all_steps}
 use Rattle.template_words.proofs.Steps.{with_front}
 use Rattle.template_words.proofs.paths.steps_of.Given as goal
 

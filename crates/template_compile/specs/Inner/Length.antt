@@ -1,4 +1,4 @@
--- How many instructions a template's code has.
+-- How many instructions the parts of a template's code have, as they are counted before there is code.
 use Rattle.std.specs.Prelude.{ℕ, ◌+◌, Bool, true, false, length}
 use Rattle.helper_set.specs.Helpers.{signature_of}
 use Rattle.helper_set.specs.declared.kind.Kind.{Kind}

@@ -1,0 +1,2 @@
+-- What private contracts and proofs need.
+pub mod PathReads
