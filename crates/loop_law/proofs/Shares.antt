@@ -2,7 +2,7 @@
 use Rattle.std.proofs.Common.{◌≡◌, ℕ, Bool, true, false, true≢false, List, [], ◌∷◌, length, drop, refl}
 use Rattle.std.proofs.Common.{sym, ap, ◌∙◌, subst, arith}
 use Rattle.std.specs.Prelude.{if◌then◌else◌, ◌||◌}
-use Rattle.loop_law.specs.Course.{Cost, nothing, plus, of_turns, Course, same_nest, share}
+use Rattle.loop_law.specs.Inner.Course.{Cost, nothing, plus, of_turns, Course, same_nest, share}
 use Rattle.loop_law.proofs.Sums.{Le, turns-nothing}
 use Rattle.loop_law.proofs.Nests.{same-refl, same-true, differ-length, first_or, or-false, inside, inside-length}
 

@@ -1,0 +1,3 @@
+-- Definitions of the law, which only proofs need: no contract of another crate cites them.
+pub mod Course
+pub mod Run
