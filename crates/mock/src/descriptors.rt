@@ -10,19 +10,22 @@ use std::io::Write;
 /// How many connections may be open where descriptors suffice.
 const USUAL_CONNECTIONS: u64 = 900;
 
-/// Descriptors that are no connection's: the standard streams, what listens, a file, and what the event loop has.
-const OWN_DESCRIPTORS: u64 = 16;
+/// Descriptors that are no connection's: the standard streams, what listens, a file, and what wakes the process.
+const OWN_DESCRIPTORS: u64 = 12;
+
+/// Descriptors of each thread that serves.
+const THREAD_DESCRIPTORS: u64 = 4;
 
 /// How many connections may be open at a time: as many as the arguments say, or else as descriptors allow, which is
 /// said where it is fewer than usual.
-pub fn open_connections<E: Write>(given: Option<u64>, err: &mut E) -> u64 {
+pub fn open_connections<E: Write>(given: Option<u64>, threads: u64, err: &mut E) -> u64 {
     if let Some(count) = given {
         return count;
     }
     let Some(limit) = descriptor_limit() else {
         return USUAL_CONNECTIONS;
     };
-    let count = connections_within(limit);
+    let count = connections_within(limit, threads);
     if count < USUAL_CONNECTIONS {
         let _ = write!(
             err,
@@ -32,14 +35,14 @@ pub fn open_connections<E: Write>(given: Option<u64>, err: &mut E) -> u64 {
     count
 }
 
-// As many as there are descriptors for beside those of the process, and one at least.
-fn connections_within(limit: u64) -> u64
-    ensures { result ≡ connections_within limit }
+// As many as there are descriptors for beside those of the process and its threads, and one at least.
+fn connections_within(limit: u64, threads: u64) -> u64
+    ensures { result ≡ connections_within limit threads }
 {
-    limit
-        .saturating_sub(OWN_DESCRIPTORS)
-        .max(1)
-        .min(USUAL_CONNECTIONS)
+    let own = threads
+        .saturating_mul(THREAD_DESCRIPTORS)
+        .saturating_add(OWN_DESCRIPTORS);
+    limit.saturating_sub(own).max(1).min(USUAL_CONNECTIONS)
 }
 
 // How many descriptors the process may have, where the system says so.

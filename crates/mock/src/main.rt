@@ -9,6 +9,7 @@ mod descriptors;
 mod record;
 mod serve;
 mod server_log;
+mod serving_threads;
 mod streams;
 mod watch;
 
