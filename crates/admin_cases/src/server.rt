@@ -4,7 +4,8 @@
 use admin_answers::answer::answer_admin;
 use admin_routes::admin::admin;
 use admin_routes::call::AdminCall;
-use admin_table::route::is_admin;
+use admin_routes::router::AdminRoutes;
+use admin_routes::url::is_admin;
 use case_requests::octets::add_octets;
 use case_table::cells::Cells;
 use error_code::error_code::ErrorCode;
@@ -59,7 +60,9 @@ fn admin_reply<L: Origin, R: Wait>(
 }
 
 fn call_of(alloc: Global, request: &Snapshot) -> Result<AdminCall, ErrorCode> {
-    match admin(alloc, request.method(), request.url(), request.body()) {
+    let routes = AdminRoutes::new(alloc).map_err(|_error| ErrorCode::OutOfMemory)?;
+    let (method, url) = (request.method(), request.url());
+    match admin(alloc, &routes, method, url, request.body()) {
         Ok(call) => Ok(call),
         Err(error) => Err(error.error_code()),
     }

@@ -5,8 +5,8 @@ use Rattle.admin_routes.specs.declared.call.AdminCall.{AdminCall}
 use Rattle.admin_routes.specs.declared.error.AdminError.{AdminError}
 use Rattle.admin_routes.specs.declared.error.AdminError.TheVariants as error
 use Rattle.template_tree.specs.declared.escape.Escape.{Escape}
-use Rattle.admin_table.specs.Routes.{Names}
-use Rattle.admin_table.specs.declared.route.Route.{Route}
+use Rattle.admin_routes.specs.Routes.{Names}
+use Rattle.admin_routes.specs.declared.route.Route.{Route}
 
 pub is_call
     : (escape : Escape) (method url body : List ℕ) (r : Route) (result : Result AdminCall AdminError)

@@ -1,1 +1,4 @@
 pub mod CallLemmas
+pub mod PathLemmas
+pub mod RouteLemmas
+pub mod RowLemmas

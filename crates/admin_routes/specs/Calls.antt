@@ -4,14 +4,14 @@ use Rattle.admin_json.specs.Bodies.{IsRead, IsBodyError}
 use Rattle.admin_json.specs.Start.{reading_of_start}
 use Rattle.admin_json.specs.State.{AsksFor, IsStateError}
 use Rattle.admin_json.specs.declared.start.RecordingStart.{RecordingStart}
-use Rattle.admin_table.specs.Routes.{Names}
-use Rattle.admin_table.specs.Segment.{decoded}
+use Rattle.admin_routes.specs.Routes.{Names}
+use Rattle.admin_routes.specs.Segment.{decoded}
 use Rattle.admin_routes.specs.declared.call.AdminCall.{AdminCall}
 use Rattle.admin_routes.specs.declared.call.AdminCall.TheVariants as call
 use Rattle.admin_routes.specs.declared.error.AdminError.{AdminError}
 use Rattle.admin_routes.specs.declared.error.AdminError.TheVariants as error
-use Rattle.admin_table.specs.declared.route.Route.{Route}
-use Rattle.admin_table.specs.declared.route.Route.TheVariants as route
+use Rattle.admin_routes.specs.declared.route.Route.{Route}
+use Rattle.admin_routes.specs.declared.route.Route.TheVariants as route
 use Rattle.json_reading.specs.declared.reading.Reading.TheVariants.{Read}
 use Rattle.mapping_json.specs.Spelling.{SpellsDocument, IsDocumentError}
 use Rattle.mapping_model.specs.declared.mapping_spec.MappingSpec.{MappingSpec}

@@ -3,17 +3,18 @@ ghost use Rattle.std.specs.Prelude.{◌≡◌, ℕ, List, Some, None, IfOk, IfEr
 ghost use Rattle.admin_routes.specs.Calls.{IsCall, IsCallOf, IsAdminError, IsRefusalOf};
 ghost use Rattle.admin_routes.specs.declared.call.AdminCall.TheVariants as call;
 ghost use Rattle.admin_routes.specs.declared.error.AdminError.TheVariants.{UnknownMapping};
-ghost use Rattle.admin_table.specs.declared.route.Route.TheVariants as route;
+ghost use Rattle.admin_routes.specs.declared.route.Route.TheVariants as route;
 ghost use Rattle.template_tree.specs.declared.escape.Escape.{Escape};
 ghost use Rattle.template_tree.specs.declared.escape.Escape.TheVariants.{Off};
 ghost use Rattle.uuid.specs.Text.{parsed};
 
 use crate::call::AdminCall;
 use crate::error::AdminError;
+use crate::route::Route;
+use crate::router::AdminRoutes;
+use crate::segment::Segment;
 use admin_json::start::start_of;
 use admin_json::state::state_of;
-use admin_table::route::{Route, route_of};
-use admin_table::segment::Segment;
 use mapping_json::read::read_mapping_with;
 use mapping_json::read_request::read_request;
 use mapping_model::mapping_id::MappingId;
@@ -24,16 +25,23 @@ use template_tree::escape::Escape;
 /// doesn't have are reported without memory, then an id that is none, then what is wrong with the body.
 ///
 /// No template of a posted mapping escapes.
-pub fn admin(alloc: Global, method: &str, url: &str, body: &[u8]) -> Result<AdminCall, AdminError>
+pub fn admin(
+    alloc: Global,
+    routes: &AdminRoutes,
+    method: &str,
+    url: &str,
+    body: &[u8],
+) -> Result<AdminCall, AdminError>
     ensures ok { IfOk result (IsCall Off method.now url.now body.now) }
     ensures error { IfErr result (IsAdminError Off method.now url.now body.now) }
 {
-    admin_with(alloc, method, url, body, Escape::Off)
+    admin_with(alloc, routes, method, url, body, Escape::Off)
 }
 
 /// The same, where the prints of the templates of posted mappings are escaped so.
 pub fn admin_with(
     alloc: Global,
+    routes: &AdminRoutes,
     method: &str,
     url: &str,
     body: &[u8],
@@ -42,7 +50,7 @@ pub fn admin_with(
     ensures ok { IfOk result (IsCall escape method.now url.now body.now) }
     ensures error { IfErr result (IsAdminError escape method.now url.now body.now) }
 {
-    match route_of(method, url) {
+    match routes.route_of(method, url) {
         Some(route) => call_of(alloc, &route, body, escape),
         None => Err(AdminError::UnknownCall),
     }

@@ -1,8 +1,18 @@
 // Which admin call a request is (WireMock's documentation, "Admin API"): what its method, its path and its body ask
-// for. Contracts cite `specs/Calls.antt` (what each call of the table takes of its body, and why one is refused) and
-// `specs/Errors.antt` (the code of each error).
+// for. Paths are found by `matchit`, in a router that is made once. Contracts cite `specs/Places.antt` (the paths),
+// `specs/Routes.antt` (the calls with their methods and paths), `specs/Calls.antt` (what each call takes of its path and
+// its body, and why one is refused), `specs/Segment.antt` (what is in the place of a name) and `specs/Errors.antt` (the
+// code of each error).
 #![tactic(auto)]
 
 pub mod admin;
 pub mod call;
 pub mod error;
+pub mod route;
+pub mod router;
+pub mod segment;
+pub mod url;
+
+mod methods;
+mod place;
+mod table;

@@ -3,6 +3,7 @@ mod ForeignLemmas
 mod HeaderLemmas
 mod MessageLemmas
 pub mod RenderedLemmas
+mod RefusedLemmas
 mod RenderingLemmas
 mod ResultLemmas
 mod ServeLemmas

@@ -1,7 +1,7 @@
 -- What a message begins, by what its request does.
 use Rattle.std.proofs.Common.{◌≡◌, ◌≤◌, ◌<◌, ℕ, List, All, length, Ok, Err, refl, subst, sym, inr}
-use Rattle.std.specs.Prelude.{Result, IsErrOf, MatchResult}
-use Rattle.admin_table.specs.Routes.{IsAdmin}
+use Rattle.std.specs.Prelude.{Option, Result, IsErrOf, MatchResult}
+use Rattle.admin_routes.specs.Routes.{IsAdmin}
 use Rattle.http.specs.Request.{body_of}
 use Rattle.http.specs.declared.request.Request.{Request as Message}
 use Rattle.http_header.specs.FieldName.{IsHeaderName}
@@ -12,7 +12,7 @@ use Rattle.answering.specs.Inner.Sent.{HasBegun, IsRequestToForward, IsRequestTo
 use Rattle.answering.specs.Rendering.{IsToRender, rendering_receipt}
 use Rattle.answering.specs.Served.{GainsServe}
 use Rattle.answering.specs.declared.begun.Begun.{Begun}
-use Rattle.answering.specs.declared.begun.Begun.TheVariants.{Answered, ToForward, ToRender}
+use Rattle.answering.specs.declared.begun.Begun.TheVariants.{Answered, Refused, ToForward, ToRender}
 use Rattle.answering.specs.declared.forward.Forward.{Forward}
 use Rattle.answering.specs.declared.rendering.Rendering.{Rendering}
 use Rattle.logbook.specs.Pages.{Book}
@@ -68,40 +68,52 @@ to_render origin name limits old middle new message request rendering same recei
 }
 
 -- its request begins what the message begins
-pub of_request : {E : Type 0} (origin : Past) (name : Book) (limits : Limits) (escape : Escape) (old middle new : Held)
+pub of_request : {E : Type 0} (origin : Past) (name : Book) (limits : Limits) (escape : Escape)
+    (page : Option (List ℕ)) (old middle new : Held)
     (message : Message (List ℕ)) (request : Request) (result : Result Begun E)
     → middle ≡ old → IsReceived message request → length (body_of message) ≤ BODY_LIMIT
     → All (λ (h : Header). IsHeaderName h.name) request.headers
     → MatchResult result
-    (HasBegun (IsRequestAnswered origin name limits escape middle new request)
+    (HasBegun (IsRequestAnswered origin name limits escape page middle new request)
     (IsRequestToForward origin name middle new request) (IsRequestToRender origin name limits middle new request))
-    (λ _. (reply : Reply) × IsRequestAnswered origin name limits escape middle new request reply)
+    (λ _. (reply : Reply) × IsRequestAnswered origin name limits escape page middle new request reply)
     → MatchResult result
-    (HasBegun (IsReply origin name limits escape old new message) (IsToForward origin name old new message)
+    (HasBegun (IsReply origin name limits escape page old new message) (IsToForward origin name old new message)
     (IsToRender origin name limits old new message))
-    (λ _. IsNotBegun origin name limits escape old new message)
-of_request origin name limits escape old middle new message request (Ok (Answered response)) same received within
+    (λ _. IsNotBegun origin name limits escape page old new message)
+of_request origin name limits escape page old middle new message request (Ok (Answered response)) same received within
     names is = (
       is.0,
       inr (
         request,
         received,
         within,
-        subst (λ held. IsRequestAnswered origin name limits escape held new request is.0) same is.1,
+        subst (λ held. IsRequestAnswered origin name limits escape page held new request is.0) same is.1,
       ),
       is.2,
     )
-of_request origin name limits escape old middle new message request (Ok (ToForward forward)) same received within
+of_request origin name limits escape page old middle new message request (Ok (Refused refused)) same received within
+    names is = (
+      is.0,
+      inr (
+        request,
+        received,
+        within,
+        subst (λ held. IsRequestAnswered origin name limits escape page held new request is.0) same is.1,
+      ),
+      is.2,
+    )
+of_request origin name limits escape page old middle new message request (Ok (ToForward forward)) same received within
     names is = to_forward origin name old middle new message request forward same received within names is
-of_request origin name limits escape old middle new message request (Ok (ToRender rendering)) same received within
+of_request origin name limits escape page old middle new message request (Ok (ToRender rendering)) same received within
     names is = to_render origin name limits old middle new message request rendering same received within is
-of_request origin name limits escape old middle new message request (Err error) same received within names is = (
+of_request origin name limits escape page old middle new message request (Err error) same received within names is = (
   is.0,
   inr (
     request,
     received,
     within,
-    subst (λ held. IsRequestAnswered origin name limits escape held new request is.0) same is.1,
+    subst (λ held. IsRequestAnswered origin name limits escape page held new request is.0) same is.1,
   ),
 )
 

@@ -1,6 +1,6 @@
 -- A response that is rendered after its serve is one that may be given at once.
 use Rattle.std.proofs.Common.{◌≡◌, ℕ, List, Ok, Err, refl, subst, sym, inl, inr}
-use Rattle.std.specs.Prelude.{Result, IfErr, IfOk}
+use Rattle.std.specs.Prelude.{Option, Result, IfErr, IfOk}
 use Rattle.std.specs.declared.alloc.AllocError.{AllocError}
 use Rattle.error_code.specs.declared.error_code.ErrorCode.TheVariants.{OutOfMemory}
 use Rattle.http.specs.declared.request.Request.{Request as Message}
@@ -17,11 +17,12 @@ use Rattle.stub_response.specs.Response.{IsRendering}
 use Rattle.stub_response.specs.declared.limits.Limits.{Limits}
 use Rattle.template_tree.specs.declared.escape.Escape.{Escape}
 
-module _ (origin : Past) (name : Book) (limits : Limits) (escape : Escape) (old new : Held) (message : Message (List ℕ))
+module _ (origin : Past) (name : Book) (limits : Limits) (escape : Escape) (page : Option (List ℕ)) (old new : Held)
+    (message : Message (List ℕ))
     (rendering : Rendering) (begun : IsToRender origin name limits old new message rendering) where
   -- a reply of the version of the receipt
   is_reply : (reply : Reply) → IsRenderedReply rendering reply
-      → IsReply origin name limits escape old new message reply
+      → IsReply origin name limits escape page old new message reply
   is_reply reply is =
       let right = subst (λ kept. IsRendering kept rendering.captured.mapping.spec rendering.request reply)
       begun.kept_to is in
@@ -36,7 +37,7 @@ module _ (origin : Past) (name : Book) (limits : Limits) (escape : Escape) (old 
       )
 
   -- memory ran out
-  no_memory : IsReply origin name limits escape old new message (error_reply 503 OutOfMemory)
+  no_memory : IsReply origin name limits escape page old new message (error_reply 503 OutOfMemory)
   no_memory =
       inr (
         rendering.request,
@@ -50,9 +51,9 @@ module _ (origin : Past) (name : Book) (limits : Limits) (escape : Escape) (old 
 
   pub is_begun : (rendered : Result Reply AllocError) (response : Response (List ℕ))
       → IfOk rendered (IsRenderedReply rendering) → IsResponseOfRendered rendered response
-      → IsBegun origin name limits escape old new message response
+      → IsBegun origin name limits escape page old new message response
   is_begun (Ok reply) response is of = (reply, is_reply reply is, of)
   is_begun (Err error) response is of = (error_reply 503 OutOfMemory, no_memory, inl of)
 
-  pub is_not_begun : IsNotBegun origin name limits escape old new message
+  pub is_not_begun : IsNotBegun origin name limits escape page old new message
   is_not_begun = (error_reply 503 OutOfMemory, no_memory)

@@ -8,7 +8,7 @@ use Rattle.answering.specs.Inner.Sent.{HasBegun, IsForwardOf, IsRenderingOf, IsS
 use Rattle.answering.specs.Rendering.{rendering_receipt}
 use Rattle.answering.specs.Served.{GainsServe, IsEventReply}
 use Rattle.answering.specs.declared.begun.Begun.{Begun}
-use Rattle.answering.specs.declared.begun.Begun.TheVariants.{Answered, ToForward, ToRender}
+use Rattle.answering.specs.declared.begun.Begun.TheVariants.{Answered, Refused, ToForward, ToRender}
 use Rattle.answering.specs.declared.forward.Forward.{Forward}
 use Rattle.answering.specs.declared.rendering.Rendering.{Rendering}
 use Rattle.logbook.specs.Pages.{Book}
@@ -65,6 +65,8 @@ pub of_event : {E : Type 0} (origin : Past) (name : Book) (limits : Limits) (old
     (IsServedToRender origin name limits old new request))
     (λ _. (reply : Reply) × IsServeAnswered origin name limits old new request reply)
 of_event origin name limits old new request receipt (Ok (Answered response)) gains (reply, is, of) =
+    (reply, inl (receipt, gains, is), of)
+of_event origin name limits old new request receipt (Ok (Refused refused)) gains (reply, is, of) =
     (reply, inl (receipt, gains, is), of)
 of_event origin name limits old new request receipt (Ok (ToForward forward)) gains is =
     to_forward origin name old new request forward

@@ -1,6 +1,6 @@
 -- How a message is answered.
-use Rattle.std.specs.Prelude.{◌≡◌, ◌⊎◌, ◌<◌, ◌≤◌, ℕ, List, IfOk, Result, length}
-use Rattle.admin_table.specs.Routes.{IsAdmin}
+use Rattle.std.specs.Prelude.{◌≡◌, ◌⊎◌, ◌<◌, ◌≤◌, ℕ, List, IfOk, Option, Result, length}
+use Rattle.admin_routes.specs.Routes.{IsAdmin}
 use Rattle.error_code.specs.declared.error_code.ErrorCode.{ErrorCode}
 use Rattle.error_code.specs.declared.error_code.ErrorCode.TheVariants.{BadUrl, OutOfMemory, TooLarge}
 use Rattle.http.specs.Request.{body_of}
@@ -11,7 +11,7 @@ use Rattle.answering.specs.Forwarding.{IsFinished, IsToForward}
 use Rattle.answering.specs.Rendering.{IsToRender}
 use Rattle.answering.specs.Reply.{IsResponseOf}
 use Rattle.answering.specs.declared.begun.Begun.{Begun}
-use Rattle.answering.specs.declared.begun.Begun.TheVariants.{Answered, ToForward, ToRender}
+use Rattle.answering.specs.declared.begun.Begun.TheVariants.{Answered, Refused, ToForward, ToRender}
 use Rattle.answering.specs.declared.forward.Forward.{Forward}
 use Rattle.logbook.specs.Pages.{Book}
 use Rattle.mapping_model.specs.declared.reply.Reply.{Reply}
@@ -38,9 +38,9 @@ IsServeAnswered origin name limits old new request reply =
     ⊎ ((reason : ErrorCode) × IsNotServed origin name old new request reason × (reply ≡ error_reply 503 reason))
 
 -- the reply to a request that isn't forwarded
-abbrev pub IsRequestAnswered : Past → Book → Limits → Escape → Held → Held → Request → Reply → Type 0
-IsRequestAnswered origin name limits escape old new request reply =
-    (IsAdmin request.url × IsAdminAnswered origin name escape old new request reply)
+abbrev pub IsRequestAnswered : Past → Book → Limits → Escape → Option (List ℕ) → Held → Held → Request → Reply → Type 0
+IsRequestAnswered origin name limits escape page old new request reply =
+    (IsAdmin request.url × IsAdminAnswered origin name escape page old new request reply)
     ⊎ (¬ (IsAdmin request.url) × IsServeAnswered origin name limits old new request reply)
 
 -- the reply to a message that isn't read: its target is bad, or else its body is too large; or memory ran out
@@ -60,34 +60,37 @@ abbrev pub IsNotRead : Held → Held → Message (List ℕ) → Reply → Type 0
 IsNotRead old new message reply =
     (new ≡ old) × ((error : SnapshotError) × IsUnread message error × (reply ≡ refusal error))
 
-abbrev pub IsRead : Past → Book → Limits → Escape → Held → Held → Message (List ℕ) → Reply → Type 0
-IsRead origin name limits escape old new message reply =
+abbrev pub IsRead : Past → Book → Limits → Escape → Option (List ℕ) → Held → Held → Message (List ℕ) → Reply → Type 0
+IsRead origin name limits escape page old new message reply =
     (request : Request) × IsReceived message request × (length (body_of message) ≤ BODY_LIMIT)
-    × IsRequestAnswered origin name limits escape old new request reply
+    × IsRequestAnswered origin name limits escape page old new request reply
 
 -- the reply to a message that isn't forwarded, and what the seat has gained by it
-abbrev pub IsReply : Past → Book → Limits → Escape → Held → Held → Message (List ℕ) → Reply → Type 0
-IsReply origin name limits escape old new message reply =
-    IsNotRead old new message reply ⊎ IsRead origin name limits escape old new message reply
+abbrev pub IsReply : Past → Book → Limits → Escape → Option (List ℕ) → Held → Held → Message (List ℕ) → Reply → Type 0
+IsReply origin name limits escape page old new message reply =
+    IsNotRead old new message reply ⊎ IsRead origin name limits escape page old new message reply
 
 -- the response is that of the reply; or memory ran out while it was written
-abbrev pub IsBegun : Past → Book → Limits → Escape → Held → Held → Message (List ℕ)
+abbrev pub IsBegun : Past → Book → Limits → Escape → Option (List ℕ) → Held → Held → Message (List ℕ)
     → Response (List ℕ) → Type 0
-IsBegun origin name limits escape old new message response =
-    (reply : Reply) × IsReply origin name limits escape old new message reply
+IsBegun origin name limits escape page old new message response =
+    (reply : Reply) × IsReply origin name limits escape page old new message reply
     × (IsResponseOf reply response ⊎ IsResponseOf (error_reply 503 OutOfMemory) response)
 
 -- there is no response, and the seat is as one of its replies leaves it
-abbrev pub IsNotBegun : Past → Book → Limits → Escape → Held → Held → Message (List ℕ) → Type 0
-IsNotBegun origin name limits escape old new message =
-    (reply : Reply) × IsReply origin name limits escape old new message reply
+abbrev pub IsNotBegun : Past → Book → Limits → Escape → Option (List ℕ) → Held → Held → Message (List ℕ) → Type 0
+IsNotBegun origin name limits escape page old new message =
+    (reply : Reply) × IsReply origin name limits escape page old new message reply
 
 -- what is answered at once, or is to be forwarded or rendered
-abbrev pub Begins : Past → Book → Limits → Escape → Held → Held → Message (List ℕ) → Begun → Type 0
-Begins origin name limits escape old new message (Answered response) =
-    IsBegun origin name limits escape old new message response
-Begins origin name limits escape old new message (ToForward forward) = IsToForward origin name old new message forward
-Begins origin name limits escape old new message (ToRender rendering) =
+abbrev pub Begins : Past → Book → Limits → Escape → Option (List ℕ) → Held → Held → Message (List ℕ) → Begun → Type 0
+Begins origin name limits escape page old new message (Answered response) =
+    IsBegun origin name limits escape page old new message response
+Begins origin name limits escape page old new message (Refused refused) =
+    IsBegun origin name limits escape page old new message refused.value.response
+Begins origin name limits escape page old new message (ToForward forward) =
+    IsToForward origin name old new message forward
+Begins origin name limits escape page old new message (ToRender rendering) =
     IsToRender origin name limits old new message rendering
 
 -- the message was forwarded after the first of its events, and this is the response to what came of that
@@ -101,15 +104,16 @@ pub record IsAnsweredLater (origin : Past) (name : Book) (old new : Held) (messa
   pub finished : IsFinished origin name middle new forward forwarded response
 
 -- the response to a message, and what the seat has gained by it
-abbrev pub IsAnswered : Past → Book → Limits → Escape → Held → Held → Message (List ℕ)
+abbrev pub IsAnswered : Past → Book → Limits → Escape → Option (List ℕ) → Held → Held → Message (List ℕ)
     → Response (List ℕ) → Type 0
-IsAnswered origin name limits escape old new message response =
-    IsBegun origin name limits escape old new message response ⊎ IsAnsweredLater origin name old new message response
+IsAnswered origin name limits escape page old new message response =
+    IsBegun origin name limits escape page old new message response
+    ⊎ IsAnsweredLater origin name old new message response
 
 -- there is none, and the seat is as a reply leaves it, or has made no call since the first event of what is to be
 -- forwarded
-abbrev pub IsNotAnswered : Past → Book → Limits → Escape → Held → Held → Message (List ℕ) → Type 0
-IsNotAnswered origin name limits escape old new message =
-    IsNotBegun origin name limits escape old new message
+abbrev pub IsNotAnswered : Past → Book → Limits → Escape → Option (List ℕ) → Held → Held → Message (List ℕ) → Type 0
+IsNotAnswered origin name limits escape page old new message =
+    IsNotBegun origin name limits escape page old new message
     ⊎ ((forward : Forward) × (middle : Held) × IsToForward origin name old middle message forward
     × HasMadeNoCall origin name middle new)

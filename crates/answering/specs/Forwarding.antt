@@ -3,7 +3,7 @@
 use Rattle.std.specs.Prelude.{◌≡◌, ◌⊎◌, ◌≤◌, ℕ, Bool, List, Ok, Err, Result, false}
 use Rattle.std.specs.Prelude.{if◌then◌else◌, length, true, All}
 use Rattle.admin_answers.specs.Answers.{Gains}
-use Rattle.admin_table.specs.Routes.{IsAdmin}
+use Rattle.admin_routes.specs.Routes.{IsAdmin}
 use Rattle.answering.specs.Reply.{IsResponseOf}
 use Rattle.answering.specs.Served.{GainsServe}
 use Rattle.answering.specs.declared.forward.Forward.{Forward}

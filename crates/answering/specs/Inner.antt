@@ -1,2 +1,3 @@
 -- Words of private clauses.
+pub mod Outcome
 pub mod Sent

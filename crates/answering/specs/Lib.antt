@@ -4,6 +4,8 @@ pub mod Content
 pub mod Foreign
 pub mod Forwarding
 pub mod Inner
+pub mod Page
+pub mod Reason
 pub mod Rendering
 pub mod Reply
 pub mod Served

@@ -1,7 +1,7 @@
 -- How a request is answered whose response takes long to render, and so is rendered after the serve.
 use Rattle.std.specs.Prelude.{◌≡◌, ◌⊎◌, ◌≤◌, ℕ, Err, List, Ok, Result, length}
 use Rattle.std.specs.declared.alloc.AllocError.{AllocError}
-use Rattle.admin_table.specs.Routes.{IsAdmin}
+use Rattle.admin_routes.specs.Routes.{IsAdmin}
 use Rattle.answering.specs.Reply.{IsResponseOf}
 use Rattle.answering.specs.Served.{GainsServe}
 use Rattle.answering.specs.declared.rendering.Rendering.{Rendering}

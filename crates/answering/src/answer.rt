@@ -22,8 +22,9 @@ use std::net::Net;
 use std::random::RandomSource;
 use std::sync::Wait;
 
-/// Answers a message: begins, waits for the reply where it is to be forwarded, and finishes; or renders it. The events that were made
-/// before memory ran out stand, and the answer is 503. The error says that there was no memory for that 503 either.
+/// Answers a message: begins, waits for the reply where it is to be forwarded, and finishes; or renders it. The events
+/// that were made before memory ran out stand, and the answer is 503. The error says that there was no memory for that
+/// 503 either.
 pub fn answer<L: Origin, R, G: Gate, C: Clock>(
     rt: &R,
     alloc: Global,
@@ -34,12 +35,13 @@ pub fn answer<L: Origin, R, G: Gate, C: Clock>(
 where
     R: Wait + Net + std::time::Clock + RandomSource + AllocGlobal + Copy + Drop,
     ensures ok { IfOk result
-        (IsAnswered L.origin L.book site.now.limits site.now.escape seat.old seat.new message.now) }
+        (IsAnswered L.origin L.book site.now.limits site.now.escape site.now.page seat.old seat.new message.now) }
     ensures err { IfErr result (λ error. (error ≡ NoMemory)
-        × IsNotAnswered L.origin L.book site.now.limits site.now.escape seat.old seat.new message.now) }
+        × IsNotAnswered L.origin L.book site.now.limits site.now.escape site.now.page seat.old seat.new message.now) }
 {
     match begin(rt, alloc, site, seat, message) {
         Ok(Begun::Answered(response)) => Ok(response),
+        Ok(Begun::Refused(refused)) => Ok(Box::into_inner(refused).into_response()),
         Ok(Begun::ToForward(begun)) => {
             let forwarded = forward(rt, &begun.target, begun.request.request(), site.turns);
             finish(rt, alloc, site, seat, begun, forwarded)

@@ -20,8 +20,8 @@ use std::sync::Wait;
 
 /// Answers a message as far as that takes no other server. A request that is no admin call is one serve of the book.
 /// Its response is made after the lock was released; or it is to be forwarded, and `finish` takes what came of that; or
-/// it takes long and is to be rendered, as any thread may do. Where memory runs out after the serve, that stands, and the answer is 503. The error says that there was no memory
-/// for that 503 either.
+/// it takes long and is to be rendered, as any thread may do. Where memory runs out after the serve, that stands, and the
+/// answer is 503. The error says that there was no memory for that 503 either.
 pub fn begin<L: Origin, R: Wait, G: Gate, C: Clock>(
     rt: &R,
     alloc: Global,
@@ -29,9 +29,10 @@ pub fn begin<L: Origin, R: Wait, G: Gate, C: Clock>(
     seat: &mut Seat<L>,
     message: &Request<Bytes>,
 ) -> Result<Begun, ServiceError>
-    ensures ok { IfOk result (Begins L.origin L.book site.now.limits site.now.escape seat.old seat.new message.now) }
+    ensures ok { IfOk result (Begins L.origin L.book site.now.limits site.now.escape site.now.page seat.old seat.new
+        message.now) }
     ensures err { IfErr result (λ error. (error ≡ NoMemory)
-        × IsNotBegun L.origin L.book site.now.limits site.now.escape seat.old seat.new message.now) }
+        × IsNotBegun L.origin L.book site.now.limits site.now.escape site.now.page seat.old seat.new message.now) }
 {
     match begin_message(rt, alloc, site, seat, message) {
         Ok(begun) => Ok(begun),

@@ -4,23 +4,29 @@ ghost use Rattle.http.specs.Request.{body_of};
 ghost use Rattle.http_messages.specs.Received.{IsReceived, target_of};
 ghost use Rattle.mock_request.specs.Target.{HasUrl};
 ghost use Rattle.mock_request.specs.declared.snapshot.TheConstants.{BODY_LIMIT};
+ghost use Rattle.admin_answers.specs.Replies.{reply_of};
 ghost use Rattle.answering.specs.Admin.{IsAdminAnswered};
 ghost use Rattle.answering.specs.Answering.{IsNotBegun, IsReply, IsRequestAnswered, refusal};
 ghost use Rattle.answering.specs.Forwarding.{IsToForward};
-ghost use Rattle.answering.specs.Inner.Sent.{HasBegun, HasReply, IsRequestToForward, IsRequestToRender};
+ghost use Rattle.answering.specs.Inner.Outcome.{reply_in};
+ghost use Rattle.answering.specs.Inner.Sent.{HasBegun, IsBegunOf, IsRequestToForward, IsRequestToRender};
 ghost use Rattle.answering.specs.Rendering.{IsToRender};
 ghost use Rattle.answering.specs.Reply.{IsResponseOf};
 
-use crate::admin_answer::admin_answer;
+use crate::admin_answer::{AdminOutcome, admin_answer};
 use crate::begun::Begun;
 use crate::clock::Clock;
 use crate::content::Content;
+use crate::refused::Refused;
 use crate::response::{error_response, listed_response, response_of};
 use crate::serve::serve;
 use crate::site::Site;
 use admin_answers::admin_answer::AdminAnswer;
-use admin_table::route::is_admin;
+use admin_routes::router::AdminRoutes;
+use admin_routes::url::is_admin;
 use bytes::Bytes;
+use call_refusal::refusal::Refusal;
+use call_refusal::told::told_of;
 use error_code::error_code::ErrorCode;
 use http::{Request, Response};
 use http_messages::received::snapshot_of;
@@ -41,20 +47,17 @@ pub(crate) fn begin_message<L: Origin, R: Wait, G: Gate, C: Clock>(
     message: &Request<Bytes>,
 ) -> Result<Begun, AllocError>
     ensures { MatchResult result
-        (HasBegun (IsReply L.origin L.book site.now.limits site.now.escape seat.old seat.new message.now)
+        (HasBegun (IsReply L.origin L.book site.now.limits site.now.escape site.now.page seat.old seat.new message.now)
         (IsToForward L.origin L.book seat.old seat.new message.now)
         (IsToRender L.origin L.book site.now.limits seat.old seat.new message.now))
-        (λ _. IsNotBegun L.origin L.book site.now.limits site.now.escape seat.old seat.new message.now) }
+        (λ _. IsNotBegun L.origin L.book site.now.limits site.now.escape site.now.page seat.old seat.new message.now) }
 {
     match request_of(alloc, seat, message) {
         Ok(request) => {
             request.law_names();
             begin_request(rt, alloc, site, seat, request)
         }
-        Err(error) => {
-            let response = refusal_response(alloc, error)?;
-            Ok(Begun::Answered(response))
-        }
+        Err(error) => unread(alloc, &site.routes, message, error),
     }
 }
 
@@ -77,6 +80,40 @@ fn request_of<L: Origin>(
     request
 }
 
+// What is answered to a message that isn't read, and what there is to tell of one to the path of an admin call. Its
+// client isn't told more than the error.
+#[inline(never)]
+fn unread(
+    alloc: Global,
+    routes: &AdminRoutes,
+    message: &Request<Bytes>,
+    error: SnapshotError,
+) -> Result<Begun, AllocError>
+    ensures { IfOk result (IsBegunOf (refusal error)) }
+{
+    let response = refusal_response(alloc, error)?;
+    let path = message.uri().path();
+    if !is_admin(path) {
+        return Ok(Begun::Answered(response));
+    }
+    let why = Refusal::Unanswered(error.error_code());
+    let lines = match told_of(alloc, routes, message.method().as_str(), path, b"", why) {
+        Ok(told) => told.into_lines(),
+        Err(AllocError) => String::new(alloc),
+    };
+    refused_begun(alloc, response, lines)
+}
+
+fn refused_begun(
+    alloc: Global,
+    response: Response<Content>,
+    lines: String,
+) -> Result<Begun, AllocError>
+    ensures { (reply : _) → IsResponseOf reply response → IfOk result (IsBegunOf reply) }
+{
+    Ok(Begun::Refused(Box::new(alloc, Refused { response, lines })?))
+}
+
 // The response to a message that isn't read.
 fn refusal_response(alloc: Global, error: SnapshotError) -> Result<Response<Content>, AllocError>
     ensures { IfOk result (IsResponseOf (refusal error)) }
@@ -96,33 +133,58 @@ fn begin_request<L: Origin, R: Wait, G: Gate, C: Clock>(
     request: Snapshot,
 ) -> Result<Begun, AllocError>
     ensures { MatchResult result
-        (HasBegun (IsRequestAnswered L.origin L.book site.now.limits site.now.escape seat.old seat.new request)
+        (HasBegun
+        (IsRequestAnswered L.origin L.book site.now.limits site.now.escape site.now.page seat.old seat.new request)
         (IsRequestToForward L.origin L.book seat.old seat.new request)
         (IsRequestToRender L.origin L.book site.now.limits seat.old seat.new request))
-        (λ _. (reply : _) × IsRequestAnswered L.origin L.book site.now.limits site.now.escape seat.old
+        (λ _. (reply : _) × IsRequestAnswered L.origin L.book site.now.limits site.now.escape site.now.page seat.old
         seat.new request reply) }
 {
     if is_admin(request.url()) {
-        let response = admin_response(rt, alloc, site, seat, &request)?;
-        return Ok(Begun::Answered(response));
+        return admin_begun(rt, alloc, site, seat, &request);
     }
     serve(rt, alloc, site, seat, request)
 }
 
 // Not inlined, as `admin_answer`.
 #[inline(never)]
-fn admin_response<L: Origin, R: Wait, G: Gate, C: Clock>(
+fn admin_begun<L: Origin, R: Wait, G: Gate, C: Clock>(
     rt: &R,
     alloc: Global,
     site: &Site<L, G, C>,
     seat: &mut Seat<L>,
     request: &Snapshot,
-) -> Result<Response<Content>, AllocError>
+) -> Result<Begun, AllocError>
     ensures { MatchResult result
-        (HasReply (IsAdminAnswered L.origin L.book site.now.escape seat.old seat.new request.now))
-        (λ _. (reply : _) × IsAdminAnswered L.origin L.book site.now.escape seat.old seat.new request.now reply) }
+        (HasBegun
+        (IsAdminAnswered L.origin L.book site.now.escape site.now.page seat.old seat.new request.now)
+        (λ _. ⊥) (λ _. ⊥))
+        (λ _. (reply : _) × IsAdminAnswered L.origin L.book site.now.escape site.now.page seat.old seat.new request.now
+        reply) }
 {
-    match admin_answer(rt, alloc, &site.book, seat, request, site.escape)? {
+    let outcome = admin_answer(rt, alloc, site, seat, request)?;
+    outcome_begun(alloc, outcome)
+}
+
+fn outcome_begun(alloc: Global, outcome: AdminOutcome) -> Result<Begun, AllocError>
+    ensures { IfOk result (IsBegunOf (reply_in outcome)) }
+{
+    match outcome {
+        AdminOutcome::Answered(answer) => {
+            let response = answer_response(alloc, answer)?;
+            Ok(Begun::Answered(response))
+        }
+        AdminOutcome::Refused(reply, lines) => {
+            let response = response_of(alloc, reply)?;
+            refused_begun(alloc, response, lines)
+        }
+    }
+}
+
+fn answer_response(alloc: Global, answer: AdminAnswer) -> Result<Response<Content>, AllocError>
+    ensures { IfOk result (IsResponseOf (reply_of answer)) }
+{
+    match answer {
         AdminAnswer::Whole(reply) => response_of(alloc, reply),
         AdminAnswer::Listed(listing) => listed_response(alloc, listing),
     }

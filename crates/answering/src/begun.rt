@@ -1,6 +1,7 @@
 // The response to a message, or what is to be forwarded or rendered.
 use crate::content::Content;
 use crate::forward::Forward;
+use crate::refused::Refused;
 use crate::rendering::Rendering;
 use http::Response;
 
@@ -8,6 +9,8 @@ use http::Response;
 #[derive(Drop)]
 pub enum Begun {
     Answered(Response<Content>),
+    /// An admin call was refused. In a box, since most messages are answered.
+    Refused(Box<Refused>),
     ToForward(Forward),
     ToRender(Rendering),
 }

@@ -15,8 +15,8 @@ use shared_book::seat::Seat;
 use std::alloc::{AllocError, Global};
 use std::sync::Wait;
 
-/// Serves the request, and gives the response or what is to be forwarded or rendered. That is made after the lock was released,
-/// from the event that the receipt has. The error says that there was no memory to write the response.
+/// Serves the request, and gives the response or what is to be forwarded or rendered. That is made after the lock was
+/// released, from the event that the receipt has. The error says that there was no memory to write the response.
 pub(crate) fn serve<L: Origin, R: Wait, G: Gate, C: Clock>(
     rt: &R,
     alloc: Global,

@@ -1,4 +1,6 @@
 // What is served.
+use admin_routes::router::AdminRoutes;
+use bytes::Bytes;
 use shared_book::origin::Origin;
 use shared_book::shared_book::SharedBook;
 use stub_response::limits::Limits;
@@ -16,4 +18,7 @@ pub struct Site<L: Origin, G, C> {
     pub clock: C,
     /// How often a connection, or an exchange with a target, may read or write.
     pub turns: u64,
+    pub routes: AdminRoutes,
+    /// What `GET /__admin/page` is answered with, if it has a page.
+    pub page: Option<Bytes>,
 }

@@ -1,12 +1,12 @@
 -- The line that says where a server listens, and what is written then.
-use Rattle.std.proofs.Common.{◌≡◌, ◌⊎◌, ◌∙◌, ℕ, List, Option, None, Some, Result, Ok, Err, false, true≢false, IsErr, is_err}
+use Rattle.std.proofs.Common.{◌≡◌, ◌⊎◌, ◌∙◌, ℕ, List, Option, None, Some, Result, Ok, Err, false, true, true≢false, IsErr, is_err}
 use Rattle.std.proofs.Common.{inl, inr, subst, sym}
 use Rattle.std.proofs.KnownBytes.{Appends-nil}
 use Rattle.std.specs.Io.KnownBytes.{Appends, Keeps}
 use Rattle.std.specs.declared.net.socket_addr.SocketAddr.{SocketAddr}
 use Rattle.command_output.specs.Lines.{error_line, out_of_memory}
 use Rattle.command_output.specs.Output.{AppendsFront}
-use Rattle.hyper_service.specs.Report.{Announces, ReportsServed, ReportsSettled, listening_line}
+use Rattle.hyper_service.specs.Report.{Announces, AnnouncesInPart, ReportsServed, ReportsSettled, listening_line}
 use Rattle.logbook.specs.Pages.{Book}
 use Rattle.request_journal.specs.Past.{Past}
 
@@ -29,6 +29,12 @@ module _ {T E : Type 0} where
       (address, subst (Appends old new) same (appends_kept old middle new line written kept))
   announces (Err error) old middle new address line same written kept =
       inr (address, inl (subst (Appends old new) same (appends_kept old middle new line written kept)))
+
+  -- the whole line wasn't, or wasn't flushed
+  pub in_part : (announced : Result T E) (old new : Option (List ℕ)) → is_err announced ≡ true
+      → Announces announced old new → AnnouncesInPart old new
+  in_part (Ok value) old new failed line = absurd (true≢false (sym failed))
+  in_part (Err error) old new failed line = line
 
 module _ {O E T Refusal : Type 0} (out_holds : O → Option (List ℕ)) (err_holds : E → Option (List ℕ)) (origin : Past)
     (parts : ℕ) (name : Book) (out listening out' : O) (err err' : E) (status : ℕ) where

@@ -62,7 +62,11 @@ module _ (rules : SiteRules) where
       → IfErr result (λ error. P error × IsLeft rules old new message)
   left_unrendered P old new message rendering to_render (Ok begun) left = tt
   left_unrendered P old new message rendering to_render (Err error) left =
-      (left, inl (is_not_begun rules.origin rules.history rules.limits rules.escape old new message rendering to_render))
+      (
+        left,
+        inl (is_not_begun rules.origin rules.history rules.limits rules.escape rules.page old new message rendering
+            to_render),
+      )
 
 module _ (rules : SiteRules) {E : Type 0} (reaches : List ℕ → Type 0) (sends : List ℕ → Request → E → Type 0)
     (exchanged : E → Result Reply ProxyError → Type 0) where
@@ -154,7 +158,8 @@ module _ (rules : SiteRules) {E : Type 0} (reaches : List ℕ → Type 0) (sends
           → IfOk result (IsRenderBegun rendered can_run rendering)
           → IfOk result (Begins rules reaches sends exchanged can_poll rendered can_run old new message)
       render_begun old new message rendering to_render (Ok (Answered response)) begun =
-          inl (is_begun rules.origin rules.history rules.limits rules.escape old new message rendering to_render
+          inl (is_begun rules.origin rules.history rules.limits rules.escape rules.page old new message rendering
+          to_render
           begun.0 response begun.1 begun.2)
       render_begun old new message rendering to_render (Ok (Forwarding exchange)) begun =
           inr (rendering, to_render, begun)
@@ -186,7 +191,7 @@ module _ (rules : SiteRules) {E : Type 0} (reaches : List ℕ → Type 0) (sends
           same = seat;
           given = record {
             middle = by.middle;
-            begun = is_begun rules.origin rules.history rules.limits rules.escape first_old by.middle message
+            begun = is_begun rules.origin rules.history rules.limits rules.escape rules.page first_old by.middle message
                 by.rendering by.begun reply response is.1 of;
             kept = by.kept;
           };

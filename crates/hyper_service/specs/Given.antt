@@ -36,6 +36,7 @@ pub record SiteRules : Type 0 where
   pub history : Book
   pub limits : Limits
   pub escape : Escape
+  pub page : Option (List ℕ)
   pub journal : Option ℕ
 
 -- those of the site that answers
@@ -46,6 +47,7 @@ rules_of origin name answers =
       history = name;
       limits = (arc_value answers.site).limits;
       escape = (arc_value answers.site).escape;
+      page = (arc_value answers.site).page;
       journal = answers.journal.limit;
     }
 
@@ -61,7 +63,7 @@ module _ (rules : SiteRules) where
   -- the message was answered at once
   pub record IsGivenAtOnce (old new : Held) (message : Message (List ℕ)) (response : Response (List ℕ)) : Type 0 where
     pub middle : Held
-    pub begun : IsBegun rules.origin rules.history rules.limits rules.escape old middle message response
+    pub begun : IsBegun rules.origin rules.history rules.limits rules.escape rules.page old middle message response
     pub kept : IsKept rules.journal rules.origin rules.history middle new
 
   -- The response was rendered after the call that served the message, and is one that this call may have given at once.
@@ -89,7 +91,7 @@ module _ (rules : SiteRules) where
   -- there is no memory for an answer; or for that to a message that couldn't be forwarded
   abbrev pub IsLeft : Held → Held → Message (List ℕ) → Type 0
   IsLeft old new message =
-      IsNotBegun rules.origin rules.history rules.limits rules.escape old new message
+      IsNotBegun rules.origin rules.history rules.limits rules.escape rules.page old new message
       ⊎ ((forward : Forward) × (begun : Held) × IsToForward rules.origin rules.history old begun message forward
       × HasMadeNoCall rules.origin rules.history begun new)
 

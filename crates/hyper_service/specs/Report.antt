@@ -73,12 +73,16 @@ abbrev pub Announces : {T E : Type 0} → Result T E → Option (List ℕ) → O
 Announces (Ok _) old new = (address : SocketAddr) × Appends old new (listening_line address)
 Announces (Err _) old new = AnnouncesInPart old new
 
--- What a server writes: the line that says where it listens, which standard output may not take (1); then that its
--- seats were settled, or that memory ran out (1).
+-- the stream is as it was; or that memory ran out is on it, as far as it takes the line
+abbrev pub MayReportMemory : {E : Type 0} → (E → Option (List ℕ)) → E → E → Type 0
+MayReportMemory holds err err' = (err' ≡ err) ⊎ AppendsFront (holds err) (holds err') (error_line out_of_memory)
+
+-- What a server writes: the line that says where it listens, which standard output may not take (1), or for which there
+-- may be no memory, as standard error then says (1); then that its seats were settled, or that memory ran out (1).
 abbrev pub ReportsServed : {O E : Type 0} → (O → Option (List ℕ)) → (E → Option (List ℕ)) → Past → ℕ → Book → O → O
     → E → E → ℕ → Type 0
 ReportsServed {O = O} out_holds err_holds origin parts name out out' err err' status =
-    (AnnouncesInPart (out_holds out) (out_holds out') × (err' ≡ err) × (status ≡ 1))
+    (AnnouncesInPart (out_holds out) (out_holds out') × MayReportMemory err_holds err err' × (status ≡ 1))
     ⊎ ((address : SocketAddr) × (listening : O)
     × Appends (out_holds out) (out_holds listening) (listening_line address)
     × (ReportsSettled out_holds err_holds origin parts name listening out' err err' status

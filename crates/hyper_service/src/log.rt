@@ -1,5 +1,6 @@
 // What is told of messages once they are answered.
 use answering::content::Content;
+use answering::refused::Refused;
 use answering::rendering::Rendering;
 use bytes::Bytes;
 use http::{Request, Response};
@@ -20,6 +21,16 @@ pub trait Log {
         message: &Request<Bytes>,
         receipt: Option<&Receipt>,
         response: &Response<Content>,
+    );
+
+    /// An admin call was refused. The receipt is that of the event that it made all the same, if it made one.
+    fn refused<R: Wait>(
+        &self,
+        rt: &R,
+        alloc: Global,
+        message: &Request<Bytes>,
+        receipt: Option<&Receipt>,
+        refused: &Refused,
     );
 
     /// A request that was forwarded, and whose event has this number, was answered with this status; the failure is why
@@ -50,6 +61,15 @@ impl Log for NoLog {
         _message: &Request<Bytes>,
         _receipt: Option<&Receipt>,
         _response: &Response<Content>,
+    ) {}
+
+    fn refused<R: Wait>(
+        &self,
+        _rt: &R,
+        _alloc: Global,
+        _message: &Request<Bytes>,
+        _receipt: Option<&Receipt>,
+        _refused: &Refused,
     ) {}
 
     fn forwarded<R: Wait>(

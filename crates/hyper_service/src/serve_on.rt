@@ -1,6 +1,6 @@
 // The connections of a listener, until as many as are wanted were served.
-ghost use Rattle.std.specs.Prelude.{◌≤◌, IfOk, List};
-ghost use Rattle.hyper_service.specs.Report.{Announces, IsSettling, ReportsServed};
+ghost use Rattle.std.specs.Prelude.{◌≡◌, ◌≤◌, IfOk, List};
+ghost use Rattle.hyper_service.specs.Report.{Announces, IsSettling, MayReportMemory, ReportsServed};
 ghost use Rattle.shared_book.specs.Held.{Held};
 
 use crate::log::Log;
@@ -24,7 +24,7 @@ use shared_book::settled::SettleRefusal;
 use shared_book::shared_book::SharedBook;
 use std::alloc::{AllocError, AllocGlobal, Global};
 use std::io;
-use std::io::Write;
+use std::io::{ErrorKind, Write};
 use std::net::TcpListener;
 use std::random::RandomSource;
 use std::sync::{Arc, Wait};
@@ -61,8 +61,9 @@ where
         out.old out.new err.old err.new result }
     ensures status { result ≤ 1 }
 {
-    if announce(rt.alloc(), &listener, out).is_err() {
-        return FAILURE;
+    let announced = announce(rt.alloc(), &listener, out);
+    if announced.is_err() {
+        return report_unannounced(&announced, err);
     }
     match serve_site(
         rt, runtime, listener, workers, ender, answers, seat, settings,
@@ -83,6 +84,25 @@ fn announce<O: Write>(alloc: Global, listener: &TcpListener, out: &mut O) -> io:
     let line = format!(in alloc; "listening on {address}\n")?;
     put(out, line.as_bytes())?;
     out.flush()
+}
+
+// Says so where memory ran out. Where standard output took nothing, whoever has made it says why.
+fn report_unannounced<E: Write>(announced: &io::Result<()>, err: &mut E) -> u8
+    ensures written { MayReportMemory E.contents err.old err.new }
+    ensures status { result ≡ FAILURE }
+{
+    if !is_out_of_memory(announced) {
+        return FAILURE;
+    }
+    CommandError::from(ErrorCode::OutOfMemory).report(err);
+    FAILURE
+}
+
+fn is_out_of_memory(result: &io::Result<()>) -> bool {
+    match result {
+        Ok(()) => false,
+        Err(error) => error.kind() == ErrorKind::OutOfMemory,
+    }
 }
 
 // How many events were settled, or why not, and why no more connections were accepted.

@@ -20,6 +20,7 @@ use crate::site_exchange::{SiteExchange, SiteReply};
 use answering::clock::Clock;
 use answering::content::Content;
 use answering::forward::Forward;
+use answering::refused::Refused;
 use answering::rendering::{Rendering, rendered_response};
 use answering::site::Site;
 use bytes::Bytes;
@@ -32,6 +33,7 @@ use proxy_client::failure::Failure;
 use proxy_client::forwards::Forwards;
 use shared_book::gate::Gate;
 use shared_book::origin::Origin;
+use shared_book::receipt::Receipt;
 use shared_book::seat::Seat;
 use shared_book::shared_book::SharedBook;
 use std::alloc::{AllocError, Global};
@@ -171,7 +173,8 @@ where
     V: Renders,
     N: Log + Drop,
 {
-    // The answer to a request, or the exchange that forwards it or renders its response. `before` is the number of the seat's last receipt.
+    // The answer to a request, or the exchange that forwards it or renders its response. `before` is the number of the
+    // seat's last receipt.
     fn begin_message<R: Wait>(
         &self,
         rt: &R,
@@ -192,11 +195,33 @@ where
                 self.log.answered(rt, alloc, request, receipt, &response);
                 Ok(Begun::Answered(response))
             }
+            answering::begun::Begun::Refused(refused) => {
+                let receipt = gained(seat, before);
+                let response = self.refuse(rt, alloc, request, receipt, refused);
+                Ok(Begun::Answered(response))
+            }
             answering::begun::Begun::ToForward(forward) => {
                 self.forward(rt, alloc, handle, seat, forward)
             }
             answering::begun::Begun::ToRender(rendering) => self.render(rt, alloc, rendering),
         }
+    }
+
+    // The response to an admin call that is refused. Not inlined, as `forward`.
+    #[inline(never)]
+    fn refuse<R: Wait>(
+        &self,
+        rt: &R,
+        alloc: Global,
+        request: &Request<Bytes>,
+        receipt: Option<&Receipt>,
+        refused: Box<Refused>,
+    ) -> Response<Content>
+        ensures { result ≡ refused.value.response }
+    {
+        let refused = Box::into_inner(refused);
+        self.log.refused(rt, alloc, request, receipt, &refused);
+        refused.into_response()
     }
 
     // The exchange for what is to be forwarded; or the answer, where there can't be one. Not inlined: a function clears

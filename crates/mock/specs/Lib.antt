@@ -1,4 +1,5 @@
 pub mod CommandLine
 pub mod Descriptors
 pub mod Inner
+pub mod Page
 pub mod Served

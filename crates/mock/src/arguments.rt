@@ -15,6 +15,7 @@ Admin calls, on paths below /__admin, list, add, edit and remove mappings, and s
 were received; a reset brings the mappings of FILE back. A recording, from
 POST /__admin/recordings/start to POST /__admin/recordings/stop, forwards what no mapping matches to
 another server, and makes mappings of its answers.
+With --page a browser shows the requests and steers all that at http://127.0.0.1:PORT/__admin/page.
 With --connections it ends after N connections, and prints how many events its history has, as
 `settled 3 events`, if they are those that the connections have seen.
 Where mappings are refused it says which and why, and ends; with --skip-refused it serves the others.
@@ -81,6 +82,8 @@ pub struct ServeArguments<'a> {
     pub threads: u64,
     /// At how many requests the journal is cleared.
     pub journal_limit: Option<u64>,
+    /// The path of the file of the page.
+    pub page: Option<&'a str>,
     /// The number before that of the first event.
     pub opening: u64,
     /// Whether mappings that are refused are left out.
@@ -212,6 +215,7 @@ fn arguments_in<'a>(given: &ArgMatches<'a>, address: IpAddr) -> Option<ServeArgu
         max_connections: given.get_one("max-connections"),
         threads: given.get_one("threads").unwrap_or(THREADS),
         journal_limit: given.get_one("journal-limit"),
+        page: given.get_str("page"),
         opening: first_event.unwrap_or(1).saturating_sub(1),
         skips_refused: given.get_flag("skip-refused"),
         ends_with_input: given.get_flag("end-with-stdin"),
@@ -263,6 +267,7 @@ fn serve_command<'a>(alloc: Global) -> Result<Command<'a>, AllocError> {
         .arg(max_connections(alloc))?
         .arg(threads(alloc))?
         .arg(journal_limit(alloc))?
+        .arg(page(alloc))?
         .arg(skip_refused(alloc))?
         .arg(end_with_stdin(alloc))?
         .arg(verbose(alloc))
@@ -362,6 +367,12 @@ fn journal_limit<'a>(alloc: Global) -> Arg<'a> {
         .value_name("N")
         .help("Clears the journal of requests whenever it shows N of them")
         .value_parser(value_parser!(u64))
+}
+
+fn page<'a>(alloc: Global) -> Arg<'a> {
+    Arg::new(alloc, "page").long("page").value_name("FILE").help(
+        "An HTML file that is the answer to GET /__admin/page, as dist/page.html is one",
+    )
 }
 
 fn first_event<'a>(alloc: Global) -> Arg<'a> {

@@ -10,6 +10,7 @@ ghost use Rattle.mock.specs.CommandLine.{AskForOwn, AskToHelp, is_own};
 ghost use Rattle.mock.specs.Inner.Arguments.{ask_for_own, ask_to_help};
 
 use crate::arguments::{Call, ServeArguments, call_of};
+use crate::page::page_in;
 use crate::record::record as record_until;
 use crate::serve::{Plan, serve};
 use crate::watch::Watch;
@@ -286,11 +287,17 @@ where
     I: Read + Drop + Send + 'static,
     ensures { result ≤ 2 }
 {
-    let plan = Plan {
-        recording: None,
-        watch: Watch::of_server(input, given.ends_with_input),
-    };
-    serve(rt, given, plan, out, err, log)
+    match page_in(rt.alloc(), &rt, given.page, err) {
+        Ok(page) => {
+            let plan = Plan {
+                recording: None,
+                page,
+                watch: Watch::of_server(input, given.ends_with_input),
+            };
+            serve(rt, given, plan, out, err, log)
+        }
+        Err(status) => status,
+    }
 }
 
 fn report_memory<E: Write>(err: &mut E) -> u8

@@ -6,6 +6,7 @@
 mod arguments;
 mod command_line;
 mod descriptors;
+mod page;
 mod record;
 mod serve;
 mod server_log;

@@ -81,6 +81,7 @@ fn planned<I: Read + Drop + Send + 'static>(
     let files = RecordedFiles::new(alloc, given.file, given.har, theirs)?;
     let plan = Plan {
         recording: Some(start),
+        page: None,
         watch: Watch::of_recording(input, files),
     };
     Ok((plan, outcome))

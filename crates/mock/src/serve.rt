@@ -11,8 +11,10 @@ use crate::descriptors::open_connections;
 use crate::server_log::ServerLog;
 use crate::serving_threads::{MockAnswers, ServingThreads};
 use crate::watch::Watch;
+use admin_routes::router::AdminRoutes;
 use answering::clock::SystemClock;
 use answering::site::Site;
+use bytes::Bytes;
 use command_output::error::CommandError;
 use command_output::files::{FileReader, reason_line};
 use command_output::output::{put, put_notes};
@@ -67,6 +69,8 @@ const LOG_SECONDS: u64 = 1;
 pub(crate) struct Plan<I> {
     /// What it records from its start on.
     pub(crate) recording: Option<BookInput>,
+    /// What `GET /__admin/page` is answered with.
+    pub(crate) page: Option<Bytes>,
     pub(crate) watch: Watch<I>,
 }
 
@@ -147,12 +151,7 @@ where
     W: Write + Drop + Send + 'static,
 {
     let lines = start(rt, out)?;
-    let log = RequestLog::new(
-        Arc::try_clone(&lines)?,
-        arguments.verbose,
-        arguments.escape,
-        Limits::usual(),
-    );
+    let log = RequestLog::new(Arc::try_clone(&lines)?, arguments.verbose, Limits::usual());
     Ok((lines, log))
 }
 
@@ -234,7 +233,11 @@ where
     ensures status { result ≤ 1 }
 {
     let mut seat = seat;
-    let Plan { recording, watch } = plan;
+    let Plan {
+        recording,
+        page,
+        watch,
+    } = plan;
     if let Some(start) = recording {
         if let Err(code) = begin_recording(&rt, &book, &mut seat, start) {
             return report_recording(code, err);
@@ -242,7 +245,7 @@ where
     }
     match listen(rt, arguments.address, arguments.port) {
         Ok(listening) => serve_listening(
-            rt, listening, book, seat, arguments, watch, log, ender, out, err,
+            rt, listening, book, seat, arguments, page, watch, log, ender, out, err,
         ),
         Err(error) => report(rt.alloc(), arguments, &error, err),
     }
@@ -254,6 +257,7 @@ fn serve_listening<L, R, O, E, I>(
     book: SharedBook<L>,
     seat: Seat<L>,
     arguments: ServeArguments<'_>,
+    page: Option<Bytes>,
     watch: Watch<I>,
     log: RequestLog,
     ender: &Arc<Ender>,
@@ -295,7 +299,7 @@ where
     if let Err(error) = start_watch(rt, &listener, watch, ender) {
         return report_watch(rt.alloc(), &error, err);
     }
-    match answers_of(rt, book, forwarder, arguments, log) {
+    match answers_of(rt, book, forwarder, arguments, page, log) {
         Ok(answers) => serve_on(
             rt,
             &mut runtime,
@@ -380,6 +384,7 @@ fn answers_of<L, R>(
     book: SharedBook<L>,
     forwarder: Forwarder<R>,
     arguments: ServeArguments<'_>,
+    page: Option<Bytes>,
     log: ServerLog<L>,
 ) -> Result<MockAnswers<L, R>, AllocError>
 where
@@ -395,6 +400,7 @@ where
       history = L.book;
       limits = usual_limits;
       escape = arguments.entry.escape;
+      page = page;
       journal = arguments.entry.journal_limit;
     }) }
 {
@@ -405,6 +411,8 @@ where
         gate: NoGate,
         clock: SystemClock::new(rt),
         turns: TURN_LIMIT,
+        routes: AdminRoutes::new(rt.alloc())?,
+        page,
     };
     let site = Arc::new(rt.alloc(), site)?;
     let renderer = Renderer::new(rt)?;

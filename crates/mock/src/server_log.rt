@@ -1,11 +1,13 @@
 // What the server tells of its requests.
 use answering::content::Content;
+use answering::refused::Refused;
 use answering::rendering::Rendering;
 use bytes::Bytes;
 use http::{Request, Response};
 use hyper_service::log::Log;
 use mock_request::snapshot::Snapshot;
 use proxy_client::failure::Failure;
+use request_journal::event::Event;
 use request_log::request_log::{Offer, RequestLog};
 use shared_book::book_read::{BookRead, ReadAnswer};
 use shared_book::origin::Origin;
@@ -72,26 +74,35 @@ impl<L: Origin> Log for ServerLog<L> {
         receipt: Option<&Receipt>,
         response: &Response<Content>,
     ) {
-        if !self.log.may_tell(message) {
+        let event = event_of(receipt);
+        if !self.log.may_tell(event) {
             return;
         }
         let status = response.status().as_u16();
-        let body = response.body().as_whole();
-        let event = match receipt {
-            Some(receipt) => Some((receipt.number, receipt.event.event())),
-            None => None,
-        };
         let offer = match event {
             Some((_number, event)) if self.log.tells_nearest(event) => self.offer(rt, alloc),
             _ => None,
         };
-        self.log
-            .answered(rt, alloc, message, event, status, body, offer);
+        self.log.answered(rt, alloc, message, event, status, offer);
         if let Some((_number, event)) = event
             && self.log.tells_skipped(event)
         {
             self.tell_skipped(rt, alloc);
         }
+    }
+
+    fn refused<R: Wait>(
+        &self,
+        rt: &R,
+        alloc: Global,
+        message: &Request<Bytes>,
+        receipt: Option<&Receipt>,
+        refused: &Refused,
+    ) {
+        let status = refused.response.status().as_u16();
+        let lines = refused.lines.as_str();
+        self.log
+            .refused(rt, alloc, message, event_of(receipt), status, lines);
     }
 
     fn forwarded<R: Wait>(
@@ -120,5 +131,13 @@ impl<L: Origin> Log for ServerLog<L> {
             &rendering.captured,
             status,
         );
+    }
+}
+
+// The event that a message made, with its number.
+fn event_of(receipt: Option<&Receipt>) -> Option<(u64, &Event)> {
+    match receipt {
+        Some(receipt) => Some((receipt.number, receipt.event.event())),
+        None => None,
     }
 }

@@ -6,16 +6,14 @@ use crate::nearest::nearest_lines;
 use crate::over_budget::over_budget_line;
 use crate::request_line::request_line;
 use crate::skipped::skipped_lines;
-use admin_table::route::{Route, is_admin, route_of};
+use admin_routes::url::is_admin;
 use bytes::Bytes;
+use call_refusal::told::call_of;
 use error_code::error_code::ErrorCode;
 use http::Request;
 use itoa::Buffer;
 use mapping_diagnosis::notes::Notes;
 use mapping_diagnosis::shown::cut;
-use mapping_json::error::MappingError;
-use mapping_json::read::read_mapping_with;
-use mapping_json::read_request::read_request;
 use mock_request::snapshot::Snapshot;
 use recorder::recording::Recording;
 use request_journal::event::{Captured, Event, ServeAnswer};
@@ -23,16 +21,12 @@ use request_parts::error::RequestMatchError;
 use std::alloc::{AllocError, Global};
 use std::sync::{Arc, Wait};
 use stub_response::limits::Limits;
-use template_tree::escape::Escape;
 
 /// How many characters of a method and of a URL are told.
 pub(crate) const SHOWN: usize = 1000;
 
 /// The status of the response to a request where the templates of its mapping are over the limits.
 const OVER_BUDGET: u16 = 500;
-
-/// The status of each answer that refuses a call for its body. (RFC 9110, section 15.5.21)
-const UNPROCESSABLE: u16 = 422;
 
 /// Tells of requests by lines that another thread writes.
 #[derive(Drop)]
@@ -41,25 +35,22 @@ pub struct RequestLog {
     /// Whether it tells of each request, or of those alone that were forwarded in vain, and of admin calls that were
     /// refused or have warnings.
     is_verbose: bool,
-    /// How the prints of the templates of posted mappings are escaped.
-    escape: Escape,
     /// What the templates of a response may take.
     limits: Limits,
 }
 
 impl RequestLog {
-    pub fn new(lines: Arc<Lines>, is_verbose: bool, escape: Escape, limits: Limits) -> RequestLog {
+    pub fn new(lines: Arc<Lines>, is_verbose: bool, limits: Limits) -> RequestLog {
         RequestLog {
             lines,
             is_verbose,
-            escape,
             limits,
         }
     }
 
-    /// Whether there may be something to tell of the message.
-    pub fn may_tell(&self, message: &Request<Bytes>) -> bool {
-        self.is_verbose || is_admin(message.uri().path())
+    /// Whether there may be something to tell of a message that was answered, and made this event, if it made one.
+    pub fn may_tell(&self, event: Option<(u64, &Event)>) -> bool {
+        self.is_verbose || has_warnings(event)
     }
 
     /// Whether it tells which mappings came nearest, once the request of the event was answered.
@@ -74,9 +65,8 @@ impl RequestLog {
             )
     }
 
-    /// Tells of a message that was answered with this status, and with this body if that is there as a whole. The event
-    /// with its number is the one that it made, if it made one. Where `tells_nearest` says so, what the book offers is
-    /// given too.
+    /// Tells of a message that was answered with this status. The event with its number is the one that it made, if it
+    /// made one. Where `tells_nearest` says so, what the book offers is given too.
     pub fn answered<R: Wait>(
         &self,
         rt: &R,
@@ -84,20 +74,33 @@ impl RequestLog {
         message: &Request<Bytes>,
         event: Option<(u64, &Event)>,
         status: u16,
-        body: Option<&[u8]>,
         offer: Option<Offer>,
     ) {
-        let is_call = is_admin(message.uri().path());
-        if !self.is_verbose && !is_call {
-            return;
-        }
         if self.is_verbose {
-            let lines = self.lines_of(alloc, message, event, is_call, status, offer);
+            let lines = self.lines_of(alloc, message, event, status, offer);
             self.add(rt, lines);
         }
-        if is_call {
-            let notes = call_notes(alloc, message, status, body, self.escape);
-            self.add(rt, notes);
+        if is_posted(event) {
+            self.add(rt, posted_warnings(alloc, message));
+        }
+    }
+
+    /// Tells of an admin call that was refused with this status, as the lines say. The event is one that it made all
+    /// the same.
+    pub fn refused<R: Wait>(
+        &self,
+        rt: &R,
+        alloc: Global,
+        message: &Request<Bytes>,
+        event: Option<(u64, &Event)>,
+        status: u16,
+        lines: &str,
+    ) {
+        if self.is_verbose {
+            self.add(rt, line_of(alloc, message, event, status));
+        }
+        if !lines.is_empty() {
+            self.lines.add(rt, lines);
         }
     }
 
@@ -160,11 +163,10 @@ impl RequestLog {
         alloc: Global,
         message: &Request<Bytes>,
         event: Option<(u64, &Event)>,
-        is_call: bool,
         status: u16,
         offer: Option<Offer>,
     ) -> Result<String, AllocError> {
-        let mut lines = line_of(alloc, message, event, is_call, status)?;
+        let mut lines = line_of(alloc, message, event, status)?;
         if let Some((_number, event)) = event {
             if let Ok(reason) = reason_of(alloc, event, status, offer, self.limits) {
                 lines.push_str(reason.as_str())?;
@@ -248,7 +250,6 @@ fn line_of(
     alloc: Global,
     message: &Request<Bytes>,
     event: Option<(u64, &Event)>,
-    is_call: bool,
     status: u16,
 ) -> Result<String, AllocError> {
     let method = cut(alloc, message.method().as_str(), SHOWN)?;
@@ -256,10 +257,7 @@ fn line_of(
     let url = cut(alloc, target.as_str(), SHOWN)?;
     let (number, answerer) = match event {
         Some((number, event)) => (Some(number), answerer_of(alloc, event)?),
-        None => (
-            None,
-            String::from_str(alloc, if is_call { "admin" } else { "refused" })?,
-        ),
+        None => (None, String::from_str(alloc, unserved_answerer(message))?),
     };
     request_line(
         alloc,
@@ -333,85 +331,40 @@ fn mapping_text(alloc: Global, captured: &Captured) -> Result<String, AllocError
     Ok(text)
 }
 
-// Why an admin call was refused, and what there is to say of a document that was posted with it. Not inlined: a
-// function clears all its locals when it is entered, and most requests need none of these.
-#[inline(never)]
-fn call_notes(
-    alloc: Global,
-    message: &Request<Bytes>,
-    status: u16,
-    body: Option<&[u8]>,
-    escape: Escape,
-) -> Result<String, AllocError> {
-    let method = message.method().as_str();
-    let path = message.uri().path();
-    let call = call_of(alloc, method, path)?;
-    let is_refused = status >= 400;
-    let mut notes = Notes::new(alloc);
-    if is_refused {
-        notes.add_refusal(alloc, call.as_str(), body.unwrap_or(b""))?;
-    }
-    // A call that was refused for something else may be there without its body, or with one that is right.
-    if !is_refused || status == UNPROCESSABLE {
-        let answer = body.unwrap_or(b"");
-        add_body(
-            alloc,
-            &mut notes,
-            call.as_str(),
-            message,
-            is_refused,
-            answer,
-            escape,
-        )?;
-    }
-    Ok(notes.into_string())
-}
-
-// What there is to say of the body of a call that was taken, or refused for its body.
-fn add_body(
-    alloc: Global,
-    notes: &mut Notes,
-    call: &str,
-    message: &Request<Bytes>,
-    is_refused: bool,
-    answer: &[u8],
-    escape: Escape,
-) -> Result<(), AllocError> {
-    let posted = message.body().as_slice();
-    match route_of(message.method().as_str(), message.uri().path()) {
-        Some(Route::AddMapping) | Some(Route::EditMapping(_)) => {
-            let error = mapping_error(alloc, posted, is_refused, escape);
-            notes.add_posted(alloc, call, posted, error)
-        }
-        Some(Route::FindRequests) | Some(Route::CountRequests) if is_refused => {
-            let error = read_request(alloc, posted).err();
-            notes.add_matcher(alloc, call, posted, error)
-        }
-        Some(Route::StartRecording) if is_refused => {
-            notes.add_recording(alloc, call, posted, answer)
-        }
-        Some(Route::SetScenario(_)) if is_refused => notes.add_state(alloc, call, posted),
-        _ => Ok(()),
-    }
-}
-
-fn call_of(alloc: Global, method: &str, path: &str) -> Result<String, AllocError> {
-    let mut call = cut(alloc, method, SHOWN)?;
-    call.push_str(" ")?;
-    call.push_str(cut(alloc, path, SHOWN)?.as_str())?;
-    Ok(call)
-}
-
-// What is wrong with a posted mapping. One that was taken isn't read again.
-fn mapping_error(
-    alloc: Global,
-    posted: &[u8],
-    is_refused: bool,
-    escape: Escape,
-) -> Option<MappingError> {
-    if is_refused {
-        read_mapping_with(alloc, posted, escape).err()
+// By what a message was answered that made no event.
+fn unserved_answerer(message: &Request<Bytes>) -> &'static str {
+    if is_admin(message.uri().path()) {
+        "admin"
     } else {
-        None
+        "refused"
     }
+}
+
+// Whether there may be warnings: a mapping was posted, or a recording was stopped.
+fn has_warnings(event: Option<(u64, &Event)>) -> bool {
+    match event {
+        Some((_number, event)) => matches!(
+            event,
+            Event::Add(_) | Event::Edit { .. } | Event::StopRecording { .. }
+        ),
+        None => false,
+    }
+}
+
+// Whether a mapping was posted, and taken.
+fn is_posted(event: Option<(u64, &Event)>) -> bool {
+    match event {
+        Some((_number, event)) => matches!(event, Event::Add(_) | Event::Edit { .. }),
+        None => false,
+    }
+}
+
+// Warnings of a mapping that was posted and taken. Not inlined: a function clears all its locals when it is entered,
+// and most requests need none of these.
+#[inline(never)]
+fn posted_warnings(alloc: Global, message: &Request<Bytes>) -> Result<String, AllocError> {
+    let call = call_of(alloc, message.method().as_str(), message.uri().path())?;
+    let mut notes = Notes::new(alloc);
+    notes.add_posted(alloc, call.as_str(), message.body().as_slice(), None)?;
+    Ok(notes.into_string())
 }

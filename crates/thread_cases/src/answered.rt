@@ -26,7 +26,7 @@ pub fn answered<L: Origin + Send + Sync, R: Threads + Wait + Sync>(
 {
     let mut one = seat;
     let two = one.split(rt, &shared);
-    let site = site_of(shared);
+    let site = site_of(alloc, shared)?;
     let ((one, first), (two, second)) = both_answer(
         rt,
         alloc,

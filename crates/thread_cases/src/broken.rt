@@ -5,6 +5,7 @@ ghost use Rattle.shared_history.specs.Entries.{opening};
 use crate::calls;
 use crate::no_clock::NoClock;
 use crate::nowhere::Nowhere;
+use admin_routes::router::AdminRoutes;
 use answering::site::Site;
 use bytes::Bytes;
 use case_requests::mappings::mapping;
@@ -311,6 +312,8 @@ fn answers_of<L: Origin>(
         gate: NoGate,
         clock: NoClock,
         turns,
+        routes: AdminRoutes::new(alloc)?,
+        page: None,
     };
     let site = Arc::new(alloc, site)?;
     Ok(Arc::new(

@@ -8,6 +8,7 @@ use crate::outcomes::{add_counts, add_number, add_refusal, add_told};
 use admin_answers::answer::answer_admin;
 use admin_routes::admin::admin;
 use admin_routes::call::AdminCall;
+use admin_routes::router::AdminRoutes;
 use case_table::cells::Cells;
 use mapping_model::reply::Reply;
 use shared_book::origin::Origin;
@@ -32,7 +33,7 @@ pub fn counted<L: Origin + Send + Sync, R: Threads + Wait + Sync>(
     let mut one = seat;
     let two = one.split(rt, &shared);
     let three = one.split(rt, &shared);
-    let site = site_of(shared);
+    let site = site_of(alloc, shared)?;
     let ((one, first), (two, second)) = both_answer(
         rt,
         alloc,
@@ -94,7 +95,8 @@ fn add_count<L: Origin, R: Wait>(
 }
 
 fn call_of(alloc: Global, method: &str, url: &str, body: &str) -> Result<AdminCall, AllocError> {
-    let call = admin(alloc, method, url, body.as_bytes());
+    let routes = AdminRoutes::new(alloc)?;
+    let call = admin(alloc, &routes, method, url, body.as_bytes());
     call.ok().ok_or(AllocError)
 }
 

@@ -6,6 +6,7 @@ use crate::calls;
 use crate::messages::Asked;
 use crate::no_clock::NoClock;
 use crate::outcomes::{add_number, add_receipts, add_refusal};
+use admin_routes::router::AdminRoutes;
 use answering::site::Site;
 use case_table::cells::Cells;
 use shared_book::gate::NoGate;
@@ -33,6 +34,8 @@ pub fn full<L: Origin, R: Wait>(
         gate: NoGate,
         clock: NoClock,
         turns: 0,
+        routes: AdminRoutes::new(alloc)?,
+        page: None,
     };
     add_answer(rt, alloc, cells, &site, &mut seat)?;
     cells.add(", then ");
@@ -45,6 +48,8 @@ pub fn full<L: Origin, R: Wait>(
         gate: _gate,
         clock: _clock,
         turns: _turns,
+        routes: _routes,
+        page: _page,
     } = site;
     add_settled(rt, alloc, cells, book, seat)
 }

@@ -4,6 +4,7 @@ use crate::answers::answer_to;
 use crate::first_waits::FirstWaits;
 use crate::messages::Asked;
 use crate::no_clock::NoClock;
+use admin_routes::router::AdminRoutes;
 use answering::site::Site;
 use shared_book::gate::Gate;
 use shared_book::origin::Origin;
@@ -28,15 +29,20 @@ pub enum Task {
 }
 
 /// A site of the book, with a gate that holds its first call until its second.
-pub fn site_of<L: Origin>(book: SharedBook<L>) -> Site<L, FirstWaits, NoClock> {
-    Site {
+pub fn site_of<L: Origin>(
+    alloc: Global,
+    book: SharedBook<L>,
+) -> Result<Site<L, FirstWaits, NoClock>, AllocError> {
+    Ok(Site {
         book,
         limits: Limits::usual(),
         escape: Escape::Off,
         gate: FirstWaits::new(),
         clock: NoClock,
         turns: 0,
-    }
+        routes: AdminRoutes::new(alloc)?,
+        page: None,
+    })
 }
 
 /// The book of a site. The error says that its gate gave up.
@@ -48,6 +54,8 @@ pub fn book_of<L: Origin>(site: Site<L, FirstWaits, NoClock>) -> Result<SharedBo
         gate,
         clock: _clock,
         turns: _turns,
+        routes: _routes,
+        page: _page,
     } = site;
     gate.held()?;
     Ok(book)

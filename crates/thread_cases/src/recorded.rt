@@ -41,7 +41,7 @@ where
 {
     let alloc = rt.alloc();
     let mut seat = seat;
-    let site = site_of(shared, Ticking::new(1000));
+    let site = site_of(alloc, shared, Ticking::new(1000))?;
     let upstream = Upstream::start(rt, alloc, script(alloc)?);
     let upstream = upstream.ok().ok_or(AllocError)?;
     let port = upstream.port;

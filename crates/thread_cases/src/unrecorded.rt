@@ -39,7 +39,7 @@ where
 {
     let alloc = rt.alloc();
     let mut seat = seat;
-    let site = site_of(shared, Ticking::new(1000));
+    let site = site_of(alloc, shared, Ticking::new(1000))?;
     let upstream = replying(rt, alloc, b"HTTP/1.1 200 O")?;
     let port = upstream.port;
     let started = ask(rt, cells, &site, &mut seat, Asked::Start(port));
@@ -74,7 +74,7 @@ where
 {
     let alloc = rt.alloc();
     let mut seat = seat;
-    let site = site_of(shared, Ticking::new(1000));
+    let site = site_of(alloc, shared, Ticking::new(1000))?;
     let upstream = replying(rt, alloc, HELLO)?;
     let port = upstream.port;
     let started = ask(rt, cells, &site, &mut seat, Asked::Start(port));
@@ -109,7 +109,7 @@ where
     let mut seat = seat;
     let other = seat.split(rt, &shared);
     let clock = Changing::new(*rt, alloc, shared.try_clone()?, change, other);
-    let site = site_of(shared, clock);
+    let site = site_of(alloc, shared, clock)?;
     let upstream = replying(rt, alloc, HELLO)?;
     let port = upstream.port;
     let started = ask(rt, cells, &site, &mut seat, Asked::Start(port));

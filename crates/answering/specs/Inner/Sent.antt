@@ -1,13 +1,13 @@
 -- For private clauses: what a response is, of which no reply was made, and what is to be forwarded or rendered.
 use Rattle.std.specs.Prelude.{◌≡◌, ℕ, List}
-use Rattle.admin_table.specs.Routes.{IsAdmin}
+use Rattle.admin_routes.specs.Routes.{IsAdmin}
 use Rattle.http.specs.declared.response.Response.{Response}
 use Rattle.answering.specs.Forwarding.{serve_receipt}
 use Rattle.answering.specs.Rendering.{rendering_receipt}
 use Rattle.answering.specs.Reply.{IsResponseOf}
 use Rattle.answering.specs.Served.{GainsServe}
 use Rattle.answering.specs.declared.begun.Begun.{Begun}
-use Rattle.answering.specs.declared.begun.Begun.TheVariants.{Answered, ToForward, ToRender}
+use Rattle.answering.specs.declared.begun.Begun.TheVariants.{Answered, Refused, ToForward, ToRender}
 use Rattle.answering.specs.declared.forward.Forward.{Forward}
 use Rattle.answering.specs.declared.rendering.Rendering.{Rendering}
 use Rattle.logbook.specs.Pages.{Book}
@@ -25,8 +25,16 @@ HasReply Holds response = (reply : Reply) × Holds reply × IsResponseOf reply r
 -- a response of which the first holds, or what is to be forwarded or rendered, of which the second or the third does
 abbrev pub HasBegun : (Reply → Type 0) → (Forward → Type 0) → (Rendering → Type 0) → Begun → Type 0
 HasBegun Holds Forwards Renders (Answered response) = HasReply Holds response
+HasBegun Holds Forwards Renders (Refused refused) = HasReply Holds refused.value.response
 HasBegun Holds Forwards Renders (ToForward forward) = Forwards forward
 HasBegun Holds Forwards Renders (ToRender rendering) = Renders rendering
+
+-- the response of this reply
+abbrev pub IsBegunOf : Reply → Begun → Type 0
+IsBegunOf reply (Answered response) = IsResponseOf reply response
+IsBegunOf reply (Refused refused) = IsResponseOf reply refused.value.response
+IsBegunOf reply (ToForward forward) = ⊥
+IsBegunOf reply (ToRender rendering) = ⊥
 
 -- it has the number and the event of the receipt
 abbrev pub IsForwardOf : ℕ → Event → Forward → Type 0

@@ -53,7 +53,7 @@ module _ (rules : SiteRules) {E V : Type 0} (reaches : List ℕ → Type 0) (sen
     -- a message was answered at once; or it is to be forwarded or rendered, and that was begun
     abbrev pub Begins : Held → Held → Message (List ℕ) → Begun (SiteExchange E V) (List ℕ) → Type 0
     Begins old new message (Answered response) =
-        IsBegun rules.origin rules.history rules.limits rules.escape old new message response
+        IsBegun rules.origin rules.history rules.limits rules.escape rules.page old new message response
         ⊎ ((forward : Forward) × (middle : Held) × IsToForward rules.origin rules.history old middle message forward
         × IsForwardBegun middle new forward (Answered response))
     Begins old new message (Forwarding exchange) =

@@ -1,20 +1,20 @@
-use Rattle.std.proofs.Common.{refl, ap, inl, inr}
-use Rattle.answering.specs.Admin.{IsCallAnswered, IsAnsweredCall, reporting}
+use Rattle.std.proofs.Common.{refl, inl, inr}
+use Rattle.answering.specs.Admin.{IsCallAnswered, IsOwnAnswered}
+use Rattle.answering.specs.Page.{page_reply}
 use Rattle.answering.proofs.ResultLemmas.{given, weaker}
 use Rattle.answering.proofs.admin_answer.own_answer.Goals as goal
 
-pub returns-in-Ok : goal.returns-in-Ok
-returns-in-Ok g c =
-    let is = rw (c.method.ensures, c.url.ensures.value, c.body.ensures.value) at c.in-Ok.ensures.ok in
-    weaker (IsAnsweredCall g.L.Origin.origin g.L.Naming.book c.args.seat.now c.call_answer.new.seat c.in-Ok.call)
-    (IsCallAnswered g.L.Origin.origin g.L.Naming.book c.args.escape c.args.seat.now c.call_answer.new.seat
-    c.args.request.now)
-    (λ reply answered. inr (c.in-Ok.call, is, answered)) c.call_answer.result c.call_answer.ensures
+pub returns-in-Some : goal.returns-in-Some
+returns-in-Some g c =
+    given (IsOwnAnswered g.L.Origin.origin g.L.Naming.book c.args.site.now.escape c.args.site.now.page c.args.seat.now
+    c.args.seat.now c.args.request.now)
+    (page_reply c.in-Some.page.now) c.page_answer.result
+    (inl (c.in-Some.page.now, c.in-Some.ensures.some, refl, refl)) c.page_answer.ensures
 
-pub returns-in-Err : goal.returns-in-Err
-returns-in-Err g c =
-    let is = rw (c.method.ensures, c.url.ensures.value, c.body.ensures.value) at c.in-Err.ensures.error in
-    given (IsCallAnswered g.L.Origin.origin g.L.Naming.book c.args.escape c.args.seat.now c.args.seat.now
-    c.args.request.now)
-    (reporting c.error_code.result) c.reporting.result
-    (inl (refl, (c.in-Err.error, is, ap reporting c.error_code.ensures))) c.reporting.ensures
+pub returns-in-None : goal.returns-in-None
+returns-in-None g c =
+    weaker (IsCallAnswered g.L.Origin.origin g.L.Naming.book c.args.site.now.escape c.args.seat.now
+    c.made_answer.new.seat c.args.request.now)
+    (IsOwnAnswered g.L.Origin.origin g.L.Naming.book c.args.site.now.escape c.args.site.now.page c.args.seat.now
+    c.made_answer.new.seat c.args.request.now)
+    (λ reply answered. inr (c.in-None.ensures.none tt, answered)) c.made_answer.result c.made_answer.ensures

@@ -3,6 +3,11 @@ use Rattle.std.proofs.lemmas.Result.{IfErr-weaker, IfOk-weaker}
 use Rattle.answering.proofs.RenderedLemmas.{is_begun, is_not_begun}
 use Rattle.answering.proofs.answer.answer.Goals as goal
 
+pub returns-in-Ok-Refused-clause-ok : goal.returns-in-Ok-Refused-clause-ok
+returns-in-Ok-Refused-clause-ok g c =
+    let begun = rw c.in-Ok-Refused.field-0-is at c.in-Ok-Refused.ensures.ok in
+    inl (rw (c.into_response.ensures, c.into_inner.ensures) begun)
+
 pub returns-in-Ok-ToForward-clause-ok : goal.returns-in-Ok-ToForward-clause-ok
 returns-in-Ok-ToForward-clause-ok g c =
     let begun = rw c.in-Ok-ToForward.field-0-is at c.in-Ok-ToForward.ensures.ok in
@@ -29,6 +34,7 @@ returns-in-Ok-ToRender-clause-ok g c =
     let begun = rw c.in-Ok-ToRender.field-0-is at c.in-Ok-ToRender.ensures.ok in
     IfOk-weaker c.rendered_response.result _ _
     (λ response of. inl (is_begun g.L.Origin.origin g.L.Naming.book c.args.site.now.limits c.args.site.now.escape
+    c.args.site.now.page
     c.args.seat.now c.begin.new.seat c.args.message.now c.in-Ok-ToRender.rendering begun c.reply.result response
     c.reply.ensures of))
     c.rendered_response.ensures.ok
@@ -40,6 +46,7 @@ returns-in-Ok-ToRender-clause-err g c =
     (λ error none. (
       none,
       inl (is_not_begun g.L.Origin.origin g.L.Naming.book c.args.site.now.limits
-          c.args.site.now.escape c.args.seat.now c.begin.new.seat c.args.message.now c.in-Ok-ToRender.rendering begun),
+          c.args.site.now.escape c.args.site.now.page c.args.seat.now c.begin.new.seat c.args.message.now
+          c.in-Ok-ToRender.rendering begun),
     ))
     c.rendered_response.ensures.err

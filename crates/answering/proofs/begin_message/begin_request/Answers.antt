@@ -1,7 +1,7 @@
 use Rattle.std.proofs.Common.{sym, ◌∙◌, subst, inl, inr}
 use Rattle.std.proofs.lemmas.Bool.{false≢true}
-use Rattle.std.proofs.lemmas.Result.{err_from_is_err_and}
-use Rattle.admin_table.specs.Routes.{IsAdmin}
+use Rattle.admin_routes.specs.Routes.{IsAdmin}
+use Rattle.answering.specs.Admin.{IsAdminAnswered}
 use Rattle.answering.specs.Answering.{IsRequestAnswered, IsServeAnswered}
 use Rattle.answering.specs.Inner.Sent.{IsRequestToForward, IsRequestToRender, IsServedToForward, IsServedToRender}
 use Rattle.answering.proofs.ResultLemmas.{begun_weaker}
@@ -15,7 +15,8 @@ returns g c =
     begun_weaker
     (IsServeAnswered g.L.Origin.origin g.L.Naming.book c.args.site.now.limits c.args.seat.now c.serve.new.seat
     c.args.request)
-    (IsRequestAnswered g.L.Origin.origin g.L.Naming.book c.args.site.now.limits c.args.site.now.escape c.args.seat.now
+    (IsRequestAnswered g.L.Origin.origin g.L.Naming.book c.args.site.now.limits c.args.site.now.escape
+    c.args.site.now.page c.args.seat.now
     c.serve.new.seat c.args.request)
     (IsServedToForward g.L.Origin.origin g.L.Naming.book c.args.seat.now c.serve.new.seat c.args.request)
     (IsRequestToForward g.L.Origin.origin g.L.Naming.book c.args.seat.now c.serve.new.seat c.args.request)
@@ -29,12 +30,15 @@ returns g c =
 pub returns-then-is_admin : goal.returns-then-is_admin
 returns-then-is_admin g c =
     let is = subst IsAdmin c.url.ensures.value (c.is_admin.ensures.0 c.if-is_admin.true) in
-    let made = c.in_ok-response.ensures in
-    (made.0, inl (is, made.1), made.2)
-
-pub returns-in_err-response : goal.returns-in_err-response
-returns-in_err-response g c =
-    let is = subst IsAdmin c.url.ensures.value (c.is_admin.ensures.0 c.if-is_admin.true) in
-    let none = err_from_is_err_and c.from_residual.result c.from_residual.ensures.1 in
-    let reply = c.in_err-response.ensures in
-    rw none.1 (reply.0, inl (is, reply.1))
+    begun_weaker
+    (IsAdminAnswered g.L.Origin.origin g.L.Naming.book c.args.site.now.escape c.args.site.now.page c.args.seat.now
+    c.admin_begun.new.seat c.args.request)
+    (IsRequestAnswered g.L.Origin.origin g.L.Naming.book c.args.site.now.limits c.args.site.now.escape
+    c.args.site.now.page c.args.seat.now c.admin_begun.new.seat c.args.request)
+    (λ _. ⊥)
+    (IsRequestToForward g.L.Origin.origin g.L.Naming.book c.args.seat.now c.admin_begun.new.seat c.args.request)
+    (λ _. ⊥)
+    (IsRequestToRender g.L.Origin.origin g.L.Naming.book c.args.site.now.limits c.args.seat.now
+    c.admin_begun.new.seat c.args.request)
+    (λ reply answered. inl (is, answered)) (λ forward none. absurd none) (λ rendering none. absurd none)
+    c.admin_begun.result c.admin_begun.ensures

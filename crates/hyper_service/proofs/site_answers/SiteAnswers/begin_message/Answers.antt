@@ -15,9 +15,17 @@ returns-in_err-response-clause-err g c =
 pub returns-in-Answered-clause-ok : goal.returns-in-Answered-clause-ok
 returns-in-Answered-clause-ok g c =
     let site = c.deref.result.now in
-    inl (rw c.deref.ensures at (subst (Begins g.L.Origin.origin g.L.Naming.book site.limits site.escape
+    inl (rw c.deref.ensures at (subst (Begins g.L.Origin.origin g.L.Naming.book site.limits site.escape site.page
     c.args.seat.now c.begin.new.seat
     c.args.request.now) c.in-Answered.is c.in_ok-response.ensures.ok))
+
+pub returns-in-Refused-clause-ok : goal.returns-in-Refused-clause-ok
+returns-in-Refused-clause-ok g c =
+    let site = c.deref.result.now in
+    let begun = rw c.deref.ensures at (subst (Begins g.L.Origin.origin g.L.Naming.book site.limits site.escape site.page
+    c.args.seat.now c.begin.new.seat
+    c.args.request.now) c.in-Refused.is c.in_ok-response.ensures.ok) in
+    inl (rw c.refuse-response.ensures begun)
 
 pub returns-in-ToForward-clause-ok : goal.returns-in-ToForward-clause-ok
 returns-in-ToForward-clause-ok g c =
@@ -27,7 +35,7 @@ returns-in-ToForward-clause-ok g c =
     g.F.Forwards.sends g.F.Exchange.Future.gives g.V.Run.Future.gives g.F.Exchange.Future.can_poll
     g.V.Run.Future.can_poll c.args.seat.now c.begin.new.seat
     c.forward.new.seat c.args.request.now c.in-ToForward.forward
-    (subst (Begins g.L.Origin.origin g.L.Naming.book site.limits site.escape c.args.seat.now c.begin.new.seat
+    (subst (Begins g.L.Origin.origin g.L.Naming.book site.limits site.escape site.page c.args.seat.now c.begin.new.seat
     c.args.request.now)
     c.in-ToForward.is c.in_ok-response.ensures.ok) c.forward.result c.forward.ensures.ok
 
@@ -37,7 +45,7 @@ returns-in-ToForward-clause-err g c =
     left_unfinished (rules_of g.L.Origin.origin g.L.Naming.book c.args.self.now) (λ error. error ≡ OutOfMemory)
     c.args.seat.now
     c.begin.new.seat c.forward.new.seat c.args.request.now c.in-ToForward.forward
-    (subst (Begins g.L.Origin.origin g.L.Naming.book site.limits site.escape c.args.seat.now c.begin.new.seat
+    (subst (Begins g.L.Origin.origin g.L.Naming.book site.limits site.escape site.page c.args.seat.now c.begin.new.seat
     c.args.request.now)
     c.in-ToForward.is c.in_ok-response.ensures.ok) c.forward.result c.forward.ensures.err
 
@@ -48,7 +56,8 @@ returns-in-ToRender-clause-ok g c =
     c.args.self.now.forwarder)
     g.F.Forwards.sends g.F.Exchange.Future.gives g.V.Run.Future.gives g.F.Exchange.Future.can_poll
     g.V.Run.Future.can_poll c.args.seat.now c.begin.new.seat c.args.request.now c.in-ToRender.rendering
-    (rw c.deref.ensures at (subst (Begins g.L.Origin.origin g.L.Naming.book site.limits site.escape c.args.seat.now
+    (rw c.deref.ensures at (subst (Begins g.L.Origin.origin g.L.Naming.book site.limits site.escape site.page
+    c.args.seat.now
     c.begin.new.seat c.args.request.now)
     c.in-ToRender.is c.in_ok-response.ensures.ok)) c.render.result c.render.ensures.ok
 
@@ -57,6 +66,7 @@ returns-in-ToRender-clause-err g c =
     let site = c.deref.result.now in
     left_unrendered (rules_of g.L.Origin.origin g.L.Naming.book c.args.self.now) (λ error. error ≡ OutOfMemory)
     c.args.seat.now c.begin.new.seat c.args.request.now c.in-ToRender.rendering
-    (rw c.deref.ensures at (subst (Begins g.L.Origin.origin g.L.Naming.book site.limits site.escape c.args.seat.now
+    (rw c.deref.ensures at (subst (Begins g.L.Origin.origin g.L.Naming.book site.limits site.escape site.page
+    c.args.seat.now
     c.begin.new.seat c.args.request.now)
     c.in-ToRender.is c.in_ok-response.ensures.ok)) c.render.result c.render.ensures.err

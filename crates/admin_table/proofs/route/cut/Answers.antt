@@ -1,5 +1,0 @@
-use Rattle.path_template.proofs.Cuts.{first_cut}
-use Rattle.admin_table.proofs.route.cut.Goals as goal
-
-pub returns : goal.returns
-returns c = first_cut c.args.text.now c.split_once.result c.split_once.ensures.cases

@@ -1,3 +1,0 @@
-pub mod Routes
-pub mod Segment
-pub mod Inner

@@ -1,6 +1,0 @@
-// The table of the admin calls (WireMock's documentation, "Admin API"): which call a method and a path name. Contracts
-// cite `specs/Routes.antt` (the table) and `specs/Segment.antt` (what is in the place of a name).
-#![tactic(auto)]
-
-pub mod route;
-pub mod segment;

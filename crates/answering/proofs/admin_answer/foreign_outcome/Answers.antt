@@ -1,0 +1,4 @@
+use Rattle.answering.proofs.admin_answer.foreign_outcome.Goals as goal
+
+pub returns : goal.returns
+returns c = rw c.in_ok-reply.ensures at c.refusing.ensures

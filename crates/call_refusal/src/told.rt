@@ -1,0 +1,168 @@
+// What is told of a call that is refused.
+use crate::methods::methods_of;
+use crate::reason::Reason;
+use crate::refusal::Refusal;
+use admin_routes::error::AdminError;
+use admin_routes::router::AdminRoutes;
+use error_code::error_code::ErrorCode;
+use itoa::Buffer;
+use mapping_diagnosis::notes::Notes;
+use mapping_diagnosis::shown::cut;
+use std::alloc::{AllocError, Global};
+
+/// How many characters of a method and of a path are told.
+const SHOWN: usize = 1000;
+
+/// What is told of a call that is refused.
+#[derive(Drop)]
+pub struct Told {
+    /// Whole lines: which call is refused and why, and what is wrong with its body.
+    pub lines: String,
+    /// The same on one line, and without the call; none where nothing is left of it.
+    pub reason: Option<Reason>,
+}
+
+impl Told {
+    pub fn into_lines(self) -> String {
+        let Told {
+            lines,
+            reason: _reason,
+        } = self;
+        lines
+    }
+}
+
+/// Why the call with this method, URL and body is refused, for the server's user and for the client.
+pub fn told_of(
+    alloc: Global,
+    routes: &AdminRoutes,
+    method: &str,
+    url: &str,
+    body: &[u8],
+    refusal: Refusal,
+) -> Result<Told, AllocError> {
+    let path = path_of(url);
+    let call = call_of(alloc, method, path)?;
+    let mut notes = Notes::new(alloc);
+    let title = title_of(alloc, routes, path, refusal)?;
+    notes.add_refusal(call.as_str(), title.as_str())?;
+    add_body(alloc, &mut notes, call.as_str(), body, refusal)?;
+    let lines = notes.into_string();
+    let reason = on_one_line(alloc, lines.as_str(), call.as_str())?;
+    Ok(Told {
+        lines,
+        reason: Reason::of(alloc, reason.as_str())?,
+    })
+}
+
+/// The method and the path, as they are told.
+pub fn call_of(alloc: Global, method: &str, path: &str) -> Result<String, AllocError> {
+    let mut call = cut(alloc, method, SHOWN)?;
+    call.push_str(" ")?;
+    call.push_str(cut(alloc, path, SHOWN)?.as_str())?;
+    Ok(call)
+}
+
+/// The URL before its query.
+pub fn path_of(url: &str) -> &str {
+    match url.split_once('?') {
+        Some((path, _query)) => path,
+        None => url,
+    }
+}
+
+// As `error 12: unsupported field`.
+fn title_of(
+    alloc: Global,
+    routes: &AdminRoutes,
+    path: &str,
+    refusal: Refusal,
+) -> Result<String, AllocError> {
+    match refusal {
+        Refusal::Foreign => String::from_str(alloc, "not for pages of other sites"),
+        Refusal::NoCall(AdminError::UnknownCall) => unknown_title(alloc, routes, path),
+        Refusal::NoCall(error) => error_title(alloc, error.error_code()),
+        Refusal::Unanswered(code) => error_title(alloc, code),
+    }
+}
+
+fn error_title(alloc: Global, code: ErrorCode) -> Result<String, AllocError> {
+    let mut title = String::from_str(alloc, "error ")?;
+    title.push_str(Buffer::new().format(code.number()))?;
+    title.push_str(": ")?;
+    title.push_str(code.title())?;
+    Ok(title)
+}
+
+// Of a path that calls with other methods have, it names these.
+fn unknown_title(
+    alloc: Global,
+    routes: &AdminRoutes,
+    path: &str,
+) -> Result<String, AllocError> {
+    let mut title = error_title(alloc, ErrorCode::UnknownAdminCall)?;
+    let methods = methods_of(alloc, routes, path)?;
+    if !methods.is_empty() {
+        title.push_str(": this path has the methods ")?;
+        title.push_str(methods.as_str())?;
+    }
+    Ok(title)
+}
+
+// What is wrong with the body, if the call is refused for that.
+fn add_body(
+    alloc: Global,
+    notes: &mut Notes,
+    call: &str,
+    body: &[u8],
+    refusal: Refusal,
+) -> Result<(), AllocError> {
+    match refusal {
+        Refusal::NoCall(AdminError::Mapping(error)) => {
+            notes.add_posted(alloc, call, body, Some(error))
+        }
+        Refusal::NoCall(AdminError::Matcher(error)) => {
+            notes.add_matcher(alloc, call, body, Some(error))
+        }
+        Refusal::NoCall(AdminError::State(_error)) => notes.add_state(alloc, call, body),
+        Refusal::NoCall(AdminError::Start(error)) => {
+            notes.add_recording(alloc, call, body, error.error_code())
+        }
+        // Only what starts a recording has a target.
+        Refusal::Unanswered(ErrorCode::BadTarget) => {
+            notes.add_recording(alloc, call, body, ErrorCode::BadTarget)
+        }
+        _ => Ok(()),
+    }
+}
+
+// The lines without the call, and with `; ` between two.
+fn on_one_line(alloc: Global, lines: &str, call: &str) -> Result<String, AllocError> {
+    let mut all = String::new(alloc);
+    for line in lines.lines() {
+        if !all.is_empty() {
+            all.push_str("; ")?;
+        }
+        match line.split_once(call) {
+            Some((front, rest)) => {
+                if front.starts_with("warning") {
+                    all.push_str("warning: ")?;
+                }
+                all.push_str(without_marks(rest))?;
+            }
+            None => all.push_str(line.trim_start())?,
+        }
+    }
+    Ok(all)
+}
+
+// What follows a call in a line.
+fn without_marks(rest: &str) -> &str {
+    match rest.strip_prefix(": ") {
+        Some(rest) => rest,
+        None => match rest.strip_prefix(", ") {
+            Some(rest) => rest,
+            None => rest.trim_start(),
+        },
+    }
+}
