@@ -259,11 +259,19 @@ class Client:
 
     def call(self, method, target, headers=(), content=b""):
         """The status of the answer, and its content."""
+        status, _headers, content = self.answer(method, target, headers, content)
+        return status, content.decode()
+
+    def headers(self, method, target, headers=(), content=b""):
+        """The headers of the answer."""
+        return self.answer(method, target, headers, content)[1]
+
+    def answer(self, method, target, headers, content):
         sent = message(method, target, headers, content)
         status, received, content = self.sent(sent) or ("no answer", [("connection", "close")], b"")
         if b" HTTP/1.0\r\n" in sent or ("connection", "close") in received:
             self.close()
-        return status, content.decode()
+        return status, received, content
 
     def sent(self, message):
         self.connection = self.connection or connect(self.port)

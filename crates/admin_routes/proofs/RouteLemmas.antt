@@ -181,10 +181,10 @@ place_is_in place.RecordingHar parameter = refl
 same_front : (xs ys end : List ℕ) → xs ++ end ≡ ys ++ end → xs ≡ ys
 same_front xs ys end e =
     let long : length xs ≡ length ys =
-        let x = length-append xs end in
-        let y = length-append ys end in
-        let both = ap length e in
-        omega arith in
+    let x = length-append xs end in
+    let y = length-append ys end in
+    let both = ap length e in
+    omega arith in
     sym (take-append_seam xs end) ∙ ap (λ n. take n (xs ++ end)) long ∙ ap (take (length ys)) e ∙ take-append_seam ys end
 
 same_call
@@ -231,7 +231,7 @@ pub none_is_named
     → o ≡ call_at method p parameter → IsNone o → (r : Route) → ¬ (Names method url r)
 none_is_named method url p parameter None is e none r names =
     let same : path_at p parameter ≡ path_at (place_of r) (parameter_of r) =
-        sym is.same_path ∙ names.is_path.same_path in
+    sym is.same_path ∙ names.is_path.same_path in
     nothing r
     (e ∙ one_call method p (place_of r) parameter (parameter_of r) same
     ∙ ap (λ m. call_at m (place_of r) (parameter_of r)) names.same_method ∙ named_call r)

@@ -65,6 +65,7 @@ at_mapping path parameter utf8 fits shows = by (around (codes "/__admin/mappings
   where
     bytes : IsText (codes "/__admin/mappings" ++ slash ∷ [])
     bytes = all_are_bytes (codes "/__admin/mappings/") refl
+
     by : (value : List ℕ) × (rest : List ℕ) × IsAround (codes "/__admin/mappings") [] path value rest
         → IsPath place.Mapping parameter path
     by (value, rest, is) =
@@ -84,13 +85,14 @@ at_scenario path parameter utf8 fits shows = by (around (codes "/__admin/scenari
   where
     bytes : IsText (codes "/__admin/scenarios" ++ slash ∷ [])
     bytes = all_are_bytes (codes "/__admin/scenarios/") refl
+
     by : (value : List ℕ) × (rest : List ℕ) × IsAround (codes "/__admin/scenarios") (codes "/state") path value rest
         → IsPath place.ScenarioState parameter path
     by (value, rest, is) =
         let takes = around_takes (codes "/__admin/scenarios") (codes "/state") path value rest (text_at place.ScenarioState) (20, 24) bytes refl is utf8 in
         let same = shown _ takes.0 takes.1 shows in
         let end : value ++ rest ≡ parameter ++ codes "/state" =
-            ap (λ r. value ++ r) (only (codes "/state") rest refl is.left) ∙ ap (λ v. v ++ codes "/state") (sym same) in
+        ap (λ r. value ++ r) (only (codes "/state") rest refl is.left) ∙ ap (λ v. v ++ codes "/state") (sym same) in
         record {
           same_path = is.whole ∙ ap (λ x. codes "/__admin/scenarios/" ++ x) end;
           has_parameter = subst IsSegment (sym same) is.segment;
@@ -168,6 +170,7 @@ found_is_path path parameter route utf8 e shows = by (found_fits 0 rows path rou
         subst (λ r. IsPath r.value parameter path) same
         (at_place p path parameter utf8 fits
         (subst (λ r. ShowsFirst (walk r.pattern r.text path r.names 0 0) parameter) (sym same) shows))
+
     by : Hit rows route path → IsPath route.value parameter path
     by (pattern, has, fits) =
         let row = row_of places pattern route has in

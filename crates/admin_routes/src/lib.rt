@@ -8,11 +8,10 @@
 pub mod admin;
 pub mod call;
 pub mod error;
+mod methods;
+mod place;
 pub mod route;
 pub mod router;
 pub mod segment;
-pub mod url;
-
-mod methods;
-mod place;
 mod table;
+pub mod url;

@@ -45,4 +45,3 @@ fn cut(text: &str) -> Option<(&str, &str)>
 {
     text.split_once('/')
 }
-

@@ -99,10 +99,15 @@ fn own_answer<L: Origin, R: Wait, G: Gate, C: Clock>(
 {
     match page_in(&site.page, request) {
         Some(page) => page_answer(alloc, page),
-        None => {
-            let (shared, routes) = (&site.book, &site.routes);
-            made_answer(rt, alloc, shared, routes, seat, request, site.escape)
-        }
+        None => made_answer(
+            rt,
+            alloc,
+            &site.book,
+            &site.routes,
+            seat,
+            request,
+            site.escape,
+        ),
     }
 }
 

@@ -43,11 +43,12 @@ pub fn told_of(
 ) -> Result<Told, AllocError> {
     let path = path_of(url);
     let call = call_of(alloc, method, path)?;
-    let mut notes = Notes::new(alloc);
-    let title = title_of(alloc, routes, path, refusal)?;
-    notes.add_refusal(call.as_str(), title.as_str())?;
-    add_body(alloc, &mut notes, call.as_str(), body, refusal)?;
-    let lines = notes.into_string();
+    let mut lines = String::from_str(alloc, "refused ")?;
+    lines.push_str(call.as_str())?;
+    lines.push_str(": ")?;
+    lines.push_str(title_of(alloc, routes, path, refusal)?.as_str())?;
+    lines.push_str("\n")?;
+    lines.push_str(body_lines(alloc, call.as_str(), body, refusal)?.as_str())?;
     let reason = on_one_line(alloc, lines.as_str(), call.as_str())?;
     Ok(Told {
         lines,
@@ -95,11 +96,7 @@ fn error_title(alloc: Global, code: ErrorCode) -> Result<String, AllocError> {
 }
 
 // Of a path that calls with other methods have, it names these.
-fn unknown_title(
-    alloc: Global,
-    routes: &AdminRoutes,
-    path: &str,
-) -> Result<String, AllocError> {
+fn unknown_title(alloc: Global, routes: &AdminRoutes, path: &str) -> Result<String, AllocError> {
     let mut title = error_title(alloc, ErrorCode::UnknownAdminCall)?;
     let methods = methods_of(alloc, routes, path)?;
     if !methods.is_empty() {
@@ -110,30 +107,45 @@ fn unknown_title(
 }
 
 // What is wrong with the body, if the call is refused for that.
-fn add_body(
+fn body_lines(
+    alloc: Global,
+    call: &str,
+    body: &[u8],
+    refusal: Refusal,
+) -> Result<String, AllocError> {
+    let mut notes = Notes::new(alloc);
+    match refusal {
+        Refusal::NoCall(AdminError::Mapping(error)) => {
+            notes.add_posted(alloc, call, body, Some(error))?
+        }
+        Refusal::NoCall(AdminError::Matcher(error)) => {
+            notes.add_matcher(alloc, call, body, Some(error))?
+        }
+        Refusal::NoCall(AdminError::State(_error)) => notes.add_state(alloc, call, body)?,
+        Refusal::NoCall(AdminError::Start(error)) => {
+            add_start(alloc, &mut notes, call, body, error.error_code())?
+        }
+        // Only what starts a recording has a target.
+        Refusal::Unanswered(ErrorCode::BadTarget) => {
+            add_start(alloc, &mut notes, call, body, ErrorCode::BadTarget)?
+        }
+        _ => {}
+    }
+    Ok(notes.into_string())
+}
+
+// What is wrong with the body of a call that was to start a recording. `Notes` has its code from an answer.
+fn add_start(
     alloc: Global,
     notes: &mut Notes,
     call: &str,
     body: &[u8],
-    refusal: Refusal,
+    code: ErrorCode,
 ) -> Result<(), AllocError> {
-    match refusal {
-        Refusal::NoCall(AdminError::Mapping(error)) => {
-            notes.add_posted(alloc, call, body, Some(error))
-        }
-        Refusal::NoCall(AdminError::Matcher(error)) => {
-            notes.add_matcher(alloc, call, body, Some(error))
-        }
-        Refusal::NoCall(AdminError::State(_error)) => notes.add_state(alloc, call, body),
-        Refusal::NoCall(AdminError::Start(error)) => {
-            notes.add_recording(alloc, call, body, error.error_code())
-        }
-        // Only what starts a recording has a target.
-        Refusal::Unanswered(ErrorCode::BadTarget) => {
-            notes.add_recording(alloc, call, body, ErrorCode::BadTarget)
-        }
-        _ => Ok(()),
-    }
+    let mut answer = String::from_str(alloc, "{\"errors\":[{\"code\":")?;
+    answer.push_str(Buffer::new().format(code.number()))?;
+    answer.push_str(",\"title\":\"\"}]}")?;
+    notes.add_recording(alloc, call, body, answer.as_bytes())
 }
 
 // The lines without the call, and with `; ` between two.

@@ -35,17 +35,23 @@ module _ {E : Type 0} (source : Runs (Result (Frame (List ℕ)) E)) (held : List
     pub came : source (map Ok frames) (Some (Ok last))
     pub over : BODY_LIMIT < length (held ++ (joined_data frames ++ bytes_in last.kind))
 
+-- a body gave frames, and then an error
+pub record Fails {E : Type 0} (source : Runs (Result (Frame (List ℕ)) E)) : Type 0 where
+  pub frames : List (Frame (List ℕ))
+  pub error : E
+  pub came : source (map Ok frames) (Some (Err error))
+
 -- What comes of gathering the content of a body, of which `held` is there, or which is too long already: the data of
--- its frames, or that these are too long, where they are.
+-- its frames, or that these are too long, where they are; malformed is a body that has failed.
 abbrev pub IsGathered : {E : Type 0} → Runs (Result (Frame (List ℕ)) E) → Bool → List ℕ
     → Result (List ℕ) ContentError → Type 0
 IsGathered source true held (Ok content) = ⊥
-IsGathered source true held (Err error) = ⊤
+IsGathered source true held (Err TooLong) = ⊤
 IsGathered source false held (Ok content) = Gathers source held content
 IsGathered source false held (Err TooLong) = Exceeds source held
-IsGathered source false held (Err Malformed) = ⊤
-IsGathered source false held (Err Late) = ⊤
-IsGathered source false held (Err OutOfMemory) = ⊤
+IsGathered source is_too_long held (Err Malformed) = Fails source
+IsGathered source is_too_long held (Err Late) = ⊤
+IsGathered source is_too_long held (Err OutOfMemory) = ⊤
 
 -- what gathers the content of the body, of which nothing is there
 pub record IsNewFor {R B : Type 0} (gathering : Gathering R B) (body : B) : Type 0 where

@@ -17,7 +17,7 @@ use crate::service::MessageService;
 use crate::settings::Settings;
 use futures::task::{Context, Poll};
 use futures::{Future, Stream, ready};
-use std::alloc::AllocGlobal;
+use std::alloc::{AllocError, AllocGlobal};
 use std::io;
 use std::rc::Rc;
 use std::sync::{Arc, Wait};
@@ -48,8 +48,8 @@ pub(crate) struct Accepting<R, A: Answers, M> {
     /// A connection that waits for room.
     waiting: Option<TcpStream>,
     pause: Pause<R>,
-    /// Is ready once no more are accepted by any thread.
-    ended: OwnedNotified,
+    /// Is ready once there is something to look at: no more may be accepted, there may be room, or none may be left.
+    told: OwnedNotified,
     handle: Rc<Handle>,
     connects: M,
 }
@@ -65,7 +65,7 @@ where
         pool: Arc<SeatPool<A>>,
         settings: Settings,
         pause: Pause<R>,
-        ended: OwnedNotified,
+        told: OwnedNotified,
         handle: Rc<Handle>,
         connects: M,
     ) -> Accepting<R, A, M>
@@ -82,7 +82,7 @@ where
             is_open: true,
             waiting: None,
             pause,
-            ended,
+            told,
             handle,
             connects,
         }
@@ -94,21 +94,85 @@ where
         self.left != Some(0) && self.is_open
     }
 
-    // Whether no more are accepted by this thread, or by any. Where there is no memory to wait for the last, it is seen
-    // when the next connection comes.
-    fn is_done(&mut self, cx: &mut Context<'_>) -> bool
-        ensures wanted { IsFalse result → IfSome self.old.left (λ left. 0 < left) }
+    // Ready where there is no pause, or once it is over. From then on nothing is missed that is told.
+    fn poll_turn(&mut self, cx: &mut Context<'_>) -> Poll<()>
+        ensures registered { OnPending result (IsArmed cx.new) }
         ensures kept { Keeps cx.old cx.new }
         ensures connects { self.new.connects ≡ self.old.connects }
         ensures pool { self.new.pool ≡ self.old.pool }
         ensures left { self.new.left ≡ self.old.left }
     {
-        !self.wants_more() || matches!(self.ended.poll(cx), Poll::Ready(Ok(())))
+        ready!(self.poll_pause(cx));
+        self.listen(cx);
+        Poll::Ready(())
+    }
+
+    // What is told ends a pause.
+    fn poll_pause(&mut self, cx: &mut Context<'_>) -> Poll<()>
+        ensures registered { OnPending result (IsArmed cx.new) }
+        ensures kept { Keeps cx.old cx.new }
+        ensures connects { self.new.connects ≡ self.old.connects }
+        ensures pool { self.new.pool ≡ self.old.pool }
+        ensures left { self.new.left ≡ self.old.left }
+    {
+        if let Poll::Ready(()) = self.pause.poll(cx) {
+            return Poll::Ready(());
+        }
+        if let Poll::Ready(Ok(())) = self.told.poll(cx) {
+            self.pause.end();
+            return Poll::Ready(());
+        }
+        Poll::Pending
+    }
+
+    // Waits for what is told from now on, or where there is no memory for that, for the end of a pause. Whatever there is
+    // to look at is looked at afterwards.
+    fn listen(&mut self, cx: &mut Context<'_>)
+        ensures armed { IsArmed cx.new }
+        ensures kept { Keeps cx.old cx.new }
+        ensures connects { self.new.connects ≡ self.old.connects }
+        ensures pool { self.new.pool ≡ self.old.pool }
+        ensures left { self.new.left ≡ self.old.left }
+    {
+        if matches!(self.told.poll(cx), Poll::Pending) {
+            return;
+        }
+        if let Ok(told) = self.pool.ender.notified() {
+            self.told = told;
+        }
+        match self.told.poll(cx) {
+            Poll::Pending => {}
+            Poll::Ready(Ok(())) => {
+                let _: Poll<()> = cx.yield_now();
+            }
+            Poll::Ready(Err(AllocError)) => self.look_again_soon(cx),
+        }
+    }
+
+    // It is looked at again after a pause.
+    fn look_again_soon(&mut self, cx: &mut Context<'_>)
+        ensures armed { IsArmed cx.new }
+        ensures kept { Keeps cx.old cx.new }
+        ensures same { self.new ≡ record self.old { pause = self.new.pause } }
+    {
+        self.pause.begin();
+        if let Poll::Ready(()) = self.pause.poll(cx) {
+            let _: Poll<()> = cx.yield_now();
+        }
+    }
+
+    // Whether no more are accepted, by this thread or by any.
+    fn is_done(&self) -> bool
+        ensures { IsFalse result → IfSome self.now.left (λ left. 0 < left) }
+    {
+        !self.wants_more() || self.pool.is_done(&self.rt)
     }
 
     // No more are accepted. That is all where the end was asked for: then the connections leave, and the event loop waits
-    // for them as long as it may. Otherwise it goes on until all have ended, which is looked at now and then.
-    fn is_over(&mut self) -> bool
+    // for them as long as it may. Otherwise it goes on until all have ended.
+    fn poll_end(&mut self, cx: &mut Context<'_>) -> Poll<()>
+        ensures registered { OnPending result (IsArmed cx.new) }
+        ensures kept { Keeps cx.old cx.new }
         ensures connects { self.new.connects ≡ self.old.connects }
         ensures pool { self.new.pool ≡ self.old.pool }
         ensures left { self.new.left ≡ self.old.left }
@@ -117,13 +181,17 @@ where
         self.waiting = None;
         if self.pool.is_asked() {
             self.pool.clear(&self.rt);
-            return true;
+            return Poll::Ready(());
         }
         if !self.pool.has_connections(&self.rt) {
-            return true;
+            return Poll::Ready(());
         }
-        self.pause.begin();
-        false
+        if matches!(self.told.poll(cx), Poll::Pending) {
+            return Poll::Pending;
+        }
+        // Something was told meanwhile, or there is no memory to wait for it.
+        self.look_again_soon(cx);
+        Poll::Pending
     }
 
     // A place with a seat of this number, if the connection can be served.
@@ -200,17 +268,16 @@ where
         }
     }
 
-    // The socket waits, and the connection that has been silent longest is asked to make room. Where none is, it is
-    // looked at again soon.
+    // The socket waits, and the connection that has been silent longest is asked to make room. It is looked at again
+    // once there is room, and soon in any case: another may have been silent long enough then.
     fn wait_for_room(&mut self, socket: TcpStream)
         ensures connects { self.new.connects ≡ self.old.connects }
         ensures pool { self.new.pool ≡ self.old.pool }
         ensures left { self.new.left ≡ self.old.left }
     {
         self.waiting = Some(socket);
-        if !self.pool.make_room(&self.rt) {
-            self.pause.begin();
-        }
+        self.pool.make_room(&self.rt);
+        self.pause.begin();
     }
 
     // The connection of a socket, whose requests are answered by the seat of the place, which has this number; `None`
@@ -282,12 +349,10 @@ where
         (site_in accepting.pool) task.connection.value) accepting.left };
 
     fn poll_next(&mut self, cx: &mut Context<'_>) -> Poll<Option<ConnectionTask<R, A, F>>> {
-        ready!(self.pause.poll(cx));
-        if self.is_done(cx) {
-            if self.is_over() {
-                return Poll::Ready(None);
-            }
-            return cx.yield_now();
+        ready!(self.poll_turn(cx));
+        if self.is_done() {
+            ready!(self.poll_end(cx));
+            return Poll::Ready(None);
         }
         let socket = match ready!(self.poll_socket(cx)) {
             Ok(socket) => socket,

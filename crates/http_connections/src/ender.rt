@@ -32,12 +32,13 @@ impl Ender {
         self.is_asked.load(SeqCst)
     }
 
-    /// Tells each thread that no more connections are accepted.
+    /// Tells each thread that there is something to look at: no more connections may be accepted, there may be room for
+    /// another, or none may be left.
     pub(crate) fn tell(&self) {
         self.told.notify_waiters();
     }
 
-    /// Is ready once a thread is told so, from now on.
+    /// Is ready once threads are told so, from now on.
     pub(crate) fn notified(&self) -> Result<OwnedNotified, AllocError> {
         Ok(Notify::notified_owned(Arc::try_clone(&self.told)?))
     }

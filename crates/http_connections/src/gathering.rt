@@ -1,9 +1,9 @@
 // The content of a request, gathered into one buffer.
-ghost use Rattle.std.specs.Prelude.{◌≡◌, true, false, IfOk, IsErrOf, IsTrue, OnOk};
+ghost use Rattle.std.specs.Prelude.{◌≡◌, ◌≢◌, true, false, IfErr, IfOk, IsErrOf, IsTrue, OnOk};
 ghost use Rattle.futures.specs.Task.{Keeps};
 ghost use Rattle.http_connections.specs.Content.{IsGathered, IsNewFor};
 ghost use Rattle.http_connections.specs.Inner.Pushed.{IsPushed};
-ghost use Rattle.http_connections.specs.declared.content_error.ContentError.TheVariants.{TooLong};
+ghost use Rattle.http_connections.specs.declared.content_error.ContentError.TheVariants.{Malformed, TooLong};
 
 use crate::content_error::{ContentError, content_error};
 use crate::course::Course;
@@ -22,9 +22,6 @@ use std::time::Clock;
 /// that is still sending wouldn't see the answer.
 pub const SKIPPED: usize = 67_108_864;
 
-/// So many pieces are taken. Each has a byte at least, so there are no more of them.
-const PIECES: usize = BODY_LIMIT + SKIPPED;
-
 /// Gathers the content of a request, since each of its pieces would keep a buffer of the connection. Of content that is
 /// too long nothing is kept.
 #[derive(Drop)]
@@ -33,7 +30,6 @@ pub struct Gathering<R, B> {
     body: B,
     course: Arc<Course>,
     patience: Patience<R>,
-    pieces: usize,
     gathered: BytesMut,
     is_too_long: bool,
     skipped: usize,
@@ -53,7 +49,6 @@ impl<R, B> Gathering<R, B> {
             body,
             course,
             patience,
-            pieces: 0,
             gathered: BytesMut::new(alloc),
             is_too_long: false,
             skipped: 0,
@@ -112,12 +107,9 @@ impl<R, B> Gathering<R, B> {
             self.new.is_too_long self.new.gathered.items) }
         ensures too_long { IsErrOf result TooLong
             → IsPushed self.old.is_too_long self.old.gathered.items frame true self.new.gathered.items }
+        ensures err { IfErr result (λ error. error ≢ Malformed) }
         ensures same { self.new.body ≡ self.old.body }
     {
-        if self.pieces >= PIECES {
-            return Err(ContentError::Malformed);
-        }
-        self.pieces += 1;
         let Ok(data) = frame.into_data() else {
             return Ok(());
         };
@@ -129,6 +121,7 @@ impl<R, B> Gathering<R, B> {
 
     fn skip(&mut self, len: usize) -> Result<(), ContentError>
         ensures too_long { self.new.is_too_long ≡ true }
+        ensures err { IfErr result (λ error. error ≢ Malformed) }
         ensures same { self.new.body ≡ self.old.body }
     {
         self.is_too_long = true;
@@ -144,6 +137,7 @@ impl<R, B> Gathering<R, B> {
         ensures value { IfOk result
             (λ content. (content ≡ self.old.gathered.items) × (self.old.is_too_long ≡ false)) }
         ensures too_long { IsErrOf result TooLong → self.old.is_too_long ≡ true }
+        ensures err { IfErr result (λ error. error ≢ Malformed) }
     {
         if self.is_too_long {
             return Err(ContentError::TooLong);

@@ -46,6 +46,10 @@ impl<R: Clock + Drop> Pause<R> {
         self.has_begun = true;
     }
 
+    pub(crate) fn end(&mut self) {
+        self.has_begun = false;
+    }
+
     /// Ready where none has begun, or once it is over.
     pub(crate) fn poll(&mut self, cx: &mut Context<'_>) -> Poll<()>
         ensures registered { OnPending result (IsArmed cx.new) }

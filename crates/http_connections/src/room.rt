@@ -54,15 +54,11 @@ impl Room {
         self.hour.set(now);
     }
 
-    /// Asks the connection that has been silent longest to leave, and long enough. `false` where there is none, or one
-    /// was asked before that hasn't left.
-    pub(crate) fn make(&self) -> bool {
-        match self.longest_silent() {
-            Some(course) => {
-                course.leave();
-                true
-            }
-            None => false,
+    /// Asks the connection that has been silent longest, and long enough, to leave, unless one was asked before that
+    /// hasn't left.
+    pub(crate) fn make(&self) {
+        if let Some(course) = self.longest_silent() {
+            course.leave();
         }
     }
 

@@ -80,8 +80,17 @@ impl<A: Answers> SeatPool<A> {
     }
 
     /// Joins the seat of a connection that has ended to the server's own, and frees its place.
+    /// Whoever accepts connections is told so, where it waits for that.
     pub fn release<R: Wait>(&self, rt: &R, place: Arc<SeatPlace<A::Seat>>) {
-        self.seats.lock(rt).release(rt, &*self.site, place);
+        if self.release_locked(rt, place) {
+            self.ender.tell();
+        }
+    }
+
+    fn release_locked<R: Wait>(&self, rt: &R, place: Arc<SeatPlace<A::Seat>>) -> bool {
+        let mut seats = self.seats.lock(rt);
+        seats.release(rt, &*self.site, place);
+        seats.take_awaited()
     }
 
     /// Whether one more connection is accepted.
@@ -90,6 +99,11 @@ impl<A: Answers> SeatPool<A> {
             return Admission::Never;
         }
         self.seats.lock(rt).admission(self.most)
+    }
+
+    /// Whether no more are, by any thread.
+    pub(crate) fn is_done<R: Wait>(&self, rt: &R) -> bool {
+        self.is_asked() || self.seats.lock(rt).are_done()
     }
 
     /// Whether a connection of any thread is open.
@@ -107,9 +121,9 @@ impl<A: Answers> SeatPool<A> {
         self.seats.lock(rt).room.look(now);
     }
 
-    /// Asks the connection that has been silent longest, and long enough, to make room; `false` where there is none.
-    pub(crate) fn make_room<R: Wait>(&self, rt: &R) -> bool {
-        self.seats.lock(rt).room.make()
+    /// Asks the connection that has been silent longest, and long enough, to make room, if there is one.
+    pub(crate) fn make_room<R: Wait>(&self, rt: &R) {
+        self.seats.lock(rt).room.make();
     }
 
     /// Asks all connections to leave, each once the answer that it waits for has been given.

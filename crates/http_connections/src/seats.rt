@@ -24,6 +24,8 @@ pub(crate) struct Seats<S> {
     /// How many more connections are wanted; `None` for any number.
     wanted: Option<u64>,
     pub(crate) is_open: bool,
+    /// Whether a connection waits until another has ended.
+    is_awaited: bool,
     pub(crate) room: Room,
 }
 
@@ -69,6 +71,7 @@ impl<S: Drop> Seats<S> {
             taken: 0,
             wanted,
             is_open: false,
+            is_awaited: false,
             room: Room::new(alloc)?,
         })
     }
@@ -80,20 +83,41 @@ impl<S: Drop> Seats<S> {
         self.is_open = true;
     }
 
-    pub(crate) fn admission(&self, most: u64) -> Admission
-        ensures { elim result [
-          | admission.Now ↦ (self.now.is_open ≡ true) × (self.now.wanted ≢ Some 0) × (self.now.taken < most)
-          | admission.Later ↦ (self.now.is_open ≡ true) × (self.now.wanted ≢ Some 0) × (most ≤ self.now.taken)
-          | admission.Never ↦ (self.now.is_open ≡ false) ⊎ (self.now.wanted ≡ Some 0)
+    pub(crate) fn admission(&mut self, most: u64) -> Admission
+        ensures admission { elim result [
+          | admission.Now ↦ (self.old.is_open ≡ true) × (self.old.wanted ≢ Some 0) × (self.old.taken < most)
+          | admission.Later ↦ (self.old.is_open ≡ true) × (self.old.wanted ≢ Some 0) × (most ≤ self.old.taken)
+              × (self.new.is_awaited ≡ true)
+          | admission.Never ↦ (self.old.is_open ≡ false) ⊎ (self.old.wanted ≡ Some 0)
         ] }
+        ensures same { self.new ≡ record self.old { is_awaited = self.new.is_awaited } }
     {
-        if !self.is_open || self.wanted == Some(0) {
-            Admission::Never
-        } else if self.taken < most {
-            Admission::Now
-        } else {
-            Admission::Later
+        if self.are_done() {
+            return Admission::Never;
         }
+        if self.taken < most {
+            return Admission::Now;
+        }
+        self.is_awaited = true;
+        Admission::Later
+    }
+
+    /// Whether no more connections are accepted.
+    pub(crate) fn are_done(&self) -> bool
+        ensures { IsTrue result ↔ ((self.now.is_open ≡ false) ⊎ (self.now.wanted ≡ Some 0)) }
+    {
+        !self.is_open || self.wanted == Some(0)
+    }
+
+    /// Whether it is waited until a connection has ended: for room, or until none is left where no more are accepted.
+    pub(crate) fn take_awaited(&mut self) -> bool
+        ensures same { self.new ≡ record self.old { is_awaited = false } }
+        ensures awaited { IsTrue result ↔ ((self.old.is_awaited ≡ true) ⊎ ((self.old.taken ≡ 0)
+            × ((self.old.is_open ≡ false) ⊎ (self.old.wanted ≡ Some 0)))) }
+    {
+        let is_awaited = self.is_awaited || (self.taken == 0 && self.are_done());
+        self.is_awaited = false;
+        is_awaited
     }
 
     /// Whether as many connections as were wanted were accepted.

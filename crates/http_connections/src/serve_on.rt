@@ -211,7 +211,7 @@ where
     let handle = runtime.handle().clone()?;
     let connects = Connecting::with_timers(rt, handle.time(), turns)?;
     let pause = Pause::new(rt, handle.time())?;
-    let accepting = Accepting::new(
+    let mut accepting = Accepting::new(
         rt,
         listener,
         Arc::try_clone(pool)?,
@@ -223,5 +223,6 @@ where
     );
     // The stream ends before its connections have only where the end was asked for.
     runtime.set_shutdown_timeout(Some(Duration::from_secs(END_TIME)));
-    runtime.run_all(&rt, accepting)
+    // By reference: the event loop moves what it is given, and clears room for it at each turn.
+    runtime.run_all(&rt, &mut accepting)
 }

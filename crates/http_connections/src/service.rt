@@ -6,6 +6,7 @@ ghost use Rattle.http_connections.specs.declared.content_error.ContentError.{Con
 ghost use Rattle.http_connections.specs.declared.service.Answering.TheVariants.{Forwarding as Forwards, Made};
 ghost use Rattle.http_connections.specs.declared.service.Answering.TheVariants.{Waiting as Waits};
 ghost use Rattle.http.specs.Request.{body_of, head_of};
+ghost use Rattle.hyper.specs.Incoming.{size_left};
 ghost use Rattle.http_connections.specs.Answering.{IsCalled};
 ghost use Rattle.http_connections.specs.Content.{IsAnswerFor, IsAnswerTo, IsContentAtOnce, IsNewFor, IsTooLong};
 ghost use Rattle.http_connections.specs.Inner.Begun.{IsBegunWith};
@@ -105,9 +106,9 @@ where
 
     // A request without content is answered at once, or forwarded.
     fn call(&self, request: Request<Incoming<I>>) -> Self::Future {
-        self.course.answers();
-        if request.body().size_hint().exact() == Some(0) {
-            return self.at_once(request, Bytes::new());
+        if is_empty(request.body()) {
+            let message = with_content(request, Bytes::new());
+            return self.at_once(&message);
         }
         self.gathering(request)
     }
@@ -118,19 +119,19 @@ where
     R: Wait + AllocGlobal + Copy + Drop,
     A: Answers,
 {
-    // The answer to a request of which nothing has to come.
+    // The answer to a request of which nothing has to come, with its content. By reference, since a request is large.
     fn at_once<I: Drop>(
         &self,
-        request: Request<Incoming<I>>,
-        content: Bytes,
+        message: &Request<Bytes>,
     ) -> Answering<R, A, Gathering<R, Incoming<I>>>
-        requires { IsContentAtOnce (body_of request) content }
-        ensures called { IsCalled A.Content.is_default (IsGivenBy A.number_of A.gives)
+        ensures called { (request : _) → IsContentAtOnce (body_of request) message.now.body
+            → message.now ≡ record { head = head_of request; body = message.now.body }
+            → IsCalled A.Content.is_default (IsGivenBy A.number_of A.gives)
             (IsForwardedBy A.number_of A.forwards) (giver_of self.now.slot) request result }
         ensures can_poll { IsReady A.Exchange.can_poll result }
     {
-        let message = with_content(request, content);
-        match self.slot.begin(&self.rt, self.rt.alloc(), &message) {
+        self.course.answers();
+        match self.slot.begin(&self.rt, self.rt.alloc(), message) {
             Ok(Begun::Answered(response)) => Answering::Made(Some(Ok(response))),
             Ok(Begun::Forwarding(exchange)) => match self.forwarding(exchange) {
                 Ok(forwarding) => Answering::Forwarding(forwarding),
@@ -162,6 +163,7 @@ where
             (IsForwardedBy A.number_of A.forwards) (giver_of self.now.slot) request result }
         ensures can_poll { IsReady A.Exchange.can_poll result }
     {
+        self.course.answers();
         if has_other_coding(request.headers()) {
             return Answering::Made(Some(Ok(unknown_coding(self.rt.alloc()))));
         }
@@ -185,7 +187,10 @@ where
         ensures can_poll { IsReady A.Exchange.can_poll result }
     {
         match overlong(self.rt.alloc()) {
-            Ok(content) => self.at_once(request, content),
+            Ok(content) => {
+                let message = with_content(request, content);
+                self.at_once(&message)
+            }
             Err(AllocError) => Answering::Made(Some(Ok(out_of_memory(self.rt.alloc())))),
         }
     }
@@ -343,6 +348,12 @@ fn with_content<I: Drop>(request: Request<Incoming<I>>, content: Bytes) -> Reque
 {
     let (head, _body) = request.into_parts();
     Request::from_parts(head, content)
+}
+
+fn is_empty<I: Drop>(body: &Incoming<I>) -> bool
+    ensures { IsTrue result → size_left body.now.kind ≡ Some 0 }
+{
+    body.size_hint().exact() == Some(0)
 }
 
 fn is_too_long<I: Drop>(body: &Incoming<I>) -> bool

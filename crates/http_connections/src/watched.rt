@@ -1,5 +1,5 @@
 // A reader and writer that tells the course of a connection, and is asked a limited number of times.
-ghost use Rattle.std.specs.Prelude.{◌≡◌, ◌+◌, OnErr, OnOk, ⊤};
+ghost use Rattle.std.specs.Prelude.{◌≡◌, ◌+◌, ◌≤◌, OnErr, OnOk, ⊤};
 ghost use Rattle.futures.specs.Task.{Keeps};
 ghost use Rattle.http_connections.specs.Turns.{Costs, IsOver, costs_in_order, costs_nothing};
 
@@ -46,7 +46,8 @@ impl<I> Watched<I> {
         Watched { io, turns, course }
     }
 
-    fn take_turn(&mut self) -> io::Result<()>
+    // A small error: each local is cleared when a function is entered.
+    fn take_turn(&mut self) -> Result<(), ErrorKind>
         ensures counted { OnOk result (self.new.turns + 1 ≡ self.old.turns) }
         ensures ended { OnErr result ((self.old.turns ≡ 0) × (self.new.turns ≡ 0)) }
         ensures same { self.new.io ≡ self.old.io }
@@ -56,9 +57,29 @@ impl<I> Watched<I> {
                 self.turns = left;
                 Ok(())
             }
-            None => Err(io::Error::from(ErrorKind::QuotaExceeded)),
+            None => Err(ErrorKind::QuotaExceeded),
         }
     }
+
+    // As for any poll; and nothing is read once the connection has to leave, but for content that is still to come: what
+    // gathers that leaves by itself.
+    fn begin_read(&mut self) -> Result<(), ErrorKind>
+        ensures counted { OnOk result (self.new.turns + 1 ≡ self.old.turns) }
+        ensures fewer { self.new.turns ≤ self.old.turns }
+        ensures same { self.new.io ≡ self.old.io }
+    {
+        self.take_turn()?;
+        if self.course.must_leave() && !self.course.is_at(Stage::Content) {
+            return Err(ErrorKind::TimedOut);
+        }
+        Ok(())
+    }
+}
+
+// Not inlined, as it is rarely made.
+#[inline(never)]
+fn refusal(kind: ErrorKind) -> io::Error {
+    io::Error::from(kind)
 }
 
 impl<I: AsyncRead + AsyncWrite> AsyncRead for Watched<I> {
@@ -73,11 +94,8 @@ impl<I: AsyncRead + AsyncWrite> AsyncRead for Watched<I> {
     ghost reads_in_order = { costs_in_order I.reads I.reads_in_order };
 
     fn poll_read(&mut self, cx: &mut Context<'_>, buf: &mut [u8]) -> Poll<io::Result<usize>> {
-        if let Err(error) = self.take_turn() {
-            return Poll::Ready(Err(error));
-        }
-        if self.course.must_leave() && !self.course.is_at(Stage::Content) {
-            return Poll::Ready(Err(io::Error::from(ErrorKind::TimedOut)));
+        if let Err(kind) = self.begin_read() {
+            return Poll::Ready(Err(refusal(kind)));
         }
         self.course.wants();
         let polled = self.io.poll_read(cx, buf);
@@ -100,22 +118,22 @@ impl<I: AsyncWrite> AsyncWrite for Watched<I> {
     ghost writes_in_order = { costs_in_order I.writes I.writes_in_order };
 
     fn poll_write(&mut self, cx: &mut Context<'_>, buf: &[u8]) -> Poll<io::Result<usize>> {
-        if let Err(error) = self.take_turn() {
-            return Poll::Ready(Err(error));
+        if let Err(kind) = self.take_turn() {
+            return Poll::Ready(Err(refusal(kind)));
         }
         self.io.poll_write(cx, buf)
     }
 
     fn poll_flush(&mut self, cx: &mut Context<'_>) -> Poll<io::Result<()>> {
-        if let Err(error) = self.take_turn() {
-            return Poll::Ready(Err(error));
+        if let Err(kind) = self.take_turn() {
+            return Poll::Ready(Err(refusal(kind)));
         }
         self.io.poll_flush(cx)
     }
 
     fn poll_shutdown(&mut self, cx: &mut Context<'_>) -> Poll<io::Result<()>> {
-        if let Err(error) = self.take_turn() {
-            return Poll::Ready(Err(error));
+        if let Err(kind) = self.take_turn() {
+            return Poll::Ready(Err(refusal(kind)));
         }
         self.io.poll_shutdown(cx)
     }

@@ -98,8 +98,8 @@ fn report_unannounced<E: Write>(announced: &io::Result<()>, err: &mut E) -> u8
     FAILURE
 }
 
-fn is_out_of_memory(result: &io::Result<()>) -> bool {
-    match result {
+fn is_out_of_memory(written: &io::Result<()>) -> bool {
+    match written {
         Ok(()) => false,
         Err(error) => error.kind() == ErrorKind::OutOfMemory,
     }

@@ -7,7 +7,6 @@ use crate::search::{mapping_fault, part_fault};
 use crate::shown::{joined, quoted, shown};
 use crate::sought::Sought;
 use crate::warnings::warnings_of;
-use error_code::error_code::ErrorCode;
 use itoa::Buffer;
 use mapping_json::error::{MappingError, MappingsError};
 use mapping_json::read::mapping_values;
@@ -200,14 +199,15 @@ impl Notes {
         Ok(())
     }
 
-    /// Why an admin call was refused, in these words.
-    pub fn add_refusal(&mut self, call: &str, reason: &str) -> Result<(), AllocError> {
-        self.add_line(["refused ", call, ": ", reason, "\n"].as_slice())
-    }
-
-    /// A warning of an admin call that was made.
-    pub fn add_warning(&mut self, call: &str, warning: &str) -> Result<(), AllocError> {
-        self.add_line(["warning: ", call, ": ", warning, "\n"].as_slice())
+    /// Why an admin call was refused: the body of its answer has a code and a title.
+    pub fn add_refusal(
+        &mut self,
+        alloc: Global,
+        call: &str,
+        answer: &[u8],
+    ) -> Result<(), AllocError> {
+        let reason = refusal_of(alloc, answer)?;
+        self.add_line(["refused ", call, ": ", reason.as_str(), "\n"].as_slice())
     }
 
     /// What there is to say of a mapping that was posted, and which has this error, if it has one.
@@ -249,18 +249,18 @@ impl Notes {
         }
     }
 
-    /// Where a document that was to start a recording is wrong, which was refused by this error.
+    /// Where a document that was to start a recording is wrong: the body of the answer has the code of its error.
     pub fn add_recording(
         &mut self,
         alloc: Global,
         call: &str,
         bytes: &[u8],
-        error: ErrorCode,
+        answer: &[u8],
     ) -> Result<(), AllocError> {
         let Ok(value) = Value::from_slice(alloc, bytes) else {
             return self.add_document(alloc, call, bytes);
         };
-        match Sought::of_recording(error) {
+        match recording_sought(alloc, answer) {
             Some(sought) => {
                 let found = part_fault(alloc, Part::Recording, &value, sought)?;
                 self.add_found(alloc, call, found)
@@ -311,6 +311,14 @@ impl Notes {
     }
 }
 
+fn recording_sought(alloc: Global, answer: &[u8]) -> Option<Sought> {
+    let Ok(answer) = Value::from_slice(alloc, answer) else {
+        return None;
+    };
+    let (number, _title) = first_error(&answer)?;
+    Sought::of_recording(number)
+}
+
 /// Each fault of it has the same code.
 fn state_fault(alloc: Global, value: &Value) -> Result<Option<Fault>, AllocError> {
     let found = part_fault(alloc, Part::ScenarioState, value, Sought::Field)?;
@@ -346,6 +354,30 @@ fn document_fault(alloc: Global, document: &Value) -> Result<String, AllocError>
 fn found_instead(alloc: Global, wanted: &str, value: &Value) -> Result<String, AllocError> {
     let found = shown(alloc, value)?;
     joined(alloc, [wanted, ", found ", found.as_str()].as_slice())
+}
+
+/// As `error 12: unsupported field`.
+fn refusal_of(alloc: Global, answer: &[u8]) -> Result<String, AllocError> {
+    let Ok(answer) = Value::from_slice(alloc, answer) else {
+        return String::from_str(alloc, "error");
+    };
+    let mut digits = Buffer::new();
+    match first_error(&answer) {
+        Some((code, title)) => {
+            joined(
+                alloc,
+                ["error ", digits.format(code), ": ", title].as_slice(),
+            )
+        }
+        None => String::from_str(alloc, "error"),
+    }
+}
+
+fn first_error(answer: &Value) -> Option<(u64, &str)> {
+    let error = answer.get("errors")?.as_array()?.first()?;
+    let code = error.get("code")?.as_u64()?;
+    let title = error.get("title")?.as_str()?;
+    Some((code, title))
 }
 
 /// As `todo.json, mapping 2 (name "todo")`; where it has no name, its id, or nothing.

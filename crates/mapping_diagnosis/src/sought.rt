@@ -50,15 +50,20 @@ impl Sought {
         }
     }
 
-    /// What is sought in what was to start a recording, by its error.
-    pub(crate) fn of_recording(code: ErrorCode) -> Option<Sought> {
-        match code {
-            ErrorCode::BadDocument => Some(Sought::Shape),
-            ErrorCode::NumberNotWhole => Some(Sought::Number),
-            ErrorCode::UnsupportedField => Some(Sought::Field),
-            ErrorCode::BadTarget => Some(Sought::Target),
-            _ => None,
+    /// What is sought in what was to start a recording, by the number of its error.
+    pub(crate) fn of_recording(number: u64) -> Option<Sought> {
+        let errors = [
+            (ErrorCode::BadDocument, Sought::Shape),
+            (ErrorCode::NumberNotWhole, Sought::Number),
+            (ErrorCode::UnsupportedField, Sought::Field),
+            (ErrorCode::BadTarget, Sought::Target),
+        ];
+        for (code, sought) in errors {
+            if u64::from(code.number()) == number {
+                return Some(sought);
+            }
         }
+        None
     }
 
     fn of_kind(kind: Kind) -> Option<Sought> {

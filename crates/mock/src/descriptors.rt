@@ -16,6 +16,10 @@ const OWN_DESCRIPTORS: u64 = 12;
 /// Descriptors of each thread that serves.
 const THREAD_DESCRIPTORS: u64 = 4;
 
+/// Descriptors that are kept for connections to targets, where there are more than twice as many: a request that is
+/// forwarded has one while its connection waits.
+const FORWARD_DESCRIPTORS: u64 = 108;
+
 /// How many connections may be open at a time: as many as the arguments say, or else as descriptors allow, which is
 /// said where it is fewer than usual.
 pub fn open_connections<E: Write>(given: Option<u64>, threads: u64, err: &mut E) -> u64 {
@@ -35,14 +39,20 @@ pub fn open_connections<E: Write>(given: Option<u64>, threads: u64, err: &mut E)
     count
 }
 
-// As many as there are descriptors for beside those of the process and its threads, and one at least.
+// As many as there are descriptors for beside those of the process, of its threads and for targets, and one at least. Of
+// few descriptors half are for targets, so that each connection may wait for one; more aren't kept than leave the usual
+// number of connections with 1,024 and one thread.
 fn connections_within(limit: u64, threads: u64) -> u64
     ensures { result ≡ connections_within limit threads }
 {
     let own = threads
         .saturating_mul(THREAD_DESCRIPTORS)
         .saturating_add(OWN_DESCRIPTORS);
-    limit.saturating_sub(own).max(1).min(USUAL_CONNECTIONS)
+    let free = limit.saturating_sub(own);
+    (free / 2)
+        .max(free.saturating_sub(FORWARD_DESCRIPTORS))
+        .max(1)
+        .min(USUAL_CONNECTIONS)
 }
 
 // How many descriptors the process may have, where the system says so.

@@ -54,13 +54,42 @@ impl<L: Origin> ServerLog<L> {
 }
 
 impl<L: Origin> ServerLog<L> {
-    // Tells of the recording that was stopped. The lock is held while its exchanges are shared.
+    // What there is to tell of a recording, if the event has stopped one.
+    fn tell_stopped<R: Wait>(
+        &self,
+        rt: &R,
+        alloc: Global,
+        message: &Request<Bytes>,
+        event: &Event,
+    ) {
+        if self.log.tells_skipped(event) {
+            self.tell_skipped(rt, alloc);
+        }
+        if self.log.tells_shared_names(event) {
+            self.tell_shared_names(rt, alloc, message, event);
+        }
+    }
+
+    // The lock is held while the exchanges of the recording are shared.
     fn tell_skipped<R: Wait>(&self, rt: &R, alloc: Global) {
         if let Ok(ReadAnswer::Recording(recording)) = self
             .book
             .peek(rt, alloc, BookRead::Recording)
         {
             self.log.stopped(rt, alloc, &recording);
+        }
+    }
+
+    fn tell_shared_names<R: Wait>(
+        &self,
+        rt: &R,
+        alloc: Global,
+        message: &Request<Bytes>,
+        event: &Event,
+    ) {
+        if let Some(offer) = self.offer(rt, alloc) {
+            self.log
+                .shared_names(rt, alloc, message, event, offer.mappings.as_slice());
         }
     }
 }
@@ -84,10 +113,8 @@ impl<L: Origin> Log for ServerLog<L> {
             _ => None,
         };
         self.log.answered(rt, alloc, message, event, status, offer);
-        if let Some((_number, event)) = event
-            && self.log.tells_skipped(event)
-        {
-            self.tell_skipped(rt, alloc);
+        if let Some((_number, event)) = event {
+            self.tell_stopped(rt, alloc, message, event);
         }
     }
 

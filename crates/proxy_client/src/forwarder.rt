@@ -1,11 +1,12 @@
 // What forwards the requests of a server over connections.
-ghost use Rattle.std.specs.Prelude.{◌≡◌, ◌↔◌, IsTrue, true, false, Some};
+ghost use Rattle.std.specs.Prelude.{◌≡◌, ◌↔◌, IsTrue, OnOk, true, false, Some};
 ghost use Rattle.std.specs.declared.net.socket_addr.SocketAddr.{SocketAddr};
 ghost use Rattle.proxy_client.specs.Address.{IsAddressOf};
 ghost use Rattle.proxy_client.specs.Own.{ComesTo, IsOwn, IsElsewhere};
 ghost use Rattle.proxy_client.specs.Messages.{IsForwarded};
 ghost use Rattle.proxy_client.specs.declared.stage.Stage.TheVariants.{Connecting};
 ghost use Rattle.proxy_client.specs.declared.stage.Start.{Start as Begun};
+ghost use Rattle.recorder.specs.ForwardCount.{is_forwarded_too_often};
 
 use crate::address::address_of;
 use crate::client::{Client, Exchange};
@@ -14,6 +15,7 @@ use crate::error::ProxyError;
 use crate::failure::Failure;
 use crate::forwards::Forwards;
 use mock_request::snapshot::Snapshot;
+use recorder::forward_count::is_forwarded_too_often;
 use recorder::target::Target;
 use std::alloc::AllocGlobal;
 use std::net::{IpAddr, Net, SocketAddr};
@@ -53,13 +55,29 @@ impl<R: Clock + Net + AllocGlobal + Copy + Drop> Forwards for Forwarder<R> {
         target: &Target,
         request: &Snapshot,
     ) -> Result<Exchange<R, Elsewhere, TcpStream>, ProxyError> {
-        let address = address_of(target);
+        let elsewhere = self.connect(handle, address_of(target), request)?;
+        self.client.exchange(handle, elsewhere, target, request)
+    }
+}
+
+impl<R: Clock + Net + AllocGlobal + Copy + Drop> Forwarder<R> {
+    // Begins to connect to the address, where that is another server's, and the request may be forwarded once more.
+    fn connect(
+        &self,
+        handle: &Handle,
+        address: SocketAddr,
+        request: &Snapshot,
+    ) -> Result<Elsewhere, ProxyError>
+        ensures elsewhere { OnOk result (IsElsewhere self.now.own address) }
+        ensures often { OnOk result (is_forwarded_too_often request.now.headers ≡ false) }
+    {
         if is_own(address, self.own) {
             return Err(ProxyError::UpstreamFailed(Failure::OwnTarget));
         }
-        let connect = self.client.start(handle, address);
-        let elsewhere = Elsewhere::new(connect, self.own);
-        self.client.exchange(handle, elsewhere, target, request)
+        if is_forwarded_too_often(request) {
+            return Err(ProxyError::UpstreamFailed(Failure::ForwardedTooOften));
+        }
+        Ok(Elsewhere::new(self.client.start(handle, address), self.own))
     }
 }
 

@@ -12,5 +12,6 @@ mod nearest;
 mod over_budget;
 mod request_line;
 pub mod request_log;
+mod shared_names;
 mod skipped;
 pub mod start;

@@ -5,6 +5,7 @@ pub use crate::nearest::Offer;
 use crate::nearest::nearest_lines;
 use crate::over_budget::over_budget_line;
 use crate::request_line::request_line;
+use crate::shared_names::{have_scenario, shared_name_lines};
 use crate::skipped::skipped_lines;
 use admin_routes::url::is_admin;
 use bytes::Bytes;
@@ -17,6 +18,7 @@ use mapping_diagnosis::shown::cut;
 use mock_request::snapshot::Snapshot;
 use recorder::recording::Recording;
 use request_journal::event::{Captured, Event, ServeAnswer};
+use request_journal::mapping::Mapping;
 use request_parts::error::RequestMatchError;
 use std::alloc::{AllocError, Global};
 use std::sync::{Arc, Wait};
@@ -136,6 +138,37 @@ impl RequestLog {
         if let Recording::Stopped(session) = recording {
             let lines = skipped_lines(alloc, session);
             self.add(rt, lines);
+        }
+    }
+
+    /// Whether it tells of the scenarios of the recording that the event has stopped: it has some.
+    pub fn tells_shared_names(&self, event: &Event) -> bool {
+        match event {
+            Event::StopRecording {
+                mappings,
+                skipped: _,
+            } => have_scenario(mappings.as_slice()),
+            _ => false,
+        }
+    }
+
+    /// Warns of the scenarios of the recording that was stopped by this message and event, if other mappings take part in
+    /// them. `live` are the mappings of the book.
+    pub fn shared_names<R: Wait>(
+        &self,
+        rt: &R,
+        alloc: Global,
+        message: &Request<Bytes>,
+        event: &Event,
+        live: &[Mapping],
+    ) {
+        if let Event::StopRecording {
+            mappings,
+            skipped: _,
+        } = event
+        {
+            let recorded = mappings.as_slice();
+            self.add(rt, shared_name_warnings(alloc, message, recorded, live));
         }
     }
 
@@ -367,4 +400,14 @@ fn posted_warnings(alloc: Global, message: &Request<Bytes>) -> Result<String, Al
     let mut notes = Notes::new(alloc);
     notes.add_posted(alloc, call.as_str(), message.body().as_slice(), None)?;
     Ok(notes.into_string())
+}
+
+fn shared_name_warnings(
+    alloc: Global,
+    message: &Request<Bytes>,
+    recorded: &[Mapping],
+    live: &[Mapping],
+) -> Result<String, AllocError> {
+    let call = call_of(alloc, message.method().as_str(), message.uri().path())?;
+    shared_name_lines(alloc, call.as_str(), recorded, live)
 }

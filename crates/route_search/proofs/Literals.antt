@@ -1,10 +1,10 @@
 -- Patterns whose bytes are known: what is shown of them by computing.
-use Rattle.std.proofs.Common.{◌≡◌, ◌⊎◌, inl, inr, ℕ, ◌<◌, List, [], ◌∷◌, ◌++◌, Bool, true, false, ◌==◌, ◌&&◌, ◌||◌, ltb}
-use Rattle.std.proofs.Common.{refl, sym, ap, ◌∙◌, arith}
+use Rattle.std.proofs.Common.{◌≡◌, ◌⊎◌, inl, inr, ℕ, ◌<◌, List, [], ◌∷◌, ◌++◌, Bool, true, ◌==◌, ◌&&◌, ◌||◌, ltb}
+use Rattle.std.proofs.Common.{refl, ap, ◌∙◌, arith}
 use Rattle.std.proofs.lemmas.Bool.{and_parts, or_cases, ltb-true, eqb-true}
 use Rattle.matchit.specs.Level.{IsText}
 use Rattle.matchit.specs.Rows.{RowsOf, param_token}
-use Rattle.route_search.specs.Fits.{slash, Begins, Fits, EndsSegment, IsWhole, AllWhole}
+use Rattle.route_search.specs.Fits.{slash, Fits, EndsSegment, IsWhole, AllWhole}
 
 -- ---- tests
 

@@ -1,17 +1,17 @@
 -- What the parameter of a route takes of a path that fits it, where it is the only one and a whole segment.
-use Rattle.std.proofs.Common.{◌≡◌, ◌≢◌, ◌⊎◌, inl, inr, ℕ, zero, suc, ◌<◌, ◌≤◌, ◌+◌, ◌-◌, List, [], ◌∷◌, ◌++◌, length, get_or}
+use Rattle.std.proofs.Common.{◌≡◌, ◌⊎◌, inl, inr, ℕ, suc, ◌≤◌, ◌+◌, ◌-◌, List, [], ◌∷◌, ◌++◌, length, get_or}
 use Rattle.std.proofs.Common.{drop, take, Bool, true, false, cond, ◌==◌, ltb, leb, ◌&&◌, refl, sym, ap, ◌∙◌, arith, subst}
 use Rattle.std.proofs.Common.{length-append, append-nil, append_assoc}
 use Rattle.std.proofs.Math.Seq.{get_or-append_seam, take-append_seam}
 use Rattle.std.proofs.lemmas.Bool.Decides.{nat_tests}
-use Rattle.std.proofs.lemmas.Str.{IsUtf8-between, IsUtf8-drop, IsCharBoundary-after_ascii, IsCharBoundary-before_ascii}
+use Rattle.std.proofs.lemmas.Str.{IsUtf8-drop, IsCharBoundary-after_ascii, IsCharBoundary-before_ascii}
 use Rattle.std.proofs.lemmas.Str.{IsUtf8-take}
 use Rattle.std.specs.Str.{IsUtf8}
 use Rattle.matchit.specs.Level.{IsText}
 use Rattle.matchit.specs.Params.{walk, wild_from, wild_stop, part_of}
 use Rattle.matchit.specs.Rows.{param_token}
 use Rattle.matchit.specs.Seek.{segment, has_slash}
-use Rattle.route_search.specs.Fits.{slash, IsSegment, Begins, Fits, EndsSegment}
+use Rattle.route_search.specs.Fits.{slash, IsSegment, Fits, EndsSegment}
 use Rattle.route_search.proofs.Literals.{Follows, follows}
 use Rattle.route_search.proofs.Segments.{has_no_slash, cut_at}
 
@@ -85,16 +85,16 @@ stops_at_slash
 stops_at_slash before after value rest none =
     let pattern : List ℕ = before ++ param_token ∷ slash ∷ after in
     let long : length pattern ≡ length before + suc (suc (length after)) =
-        length-append before (param_token ∷ slash ∷ after) in
+    length-append before (param_token ∷ slash ∷ after) in
     let here : ltb (length before) (length pattern) ≡ true = grind (arith, nat_tests) in
     let next : ltb (length before + 1) (length pattern) ≡ true = grind (arith, nat_tests) in
     let token : get_or pattern (length before) 0 ≡ param_token =
-        get_or-append_seam before param_token (slash ∷ after) 0 in
+    get_or-append_seam before param_token (slash ∷ after) 0 in
     let left : drop (length before) (before ++ (value ++ slash ∷ rest)) ≡ value ++ slash ∷ rest =
-        drop_front before (value ++ slash ∷ rest) in
+    drop_front before (value ++ slash ∷ rest) in
     let more : drop (length before + 1) pattern ≡ slash ∷ after = after_token before param_token (slash ∷ after) in
     let seg : length (segment (value ++ slash ∷ rest)) ≡ length value + 1 =
-        ap length (cut_at value rest none).first ∙ length-append value (slash ∷ []) in
+    ap length (cut_at value rest none).first ∙ length-append value (slash ∷ []) in
     let sum : length before + (length value + 1) - 1 ≡ length before + length value = omega arith in
     rw (here, next, token, left, more, seg) sum
 
@@ -114,10 +114,10 @@ part_at
     → part_of (before ++ (value ++ rest)) (length before) (length before + length value) ≡ value
 part_at before value rest =
     let whole : length (before ++ (value ++ rest)) ≡ length before + (length value + length rest) =
-        length-append before (value ++ rest) ∙ ap (λ n. length before + n) (length-append value rest) in
+    length-append before (value ++ rest) ∙ ap (λ n. length before + n) (length-append value rest) in
     let ordered : leb (length before) (length before + length value) ≡ true = grind (arith, nat_tests) in
     let within : leb (length before + length value) (length (before ++ (value ++ rest))) ≡ true =
-        grind (arith, nat_tests) in
+    grind (arith, nat_tests) in
     let long : length before + length value - length before ≡ length value = omega arith in
     rw (ordered, within, long, drop_front before (value ++ rest)) (take-append_seam value rest)
 
@@ -131,8 +131,8 @@ takes_segment before after value rest text name bytes goes is =
     let long : length path ≡ length before + length (value ++ rest) = length-append before (value ++ rest) in
     let zero : 0 + length before ≡ length before = omega arith in
     let begins : wild_from (before ++ param_token ∷ after) (length path) 0 0 ≡ (length before, length before) =
-        subst (λ n. wild_from (before ++ param_token ∷ after) (length path) 0 0 ≡ (n, n)) zero
-        (begins_at before after (length path) 0 0 bytes (omega arith)) in
+    subst (λ n. wild_from (before ++ param_token ∷ after) (length path) 0 0 ≡ (n, n)) zero
+    (begins_at before after (length path) 0 0 bytes (omega arith)) in
     let stops = stops_at before after value rest goes (has_no_slash value is.no_slash) in
     rw (begins, stops) (ap (λ part. (part_of text name.0 name.1, part) ∷ []) (part_at before value rest))
 
@@ -144,18 +144,21 @@ segment_is_text front value after rest text goes = subst IsUtf8 (take-append_sea
   where
     path : List ℕ
     path = (front ++ slash ∷ []) ++ (value ++ rest)
+
     at : length (front ++ slash ∷ []) ≡ length front + 1
     at = length-append front (slash ∷ [])
+
     later : IsUtf8 (value ++ rest)
     later =
         let whole : length path ≡ length (front ++ slash ∷ []) + length (value ++ rest) =
-            length-append (front ++ slash ∷ []) (value ++ rest) in
+        length-append (front ++ slash ∷ []) (value ++ rest) in
         let here : get_or path (length front) 0 ≡ slash =
-            ap (λ p. get_or p (length front) 0) (append_assoc front (slash ∷ []) (value ++ rest))
-            ∙ get_or-append_seam front slash (value ++ rest) 0 in
+        ap (λ p. get_or p (length front) 0) (append_assoc front (slash ∷ []) (value ++ rest))
+        ∙ get_or-append_seam front slash (value ++ rest) 0 in
         let cut = IsCharBoundary-after_ascii path (length front) text (omega (arith, at)) (omega arith) in
         subst IsUtf8 (ap (λ n. drop n path) (sym at) ∙ drop_front (front ++ slash ∷ []) (value ++ rest))
         (IsUtf8-drop path (length front + 1) text cut)
+
     by : GoesOn after rest → IsUtf8 (take (length value) (value ++ rest))
     by (inl (ends, nothing)) =
         subst IsUtf8 (sym (take-append_seam value rest)) (subst IsUtf8 (ap (λ r. value ++ r) nothing ∙ append-nil value) later)
@@ -208,6 +211,6 @@ around_takes front after path value rest text name bytes ends is utf8 =
     let before : List ℕ = front ++ slash ∷ [] in
     let goes = goes_on after rest ends is.left in (
       ap (λ p. walk (before ++ param_token ∷ after) text p (name ∷ []) 0 0) is.whole
-      ∙ takes_segment before after value rest text name bytes goes is.segment,
+          ∙ takes_segment before after value rest text name bytes goes is.segment,
       segment_is_text front value after rest (subst IsUtf8 is.whole utf8) goes,
     )

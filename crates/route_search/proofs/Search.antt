@@ -1,10 +1,10 @@
 -- What the search finds: a row that the path fits, and one wherever a row fits.
-use Rattle.std.proofs.Common.{◌≡◌, ◌≢◌, ◌⊎◌, inl, inr, ℕ, zero, suc, ◌<◌, ◌≤◌, ◌+◌, ◌-◌, List, [], ◌∷◌, ◌++◌, length}
+use Rattle.std.proofs.Common.{◌≡◌, ◌≢◌, ◌⊎◌, inl, inr, ℕ, zero, suc, ◌<◌, ◌-◌, List, [], ◌∷◌, ◌++◌, length}
 use Rattle.std.proofs.Common.{drop, Bool, true, false, cond, ◌==◌, Option, Some, None, refl, sym, ap, ◌∙◌, arith, subst, append-nil}
 use Rattle.std.proofs.lemmas.Bool.Decides.{nat_tests}
 use Rattle.matchit.specs.Level.{IsText}
 use Rattle.matchit.specs.Rows.{RowsOf, param_token, catch_all_token}
-use Rattle.matchit.specs.Seek.{own, step, or_else, seek, first, param_step, has_slash}
+use Rattle.matchit.specs.Seek.{own, step, or_else, seek, param_step, has_slash}
 use Rattle.route_search.specs.Fits.{slash, IsSegment, Begins, Fits, EndsSegment, IsWhole, AllWhole, Has}
 use Rattle.route_search.proofs.Segments.{is_cons, all_no_slash, has_no_slash}
 use Rattle.route_search.proofs.Suffixes.{AllEnd, IsTaken, Takes, param_takes, IsStep, step_at_end, step_at_slash}
@@ -252,13 +252,13 @@ module _ {K : Type 0} where
       let ends = ends_here pattern (whole_at (param_token ∷ pattern) key rows all has) in
       let none = has_no_slash (v ∷ vs) segment.no_slash in
       let at = step_of params pattern key (v ∷ vs) rest (param_end rows all) ends (omega arith) none
-          (has_step param_token pattern key rows has) fits in
+      (has_step param_token pattern key rows has) fits in
       let is : IsStep pattern key (v ∷ vs) (param_step params (b ∷ path)) =
-          subst (λ p. IsStep pattern key (v ∷ vs) (param_step params p)) (sym same) at in
+      subst (λ p. IsStep pattern key (v ∷ vs) (param_step params p)) (sym same) at in
       let skip : (param_step params (b ∷ path)).0 - 1 ≡ length vs = omega (arith, is.taken) in
       let after : path ≡ vs ++ rest = cc same in
       let left : drop ((param_step params (b ∷ path)).0 - 1) path ≡ rest =
-          ap (λ n. drop n path) skip ∙ ap (drop (length vs)) after ∙ drop_front vs rest in
+      ap (λ n. drop n path) skip ∙ ap (drop (length vs)) after ∙ drop_front vs rest in
       later is.has (subst (Fits pattern) (sym left) fits)
 
   pub fitting_is_found

@@ -1,10 +1,9 @@
 -- The first segment of a path.
-use Rattle.std.proofs.Common.{◌≡◌, ◌≢◌, ◌⊎◌, inl, inr, ℕ, zero, suc, ◌<◌, ◌-◌, List, [], ◌∷◌, ◌++◌, All, length, get_or}
-use Rattle.std.proofs.Common.{drop, Bool, true, false, cond, ◌==◌, ltb, ◌&&◌, refl, sym, ap, ◌∙◌, arith, nat_eq, subst}
+use Rattle.std.proofs.Common.{◌≡◌, ◌≢◌, ◌⊎◌, inl, inr, ℕ, zero, suc, List, [], ◌∷◌, ◌++◌, All}
+use Rattle.std.proofs.Common.{Bool, true, false, cond, ◌==◌, refl, ap, arith}
 use Rattle.std.proofs.lemmas.Bool.Decides.{nat_tests}
-use Rattle.std.specs.List.{ends_with}
-use Rattle.matchit.specs.Seek.{segment, has_slash, cuts}
-use Rattle.route_search.specs.Fits.{slash, IsSegment}
+use Rattle.matchit.specs.Seek.{segment, has_slash}
+use Rattle.route_search.specs.Fits.{slash}
 
 pub is_cons : (b : ℕ) (bs : List ℕ) → b ∷ bs ≢ []
 is_cons b bs e = cc
@@ -53,6 +52,7 @@ cut_at value rest none =
       | true ↦ refl
       | false ↦ slashed bs
     ]
+
     first : (text : List ℕ) → has_slash text ≡ false → segment (text ++ slash ∷ rest) ≡ text ++ slash ∷ []
     first [] e = refl
     first (b ∷ bs) e =

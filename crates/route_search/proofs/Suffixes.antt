@@ -1,13 +1,11 @@
 -- What a parameter takes of a path, where it is the last of its segment in each row.
-use Rattle.std.proofs.Common.{◌≡◌, ◌≢◌, ◌⊎◌, inl, inr, ℕ, zero, suc, ◌<◌, ◌≤◌, ◌+◌, ◌-◌, List, [], ◌∷◌, ◌++◌, length}
+use Rattle.std.proofs.Common.{◌≡◌, ◌⊎◌, inl, inr, ℕ, zero, suc, ◌<◌, ◌+◌, ◌-◌, List, [], ◌∷◌, ◌++◌, length}
 use Rattle.std.proofs.Common.{drop, Bool, true, false, cond, ◌==◌, ltb, ◌&&◌, refl, sym, ap, ◌∙◌, arith, nat_eq, subst}
 use Rattle.std.proofs.Common.{length-append, append-nil}
 use Rattle.std.proofs.lemmas.Bool.Decides.{nat_tests}
-use Rattle.std.proofs.lemmas.Bool.{and_parts}
 use Rattle.std.specs.List.{ends_with}
-use Rattle.std.specs.Cmp.Lexicographic.{bytes_decides}
 use Rattle.matchit.specs.Rows.{RowsOf}
-use Rattle.matchit.specs.Seek.{segment, has_slash, cuts, better, longest_from, longest_suffix, with_suffix, param_step, same_text}
+use Rattle.matchit.specs.Seek.{segment, has_slash, cuts, longest_from, longest_suffix, with_suffix, param_step, same_text}
 use Rattle.matchit.proofs.ParamLemmas.{same_text-self}
 use Rattle.route_search.specs.Fits.{slash, EndsSegment, Has}
 use Rattle.route_search.proofs.Segments.{IsCut, cut_at, uncut, first_cut}
@@ -209,6 +207,7 @@ module _ {K : Type 0} where
     where
       cuts_it : cuts (segment path) end ≡ true
       cuts_it = rw cut.first (slash_cuts (b ∷ bs) (omega arith))
+
       by : (longest_suffix (segment path) rows ≡ []) ⊎ (longest_suffix (segment path) rows ≡ end)
           → ((param_step rows path).1 ≡ []) ⊎ Takes rows path (param_step rows path)
       by (inl none) = inl (takes_none rows path (b ∷ bs) rest cut none)

@@ -1,5 +1,5 @@
 -- The bytes of a text are bytes.
-use Rattle.std.proofs.Common.{◌≡◌, ◌⊎◌, inl, inr, ℕ, ◌<◌, ◌≤◌, ◌+◌, ◌/◌, ◌%◌, List, [], ◌∷◌, ◌++◌, Bool, true, false, cond, ltb, refl, sym, ap, ◌∙◌, arith, subst}
+use Rattle.std.proofs.Common.{◌≡◌, ◌⊎◌, inl, inr, ℕ, ◌<◌, ◌≤◌, ◌+◌, ◌/◌, ◌%◌, List, [], ◌∷◌, ◌++◌, Bool, true, false, cond, ltb, refl, arith, subst}
 use Rattle.std.proofs.lemmas.Bool.{ltb-true, and_parts}
 use Rattle.std.proofs.Math.Utf8.{scalar, scalars, scalar_cases, encode, encodes}
 use Rattle.std.specs.Str.{IsUtf8}
@@ -22,12 +22,14 @@ encoded c is = one (ltb c 128) refl
   where
     long : IsText ((240 + c / 262144) ∷ (128 + c / 4096 % 64) ∷ (128 + c / 64 % 64) ∷ (128 + c % 64) ∷ [])
     long = let less = below c is in (omega arith, (omega arith, (omega arith, (omega arith, tt))))
+
     three
         : (v : Bool) → ltb c 65536 ≡ v
         → IsText (cond v ((224 + c / 4096) ∷ (128 + c / 64 % 64) ∷ (128 + c % 64) ∷ [])
         ((240 + c / 262144) ∷ (128 + c / 4096 % 64) ∷ (128 + c / 64 % 64) ∷ (128 + c % 64) ∷ []))
     three true q = let less = ltb-true c 65536 q in (omega arith, (omega arith, (omega arith, tt)))
     three false q = long
+
     two
         : (v : Bool) → ltb c 2048 ≡ v
         → IsText (cond v ((192 + c / 64) ∷ (128 + c % 64) ∷ [])
@@ -35,6 +37,7 @@ encoded c is = one (ltb c 128) refl
         ((240 + c / 262144) ∷ (128 + c / 4096 % 64) ∷ (128 + c / 64 % 64) ∷ (128 + c % 64) ∷ [])))
     two true q = let less = ltb-true c 2048 q in (omega arith, (omega arith, tt))
     two false q = three (ltb c 65536) refl
+
     one : (v : Bool) → ltb c 128 ≡ v
         → IsText (cond v (c ∷ []) (cond (ltb c 2048) ((192 + c / 64) ∷ (128 + c % 64) ∷ [])
         (cond (ltb c 65536) ((224 + c / 4096) ∷ (128 + c / 64 % 64) ∷ (128 + c % 64) ∷ [])
