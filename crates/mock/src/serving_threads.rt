@@ -92,7 +92,6 @@ where
 }
 
 // Serves on the calling thread and on others.
-#[tactic(auto, using(crate::proofs::ServingSync::answers_send, crate::proofs::ServingSync::answers_sync, crate::proofs::ServingSync::log_send, crate::proofs::ServingSync::log_sync))]
 fn serve_beside<L, R>(
     rt: R,
     runtime: &mut LocalRuntime,
