@@ -61,12 +61,11 @@ module _ (rules : SiteRules) where
       → (result : Result T Refusal) → IfErr result P
       → IfErr result (λ error. P error × IsLeft rules old new message)
   left_unrendered P old new message rendering to_render (Ok begun) left = tt
-  left_unrendered P old new message rendering to_render (Err error) left =
-      (
-        left,
-        inl (is_not_begun rules.origin rules.history rules.limits rules.escape rules.page old new message rendering
-            to_render),
-      )
+  left_unrendered P old new message rendering to_render (Err error) left = (
+    left,
+    inl (is_not_begun rules.origin rules.history rules.limits rules.escape rules.page old new message rendering
+        to_render),
+  )
 
 module _ (rules : SiteRules) {E : Type 0} (reaches : List ℕ → Type 0) (sends : List ℕ → Request → E → Type 0)
     (exchanged : E → Result Reply ProxyError → Type 0) where

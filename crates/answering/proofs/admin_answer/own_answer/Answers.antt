@@ -17,4 +17,4 @@ returns-in-None g c =
     c.made_answer.new.seat c.args.request.now)
     (IsOwnAnswered g.L.Origin.origin g.L.Naming.book c.args.site.now.escape c.args.site.now.page c.args.seat.now
     c.made_answer.new.seat c.args.request.now)
-    (λ reply answered. inr (c.in-None.ensures.none tt, answered)) c.made_answer.result c.made_answer.ensures
+    (λ reply answered. inr (c.in-None.ensures.none refl, answered)) c.made_answer.result c.made_answer.ensures
