@@ -1,5 +1,5 @@
--- What each thread that serves is lent may be lent: of the book and of the router in it the toolchain's own search gives
--- up, so the lemmas stand a layer each.
+-- What each thread that serves is lent may be lent. The toolchain's own search gives up at the book and at the router in
+-- it, so there is a lemma for each layer.
 use denote.RattleType.{RattleType}
 use denote.Param.Send.{IsSend, IsSync, sendable}
 use denote.Param.SendFields.{declared_send, declared_sync}
@@ -99,7 +99,14 @@ module _ (L : RattleType) (o : origin.Ghosts L.Denot) (l : ledger.Ghosts L.Denot
                     (
                       routes_send,
                       (
-                        search (option.the_send, bytes.the_send, global.the_send, global.the_sync, crosses, sendable) depth 60,
+                        search (
+                          option.the_send,
+                          bytes.the_send,
+                          global.the_send,
+                          global.the_sync,
+                          crosses,
+                          sendable,
+                        ) depth 60,
                         tt,
                       ),
                     ),
@@ -127,7 +134,14 @@ module _ (L : RattleType) (o : origin.Ghosts L.Denot) (l : ledger.Ghosts L.Denot
                     (
                       routes_sync,
                       (
-                        search (option.the_sync, bytes.the_sync, global.the_send, global.the_sync, crosses, sendable) depth 60,
+                        search (
+                          option.the_sync,
+                          bytes.the_sync,
+                          global.the_send,
+                          global.the_sync,
+                          crosses,
+                          sendable,
+                        ) depth 60,
                         tt,
                       ),
                     ),
