@@ -1,12 +1,14 @@
 //! What `mock serve` is compared with: a stub server as one would write it in Rust over `hyper`, with a locked list of
-//! mappings and a journal that keeps each request whole. `baseline MAPPINGS`: that many mappings `/api/NUMBER`, and
-//! one more, the newest, at `/hi`. It prints `listening on http://127.0.0.1:PORT`.
+//! mappings and a journal that keeps each request whole. `baseline MAPPINGS [THREADS]`: that many mappings
+//! `/api/NUMBER`, and one more, the newest, at `/hi`; one serving thread, or the runtime's with so many workers. It
+//! prints `listening on http://127.0.0.1:PORT`.
 use hyper::body::to_bytes;
 use hyper::server::conn::Http;
 use hyper::service::service_fn;
 use hyper::{Body, HeaderMap, Method, Request, Response, StatusCode, Uri};
 use std::convert::Infallible;
 use std::sync::{Arc, Mutex};
+use tokio::net::{TcpListener, TcpStream};
 
 struct Mapping {
     method: Method,
@@ -80,19 +82,42 @@ fn main() {
         book.mappings.push(mapping(format!("/api/{number}"), format!("answer {number}")));
     }
     let book = Arc::new(Mutex::new(book));
-    let runtime = tokio::runtime::Builder::new_current_thread().enable_io().build().unwrap();
-    let tasks = tokio::task::LocalSet::new();
-    tasks.block_on(&runtime, async move {
-        let listener = tokio::net::TcpListener::bind("127.0.0.1:0").await.unwrap();
-        println!("listening on http://{}", listener.local_addr().unwrap());
-        loop {
-            let (stream, _) = listener.accept().await.unwrap();
-            stream.set_nodelay(true).unwrap();
-            let book = book.clone();
-            tokio::task::spawn_local(async move {
-                let service = service_fn(move |request| answer(book.clone(), request));
-                let _ = Http::new().http1_only(true).serve_connection(stream, service).await;
+    match std::env::args().nth(2).and_then(|text| text.parse().ok()) {
+        Some(threads) => {
+            let mut builder = tokio::runtime::Builder::new_multi_thread();
+            let runtime = builder.worker_threads(threads).enable_io().build().unwrap();
+            runtime.block_on(async move {
+                let listener = listening().await;
+                loop {
+                    tokio::spawn(serve(accepted(&listener).await, book.clone()));
+                }
             });
         }
-    });
+        None => {
+            let runtime = tokio::runtime::Builder::new_current_thread().enable_io().build().unwrap();
+            tokio::task::LocalSet::new().block_on(&runtime, async move {
+                let listener = listening().await;
+                loop {
+                    tokio::task::spawn_local(serve(accepted(&listener).await, book.clone()));
+                }
+            });
+        }
+    }
+}
+
+async fn listening() -> TcpListener {
+    let listener = TcpListener::bind("127.0.0.1:0").await.unwrap();
+    println!("listening on http://{}", listener.local_addr().unwrap());
+    listener
+}
+
+async fn accepted(listener: &TcpListener) -> TcpStream {
+    let (stream, _) = listener.accept().await.unwrap();
+    stream.set_nodelay(true).unwrap();
+    stream
+}
+
+async fn serve(stream: TcpStream, book: Arc<Mutex<Book>>) {
+    let service = service_fn(move |request| answer(book.clone(), request));
+    let _ = Http::new().http1_only(true).serve_connection(stream, service).await;
 }

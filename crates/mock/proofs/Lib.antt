@@ -1,3 +1,4 @@
 mod HelpAsked
 mod OtherCommands
 mod Serves
+pub mod ServingSync

@@ -62,6 +62,9 @@ It prints how many mappings it has written, as `saved 4 mappings`.
 Example, while a server runs on port 8080:
   mock save localhost:8080 mappings.json";
 
+/// How many threads serve, where the arguments don't say.
+const THREADS: u64 = 1;
+
 /// What is to be served, and where.
 #[derive(Clone, Copy)]
 pub struct ServeArguments<'a> {
@@ -75,6 +78,8 @@ pub struct ServeArguments<'a> {
     pub connections: Option<u64>,
     /// How many connections are open at once.
     pub max_connections: Option<u64>,
+    /// How many threads serve.
+    pub threads: u64,
     /// At how many requests the journal is cleared.
     pub journal_limit: Option<u64>,
     /// The path of the file of the page.
@@ -208,6 +213,7 @@ fn arguments_in<'a>(given: &ArgMatches<'a>, address: IpAddr) -> Option<ServeArgu
         address,
         connections: given.get_one("connections"),
         max_connections: given.get_one("max-connections"),
+        threads: given.get_one("threads").unwrap_or(THREADS),
         journal_limit: given.get_one("journal-limit"),
         page: given.get_str("page"),
         opening: first_event.unwrap_or(1).saturating_sub(1),
@@ -259,6 +265,7 @@ fn serve_command<'a>(alloc: Global) -> Result<Command<'a>, AllocError> {
     with_common(alloc, command)?
         .arg(connections(alloc))?
         .arg(max_connections(alloc))?
+        .arg(threads(alloc))?
         .arg(journal_limit(alloc))?
         .arg(page(alloc))?
         .arg(skip_refused(alloc))?
@@ -344,6 +351,14 @@ fn max_connections<'a>(alloc: Global) -> Arg<'a> {
         .value_name("N")
         .help("How many connections are open at once, while others wait [default: 900]")
         .value_parser(value_parser!(u64).range(1..))
+}
+
+fn threads<'a>(alloc: Global) -> Arg<'a> {
+    Arg::new(alloc, "threads")
+        .long("threads")
+        .value_name("N")
+        .help("How many threads serve, from 1 to 64 [default: 1]")
+        .value_parser(value_parser!(u64).range(1..=64))
 }
 
 fn journal_limit<'a>(alloc: Global) -> Arg<'a> {

@@ -10,8 +10,11 @@ use std::io::Write;
 /// How many connections may be open where descriptors suffice.
 const USUAL_CONNECTIONS: u64 = 900;
 
-/// Descriptors that are no connection's: the standard streams, what listens, a file, and what the event loop has.
-const OWN_DESCRIPTORS: u64 = 16;
+/// Descriptors that are no connection's: the standard streams, what listens, a file, and what wakes the process.
+const OWN_DESCRIPTORS: u64 = 12;
+
+/// Descriptors of each thread that serves.
+const THREAD_DESCRIPTORS: u64 = 4;
 
 /// Descriptors that are kept for connections to targets, where there are more than twice as many: a request that is
 /// forwarded has one while its connection waits.
@@ -19,14 +22,14 @@ const FORWARD_DESCRIPTORS: u64 = 108;
 
 /// How many connections may be open at a time: as many as the arguments say, or else as descriptors allow, which is
 /// said where it is fewer than usual.
-pub fn open_connections<E: Write>(given: Option<u64>, err: &mut E) -> u64 {
+pub fn open_connections<E: Write>(given: Option<u64>, threads: u64, err: &mut E) -> u64 {
     if let Some(count) = given {
         return count;
     }
     let Some(limit) = descriptor_limit() else {
         return USUAL_CONNECTIONS;
     };
-    let count = connections_within(limit);
+    let count = connections_within(limit, threads);
     if count < USUAL_CONNECTIONS {
         let _ = write!(
             err,
@@ -36,13 +39,16 @@ pub fn open_connections<E: Write>(given: Option<u64>, err: &mut E) -> u64 {
     count
 }
 
-// As many as there are descriptors for beside those of the process and those for targets, and one at least. Of few
-// descriptors half are for targets, so that each connection may wait for one; more aren't kept than leave the usual
-// number of connections with 1,024.
-fn connections_within(limit: u64) -> u64
-    ensures { result ≡ connections_within limit }
+// As many as there are descriptors for beside those of the process, of its threads and for targets, and one at least. Of
+// few descriptors half are for targets, so that each connection may wait for one; more aren't kept than leave the usual
+// number of connections with 1,024 and one thread.
+fn connections_within(limit: u64, threads: u64) -> u64
+    ensures { result ≡ connections_within limit threads }
 {
-    let free = limit.saturating_sub(OWN_DESCRIPTORS);
+    let own = threads
+        .saturating_mul(THREAD_DESCRIPTORS)
+        .saturating_add(OWN_DESCRIPTORS);
+    let free = limit.saturating_sub(own);
     (free / 2)
         .max(free.saturating_sub(FORWARD_DESCRIPTORS))
         .max(1)

@@ -10,6 +10,7 @@ mod page;
 mod record;
 mod serve;
 mod server_log;
+mod serving_threads;
 mod streams;
 mod watch;
 

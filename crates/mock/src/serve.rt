@@ -9,6 +9,7 @@ ghost use Rattle.shared_history.specs.Entries.{opening};
 use crate::arguments::ServeArguments;
 use crate::descriptors::open_connections;
 use crate::server_log::ServerLog;
+use crate::serving_threads::{MockAnswers, ServingThreads};
 use crate::watch::Watch;
 use admin_routes::router::AdminRoutes;
 use answering::clock::SystemClock;
@@ -20,7 +21,6 @@ use command_output::output::{put, put_notes};
 use command_output::status::FAILURE;
 use error_code::error_code::ErrorCode;
 use http_connections::ender::Ender;
-use http_connections::serve_on::OneThread;
 use http_connections::settings::Settings;
 use hyper_service::journal_limit::JournalLimit;
 use hyper_service::renderer::Renderer;
@@ -73,16 +73,6 @@ pub(crate) struct Plan<I> {
     pub(crate) page: Option<Bytes>,
     pub(crate) watch: Watch<I>,
 }
-
-/// What the connections of `mock serve` are served by.
-type MockAnswers<L, R> = SiteAnswers<
-    L,
-    NoGate,
-    SystemClock<R>,
-    Forwarder<R>,
-    Renderer<R>,
-    ServerLog<L>,
->;
 
 /// Serves as the arguments say, and gives the exit status: 0, or 1 with a line on `err`. First the file is judged, then
 /// its mappings, the book, and the port. What is told of requests is written to `log`, by a thread of its own.
@@ -301,7 +291,7 @@ where
     } = listening;
     let settings = Settings {
         connections: arguments.connections,
-        max_connections: open_connections(arguments.max_connections, err),
+        max_connections: open_connections(arguments.max_connections, arguments.threads, err),
     };
     let Ok(log) = ServerLog::new(log, &book) else {
         return out_of_memory(err);
@@ -314,7 +304,9 @@ where
             rt,
             &mut runtime,
             listener,
-            &OneThread,
+            &ServingThreads {
+                count: arguments.threads,
+            },
             ender,
             answers,
             seat,
