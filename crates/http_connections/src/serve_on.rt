@@ -94,53 +94,31 @@ impl<A: Answers> Server<A> {
     }
 }
 
-/// The threads of a server.
-pub trait Workers<R, A>: Drop
-where
-    A: Answers,
-    A::Content: Body<Data = Bytes, Error: Into<anyhow::Error>>,
-{
-    /// Serves the connections of a listener, as long as any are accepted, on the calling thread, which drives this
-    /// runtime, and on others. An error of any thread is given.
-    fn serve(
-        &self,
-        rt: R,
-        runtime: &mut LocalRuntime,
-        listener: net::TcpListener,
-        server: &Arc<Server<A>>,
-    ) -> io::Result<()>
-        requires { (content : A.Content) → A.Content.can_poll content };
-}
-
-/// The calling thread alone.
-#[derive(Clone, Copy, Debug, Drop)]
-pub struct OneThread;
-
-impl<R, A> Workers<R, A> for OneThread
+/// Serves the connections of a listener, as long as any are accepted, on the calling thread, which drives this runtime.
+pub fn on_this_thread<R, A>(
+    rt: R,
+    runtime: &mut LocalRuntime,
+    listener: net::TcpListener,
+    server: &Arc<Server<A>>,
+) -> io::Result<()>
 where
     R: Wait + Clock + RandomSource + AllocGlobal + Copy + Drop,
     A: Answers,
     A::Content: Body<Data = Bytes, Error: Into<anyhow::Error>>,
+    requires { (content : A.Content) → A.Content.can_poll content }
 {
-    fn serve(
-        &self,
-        rt: R,
-        runtime: &mut LocalRuntime,
-        listener: net::TcpListener,
-        server: &Arc<Server<A>>,
-    ) -> io::Result<()> {
-        let listener = TcpListener::from_std(listener, runtime.handle().reactor())?;
-        server.serve(rt, runtime, listener)
-    }
+    let listener = TcpListener::from_std(listener, runtime.handle().reactor())?;
+    server.serve(rt, runtime, listener)
 }
 
 /// Serves the connections of a listener, as many as are wanted, each with a seat of its own that is split off `seat`.
-/// `turns` is how often each connection's socket is polled at most.
-pub fn serve_all<R, A, W>(
+/// `turns` is how often each connection's socket is polled at most. `workers` serves them, on the calling thread, which
+/// drives this runtime, and on others if it likes, and gives an error of any of them.
+pub fn serve_all<R, A, F>(
     rt: R,
     runtime: &mut LocalRuntime,
     listener: net::TcpListener,
-    workers: &W,
+    workers: F,
     ender: &Arc<Ender>,
     site: &Arc<A>,
     seat: A::Seat,
@@ -150,9 +128,9 @@ pub fn serve_all<R, A, W>(
 where
     R: Wait + AllocGlobal + Copy + Drop,
     A: Answers,
-    A::Content: Body<Data = Bytes, Error: Into<anyhow::Error>>,
-    W: Workers<R, A>,
-    requires { (content : A.Content) → A.Content.can_poll content }
+    F: Fn(R, &mut LocalRuntime, net::TcpListener, &Arc<Server<A>>) -> io::Result<()>,
+    F: Drop,
+    requires { F.IsAlwaysCallable workers }
     ensures { IfOk result (λ served. served.end ≡ End.AllServed → IsSome settings.connections) }
 {
     let server = Arc::new(
@@ -160,7 +138,7 @@ where
         Server::new(rt.alloc(), site, settings, turns, ender)?,
     )?;
     server.pool.open(&rt, seat);
-    let served = workers.serve(rt, runtime, listener, &server);
+    let served = workers(rt, runtime, listener, &server);
     served_by(&rt, rt.alloc(), &server.pool, settings, &served)
 }
 
