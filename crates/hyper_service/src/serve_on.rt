@@ -13,7 +13,7 @@ use command_output::output::put;
 use command_output::status::FAILURE;
 use error_code::error_code::ErrorCode;
 use http_connections::ender::Ender;
-use http_connections::serve_on::{End, Served, Workers, serve_all};
+use http_connections::serve_on::{End, Served, Server, serve_all};
 use http_connections::settings::Settings;
 use proxy_client::forwards::Forwards;
 use shared_book::gate::Gate;
@@ -30,15 +30,18 @@ use std::random::RandomSource;
 use std::sync::{Arc, Wait};
 use tokio::runtime::LocalRuntime;
 
+/// What the threads of a server share that answers by a site.
+pub type SiteServer<L, G, C, F, V, N> = Server<SiteAnswers<L, G, C, F, V, N>>;
+
 /// Serves the connections of a listener, as many as are wanted, each with a seat of its own, and settles once all have
-/// ended. It is served on the threads of `workers`, and ends, too, when `ender` is asked. Writes where it listens before
-/// it accepts the first, how many events were settled, and an error to `err`.
+/// ended. It is served by `workers`, on the calling thread and on others if they like, and ends, too, when `ender` is
+/// asked. Writes where it listens before it accepts the first, how many events were settled, and an error to `err`.
 /// Gives the exit status.
 pub fn serve_on<R, L, G, C, F, V, N, W, O, E>(
     rt: R,
     runtime: &mut LocalRuntime,
     listener: TcpListener,
-    workers: &W,
+    workers: W,
     ender: &Arc<Ender>,
     answers: SiteAnswers<L, G, C, F, V, N>,
     seat: Seat<L>,
@@ -54,9 +57,11 @@ where
     F: Forwards,
     V: Renders,
     N: Log + Drop,
-    W: Workers<R, SiteAnswers<L, G, C, F, V, N>>,
+    W: Fn(R, &mut LocalRuntime, TcpListener, &Arc<SiteServer<L, G, C, F, V, N>>) -> io::Result<()>,
+    W: Drop,
     O: Write,
     E: Write,
+    requires { W.IsAlwaysCallable workers }
     ensures written { ReportsServed O.contents E.contents L.origin L.parts L.book
         out.old out.new err.old err.new result }
     ensures status { result ≤ 1 }
@@ -110,7 +115,7 @@ fn serve_site<R, L, G, C, F, V, N, W>(
     rt: R,
     runtime: &mut LocalRuntime,
     listener: TcpListener,
-    workers: &W,
+    workers: W,
     ender: &Arc<Ender>,
     answers: SiteAnswers<L, G, C, F, V, N>,
     seat: Seat<L>,
@@ -124,7 +129,9 @@ where
     F: Forwards,
     V: Renders,
     N: Log + Drop,
-    W: Workers<R, SiteAnswers<L, G, C, F, V, N>>,
+    W: Fn(R, &mut LocalRuntime, TcpListener, &Arc<SiteServer<L, G, C, F, V, N>>) -> io::Result<()>,
+    W: Drop,
+    requires { W.IsAlwaysCallable workers }
     ensures { IfOk result (λ served. (seats : List Held) × IsSettling L.origin L.parts L.book seats served.0) }
 {
     let book = answers.book()?;
