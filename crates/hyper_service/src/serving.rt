@@ -58,6 +58,7 @@ where
     ensures announced { IfOk result (λ _. IsAnnounced (O.contents out.old) (O.contents out.new)) }
     ensures silent { IfOk result (λ _. err.new ≡ err.old) }
     ensures failed { IfErr result (ReportsUnserved O.contents E.contents out.old out.new err.old err.new) }
+    ensures status { IfErr result (λ status. status ≡ FAILURE) }
 {
     let announced = announce(alloc, listener, out);
     if announced.is_err() {

@@ -1,6 +1,7 @@
 // The server of a book.
 ghost use Rattle.std.specs.Prelude.{◌≡◌, ◌<◌, ◌≤◌, ◌∷◌, [], IfOk, option_copied};
 ghost use Rattle.hyper_service.specs.Given.{rules_of};
+ghost use Rattle.hyper_service.specs.Report.{ReportsServed};
 ghost use Rattle.mapping_answer.specs.Answering.{usual_limits};
 ghost use Rattle.mock.specs.Served.{ServesBook};
 ghost use Rattle.served_book.specs.Served.{IsServedBook};
@@ -9,7 +10,7 @@ ghost use Rattle.shared_history.specs.Entries.{opening};
 use crate::arguments::ServeArguments;
 use crate::descriptors::open_connections;
 use crate::server_log::ServerLog;
-use crate::serving_threads::{MockAnswers, ServingThreads};
+use crate::serving_threads::{MockAnswers, serve_on_threads};
 use crate::watch::Watch;
 use admin_routes::router::AdminRoutes;
 use answering::clock::SystemClock;
@@ -24,7 +25,7 @@ use http_connections::ender::Ender;
 use http_connections::settings::Settings;
 use hyper_service::journal_limit::JournalLimit;
 use hyper_service::renderer::Renderer;
-use hyper_service::serve_on::serve_on;
+use hyper_service::serving::{begin_serving, end_serving};
 use hyper_service::site_answers::SiteAnswers;
 use proxy_client::client::{Client, SILENCE_SECONDS};
 use proxy_client::counted::TURN_LIMIT;
@@ -293,28 +294,72 @@ where
         connections: arguments.connections,
         max_connections: open_connections(arguments.max_connections, arguments.threads, err),
     };
-    let Ok(log) = ServerLog::new(log, &book) else {
+    let (Ok(log), Ok(settled_book)) = (ServerLog::new(log, &book), book.try_clone()) else {
         return out_of_memory(err);
     };
     if let Err(error) = start_watch(rt, &listener, watch, ender) {
         return report_watch(rt.alloc(), &error, err);
     }
     match answers_of(rt, book, forwarder, arguments, page, log) {
-        Ok(answers) => serve_on(
+        Ok(answers) => serve_answers(
             rt,
             &mut runtime,
             listener,
-            &ServingThreads {
-                count: arguments.threads,
-            },
+            arguments.threads,
             ender,
             answers,
+            settled_book,
             seat,
             settings,
             out,
             err,
         ),
         Err(_error) => out_of_memory(err),
+    }
+}
+
+// Serves the connections of a listener on `threads` threads, the calling one among them, and settles the book once all
+// have ended.
+fn serve_answers<L, R, O, E>(
+    rt: R,
+    runtime: &mut LocalRuntime,
+    listener: TcpListener,
+    threads: u64,
+    ender: &Arc<Ender>,
+    answers: MockAnswers<L, R>,
+    book: SharedBook<L>,
+    seat: Seat<L>,
+    settings: Settings,
+    out: &mut O,
+    err: &mut E,
+) -> u8
+where
+    L: Origin + Send + Sync,
+    R: Threads
+        + Wait
+        + Net<Listener = TcpListener, Stream = TcpStream>
+        + Clock
+        + RandomSource
+        + AllocGlobal
+        + Copy
+        + Drop
+        + Send
+        + Sync,
+    O: Write,
+    E: Write,
+    ensures written { ReportsServed O.contents E.contents L.origin L.parts L.book
+        out.old out.new err.old err.new result }
+    ensures status { result ≤ 1 }
+{
+    let alloc = rt.alloc();
+    match begin_serving(
+        &rt, alloc, &listener, ender, answers, seat, settings, out, err,
+    ) {
+        Ok(server) => {
+            let ran = serve_on_threads(rt, runtime, listener, &server, threads);
+            end_serving(&rt, alloc, &server, book, &ran, out, err)
+        }
+        Err(status) => status,
     }
 }
 

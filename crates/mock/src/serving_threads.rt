@@ -1,10 +1,10 @@
 // The threads that serve.
 use crate::server_log::ServerLog;
 use answering::clock::SystemClock;
-use http_connections::answers::Answers;
-use http_connections::serve_on::{OneThread, Server, Workers};
+use http_connections::serve_on::on_this_thread;
 use http_connections::threads::{Job, on_threads};
 use hyper_service::renderer::Renderer;
+use hyper_service::serving::SiteServer;
 use hyper_service::site_answers::SiteAnswers;
 use proxy_client::forwarder::Forwarder;
 use shared_book::gate::NoGate;
@@ -18,13 +18,6 @@ use std::thread::Threads;
 use std::time::Clock;
 use tokio::runtime::LocalRuntime;
 
-/// The calling thread, and others beside it.
-#[derive(Clone, Copy, Debug)]
-pub struct ServingThreads {
-    /// How many there are, the calling thread among them.
-    pub count: u64,
-}
-
 /// What the connections of `mock serve` are served by.
 pub type MockAnswers<L, R> = SiteAnswers<
     L,
@@ -35,13 +28,47 @@ pub type MockAnswers<L, R> = SiteAnswers<
     ServerLog<L>,
 >;
 
-// What each thread does.
-#[derive(Drop)]
-struct ServerJob<A: Answers> {
-    server: Arc<Server<A>>,
+/// What the threads of `mock serve` share.
+pub type MockServer<L, R> = SiteServer<
+    L,
+    NoGate,
+    SystemClock<R>,
+    Forwarder<R>,
+    Renderer<R>,
+    ServerLog<L>,
+>;
+
+// What each thread does. It has no other type parameters than these, so that few facts are passed where it is.
+struct ServerJob<L, R>
+where
+    L: Origin,
+    R: Threads
+        + Net<Listener = TcpListener, Stream = TcpStream>
+        + Clock
+        + AllocGlobal
+        + Copy
+        + Drop,
+{
+    server: Arc<MockServer<L, R>>,
 }
 
-impl<L, R> Job<R> for ServerJob<MockAnswers<L, R>>
+// Written out, so that a caller's proof sees one call and not the drop of each part.
+impl<L, R> Drop for ServerJob<L, R>
+where
+    L: Origin,
+    R: Threads
+        + Net<Listener = TcpListener, Stream = TcpStream>
+        + Clock
+        + AllocGlobal
+        + Copy
+        + Drop,
+{
+    fn drop(self) {
+        let ServerJob { server: _server } = self;
+    }
+}
+
+impl<L, R> Job<R> for ServerJob<L, R>
 where
     L: Origin,
     R: Threads
@@ -63,7 +90,15 @@ where
     }
 }
 
-impl<L, R> Workers<R, MockAnswers<L, R>> for ServingThreads
+/// Serves the connections of a listener, as long as any are accepted, on `threads` threads, the calling one, which
+/// drives this runtime, among them. Gives the first error of any.
+pub fn serve_on_threads<L, R>(
+    rt: R,
+    runtime: &mut LocalRuntime,
+    listener: TcpListener,
+    server: &Arc<MockServer<L, R>>,
+    threads: u64,
+) -> io::Result<()>
 where
     L: Origin + Send + Sync,
     R: Threads
@@ -77,18 +112,10 @@ where
         + Send
         + Sync,
 {
-    fn serve(
-        &self,
-        rt: R,
-        runtime: &mut LocalRuntime,
-        listener: TcpListener,
-        server: &Arc<Server<MockAnswers<L, R>>>,
-    ) -> io::Result<()> {
-        if self.count <= 1 {
-            return OneThread.serve(rt, runtime, listener, server);
-        }
-        serve_beside(rt, runtime, listener, server, self.count - 1)
+    if threads <= 1 {
+        return on_this_thread(rt, runtime, listener, server);
     }
+    serve_beside(rt, runtime, listener, server, threads - 1)
 }
 
 // Serves on the calling thread and on others.
@@ -96,7 +123,7 @@ fn serve_beside<L, R>(
     rt: R,
     runtime: &mut LocalRuntime,
     listener: TcpListener,
-    server: &Arc<Server<MockAnswers<L, R>>>,
+    server: &Arc<MockServer<L, R>>,
     others: u64,
 ) -> io::Result<()>
 where
