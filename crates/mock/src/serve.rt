@@ -294,7 +294,10 @@ where
         connections: arguments.connections,
         max_connections: open_connections(arguments.max_connections, arguments.threads, err),
     };
-    let (Ok(log), Ok(settled_book)) = (ServerLog::new(log, &book), book.try_clone()) else {
+    let Ok(log) = ServerLog::new(log, &book) else {
+        return out_of_memory(err);
+    };
+    let Ok(settled) = book.try_clone() else {
         return out_of_memory(err);
     };
     if let Err(error) = start_watch(rt, &listener, watch, ender) {
@@ -308,7 +311,7 @@ where
             arguments.threads,
             ender,
             answers,
-            settled_book,
+            settled,
             seat,
             settings,
             out,
