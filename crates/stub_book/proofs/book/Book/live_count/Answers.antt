@@ -1,0 +1,12 @@
+use Rattle.std.proofs.Common.{◌≡◌, ◌∙◌, length, subst}
+use Rattle.std.proofs.lemmas.List.Sorted.{length_permutation}
+use Rattle.request_journal.specs.Live.{live}
+use Rattle.request_journal.specs.Past.{Past}
+use Rattle.stub_book.proofs.book.Book.live_count.Goals as goal
+
+pub returns-clause-count : goal.returns-clause-count
+returns-clause-count c =
+    let past = c.self.inside.history.past in
+    let store = c.self.inside.store in
+    subst (λ (p : Past). c.len.result ≡ length (live p)) c.self.view_is
+    (c.len.ensures ∙ length_permutation (live past) store.live c.self.invariant.same_live)
