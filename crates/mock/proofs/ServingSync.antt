@@ -14,13 +14,14 @@ use Rattle.answering.proofs.clock.SystemClock.TheSendSync as clock
 use Rattle.answering.specs.contracts.clock.SystemClock as clock_row
 use Rattle.answering.specs.contracts.site.Site as site
 use Rattle.bytes.proofs.shared.Bytes.TheSendSync as bytes
+use Rattle.http_connections.proofs.serve_on.Server.TheSendSync as server
+use Rattle.http_connections.specs.contracts.serve_on.Server as server_row
 use Rattle.hyper_service.proofs.journal_limit.JournalLimit.TheSendSync as journal_limit
 use Rattle.hyper_service.proofs.renderer.Renderer.TheSendSync as renderer
 use Rattle.hyper_service.specs.contracts.renderer.Renderer as renderer_row
 use Rattle.hyper_service.specs.contracts.site_answers.SiteAnswers as site_answers
 use Rattle.matchit.proofs.route.Route.TheSendSync as route
 use Rattle.matchit.proofs.tree.Node.TheLaws.TheKnot as node
-use Rattle.mock.proofs.serving_threads.ServerJob.TheSendSync as job
 use Rattle.mock.specs.contracts.server_log.ServerLog as server_log
 use Rattle.mock.specs.contracts.serving_threads.ServerJob as server_job
 use Rattle.proxy_client.proofs.forwarder.Forwarder.TheSendSync as forwarder
@@ -227,5 +228,13 @@ module _ (L R : RattleType) (o : origin.Ghosts L.Denot) (l : ledger.Ghosts L.Den
       (forwarder_row.the_row R) (renderer_row.the_row R) (server_log.the_row L o l n) forwarder_send forwarder_sync
       renderer_send renderer_sync (log_send L o l n) (log_sync L o l n)
 
-  pub job_sync : (X Y Z : RattleType) → IsSync (server_job.the_row A (seat_row.the_row L o l n) X Y Z)
-  job_sync X Y Z = job.the_sync A (seat_row.the_row L o l n) X Y Z send-A seat_send sync-A
+  server_send : (X Y Z : RattleType) → IsSend (server_row.the_row A (seat_row.the_row L o l n) X Y Z)
+  server_send X Y Z = server.the_send A (seat_row.the_row L o l n) X Y Z send-A seat_send sync-A
+
+  server_sync : (X Y Z : RattleType) → IsSync (server_row.the_row A (seat_row.the_row L o l n) X Y Z)
+  server_sync X Y Z = server.the_sync A (seat_row.the_row L o l n) X Y Z send-A seat_send sync-A
+
+  pub job_sync : IsSync (server_job.the_row L R o l n)
+  job_sync =
+      declared_sync (server_job.the_type L R o l n)
+      (search (server_send, server_sync, crosses, sendable) depth 60, tt)

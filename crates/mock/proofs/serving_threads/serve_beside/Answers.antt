@@ -9,4 +9,4 @@ on_threads-requires-sync-J g c κs within =
     param_sync 1 _
     (arg_sync _ yes _
     (job_sync (param 0 g.row.L) (copied 1 g.row.R) g.L.Origin g.L.Ledger g.L.Naming
-    c.type_bounds.send-R c.type_bounds.sync-R _ _ _))
+    c.type_bounds.send-R c.type_bounds.sync-R))
