@@ -68,8 +68,9 @@ fn add_names_of_text(alloc: Global, text: &str, names: &mut Vec<String>) -> Resu
     Ok(())
 }
 
-/// The code of a template within a loop: names outside of the template's loops lead to the item of that one, while code
-/// has no trace of what leads out of all loops. A template with no room for one more loop gives none.
+/// The code of the template as the body of a loop. Outside of loops a name finds nothing, and the code of a template has
+/// no trace of it. In the body of one more loop the same name is looked up in that loop's item, and the code says so.
+/// A template that has no room for one more loop gives none.
 fn code_in_loop(alloc: Global, text: &str) -> Result<Option<Code>, AllocError> {
     let looped = joined(alloc, ["{{#each request}} ", text, " {{/each}}"].as_slice())?;
     match template_of(alloc, looped.as_str())? {
