@@ -13,13 +13,15 @@ use std::sync::Wait;
 /// Is told how messages are answered, outside of the book's lock and before the answer is sent. So it shouldn't take
 /// long.
 pub trait Log {
-    /// A message was answered at once. The receipt is that of the event that it made, if it made one.
+    /// A message was answered at once. The receipt is that of the event that it made, if it made one; then so many
+    /// mappings gave way to those that the event added.
     fn answered<R: Wait>(
         &self,
         rt: &R,
         alloc: Global,
         message: &Request<Bytes>,
         receipt: Option<&Receipt>,
+        replaced: u64,
         response: &Response<Content>,
     );
 
@@ -60,6 +62,7 @@ impl Log for NoLog {
         _alloc: Global,
         _message: &Request<Bytes>,
         _receipt: Option<&Receipt>,
+        _replaced: u64,
         _response: &Response<Content>,
     ) {}
 

@@ -186,7 +186,8 @@ where
         match answering::begin::begin(rt, alloc, &self.site, seat, request)? {
             answering::begun::Begun::Answered(response) => {
                 let receipt = gained(seat, before);
-                self.log.answered(rt, alloc, request, receipt, &response);
+                self.log
+                    .answered(rt, alloc, request, receipt, seat.replaced(), &response);
                 Ok(Begun::Answered(response))
             }
             answering::begun::Begun::Refused(refused) => {

@@ -101,6 +101,7 @@ impl<L: Origin> Log for ServerLog<L> {
         alloc: Global,
         message: &Request<Bytes>,
         receipt: Option<&Receipt>,
+        replaced: u64,
         response: &Response<Content>,
     ) {
         let event = event_of(receipt);
@@ -114,6 +115,7 @@ impl<L: Origin> Log for ServerLog<L> {
         };
         self.log.answered(rt, alloc, message, event, status, offer);
         if let Some((_number, event)) = event {
+            self.log.replaced(rt, alloc, message, event, replaced);
             self.tell_stopped(rt, alloc, message, event);
         }
     }

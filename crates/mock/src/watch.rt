@@ -8,11 +8,8 @@ use std::net::{IpAddr, Ipv4Addr, Ipv6Addr, Net, SocketAddr, TcpListener, TcpStre
 use std::random::RandomSource;
 use std::sync::{Arc, Mutex, Wait};
 use std::thread::Threads;
-use std::time::{Clock, Duration};
+use std::time::Clock;
 use std::{io, thread};
-
-// After how long the end is asked for again.
-const AGAIN_MILLISECONDS: u64 = 50;
 
 /// What is done when standard input ends.
 #[derive(Drop)]
@@ -133,7 +130,7 @@ impl<I: Read + Drop + Send + 'static> Watch<I> {
     }
 }
 
-// What the thread does. It ends with the process.
+// What the thread does.
 fn end_with<R, I>(
     rt: R,
     input: I,
@@ -156,11 +153,7 @@ where
     if let Some(files) = &recording {
         files.write(&rt, address.as_str());
     }
-    // A server that begins to accept only now hears what is asked from then on.
-    for _ in rt.forever() {
-        ender.end();
-        thread::sleep(&rt, Duration::from_millis(AGAIN_MILLISECONDS));
-    }
+    ender.end();
 }
 
 // A server that listens at every address is at the machine's own.

@@ -10,6 +10,7 @@ pub mod lines;
 mod mapping_name;
 mod nearest;
 mod over_budget;
+mod replaced;
 mod request_line;
 pub mod request_log;
 mod shared_names;

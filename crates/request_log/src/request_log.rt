@@ -4,6 +4,7 @@ use crate::mapping_name::push_mapping;
 pub use crate::nearest::Offer;
 use crate::nearest::nearest_lines;
 use crate::over_budget::over_budget_line;
+use crate::replaced::replaced_line;
 use crate::request_line::request_line;
 use crate::shared_names::{have_scenario, shared_name_lines};
 use crate::skipped::skipped_lines;
@@ -103,6 +104,20 @@ impl RequestLog {
         }
         if !lines.is_empty() {
             self.lines.add(rt, lines);
+        }
+    }
+
+    /// Warns where mappings gave way to those that the event of this message added.
+    pub fn replaced<R: Wait>(
+        &self,
+        rt: &R,
+        alloc: Global,
+        message: &Request<Bytes>,
+        event: &Event,
+        replaced: u64,
+    ) {
+        if replaced > 0 {
+            self.add(rt, replaced_warning(alloc, message, event, replaced));
         }
     }
 
@@ -400,6 +415,18 @@ fn posted_warnings(alloc: Global, message: &Request<Bytes>) -> Result<String, Al
     let mut notes = Notes::new(alloc);
     notes.add_posted(alloc, call.as_str(), message.body().as_slice(), None)?;
     Ok(notes.into_string())
+}
+
+// Not inlined, as `posted_warnings`.
+#[inline(never)]
+fn replaced_warning(
+    alloc: Global,
+    message: &Request<Bytes>,
+    event: &Event,
+    replaced: u64,
+) -> Result<String, AllocError> {
+    let call = call_of(alloc, message.method().as_str(), message.uri().path())?;
+    replaced_line(alloc, call.as_str(), event, replaced)
 }
 
 fn shared_name_warnings(

@@ -1,17 +1,18 @@
 -- Lines of receipts: what stays where they let go of events, and what is there once a seat took over another.
 use Rattle.std.proofs.Common.{◌≡◌, ℕ, ◌+◌, ◌<◌, ◌≤◌, Bool, true, false, cond, List, [], ◌∷◌, ◌++◌}
-use Rattle.std.proofs.Common.{drop, get_or, map, length, set, take, refl, sym, ap, ◌∙◌, subst}
+use Rattle.std.proofs.Common.{map, length, refl, sym, ap, ◌∙◌, subst}
 use Rattle.std.proofs.Common.{append_assoc, append-nil, length-append}
 use Rattle.std.proofs.Common.{arith}
-use Rattle.std.proofs.lemmas.List.{drop-drop, drop-set-lt, get_or-drop, map-append, take_more, take_more_set}
+use Rattle.std.proofs.lemmas.List.{map-append}
 use Rattle.std.proofs.lemmas.List.Concat.{flat_map-append}
-use Rattle.std.proofs.lemmas.List.Elements.{AllZip-push, All-append, All-nil, All-weaker, filter-append}
+use Rattle.std.proofs.lemmas.List.Elements.{All-append, All-nil, All-weaker, filter-append}
 use Rattle.std.specs.List.{AllZip}
-use Rattle.shared_book.specs.Held.{Held, LetsGo, all_numbers, all_parts, filled, is_filled}
+use Rattle.shared_book.specs.Held.{Held, LetsGo, all_numbers, all_parts, filled, is_filled, receipts_of}
 use Rattle.shared_book.specs.Inner.Gains.{Keeps}
-use Rattle.shared_book.specs.Inner.Seat.{line_of}
+use Rattle.shared_book.specs.Inner.Seat.{line_of, lines_in, lines_of, single}
 use Rattle.shared_book.specs.Receipts.{Line, numbers, numbers_of}
 use Rattle.shared_book.specs.declared.receipt.Receipt.{Receipt}
+use Rattle.shared_book.specs.declared.pile.Pile.{Pile}
 use Rattle.shared_book.specs.declared.receipt_list.ReceiptList.{ReceiptList}
 
 -- ---- one line
@@ -107,35 +108,43 @@ all_go_weaker P Q f [] (y ∷ ys) go = absurd go
 all_go_weaker P Q f (x ∷ xs) [] go = absurd go
 all_go_weaker P Q f (x ∷ xs) (y ∷ ys) go = (lets_go_weaker P Q f x y go.0, all_go_weaker P Q f xs ys go.1)
 
--- one more list of a loop over several
-module _ (P : ℕ → Type 0) where
-  drop_step : (xs ys : List ReceiptList) (i : ℕ) → drop i xs ≡ drop i ys → drop (i + 1) xs ≡ drop (i + 1) ys
-  drop_step xs ys i e = sym (drop-drop 1 i xs) ∙ ap (drop 1) e ∙ drop-drop 1 i ys
+-- ---- piles of lines
 
-  item_step : (xs ys : List ReceiptList) (i : ℕ) (d : ReceiptList) → drop i xs ≡ drop i ys
-      → get_or xs i d ≡ get_or ys i d
-  item_step xs ys i d e =
-      let same : i + 0 ≡ i = omega arith in
-      subst (λ (k : ℕ). get_or xs k d ≡ get_or ys k d) same
-      (sym (get_or-drop i xs 0 d) ∙ ap (λ (l : List ReceiptList). get_or l 0 d) e ∙ get_or-drop i ys 0 d)
+pub lines_in-append : (ps qs : List Pile) → lines_in (ps ++ qs) ≡ lines_in ps ++ lines_in qs
+lines_in-append ps qs = flat_map-append lines_of ps qs
 
-  pub all_go_rest : (old new : List ReceiptList) (i : ℕ) (x : ReceiptList) → drop i new ≡ drop i old
-      → drop (i + 1) (set new i x) ≡ drop (i + 1) old
-  all_go_rest old new i x rest = drop-set-lt (i + 1) new i x (omega arith) ∙ drop_step new old i rest
+-- one more pile
+pub lines_more : (ps : List Pile) (p : Pile) → lines_in (ps ++ p ∷ []) ≡ lines_in ps ++ lines_of p
+lines_more ps p = lines_in-append ps (p ∷ []) ∙ ap (λ (l : List Line). lines_in ps ++ l) (append-nil (lines_of p))
 
-  pub all_go_more : (old new : List ReceiptList) (i : ℕ) (item x : ReceiptList) → i < length old → i < length new
-      → AllZip (LetsGo P) (map line_of (take i old)) (map line_of (take i new)) → drop i new ≡ drop i old
-      → LetsGo P (line_of (get_or new i item)) (line_of x)
-      → AllZip (LetsGo P) (map line_of (take (i + 1) old)) (map line_of (take (i + 1) (set new i x)))
-  all_go_more old new i item x l k all rest go =
-      subst (λ (ls : List Line). AllZip (LetsGo P) ls (map line_of (take (i + 1) (set new i x))))
-      (sym (ap (map line_of) (take_more old i item l) ∙ map-append line_of (take i old) (get_or old i item ∷ [])))
-      (subst (λ (ls : List Line).
-      AllZip (LetsGo P) (map line_of (take i old) ++ line_of (get_or old i item) ∷ []) ls)
-      (sym (ap (map line_of) (take_more_set new i x k) ∙ map-append line_of (take i new) (x ∷ [])))
-      (AllZip-push (LetsGo P) (map line_of (take i old)) (map line_of (take i new)) (line_of (get_or old i item))
-      (line_of x) all
-      (subst (λ (y : ReceiptList). LetsGo P (line_of y) (line_of x)) (item_step new old i item rest) go)))
+pub filled_singles : (ns : List ℕ) → filled (map single ns) ≡ map single ns
+filled_singles [] = refl
+filled_singles (n ∷ ns) = ap (λ (l : List Line). single n ∷ l) (filled_singles ns)
+
+pub numbers_singles : (ns : List ℕ) → all_numbers (map single ns) ≡ ns
+numbers_singles [] = refl
+numbers_singles (n ∷ ns) = ap (λ (l : List ℕ). n ∷ l) (numbers_singles ns)
+
+pub receipts_singles : (ns : List ℕ) → receipts_of (map single ns) ≡ []
+receipts_singles [] = refl
+receipts_singles (n ∷ ns) = receipts_singles ns
+
+one_number : (ns : List ℕ) → length ns ≡ 1 → (n : ℕ) × (ns ≡ n ∷ [])
+one_number [] one = absurd (omega (arith, one))
+one_number (n ∷ []) one = (n, refl)
+one_number (n ∷ m ∷ ns) one = absurd (omega (arith, one))
+
+none_held : (rs : List Receipt) → length rs ≡ 0 → rs ≡ []
+none_held [] none = refl
+none_held (r ∷ rs) none = absurd (omega (arith, none))
+
+-- a list of one receipt, whose event was let go
+pub single_line : (list : ReceiptList) → length list.let_go.items ≡ 1 → length list.held.items ≡ 0
+    → map single list.let_go.items ≡ line_of list ∷ []
+single_line list one none =
+    let is = one_number list.let_go.items one in
+    ap (map single) is.1
+    ∙ (λ i. record { let_go = sym is.1 i; held = sym (none_held list.held.items none) i } ∷ [])
 
 -- ---- lines that have a receipt
 
@@ -153,12 +162,12 @@ all_numbers-filled (x ∷ xs) =
     numbers_if (numbers_of x) x (filled xs) refl
     ∙ ap (λ (l : List ℕ). numbers_of x ++ l) (all_numbers-filled xs)
 
--- what one more line adds
-pub filled_more : (before lines : List Line) (line own : Line)
-    → (before ++ filled (own ∷ lines)) ++ filled (line ∷ []) ≡ before ++ filled (own ∷ (lines ++ line ∷ []))
-filled_more before lines line own =
-    append_assoc before (filled (own ∷ lines)) (filled (line ∷ []))
-    ∙ ap (λ (l : List Line). before ++ l) (sym (filled-append (own ∷ lines) (line ∷ [])))
+-- what more lines add
+pub filled_more : (before lines more : List Line) (own : Line)
+    → (before ++ filled (own ∷ lines)) ++ filled more ≡ before ++ filled (own ∷ (lines ++ more))
+filled_more before lines more own =
+    append_assoc before (filled (own ∷ lines)) (filled more)
+    ∙ ap (λ (l : List Line). before ++ l) (sym (filled-append (own ∷ lines) more))
 
 -- ---- how many receipts there are
 

@@ -2,6 +2,7 @@
 use Rattle.std.proofs.Common.{◌≡◌, ℕ, ◌<◌, [], ◌∷◌, ◌++◌, ap, arith, refl, sym, ◌∙◌, subst}
 use Rattle.std.specs.Prelude.{IfOk, Result, Ok, Err}
 use Rattle.logbook.specs.Pages.{Book}
+use Rattle.mock_request.specs.Request.{Request}
 use Rattle.request_journal.specs.Legal.{IsNext}
 use Rattle.request_journal.specs.Past.{Past, last_number}
 use Rattle.request_journal.specs.declared.event.Event.{Event}
@@ -23,7 +24,8 @@ use Rattle.shared_history.specs.Seal.{IsSeen}
 use Rattle.shared_history.specs.Sight.{Calls, CatchesUp, IsIn, Leaves, Looks, Sight, Splits}
 use Rattle.shared_history.specs.declared.entry.Deed.TheVariants.{Looked, Split}
 use Rattle.shared_history.specs.declared.entry.Entry.{Entry}
-use Rattle.stub_book.specs.Growth.{Grows}
+use Rattle.stub_book.specs.Growth.{Changes, Grows, IsServed, replaced}
+use Rattle.stub_book.specs.declared.accepted.Changed.{Changed}
 
 pub lawful_more : (origin : Past) (old new : Log) (e : Entry Past Event) → IsLawful origin old
     → new ≡ old ++ e ∷ [] → IsHistory MayFollow new → IsLawful origin new
@@ -185,6 +187,15 @@ kept_opened origin all past whole entries parts start same opened none are some 
 }
 
 -- ---- a call was entered
+
+-- a request that was served adds nothing, so nothing gives way
+pub served_changes : (old new : Past) (request : Request) (changed : Changed) → IsServed request changed.event
+    → Grows old new changed.event → changed.replaced ≡ 0 → Changes old new changed
+served_changes old new request changed served grows none = record {
+  grows = grows;
+  so_many = none ∙ sym (ap (λ (e : Event). replaced old e) served.1);
+}
+
 module _ (origin past new : Past) (whole more : Log) (seat later : Sight Past Event) (event : Event) where
   pub past_entered : IsPastOf origin whole past → Grows past new event → Calls event seat whole later
       → more ≡ later.seen → IsPastOf origin more new
@@ -197,11 +208,12 @@ module _ (origin past new : Past) (whole more : Log) (seat later : Sight Past Ev
       dropped_last origin new later.seen base
       (subst (λ (log : Log). IsPastOf origin log new) same (past_entered is grows calls same)) number
 
-  pub was_entered : {name : Book} (receipt : Receipt) → IsLawful origin whole → IsPastOf origin whole past
+  pub was_entered : {name : Book} (receipt : Receipt) (count : ℕ) → IsLawful origin whole → IsPastOf origin whole past
       → Grows past new event
       → Calls event seat whole later → more ≡ later.seen → IsHistory MayFollow more → IsSeen MayFollow name more
-      → receipt.event ≡ event → receipt.number ≡ last_number new → IsEntered origin name seat later receipt
-  was_entered {name} receipt lawful is grows calls same history was_seen its number = record {
+      → receipt.event ≡ event → receipt.number ≡ last_number new → count ≡ replaced past event
+      → IsEntered origin name seat later receipt count
+  was_entered {name} receipt count lawful is grows calls same history was_seen its number so_many = record {
     whole = whole;
     calls = subst (λ (e : Event). Calls e seat whole later) (sym its) calls;
     lawful = lawful_more origin whole later.seen _ lawful calls.seen (subst (IsHistory MayFollow) same history);
@@ -210,6 +222,7 @@ module _ (origin past new : Past) (whole more : Log) (seat later : Sight Past Ev
     past_of = is;
     next = subst (IsNext past) (sym its) grows.next;
     number = number ∙ number_grown past new event grows;
+    so_many = so_many ∙ ap (λ (e : Event). replaced past e) (sym its);
   }
 
 pub lawful_entered : (origin : Past) (whole more : Log) (seat later : Sight Past Event) (event : Event)

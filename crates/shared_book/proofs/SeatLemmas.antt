@@ -65,10 +65,10 @@ seat_refused origin old new all share amount parts count told later_share later_
     }
 
 -- it has made a call, and has kept the receipt
-module _ {name : Book} (origin : Past) (old new : Sight Past Event) (receipt : Receipt) where
+module _ {name : Book} {so_many : ℕ} (origin : Past) (old new : Sight Past Event) (receipt : Receipt) where
   -- the number up to which a checkpoint has dropped events
-  pub told_on : (before base told : ℕ) → IsEntered origin name old new receipt → IsDropped origin old.seen before
-      → IsDropped origin new.seen base → (told ≡ before) ⊎ (told ≡ base) → IsDropped origin new.seen told
+  pub told_on : (before base told : ℕ) → IsEntered origin name old new receipt so_many
+      → IsDropped origin old.seen before → IsDropped origin new.seen base → (told ≡ before) ⊎ (told ≡ base) → IsDropped origin new.seen told
   told_on before base told entered dropped more either =
       dropped_either origin new.seen before base told
       (dropped_later origin old.seen new.seen before (entered_on origin old new receipt entered) dropped) more either
@@ -76,7 +76,7 @@ module _ {name : Book} (origin : Past) (old new : Sight Past Event) (receipt : R
   pub seat_entered : (all share amount parts count before base told later_share later_amount : ℕ) (own kept : Line)
       (joined later : List Line)
       → IsSeat origin all share amount parts count before old.seen (own ∷ joined)
-      → IsEntered origin name old new receipt
+      → IsEntered origin name old new receipt so_many
       → IsDropped origin new.seen base → (told ≡ before) ⊎ (told ≡ base) → Keeps told own kept receipt
       → AllZip (LetsGo (λ n. n ≤ told)) joined later → later_share ≡ share → later_amount ≡ amount + 1
       → IsSeat origin all later_share later_amount parts (count + 1) told new.seen (kept ∷ later)
@@ -122,9 +122,9 @@ told_joined origin old other new before others told joined one two either =
 -- ---- what contracts see
 
 pub caught_up : {name : Book} (origin : Past) (old new : Held) → SeesAll origin name (sight old) (sight new)
-    → new.parts ≡ old.parts
-    → new.own ≡ old.own → new.joined ≡ old.joined → HasCaughtUp origin name old new
-caught_up origin old new sees parts own joined = record {
+    → new.parts ≡ old.parts → new.own ≡ old.own → new.joined ≡ old.joined → new.replaced ≡ old.replaced
+    → HasCaughtUp origin name old new
+caught_up origin old new sees parts own joined replaced = record {
   sees = sees;
   same = λ i. record {
     number = sees.looks.number i;
@@ -132,19 +132,21 @@ caught_up origin old new sees parts own joined = record {
     parts = parts i;
     own = own i;
     joined = joined i;
+    replaced = replaced i;
   };
 }
 
 pub split_left : {name : Book} (origin : Past) (old new : Held) (made : Sight Past Event)
     → IsSplit origin name (sight old) (sight new) made
-    → new.parts ≡ old.parts - 1 → new.own ≡ old.own → new.joined ≡ old.joined
+    → new.parts ≡ old.parts - 1 → new.own ≡ old.own → new.joined ≡ old.joined → new.replaced ≡ old.replaced
     → new ≡ record old { parts = old.parts - 1; seen = new.seen }
-split_left origin old new made split parts own joined = λ i. record {
+split_left origin old new made split parts own joined replaced = λ i. record {
   number = split.splits.number i;
   seen = new.seen;
   parts = parts i;
   own = own i;
   joined = joined i;
+  replaced = replaced i;
 }
 
 -- an error that is given on

@@ -24,7 +24,8 @@ module _ {name : Book} (origin : Past) (old new : Sight Past Event) where
   pub sees_on : SeesAll origin name old new → IsPrefix old.seen new.seen
   sees_on sees = prefix_more old.seen sees.whole new.seen _ sees.looks.before.begins sees.looks.seen
 
-  pub entered_on : (receipt : Receipt) → IsEntered origin name old new receipt → IsPrefix old.seen new.seen
+  pub entered_on : {count : ℕ} (receipt : Receipt) → IsEntered origin name old new receipt count
+      → IsPrefix old.seen new.seen
   entered_on receipt entered =
       prefix_more old.seen entered.whole new.seen _ entered.calls.before.begins entered.calls.seen
 

@@ -9,13 +9,15 @@ use Rattle.shared_book.specs.declared.receipt.Receipt.{Receipt}
 use Rattle.shared_history.specs.Sight.{Sight}
 
 -- its number in the one history, and the beginning of that which it has seen; how many parts of the ledger it has, the
--- receipts of its own calls, and those of the seats that it took over
+-- receipts of its own calls, and those of the seats that it took over; how many mappings gave way in its last call that
+-- was accepted
 pub record Held : Type 0 where
   pub number : ℕ
   pub seen : Log
   pub parts : ℕ
   pub own : Line
   pub joined : List Line
+  pub replaced : ℕ
 
 -- its number and what it has seen
 abbrev pub sight : Held → Sight Past Event
@@ -29,6 +31,7 @@ new_seat number seen parts = record {
   parts = parts;
   own = record { let_go = []; held = [] };
   joined = [];
+  replaced = 0;
 }
 
 -- its lines of receipts

@@ -1,5 +1,5 @@
 -- What a seat has seen of the one history, before and after a call.
-use Rattle.std.specs.Prelude.{◌≡◌, ◌⊎◌, ◌+◌}
+use Rattle.std.specs.Prelude.{◌≡◌, ◌⊎◌, ◌+◌, ℕ}
 use Rattle.logbook.specs.Pages.{Book}
 use Rattle.request_journal.specs.Legal.{IsNext}
 use Rattle.request_journal.specs.Past.{Past, last_number}
@@ -10,6 +10,7 @@ use Rattle.shared_book.specs.declared.receipt.Receipt.{Receipt}
 use Rattle.shared_history.specs.History.{HasLeft}
 use Rattle.shared_history.specs.Seal.{IsSeen}
 use Rattle.shared_history.specs.Sight.{Calls, CatchesUp, Leaves, Looks, Sight, Splits}
+use Rattle.stub_book.specs.Growth.{replaced}
 
 -- of the history with this name, of a book that had the past `origin` when it was shared
 module _ (origin : Past) (name : Book) where
@@ -21,8 +22,8 @@ module _ (origin : Past) (name : Book) where
     pub was_seen : IsSeen MayFollow name new.seen
 
   -- the event of the receipt was entered at its end, as a call of this seat, and has the number after the last one of
-  -- the past before it
-  pub record IsEntered (old new : Sight Past Event) (receipt : Receipt) : Type 0 where
+  -- the past before it, of which so many mappings gave way to what it adds
+  pub record IsEntered (old new : Sight Past Event) (receipt : Receipt) (count : ℕ) : Type 0 where
     pub whole : Log
     pub calls : Calls receipt.event old whole new
     pub lawful : IsLawful origin new.seen
@@ -31,6 +32,7 @@ module _ (origin : Past) (name : Book) where
     pub past_of : IsPastOf origin whole past
     pub next : IsNext past receipt.event
     pub number : receipt.number ≡ last_number past + 1
+    pub so_many : count ≡ replaced past receipt.event
 
   -- a new seat was entered at its end, and has made no call
   pub record IsSplit (old new made : Sight Past Event) : Type 0 where
@@ -59,8 +61,9 @@ module _ (origin : Past) (name : Book) where
   abbrev pub HasMadeNoCall : Held → Held → Type 0
   HasMadeNoCall old new = (new ≡ old) ⊎ HasCaughtUp old new
 
+  -- its call was entered, and it knows how many mappings gave way
   abbrev pub Enters : Held → Held → Receipt → Type 0
-  Enters old new receipt = IsEntered (sight old) (sight new) receipt
+  Enters old new receipt = IsEntered (sight old) (sight new) receipt new.replaced
 
   abbrev pub HasSplit : Held → Held → Held → Type 0
   HasSplit old new made = IsSplit (sight old) (sight new) (sight made)

@@ -1,10 +1,11 @@
 // All receipts of several seats.
-ghost use Rattle.std.specs.Prelude.{◌≡◌, ◌++◌, IfOk, OnOk, map};
+ghost use Rattle.std.specs.Prelude.{◌≡◌, ◌++◌, IfOk, OnOk};
 ghost use Rattle.shared_book.specs.Held.{all_lists, all_numbers, lists, receipts_of};
-ghost use Rattle.shared_book.specs.Inner.Seat.{line_of};
+ghost use Rattle.shared_book.specs.Inner.Seat.{line_of, lines_in, lines_of};
 ghost use Rattle.shared_book.specs.Receipts.{numbers_of};
 
 use crate::origin::Origin;
+use crate::pile::Pile;
 use crate::receipt::Receipt;
 use crate::receipt_list::{ReceiptList, add_numbers};
 use crate::seat::Seat;
@@ -31,13 +32,28 @@ fn number_seat<L: Origin>(all: &mut Vec<u64>, seat: &Seat<L>) -> Result<(), Allo
     number_lists(all, seat.lines.joined.as_slice())
 }
 
-fn number_lists(all: &mut Vec<u64>, lists: &[ReceiptList]) -> Result<(), AllocError>
-    ensures { OnOk result (all.new.items ≡ all.old.items ++ all_numbers (map line_of lists.now)) }
+fn number_lists(all: &mut Vec<u64>, piles: &[Pile]) -> Result<(), AllocError>
+    ensures { OnOk result (all.new.items ≡ all.old.items ++ all_numbers (lines_in piles.now)) }
 {
-    for list in lists {
-        number_list(all, list)?;
+    for pile in piles {
+        number_pile(all, pile)?;
     }
     Ok(())
+}
+
+fn number_pile(all: &mut Vec<u64>, pile: &Pile) -> Result<(), AllocError>
+    ensures { OnOk result (all.new.items ≡ all.old.items ++ all_numbers (lines_of pile.now)) }
+{
+    match pile {
+        Pile::Whole(list) => number_list(all, list),
+        Pile::Singles(numbers) => add_plain(all, numbers.as_slice()),
+    }
+}
+
+fn add_plain(all: &mut Vec<u64>, numbers: &[u64]) -> Result<(), AllocError>
+    ensures { OnOk result (all.new.items ≡ all.old.items ++ numbers.now) }
+{
+    all.extend_from_slice(numbers)
 }
 
 fn number_list(all: &mut Vec<u64>, list: &ReceiptList) -> Result<(), AllocError>
@@ -68,13 +84,22 @@ fn copy_seat<L: Origin>(all: &mut Vec<Receipt>, seat: &Seat<L>) -> Result<(), Al
     copy_lists(all, seat.lines.joined.as_slice())
 }
 
-fn copy_lists(all: &mut Vec<Receipt>, lists: &[ReceiptList]) -> Result<(), AllocError>
-    ensures { OnOk result (all.new.items ≡ all.old.items ++ receipts_of (map line_of lists.now)) }
+fn copy_lists(all: &mut Vec<Receipt>, piles: &[Pile]) -> Result<(), AllocError>
+    ensures { OnOk result (all.new.items ≡ all.old.items ++ receipts_of (lines_in piles.now)) }
 {
-    for list in lists {
-        copy_list(all, list.held.as_slice())?;
+    for pile in piles {
+        copy_pile(all, pile)?;
     }
     Ok(())
+}
+
+fn copy_pile(all: &mut Vec<Receipt>, pile: &Pile) -> Result<(), AllocError>
+    ensures { OnOk result (all.new.items ≡ all.old.items ++ receipts_of (lines_of pile.now)) }
+{
+    match pile {
+        Pile::Whole(list) => copy_list(all, list.held.as_slice()),
+        Pile::Singles(_) => Ok(()),
+    }
 }
 
 fn copy_list(all: &mut Vec<Receipt>, list: &[Receipt]) -> Result<(), AllocError>

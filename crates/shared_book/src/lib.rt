@@ -19,6 +19,7 @@ mod locked;
 mod look;
 mod misplaced;
 pub mod origin;
+mod pile;
 pub mod receipt;
 mod receipt_list;
 pub mod script;

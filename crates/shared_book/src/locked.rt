@@ -11,7 +11,7 @@ ghost use Rattle.shared_book.specs.Seen.{IsEntered, IsJoined, IsSplit, SeesAll};
 ghost use Rattle.shared_book.specs.Settled.{AreSettled, AreUnsettled, HaveSeen};
 ghost use Rattle.shared_history.specs.Entries.{opening};
 ghost use Rattle.shared_history.specs.Seal.{IsSeen};
-ghost use Rattle.stub_book.specs.Growth.{Grows, IsServed};
+ghost use Rattle.stub_book.specs.Growth.{Changes, IsServed};
 ghost use Rattle.stub_book.specs.Refusals.{IsRefusal, IsServeRefusal};
 
 use crate::audit::{audit, have_parts};
@@ -27,13 +27,13 @@ use crate::seat::Seat;
 use crate::settled::{SettleRefusal, Settled};
 use request_journal::event_memory::EventMemory;
 use request_journal::input::BookInput;
-use request_journal::shared_event::SharedEvent;
 use request_journal::shared_request::SharedRequest;
 use request_match::parsed_request::ParsedRequest;
 use std::alloc::{AllocError, Global};
 use std::marker::Model;
 use std::sync::ledger::Share;
 use std::sync::{Wait, ledger};
+use stub_book::accepted::Changed;
 use stub_book::book::Book;
 use stub_book::error::BookError;
 
@@ -102,6 +102,7 @@ impl<L: Origin> Locked<L> {
 
     /// Serves the request, whose event comes into this memory, and enters that for the share and the place; or enters
     /// that the place has looked.
+    #[tactic(auto, using(crate::proofs::KeptLemmas::served_changes))]
     pub(crate) fn serve<R: Wait>(
         &mut self,
         rt: &R,
@@ -115,7 +116,7 @@ impl<L: Origin> Locked<L> {
         requires read { parsed.old ≡ request }
         ensures ok { IfOk result (λ entered.
             IsServed request entered.receipt.event
-            × IsEntered L.origin L.book place.old place.new entered.receipt) }
+            × IsEntered L.origin L.book place.old place.new entered.receipt entered.replaced) }
         ensures base { IfOk result (λ entered. IsDropped L.origin place.new.seen entered.base) }
         ensures seen { OnErr result (SeesAll L.origin L.book place.old place.new) }
         ensures why { IfErr result
@@ -133,7 +134,7 @@ impl<L: Origin> Locked<L> {
                 &mut self.entries,
                 share,
                 place,
-                event,
+                Changed { event, replaced: 0 },
             )),
             Err(error) => {
                 self.history.look(rt, place);
@@ -153,7 +154,7 @@ impl<L: Origin> Locked<L> {
         requires { 0 < share.old.parts }
         ensures ok { IfOk result (λ entered.
             IsAsked input entered.receipt.event
-            × IsEntered L.origin L.book place.old place.new entered.receipt) }
+            × IsEntered L.origin L.book place.old place.new entered.receipt entered.replaced) }
         ensures base { IfOk result (λ entered. IsDropped L.origin place.new.seen entered.base) }
         ensures seen { OnErr result (SeesAll L.origin L.book place.old place.new) }
         ensures why { IfErr result
@@ -164,14 +165,14 @@ impl<L: Origin> Locked<L> {
         ensures not_entered { OnErr result (share.new.amount ≡ share.old.amount) }
     {
         match self.book.apply_shared(input) {
-            Ok(event) => Ok(enter(
+            Ok(changed) => Ok(enter(
                 rt,
                 &self.book,
                 &mut self.history,
                 &mut self.entries,
                 share,
                 place,
-                event,
+                changed,
             )),
             Err(error) => {
                 self.history.look(rt, place);
@@ -282,14 +283,15 @@ fn enter<L: Origin, R: Wait>(
     entries: &mut ledger::Book<L>,
     share: &mut Share<L>,
     place: &mut Place<L>,
-    event: SharedEvent,
+    changed: Changed,
 ) -> Entered
     requires lawful { IsLawful L.origin history.old }
-    requires grown { InPastOf L.origin history.old (λ past. Grows past book.now event) }
+    requires grown { InPastOf L.origin history.old (λ past. Changes past book.now changed) }
     requires counted { last_number book.now ≡ last_number L.origin + entries.old.total + 1 }
     requires part { 0 < share.old.parts }
-    ensures event { result.receipt.event ≡ event }
-    ensures entered { IsEntered L.origin L.book place.old place.new result.receipt }
+    ensures event { result.receipt.event ≡ changed.event }
+    ensures replaced { result.replaced ≡ changed.replaced }
+    ensures entered { IsEntered L.origin L.book place.old place.new result.receipt result.replaced }
     ensures base { IsDropped L.origin place.new.seen result.base }
     ensures lawful { IsLawful L.origin history.new }
     ensures past_of { IsPastOf L.origin history.new book.now }
@@ -297,10 +299,10 @@ fn enter<L: Origin, R: Wait>(
     ensures parts { share.new.parts ≡ share.old.parts }
     ensures amount { (share.new.amount ≡ share.old.amount + 1) × (share.new.amount ≤ NUMBER_LIMIT) }
 {
-    history.enter(rt, place, event.event());
+    history.enter(rt, place, changed.event.event());
     entries.add(share, 1);
     entries.audit(share);
-    entered(book, event)
+    entered(book, changed)
 }
 
 // Each seat has seen a beginning of the history.
@@ -315,16 +317,19 @@ fn cover<L: Origin, R: Wait>(rt: &R, history: &History<L>, seats: &[Seat<L>])
 }
 
 // What is told of the call whose event is the book's last.
-fn entered(book: &Book, event: SharedEvent) -> Entered
-    ensures event { result.receipt.event ≡ event }
+fn entered(book: &Book, changed: Changed) -> Entered
+    ensures event { result.receipt.event ≡ changed.event }
+    ensures replaced { result.replaced ≡ changed.replaced }
     ensures number { result.receipt.number ≡ last_number book.now }
     ensures base { result.base ≡ book.now.base.number }
 {
+    let Changed { event, replaced } = changed;
     Entered {
         receipt: Receipt {
             number: book.event_count(),
             event,
         },
         base: base_of(book),
+        replaced,
     }
 }

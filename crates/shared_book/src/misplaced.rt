@@ -1,11 +1,12 @@
 // What one list of receipts shows by itself.
-ghost use Rattle.std.specs.Prelude.{◌≡◌, ◌<◌, All, Any, Contains, MatchOption, map};
+ghost use Rattle.std.specs.Prelude.{◌≡◌, ◌<◌, ◌≤◌, All, Any, Contains, MatchOption};
 ghost use Rattle.shared_book.specs.Held.{all_lists, lists};
 ghost use Rattle.shared_book.specs.Inner.Misplaced.{IsMisplaced, IsWellPlaced};
-ghost use Rattle.shared_book.specs.Inner.Seat.{line_of};
+ghost use Rattle.shared_book.specs.Inner.Seat.{line_of, lines_in, lines_of};
 ghost use Rattle.shared_book.specs.Receipts.{Falls, IsRising, LetGoAbove, LetGoUpTo};
 
 use crate::origin::Origin;
+use crate::pile::Pile;
 use crate::receipt_list::ReceiptList;
 use crate::seat::Seat;
 
@@ -33,16 +34,26 @@ fn misplaced_in_seat<L: Origin>(seat: &Seat<L>, last: u64) -> Option<u64>
     }
 }
 
-fn misplaced_in_lists(lists: &[ReceiptList], last: u64) -> Option<u64>
+fn misplaced_in_lists(piles: &[Pile], last: u64) -> Option<u64>
     ensures { MatchOption result
-        (All (IsWellPlaced last) (map line_of lists.now)) (λ n. Any (IsMisplaced last n) (map line_of lists.now)) }
+        (All (IsWellPlaced last) (lines_in piles.now)) (λ n. Any (IsMisplaced last n) (lines_in piles.now)) }
 {
-    for list in lists {
-        if let Some(number) = misplaced_in_list(list, last) {
+    for pile in piles {
+        if let Some(number) = misplaced_in_pile(pile, last) {
             return Some(number);
         }
     }
     None
+}
+
+fn misplaced_in_pile(pile: &Pile, last: u64) -> Option<u64>
+    ensures { MatchOption result
+        (All (IsWellPlaced last) (lines_of pile.now)) (λ n. Any (IsMisplaced last n) (lines_of pile.now)) }
+{
+    match pile {
+        Pile::Whole(list) => misplaced_in_list(list, last),
+        Pile::Singles(numbers) => above(numbers.as_slice(), last),
+    }
 }
 
 fn misplaced_in_list(list: &ReceiptList, last: u64) -> Option<u64>
@@ -70,7 +81,13 @@ fn fall(list: &ReceiptList) -> Option<u64>
 fn let_go_above(list: &ReceiptList, last: u64) -> Option<u64>
     ensures { MatchOption result (LetGoUpTo last (line_of list.now)) (λ n. LetGoAbove last n (line_of list.now)) }
 {
-    for number in list.let_go.as_slice() {
+    above(list.let_go.as_slice(), last)
+}
+
+fn above(numbers: &[u64], last: u64) -> Option<u64>
+    ensures { MatchOption result (All (λ n. n ≤ last) numbers.now) (λ n. Contains numbers.now n × (last < n)) }
+{
+    for number in numbers {
         if *number > last {
             return Some(*number);
         }

@@ -1,8 +1,8 @@
 // Receipts in the order of their calls, which let go of their events.
-ghost use Rattle.std.specs.Prelude.{◌≡◌, ◌+◌, ◌<◌, ◌≤◌, ◌++◌, ◌↔◌, [], IsTrue, All, OnErr, OnOk};
-ghost use Rattle.std.specs.Prelude.{drop, length, slice_index, take, vec_capacity, vec_len};
+ghost use Rattle.std.specs.Prelude.{◌≡◌, ◌+◌, ◌<◌, ◌≤◌, ◌∷◌, ◌++◌, ◌↔◌, [], IsTrue, All, IfErr, IfOk, OnErr, OnOk};
+ghost use Rattle.std.specs.Prelude.{drop, length, map, slice_index, take, vec_capacity, vec_len};
 ghost use Rattle.shared_book.specs.Held.{LetsGo};
-ghost use Rattle.shared_book.specs.Inner.Seat.{line_of};
+ghost use Rattle.shared_book.specs.Inner.Seat.{line_of, single};
 ghost use Rattle.shared_book.specs.Receipts.{numbers, numbers_of};
 
 use crate::receipt::Receipt;
@@ -59,6 +59,21 @@ impl ReceiptList {
         }
         drop_first(&mut self.held, count);
         true
+    }
+
+    /// Its number, where it has one receipt, whose event is free; or the list.
+    pub(crate) fn into_single(self) -> Result<Vec<u64>, ReceiptList>
+        ensures ok { IfOk result (λ numbers. map single numbers.items ≡ line_of self ∷ []) }
+        ensures err { IfErr result (λ same. line_of same ≡ line_of self) }
+    {
+        if self.let_go.len() != 1 || self.held.len() != 0 {
+            return Err(self);
+        }
+        let ReceiptList {
+            let_go,
+            held: _held,
+        } = self;
+        Ok(let_go)
     }
 
     /// Frees the memory of the receipts, where it holds none.

@@ -44,6 +44,8 @@ pub struct Seat<L: Origin> {
     /// How many receipts it has, in all lists.
     pub(crate) count: u64,
     pub(crate) lines: Lines,
+    /// How many mappings gave way in its last call that was accepted.
+    replaced: u64,
     /// The headers that came last, for the next request to share. Contracts see nothing of them.
     headers: LastHeaders,
 }
@@ -57,15 +59,16 @@ impl<L: Origin> Drop for Seat<L> {
             parts: _parts,
             count: _count,
             lines: _lines,
+            replaced: _replaced,
             headers: _headers,
         } = self;
     }
 }
 
 impl<L: Origin> Model for Seat<L> {
-    ghost use Rattle.std.specs.Prelude.{◌∷◌, map};
+    ghost use Rattle.std.specs.Prelude.{◌∷◌};
     ghost use Rattle.shared_book.specs.Held.{Held};
-    ghost use Rattle.shared_book.specs.Inner.Seat.{IsSeat, line_of};
+    ghost use Rattle.shared_book.specs.Inner.Seat.{IsSeat, line_of, lines_in};
     ghost use Rattle.std.specs.Coded.{codes};
     ghost use Rattle.book_history.specs.Inner.Codes.{states_code};
 
@@ -78,11 +81,12 @@ impl<L: Origin> Model for Seat<L> {
       seen = s.place.seen;
       parts = s.parts;
       own = line_of s.lines.own;
-      joined = map line_of s.lines.joined.items;
+      joined = lines_in s.lines.joined.items;
+      replaced = s.replaced;
     } };
 
     ghost invariant = { λ s. IsSeat L.origin L.parts s.share.parts s.share.amount s.parts s.count s.lines.told
-        s.place.seen (line_of s.lines.own ∷ map line_of s.lines.joined.items) };
+        s.place.seen (line_of s.lines.own ∷ lines_in s.lines.joined.items) };
 }
 
 impl<L: Origin> Seat<L> {
@@ -102,6 +106,7 @@ impl<L: Origin> Seat<L> {
             parts,
             count: 0,
             lines: Lines::new(alloc),
+            replaced: 0,
             headers: LastHeaders::none(),
         }
     }
@@ -116,6 +121,7 @@ impl<L: Origin> Seat<L> {
             parts: _parts,
             count: _count,
             lines: _lines,
+            replaced: _replaced,
             headers: _headers,
         } = self;
         place
@@ -174,6 +180,13 @@ impl<L: Origin> Seat<L> {
         ensures { self.new ≡ self.old }
     {
         self.headers = headers;
+    }
+
+    /// How many mappings gave way, in its last call that was accepted, to one with their id that the call adds.
+    pub fn replaced(&self) -> u64
+        ensures { result ≡ self.now.replaced }
+    {
+        self.replaced
     }
 
     /// The receipts of its own calls that it holds, in their order.
@@ -286,6 +299,7 @@ impl<L: Origin> Seat<L> {
             parts,
             count: _,
             lines,
+            replaced: _,
             headers,
         } = other;
         shared.lock(rt).join(rt, &mut self.place, place);
@@ -322,6 +336,7 @@ impl<L: Origin> Seat<L> {
             memory,
         )?;
         self.count += 1;
+        self.replaced = entered.replaced;
         self.lines.keep(entered);
         Ok(())
     }
@@ -341,6 +356,7 @@ impl<L: Origin> Seat<L> {
             .lock(rt)
             .apply(rt, &mut self.share, &mut self.place, input)?;
         self.count += 1;
+        self.replaced = entered.replaced;
         self.lines.keep(entered);
         Ok(())
     }

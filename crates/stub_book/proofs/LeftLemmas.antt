@@ -1,5 +1,5 @@
 -- What single events leave of the live mappings.
-use Rattle.std.proofs.Common.{◌≡◌, ◌≤◌, ◌<◌, ◌+◌, ℕ, zero, suc, true, false, not, ◌||◌, cond}
+use Rattle.std.proofs.Common.{◌≡◌, ◌≤◌, ◌<◌, ◌+◌, ◌-◌, ◌↔◌, ℕ, zero, suc, Bool, true, false, not, ◌||◌, cond}
 use Rattle.std.proofs.Common.{List, [], ◌∷◌, length, get_or, map, refl, sym, ap, ◌∙◌, arith, length-append}
 use Rattle.std.specs.List.{Any, Contains, filter}
 use Rattle.std.specs.List.Sorted.{IsPermutation}
@@ -13,6 +13,7 @@ use Rattle.request_journal.specs.declared.event.Event.{Event}
 use Rattle.request_journal.specs.declared.event.Event.TheVariants as event
 use Rattle.request_journal.specs.declared.mapping.Mapping.{Mapping}
 use Rattle.request_journal.proofs.LiveLemmas.{live_after, gone, kept}
+use Rattle.stub_book.specs.Growth.{replaced}
 
 -- a fact that holds of some element holds of some element of the list in another order
 pub Any-permutation : {X : Type 0} (P : X → Type 0) (xs ys : List X) → IsPermutation xs ys → Any P xs → Any P ys
@@ -110,3 +111,31 @@ pub other_more :
     (past : Past) (m : Mapping) → ¬ (Any (λ p. p.mapping.id ≡ m.id) (live past))
     → length (live (with_event past (event.Add m))) ≡ length (live past) + 1
 other_more past m none = length-added past m ∙ ap (λ n. n + 1) (same_many m (live past) none)
+
+-- where an add leaves fewer, one of them has the id
+some_at :
+    (m : Mapping) (p : Placed) (ps : List Placed) (b : Bool)
+    → (length (left_by (event.Add m ∷ []) ps) < length ps → Any (λ q. q.mapping.id ≡ m.id) ps)
+    → bytes_eq m.id p.mapping.id ≡ b
+    → length (left_by (event.Add m ∷ []) (p ∷ ps)) < length (p ∷ ps) → Any (λ q. q.mapping.id ≡ m.id) (p ∷ ps)
+some_at m p ps true later same less = (0, p, omega arith, refl, sym ((bytes_eq-Decides m.id p.mapping.id).0 same))
+some_at m p ps false later same less =
+    let stays : length (left_by (event.Add m ∷ []) (p ∷ ps)) ≡ suc (length (left_by (event.Add m ∷ []) ps)) =
+    ap length (kept (event.Add m ∷ []) p ps (ap (λ b. b || false) same)) in
+    let a = later (omega (arith, stays, less)) in
+    (suc a.0, a.1, omega (arith, a.2), a.3, a.4)
+
+less_some :
+    (m : Mapping) (placed : List Placed) → length (left_by (event.Add m ∷ []) placed) < length placed
+    → Any (λ q. q.mapping.id ≡ m.id) placed
+less_some m [] less = absurd (omega (arith, less))
+less_some m (p ∷ ps) less = some_at m p ps (bytes_eq m.id p.mapping.id) (less_some m ps) refl less
+
+-- a mapping gives way exactly where the id is live
+pub gives_way :
+    (past : Past) (m : Mapping) → (0 < replaced past (event.Add m)) ↔ Any (λ q. q.mapping.id ≡ m.id) (live past)
+gives_way past m = (
+  λ (some : 0 < length (live past) + 1 - length (live (with_event past (event.Add m)))).
+      less_some m (live past) (omega (arith, length-added past m, some)),
+  λ a. omega (arith, held_few past m a),
+)

@@ -1,9 +1,10 @@
 -- How the past of a book grows.
-use Rattle.std.specs.Prelude.{◌≡◌, MatchBool}
+use Rattle.std.specs.Prelude.{◌≡◌, ◌+◌, ◌-◌, ℕ, MatchBool, length}
 use Rattle.mock_request.specs.Request.{Request}
 use Rattle.request_journal.specs.Input.{IsAsked, answer_of}
 use Rattle.request_journal.specs.Journal.{clears}
 use Rattle.request_journal.specs.Legal.{IsNext, IsCheckpoint}
+use Rattle.request_journal.specs.Live.{live}
 use Rattle.request_journal.specs.Past.{Past, with_event}
 use Rattle.request_journal.specs.declared.event.Event.{Event}
 use Rattle.request_journal.specs.declared.event.Event.TheVariants as event
@@ -11,6 +12,7 @@ use Rattle.request_journal.specs.declared.event.ServeAnswer.{ServeAnswer}
 use Rattle.request_journal.specs.declared.input.BookAnswer.{BookAnswer}
 use Rattle.request_journal.specs.declared.input.BookInput.{BookInput}
 use Rattle.stub_book.specs.declared.accepted.Accepted.{Accepted}
+use Rattle.stub_book.specs.declared.accepted.Changed.{Changed}
 
 -- the past after an event: the old one with it, or, where it clears the journal, a checkpoint of the old one with it
 abbrev pub IsAfter : Past → Event → Past → Type 0
@@ -40,3 +42,21 @@ pub record Applies (old new : Past) (asked : BookInput) (answer : BookAnswer) : 
 -- the event is that of the request, with whatever answer
 abbrev pub IsServed : Request → Event → Type 0
 IsServed request served = (answer : ServeAnswer) × (served ≡ event.Serve request answer)
+
+-- ---- what gives way to mappings that are added
+
+-- how many fewer mappings there are after the event than before it and those that it adds together
+abbrev pub fewer : Event → ℕ → ℕ → ℕ
+fewer (event.Add mapping) before after = before + 1 - after
+fewer (event.StopRecording mappings skipped) before after = before + length mappings - after
+fewer other before after = 0
+
+-- how many mappings give way to one with their id that the event adds to the past: live ones, and at a stop of a
+-- recording also those that a later one of the same event has the id of
+abbrev pub replaced : Past → Event → ℕ
+replaced past added = fewer added (length (live past)) (length (live (with_event past added)))
+
+-- the past has grown by one such event, which was given back with how many mappings gave way to what it adds
+pub record Changes (old new : Past) (changed : Changed) : Type 0 where
+  pub grows : Grows old new changed.event
+  pub so_many : changed.replaced ≡ replaced old changed.event

@@ -1,14 +1,20 @@
 // One call for every change.
-ghost use Rattle.std.specs.Prelude.{◌≡◌, IfErr, IfOk, OnErr};
+ghost use Rattle.std.specs.Prelude.{◌≡◌, ◌<◌, ◌≤◌, ◌↔◌, IfErr, IfOk, OnErr, length};
 ghost use Rattle.request_journal.specs.Input.{IsAsked};
-ghost use Rattle.stub_book.specs.Growth.{Applies, Grows, IsAccepted};
+ghost use Rattle.request_journal.specs.Legal.{IsLive};
+ghost use Rattle.request_journal.specs.Live.{live};
+ghost use Rattle.request_journal.specs.Past.{Past};
+ghost use Rattle.request_journal.specs.declared.event.Event.TheVariants as event;
+ghost use Rattle.request_journal.specs.declared.limits.TheConstants.{LIVE_LIMIT};
+ghost use Rattle.request_journal.specs.declared.mapping.Mapping.{Mapping};
+ghost use Rattle.stub_book.specs.Growth.{Applies, Changes, IsAccepted, fewer, replaced};
 ghost use Rattle.stub_book.specs.Refusals.{IsRefusal};
 
-use crate::accepted::Accepted;
+use crate::accepted::{Accepted, Changed};
 use crate::book::Book;
 use crate::error::BookError;
+use request_journal::event::Event;
 use request_journal::input::{BookAnswer, BookInput};
-use request_journal::shared_event::SharedEvent;
 
 impl Book {
     /// Makes the change that is asked for.
@@ -20,13 +26,31 @@ impl Book {
         Ok(self.accept(input)?.answer)
     }
 
-    /// The same, and gives the event, which is shared with the history.
-    pub fn apply_shared(&mut self, input: BookInput) -> Result<SharedEvent, BookError>
-        ensures ok { IfOk result (λ event. IsAsked input event × Grows self.old self.new event) }
+    /// The same, and gives the event, which is shared with the history, and how many mappings it replaced: these are
+    /// counted, and not looked for.
+    pub fn apply_shared(&mut self, input: BookInput) -> Result<Changed, BookError>
+        ensures ok { IfOk result (λ changed. IsAsked input changed.event × Changes self.old self.new changed) }
         ensures err { OnErr result (self.new ≡ self.old) }
         ensures why { IfErr result (λ error. IsRefusal self.old input error.code) }
     {
-        Ok(self.accept(input)?.event)
+        let before = self.live_count();
+        let event = self.accept(input)?.event;
+        let replaced = fewer(event.event(), before, self.live_count());
+        Ok(Changed { event, replaced })
+    }
+
+    /// An event that adds a mapping replaces one exactly where the id is live.
+    pub fn law_replaced(&self)
+        ensures { (past : Past) → (mapping : Mapping)
+            → (0 < replaced past (event.Add mapping)) ↔ IsLive past mapping.id }
+    {}
+
+    // How many mappings are live.
+    fn live_count(&self) -> u64
+        ensures count { result ≡ length (live self.now) }
+        ensures few { result ≤ LIVE_LIMIT }
+    {
+        self.store.len() as u64
     }
 
     fn accept(&mut self, input: BookInput) -> Result<Accepted, BookError>
@@ -52,5 +76,20 @@ impl Book {
             BookInput::Record { serve, exchange } => self.take_exchange(serve, exchange),
             BookInput::StopRecording => self.stop_recording(),
         }
+    }
+}
+
+// How many fewer mappings are live after the event than before it and those that it adds together.
+fn fewer(event: &Event, before: u64, after: u64) -> u64
+    requires { before ≤ LIVE_LIMIT }
+    ensures { result ≡ fewer event.now before after }
+{
+    match event {
+        Event::Add(_) => (before + 1).saturating_sub(after),
+        Event::StopRecording {
+            mappings,
+            skipped: _,
+        } => (before + mappings.as_slice().len() as u64).saturating_sub(after),
+        _ => 0,
     }
 }

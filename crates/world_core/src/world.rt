@@ -131,7 +131,7 @@ impl World {
         ensures err { OnErr result (self.new ≡ self.old) }
     {
         match self.book.apply_shared(input) {
-            Ok(_event) => Ok(()),
+            Ok(_changed) => Ok(()),
             Err(error) => refused(error),
         }
     }

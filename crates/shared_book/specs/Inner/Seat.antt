@@ -1,14 +1,30 @@
 -- What a seat keeps.
-use Rattle.std.specs.Prelude.{◌≡◌, ◌<◌, ◌^◌, ℕ, List, length}
+use Rattle.std.specs.Prelude.{◌≡◌, ◌<◌, ◌^◌, ℕ, List, [], ◌∷◌, length, map}
+use Rattle.std.specs.List.{flat_map}
 use Rattle.request_journal.specs.Past.{Past}
 use Rattle.shared_book.specs.Held.{IsDropped, all_numbers}
 use Rattle.shared_book.specs.Reached.{IsLawful, Log}
 use Rattle.shared_book.specs.Receipts.{Line}
+use Rattle.shared_book.specs.declared.pile.Pile.{Pile}
+use Rattle.shared_book.specs.declared.pile.Pile.TheVariants.{Whole, Singles}
 use Rattle.shared_book.specs.declared.receipt_list.ReceiptList.{ReceiptList}
 
 -- the line of a list of receipts
 abbrev pub line_of : ReceiptList → Line
 line_of list = record { let_go = list.let_go.items; held = list.held.items }
+
+-- the line of one receipt whose event was let go
+abbrev pub single : ℕ → Line
+single number = record { let_go = number ∷ []; held = [] }
+
+-- the lines of a pile
+abbrev pub lines_of : Pile → List Line
+lines_of (Whole list) = line_of list ∷ []
+lines_of (Singles numbers) = map single numbers.items
+
+-- the lines of several
+abbrev pub lines_in : List Pile → List Line
+lines_in piles = flat_map lines_of piles
 
 -- The share has the seat's parts, of which there is one at least, and an entry for each receipt. What was seen is a
 -- history of this book, in which a checkpoint has dropped the events up to the number that the seat was told.

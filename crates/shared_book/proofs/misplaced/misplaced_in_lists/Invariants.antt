@@ -1,7 +1,7 @@
-use Rattle.std.proofs.Common.{take, map, All}
+use Rattle.std.proofs.Common.{take, All}
 use Rattle.shared_book.specs.Inner.Misplaced.{IsWellPlaced}
-use Rattle.shared_book.specs.Inner.Seat.{line_of}
+use Rattle.shared_book.specs.Inner.Seat.{lines_in}
 use Rattle.shared_book.proofs.misplaced.misplaced_in_lists.Given as goal
 
-abbrev pub invariant-loop-list : goal.invariant-loop-list
-invariant-loop-list l = All (IsWellPlaced l.last) (map line_of (take l.list-index l.lists))
+abbrev pub invariant-loop-pile : goal.invariant-loop-pile
+invariant-loop-pile l = All (IsWellPlaced l.last) (lines_in (take l.pile-index l.piles))

@@ -4,7 +4,7 @@ use Rattle.shared_book.proofs.HeldLemmas.{count_joined}
 use Rattle.shared_book.proofs.LetGoLemmas.{let_go_joined}
 use Rattle.shared_book.proofs.SeatLemmas.{told_joined}
 use Rattle.shared_book.specs.Held.{Held, HasLetGo, LetsGo, all_numbers, filled, with_seat}
-use Rattle.shared_book.specs.Inner.Seat.{line_of}
+use Rattle.shared_book.specs.Inner.Seat.{line_of, lines_in}
 use Rattle.shared_book.specs.Receipts.{Line}
 use Rattle.shared_book.specs.Seen.{HasJoined}
 use Rattle.shared_book.proofs.seat.Seat.join.Goals as goal
@@ -14,13 +14,13 @@ invariant_of-self-2 g c =
     let mine = c.self.invariant in
     let others = c.other.invariant in
     let last : ℕ = c.take_over.new.self.told in
-    let lines : List Line = map line_of c.self.inside.lines.joined.items in
+    let lines : List Line = lines_in c.self.inside.lines.joined.items in
     let other : List Line =
-    line_of c.other.inside.lines.own ∷ map line_of c.other.inside.lines.joined.items in
-    let new : List Line = map line_of c.take_over.new.self.joined.items in
+    line_of c.other.inside.lines.own ∷ lines_in c.other.inside.lines.joined.items in
+    let new : List Line = lines_in c.take_over.new.self.joined.items in
     let joined : AllZip (LetsGo (λ n. n ≤ last)) (lines ++ filled other) new =
     subst (λ (ls : List Line). AllZip (LetsGo (λ n. n ≤ last)) (ls ++ filled other) new)
-    (ap (map line_of) c.reserve.ensures.items) c.take_over.ensures.joined in
+    (ap lines_in c.reserve.ensures.items) c.take_over.ensures.joined in
     let all : length (all_numbers (line_of c.take_over.new.self.own ∷ new))
     ≡ length (all_numbers (line_of c.self.inside.lines.own ∷ lines)) + length (all_numbers other) =
     count_joined (λ n. n ≤ last) (line_of c.self.inside.lines.own) (line_of c.take_over.new.self.own) lines other new
@@ -46,21 +46,24 @@ returns-clause-ok g c =
       seen = c.self.inside.place.seen;
       parts = c.self.inside.parts;
       own = line_of c.self.inside.lines.own;
-      joined = map line_of c.self.inside.lines.joined.items;
+      joined = lines_in c.self.inside.lines.joined.items;
+      replaced = c.self.inside.replaced;
     } in
     let other : Held = record {
       number = c.other.inside.place.number;
       seen = c.other.inside.place.seen;
       parts = c.other.inside.parts;
       own = line_of c.other.inside.lines.own;
-      joined = map line_of c.other.inside.lines.joined.items;
+      joined = lines_in c.other.inside.lines.joined.items;
+      replaced = c.other.inside.replaced;
     } in
     let new : Held = record {
       number = c.join.new.place.number;
       seen = c.join.new.place.seen;
       parts = c.self.inside.parts + c.other.inside.parts;
       own = line_of c.take_over.new.self.own;
-      joined = map line_of c.take_over.new.self.joined.items;
+      joined = lines_in c.take_over.new.self.joined.items;
+      replaced = c.self.inside.replaced;
     } in
     subst (λ (s : Held). HasLetGo g.L.Origin.origin (with_seat s c.args.other) new) c.self.view_is
     (subst (λ (o : Held). HasLetGo g.L.Origin.origin (with_seat seat o) new) c.other.view_is
@@ -71,7 +74,7 @@ returns-clause-ok g c =
     refl c.take_over.ensures.own
     (subst (λ (ls : List Line).
     AllZip (LetsGo (λ n. n ≤ last)) (ls ++ filled (other.own ∷ other.joined)) new.joined)
-    (ap (map line_of) c.reserve.ensures.items) c.take_over.ensures.joined)))
+    (ap lines_in c.reserve.ensures.items) c.take_over.ensures.joined)))
 
 pub returns-clause-joined : goal.returns-clause-joined
 returns-clause-joined g c =
@@ -80,7 +83,8 @@ returns-clause-joined g c =
       seen = c.join.new.place.seen;
       parts = c.self.inside.parts + c.other.inside.parts;
       own = line_of c.take_over.new.self.own;
-      joined = map line_of c.take_over.new.self.joined.items;
+      joined = lines_in c.take_over.new.self.joined.items;
+      replaced = c.self.inside.replaced;
     } in
     subst (λ (s : Held). HasJoined g.L.Origin.origin g.L.Naming.book s c.args.other new) c.self.view_is
     (subst (λ (o : Held). HasJoined g.L.Origin.origin g.L.Naming.book (record {
@@ -88,5 +92,6 @@ returns-clause-joined g c =
       seen = c.self.inside.place.seen;
       parts = c.self.inside.parts;
       own = line_of c.self.inside.lines.own;
-      joined = map line_of c.self.inside.lines.joined.items;
+      joined = lines_in c.self.inside.lines.joined.items;
+      replaced = c.self.inside.replaced;
     }) o new) c.other.view_is c.join.ensures)

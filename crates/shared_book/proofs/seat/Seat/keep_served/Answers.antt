@@ -5,7 +5,7 @@ use Rattle.shared_book.proofs.LetGoLemmas.{gains}
 use Rattle.shared_book.proofs.SeatLemmas.{caught_up, err_of, refused_serve, seat_entered, seat_refused, told_on}
 use Rattle.shared_book.specs.Held.{Gained, Held}
 use Rattle.shared_book.specs.Inner.Gains.{Keeps}
-use Rattle.shared_book.specs.Inner.Seat.{line_of}
+use Rattle.shared_book.specs.Inner.Seat.{line_of, lines_in}
 use Rattle.shared_book.specs.Refused.{IsServeRefused}
 use Rattle.shared_book.specs.Seen.{Enters}
 use Rattle.shared_book.specs.declared.receipt.Receipt.{Receipt}
@@ -31,14 +31,16 @@ returns-clause-ok g c =
       seen = c.self.inside.place.seen;
       parts = c.self.inside.parts;
       own = line_of c.self.inside.lines.own;
-      joined = map line_of c.self.inside.lines.joined.items;
+      joined = lines_in c.self.inside.lines.joined.items;
+      replaced = c.self.inside.replaced;
     } in
     let new : Held = record {
       number = c.serve.new.place.number;
       seen = c.serve.new.place.seen;
       parts = c.self.inside.parts;
       own = line_of c.keep.new.self.own;
-      joined = map line_of c.keep.new.self.joined.items;
+      joined = lines_in c.keep.new.self.joined.items;
+      replaced = c.in_ok-entered.entered.replaced;
     } in
     let keeps : Keeps c.keep.new.self.told old.own new.own receipt =
     subst (λ (held : List Receipt). Keeps c.keep.new.self.told
@@ -73,14 +75,16 @@ returns-in_err-entered-clause-why g c =
       seen = c.self.inside.place.seen;
       parts = c.self.inside.parts;
       own = line_of c.self.inside.lines.own;
-      joined = map line_of c.self.inside.lines.joined.items;
+      joined = lines_in c.self.inside.lines.joined.items;
+      replaced = c.self.inside.replaced;
     } in
     let new : Held = record {
       number = c.serve.new.place.number;
       seen = c.serve.new.place.seen;
       parts = c.self.inside.parts;
       own = record { let_go = let_go; held = c.reserve.new.self.items };
-      joined = map line_of c.self.inside.lines.joined.items;
+      joined = lines_in c.self.inside.lines.joined.items;
+      replaced = c.self.inside.replaced;
     } in
     err_of (λ (error : BookError). IsServeRefused g.L.Origin.origin g.L.Naming.book c.args.self.now new error.code)
     c.from_residual-in_err-entered.result c.in_err-entered.field-0.0 c.from_residual-in_err-entered.ensures.1
@@ -88,5 +92,5 @@ returns-in_err-entered-clause-why g c =
     IsServeRefused g.L.Origin.origin g.L.Naming.book s new c.in_err-entered.field-0.0.code) c.self.view_is
     (refused_serve g.L.Origin.origin old new c.in_err-entered.field-0.0.code
     (caught_up g.L.Origin.origin old new c.in_err-entered.ensures.seen refl
-    (ap (λ (rs : List Receipt). record { let_go = let_go; held = rs }) c.in_ok-reserve.ensures.items) refl)
+    (ap (λ (rs : List Receipt). record { let_go = let_go; held = rs }) c.in_ok-reserve.ensures.items) refl refl)
     c.in_err-entered.ensures.why))

@@ -1,15 +1,15 @@
 use Rattle.std.proofs.Common.{◌≡◌, ◌∷◌, [], List, ap, length, map, subst, sym}
 use Rattle.shared_book.proofs.ReachedLemmas.{dropped_none}
 use Rattle.shared_book.specs.Held.{IsDropped, all_numbers}
-use Rattle.shared_book.specs.Inner.Seat.{line_of}
+use Rattle.shared_book.specs.Inner.Seat.{line_of, lines_in}
 use Rattle.shared_book.specs.Receipts.{Line}
 use Rattle.shared_book.proofs.seat.Seat.new.Goals as goal
 
 pub invariant_of-result : goal.invariant_of-result
 invariant_of-result g c =
     let empty : Line = record { let_go = []; held = [] } in
-    let none : line_of c.new.result.own ∷ map line_of c.new.result.joined.items ≡ empty ∷ [] =
-    λ i. c.new.ensures.own i ∷ map line_of (c.new.ensures.joined i) in
+    let none : line_of c.new.result.own ∷ lines_in c.new.result.joined.items ≡ empty ∷ [] =
+    λ i. c.new.ensures.own i ∷ lines_in (c.new.ensures.joined i) in
     record {
       same_parts = c.requires.parts;
       some = c.requires.some;

@@ -14,8 +14,8 @@ returns-clause-ok c =
     let past = c.apply_shared.new.self in
     elim c.match-apply_shared.branch [
       | in-Ok w ↦ on_ok_at _ _ _ w.result-is
-          (applied old seen c.self.view_is c.args.actor c.args.input w.in-Ok._event past
-          w.in-Ok.ensures.ok.0 w.in-Ok.ensures.ok.1)
+          (applied old seen c.self.view_is c.args.actor c.args.input w.in-Ok._changed.event past
+          w.in-Ok.ensures.ok.0 w.in-Ok.ensures.ok.1.grows)
       | in-Err w ↦ on_ok_at _ _ _ w.result-is
           (on_ok_weaker w.refused.result
           (λ other. refused old seen c.self.view_is c.args.actor (Apply c.args.input) past held

@@ -1,0 +1,14 @@
+use Rattle.std.proofs.Common.{◌≡◌, ◌++◌, ◌∙◌, ℕ, List, OnOk, sym, subst, ap}
+use Rattle.shared_book.proofs.HeldLemmas.{numbers_singles}
+use Rattle.shared_book.specs.Held.{all_numbers}
+use Rattle.shared_book.specs.Inner.Seat.{lines_of}
+use Rattle.shared_book.specs.declared.pile.Pile.{Pile}
+use Rattle.shared_book.proofs.gather.number_pile.Goals as goal
+
+pub returns-in-Singles : goal.returns-in-Singles
+returns-in-Singles c =
+    let more : c.as_slice.result.now ≡ all_numbers (lines_of c.args.pile.now) =
+    c.as_slice.ensures.value ∙ sym (numbers_singles c.in-Singles.numbers.items)
+    ∙ ap (λ (p : Pile). all_numbers (lines_of p)) (sym c.in-Singles.is) in
+    subst (λ (ns : List ℕ). OnOk c.add_plain.result (c.add_plain.new.all.items ≡ c.args.all.now.items ++ ns)) more
+    c.add_plain.ensures
