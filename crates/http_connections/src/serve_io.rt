@@ -26,8 +26,8 @@ use tokio::runtime;
 use tokio::runtime::LocalRuntime;
 use tokio::time::Handle;
 
-/// Serves one connection over a reader and writer until it ends, as `serve_all` does each of those that it accepts, and
-/// gives its seat back, however it ends. `turns` is how often the reader and writer are polled at most.
+/// Serves one connection over a reader and writer until it ends, as `Server::serve` does each of those that it
+/// accepts, and gives its seat back, however it ends. `turns` is how often the reader and writer are polled at most.
 pub fn serve_io<R, A, I>(
     rt: R,
     runtime: &mut LocalRuntime,

@@ -55,19 +55,26 @@ pub struct Server<A: Answers> {
 }
 
 impl<A: Answers> Server<A> {
-    fn new(
+    /// Opens a server, each connection of which gets a seat of its own that is split off `seat`. `turns` is how often
+    /// each connection's socket is polled at most.
+    pub fn open<R: Wait>(
+        rt: &R,
         alloc: Global,
         site: &Arc<A>,
+        seat: A::Seat,
         settings: Settings,
         turns: u64,
         ender: &Arc<Ender>,
     ) -> Result<Server<A>, AllocError>
-        ensures { IfOk result (λ server. site_in server.pool ≡ arc_value site.now) }
+        ensures site { IfOk result (λ server. site_in server.pool ≡ arc_value site.now) }
+        ensures settings { IfOk result (λ server. server.settings ≡ settings) }
     {
         let ender = Arc::try_clone(ender)?;
         let pool = SeatPool::new(alloc, Arc::try_clone(site)?, settings, ender)?;
+        let pool = Arc::new(alloc, pool)?;
+        pool.open(rt, seat);
         Ok(Server {
-            pool: Arc::new(alloc, pool)?,
+            pool,
             settings,
             turns,
         })
@@ -92,91 +99,43 @@ impl<A: Answers> Server<A> {
         }
         served
     }
-}
 
-/// The threads of a server.
-pub trait Workers<R, A>: Drop
-where
-    A: Answers,
-    A::Content: Body<Data = Bytes, Error: Into<anyhow::Error>>,
-{
-    /// Serves the connections of a listener, as long as any are accepted, on the calling thread, which drives this
-    /// runtime, and on others. An error of any thread is given.
-    fn serve(
+    /// The seats of its connections once all have ended, and why there were no more. `ran` is what serving them gave.
+    pub fn served<R: Wait>(
         &self,
-        rt: R,
-        runtime: &mut LocalRuntime,
-        listener: net::TcpListener,
-        server: &Arc<Server<A>>,
-    ) -> io::Result<()>
-        requires { (content : A.Content) → A.Content.can_poll content };
+        rt: &R,
+        alloc: Global,
+        ran: &io::Result<()>,
+    ) -> Result<Served<A::Seat>, AllocError>
+        ensures { IfOk result (λ served. served.end ≡ End.AllServed
+            → IsSome self.now.settings.connections × IsOk ran.now) }
+    {
+        let end = end_of(
+            ran,
+            self.pool.is_open(rt),
+            self.pool.is_asked(),
+            self.settings,
+        );
+        let seats = self.pool.take_all(rt, alloc)?;
+        Ok(Served { seats, end })
+    }
 }
 
-/// The calling thread alone.
-#[derive(Clone, Copy, Debug, Drop)]
-pub struct OneThread;
-
-impl<R, A> Workers<R, A> for OneThread
+/// Serves the connections of a listener, as long as any are accepted, on the calling thread, which drives this runtime.
+pub fn on_this_thread<R, A>(
+    rt: R,
+    runtime: &mut LocalRuntime,
+    listener: net::TcpListener,
+    server: &Arc<Server<A>>,
+) -> io::Result<()>
 where
     R: Wait + Clock + RandomSource + AllocGlobal + Copy + Drop,
     A: Answers,
     A::Content: Body<Data = Bytes, Error: Into<anyhow::Error>>,
-{
-    fn serve(
-        &self,
-        rt: R,
-        runtime: &mut LocalRuntime,
-        listener: net::TcpListener,
-        server: &Arc<Server<A>>,
-    ) -> io::Result<()> {
-        let listener = TcpListener::from_std(listener, runtime.handle().reactor())?;
-        server.serve(rt, runtime, listener)
-    }
-}
-
-/// Serves the connections of a listener, as many as are wanted, each with a seat of its own that is split off `seat`.
-/// `turns` is how often each connection's socket is polled at most.
-pub fn serve_all<R, A, W>(
-    rt: R,
-    runtime: &mut LocalRuntime,
-    listener: net::TcpListener,
-    workers: &W,
-    ender: &Arc<Ender>,
-    site: &Arc<A>,
-    seat: A::Seat,
-    settings: Settings,
-    turns: u64,
-) -> Result<Served<A::Seat>, AllocError>
-where
-    R: Wait + AllocGlobal + Copy + Drop,
-    A: Answers,
-    A::Content: Body<Data = Bytes, Error: Into<anyhow::Error>>,
-    W: Workers<R, A>,
     requires { (content : A.Content) → A.Content.can_poll content }
-    ensures { IfOk result (λ served. served.end ≡ End.AllServed → IsSome settings.connections) }
 {
-    let server = Arc::new(
-        rt.alloc(),
-        Server::new(rt.alloc(), site, settings, turns, ender)?,
-    )?;
-    server.pool.open(&rt, seat);
-    let served = workers.serve(rt, runtime, listener, &server);
-    served_by(&rt, rt.alloc(), &server.pool, settings, &served)
-}
-
-// What a pool whose connections have ended leaves.
-fn served_by<R: Wait, A: Answers>(
-    rt: &R,
-    alloc: Global,
-    pool: &SeatPool<A>,
-    settings: Settings,
-    ran: &io::Result<()>,
-) -> Result<Served<A::Seat>, AllocError>
-    ensures { IfOk result (λ served. served.end ≡ End.AllServed → IsSome settings.connections × IsOk ran.now) }
-{
-    let end = end_of(ran, pool.is_open(rt), pool.is_asked(), settings);
-    let seats = pool.take_all(rt, alloc)?;
-    Ok(Served { seats, end })
+    let listener = TcpListener::from_std(listener, runtime.handle().reactor())?;
+    server.serve(rt, runtime, listener)
 }
 
 fn end_of(ran: &io::Result<()>, is_open: bool, is_asked: bool, settings: Settings) -> End

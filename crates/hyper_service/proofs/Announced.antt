@@ -4,11 +4,7 @@ use Rattle.std.proofs.Common.{inl, inr, subst, sym}
 use Rattle.std.proofs.KnownBytes.{Appends-nil}
 use Rattle.std.specs.Io.KnownBytes.{Appends, Keeps}
 use Rattle.std.specs.declared.net.socket_addr.SocketAddr.{SocketAddr}
-use Rattle.command_output.specs.Lines.{error_line, out_of_memory}
-use Rattle.command_output.specs.Output.{AppendsFront}
-use Rattle.hyper_service.specs.Report.{Announces, AnnouncesInPart, ReportsServed, ReportsSettled, listening_line}
-use Rattle.logbook.specs.Pages.{Book}
-use Rattle.request_journal.specs.Past.{Past}
+use Rattle.hyper_service.specs.Report.{Announces, AnnouncesInPart, IsAnnounced, listening_line}
 
 appends_kept : (a b c : Option (List ℕ)) (bytes : List ℕ) → Appends a b bytes → Keeps b c → Appends a c bytes
 appends_kept None b c bytes written kept = tt
@@ -36,13 +32,8 @@ module _ {T E : Type 0} where
   in_part (Ok value) old new failed line = absurd (true≢false (sym failed))
   in_part (Err error) old new failed line = line
 
-module _ {O E T Refusal : Type 0} (out_holds : O → Option (List ℕ)) (err_holds : E → Option (List ℕ)) (origin : Past)
-    (parts : ℕ) (name : Book) (out listening out' : O) (err err' : E) (status : ℕ) where
-  -- the seats were settled after it, or memory ran out
-  pub served : (announced : Result T Refusal) → is_err announced ≡ false
-      → Announces announced (out_holds out) (out_holds listening)
-      → ReportsSettled out_holds err_holds origin parts name listening out' err err' status
-      ⊎ ((out' ≡ listening) × AppendsFront (err_holds err) (err_holds err') (error_line out_of_memory) × (status ≡ 1))
-      → ReportsServed out_holds err_holds origin parts name out out' err err' status
-  served (Ok value) ok line rest = inr (line.0, listening, line.1, rest)
-  served (Err error) ok line rest = absurd (true≢false ok)
+  -- the whole line was, and flushed
+  pub announced : (result : Result T E) (old new : Option (List ℕ)) → is_err result ≡ false → Announces result old new
+      → IsAnnounced old new
+  announced (Ok value) old new ok line = line
+  announced (Err error) old new ok line = absurd (true≢false ok)

@@ -68,14 +68,25 @@ abbrev pub AnnouncesInPart : Option (List ℕ) → Option (List ℕ) → Type 0
 AnnouncesInPart old new =
     Appends old new [] ⊎ ((address : SocketAddr) × AppendsFront old new (listening_line address))
 
--- it is written, or at an error that
+-- the whole line is
+abbrev pub IsAnnounced : Option (List ℕ) → Option (List ℕ) → Type 0
+IsAnnounced old new = (address : SocketAddr) × Appends old new (listening_line address)
+
+-- the whole line is, or at an error so much
 abbrev pub Announces : {T E : Type 0} → Result T E → Option (List ℕ) → Option (List ℕ) → Type 0
-Announces (Ok _) old new = (address : SocketAddr) × Appends old new (listening_line address)
+Announces (Ok _) old new = IsAnnounced old new
 Announces (Err _) old new = AnnouncesInPart old new
 
 -- the stream is as it was; or that memory ran out is on it, as far as it takes the line
 abbrev pub MayReportMemory : {E : Type 0} → (E → Option (List ℕ)) → E → E → Type 0
 MayReportMemory holds err err' = (err' ≡ err) ⊎ AppendsFront (holds err) (holds err') (error_line out_of_memory)
+
+-- the seats were settled, and that is reported; or memory ran out, as standard error says (1)
+abbrev pub ReportsEnded : {O E : Type 0} → (O → Option (List ℕ)) → (E → Option (List ℕ)) → Past → ℕ → Book → O → O
+    → E → E → ℕ → Type 0
+ReportsEnded out_holds err_holds origin parts name out out' err err' status =
+    ReportsSettled out_holds err_holds origin parts name out out' err err' status
+    ⊎ ((out' ≡ out) × AppendsFront (err_holds err) (err_holds err') (error_line out_of_memory) × (status ≡ 1))
 
 -- What a server writes: the line that says where it listens, which standard output may not take (1), or for which there
 -- may be no memory, as standard error then says (1); then that its seats were settled, or that memory ran out (1).
@@ -85,6 +96,11 @@ ReportsServed {O = O} out_holds err_holds origin parts name out out' err err' st
     (AnnouncesInPart (out_holds out) (out_holds out') × MayReportMemory err_holds err err' × (status ≡ 1))
     ⊎ ((address : SocketAddr) × (listening : O)
     × Appends (out_holds out) (out_holds listening) (listening_line address)
-    × (ReportsSettled out_holds err_holds origin parts name listening out' err err' status
-    ⊎ ((out' ≡ listening) × AppendsFront (err_holds err) (err_holds err') (error_line out_of_memory)
-    × (status ≡ 1))))
+    × ReportsEnded out_holds err_holds origin parts name listening out' err err' status)
+
+-- what a server writes that has served nothing, whatever the book is
+abbrev pub ReportsUnserved : {O E : Type 0} → (O → Option (List ℕ)) → (E → Option (List ℕ)) → O → O → E → E → ℕ
+    → Type 0
+ReportsUnserved out_holds err_holds out out' err err' status =
+    (origin : Past) (parts : ℕ) (name : Book)
+    → ReportsServed out_holds err_holds origin parts name out out' err err' status

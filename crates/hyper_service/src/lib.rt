@@ -11,6 +11,6 @@ pub mod renderer;
 pub mod renders;
 mod report;
 pub mod serve_io;
-pub mod serve_on;
+pub mod serving;
 pub mod site_answers;
 pub mod site_exchange;

@@ -35,8 +35,7 @@ use shared_book::gate::Gate;
 use shared_book::origin::Origin;
 use shared_book::receipt::Receipt;
 use shared_book::seat::Seat;
-use shared_book::shared_book::SharedBook;
-use std::alloc::{AllocError, Global};
+use std::alloc::Global;
 use std::sync::{Arc, Wait};
 use tokio::runtime::Handle;
 
@@ -74,11 +73,6 @@ impl<L: Origin, G, C, F, V, N> SiteAnswers<L, G, C, F, V, N> {
             log,
             journal,
         }
-    }
-
-    /// The book of its site.
-    pub(crate) fn book(&self) -> Result<SharedBook<L>, AllocError> {
-        self.site.book.try_clone()
     }
 
     /// How many turns the loop over the bytes of a connection has.

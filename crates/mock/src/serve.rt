@@ -1,6 +1,7 @@
 // The server of a book.
 ghost use Rattle.std.specs.Prelude.{◌≡◌, ◌<◌, ◌≤◌, ◌∷◌, [], IfOk, option_copied};
 ghost use Rattle.hyper_service.specs.Given.{rules_of};
+ghost use Rattle.hyper_service.specs.Report.{ReportsServed};
 ghost use Rattle.mapping_answer.specs.Answering.{usual_limits};
 ghost use Rattle.mock.specs.Served.{ServesBook};
 ghost use Rattle.served_book.specs.Served.{IsServedBook};
@@ -20,11 +21,11 @@ use command_output::output::{put, put_notes};
 use command_output::status::FAILURE;
 use error_code::error_code::ErrorCode;
 use http_connections::ender::Ender;
-use http_connections::serve_on::OneThread;
+use http_connections::serve_on::on_this_thread;
 use http_connections::settings::Settings;
 use hyper_service::journal_limit::JournalLimit;
 use hyper_service::renderer::Renderer;
-use hyper_service::serve_on::serve_on;
+use hyper_service::serving::{begin_serving, end_serving};
 use hyper_service::site_answers::SiteAnswers;
 use proxy_client::client::{Client, SILENCE_SECONDS};
 use proxy_client::counted::TURN_LIMIT;
@@ -306,23 +307,67 @@ where
     let Ok(log) = ServerLog::new(log, &book) else {
         return out_of_memory(err);
     };
+    let Ok(settled) = book.try_clone() else {
+        return out_of_memory(err);
+    };
     if let Err(error) = start_watch(rt, &listener, watch, ender) {
         return report_watch(rt.alloc(), &error, err);
     }
     match answers_of(rt, book, forwarder, arguments, page, log) {
-        Ok(answers) => serve_on(
+        Ok(answers) => serve_answers(
             rt,
             &mut runtime,
             listener,
-            &OneThread,
             ender,
             answers,
+            settled,
             seat,
             settings,
             out,
             err,
         ),
         Err(_error) => out_of_memory(err),
+    }
+}
+
+// Serves the connections of a listener, and settles the book once all have ended.
+fn serve_answers<L, R, O, E>(
+    rt: R,
+    runtime: &mut LocalRuntime,
+    listener: TcpListener,
+    ender: &Arc<Ender>,
+    answers: MockAnswers<L, R>,
+    book: SharedBook<L>,
+    seat: Seat<L>,
+    settings: Settings,
+    out: &mut O,
+    err: &mut E,
+) -> u8
+where
+    L: Origin,
+    R: Threads
+        + Wait
+        + Net<Listener = TcpListener, Stream = TcpStream>
+        + Clock
+        + RandomSource
+        + AllocGlobal
+        + Copy
+        + Drop,
+    O: Write,
+    E: Write,
+    ensures written { ReportsServed O.contents E.contents L.origin L.parts L.book
+        out.old out.new err.old err.new result }
+    ensures status { result ≤ 1 }
+{
+    let alloc = rt.alloc();
+    match begin_serving(
+        &rt, alloc, &listener, ender, answers, seat, settings, out, err,
+    ) {
+        Ok(server) => {
+            let ran = on_this_thread(rt, runtime, listener, &server);
+            end_serving(&rt, alloc, &server, book, &ran, out, err)
+        }
+        Err(status) => status,
     }
 }
 

@@ -1,6 +1,6 @@
 use Rattle.std.proofs.Common.{◌∙◌}
 use Rattle.hyper_service.proofs.Announced.{announces, announces_nothing}
-use Rattle.hyper_service.proofs.serve_on.announce.Goals as goal
+use Rattle.hyper_service.proofs.serving.announce.Goals as goal
 
 pub returns-in_err-line : goal.returns-in_err-line
 returns-in_err-line g c =

@@ -1,5 +1,5 @@
 use Rattle.std.proofs.Common.{refl}
-use Rattle.hyper_service.proofs.serve_on.events.Goals as goal
+use Rattle.hyper_service.proofs.serving.events.Goals as goal
 
 pub returns-in-Ok : goal.returns-in-Ok
 returns-in-Ok g c = (c.in-Ok.settled, c.in-Ok.ensures.settled, refl)

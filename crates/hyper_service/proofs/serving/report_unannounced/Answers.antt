@@ -1,7 +1,7 @@
 use Rattle.std.proofs.Common.{inr, subst}
 use Rattle.command_output.specs.Lines.{error_line}
 use Rattle.command_output.specs.Output.{AppendsFront}
-use Rattle.hyper_service.proofs.serve_on.report_unannounced.Goals as goal
+use Rattle.hyper_service.proofs.serving.report_unannounced.Goals as goal
 
 pub returns-clause-written : goal.returns-clause-written
 returns-clause-written g c =
