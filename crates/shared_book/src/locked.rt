@@ -102,7 +102,6 @@ impl<L: Origin> Locked<L> {
 
     /// Serves the request, whose event comes into this memory, and enters that for the share and the place; or enters
     /// that the place has looked.
-    #[tactic(auto, using(crate::proofs::KeptLemmas::served_changes))]
     pub(crate) fn serve<R: Wait>(
         &mut self,
         rt: &R,

@@ -1,4 +1,4 @@
-use Rattle.std.proofs.Common.{◌≤◌, List, map, sym, subst}
+use Rattle.std.proofs.Common.{◌≤◌, map, sym, subst}
 use Rattle.std.specs.List.{AllZip}
 use Rattle.shared_book.proofs.HeldLemmas.{all_go_none}
 use Rattle.shared_book.specs.Held.{LetsGo}

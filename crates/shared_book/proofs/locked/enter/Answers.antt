@@ -1,4 +1,4 @@
-use Rattle.std.proofs.Common.{◌≡◌, sym, ◌∙◌, subst}
+use Rattle.std.proofs.Common.{sym, ◌∙◌, subst}
 use Rattle.request_journal.specs.declared.event.Event.{Event}
 use Rattle.shared_book.proofs.KeptLemmas.{dropped_by, lawful_entered, past_entered, was_entered}
 use Rattle.shared_book.proofs.ReachedLemmas.{may_call}

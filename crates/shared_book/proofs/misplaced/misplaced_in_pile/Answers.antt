@@ -1,4 +1,4 @@
-use Rattle.std.proofs.Common.{◌≤◌, ◌<◌, List, ℕ, All, map, subst, sym}
+use Rattle.std.proofs.Common.{◌≤◌, ◌<◌, List, ℕ, All, subst, sym}
 use Rattle.std.specs.Prelude.{Any, Contains, MatchOption}
 use Rattle.shared_book.proofs.ReceiptLemmas.{singles_placed}
 use Rattle.shared_book.specs.Inner.Misplaced.{IsMisplaced, IsWellPlaced}

@@ -1,9 +1,17 @@
-use Rattle.std.proofs.Common.{subst, sym}
+use Rattle.std.proofs.Common.{refl, subst, sym}
 use Rattle.request_journal.specs.Past.{Past}
 use Rattle.shared_book.specs.Inner.Kept.{IsKept}
-use Rattle.shared_book.proofs.KeptLemmas.{in_past, kept_looked, sees_all}
+use Rattle.shared_book.proofs.KeptLemmas.{in_past, kept_looked, sees_all, served_changes}
 use Rattle.stub_book.specs.Refusals.{IsServeRefusal}
 use Rattle.shared_book.proofs.locked.Locked.serve.Goals as goal
+
+pub enter-requires-clause-grown : goal.enter-requires-clause-grown
+enter-requires-clause-grown g c = (
+  c.self.inside.book,
+  c.self.invariant.past_of,
+  served_changes c.self.inside.book c.serve_read.new.self c.args.request
+      (record { event = c.in-Ok.event; replaced = 0 }) c.in-Ok.ensures.ok.0 c.in-Ok.ensures.ok.1 refl,
+)
 
 pub returns-in-Err-clause-why : goal.returns-in-Err-clause-why
 returns-in-Err-clause-why g c =

@@ -1,6 +1,5 @@
-use Rattle.std.proofs.Common.{◌≡◌, ◌+◌, ◌∷◌, [], ℕ, List, map, length, arith, sym, subst}
+use Rattle.std.proofs.Common.{arith}
 use Rattle.shared_book.proofs.HeldLemmas.{single_line}
-use Rattle.shared_book.specs.Inner.Seat.{line_of, single}
 use Rattle.shared_book.proofs.receipt_list.ReceiptList.into_single.Goals as goal
 
 pub returns-clause-ok : goal.returns-clause-ok

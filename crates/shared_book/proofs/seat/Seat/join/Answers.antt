@@ -1,4 +1,4 @@
-use Rattle.std.proofs.Common.{◌≡◌, ◌+◌, ◌≤◌, ◌∷◌, ◌++◌, ℕ, List, arith, ap, subst, map, length, refl, rules}
+use Rattle.std.proofs.Common.{◌≡◌, ◌+◌, ◌≤◌, ◌∷◌, ◌++◌, ℕ, List, arith, ap, subst, length, refl, rules}
 use Rattle.std.specs.List.{AllZip}
 use Rattle.shared_book.proofs.HeldLemmas.{count_joined}
 use Rattle.shared_book.proofs.LetGoLemmas.{let_go_joined}

@@ -1,4 +1,4 @@
-use Rattle.std.proofs.Common.{ℕ, List, ap, subst, map, refl}
+use Rattle.std.proofs.Common.{ℕ, List, ap, subst, refl}
 use Rattle.shared_book.proofs.LetGoLemmas.{gains}
 use Rattle.shared_book.proofs.SeatLemmas.{caught_up, err_of, refused_change, seat_entered, seat_refused, told_on}
 use Rattle.shared_book.specs.Held.{Gained, Held}

@@ -1,4 +1,4 @@
-use Rattle.std.proofs.Common.{ℕ, List, ap, subst, map, refl, ◌∙◌}
+use Rattle.std.proofs.Common.{ℕ, List, ap, subst, refl, ◌∙◌}
 use Rattle.mock_request.specs.Request.{Request}
 use Rattle.stub_book.specs.Growth.{IsServed}
 use Rattle.shared_book.proofs.LetGoLemmas.{gains}

@@ -1,4 +1,4 @@
-use Rattle.std.proofs.Common.{◌≡◌, ◌∷◌, [], List, ap, length, map, subst, sym}
+use Rattle.std.proofs.Common.{◌≡◌, ◌∷◌, [], List, ap, length, subst, sym}
 use Rattle.shared_book.proofs.ReachedLemmas.{dropped_none}
 use Rattle.shared_book.specs.Held.{IsDropped, all_numbers}
 use Rattle.shared_book.specs.Inner.Seat.{line_of, lines_in}
