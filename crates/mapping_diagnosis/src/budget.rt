@@ -1,5 +1,6 @@
 // Templates that are over the limits of a response for every request.
 use crate::shown::joined;
+use crate::templates::texts_of;
 use itoa::Buffer;
 use serde_json::Value;
 use std::alloc::{AllocError, Global};
@@ -23,11 +24,9 @@ struct Taken {
 /// A sentence, where the templates of the response are over the limits for every request.
 pub(crate) fn always_over(alloc: Global, response: &Value) -> Result<Option<String>, AllocError> {
     let mut taken = Taken { steps: 0, bytes: 0 };
-    if let Some(body) = response.get("body") {
-        taken = with_text(alloc, taken, body)?;
-    }
-    if let Some(headers) = response.get("headers") {
-        taken = with_headers(alloc, taken, headers)?;
+    let texts = texts_of(alloc, response)?;
+    for text in texts.as_slice() {
+        taken = with_text(alloc, taken, *text)?;
     }
     if taken.steps <= u128::from(STEP_LIMIT) && taken.bytes <= u128::from(BYTE_LIMIT) {
         return Ok(None);
@@ -35,32 +34,7 @@ pub(crate) fn always_over(alloc: Global, response: &Value) -> Result<Option<Stri
     Ok(Some(said(alloc, taken)?))
 }
 
-fn with_headers(alloc: Global, taken: Taken, headers: &Value) -> Result<Taken, AllocError> {
-    let mut taken = taken;
-    let Some(members) = headers.as_object() else {
-        return Ok(taken);
-    };
-    for (_name, member) in members.iter() {
-        taken = match member.as_array() {
-            Some(items) => with_items(alloc, taken, items)?,
-            None => with_text(alloc, taken, member)?,
-        };
-    }
-    Ok(taken)
-}
-
-fn with_items(alloc: Global, taken: Taken, items: &Vec<Value>) -> Result<Taken, AllocError> {
-    let mut taken = taken;
-    for item in items {
-        taken = with_text(alloc, taken, item)?;
-    }
-    Ok(taken)
-}
-
-fn with_text(alloc: Global, taken: Taken, text: &Value) -> Result<Taken, AllocError> {
-    let Some(text) = text.as_str() else {
-        return Ok(taken);
-    };
+fn with_text(alloc: Global, taken: Taken, text: &str) -> Result<Taken, AllocError> {
     if text.len() < LARGE && !text.contains("{{#each") {
         return Ok(taken);
     }

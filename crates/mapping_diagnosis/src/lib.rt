@@ -7,8 +7,10 @@
 mod budget;
 mod combination;
 mod fault;
+mod first_names;
 mod known_ids;
 mod leaf;
+mod nearest_name;
 pub mod notes;
 mod numbers;
 mod part;
@@ -16,4 +18,5 @@ mod reasons;
 mod search;
 pub mod shown;
 mod sought;
+mod templates;
 mod warnings;

@@ -97,7 +97,8 @@ pub(crate) fn template_reason(alloc: Global, text: &str) -> Result<Option<String
 }
 
 fn placed(alloc: Global, text: &str, error: &ProgramError) -> Result<String, AllocError> {
-    let title = title_of(error.error_code());
+    let code = error.error_code();
+    let title = code.title();
     let Some(at) = error.at() else {
         return String::from_str(alloc, title);
     };
@@ -105,23 +106,75 @@ fn placed(alloc: Global, text: &str, error: &ProgramError) -> Result<String, All
     let offset = digits.format(at);
     match text.get(at..) {
         Some(rest) => {
-            let tag = quoted(alloc, tag_of(rest))?;
+            let tag = tag_of(rest);
+            let shown = quoted(alloc, tag)?;
             joined(
                 alloc,
-                [title, ", at byte ", offset, ", in ", tag.as_str()].as_slice(),
+                [
+                    title,
+                    cause_of(code, tag),
+                    ", at byte ",
+                    offset,
+                    ", in ",
+                    shown.as_str(),
+                ]
+                .as_slice(),
             )
         }
         None => joined(alloc, [title, ", at byte ", offset].as_slice()),
     }
 }
 
-fn title_of(code: ErrorCode) -> &'static str {
+/// The cause of a tag's error in brackets, where it can be told, and what to write in its place.
+fn cause_of(code: ErrorCode, tag: &str) -> &'static str {
     match code {
         ErrorCode::UnclosedTag => {
-            "unclosed tag (there is no }}, or a quotation mark, or the {{/..}} of a block is missing)"
+            " (there is no }}, or a quotation mark, or the {{/..}} of a block is missing)"
         }
-        code => code.title(),
+        ErrorCode::UnsupportedTag => unsupported_cause(content_of(tag)),
+        _ => "",
     }
+}
+
+/// What is between the braces of a tag.
+fn content_of(tag: &str) -> &str {
+    let inner = tag
+        .strip_prefix("{{{")
+        .or_else(|| tag.strip_prefix("{{"))
+        .unwrap_or(tag);
+    inner.trim_start()
+}
+
+fn unsupported_cause(content: &str) -> &'static str {
+    if content.starts_with("else") {
+        " (an else takes no words: write {{else}}{{#if ..}} .. {{/if}})"
+    } else if content.starts_with("#with") {
+        " (there is no with: write each path in full)"
+    } else if content.starts_with("#") {
+        " (blocks are if, unless and each: a helper's value is tested by {{#if (helper ..)}})"
+    } else if content.starts_with("^") {
+        " (write {{else}} or {{#unless ..}})"
+    } else if content.starts_with("&") {
+        " (write {{{..}}})"
+    } else if content.starts_with(">") {
+        " (there are no partials)"
+    } else if content.starts_with("~") {
+        " (white space is never removed: leave ~ out)"
+    } else if has_named_argument(content) {
+        " (named arguments aren't taken)"
+    } else {
+        ""
+    }
+}
+
+/// Whether a word has a `=`, and is no text between quotation marks.
+fn has_named_argument(content: &str) -> bool {
+    for word in content.split(' ') {
+        if word.contains('=') && !word.starts_with("\"") && !word.starts_with("'") {
+            return true;
+        }
+    }
+    false
 }
 
 /// The tag at the start of the text.

@@ -1,5 +1,6 @@
 // What is taken, and yet hasn't the effect that was probably meant.
 use crate::budget::always_over;
+use crate::first_names::add_unknown_names;
 use crate::part::{Field, Part, field_of};
 use crate::shown::{joined, quoted};
 use path_template::error::PathTemplateError;
@@ -32,7 +33,7 @@ pub(crate) fn warnings_of(alloc: Global, value: &Value) -> Result<Vec<String>, A
         add_status_message(alloc, response, &mut warnings)?;
         add_body(alloc, response, &mut warnings)?;
         add_json_body(alloc, response, &mut warnings)?;
-        add_budget(alloc, response, &mut warnings)?;
+        add_templates(alloc, response, &mut warnings)?;
     }
     Ok(warnings)
 }
@@ -318,8 +319,8 @@ fn add_status_message(
     Ok(())
 }
 
-/// Templates that may take too much for every request.
-fn add_budget(
+/// Templates with names that find nothing, or that may take too much for every request.
+fn add_templates(
     alloc: Global,
     response: &Value,
     warnings: &mut Vec<String>,
@@ -327,6 +328,7 @@ fn add_budget(
     if !is_templated(response) {
         return Ok(());
     }
+    add_unknown_names(alloc, response, warnings)?;
     if let Some(warning) = always_over(alloc, response)? {
         warnings.push(warning)?;
     }

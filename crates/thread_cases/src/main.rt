@@ -37,20 +37,9 @@ mod message_threads;
 mod messages;
 mod no_clock;
 
-// Recordings over shared books, whose target is a server on another thread.
-mod events;
-mod recorded;
-mod recording_clocks;
-mod recording_messages;
-mod recording_sites;
-mod recordings;
-mod unrecorded;
-mod upstream;
-
 use broken::{Peer, broken};
 use case_table::compare::compare_all;
 use cases::{Case, play};
-use recordings::{Recording, play_recording};
 use std::alloc::{AllocError, Global};
 use std::io;
 use std::process::ExitCode;
@@ -74,18 +63,6 @@ fn main(rt: HostRuntime) -> io::Result<ExitCode> {
     .as_slice()
     {
         let line = play_again(&rt, rt.alloc(), *case)?;
-        println!(rt; "{line}")?;
-    }
-    for case in [
-        Recording::Recorded,
-        Recording::Failed,
-        Recording::Stopped,
-        Recording::Restarted,
-        Recording::Full,
-    ]
-    .as_slice()
-    {
-        let line = play_recording(&rt, *case)?;
         println!(rt; "{line}")?;
     }
     let mut runtime = LocalRuntime::new(&rt)?;
