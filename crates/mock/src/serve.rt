@@ -297,7 +297,7 @@ where
     let Ok(log) = ServerLog::new(log, &book) else {
         return out_of_memory(err);
     };
-    let Ok(settled) = book.try_clone() else {
+    let Ok(book_to_settle) = book.try_clone() else {
         return out_of_memory(err);
     };
     if let Err(error) = start_watch(rt, &listener, watch, ender) {
@@ -311,7 +311,7 @@ where
             arguments.threads,
             ender,
             answers,
-            settled,
+            book_to_settle,
             seat,
             settings,
             out,
