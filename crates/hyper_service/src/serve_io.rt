@@ -14,7 +14,7 @@ use std::sync::{Arc, Wait};
 use tokio::io::{AsyncRead, AsyncWrite};
 use tokio::runtime::LocalRuntime;
 
-/// Serves one connection over a reader and writer until it ends, as `serve_on` does each of those that it accepts, and
+/// Serves one connection over a reader and writer until it ends, as a server does each of those that it accepts, and
 /// gives its seat back, however it ends.
 pub fn serve_io<R, L, G, C, F, V, N, I>(
     rt: R,

@@ -6,10 +6,10 @@ use Rattle.hyper_service.proofs.serving.end_serving.Goals as goal
 pub returns-in-Ok-clause-written : goal.returns-in-Ok-clause-written
 returns-in-Ok-clause-written g c =
     inl (record {
-      seats = c.in-Ok.seats.items;
+      seats = c.in-Ok.field-0.seats.items;
       settled = c.events.result;
       settling = c.events.ensures;
-      why = c.in-Ok.end;
+      why = c.in-Ok.field-0.end;
       reported = c.report.ensures.written;
     })
 
