@@ -9,5 +9,5 @@ returns-in-Ok-clause-written g c =
     c.in-Ok.ensures.silent c.end_serving.ensures.written in
     inr (c.in-Ok.ensures.announced.0, c.begin_serving.new.out, c.in-Ok.ensures.announced.1, ended)
 
-pub returns-clause-written : goal.returns-clause-written
-returns-clause-written g c = c.in-Err.ensures.failed g.L.Origin.origin g.L.Ledger.parts g.L.Naming.book
+pub returns-in-Err-clause-written : goal.returns-in-Err-clause-written
+returns-in-Err-clause-written g c = c.in-Err.ensures.failed g.L.Origin.origin g.L.Ledger.parts g.L.Naming.book
