@@ -8,3 +8,4 @@ pub mod Found
 pub mod WellRead
 pub mod Back
 pub mod Vectors
+pub mod Shorter
