@@ -1,6 +1,6 @@
 -- How large the data of a request is at most.
 use Rattle.std.proofs.Common.{◌≡◌, ℕ, ◌+◌, ◌-◌, ◌*◌, ◌≤◌, Bool, true, false, List, []}
-use Rattle.std.proofs.Common.{◌∷◌, ◌++◌, length, refl, ap, ◌∙◌, arith, Option, None, Some, pos, drop}
+use Rattle.std.proofs.Common.{◌∷◌, ◌++◌, length, refl, arith, Option, None, Some, pos, drop}
 use Rattle.std.proofs.Common.{not, codes}
 use Rattle.std.specs.Prelude.{unwrap_or}
 use Rattle.std.specs.List.{sum_by, list_any, position_or_len, suffix_len, before_last}

@@ -1,6 +1,5 @@
-use Rattle.std.proofs.Common.{◌≡◌, ◌+◌, ◌*◌, ◌≤◌, length, option_copied, arith, sym, ap, ◌∙◌}
+use Rattle.std.proofs.Common.{◌≡◌, ◌+◌, ◌*◌, ◌≤◌, length, option_copied, arith, ap}
 use Rattle.std.specs.List.{sum_by}
-use Rattle.std.proofs.lemmas.Bool.{eqb-true}
 use Rattle.data_tree.specs.Json.{size}
 use Rattle.request_data.specs.Inner.Lengths.{header_weight, template_len}
 use Rattle.request_data.specs.RequestTree.{request_tree}
