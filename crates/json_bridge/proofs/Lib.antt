@@ -8,3 +8,7 @@ pub mod Found
 pub mod WellRead
 pub mod Back
 pub mod Vectors
+pub mod TreeSteps
+pub mod Shorter
+pub mod KeptNames
+pub mod KeptSteps

@@ -18,7 +18,7 @@ use Rattle.serde_json.specs.Data as value
 use Rattle.serde_json.specs.Read.{is_integer, number_from, float_of, number_of, of_json, of_items, of_members, read}
 use Rattle.serde_json.specs.Read.{max_depth}
 use Rattle.data_tree.specs.declared.data.Data.{Data}
-use Rattle.data_tree.specs.Tree.{Members, list, fields, number, item, member, view}
+use Rattle.data_tree.specs.Tree.{Tree, Members, list, fields, number, item, member, view}
 use Rattle.data_tree.specs.Parts.{names_of}
 use Rattle.data_tree.specs.WellFormed.{IsAscending, IsWellFormed, AreWellFormed, HaveWellFormedValues}
 use Rattle.json_bridge.specs.Reading as spec
@@ -256,3 +256,9 @@ found_well_formed s d found is h =
     let formed : IfSome (read s) IsRead = read_is_read s in
     let read_d : IfSome (Some d) IsRead = subst (λ o. IfSome o IsRead) is formed in
     subst (λ o. IfSome o IsWellFormed) (sym h) (tree_well_formed d read_d)
+
+pub text_well_formed : (s : List ℕ) (t : Tree) → spec.tree_of_text s ≡ Some t → IsWellFormed t
+text_well_formed s t e =
+    let formed : IfSome (spec.tree_of_text s) IsWellFormed =
+    some_then IsRead IsWellFormed spec.tree_of_value tree_well_formed (read s) (read_is_read s) in
+    subst (λ o. IfSome o IsWellFormed) e formed

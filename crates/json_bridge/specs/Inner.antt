@@ -1,1 +1,2 @@
 pub mod NextStep
+pub mod Direct

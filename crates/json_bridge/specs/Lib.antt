@@ -1,4 +1,5 @@
 pub mod Reading
+pub mod Part
 pub mod Writing
 pub mod Path
 pub mod PathFound

@@ -5,6 +5,7 @@ ghost use Rattle.data_tree.specs.WellFormed.{IsWellFormed};
 ghost use Rattle.serde_json.specs.View.{view, number_view, items_view, members_view};
 ghost use Rattle.json_bridge.specs.Reading.{IsJson, whole_number, tree_of_value, items_of, members_of, tree_of_text};
 
+use crate::direct::read_direct;
 use crate::error::JsonError;
 use data_tree::data::Data;
 use serde_json::{Map, Number, Value};
@@ -13,9 +14,25 @@ use std::alloc::{AllocError, Global};
 /// The value of a JSON text, or why it has none. JSON's `null` is `Nothing`. A text that nests over 127 deep is
 /// no JSON.
 ///
-/// Takes memory for the value twice, as `serde_json` has it and as `Data`; texts and names are moved. The
+/// The value is made once, straight from the text's tokens. Where a number in it isn't whole or doesn't fit, the text
+/// is read again, as `serde_json` has it: the value of a repeated name but the last may have such a number. The
 /// recursion is as deep as the text nests.
 pub fn read_json(alloc: Global, text: &str) -> Result<Data, JsonError>
+    ensures value { IfOk result (λ d. tree_of_text text.now ≡ Some (tree.view d)) }
+    ensures well_formed { IfOk result (λ d. IsWellFormed (tree.view d)) }
+    ensures not_json { IsErrOf result JsonError.NotJson → ¬ (IsJson text.now) }
+    ensures number_not_whole { IsErrOf result JsonError.NumberNotWhole
+        → IsJson text.now × (tree_of_text text.now ≡ None) }
+{
+    match read_direct(alloc, text) {
+        Err(JsonError::NumberNotWhole) => read_value(alloc, text),
+        read => read,
+    }
+}
+
+// The same by a value of `serde_json`, in which each name has its last value. It takes memory twice; texts and names
+// are moved.
+fn read_value(alloc: Global, text: &str) -> Result<Data, JsonError>
     ensures value { IfOk result (λ d. tree_of_text text.now ≡ Some (tree.view d)) }
     ensures well_formed { IfOk result (λ d. IsWellFormed (tree.view d)) }
     ensures not_json { IsErrOf result JsonError.NotJson → ¬ (IsJson text.now) }

@@ -9,10 +9,10 @@ use Rattle.needed_data.specs.Needed.{NeededData, is_needed, is_json_needed, fiel
 
 -- the request's path alone
 abbrev path_alone : NeededData
-path_alone = record { everything = false; json = false; names = codes "path" ∷ [] }
+path_alone = record { everything = false; json = false; json_names = []; names = codes "path" ∷ [] }
 
 abbrev all_of_it : NeededData
-all_of_it = record { everything = true; json = false; names = [] }
+all_of_it = record { everything = true; json = false; json_names = []; names = [] }
 
 path_is : is_needed path_alone (codes "path") ≡ true
 path_is = refl
@@ -41,6 +41,7 @@ differ_in_url : (path url other : List ℕ) → AreAlike path_alone (data_of pat
 differ_in_url path url other = record {
   everything = λ h. absurd (cc h);
   json = λ h. absurd (cc h);
+  json_fields = λ name h. absurd (cc h);
   fields = λ name h.
       let is = (bytes_eq-Decides (codes "path") name).0 (no_other (bytes_eq (codes "path") name) h) in
       subst (λ n. at (field_path n) (data_of path url) ≡ at (field_path n) (data_of path other)) is refl;

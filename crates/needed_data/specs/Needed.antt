@@ -7,24 +7,31 @@ use Rattle.data_tree.specs.LookUp.{at}
 use Rattle.data_tree.specs.declared.step.Step.{Step}
 use Rattle.data_tree.specs.declared.step.Step.TheVariants.{Name}
 
--- all of it; the body's data; and the fields of the request that have these names
+-- all of it; the body's data; of that the fields that have these names; and the fields of the request that have these
 pub record NeededData : Type 0 where
   pub everything : Bool
   pub json : Bool
+  pub json_names : List (List ℕ)
   pub names : List (List ℕ)
 
 abbrev pub nothing : NeededData
-nothing = record { everything = false; json = false; names = [] }
+nothing = record { everything = false; json = false; json_names = []; names = [] }
 
--- the paths to the body's data and to a field of the request
+-- the paths to the body's data, to a field of it, and to a field of the request
 abbrev pub json_path : List Step
 json_path = Name (codes "json") ∷ []
+
+abbrev pub json_field_path : List ℕ → List Step
+json_field_path name = Name (codes "json") ∷ Name name ∷ []
 
 abbrev pub field_path : List ℕ → List Step
 field_path name = Name (codes "request") ∷ Name name ∷ []
 
 abbrev pub is_json_needed : NeededData → Bool
 is_json_needed needed = needed.everything || needed.json
+
+abbrev pub is_json_field_needed : NeededData → List ℕ → Bool
+is_json_field_needed needed name = is_json_needed needed || list_any (λ other. bytes_eq other name) needed.json_names
 
 abbrev pub is_needed : NeededData → List ℕ → Bool
 is_needed needed name = needed.everything || list_any (λ other. bytes_eq other name) needed.names
@@ -33,6 +40,9 @@ is_needed needed name = needed.everything || list_any (λ other. bytes_eq other 
 pub record AreAlike (needed : NeededData) (r r' : Tree) : Type 0 where
   pub everything : IsTrue needed.everything → r ≡ r'
   pub json : IsTrue (is_json_needed needed) → at json_path r ≡ at json_path r'
+  pub json_fields :
+      (name : List ℕ) → IsTrue (is_json_field_needed needed name)
+      → at (json_field_path name) r ≡ at (json_field_path name) r'
   pub fields :
       (name : List ℕ) → IsTrue (is_needed needed name) → at (field_path name) r ≡ at (field_path name) r'
 

@@ -1,6 +1,7 @@
 -- What the part of a request's data that is needed keeps.
 use Rattle.std.proofs.Common.{◌≡◌, ℕ, ◌+◌, ◌≤◌, Bool, true, false, cond, List, [], ◌∷◌}
 use Rattle.std.proofs.Common.{◌++◌, length, refl, ap, ◌∙◌, sym, Option, arith, length-append, codes}
+use Rattle.std.specs.Prelude.{◌||◌}
 use Rattle.std.specs.List.{AllByRecursion}
 use Rattle.std.specs.List.Sorted.{IsStrictlySortedBy}
 use Rattle.std.specs.Str.{bytes_eq}
@@ -12,13 +13,17 @@ use Rattle.std.proofs.lemmas.Slice.Eq.{bytes_eq-Decides}
 use Rattle.json.specs.Print.{quoted}
 use Rattle.data_tree.specs.Tree.{Tree, fields, Members, no_members, member}
 use Rattle.data_tree.specs.Json.{json, members_json, comma_if, size}
-use Rattle.data_tree.specs.LookUp.{under, at}
+use Rattle.data_tree.specs.LookUp.{after, under, at}
+use Rattle.data_tree.specs.declared.step.Step.TheVariants.{Name}
 use Rattle.data_tree.specs.Parts.{names_of}
 use Rattle.data_tree.specs.WellFormed.{IsWellFormed, IsAscending, HaveWellFormedValues}
 use Rattle.data_tree.proofs.Sizes.{length_fields}
 use Rattle.mock_request.specs.Request.{Request}
-use Rattle.needed_data.specs.Needed.{NeededData, AreAlike, is_json_needed, is_needed, json_path, field_path}
-use Rattle.request_data.specs.Part.{kept, request_part, part_tree}
+use Rattle.json_bridge.specs.Part.{is_kept, part}
+use Rattle.json_bridge.proofs.KeptSteps.{part_finds, part_no_longer}
+use Rattle.needed_data.specs.Needed.{NeededData, AreAlike, is_json_needed, is_needed, json_path, json_field_path}
+use Rattle.needed_data.specs.Needed.{field_path}
+use Rattle.request_data.specs.Part.{is_some, is_json_part_needed, json_part, kept, request_part, part_tree}
 use Rattle.request_data.specs.Inner.Views.{kept_of}
 use Rattle.request_data.specs.RequestTree.{json_tree, request_fields, request_tree}
 use Rattle.request_data.proofs.GroupLemmas.{byte_order, below_all, ascending}
@@ -104,35 +109,71 @@ found_under
 found_under true value ms name = refl
 found_under false value ms name = refl
 
+field_under
+    : (has_json : Bool) (value : Tree) (ms : Members) (name : List ℕ) → has_json ≡ true
+    → at (json_field_path name) (root_with has_json value ms) ≡ after (Name name) value
+field_under true value ms name asked = refl
+field_under false value ms name asked = absurd (cc asked)
+
+-- a name is among some
+some_named : (names : List (List ℕ)) (name : List ℕ) → is_kept names name ≡ true → is_some names ≡ true
+some_named [] name asked = absurd (cc asked)
+some_named (other ∷ names) name asked = refl
+
+field_part
+    : (all : Bool) (names : List (List ℕ)) (name : List ℕ) (value : Tree) → (all || is_kept names name) ≡ true
+    → after (Name name) (cond all value (part names value)) ≡ after (Name name) value
+field_part true names name value asked = refl
+field_part false names name value asked = part_finds names name [] value asked
+
+some_part : (all : Bool) (names : List (List ℕ)) (name : List ℕ) → (all || is_kept names name) ≡ true
+    → (all || is_some names) ≡ true
+some_part true names name asked = refl
+some_part false names name asked = some_named names name asked
+
 pub part_alike
     : (needed : NeededData) (request : Request) (template : Option (List ℕ))
     → AreAlike needed (part_tree needed request template) (request_tree request template)
 part_alike needed request template =
     let value = json_tree (utf8_lossy request.body) in
+    let of_value = json_part needed (utf8_lossy request.body) in
     let ms = request_fields request template in
+    let names = needed.json_names in
+    let whole : is_json_needed needed ≡ true → of_value ≡ value =
+    λ asked. ap (λ b. cond b value (part names value)) asked in
+    let there : is_json_needed needed ≡ true → is_json_part_needed needed ≡ true =
+    λ asked. ap (λ b. b || is_some names) asked in
     record {
       everything =
-          λ all. ap (λ b. root_with b value (kept needed ms)) (or_left needed.everything needed.json all)
+          λ all.
+          let asked : is_json_needed needed ≡ true = or_left needed.everything needed.json all in
+          ap (λ b. root_with b of_value (kept needed ms)) (there asked)
+          ∙ ap (λ v. root_with true v (kept needed ms)) (whole asked)
           ∙ ap (root_with true value) (kept_all needed ms all);
-      json = λ asked. ap (λ b. at json_path (root_with b value (kept needed ms))) asked;
+      json =
+          λ asked. ap (λ b. at json_path (root_with b of_value (kept needed ms))) (there asked) ∙ whole asked;
+      json_fields =
+          λ name asked. field_under (is_json_part_needed needed) of_value (kept needed ms) name
+          (some_part (is_json_needed needed) names name asked)
+          ∙ field_part (is_json_needed needed) names name value asked;
       fields =
-          λ name asked. found_under (is_json_needed needed) value (kept needed ms) name
+          λ name asked. found_under (is_json_part_needed needed) of_value (kept needed ms) name
           ∙ under_kept needed name ms asked;
     }
 
 pub with_json
-    : (needed : NeededData) (request : Request) (template : Option (List ℕ)) → is_json_needed needed ≡ true
-    → fields (member (codes "json") (json_tree (utf8_lossy request.body)) (request_part needed request template))
+    : (needed : NeededData) (request : Request) (template : Option (List ℕ)) → is_json_part_needed needed ≡ true
+    → fields (member (codes "json") (json_part needed (utf8_lossy request.body)) (request_part needed request template))
     ≡ part_tree needed request template
 with_json needed request template asked =
-    sym (ap (λ b. root_with b (json_tree (utf8_lossy request.body))
+    sym (ap (λ b. root_with b (json_part needed (utf8_lossy request.body))
     (kept needed (request_fields request template))) asked)
 
 pub without_json
-    : (needed : NeededData) (request : Request) (template : Option (List ℕ)) → is_json_needed needed ≡ false
+    : (needed : NeededData) (request : Request) (template : Option (List ℕ)) → is_json_part_needed needed ≡ false
     → fields (request_part needed request template) ≡ part_tree needed request template
 without_json needed request template none =
-    sym (ap (λ b. root_with b (json_tree (utf8_lossy request.body))
+    sym (ap (λ b. root_with b (json_part needed (utf8_lossy request.body))
     (kept needed (request_fields request template))) none)
 
 -- ---- the part is well formed
@@ -178,7 +219,7 @@ values_kept needed (member k t ms) formed =
 
 pub part_well_formed
     : (needed : NeededData) (request : Request) (template : Option (List ℕ))
-    → (is_json_needed needed ≡ true → IsWellFormed (json_tree (utf8_lossy request.body)))
+    → (is_json_part_needed needed ≡ true → IsWellFormed (json_part needed (utf8_lossy request.body)))
     → IsWellFormed (part_tree needed request template)
 part_well_formed needed request template json =
     let ms = request_fields request template in
@@ -186,8 +227,8 @@ part_well_formed needed request template json =
     let names : IsAscending (names_of (kept needed ms)) =
     ascending (names_of (kept needed ms)) (sorted_kept needed ms (sorted_from (names_of ms) whole.0)) in
     let part : IsWellFormed (fields (kept needed ms)) = (names, values_kept needed ms whole.1) in
-    cond_both (is_json_needed needed)
-    (member (codes "json") (json_tree (utf8_lossy request.body)) (rest_of (kept needed ms)))
+    cond_both (is_json_part_needed needed)
+    (member (codes "json") (json_part needed (utf8_lossy request.body)) (rest_of (kept needed ms)))
     (rest_of (kept needed ms)) (λ ms. IsWellFormed (fields ms))
     (λ asked. ((refl, tt), (json asked, (part, tt)))) (λ _. (tt, (part, tt)))
 
@@ -243,22 +284,24 @@ kept_first needed (member k t ms) =
     ))
 
 root_no_larger
-    : (has_json : Bool) (value : Tree) (part ms : Members)
+    : (has_json : Bool) (less value : Tree) (part ms : Members)
+    → length (json less) ≤ length (json value)
     → length (members_json false part) ≤ length (members_json false ms)
-    → size (root_with has_json value part) ≤ size (root_with true value ms)
-root_no_larger true value part ms shorter =
+    → size (root_with has_json less part) ≤ size (root_with true value ms)
+root_no_larger true less value part ms smaller shorter =
     omega (
       arith,
-      length_fields (member (codes "json") value (rest_of part)),
+      smaller,
+      length_fields (member (codes "json") less (rest_of part)),
       length_fields (member (codes "json") value (rest_of ms)),
-      member_length false (codes "json") value (rest_of part),
+      member_length false (codes "json") less (rest_of part),
       member_length false (codes "json") value (rest_of ms),
       member_length true (codes "request") (fields part) no_members,
       member_length true (codes "request") (fields ms) no_members,
       length_fields part,
       length_fields ms,
     )
-root_no_larger false value part ms shorter =
+root_no_larger false less value part ms smaller shorter =
     omega (
       arith,
       length_fields (rest_of part),
@@ -270,10 +313,16 @@ root_no_larger false value part ms shorter =
       length_fields ms,
     )
 
+json_no_longer : (all : Bool) (names : List (List ℕ)) (value : Tree)
+    → length (json (cond all value (part names value))) ≤ length (json value)
+json_no_longer true names value = omega arith
+json_no_longer false names value = part_no_longer names value
+
 pub part_no_larger
     : (needed : NeededData) (request : Request) (template : Option (List ℕ))
     → size (part_tree needed request template) ≤ size (request_tree request template)
 part_no_larger needed request template =
     let ms = request_fields request template in
-    root_no_larger (is_json_needed needed) (json_tree (utf8_lossy request.body)) (kept needed ms) ms
-    (kept_first needed ms)
+    let value = json_tree (utf8_lossy request.body) in
+    root_no_larger (is_json_part_needed needed) (json_part needed (utf8_lossy request.body)) value (kept needed ms) ms
+    (json_no_longer (is_json_needed needed) needed.json_names value) (kept_first needed ms)

@@ -1,6 +1,6 @@
 -- How long the JSON text of a text, of a list of texts and of an object is at most.
 use Rattle.std.proofs.Common.{◌≡◌, ℕ, zero, suc, ◌+◌, ◌*◌, ◌≤◌, Bool, true, false, cond, List, []}
-use Rattle.std.proofs.Common.{◌∷◌, ◌++◌, length, take, ◌<◌, Option, None, Some, arith, length-append}
+use Rattle.std.proofs.Common.{◌∷◌, ◌++◌, length, take, ◌<◌, Option, None, Some, refl, arith, length-append}
 use Rattle.std.proofs.Common.{length-drop, drop, eqb, ltb, codes}
 use Rattle.std.specs.List.{sum_by}
 use Rattle.std.specs.Str.Lossy.{utf8_valid_len, utf8_invalid_len, after_first_chunk, utf8_lossy_within, utf8_lossy}
@@ -123,6 +123,52 @@ within_most (suc k) bs =
     (take (utf8_valid_len bs) bs ++ (replacement_bytes ++ utf8_lossy_within k (after_first_chunk bs)))
     (λ text. length text ≤ 3 * length bs) (λ _. omega arith)
     (fault_most bs (utf8_lossy_within k (after_first_chunk bs)) (within_most k (after_first_chunk bs)))
+
+-- in a string, three bytes for each that isn't UTF-8, and six at most for another
+escape-append : (a s : List ℕ) → length (escape (a ++ s)) ≡ length (escape a) + length (escape s)
+escape-append [] s = omega arith
+escape-append (x ∷ a) s =
+    omega (
+      arith,
+      length-append (escape_byte x) (escape (a ++ s)),
+      length-append (escape_byte x) (escape a),
+      escape-append a s,
+    )
+
+replacement_escaped : length (escape replacement_bytes) ≡ 3
+unfolding escape_byte
+replacement_escaped = refl
+
+fault_escaped : (bs text : List ℕ) → length (escape text) ≤ 6 * length (after_first_chunk bs)
+    → eqb (utf8_valid_len bs) (length bs) ≡ false
+    → length (escape (take (utf8_valid_len bs) bs ++ (replacement_bytes ++ text))) ≤ 6 * length bs
+fault_escaped bs text rest e =
+    let n = utf8_valid_len bs in
+    let inside = utf8_valid_len_le bs in
+    let apart = eqb-false n (length bs) e in
+    let some = invalid_some (drop n bs) (omega (arith, length-drop n bs)) in
+    omega (
+      arith,
+      escape-append (take n bs) (replacement_bytes ++ text),
+      escape-append replacement_bytes text,
+      replacement_escaped,
+      escape_most (take n bs),
+      length-take-le n bs inside,
+      length-drop (n + utf8_invalid_len (drop n bs)) bs,
+    )
+
+within_escaped : (k : ℕ) (bs : List ℕ) → length (escape (utf8_lossy_within k bs)) ≤ 6 * length bs
+within_escaped zero bs = escape_most bs
+within_escaped (suc k) bs =
+    cond_both (eqb (utf8_valid_len bs) (length bs)) bs
+    (take (utf8_valid_len bs) bs ++ (replacement_bytes ++ utf8_lossy_within k (after_first_chunk bs)))
+    (λ text. length (escape text) ≤ 6 * length bs) (λ _. escape_most bs)
+    (fault_escaped bs (utf8_lossy_within k (after_first_chunk bs)) (within_escaped k (after_first_chunk bs)))
+
+pub quoted_lossy_most : (bs : List ℕ) → length (quoted (utf8_lossy bs)) ≤ 6 * length bs + 2
+unfolding utf8_lossy
+quoted_lossy_most bs =
+    omega (arith, length-append (escape (utf8_lossy bs)) (34 ∷ []), within_escaped (length bs) bs)
 
 pub lossy_most : (bs : List ℕ) → length (utf8_lossy bs) ≤ 3 * length bs
 unfolding utf8_lossy

@@ -1,6 +1,6 @@
--- How large the data of a request with no body is at most.
+-- How large the data of a request is at most.
 use Rattle.std.proofs.Common.{◌≡◌, ℕ, ◌+◌, ◌-◌, ◌*◌, ◌≤◌, Bool, true, false, List, []}
-use Rattle.std.proofs.Common.{◌∷◌, ◌++◌, length, refl, ap, ◌∙◌, arith, Option, None, Some, pos, drop}
+use Rattle.std.proofs.Common.{◌∷◌, ◌++◌, length, refl, arith, Option, None, Some, pos, drop}
 use Rattle.std.proofs.Common.{not, codes}
 use Rattle.std.specs.Prelude.{unwrap_or}
 use Rattle.std.specs.List.{sum_by, list_any, position_or_len, suffix_len, before_last}
@@ -10,11 +10,11 @@ use Rattle.std.proofs.lemmas.Bool.{cond_both}
 use Rattle.std.proofs.lemmas.Fmt.{length-decimal-le}
 use Rattle.std.proofs.lemmas.List.{length-take}
 use Rattle.std.proofs.lemmas.List.Sums.{sum_by-cons}
-use Rattle.std.proofs.lemmas.Str.{utf8_lossy_empty}
 use Rattle.data_tree.specs.Tree.{Tree, nothing, number, text, fields, no_members, member}
 use Rattle.data_tree.specs.Json.{json, members_json, size}
 use Rattle.data_tree.proofs.Sizes.{length_fields}
-use Rattle.json_bridge.proofs.Vectors.{are_texts}
+use Rattle.json_bridge.proofs.Shorter.Values.{value_is_no_longer}
+use Rattle.json_bridge.specs.Reading.{tree_of_text}
 use Rattle.mock_request.specs.Request.{Request, Header}
 use Rattle.mock_request.specs.Values.{first_of}
 use Rattle.mock_request.specs.HeaderFields.{header_pair, header_pairs, texts_of}
@@ -28,6 +28,7 @@ use Rattle.request_data.specs.RequestTree.{bound_in, json_tree, path_tree, reque
 use Rattle.request_data.proofs.AuthorityLemmas.{port_at_most}
 use Rattle.request_data.proofs.TreeLemmas.{members_from}
 use Rattle.request_data.proofs.TextBounds.{quoted_most, first_member, member_most, lossy_most}
+use Rattle.request_data.proofs.TextBounds.{quoted_lossy_most}
 use Rattle.request_data.proofs.GroupBounds.{pair_cost, grouped_most}
 use Rattle.request_data.proofs.CookieBounds.{cookie_len, cookies_most}
 use Rattle.std.proofs.lemmas.Cmp.{nat_list_eq_equiv}
@@ -185,26 +186,32 @@ root_most
 root_most json_value request =
     omega (arith, object_most ((codes "json", json_value) ∷ (codes "request", request) ∷ []))
 
+-- ---- the body
+
+-- the data of a text: its value, or nothing
+json_most : (bytes : List ℕ) → length (json (json_tree bytes)) ≤ 4 + length bytes
+json_most bytes = by (tree_of_text bytes) refl
+  where
+    by : (found : Option Tree) → tree_of_text bytes ≡ found → length (json (unwrap_or found nothing)) ≤ 4 + length bytes
+    by None e = omega arith
+    by (Some t) e = omega (arith, value_is_no_longer bytes t e)
+
 -- ---- the whole
 
 pub tree_most
-    : (request : Request) (template : Option (List ℕ)) → length request.body ≡ 0
+    : (request : Request) (template : Option (List ℕ))
     → size (request_tree request template)
     ≤ 84 * (sum_by header_weight request.headers + length request.headers + length request.method + length request.url
-    + template_len template) + 1000
-tree_most request template no_body =
+    + template_len template) + 1000 + 9 * length request.body
+tree_most request template =
     let headers = request.headers in
     let authority = authority_of headers in
     let path = path_of request.url in
-    let none = utf8_lossy_empty request.body no_body in
-    let json_len : length (json (json_tree (utf8_lossy request.body))) ≡ 4 =
-    ap (λ bs. length (json (json_tree bs))) none
-    ∙ ap (λ found. length (json (unwrap_or found nothing))) are_texts.no_text in
-    let body_len : length (json (text (utf8_lossy request.body))) ≡ 2 = ap (λ bs. length (json (text bs))) none in
     omega (
       arith,
-      json_len,
-      body_len,
+      json_most (utf8_lossy request.body),
+      lossy_most request.body,
+      quoted_lossy_most request.body,
       root_most (json_tree (utf8_lossy request.body)) (fields (request_fields request template)),
       fields_most
           (text (codes "http://" ++ authority))

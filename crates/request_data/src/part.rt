@@ -6,8 +6,8 @@ ghost use Rattle.data_tree.specs.Json.{size};
 ghost use Rattle.data_tree.specs.RequestData.{root_of};
 ghost use Rattle.data_tree.specs.WellFormed.{IsWellFormed};
 ghost use Rattle.needed_data.specs.Needed.{AreAlike};
-ghost use Rattle.request_data.specs.Part.{kept, part_tree};
-ghost use Rattle.request_data.specs.RequestTree.{json_tree, request_fields, request_tree};
+ghost use Rattle.request_data.specs.Part.{is_json_part_needed, json_part, kept, part_tree};
+ghost use Rattle.request_data.specs.RequestTree.{request_fields, request_tree};
 
 use crate::fields::{
     push_base_url, push_body, push_cookies, push_headers, push_host, push_path, push_path_segments,
@@ -16,6 +16,7 @@ use crate::fields::{
 use crate::object::Object;
 use data_tree::data::Data;
 use data_tree::request_data::{RequestData, SIZE_LIMIT};
+use json_bridge::part::part_of_json;
 use json_bridge::read::data_of_json;
 use mock_request::body::body_text;
 use mock_request::snapshot::Snapshot;
@@ -55,14 +56,14 @@ pub(crate) fn root(
         view root ≡ part_tree needed.now snapshot.now (option_copied template.entry)) }
     ensures well_formed { IfOk result (λ root. IsWellFormed (view root)) }
 {
-    if !needed.has_json() {
+    if !has_json_part(needed) {
         let mut root = Object::with_room(alloc, 1)?;
         root.push("request", request(alloc, snapshot, template, needed, None)?)?;
         return Ok(root.into_data());
     }
     let mut root = Object::with_room(alloc, 2)?;
     let body = body_text(alloc, snapshot)?;
-    root.push("json", json(alloc, body.as_str())?)?;
+    root.push("json", json(alloc, body.as_str(), needed)?)?;
     root.push(
         "request",
         request(alloc, snapshot, template, needed, Some(body))?,
@@ -70,16 +71,28 @@ pub(crate) fn root(
     Ok(root.into_data())
 }
 
-// The data of a JSON text, and `Nothing` of another. Most requests have no body, and a reader of JSON begins with much
-// room on the stack.
-fn json(alloc: Global, text: &str) -> Result<Data, AllocError>
-    ensures tree { IfOk result (λ made. view made ≡ json_tree text.now) }
+// Whether some of the body's data is needed.
+fn has_json_part(needed: &Needed<'_>) -> bool
+    ensures { result ≡ is_json_part_needed needed.now }
+{
+    needed.has_json() || !needed.json_names().is_empty()
+}
+
+// What is needed of the data of a JSON text, and `Nothing` of another. Most requests have no body, and a reader of JSON
+// begins with much room on the stack.
+fn json(alloc: Global, text: &str, needed: &Needed<'_>) -> Result<Data, AllocError>
+    ensures tree { IfOk result (λ made. view made ≡ json_part needed.now text.now) }
     ensures well_formed { IfOk result (λ made. IsWellFormed (view made)) }
 {
     if text.is_empty() {
         return Ok(Data::Nothing);
     }
-    Ok(data_of_json(alloc, text)?.unwrap_or(Data::Nothing))
+    let found = if needed.has_json() {
+        data_of_json(alloc, text)?
+    } else {
+        part_of_json(alloc, text, needed.json_names())?
+    };
+    Ok(found.unwrap_or(Data::Nothing))
 }
 
 // The fields of the request that are needed. The body's text may be at hand.

@@ -13,23 +13,29 @@ use path_template::path_template::PathTemplate;
 // query takes even more, as a name with the value's brackets.
 const JSON_OF_ONE: usize = 84;
 
+// The most bytes of JSON for each byte of a body. It is in the data as a text, in which a byte has an escape of six at
+// most, and as the value of a JSON text, which is written no longer than that text; that has three bytes, U+FFFD, for
+// a byte that isn't UTF-8.
+const JSON_OF_BODY: usize = 9;
+
 // The most bytes of JSON that the data of each request has, whatever the request.
 const JSON_OF_NONE: usize = 1_000;
 
-/// At least the size of the data that `request_data` makes. It takes no memory. `None`: no bound is known, as for a
-/// request that has a body.
+/// At least the size of the data that `request_data` makes. It takes no memory, and doesn't look at the body's bytes.
+/// `None`: the bound would be larger than any size can be.
 pub fn size_bound(snapshot: &Snapshot, template: Option<&PathTemplate>) -> Option<u64>
     ensures { IfSome result (λ bound. size (request_tree snapshot.now (option_copied template.entry)) ≤ bound) }
 {
-    if !snapshot.body().is_empty() {
-        return None;
-    }
     let count = header_bytes(snapshot)?
         .checked_add(snapshot.header_count())?
         .checked_add(snapshot.method().len())?
         .checked_add(snapshot.url().len())?
         .checked_add(template_bytes(template))?;
-    let bound = count.checked_mul(JSON_OF_ONE)?.checked_add(JSON_OF_NONE)?;
+    let of_body = snapshot.body().len().checked_mul(JSON_OF_BODY)?;
+    let bound = count
+        .checked_mul(JSON_OF_ONE)?
+        .checked_add(JSON_OF_NONE)?
+        .checked_add(of_body)?;
     Some(bound as u64)
 }
 

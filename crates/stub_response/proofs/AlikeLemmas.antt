@@ -11,7 +11,8 @@ use Rattle.mapping_model.specs.declared.reply.ReplyHeader.{ReplyHeader}
 use Rattle.mapping_model.specs.declared.response_spec.Body.{Body}
 use Rattle.mapping_model.specs.declared.response_spec.Body.TheVariants.{Empty, Text, Json, Base64}
 use Rattle.mock_request.specs.Request.{Request}
-use Rattle.needed_data.specs.Needed.{NeededData, AreAlike, Includes, json_path, field_path, nothing}
+use Rattle.needed_data.specs.Needed.{NeededData, AreAlike, Includes, json_path, json_field_path, field_path}
+use Rattle.needed_data.specs.Needed.{nothing}
 use Rattle.request_data.specs.RequestTree.{request_tree}
 use Rattle.template_machine.proofs.Programs.{renders_alike}
 use Rattle.template_machine.specs.Program.{FindsSame, IsMeant}
@@ -91,6 +92,7 @@ pub same_alike : (needed : NeededData) (r r' : Tree) → r ≡ r' → AreAlike n
 same_alike needed r r' same = record {
   everything = λ h. same;
   json = λ h. ap (at json_path) same;
+  json_fields = λ name h. ap (at (json_field_path name)) same;
   fields = λ name h. ap (at (field_path name)) same;
 }
 
@@ -98,6 +100,7 @@ nothing_alike : (r r' : Tree) → AreAlike nothing r r'
 nothing_alike r r' = record {
   everything = λ h. absurd (cc h);
   json = λ h. absurd (cc h);
+  json_fields = λ name h. absurd (cc h);
   fields = λ name h. absurd (cc h);
 }
 

@@ -1,9 +1,9 @@
-use Rattle.serde_json.specs.View as seen
-use Rattle.json_bridge.proofs.Grown.{found_tree}
-use Rattle.json_bridge.proofs.WellRead.{found_well_formed}
+use Rattle.std.proofs.lemmas.Result.{IfOk-weaker}
+use Rattle.data_tree.specs.Tree as tree
+use Rattle.json_bridge.proofs.WellRead.{text_well_formed}
 use Rattle.json_bridge.proofs.read.read_json.Goals as goal
 
-pub returns-in-Some-clause-well_formed : goal.returns-in-Some-clause-well_formed
-returns-in-Some-clause-well_formed c =
-    found_well_formed c.args.text.now (seen.view c.in-Ok.value) c.in-Some.data c.in-Ok.ensures.ok
-    (found_tree c.in_ok-data-in-Ok.field-0 c.in-Some.data _ c.in-Some.is c.in_ok-data-in-Ok.ensures)
+pub returns-in_default-2-clause-well_formed : goal.returns-in_default-2-clause-well_formed
+returns-in_default-2-clause-well_formed c =
+    IfOk-weaker c.read_direct.result _ _ (λ d is. text_well_formed c.args.text.now (tree.view d) is)
+    c.read_direct.ensures.value
