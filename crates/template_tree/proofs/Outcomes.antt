@@ -98,7 +98,9 @@ one_outcome source = elim (cases_Bool (nat_le (length source.text) TEXT_LIMIT)) 
     | inl tree ↦ (Ok tree.0, is_outcome source (Ok tree.0) tree.1)
     | inr error ↦ (Err error.0, is_outcome source (Err error.0) error.1)
   ]
-  | inr f ↦
-      (Err too_long, is_outcome source (Err too_long) (is_too_long source
-      (leb-false (length source.text) TEXT_LIMIT f)))
+  | inr f ↦ (
+    Err too_long,
+    is_outcome source (Err too_long) (is_too_long source
+        (leb-false (length source.text) TEXT_LIMIT f)),
+  )
 ]
