@@ -14,7 +14,7 @@ use Rattle.template_tags.specs.Inner.CallReads.{beside, error_in, errors_in, lim
 use Rattle.template_tags.specs.Inner.CallReads.{call_read, helper_read}
 use Rattle.template_tags.specs.Expression.{Expression}
 use Rattle.template_tags.specs.Inner.Pieces.{Piece, Parts, word_piece, group_piece, capped, piece_of, pieces_of}
-use Rattle.template_tags.specs.Inner.Pieces.{stack_pieces, parts_of, word_pieces, greatest, piece_height}
+use Rattle.template_tags.specs.Inner.Pieces.{stack_pieces, tag_parts, word_pieces, greatest, piece_height}
 use Rattle.template_tags.specs.Inner.Pieces.{piece_argument, piece_arguments, piece_helper, piece_call}
 use Rattle.template_tags.specs.Inner.Pieces.{grouped_pieces, group_of_height, piece_before, pieces_before}
 use Rattle.template_tags.specs.Inner.Pieces.{all_parts_error, block_parts, value_pieces, print_parts}
@@ -192,24 +192,24 @@ unmatched_is levels (Some ts) words pieces e is = absurd (none-some (pieces_of l
 
 pub matched_parts : (levels : List Level) (items : List Item) (pieces : List Piece)
     → Some pieces ≡ option_map (pieces_of levels) (terms_of items)
-    → ◌≡◌ {A = Parts} (record { pieces = pieces; matched = true }) (parts_of levels items)
+    → ◌≡◌ {A = Parts} (record { pieces = pieces; matched = true }) (tag_parts levels items)
 matched_parts levels items pieces e = matched_is levels (terms_of items) (words_of items) pieces e
 
 pub unmatched_parts : (levels : List Level) (items : List Item) (pieces : List Piece)
     → None ≡ option_map (pieces_of levels) (terms_of items) → pieces ≡ word_pieces items
-    → ◌≡◌ {A = Parts} (record { pieces = pieces; matched = false }) (parts_of levels items)
+    → ◌≡◌ {A = Parts} (record { pieces = pieces; matched = false }) (tag_parts levels items)
 unmatched_parts levels items pieces e is =
     unmatched_is levels (terms_of items) (words_of items) pieces e (is ∙ sym (words_are levels items))
 
 -- ---- what tags take
 
 pub all_errors_are : (levels : List Level) (items : List Item)
-    → all_parts_error levels (parts_of levels items) ≡ all_errors levels items
+    → all_parts_error levels (tag_parts levels items) ≡ all_errors levels items
 all_errors_are levels items =
     ap (λ reads. joined (match_error items) (errors_in reads)) (arguments_are levels (terms_in items))
 
 pub block_parts_are : (levels : List Level) (items : List Item)
-    → block_parts levels (parts_of levels items) ≡ block_argument levels items
+    → block_parts levels (tag_parts levels items) ≡ block_argument levels items
 block_parts_are levels items =
     ap (λ reads. beside (match_error items) (only_one reads)) (arguments_are levels (terms_in items))
 
@@ -221,7 +221,7 @@ value_is levels matched (first_term (group ts) no_terms) = refl
 value_is levels matched (first_term head (first_term t ts)) = call_is levels (first_term head (first_term t ts))
 
 pub print_parts_are : (levels : List Level) (items : List Item)
-    → print_parts levels (parts_of levels items) ≡ print_said levels items
+    → print_parts levels (tag_parts levels items) ≡ print_said levels items
 print_parts_are levels items =
     ap (λ read. print_read (beside (match_error items) read))
     (value_is levels (is_matched items) (terms_in items))

@@ -30,7 +30,7 @@ use Rattle.template_tags.specs.Inner.CallReads.{call_read}
 use Rattle.template_tags.specs.Inner.CallReads.{helper_read}
 use Rattle.template_tags.specs.Expression.{Expression, datum, index, key, first, last, number, truth, call, call_two}
 use Rattle.template_tags.specs.Expression as expressions
-use Rattle.template_tags.specs.Levels.{is_loop, is_parameter, count_loop, loops_open, loop_at, loop_named}
+use Rattle.template_tags.specs.Levels.{is_loop, is_parameter, count_loop, loops_open, loop_at, loop_with_parameter}
 use Rattle.template_tags.specs.Sound.{IsSoundDatum, IsSoundExpression, takes_one, takes_two}
 use Rattle.template_tags.specs.Sound.{depth_of}
 use Rattle.template_tags.specs.Terms.{Term, single, group, Terms, no_terms, first_term, height, greatest_height}
@@ -145,10 +145,10 @@ loop_at_below true false None n h = tt
 loop_at_below true false (Some up) n h = omega (arith, h)
 
 named_below : (name : List ℕ) (levels : List Level)
-    → IfSome (loop_named name levels) (λ up. up < loops_open levels)
+    → IfSome (loop_with_parameter name levels) (λ up. up < loops_open levels)
 named_below name [] = tt
 named_below name (level ∷ levels) =
-    loop_at_below (is_loop level) (is_parameter name level.parameter) (loop_named name levels) (loops_open levels)
+    loop_at_below (is_loop level) (is_parameter name level.parameter) (loop_with_parameter name levels) (loops_open levels)
     (named_below name levels)
 
 found_sound : (limit loops : ℕ) (reference : Reference) → IsSoundDatum limit loops (found_datum loops reference)
@@ -194,7 +194,7 @@ module _ (limit : ℕ) (levels : List Level) where
   value_sound text (helper_word k) h = tt
   value_sound text foreign_word h = tt
   value_sound text (path_word reference) h = (
-    named_sound limit (loops_open levels) reference (loop_named (first_part text) levels)
+    named_sound limit (loops_open levels) reference (loop_with_parameter (first_part text) levels)
         (named_below (first_part text) levels),
     omega arith,
   )

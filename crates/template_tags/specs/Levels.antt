@@ -49,7 +49,7 @@ loop_at true true outer = Some 0
 loop_at true false outer = option_map suc outer
 
 -- the innermost loop whose items have that name, by the number of loops inside of it
-abbrev pub loop_named : List ℕ → List Level → Option ℕ
-loop_named name [] = None
-loop_named name (level ∷ levels) =
-    loop_at (is_loop level) (is_parameter name level.parameter) (loop_named name levels)
+abbrev pub loop_with_parameter : List ℕ → List Level → Option ℕ
+loop_with_parameter name [] = None
+loop_with_parameter name (level ∷ levels) =
+    loop_at (is_loop level) (is_parameter name level.parameter) (loop_with_parameter name levels)

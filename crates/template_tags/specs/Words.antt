@@ -22,7 +22,7 @@ use Rattle.template_words.specs.declared.reference.Reference.{Reference}
 use Rattle.template_words.specs.declared.reference.Reference.TheVariants as references
 use Rattle.template_tags.specs.Expression.{Expression, datum, index, key, first, last, number, truth}
 use Rattle.template_tags.specs.Expression as expressions
-use Rattle.template_tags.specs.Levels.{loops_open, loop_named}
+use Rattle.template_tags.specs.Levels.{loops_open, loop_with_parameter}
 use Rattle.template_tags.specs.declared.expression.Datum.{Datum}
 use Rattle.template_tags.specs.declared.expression.Datum.TheVariants.{Nothing, Root, Item}
 use Rattle.template_tags.specs.declared.level.Level.{Level}
@@ -103,7 +103,7 @@ named_datum loops reference (Some up) = Item up (rest_of_steps (steps_in referen
 
 -- where the path leads that the word spells. The first part of a path is compared with names as it is written
 abbrev pub datum_of : List Level → List ℕ → Reference → Datum
-datum_of levels text reference = named_datum (loops_open levels) reference (loop_named (first_part text) levels)
+datum_of levels text reference = named_datum (loops_open levels) reference (loop_with_parameter (first_part text) levels)
 
 abbrev pub loop_word_value : LoopWord → Expression
 loop_word_value Index = index

@@ -22,7 +22,7 @@ use crate::calls::{arguments, beside, error_if, errors_in};
 use crate::expression::{Datum, Expression};
 use crate::items::Item;
 use crate::level::{BLOCK_LIMIT, Block, LOOP_LIMIT, Level, loops_open};
-use crate::nest::{Parts, parts_of};
+use crate::nest::{Parts, tag_parts};
 use crate::tag::Tag;
 use data_tree::plain_text::PlainText;
 use std::alloc::{AllocError, Global};
@@ -187,7 +187,7 @@ fn block_argument(
     ensures { IfOk result
         (λ read. read_view read ≡ block_argument (reverse levels.now) (map item_view items.now)) }
 {
-    piece_argument(alloc, levels, parts_of(alloc, levels, items)?)
+    piece_argument(alloc, levels, tag_parts(alloc, levels, items)?)
 }
 
 // Another block in those that are open.
@@ -395,7 +395,7 @@ fn all_errors(
     requires { length levels.now < 2 ^ 32 }
     ensures { IfOk result (λ e. e ≡ all_errors (reverse levels.now) (map item_view items.now)) }
 {
-    all_parts_error(alloc, levels, parts_of(alloc, levels, items)?)
+    all_parts_error(alloc, levels, tag_parts(alloc, levels, items)?)
 }
 
 /// What a tag with `/` and that name says.

@@ -1,6 +1,6 @@
 // The blocks that are open where a tag is.
 ghost use Rattle.std.specs.Prelude.{◌≡◌, ◌<◌, ◌^◌, length, reverse};
-ghost use Rattle.template_tags.specs.Levels.{block_name, block_named, is_each, loops_open, loop_named};
+ghost use Rattle.template_tags.specs.Levels.{block_name, block_named, is_each, loops_open, loop_with_parameter};
 
 use data_tree::plain_text::PlainText;
 
@@ -98,9 +98,9 @@ pub(crate) fn loops_open(levels: &[Level]) -> usize
 }
 
 /// The innermost loop whose items have that name, by the number of loops inside of it.
-pub(crate) fn loop_named(levels: &[Level], name: &str) -> Option<u32>
+pub(crate) fn loop_with_parameter(levels: &[Level], name: &str) -> Option<u32>
     requires { length levels.now < 2 ^ 32 }
-    ensures { result ≡ loop_named name.now (reverse levels.now) }
+    ensures { result ≡ loop_with_parameter name.now (reverse levels.now) }
 {
     let mut up = 0;
     let mut left = levels;

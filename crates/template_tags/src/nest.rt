@@ -1,7 +1,7 @@
 // What a tag's parentheses group, read in one pass over the items of the tag from the last to the first. Groups nest as
 // deep as a text has parentheses, so nothing here goes down them by recursion.
 ghost use Rattle.std.specs.Prelude.{◌≡◌, ◌<◌, ◌^◌, [], ◌∷◌, ◌++◌, Some, length, map, option_map, reverse, IfOk};
-ghost use Rattle.template_tags.specs.Inner.Pieces.{pieces_of, parts_of, word_pieces, piece_height, greatest};
+ghost use Rattle.template_tags.specs.Inner.Pieces.{pieces_of, tag_parts, word_pieces, piece_height, greatest};
 ghost use Rattle.template_tags.specs.Inner.Pieces.{grouped_pieces, piece_before};
 ghost use Rattle.template_tags.specs.Inner.Scan.{item_view};
 ghost use Rattle.template_tags.specs.Inner.Views.{piece_view, pieces_view, stack_view, grouped_view, parts_view};
@@ -178,13 +178,13 @@ fn words_of<'a>(alloc: Global, items: &[Item<'a>]) -> Result<Vec<Piece<'a>>, All
 }
 
 /// What the items group; where their parentheses don't match, their words.
-pub fn parts_of<'a>(
+pub fn tag_parts<'a>(
     alloc: Global,
     levels: &[Level],
     items: &[Item<'a>],
 ) -> Result<Parts<'a>, AllocError>
     requires { length levels.now < 2 ^ 32 }
-    ensures { IfOk result (λ parts. parts_view parts ≡ parts_of (reverse levels.now) (map item_view items.now)) }
+    ensures { IfOk result (λ parts. parts_view parts ≡ tag_parts (reverse levels.now) (map item_view items.now)) }
 {
     match grouped(alloc, levels, items)? {
         Some(pieces) => Ok(Parts {

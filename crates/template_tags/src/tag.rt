@@ -17,7 +17,7 @@ use crate::calls::{beside, call_read, error_if};
 use crate::expression::{Datum, Expression};
 use crate::items::{Item, items_of, lacks_space};
 use crate::level::{Block, Level};
-use crate::nest::{Parts, Piece, parts_of};
+use crate::nest::{Parts, Piece, tag_parts};
 use crate::word::{lone_value, read_value};
 use data_tree::plain_text::PlainText;
 use std::alloc::{AllocError, Global};
@@ -135,7 +135,7 @@ fn print_said(
     ensures { IfOk result
         (λ said. said_view said ≡ print_said (reverse levels.now) (map item_view items.now)) }
 {
-    piece_said(alloc, levels, parts_of(alloc, levels, items)?)
+    piece_said(alloc, levels, tag_parts(alloc, levels, items)?)
 }
 
 // Whether the text begins with a byte that marks a tag which templates don't have.

@@ -9,7 +9,7 @@ ghost use Rattle.template_tags.specs.Inner.Views.{word_view, read_view};
 ghost use Rattle.template_words.specs.Paths.{rest_of_steps};
 
 use crate::expression::{Datum, Expression};
-use crate::level::{Level, loop_named, loops_open};
+use crate::level::{Level, loop_with_parameter, loops_open};
 use crate::word_text::WordText;
 use data_tree::plain_text::PlainText;
 use data_tree::step::{Path, Step};
@@ -180,7 +180,7 @@ fn datum_of(
     requires { length levels.now < 2 ^ 32 }
     ensures { IfOk result (λ datum. datum ≡ datum_of (reverse levels.now) text.now reference) }
 {
-    match loop_named(levels, first_part(text)) {
+    match loop_with_parameter(levels, first_part(text)) {
         Some(up) => Ok(Datum::Item {
             up,
             steps: rest_of_steps(alloc, &steps_in(reference))?,

@@ -7,16 +7,16 @@ use Rattle.template_words.specs.declared.mode.Mode.TheVariants.{Start}
 use Rattle.template_tags.specs.declared.tag.Opening.{Opening}
 use Rattle.template_tags.specs.declared.tag.Opening.TheVariants.{Double, Triple}
 use Rattle.template_words.specs.Marks.{begins, offset_of, close_from, around}
-use Rattle.template_tree.specs.Tags.{Tag, comment, shown, comment_tag, shown_tag, comment_close, comment_of}
+use Rattle.template_tree.specs.Tags.{TagText, comment, shown, comment_tag, shown_tag, comment_close, comment_of}
 use Rattle.template_tree.specs.Tags.{shown_of, tag_of}
 use Rattle.template_words.proofs.Finding.{offset_at, close_at}
 
-abbrev pub shown_length : Tag → ℕ
+abbrev pub shown_length : TagText → ℕ
 shown_length comment = 0
 shown_length (shown opening text) = length text
 
 -- what is shown isn't longer than that, and what follows is shorter
-abbrev pub TagWithin : ℕ → Option (Tag × List ℕ) → Type 0
+abbrev pub TagWithin : ℕ → Option (TagText × List ℕ) → Type 0
 TagWithin n None = Unit {0}
 TagWithin n (Some x) = (shown_length x.0 ≤ n) × (length x.1 < n)
 
@@ -74,7 +74,7 @@ tag_short s =
     (close_at (codes "}}") Start body_2))))
 
 pub shown_within : (s : List ℕ) (opening : Opening) (content rest : List ℕ)
-    → ◌≡◌ {A = Option (Tag × List ℕ)} (Some (shown opening content, rest)) (tag_of s)
+    → ◌≡◌ {A = Option (TagText × List ℕ)} (Some (shown opening content, rest)) (tag_of s)
     → length content ≤ length s
 shown_within s opening content rest e =
-    let P : Option (Tag × List ℕ) → Type 0 = TagWithin (length s) in (subst P (sym e) (tag_short s)).0
+    let P : Option (TagText × List ℕ) → Type 0 = TagWithin (length s) in (subst P (sym e) (tag_short s)).0

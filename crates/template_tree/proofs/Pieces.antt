@@ -9,7 +9,7 @@ use Rattle.template_words.specs.declared.error.TagError.{TagError}
 use Rattle.template_tags.specs.declared.tag.Opening.{Opening}
 use Rattle.template_tree.specs.Laws.{IsPiece}
 use Rattle.template_words.specs.Marks.{begins, offset_of}
-use Rattle.template_tree.specs.Tags.{Tag, comment, shown, tag_of}
+use Rattle.template_tree.specs.Tags.{TagText, comment, shown, tag_of}
 use Rattle.template_tree.specs.Tokens.{text_token, token, tag_error, ended, said_next, closed_next, tag_next}
 use Rattle.template_tree.specs.Tokens.{error_after_backslash, last_text_next, next_at, next_of}
 use Rattle.template_tags.specs.declared.level.Level.{Level}
@@ -35,13 +35,13 @@ no_said : (text p rest more : List ℕ) (opening : Opening) (tag : Result said.T
 no_said text p rest more opening (Ok tag) e = cc
 no_said text p rest more opening (Err f) e = cc
 
-no_closed : (levels : List Level) (text p rest more : List ℕ) (tag : Tag)
+no_closed : (levels : List Level) (text p rest more : List ℕ) (tag : TagText)
     → closed_next levels text tag rest ≡ token (text_token p) more → ⊥
 no_closed levels text p rest more comment e = cc
 no_closed levels text p rest more (shown opening content) e =
     no_said text p rest more opening (tag_said opening content levels) e
 
-no_tag : (levels : List Level) (text p more : List ℕ) (o : Option (Tag × List ℕ))
+no_tag : (levels : List Level) (text p more : List ℕ) (o : Option (TagText × List ℕ))
     → tag_next levels text o ≡ token (text_token p) more → ⊥
 no_tag levels text p more None e = cc
 no_tag levels text p more (Some x) e = no_closed levels text p x.1 more x.0 e

@@ -12,7 +12,7 @@ use Rattle.template_tags.specs.declared.tag.Opening.{Opening}
 use Rattle.template_tags.specs.Said.{tag_said}
 use Rattle.template_tags.specs.Tags as said
 use Rattle.template_tree.specs.Grammar.{Leads, token_levels}
-use Rattle.template_tree.specs.Tags.{Tag, comment, shown, tag_of}
+use Rattle.template_tree.specs.Tags.{TagText, comment, shown, tag_of}
 use Rattle.template_tree.specs.Tokens.{Token, text_token, Next, token, tag_error, ended}
 use Rattle.template_tree.specs.Tokens.{said_next, closed_next, tag_next, error_after_backslash, text_next}
 use Rattle.template_tree.specs.Tokens.{last_text_next, next_at, next_of}
@@ -29,12 +29,12 @@ said_fits : (s rest : List ℕ) (opening : Opening) (tag : Result said.Tag TagEr
 said_fits s rest opening (Ok t) h = h
 said_fits s rest opening (Err f) h = omega arith
 
-closed_fits : (levels : List Level) (s rest : List ℕ) (tag : Tag) → length rest < length s
+closed_fits : (levels : List Level) (s rest : List ℕ) (tag : TagText) → length rest < length s
     → Fits s (closed_next levels s tag rest)
 closed_fits levels s rest comment h = h
 closed_fits levels s rest (shown opening content) h = said_fits s rest opening (tag_said opening content levels) h
 
-tag_fits : (levels : List Level) (s : List ℕ) (o : Option (Tag × List ℕ)) → TagWithin (length s) o
+tag_fits : (levels : List Level) (s : List ℕ) (o : Option (TagText × List ℕ)) → TagWithin (length s) o
     → Fits s (tag_next levels s o)
 tag_fits levels s None h = omega arith
 tag_fits levels s (Some x) h = closed_fits levels s x.1 x.0 h.1

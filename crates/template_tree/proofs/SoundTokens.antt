@@ -14,7 +14,7 @@ use Rattle.template_tags.specs.Tags as said
 use Rattle.template_tags.proofs.Raised.{tag_sound_within}
 use Rattle.template_tree.specs.declared.parser.TheConstants.{TEXT_LIMIT}
 use Rattle.template_tree.specs.Inner.Frames.{AllowsToken}
-use Rattle.template_tree.specs.Tags.{Tag, comment, shown, tag_of}
+use Rattle.template_tree.specs.Tags.{TagText, comment, shown, tag_of}
 use Rattle.template_tree.specs.Tokens.{Token, text_token, comment_token, tag_token, Next, token, tag_error, ended}
 use Rattle.template_tree.specs.Tokens.{said_next, closed_next, tag_next, error_after_backslash}
 use Rattle.template_tree.specs.Tokens.{last_text_next, next_at, next_of}
@@ -37,18 +37,18 @@ said-sound : (levels : List Level) (text : List ℕ) (opening : Opening)
 said-sound levels text opening (Ok tag) rest h = h tag refl
 said-sound levels text opening (Err e) rest h = tt
 
-tag-sound : (levels : List Level) (text : List ℕ) (o : Option (Tag × List ℕ)) → TagWithin TEXT_LIMIT o
+tag-sound : (levels : List Level) (text : List ℕ) (o : Option (TagText × List ℕ)) → TagWithin TEXT_LIMIT o
     → SoundNext levels (tag_next levels text o)
 tag-sound levels text None h = tt
 tag-sound levels text (Some x) h = by x.0 h.0
   where
-    by : (tag : Tag) → shown_length tag ≤ TEXT_LIMIT → SoundNext levels (closed_next levels text tag x.1)
+    by : (tag : TagText) → shown_length tag ≤ TEXT_LIMIT → SoundNext levels (closed_next levels text tag x.1)
     by comment le = tt
     by (shown opening content) le =
         said-sound levels text opening (tag_said opening content levels) x.1
         (λ tag e. tag_sound_within TEXT_LIMIT opening content levels tag le e)
 
-within : (n m : ℕ) (o : Option (Tag × List ℕ)) → n ≤ m → TagWithin n o → TagWithin m o
+within : (n m : ℕ) (o : Option (TagText × List ℕ)) → n ≤ m → TagWithin n o → TagWithin m o
 within n m None le h = tt
 within n m (Some x) le h = (omega (arith, h.0), omega (arith, h.1))
 

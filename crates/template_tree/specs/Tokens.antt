@@ -10,7 +10,7 @@ use Rattle.template_tags.specs.declared.level.Level.{Level}
 use Rattle.template_tags.specs.declared.tag.Opening.{Opening}
 use Rattle.template_tags.specs.Said.{tag_said}
 use Rattle.template_tags.specs.Tags as said
-use Rattle.template_tree.specs.Tags.{Tag, comment, shown, tag_of}
+use Rattle.template_tree.specs.Tags.{TagText, comment, shown, tag_of}
 
 pub data Token : Type 0 where
   text_token : List ℕ → Token
@@ -29,17 +29,17 @@ said_next text opening (Ok tag) rest = token (tag_token opening tag) rest
 said_next text opening (Err e) rest = tag_error e text
 
 -- what a tag says depends on the blocks that are open, the innermost first
-abbrev pub closed_next : List Level → List ℕ → Tag → List ℕ → Next
+abbrev pub closed_next : List Level → List ℕ → TagText → List ℕ → Next
 closed_next levels text comment rest = token comment_token rest
 closed_next levels text (shown opening content) rest = said_next text opening (tag_said opening content levels) rest
 
 -- at a text that begins with a tag's mark
-abbrev pub tag_next : List Level → List ℕ → Option (Tag × List ℕ) → Next
+abbrev pub tag_next : List Level → List ℕ → Option (TagText × List ℕ) → Next
 tag_next levels text None = tag_error UnclosedTag text
 tag_next levels text (Some x) = closed_next levels text x.0 x.1
 
 -- the error of a tag right after `\`
-abbrev pub error_after_backslash : Option (Tag × List ℕ) → TagError
+abbrev pub error_after_backslash : Option (TagText × List ℕ) → TagError
 error_after_backslash None = UnclosedTag
 error_after_backslash (Some x) = UnsupportedTag
 

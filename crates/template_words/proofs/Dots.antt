@@ -6,7 +6,7 @@ use Rattle.std.proofs.lemmas.List.{append-nil, take_at, take_all, drop_at, get_o
 use Rattle.std.proofs.lemmas.Str.{IsUtf8-drop, IsCharBoundary-before_ascii, IsCharBoundary-after_ascii}
 use Rattle.std.proofs.lemmas.Bool.{eqb-true, false≢true}
 use Rattle.template_words.specs.Bytes.{dot}
-use Rattle.template_words.specs.Paths.{onto_first, next_in_bracket, is_separator, parts_of}
+use Rattle.template_words.specs.Paths.{onto_first, next_in_bracket, is_separator, dotted_parts}
 
 -- bytes before the first part
 abbrev pub glue : List ℕ → List (List ℕ) → List (List ℕ)
@@ -26,20 +26,20 @@ glue_head (x ∷ xs) part parts = ap (onto_first x) (glue_head xs part parts)
 pub record DotAt (text : List ℕ) (n : ℕ) : Type 0 where
   pub inside : n < length text
   pub is_dot : slice_index text n ≡ dot
-  pub parts : parts_of false text ≡ take n text ∷ parts_of false (drop (n + 1) text)
+  pub parts : dotted_parts false text ≡ take n text ∷ dotted_parts false (drop (n + 1) text)
 
 -- what is known before a rest that no dot has come before
 pub record Seen (text : List ℕ) (at : ℕ) (inside : Bool) (rest : List ℕ) : Type 0 where
   pub front : List ℕ
   pub whole : text ≡ front ++ rest
   pub counted : length front ≡ at
-  pub ahead : parts_of false text ≡ glue front (parts_of inside rest)
+  pub ahead : dotted_parts false text ≡ glue front (dotted_parts inside rest)
 
 pub seen_more : (text : List ℕ) (at : ℕ) (inside : Bool) (b : ℕ) (after : List ℕ)
     → Seen text at inside (b ∷ after)
     → is_separator inside b ≡ false → Seen text (at + 1) (next_in_bracket inside b) after
 seen_more text at inside b after s no_dot =
-    let opened : parts_of inside (b ∷ after) ≡ onto_first b (parts_of (next_in_bracket inside b) after) =
+    let opened : dotted_parts inside (b ∷ after) ≡ onto_first b (dotted_parts (next_in_bracket inside b) after) =
     rw no_dot refl in
     record {
       front = s.front ++ b ∷ [];
@@ -47,11 +47,11 @@ seen_more text at inside b after s no_dot =
       counted = omega (arith, length-append s.front (b ∷ []), s.counted);
       ahead =
           s.ahead ∙ (ap (glue s.front) opened ∙ sym
-          (glue_push s.front b (parts_of (next_in_bracket inside b) after)));
+          (glue_push s.front b (dotted_parts (next_in_bracket inside b) after)));
     }
 
 pub seen_end : (text : List ℕ) (at : ℕ) (inside : Bool) → Seen text at inside []
-    → parts_of false text ≡ text ∷ []
+    → dotted_parts false text ≡ text ∷ []
 seen_end text at inside s =
     s.ahead ∙ (glue_head s.front [] [] ∙ ap (λ x. x ∷ []) (sym s.whole))
 
@@ -63,15 +63,15 @@ seen_dot text at after s =
     let back : drop (at + 1) text ≡ after =
     ap (drop (at + 1)) regrouped ∙ drop_at (s.front ++ dot ∷ []) after (at + 1)
     (omega (arith, length-append s.front (dot ∷ []), s.counted)) in
-    let head : glue s.front (parts_of false (dot ∷ after)) ≡ (s.front ++ []) ∷ parts_of false after =
-    glue_head s.front [] (parts_of false after) in
+    let head : glue s.front (dotted_parts false (dot ∷ after)) ≡ (s.front ++ []) ∷ dotted_parts false after =
+    glue_head s.front [] (dotted_parts false after) in
     record {
       inside = omega (arith, ap length s.whole, length-append s.front (dot ∷ after), s.counted);
       is_dot = ap (λ x. slice_index x at) s.whole ∙ get_or_at s.front dot after 0 at s.counted;
       parts =
           s.ahead ∙ (head ∙
-          (ap (λ x. x ∷ parts_of false after) (append-nil s.front ∙ sym front) ∙ ap
-          (λ x. take at text ∷ parts_of false x) (sym back)));
+          (ap (λ x. x ∷ dotted_parts false after) (append-nil s.front ∙ sym front) ∙ ap
+          (λ x. take at text ∷ dotted_parts false x) (sym back)));
     }
 
 -- a rest that the code takes apart
@@ -84,7 +84,7 @@ seen_step text at inside (b ∷ bs) some s no_dot =
     subst P (sym (take_all (length (b ∷ bs) - 1) bs (omega arith))) (seen_more text at inside b bs s no_dot)
 
 pub seen_all : (text : List ℕ) (at : ℕ) (inside : Bool) (rest : List ℕ) → length rest < 1
-    → Seen text at inside rest → parts_of false text ≡ text ∷ []
+    → Seen text at inside rest → dotted_parts false text ≡ text ∷ []
 seen_all text at inside [] few s = seen_end text at inside s
 seen_all text at inside (b ∷ bs) few s = absurd (omega arith)
 

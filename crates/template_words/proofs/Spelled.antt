@@ -22,7 +22,7 @@ use Rattle.template_words.specs.Bytes.{dot, open_bracket, close_bracket}
 use Rattle.template_words.specs.Marks.{begins, offset_of}
 use Rattle.template_words.specs.Paths.{is_name_byte, is_name, step_of_index, step_named}
 use Rattle.template_words.specs.Inner.PathReads.{name_step, bracketed_step}
-use Rattle.template_words.specs.Paths.{onto_first, next_in_bracket, is_separator, parts_of}
+use Rattle.template_words.specs.Paths.{onto_first, next_in_bracket, is_separator, dotted_parts}
 use Rattle.template_words.specs.Inner.PathReads.{step_of, all_steps}
 use Rattle.template_words.specs.Paths.{is_reserved, reference_at, unreserved}
 use Rattle.template_words.specs.Inner.PathReads.{reference_below, reference_from}
@@ -216,7 +216,7 @@ abbrev Whole : List ℕ → List (List ℕ) → Type 0
 Whole text [] = ⊥
 Whole text (part ∷ []) = text ≡ part
 Whole text (part ∷ next ∷ parts) =
-    (rest : List ℕ) × (text ≡ part ++ dot ∷ rest) × (parts_of false rest ≡ next ∷ parts)
+    (rest : List ℕ) × (text ≡ part ++ dot ∷ rest) × (dotted_parts false rest ≡ next ∷ parts)
 
 whole_byte : (b : ℕ) (text : List ℕ) (parts : List (List ℕ)) → Whole text parts
     → Whole (b ∷ text) (onto_first b parts)
@@ -224,7 +224,7 @@ whole_byte b text [] w = absurd w
 whole_byte b text (part ∷ []) w = ap (λ x. b ∷ x) w
 whole_byte b text (part ∷ next ∷ parts) w = (w.0, ap (λ x. b ∷ x) w.1, w.2)
 
-whole_dot : (text : List ℕ) (parts : List (List ℕ)) → parts_of false text ≡ parts → Whole text parts
+whole_dot : (text : List ℕ) (parts : List (List ℕ)) → dotted_parts false text ≡ parts → Whole text parts
     → Whole (dot ∷ text) ([] ∷ parts)
 whole_dot text [] e w = absurd w
 whole_dot text (part ∷ parts) e w = (text, refl, e)
@@ -233,18 +233,18 @@ separator_is : (inside : Bool) (b : ℕ) → is_separator inside b ≡ true → 
 separator_is true b h = absurd (false≢true h)
 separator_is false b h = eqb-true b dot h
 
-whole : (inside : Bool) (text : List ℕ) → Whole text (parts_of inside text)
+whole : (inside : Bool) (text : List ℕ) → Whole text (dotted_parts inside text)
 whole inside [] = refl
 whole inside (b ∷ text) = elim (cases_Bool (is_separator inside b)) [
   | inl t ↦
-      rw t (subst (λ x. Whole (x ∷ text) ([] ∷ parts_of false text)) (sym (separator_is inside b t))
-      (whole_dot text (parts_of false text) refl (whole false text)))
-  | inr f ↦ rw f (whole_byte b text (parts_of (next_in_bracket inside b) text) (whole (next_in_bracket inside b) text))
+      rw t (subst (λ x. Whole (x ∷ text) ([] ∷ dotted_parts false text)) (sym (separator_is inside b t))
+      (whole_dot text (dotted_parts false text) refl (whole false text)))
+  | inr f ↦ rw f (whole_byte b text (dotted_parts (next_in_bracket inside b) text) (whole (next_in_bracket inside b) text))
 ]
 
 -- no byte of a name separates
 name_parts : (name tail : List ℕ) → list_all is_name_byte name ≡ true
-    → parts_of false (name ++ tail) ≡ glue name (parts_of false tail)
+    → dotted_parts false (name ++ tail) ≡ glue name (dotted_parts false tail)
 name_parts [] tail h = refl
 name_parts (b ∷ name) tail h =
     let p = and_parts (is_name_byte b) (list_all is_name_byte name) h in
@@ -255,7 +255,7 @@ name_parts (b ∷ name) tail h =
     rw (no_dot, no_open) (ap (onto_first b) (name_parts name tail p.1))
 
 inner_parts : (inner tail : List ℕ) → list_all no_close inner ≡ true
-    → parts_of true (inner ++ close_bracket ∷ tail) ≡ glue inner (onto_first close_bracket (parts_of false tail))
+    → dotted_parts true (inner ++ close_bracket ∷ tail) ≡ glue inner (onto_first close_bracket (dotted_parts false tail))
 inner_parts [] tail h = refl
 inner_parts (b ∷ inner) tail h =
     let p = and_parts (no_close b) (list_all no_close inner) h in
@@ -263,10 +263,10 @@ inner_parts (b ∷ inner) tail h =
 
 -- what is written of a step is one part
 first_part : (name first tail : List ℕ) (parts : List (List ℕ)) → IsWritten name first
-    → parts_of false tail ≡ [] ∷ parts → parts_of false (first ++ tail) ≡ first ∷ parts
+    → dotted_parts false tail ≡ [] ∷ parts → dotted_parts false (first ++ tail) ≡ first ∷ parts
 first_part name first tail parts (inl w) e =
     let named : list_all is_name_byte name ≡ true = all_bytes name w.1 in
-    ap (λ x. parts_of false (x ++ tail)) w.0 ∙ name_parts name tail named ∙ ap (glue name) e
+    ap (λ x. dotted_parts false (x ++ tail)) w.0 ∙ name_parts name tail named ∙ ap (glue name) e
     ∙ glue_head name [] parts ∙ ap (λ x. x ∷ parts) (append-nil name ∙ sym w.0)
   where
     all_bytes : (s : List ℕ) → is_name s ≡ true → list_all is_name_byte s ≡ true
@@ -275,7 +275,7 @@ first_part name first tail parts (inl w) e =
 first_part name first tail parts (inr w) e =
     let text : first ++ tail ≡ open_bracket ∷ (name ++ close_bracket ∷ tail) =
     ap (λ x. x ++ tail) w.0 ∙ ap (λ x. open_bracket ∷ x) (append_assoc name (close_bracket ∷ []) tail) in
-    ap (parts_of false) text ∙ ap (onto_first open_bracket) (inner_parts name tail w.1)
+    ap (dotted_parts false) text ∙ ap (onto_first open_bracket) (inner_parts name tail w.1)
     ∙ ap (λ ps. onto_first open_bracket (glue name (onto_first close_bracket ps))) e
     ∙ ap (onto_first open_bracket) (glue_head name (close_bracket ∷ []) parts)
     ∙ ap (λ x. x ∷ parts) (sym w.0)
@@ -307,24 +307,24 @@ read_parts (part ∷ next ∷ parts) text steps w e =
     more_steps first text rest step [] split s r = absurd r
     more_steps first text rest step (x ∷ more) split s r = (first, rest, split, s, r)
 
-pub read_steps : (text : List ℕ) (steps : List Step) → all_steps (parts_of false text) ≡ Ok steps
+pub read_steps : (text : List ℕ) (steps : List Step) → all_steps (dotted_parts false text) ≡ Ok steps
     → SpellsSteps text steps
-read_steps text steps e = read_parts (parts_of false text) text steps (whole false text) e
+read_steps text steps e = read_parts (dotted_parts false text) text steps (whole false text) e
 
 pub spelled_steps : (text : List ℕ) (steps : List Step) → SpellsSteps text steps
-    → all_steps (parts_of false text) ≡ Ok steps
+    → all_steps (dotted_parts false text) ≡ Ok steps
 spelled_steps text [] h = absurd h
 spelled_steps text (step ∷ []) h =
     let w = spells_written text step h in
-    let one : parts_of false text ≡ text ∷ [] =
-    ap (parts_of false) (sym (append-nil text)) ∙ first_part w.0 text [] [] w.1 refl in
+    let one : dotted_parts false text ≡ text ∷ [] =
+    ap (dotted_parts false) (sym (append-nil text)) ∙ first_part w.0 text [] [] w.1 refl in
     ap all_steps one ∙ ap (λ read. read >>= λ s. Ok (s ∷ [])) (spelled_step text step h)
 spelled_steps text (step ∷ next ∷ steps) (first, rest, split, s, r) =
     let w = spells_written first step s in
-    let more : parts_of false text ≡ first ∷ parts_of false rest =
-    ap (parts_of false) split ∙ first_part w.0 first (dot ∷ rest) (parts_of false rest) w.1 refl in
+    let more : dotted_parts false text ≡ first ∷ dotted_parts false rest =
+    ap (dotted_parts false) split ∙ first_part w.0 first (dot ∷ rest) (dotted_parts false rest) w.1 refl in
     ap all_steps more
-    ∙ ap (λ read. read >>= λ x. all_steps (parts_of false rest) >>= λ xs. Ok (x ∷ xs)) (spelled_step first step s)
+    ∙ ap (λ read. read >>= λ x. all_steps (dotted_parts false rest) >>= λ xs. Ok (x ∷ xs)) (spelled_step first step s)
     ∙ ap (λ read. read >>= λ xs. Ok (step ∷ xs)) (spelled_steps rest (next ∷ steps) r)
 
 -- ---- references
@@ -361,15 +361,15 @@ bad_parts (part ∷ parts) e h = by_step (step_of part) refl (all_steps parts) r
 -- what is read of a word that spells steps, or none
 abbrev StepsRead : List ℕ → Type 0
 StepsRead text =
-    ((steps : List Step) × SpellsSteps text steps × (all_steps (parts_of false text) ≡ Ok steps))
-    ⊎ (all_steps (parts_of false text) ≡ Err BadPath)
+    ((steps : List Step) × SpellsSteps text steps × (all_steps (dotted_parts false text) ≡ Ok steps))
+    ⊎ (all_steps (dotted_parts false text) ≡ Err BadPath)
 
 steps_read : (text : List ℕ) → StepsRead text
-steps_read text = by_read (all_steps (parts_of false text)) refl
+steps_read text = by_read (all_steps (dotted_parts false text)) refl
   where
-    by_read : (read : Result (List Step) TagError) → all_steps (parts_of false text) ≡ read → StepsRead text
+    by_read : (read : Result (List Step) TagError) → all_steps (dotted_parts false text) ≡ read → StepsRead text
     by_read (Ok steps) is = inl (steps, read_steps text steps is, is)
-    by_read (Err e) is = inr (is ∙ ap Err (bad_parts (parts_of false text) e is))
+    by_read (Err e) is = inr (is ∙ ap Err (bad_parts (dotted_parts false text) e is))
 
 -- steps aren't `.` or `..`
 no_dots : (text : List ℕ) (steps : List Step) → SpellsSteps text steps
@@ -379,10 +379,10 @@ no_dots text steps spelled = (
   other (codes "..") (λ e. no_step (([]) ∷ ([]) ∷ []) steps e),
 )
   where
-    other : (dots : List ℕ) → (all_steps (parts_of false dots) ≡ Ok steps → ⊥) → bytes_eq text dots ≡ false
+    other : (dots : List ℕ) → (all_steps (dotted_parts false dots) ≡ Ok steps → ⊥) → bytes_eq text dots ≡ false
     other dots bar = elim (cases_Bool (bytes_eq text dots)) [
       | inl t ↦
-          absurd (bar (sym (ap (λ x. all_steps (parts_of false x)) ((bytes_eq-Decides text dots).0 t))
+          absurd (bar (sym (ap (λ x. all_steps (dotted_parts false x)) ((bytes_eq-Decides text dots).0 t))
           ∙ spelled_steps text steps spelled))
       | inr f ↦ f
     ]
@@ -449,14 +449,14 @@ below_ends text more steps (inl h) = ap (begins (codes "../")) h.0
 below_ends text more steps (inr (inl h)) = ap (begins (codes "../")) h.0
 below_ends text more steps (inr (inr h)) = elim (cases_Bool (begins (codes "../") text)) [
   | inl t ↦
-      absurd (no_step (parts_of false (drop 1 text)) steps
+      absurd (no_step (dotted_parts false (drop 1 text)) steps
       (sym (ap all_steps (dots_parts text t)) ∙ spelled_steps text steps h.1))
   | inr f ↦ f
 ]
   where
-    dots_parts : (s : List ℕ) → begins (codes "../") s ≡ true → parts_of false s ≡ [] ∷ parts_of false (drop 1 s)
-    dots_parts s t = ap (parts_of false) (begins_split (codes "../") s t)
-        ∙ ap (λ x. [] ∷ parts_of false (drop 1 x)) (sym (begins_split (codes "../") s t))
+    dots_parts : (s : List ℕ) → begins (codes "../") s ≡ true → dotted_parts false s ≡ [] ∷ dotted_parts false (drop 1 s)
+    dots_parts s t = ap (dotted_parts false) (begins_split (codes "../") s t)
+        ∙ ap (λ x. [] ∷ dotted_parts false (drop 1 x)) (sym (begins_split (codes "../") s t))
 
 -- one path at most below climbs, and what is read of it
 below_is : (depth : ℕ) (text : List ℕ) (more : ℕ) (steps : List Step) → SpellsBelow text more steps

@@ -2,7 +2,7 @@
 use Rattle.std.specs.Prelude.{ℕ, Bool, false, ◌&&◌, List, [], ◌∷◌, drop, Option, Some, None}
 use Rattle.std.specs.Prelude.{if◌then◌else◌, codes}
 use Rattle.template_words.specs.Marks.{begins, offset_of, around}
-use Rattle.template_words.specs.Paths.{is_name, parts_of}
+use Rattle.template_words.specs.Paths.{is_name, dotted_parts}
 use Rattle.template_words.specs.Words.{enclosed, closed_at_end}
 
 abbrev pub is_named : Option (List ℕ × List ℕ) → Bool
@@ -35,4 +35,4 @@ first_of_parts (part ∷ parts) = part
 
 -- the text of a path up to its first dot
 abbrev pub first_part : List ℕ → List ℕ
-first_part text = first_of_parts (parts_of false text)
+first_part text = first_of_parts (dotted_parts false text)

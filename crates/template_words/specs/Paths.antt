@@ -46,10 +46,10 @@ is_separator true b = false
 is_separator false b = b == dot
 
 -- the parts of a text between the dots outside of brackets
-abbrev pub parts_of : Bool → List ℕ → List (List ℕ)
-parts_of inside [] = [] ∷ []
-parts_of inside (b ∷ bs) =
-    if is_separator inside b then [] ∷ parts_of false bs else onto_first b (parts_of (next_in_bracket inside b) bs)
+abbrev pub dotted_parts : Bool → List ℕ → List (List ℕ)
+dotted_parts inside [] = [] ∷ []
+dotted_parts inside (b ∷ bs) =
+    if is_separator inside b then [] ∷ dotted_parts false bs else onto_first b (dotted_parts (next_in_bracket inside b) bs)
 
 abbrev pub is_step : List ℕ → Step → Bool
 is_step name (Name text) = bytes_eq text name

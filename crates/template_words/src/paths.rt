@@ -5,7 +5,7 @@ ghost use Rattle.std.specs.List.{list_all};
 ghost use Rattle.template_words.specs.Bytes.{dot};
 ghost use Rattle.template_words.specs.Paths.{is_name_byte, is_name, step_named, next_in_bracket, is_separator};
 ghost use Rattle.template_words.specs.Inner.PathReads.{step_of};
-ghost use Rattle.template_words.specs.Paths.{parts_of, is_step, begins_with_step};
+ghost use Rattle.template_words.specs.Paths.{dotted_parts, is_step, begins_with_step};
 ghost use Rattle.template_words.specs.Inner.PathReads.{all_steps};
 ghost use Rattle.template_words.specs.Paths.{rest_of_steps, is_reserved};
 ghost use Rattle.template_words.specs.Paths.{in_lower_case, names_header, header_in_lower_case};
@@ -77,11 +77,11 @@ fn is_separator(inside: bool, byte: u8) -> bool
 
 /// The byte offset of the first dot outside of brackets.
 fn dot_offset(text: &[u8]) -> Option<usize>
-    ensures none { IfNone result (parts_of false text.now ≡ text.now ∷ []) }
+    ensures none { IfNone result (dotted_parts false text.now ≡ text.now ∷ []) }
     ensures inside { IfSome result (λ n. n < length text.now) }
     ensures dot { IfSome result (λ n. slice_index text.now n ≡ dot) }
     ensures parts { IfSome result
-        (λ n. parts_of false text.now ≡ take n text.now ∷ parts_of false (drop (n + 1) text.now)) }
+        (λ n. dotted_parts false text.now ≡ take n text.now ∷ dotted_parts false (drop (n + 1) text.now)) }
 {
     // A loop, since brackets open and close.
     let mut inside = false;
@@ -100,8 +100,8 @@ fn dot_offset(text: &[u8]) -> Option<usize>
 
 /// The text before that dot, and after it.
 pub(crate) fn around_dot<'a>(text: &'a str) -> Option<(&'a str, &'a str)>
-    ensures parts { MatchOption result (parts_of false text.now ≡ text.now ∷ [])
-        (λ x. parts_of false text.now ≡ x.0.now ∷ parts_of false x.1.now) }
+    ensures parts { MatchOption result (dotted_parts false text.now ≡ text.now ∷ [])
+        (λ x. dotted_parts false text.now ≡ x.0.now ∷ dotted_parts false x.1.now) }
     ensures shorter { IfSome result (λ x. length x.1.now < length text.now) }
 {
     let offset = dot_offset(text.as_bytes())?;
@@ -112,7 +112,7 @@ pub(crate) fn around_dot<'a>(text: &'a str) -> Option<(&'a str, &'a str)>
 
 /// The steps that the parts between dots spell.
 fn steps_of(alloc: Global, text: &str) -> Result<Vec<Step>, ReadError>
-    ensures { Gives (λ steps. steps.items) result (all_steps (parts_of false text.now)) }
+    ensures { Gives (λ steps. steps.items) result (all_steps (dotted_parts false text.now)) }
 {
     let mut steps = Vec::new(alloc);
     let mut rest = text;

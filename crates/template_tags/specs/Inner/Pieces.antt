@@ -46,8 +46,8 @@ pieces_of levels (first_term term terms) = piece_of levels term ∷ pieces_of le
 abbrev pub stack_pieces : List Level → Option (List Terms) → Option (List (List Piece))
 stack_pieces levels stack = option_map (map (pieces_of levels)) stack
 
-abbrev pub parts_of : List Level → List Item → Parts
-parts_of levels items = record { pieces = pieces_of levels (terms_in items); matched = is_matched items }
+abbrev pub tag_parts : List Level → List Item → Parts
+tag_parts levels items = record { pieces = pieces_of levels (terms_in items); matched = is_matched items }
 
 abbrev pub word_pieces : List Item → List Piece
 word_pieces [] = []

@@ -7,7 +7,7 @@ use Rattle.template_words.specs.declared.error.TagError.TheVariants.{BadPath}
 use Rattle.template_words.specs.declared.reference.Reference.{Reference}
 use Rattle.template_words.specs.declared.reference.Reference.TheVariants.{Item}
 use Rattle.template_words.specs.Marks.{begins}
-use Rattle.template_words.specs.Paths.{is_name, step_named, parts_of, unreserved}
+use Rattle.template_words.specs.Paths.{is_name, step_named, dotted_parts, unreserved}
 use Rattle.template_words.specs.Reading.{◌>>=◌}
 use Rattle.template_words.specs.Words.{enclosed}
 
@@ -33,7 +33,7 @@ reference_below depth text =
     if bytes_eq text (codes ".") then Ok (Item depth [])
     else if bytes_eq text (codes "..") then Ok (Item (depth + 1) [])
     else if begins (codes "[") text then Err BadPath
-    else (all_steps (parts_of false text) >>= unreserved depth)
+    else (all_steps (dotted_parts false text) >>= unreserved depth)
 
 -- what a word refers to that comes after `depth` times `../`
 unfoldable pub reference_from : ℕ → List ℕ → Result Reference TagError

@@ -2,7 +2,7 @@ use Rattle.std.proofs.Common.{map, reverse, sym, ap, ◌∙◌}
 use Rattle.template_tags.proofs.Nests.{unmatched_parts}
 use Rattle.template_tags.specs.Inner.Scan.{item_view}
 use Rattle.template_tags.specs.Inner.Views.{pieces_view, grouped_view}
-use Rattle.template_tags.proofs.nest.parts_of.Goals as goal
+use Rattle.template_tags.proofs.nest.tag_parts.Goals as goal
 
 pub returns-in_ok-words_of-in-None : goal.returns-in_ok-words_of-in-None
 returns-in_ok-words_of-in-None c =
