@@ -1,7 +1,8 @@
 -- Worked courses, which the checker computes.
 use Rattle.std.specs.Prelude.{◌≡◌, ℕ, zero, suc, ◌+◌, ◌*◌, List, [], ◌∷◌}
 use Rattle.std.proofs.Common.{refl}
-use Rattle.loop_law.specs.Inner.Course.{Cost, Bracket, level, opens_over_part, opens_over_data, ends, Course, nest, budget}
+use Rattle.code_rules.specs.Inner.Course.{Cost, Bracket, level, opens_over_part, opens_over_data, ends, Course, nest}
+use Rattle.code_rules.specs.Inner.Course.{budget}
 
 abbrev bracket_in : List Bracket → ℕ → Bracket
 bracket_in [] x = level

@@ -5,8 +5,8 @@ use Rattle.std.proofs.Common.{⊎_elim, arith}
 use Rattle.std.specs.Prelude.{◌||◌}
 use Rattle.std.specs.Cmp.Lexicographic.{same_text}
 use Rattle.std.proofs.lemmas.Bool.{cases_lt}
-use Rattle.loop_law.specs.Inner.Course.{Bracket, level, opens_over_part, opens_over_data, ends, Course, nest_after, nest}
-use Rattle.loop_law.specs.Inner.Course.{same_nest}
+use Rattle.code_rules.specs.Inner.Course.{Bracket, level, opens_over_part, opens_over_data, ends, Course, nest_after}
+use Rattle.code_rules.specs.Inner.Course.{nest, same_nest}
 
 pub same-refl : (ns : List ℕ) → same_nest ns ns ≡ true
 same-refl [] = refl

@@ -2,8 +2,8 @@
 use Rattle.std.proofs.Common.{◌≡◌, ℕ, zero, suc, ◌+◌, ◌-◌, ◌*◌, ◌<◌, ◌≤◌, sym, ap, subst}
 use Rattle.std.proofs.Common.{⊎_elim, arith}
 use Rattle.std.proofs.lemmas.Bool.{cases_lt}
-use Rattle.loop_law.specs.Inner.Course.{Cost, nothing, plus, value, Bracket, level, opens_over_part, opens_over_data, ends}
-use Rattle.loop_law.specs.Inner.Course.{of_turns}
+use Rattle.code_rules.specs.Inner.Course.{Cost, nothing, plus, value, Bracket, level, opens_over_part, opens_over_data}
+use Rattle.code_rules.specs.Inner.Course.{ends, of_turns}
 
 -- at most, part by part
 pub record Le (c d : Cost) : Type 0 where

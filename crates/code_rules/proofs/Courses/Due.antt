@@ -5,15 +5,15 @@ use Rattle.std.proofs.Common.{◌≡◌, ℕ, zero, suc, ◌+◌, ◌-◌, ◌*�
 use Rattle.std.proofs.Common.{false, true≢false, List, [], ◌∷◌, length, drop, refl, sym, ap, ◌∙◌, subst}
 use Rattle.std.proofs.Common.{⊎_elim, arith}
 use Rattle.std.specs.Prelude.{if◌then◌else◌}
-use Rattle.loop_law.specs.Inner.Course.{Cost, nothing, plus, value, Bracket, level, opens_over_part, opens_over_data, ends}
-use Rattle.loop_law.specs.Inner.Course.{Course, nest_after, nest, of_turns, share, region, budget}
-use Rattle.loop_law.specs.Inner.Run.{Loop, State, item_size, sum_of, Fit, GoesAhead, Enters, Repeats, Leaves, GoesBy, Goes}
-use Rattle.loop_law.specs.Inner.Run.{cost_at, Runs, first}
-use Rattle.loop_law.proofs.Sums.{Le, le-of, le-nothing, times-le, value-le, value-plus, total, from, from-next}
-use Rattle.loop_law.proofs.Sums.{from-later, from-le, from-skip, from-split}
-use Rattle.loop_law.proofs.Nests.{inside, inside-self, inside-short, inside-outer, inside-before, opener-before}
-use Rattle.loop_law.proofs.Nests.{first-place}
-use Rattle.loop_law.proofs.Shares.{share-self, share-split}
+use Rattle.code_rules.specs.Inner.Course.{Cost, nothing, plus, value, Bracket, level, opens_over_part, opens_over_data}
+use Rattle.code_rules.specs.Inner.Course.{ends, Course, nest_after, nest, of_turns, share, region, budget}
+use Rattle.code_rules.specs.Inner.Run.{Loop, State, item_size, sum_of, Fit, GoesAhead, Enters, Repeats, Leaves, GoesBy}
+use Rattle.code_rules.specs.Inner.Run.{Goes, cost_at, Runs, first}
+use Rattle.code_rules.proofs.Courses.Sums.{Le, le-of, le-nothing, times-le, value-le, value-plus, total, from}
+use Rattle.code_rules.proofs.Courses.Sums.{from-next, from-later, from-le, from-skip, from-split}
+use Rattle.code_rules.proofs.Courses.Nests.{inside, inside-self, inside-short, inside-outer, inside-before}
+use Rattle.code_rules.proofs.Courses.Nests.{opener-before, first-place}
+use Rattle.code_rules.proofs.Courses.Shares.{share-self, share-split}
 
 -- what a place costs, seen from a nest
 abbrev share_at : Course → List ℕ → ℕ → Cost

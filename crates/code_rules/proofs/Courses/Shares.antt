@@ -2,9 +2,10 @@
 use Rattle.std.proofs.Common.{◌≡◌, ℕ, Bool, true, false, true≢false, List, [], ◌∷◌, length, drop, refl}
 use Rattle.std.proofs.Common.{sym, ap, ◌∙◌, subst, arith}
 use Rattle.std.specs.Prelude.{if◌then◌else◌, ◌||◌}
-use Rattle.loop_law.specs.Inner.Course.{Cost, nothing, plus, of_turns, Course, same_nest, share}
-use Rattle.loop_law.proofs.Sums.{Le, turns-nothing}
-use Rattle.loop_law.proofs.Nests.{same-refl, same-true, differ-length, first_or, or-false, inside, inside-length}
+use Rattle.code_rules.specs.Inner.Course.{Cost, nothing, plus, of_turns, Course, same_nest, share}
+use Rattle.code_rules.proofs.Courses.Sums.{Le, turns-nothing}
+use Rattle.code_rules.proofs.Courses.Nests.{same-refl, same-true, differ-length, first_or, or-false, inside}
+use Rattle.code_rules.proofs.Courses.Nests.{inside-length}
 
 pub share-self : (c : Course) (ns : List ℕ) (k : Cost) → share c ns ns k ≡ k
 share-self c [] k = refl

@@ -1,3 +1,4 @@
+-- The law of nested loops.
 mod Sums
 pub mod Nests
 mod Shares
