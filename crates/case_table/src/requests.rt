@@ -1,6 +1,6 @@
 //! Requests.
 
-use case_table::words::{parts, value};
+use crate::words::{parts, value};
 use http_header::{HeaderName, HeaderValue};
 use mock_request::snapshot::Snapshot;
 use std::alloc::{AllocError, Global};

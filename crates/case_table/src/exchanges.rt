@@ -1,8 +1,8 @@
 //! Exchanges that are recorded.
 
 use crate::requests::request_of;
+use crate::words::value;
 use bytes::Bytes;
-use case_table::words::value;
 use mapping_model::reply::Reply;
 use plain_text::items::Items;
 use recorder::exchange::{Exchange, SharedExchange};

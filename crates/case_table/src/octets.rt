@@ -1,6 +1,6 @@
 //! Bytes in cells: UTF-8 text as it is, other bytes as two digits each, after `hex`.
 
-use case_table::cells::Cells;
+use crate::cells::Cells;
 use std::alloc::{AllocError, Global};
 use std::str;
 
