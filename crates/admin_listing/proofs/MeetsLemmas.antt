@@ -38,8 +38,8 @@ use Rattle.path_template.specs.Matching.{bindings_of}
 use Rattle.regex.specs.Patterns.{find_str, default_config}
 use Rattle.regex_syntax.specs.Grammar.{read}
 use Rattle.request_match.specs.Matching.{MeetsMethod, MeetsRequest}
-use Rattle.request_parts.specs.Matching.{found_text, MeetsAny, MeetPairs, MeetHeaders, MeetsUrl, MeetsAtPath}
-use Rattle.request_parts.specs.Matching.{MeetsBody}
+use Rattle.request_match.specs.Parts.Matching.{found_text, MeetsAny, MeetPairs, MeetHeaders, MeetsUrl, MeetsAtPath}
+use Rattle.request_match.specs.Parts.Matching.{MeetsBody}
 use Rattle.value_match.specs.Matching.{Matches, MatchesValue}
 use Rattle.value_match.specs.Patterns.{whole_of, FindsIn}
 use Rattle.value_match.specs.declared.value_spec.ValueSpec.{ValueSpec}

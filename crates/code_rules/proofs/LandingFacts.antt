@@ -8,7 +8,7 @@ use Rattle.std.specs.List.{list_all}
 use Rattle.std.proofs.lemmas.Bool.{lt-ltb, le-ltb, ne_eqb}
 use Rattle.std.proofs.lemmas.Bool.Decides.{nat_tests}
 use Rattle.std.proofs.lemmas.Option.{slice_get_cases, slice_get_within}
-use Rattle.loop_law.proofs.Nests.{same-refl}
+use Rattle.code_rules.proofs.Courses.Nests.{same-refl}
 use Rattle.helper_set.specs.declared.kind.Kind.{Kind}
 use Rattle.template_code.specs.Code.{StackCode}
 use Rattle.template_code.specs.Instructions.{flow, target_of, is_misplaced, names_entries, loop_named, pops, pushes}

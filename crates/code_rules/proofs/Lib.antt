@@ -1,3 +1,4 @@
+pub mod Courses
 pub mod PolynomialFacts
 pub mod CostFacts
 pub mod NestFacts

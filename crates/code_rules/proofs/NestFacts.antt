@@ -2,15 +2,16 @@
 use Rattle.std.proofs.Common.{◌≡◌, ℕ, zero, suc, List, ◌∷◌, length, Option, Some, None, refl, sym, ap}
 use Rattle.std.proofs.Common.{◌∙◌}
 use Rattle.std.specs.Prelude.{slice_get, Bool}
-use Rattle.loop_law.specs.Inner.Course.{Cost, Bracket, level, opens_over_part, opens_over_data, ends, Course, nothing, nest}
-use Rattle.loop_law.proofs.Nests.{opened-from}
+use Rattle.code_rules.specs.Inner.Course.{Cost, Bracket, level, opens_over_part, opens_over_data, ends, Course, nothing}
+use Rattle.code_rules.specs.Inner.Course.{nest}
+use Rattle.code_rules.proofs.Courses.Nests.{opened-from}
 use Rattle.template_code.specs.Code.{StackCode}
 use Rattle.template_code.specs.Instructions.{flow}
 use Rattle.template_code.specs.declared.flow.Flow.{Flow}
 use Rattle.template_code.specs.declared.instr.Instr.{Instr}
 use Rattle.code_rules.specs.Costs.{goes_over_part}
 use Rattle.code_rules.specs.Table.{nest_after, entry_at}
-use Rattle.loop_law.specs.Inner.Course as course
+use Rattle.code_rules.specs.Inner.Course as course
 
 abbrev pub opening : Bool → Bracket
 opening Bool.true = opens_over_part

@@ -5,8 +5,8 @@ use Rattle.std.proofs.Common.{subst, ⊎_elim, arith, length-append}
 use Rattle.std.specs.Prelude.{slice_get, not}
 use Rattle.std.specs.Option.{option_map_or}
 use Rattle.std.proofs.lemmas.Option.{slice_get_cases}
-use Rattle.loop_law.specs.Inner.Course as course
-use Rattle.loop_law.proofs.Nests.{opened-from, opener-before}
+use Rattle.code_rules.specs.Inner.Course as course
+use Rattle.code_rules.proofs.Courses.Nests.{opened-from, opener-before}
 use Rattle.helper_set.specs.Helpers.{argument_kinds, result_kind, signature_of}
 use Rattle.helper_set.specs.declared.kind.Kind.{Kind}
 use Rattle.helper_set.specs.declared.signature.Growth.{Growth}

@@ -4,9 +4,9 @@ use Rattle.std.proofs.Common.{true≢false, List, [], ◌∷◌, ◌++◌, lengt
 use Rattle.std.proofs.Common.{◌∙◌, subst, arith}
 use Rattle.std.specs.Prelude.{◌||◌, if◌then◌else◌, slice_get}
 use Rattle.std.proofs.lemmas.Option.{none-some, same_Some}
-use Rattle.loop_law.specs.Inner.Course as course
-use Rattle.loop_law.proofs.Nests.{same-refl, same-true, differ-length, first_or, or-false, inside, inside-self}
-use Rattle.loop_law.proofs.Nests.{inside-length, inside-before, opener-before, below-outside}
+use Rattle.code_rules.specs.Inner.Course as course
+use Rattle.code_rules.proofs.Courses.Nests.{same-refl, same-true, differ-length, first_or, or-false, inside}
+use Rattle.code_rules.proofs.Courses.Nests.{inside-self, inside-length, inside-before, opener-before, below-outside}
 use Rattle.template_code.specs.Code.{StackCode}
 use Rattle.template_code.specs.declared.instr.Instr.{Instr}
 use Rattle.code_rules.specs.Bounds.{Bound}

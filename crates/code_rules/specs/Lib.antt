@@ -6,3 +6,4 @@ pub mod Rules
 pub mod Regions
 pub mod Verdict
 pub mod Laws
+pub mod Inner

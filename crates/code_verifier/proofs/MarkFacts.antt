@@ -6,7 +6,7 @@ use Rattle.std.specs.List.{list_all}
 use Rattle.std.proofs.lemmas.Bool.Decides.{nat_tests}
 use Rattle.std.proofs.lemmas.List.{length-set, get_or-set_same, get_or-set_other, get_or-replicate}
 use Rattle.std.proofs.lemmas.Option.{unwrap_or-slice_get}
-use Rattle.loop_law.proofs.Nests.{same-refl}
+use Rattle.code_rules.proofs.Courses.Nests.{same-refl}
 use Rattle.template_code.specs.Code.{StackCode}
 use Rattle.code_rules.specs.Costs.{is_empty}
 use Rattle.code_rules.specs.Rules.{is_target, jumps_among, same_nest}

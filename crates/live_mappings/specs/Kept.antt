@@ -10,9 +10,9 @@ use Rattle.mapping_model.specs.Priority.{priority_of}
 use Rattle.mapping_model.specs.declared.mapping_spec.MappingSpec.{MappingSpec}
 use Rattle.request_journal.specs.Past.{Placed, has_id, placed_from}
 use Rattle.request_journal.specs.declared.mapping.Mapping.{Mapping}
-use Rattle.request_parts.specs.Key.{key_of}
-use Rattle.request_parts.specs.declared.url_key.UrlKey.{UrlKey}
-use Rattle.request_parts.specs.declared.url_key.UrlKey.TheVariants as key
+use Rattle.request_match.specs.Parts.Key.{key_of}
+use Rattle.request_match.specs.declared.url_key.UrlKey.{UrlKey}
+use Rattle.request_match.specs.declared.url_key.UrlKey.TheVariants as key
 use Rattle.live_mappings.specs.declared.entry.Entry.{Entry}
 use Rattle.live_mappings.specs.declared.entry.Source.{Source}
 use Rattle.live_mappings.specs.declared.entry.Source.TheVariants.{Own, Default}

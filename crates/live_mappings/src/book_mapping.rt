@@ -2,14 +2,14 @@
 ghost use Rattle.std.specs.Prelude.{◌≡◌, ◌↔◌, IfOk, IsTrue};
 ghost use Rattle.mock_request.specs.Request.{Request};
 ghost use Rattle.request_match.specs.Matching.{MeetsRequest};
-ghost use Rattle.request_parts.specs.Key.{MayHave, key_of};
+ghost use Rattle.request_match.specs.Parts.Key.{MayHave, key_of};
 
 use mapping_model::mapping_id::MappingId;
 use request_journal::mapping::Mapping;
 use request_match::parsed_request::ParsedRequest;
 use request_match::ready_mapping::ReadyMapping;
 use request_match::shared_spec::SharedSpec;
-use request_parts::url_key::UrlKey;
+use request_match::url_key::UrlKey;
 use std::alloc::{AllocError, AllocFailed, Global};
 use std::marker::Model;
 

@@ -6,7 +6,7 @@ ghost use Rattle.live_mappings.specs.Kept.{choice_order, hash_in, key_order, kin
 use crate::book_mapping::BookMapping;
 use mapping_model::mapping_id::MappingId;
 use mapping_model::mapping_spec::MappingSpec;
-use request_parts::url_key::UrlKey;
+use request_match::url_key::UrlKey;
 use std::cmp::Ordering;
 use std::snapshot::Snapshot;
 

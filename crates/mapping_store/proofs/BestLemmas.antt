@@ -14,7 +14,7 @@ use Rattle.live_mappings.specs.Kept.{choice_order, key_order, IsBefore, IsFirst}
 use Rattle.live_mappings.proofs.OrderLemmas.{choice_total, key_total, not_beaten_itself}
 use Rattle.live_mappings.proofs.RankLemmas.{less_than}
 use Rattle.mapping_store.specs.Inner.Best.{IsBest, IsBestAt, IsBetterOf, IsNone}
-use Rattle.request_parts.specs.declared.url_key.UrlKey.{UrlKey}
+use Rattle.request_match.specs.declared.url_key.UrlKey.{UrlKey}
 
 -- ---- a total order
 

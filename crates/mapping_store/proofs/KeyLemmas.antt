@@ -6,10 +6,10 @@ use Rattle.mock_request.specs.Request.{Request}
 use Rattle.mock_request.specs.Url.{path_of}
 use Rattle.request_journal.specs.Choice.{IsEligible}
 use Rattle.request_journal.specs.declared.mapping.Mapping.{Mapping}
-use Rattle.request_parts.specs.Key.{hash_of, key_of}
-use Rattle.request_parts.specs.Matching.{MeetsUrl}
-use Rattle.request_parts.specs.declared.url_key.UrlKey.{UrlKey}
-use Rattle.request_parts.specs.declared.url_key.UrlKey.TheVariants as key
+use Rattle.request_match.specs.Parts.Key.{hash_of, key_of}
+use Rattle.request_match.specs.Parts.Matching.{MeetsUrl}
+use Rattle.request_match.specs.declared.url_key.UrlKey.{UrlKey}
+use Rattle.request_match.specs.declared.url_key.UrlKey.TheVariants as key
 use Rattle.live_mappings.specs.declared.entry.Entry.{Entry}
 use Rattle.live_mappings.specs.Kept.{Fits, placed_of}
 

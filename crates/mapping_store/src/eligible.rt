@@ -14,7 +14,7 @@ use live_mappings::entry::{Entry, Source, key_order};
 use mapping_model::scenario_spec::ScenarioSpec;
 use request_match::parsed_request::ParsedRequest;
 use request_match::shared_spec::SharedSpec;
-use request_parts::url_key::UrlKey;
+use request_match::url_key::UrlKey;
 use scenario_core::scenarios::Scenarios;
 use std::alloc::AllocError;
 

@@ -19,7 +19,7 @@ use Rattle.path_template.specs.Matching.{Binding, bindings_of}
 use Rattle.request_journal.specs.Choice.{IsEligible, IsReady}
 use Rattle.request_journal.specs.declared.mapping.Mapping.{Mapping}
 use Rattle.request_match.specs.Matching.{MeetsMethod}
-use Rattle.request_parts.specs.Matching.{MeetsAny, MeetsUrl, MeetPairs}
+use Rattle.request_match.specs.Parts.Matching.{MeetsAny, MeetsUrl, MeetPairs}
 
 -- the parameters, by what the template binds
 bound_from : (found : Option (List Binding)) (parameters : List NamedMatcher)

@@ -10,7 +10,7 @@ use Rattle.mock_request.specs.HeaderFields.{texts_of}
 use Rattle.mock_request.specs.Request.{Request}
 use Rattle.mock_request.specs.Values.{values_of}
 use Rattle.path_template.specs.Matching.{Binding}
-use Rattle.request_parts.specs.Matching.{MeetsAny, MeetHeaders, MeetPairs}
+use Rattle.request_match.specs.Parts.Matching.{MeetsAny, MeetHeaders, MeetPairs}
 
 pub by_header : (T : Type 0) (m : NamedMatcher) (request : Request) (tests : List NamedMatcher)
     → tests ≡ m ∷ [] → T ↔ MeetHeaders tests request → T ↔ MeetsAny m.matcher (values_in Header m.name request)

@@ -20,7 +20,7 @@ use Rattle.mock_request.specs.Values.{values_of}
 use Rattle.path_template.specs.Matching.{bindings_of}
 use Rattle.request_journal.specs.Choice.{IsReady}
 use Rattle.request_match.specs.Matching.{MeetsMethod}
-use Rattle.request_parts.specs.Matching.{MeetsAny, MeetsUrl, MeetsBody}
+use Rattle.request_match.specs.Parts.Matching.{MeetsAny, MeetsUrl, MeetsBody}
 
 -- ---- the conditions, in the order: method, URL, headers, query, cookies, path parameters, body, scenario
 

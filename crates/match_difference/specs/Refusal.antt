@@ -5,9 +5,9 @@ use Rattle.mapping_model.specs.declared.named_matcher.NamedMatcher.{NamedMatcher
 use Rattle.match_difference.specs.declared.condition.Condition.{Condition}
 use Rattle.match_difference.specs.declared.condition.Condition.TheVariants as condition
 use Rattle.path_template.specs.Template.{IsTemplate}
-use Rattle.request_parts.specs.Refusal.{IsUrlRefusal, IsBodyRefusal}
-use Rattle.request_parts.specs.declared.error.RequestMatchError.{RequestMatchError}
-use Rattle.request_parts.specs.declared.error.RequestMatchError.TheVariants.{BadUrl, BadPattern, OutOfMemory}
+use Rattle.request_match.specs.Parts.Refusal.{IsUrlRefusal, IsBodyRefusal}
+use Rattle.request_match.specs.declared.error.RequestMatchError.{RequestMatchError}
+use Rattle.request_match.specs.declared.error.RequestMatchError.TheVariants.{BadUrl, BadPattern, OutOfMemory}
 use Rattle.value_match.specs.Refusal.{MayBeRefused}
 
 abbrev pub IsNamedRefusal : NamedMatcher → RequestMatchError → Type 0

@@ -5,7 +5,7 @@ ghost use Rattle.match_difference.specs.Refusal.{IsConditionRefusal, IsDifferenc
 ghost use Rattle.match_difference.specs.Inner.Added.{IsAdded};
 ghost use Rattle.match_difference.specs.Unmet.{AreUnmet};
 ghost use Rattle.request_journal.specs.Choice.{IsEligible};
-ghost use Rattle.request_parts.specs.declared.error.RequestMatchError.TheVariants.{OutOfMemory as NoMemory};
+ghost use Rattle.request_match.specs.declared.error.RequestMatchError.TheVariants.{OutOfMemory as NoMemory};
 ghost use Rattle.scenario_core.specs.Scenarios.{state_of};
 
 use crate::condition::Condition;
@@ -14,8 +14,8 @@ use crate::found::Found;
 use crate::look_up::found_of;
 use crate::met::is_met;
 use request_journal::mapping::Mapping;
-use request_parts::error::RequestMatchError;
-use request_parts::parsed_request::ParsedRequest;
+use request_match::error::RequestMatchError;
+use request_match::parsed_request::ParsedRequest;
 use scenario_core::scenarios::Scenarios;
 use std::alloc::{AllocError, Global};
 

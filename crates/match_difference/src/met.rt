@@ -5,8 +5,8 @@ ghost use Rattle.match_difference.specs.Refusal.{IsConditionRefusal, IsNamedRefu
 ghost use Rattle.match_difference.specs.declared.condition.Condition.TheVariants as condition;
 ghost use Rattle.request_journal.specs.Choice.{IsReady};
 ghost use Rattle.request_match.specs.Matching.{MeetsMethod};
-ghost use Rattle.request_parts.specs.Matching.{MeetsAny, MeetsBody, MeetsUrl};
-ghost use Rattle.request_parts.specs.Refusal.{IsBodyRefusal, IsUrlRefusal};
+ghost use Rattle.request_match.specs.Parts.Matching.{MeetsAny, MeetsBody, MeetsUrl};
+ghost use Rattle.request_match.specs.Parts.Refusal.{IsBodyRefusal, IsUrlRefusal};
 ghost use Rattle.scenario_core.specs.Scenarios.{state_of};
 
 use crate::condition::{Condition, Source};
@@ -16,11 +16,11 @@ use mapping_model::scenario_spec::ScenarioSpec;
 use mapping_model::url_spec::UrlSpec;
 use path_template::path_template::PathTemplate;
 use plain_text::text::Text;
-use request_parts::body_test::{build_body, meet_body};
-use request_parts::error::RequestMatchError;
-use request_parts::named_test::{NamedTest, build_tests, meet_pairs};
-use request_parts::parsed_request::ParsedRequest;
-use request_parts::url_test::UrlTest;
+use request_match::body_test::{build_body, meet_body};
+use request_match::error::RequestMatchError;
+use request_match::named_test::{NamedTest, build_tests, meet_pairs};
+use request_match::parsed_request::ParsedRequest;
+use request_match::url_test::UrlTest;
 use scenario_core::scenarios::Scenarios;
 use std::alloc::Global;
 use std::slice;

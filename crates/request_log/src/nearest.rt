@@ -6,9 +6,9 @@ use match_difference::difference::{Difference, differences};
 use match_difference::said::line_of;
 use mock_request::snapshot::Snapshot;
 use request_journal::mapping::Mapping;
+use request_match::error::RequestMatchError;
 use request_match::parsed_request::ParsedRequest;
-use request_parts::error::RequestMatchError;
-use request_parts::url_test::UrlTest;
+use request_match::url_test::UrlTest;
 use scenario_core::scenarios::Scenarios;
 use std::alloc::{AllocError, Global};
 

@@ -3,12 +3,12 @@ use Rattle.std.proofs.Common.{◌≡◌, ◌++◌, All, Any, refl, inl, inr}
 use Rattle.std.proofs.lemmas.List.Elements.{All-append}
 use Rattle.mapping_model.specs.declared.request_spec.RequestSpec.{RequestSpec}
 use Rattle.request_match.specs.Refusal.{IsRefusal, head_matchers}
-use Rattle.request_parts.proofs.AnyLemmas.{any_left, any_right}
-use Rattle.request_parts.specs.Errors.{error_of_value}
-use Rattle.request_parts.specs.Refusal.{HasTemplate, IsUrlRefusal, IsBodyRefusal, matchers_of, url_matchers}
-use Rattle.request_parts.specs.declared.error.RequestMatchError.{RequestMatchError}
-use Rattle.request_parts.specs.declared.error.RequestMatchError.TheVariants.{BadUrl, BadPattern, NotJson}
-use Rattle.request_parts.specs.declared.error.RequestMatchError.TheVariants.{NumberNotWhole, BadPath, OutOfMemory}
+use Rattle.request_match.proofs.AnyLemmas.{any_left, any_right}
+use Rattle.request_match.specs.Errors.{error_of_value}
+use Rattle.request_match.specs.Parts.Refusal.{HasTemplate, IsUrlRefusal, IsBodyRefusal, matchers_of, url_matchers}
+use Rattle.request_match.specs.declared.error.RequestMatchError.{RequestMatchError}
+use Rattle.request_match.specs.declared.error.RequestMatchError.TheVariants.{BadUrl, BadPattern, NotJson}
+use Rattle.request_match.specs.declared.error.RequestMatchError.TheVariants.{NumberNotWhole, BadPath, OutOfMemory}
 use Rattle.value_match.specs.Refusal.{HasPattern, MayBeRefused}
 use Rattle.value_match.specs.declared.error.ValueError.{ValueError}
 use Rattle.value_match.specs.declared.error.ValueError.TheVariants as value

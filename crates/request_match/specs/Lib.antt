@@ -1,5 +1,6 @@
+pub mod Parts
 pub mod Matching
 pub mod Refusal
 pub mod Literal
+pub mod Errors
 pub mod Inner
-pub use Rattle.request_parts.specs.Errors

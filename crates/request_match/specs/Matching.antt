@@ -5,7 +5,7 @@ use Rattle.mapping_model.specs.declared.request_spec.RequestSpec.{RequestSpec}
 use Rattle.mock_request.specs.Cookies.{cookie_pairs}
 use Rattle.mock_request.specs.Query.{query_pairs}
 use Rattle.mock_request.specs.Request.{Request}
-use Rattle.request_parts.specs.Matching.{MeetsUrl, MeetHeaders, MeetPairs, MeetsBody}
+use Rattle.request_match.specs.Parts.Matching.{MeetsUrl, MeetHeaders, MeetPairs, MeetsBody}
 
 -- an absent method and `ANY` are met by each method
 abbrev pub MeetsMethod : Option (List ℕ) → List ℕ → Type 0

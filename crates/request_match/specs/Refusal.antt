@@ -3,11 +3,11 @@
 -- a bad pattern where there is a pattern at all: no contract of `regex` says which are too big.
 use Rattle.std.specs.Prelude.{◌⊎◌, List, ◌++◌, All, Any}
 use Rattle.mapping_model.specs.declared.request_spec.RequestSpec.{RequestSpec}
-use Rattle.request_parts.specs.Refusal.{HasTemplate, url_matchers, matchers_of, IsBodyRefusal, HavePatterns, HaveTrees}
-use Rattle.request_parts.specs.Refusal.{HavePaths}
-use Rattle.request_parts.specs.declared.error.RequestMatchError.{RequestMatchError}
-use Rattle.request_parts.specs.declared.error.RequestMatchError.TheVariants.{BadUrl, BadPattern, NotJson}
-use Rattle.request_parts.specs.declared.error.RequestMatchError.TheVariants.{NumberNotWhole, BadPath, OutOfMemory}
+use Rattle.request_match.specs.Parts.Refusal.{HasTemplate, url_matchers, matchers_of, IsBodyRefusal, HavePatterns}
+use Rattle.request_match.specs.Parts.Refusal.{HaveTrees, HavePaths}
+use Rattle.request_match.specs.declared.error.RequestMatchError.{RequestMatchError}
+use Rattle.request_match.specs.declared.error.RequestMatchError.TheVariants.{BadUrl, BadPattern, NotJson}
+use Rattle.request_match.specs.declared.error.RequestMatchError.TheVariants.{NumberNotWhole, BadPath, OutOfMemory}
 use Rattle.value_match.specs.Refusal.{HasPattern, MayBeRefused}
 use Rattle.value_match.specs.declared.value_spec.ValueSpec.{ValueSpec}
 

@@ -1,5 +1,4 @@
-// The literal URL of a request matcher.
-pub use request_parts::literal_kind::LiteralKind;
+use crate::literal_kind::LiteralKind;
 
 /// The literal URL of a matcher, and the method if the matcher asks for one.
 #[derive(Clone, Copy)]

@@ -3,11 +3,11 @@ ghost use Rattle.std.specs.Prelude.{◌≡◌, ◌↔◌, IfOk, IfErr, OnOk, IsT
 ghost use Rattle.request_match.specs.Matching.{MeetsRequest};
 ghost use Rattle.request_match.specs.Refusal.{CanBeBuilt, IsRefusal};
 
+use crate::error::RequestMatchError;
+use crate::parsed_request::ParsedRequest;
 use crate::request_matcher::RequestMatcher;
 use crate::shared_spec::SharedSpec;
 use mapping_model::mapping_spec::MappingSpec;
-use request_parts::error::RequestMatchError;
-use request_parts::parsed_request::ParsedRequest;
 use std::alloc::{AllocError, Global};
 use std::marker::Model;
 

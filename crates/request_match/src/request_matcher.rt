@@ -5,18 +5,18 @@ ghost use Rattle.request_match.specs.Inner.Heads.{MeetsHead};
 ghost use Rattle.request_match.specs.Literal.{method_of};
 ghost use Rattle.request_match.specs.Matching.{MeetsRequest, MeetsMethod};
 ghost use Rattle.request_match.specs.Refusal.{CanBeBuilt, IsRefusal};
-ghost use Rattle.request_parts.specs.Key.{MayHave, key_of};
-ghost use Rattle.request_parts.specs.Literal.{literal_url, text_of};
+ghost use Rattle.request_match.specs.Parts.Key.{MayHave, key_of};
+ghost use Rattle.request_match.specs.Parts.Literal.{literal_url, text_of};
 
+use crate::body_test::{BodyTest, build_body, meet_body};
+use crate::error::RequestMatchError;
 use crate::literal::Literal;
+use crate::named_test::{NamedTest, build_tests};
+use crate::parsed_request::ParsedRequest;
+use crate::url_key::UrlKey;
+use crate::url_test::UrlTest;
 use mapping_model::request_spec::RequestSpec;
 use plain_text::text::Text;
-use request_parts::body_test::{BodyTest, build_body, meet_body};
-use request_parts::error::RequestMatchError;
-use request_parts::named_test::{NamedTest, build_tests};
-use request_parts::parsed_request::ParsedRequest;
-use request_parts::url_key::UrlKey;
-use request_parts::url_test::UrlTest;
 use std::alloc::{AllocError, Global};
 use std::marker::Model;
 

@@ -4,8 +4,8 @@
 use Rattle.std.proofs.Common.{◌≡◌, ℕ, zero, suc, Bool, true, false, List, [], ◌∷◌, length}
 use Rattle.std.proofs.Common.{Option, Some, None, refl, sym, ap, ◌∙◌}
 use Rattle.std.specs.Prelude.{slice_get, if◌then◌else◌}
-use Rattle.loop_law.specs.Inner.Course as course
-use Rattle.loop_law.specs.Inner.Course.{Course, Bracket}
+use Rattle.code_rules.specs.Inner.Course as course
+use Rattle.code_rules.specs.Inner.Course.{Course, Bracket}
 use Rattle.template_code.specs.Code.{StackCode}
 use Rattle.template_code.specs.Instructions.{flow}
 use Rattle.template_code.specs.declared.flow.Flow.{Flow}

@@ -5,9 +5,9 @@ use Rattle.std.proofs.Common.{◌≡◌, ℕ, suc, ◌<◌, ◌≤◌, Bool, tru
 use Rattle.std.proofs.Common.{◌∷◌, ◌++◌, length, drop, map, Some, refl, sym, ap, ◌∙◌, subst, arith}
 use Rattle.std.specs.Prelude.{slice_get, if◌then◌else◌}
 use Rattle.std.proofs.lemmas.Option.{none-some}
-use Rattle.loop_law.specs.Inner.Course as course
-use Rattle.loop_law.specs.Inner.Course.{Course}
-use Rattle.loop_law.proofs.Nests.{first-place}
+use Rattle.code_rules.specs.Inner.Course as course
+use Rattle.code_rules.specs.Inner.Course.{Course}
+use Rattle.code_rules.proofs.Courses.Nests.{first-place}
 use Rattle.data_tree.specs.Tree.{Tree}
 use Rattle.helper_set.specs.Values.{Value, kind_of}
 use Rattle.template_code.specs.Code.{StackCode}

@@ -14,10 +14,10 @@ use Rattle.recorder.specs.Key.{headers_named}
 use Rattle.recorder.specs.Stubs.{body_pattern, first_value, header_matcher, mappings_of, numbered, request_of}
 use Rattle.recorder.specs.declared.exchange.Exchange.{Exchange}
 use Rattle.request_match.specs.Refusal.{IsRefusal, head_matchers}
-use Rattle.request_parts.specs.Refusal.{IsBodyRefusal, matcher_in, matchers_of, path_in, text_in}
-use Rattle.request_parts.specs.declared.error.RequestMatchError.{RequestMatchError}
-use Rattle.request_parts.specs.declared.error.RequestMatchError.TheVariants.{BadUrl, BadPattern, NotJson}
-use Rattle.request_parts.specs.declared.error.RequestMatchError.TheVariants.{NumberNotWhole, BadPath, OutOfMemory}
+use Rattle.request_match.specs.Parts.Refusal.{IsBodyRefusal, matcher_in, matchers_of, path_in, text_in}
+use Rattle.request_match.specs.declared.error.RequestMatchError.{RequestMatchError}
+use Rattle.request_match.specs.declared.error.RequestMatchError.TheVariants.{BadUrl, BadPattern, NotJson}
+use Rattle.request_match.specs.declared.error.RequestMatchError.TheVariants.{NumberNotWhole, BadPath, OutOfMemory}
 use Rattle.value_match.specs.Refusal.{MayBeRefused}
 use Rattle.value_match.specs.declared.value_spec.ValueSpec.{ValueSpec}
 use Rattle.value_match.specs.declared.value_spec.ValueSpec.TheVariants as value

@@ -22,7 +22,7 @@ use Rattle.recorder.specs.Stubs.{body_pattern, first_value, header_matcher, is_k
 use Rattle.recorder.specs.Stubs.{request_of}
 use Rattle.recorder.specs.declared.exchange.Exchange.{Exchange}
 use Rattle.request_match.specs.Matching.{MeetsRequest}
-use Rattle.request_parts.specs.Matching.{MeetHeaders, MeetsAny, MeetsBody}
+use Rattle.request_match.specs.Parts.Matching.{MeetHeaders, MeetsAny, MeetsBody}
 use Rattle.value_match.specs.declared.value_spec.ValueSpec.TheVariants as value
 use Rattle.world_core.proofs.ListFacts.{all_first, all_more, all_none, all_rest}
 

@@ -28,7 +28,7 @@ use Rattle.mock_request.specs.Values.{values_of}
 use Rattle.path_template.specs.Matching.{bindings_of}
 use Rattle.regex.specs.Patterns.{find_str, default_config}
 use Rattle.regex_syntax.specs.Grammar.{read}
-use Rattle.request_parts.specs.Matching.{found_text}
+use Rattle.request_match.specs.Parts.Matching.{found_text}
 use Rattle.value_match.specs.Patterns.{whole_of}
 use Rattle.value_match.specs.declared.value_spec.ValueSpec.{ValueSpec}
 use Rattle.value_match.specs.declared.value_spec.ValueSpec.TheVariants as value

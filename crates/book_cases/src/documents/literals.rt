@@ -4,7 +4,8 @@ use crate::documents::answers::refused;
 use case_table::row::add_cell;
 use mapping_json::read_request::read_request;
 use mapping_json::request_error::RequestDocumentError;
-use request_match::literal::{Literal, LiteralKind};
+use request_match::literal::Literal;
+use request_match::literal_kind::LiteralKind;
 use request_match::request_matcher::RequestMatcher;
 use std::alloc::{AllocError, Global};
 

@@ -4,7 +4,7 @@ use Rattle.mock_request.specs.Cookies.{cookie_pairs}
 use Rattle.mock_request.specs.Query.{query_pairs}
 use Rattle.mock_request.specs.Request.{Request}
 use Rattle.request_match.specs.Matching.{MeetsMethod}
-use Rattle.request_parts.specs.Matching.{MeetsUrl, MeetHeaders, MeetPairs}
+use Rattle.request_match.specs.Parts.Matching.{MeetsUrl, MeetHeaders, MeetPairs}
 
 -- the request meets each part but those of its body
 pub record MeetsHead (matcher : RequestSpec) (request : Request) : Type 0 where

@@ -2,8 +2,8 @@
 use Rattle.std.specs.Prelude.{◌≡◌}
 use Rattle.mapping_model.specs.declared.mapping_spec.MappingSpec.{MappingSpec}
 use Rattle.request_match.specs.Refusal.{IsRefusal}
-use Rattle.request_parts.specs.declared.error.RequestMatchError.{RequestMatchError}
-use Rattle.request_parts.specs.declared.error.RequestMatchError.TheVariants.{OutOfMemory}
+use Rattle.request_match.specs.declared.error.RequestMatchError.{RequestMatchError}
+use Rattle.request_match.specs.declared.error.RequestMatchError.TheVariants.{OutOfMemory}
 
 -- its matcher is refused for want of memory alone
 abbrev pub LacksOnlyMemory : MappingSpec → Type 0

@@ -2,8 +2,8 @@ use Rattle.std.proofs.Common.{◌≡◌, ◌⊎◌, ◌∙◌, ℕ, List}
 use Rattle.mapping_model.specs.declared.url_spec.UrlSpec.TheVariants.{Url, UrlPath}
 use Rattle.mock_request.specs.Url.{path_of}
 use Rattle.request_journal.specs.Choice.{IsEligible}
-use Rattle.request_parts.specs.Key.{key_of}
-use Rattle.request_parts.specs.declared.url_key.UrlKey.TheVariants.{Any}
+use Rattle.request_match.specs.Parts.Key.{key_of}
+use Rattle.request_match.specs.declared.url_key.UrlKey.TheVariants.{Any}
 use Rattle.scenario_core.specs.Scenarios.{state_of}
 use Rattle.live_mappings.specs.declared.entry.Entry.{Entry}
 use Rattle.live_mappings.specs.Kept.{placed_of}

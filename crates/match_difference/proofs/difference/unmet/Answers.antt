@@ -6,7 +6,7 @@ use Rattle.match_difference.specs.Inner.Added.{IsAdded}
 use Rattle.match_difference.specs.Refusal.{IsConditionRefusal}
 use Rattle.match_difference.specs.Unmet.{AreUnmet}
 use Rattle.match_difference.specs.declared.difference.Difference.{Difference}
-use Rattle.request_parts.proofs.AnyLemmas.{any_there}
+use Rattle.request_match.proofs.AnyLemmas.{any_there}
 use Rattle.scenario_core.specs.Scenarios.{state_of}
 use Rattle.match_difference.proofs.difference.unmet.Goals as goal
 

@@ -2,7 +2,7 @@ use Rattle.std.proofs.Common.{◌≡◌, Any, length, map}
 use Rattle.std.specs.Vec.Iter.{into_iter_items, into_iter_len}
 use Rattle.match_difference.proofs.UnmetLemmas.{Unmet_from}
 use Rattle.match_difference.specs.Refusal.{IsConditionRefusal}
-use Rattle.request_parts.specs.declared.error.RequestMatchError.{RequestMatchError}
+use Rattle.request_match.specs.declared.error.RequestMatchError.{RequestMatchError}
 use Rattle.scenario_core.specs.Scenarios.{state_of}
 use Rattle.match_difference.proofs.difference.unmet.Given as goal
 

@@ -3,7 +3,7 @@ use Rattle.std.specs.Prelude.{option_map}
 use Rattle.mock_request.specs.Url.{path_of}
 use Rattle.mock_request.specs.Values.{pairs_of}
 use Rattle.path_template.specs.Matching.{bindings_of}
-use Rattle.request_parts.specs.Matching.{MeetPairs}
+use Rattle.request_match.specs.Parts.Matching.{MeetPairs}
 use Rattle.match_difference.proofs.MetLemmas.{by_bindings}
 use Rattle.match_difference.proofs.met.meets_parameter.Goals as goal
 

@@ -3,9 +3,9 @@ use Rattle.request_match.specs.Refusal.{IsRefusal}
 use Rattle.request_match.proofs.BuildLemmas.{url_error, head_error, head_patterns, body_is_error}
 use Rattle.request_match.proofs.BuildLemmas.{in_headers, in_query, in_cookies}
 use Rattle.request_match.proofs.request_matcher.RequestMatcher.build.Goals as goal
-use Rattle.request_parts.proofs.BodyLemmas.{err_is}
-use Rattle.request_parts.specs.Errors.{error_of_value}
-use Rattle.request_parts.specs.Refusal.{IsBodyRefusal, HavePatterns, HaveTrees, HavePaths, matchers_of}
+use Rattle.request_match.proofs.BodyLemmas.{err_is}
+use Rattle.request_match.specs.Errors.{error_of_value}
+use Rattle.request_match.specs.Parts.Refusal.{IsBodyRefusal, HavePatterns, HaveTrees, HavePaths, matchers_of}
 use Rattle.value_match.specs.Refusal.{HasPattern, MayBeRefused}
 
 pub returns-in_err-build-clause-refusal : goal.returns-in_err-build-clause-refusal

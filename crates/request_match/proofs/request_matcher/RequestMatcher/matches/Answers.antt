@@ -1,7 +1,7 @@
 use Rattle.std.proofs.Common.{◌↔◌, All, IfOk, IsTrue, ap, subst, ◌∙◌}
 use Rattle.request_match.specs.Inner.Heads.{MeetsHead}
-use Rattle.request_parts.specs.Matching.{MeetsBody}
-use Rattle.request_parts.proofs.RestLemmas.{answered}
+use Rattle.request_match.specs.Parts.Matching.{MeetsBody}
+use Rattle.request_match.proofs.RestLemmas.{answered}
 use Rattle.request_match.proofs.request_matcher.RequestMatcher.matches.Goals as goal
 
 pub returns-then-not-branch-clause-answer : goal.returns-then-not-branch-clause-answer

@@ -1,9 +1,9 @@
 use Rattle.std.proofs.Common.{◌↔◌, ap, IfOk, IsTrue, sym, subst, ◌∙◌}
 use Rattle.mock_request.specs.Query.{query_pairs}
 use Rattle.request_match.specs.Matching.{MeetsMethod}
-use Rattle.request_parts.specs.Matching.{MeetsUrl, MeetHeaders, MeetPairs}
+use Rattle.request_match.specs.Parts.Matching.{MeetsUrl, MeetHeaders, MeetPairs}
 use Rattle.mock_request.specs.Cookies.{cookie_pairs}
-use Rattle.request_parts.proofs.RestLemmas.{answered}
+use Rattle.request_match.proofs.RestLemmas.{answered}
 use Rattle.request_match.proofs.request_matcher.RequestMatcher.meets_head.Goals as goal
 
 pub returns-then-not-branch-2-clause-answer : goal.returns-then-not-branch-2-clause-answer

@@ -1,5 +1,0 @@
-mod Sums
-pub mod Nests
-mod Shares
-pub mod Due
-mod Examples

@@ -1,5 +1,0 @@
-pub mod AnyLemmas
-pub mod ErrorLemmas
-pub mod BodyLemmas
-pub mod ReadLemmas
-pub mod RestLemmas

@@ -1,4 +1,0 @@
-pub mod Read
-pub mod Rest
-pub mod Kept
-pub mod FirstError
