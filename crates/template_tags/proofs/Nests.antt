@@ -1,8 +1,9 @@
 -- The pass over a tag's items reads what their parentheses group.
 use Rattle.std.proofs.Common.{◌≡◌, ℕ, suc, min, max, nat_lt, Bool, true, false}
-use Rattle.std.proofs.Common.{List, [], ◌∷◌, ◌++◌, map, Option, Some, None, option_map, Result, Ok, Err, inl, inr}
-use Rattle.std.proofs.Common.{refl, sym, ap, ◌∙◌, arith}
-use Rattle.std.specs.Prelude.{is_some, unwrap_or}
+use Rattle.std.proofs.Common.{List, [], ◌∷◌, ◌++◌, length, map, Option, Some, None, option_map, Result, Ok, Err}
+use Rattle.std.proofs.Common.{inl, inr, refl, sym, ap, ◌∙◌, arith}
+use Rattle.std.specs.Prelude.{not, is_some, unwrap_or}
+use Rattle.std.proofs.Math.Dec.{eqb-suc-zero}
 use Rattle.std.proofs.lemmas.Option.{none-some, same_Some}
 use Rattle.std.proofs.lemmas.Bool.{cases_Bool, ltb-true, ltb-false, lt-ltb}
 use Rattle.helper_set.specs.declared.helper.Helper.{Helper}
@@ -17,7 +18,8 @@ use Rattle.template_tags.specs.Inner.Pieces.{Piece, Parts, word_piece, group_pie
 use Rattle.template_tags.specs.Inner.Pieces.{stack_pieces, tag_parts, word_pieces, greatest, piece_height}
 use Rattle.template_tags.specs.Inner.Pieces.{piece_argument, piece_arguments, piece_helper, piece_call}
 use Rattle.template_tags.specs.Inner.Pieces.{grouped_pieces, group_of_height, piece_before, pieces_before}
-use Rattle.template_tags.specs.Inner.Pieces.{has_piece, extra_parts_error, all_parts_error, block_parts, value_pieces, print_parts}
+use Rattle.template_tags.specs.Inner.Pieces.{has_piece, extra_parts_error, all_parts_error, block_parts, value_pieces}
+use Rattle.template_tags.specs.Inner.Pieces.{print_parts}
 use Rattle.template_tags.specs.Items.{Item, word, left_parenthesis, right_parenthesis}
 use Rattle.template_tags.specs.Inner.TagReads.{value_said, print_read, print_said}
 use Rattle.template_tags.specs.Terms.{Term, single, group, Terms, no_terms, first_term, height, greatest_height}
@@ -206,7 +208,7 @@ unmatched_parts levels items pieces e is =
 
 has_piece_is : (levels : List Level) (ts : Terms) → has_piece (pieces_of levels ts) ≡ has_term ts
 has_piece_is levels no_terms = refl
-has_piece_is levels (first_term t ts) = refl
+has_piece_is levels (first_term t ts) = ap not (eqb-suc-zero (length (pieces_of levels ts)))
 
 pub extra_error_is : (levels : List Level) (items : List Item)
     → extra_parts_error (tag_parts levels items) ≡ extra_error items

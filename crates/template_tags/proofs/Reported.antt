@@ -1,5 +1,5 @@
 -- What is read of a tag part by part is what the tag's value and the list of its errors give.
-use Rattle.std.proofs.Common.{◌≡◌, ℕ, suc, nat_lt, nat_le, ◌==◌, ◌||◌, ◌&&◌, Bool, true, false, List, [], ◌∷◌, ◌++◌}
+use Rattle.std.proofs.Common.{◌≡◌, ℕ, suc, nat_lt, nat_le, ◌||◌, ◌&&◌, Bool, true, false, List, [], ◌∷◌, ◌++◌}
 use Rattle.std.proofs.Common.{length, drop, Option, Some, None, Result, Ok, Err, refl, sym, ap, ◌∙◌, append-nil}
 use Rattle.std.proofs.Common.{append_assoc}
 use Rattle.std.specs.Prelude.{not, is_some, codes, if◌then◌else◌}
@@ -17,7 +17,7 @@ use Rattle.template_words.specs.declared.error.TagError.TheVariants.{UnclosedTag
 use Rattle.template_words.specs.declared.error.TagError.TheVariants.{WrongArguments, TooDeep, BadPath, UnsupportedTag}
 use Rattle.template_words.specs.declared.mode.Mode.TheVariants.{Start}
 use Rattle.template_tags.specs.Blocks.{LoopItems, loop_items, has_names, has_parameters, is_reserved_name}
-use Rattle.template_tags.specs.Blocks.{argument_errors, one_errors, first_value, one_value, test_errors, is_datum}
+use Rattle.template_tags.specs.Blocks.{argument_errors, one_errors, first_value, one_value, test_errors}
 use Rattle.template_tags.specs.Blocks.{datum_in, over_errors, loop_errors, each_errors, awaits_else, extra_errors}
 use Rattle.template_tags.specs.Blocks.{else_errors, is_innermost, close_errors}
 use Rattle.template_tags.specs.Calls.{literal_in, body_value, pair_value, called, helper_in, helper_of, value, values}
@@ -41,7 +41,7 @@ use Rattle.template_tags.specs.Said.{opening_purpose, purpose_of, unsupported, p
 use Rattle.template_tags.specs.Said.{Purpose, has_foreign_mark, printed_errors, printed, print_errors}
 use Rattle.template_tags.specs.Said.{tag_value, purpose_errors, tag_said}
 use Rattle.template_tags.specs.Tags.{Tag, print, open_if, open_each, begin_else, close}
-use Rattle.template_tags.specs.Terms.{Term, single, group, Terms, no_terms, first_term, height, greatest_height}
+use Rattle.template_tags.specs.Terms.{Term, single, group, Terms, no_terms, first_term, greatest_height}
 use Rattle.template_tags.specs.Terms.{terms_in, has_term, is_matched}
 use Rattle.template_tags.specs.Words.{Word, text_word, number_word, truth_word, loop_word, helper_word, foreign_word}
 use Rattle.template_tags.specs.Words.{path_word, wrong_word, word_of, argument_of, word_value, word_errors, is_literal}
@@ -52,7 +52,7 @@ use Rattle.template_tags.specs.declared.level.Level.{Level}
 use Rattle.template_tags.specs.declared.level.TheConstants.{BLOCK_LIMIT, LOOP_LIMIT}
 use Rattle.template_tags.specs.declared.tag.Opening.{Opening}
 use Rattle.template_tags.specs.declared.tag.Opening.TheVariants.{Double, Triple}
-use Rattle.template_tags.proofs.Joins.{joined_assoc, joined_none, earlier_assoc, earlier_same, earlier_back}
+use Rattle.template_tags.proofs.Joins.{joined_assoc, earlier_assoc, earlier_same, earlier_back}
 
 -- ---- the first of errors
 

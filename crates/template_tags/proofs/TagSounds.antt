@@ -17,7 +17,7 @@ use Rattle.template_tags.specs.Blocks.{LoopItems, loop_items}
 use Rattle.template_tags.specs.Inner.BlockReads.{closing_said, all_errors, match_error}
 use Rattle.template_tags.specs.Blocks.{has_names, has_parameters, is_reserved_name}
 use Rattle.template_tags.specs.Inner.CallReads.{beside, error_if, errors_in}
-use Rattle.template_tags.specs.Inner.CallReads.{argument, arguments}
+use Rattle.template_tags.specs.Inner.CallReads.{arguments}
 use Rattle.template_tags.specs.Expression.{Expression, datum, index, key, first, last, number, truth, call, call_two}
 use Rattle.template_tags.specs.Expression as expressions
 use Rattle.template_tags.specs.Levels.{loops_open, block_named}
@@ -41,7 +41,7 @@ use Rattle.template_tags.proofs.Reported.{tag_is}
 use Rattle.template_tags.proofs.Shorts.{ShortTerms, ShortItems, short_terms, short_loop_items}
 use Rattle.template_tags.proofs.Shorts.{short_items_of}
 use Rattle.template_tags.proofs.Sounds.{beside_ok, beside_none, bind_ok, word_fits, Sound, SoundRead, SoundReads}
-use Rattle.template_tags.proofs.Sounds.{higher, value_sound, lone_sound, argument_sound, arguments_sound}
+use Rattle.template_tags.proofs.Sounds.{higher, value_sound, lone_sound, arguments_sound}
 use Rattle.template_tags.proofs.Sounds.{own_call_sound}
 
 module _ (limit : ℕ) (levels : List Level) where
@@ -134,7 +134,13 @@ module _ (limit : ℕ) (levels : List Level) where
   opening_sound (Some Unless) items short = test_sound true items short
   opening_sound (Some Each) items short = each_sound items short
 
-first_else_sound : (limit : ℕ) (levels : List Level) (items : List Item)
+first_else_sound : (limit : ℕ) (levels : List Level) → IfOk (first_else levels) (IsSoundTag limit levels)
+first_else_sound limit [] = tt
+first_else_sound limit (level ∷ levels) =
+    cond_both level.in_else (Err UnexpectedClose) _ (λ said. IfOk said (IsSoundTag limit (level ∷ levels)))
+    (λ t. tt) (λ f. f)
+
+else_sound : (limit : ℕ) (levels : List Level) (items : List Item)
     → IfOk (else_said levels items) (IsSoundTag limit levels)
 else_sound limit levels items =
     beside_ok (IsSoundTag limit levels) (extra_error items) (first_else levels) (first_else_sound limit levels)

@@ -1,6 +1,6 @@
 -- What a tag's parentheses group, as a pass over its items keeps it: groups as what they are read as.
-use Rattle.std.specs.Prelude.{ℕ, ◌==◌, suc, min, max, Bool, not, List, [], ◌∷◌, length, map, Option, Some, None, option_map}
-use Rattle.std.specs.Prelude.{Result, Err, if◌then◌else◌}
+use Rattle.std.specs.Prelude.{ℕ, ◌==◌, suc, min, max, Bool, not, List, [], ◌∷◌, length, map, Option, Some, None}
+use Rattle.std.specs.Prelude.{option_map, Result, Err, if◌then◌else◌}
 use Rattle.helper_set.specs.declared.helper.Helper.{Helper}
 use Rattle.template_words.specs.Errors.{joined}
 use Rattle.template_words.specs.declared.error.TagError.{TagError}
