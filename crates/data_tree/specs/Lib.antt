@@ -7,5 +7,6 @@ pub mod Digits
 pub mod WellFormed
 pub mod Capped
 pub mod RequestData
+pub mod RootPaths
 pub mod Laws
 pub mod Inner

@@ -5,7 +5,9 @@ use Rattle.std.specs.declared.sync.Arc.{Arc}
 use Rattle.http_connections.specs.Sent.{Giver}
 use Rattle.http_connections.specs.declared.seat_pool.SeatPool.{SeatPool}
 use Rattle.http_connections.specs.declared.seat_slot.SeatSlot.{SeatSlot}
+use Rattle.http_connections.specs.declared.serve_on.Server.{Server}
 use Rattle.http_connections.specs.declared.service.MessageService.{MessageService}
+use Rattle.http_connections.specs.declared.settings.Settings.{Settings}
 
 module _ {A Seat Reply Exchange Content : Type 0} where
   -- the site of a slot, and the number that its seat has to have
@@ -18,6 +20,13 @@ module _ {A Seat Reply Exchange Content : Type 0} where
   -- the site of a pool of seats
   abbrev pub site_in : {Z : Type 0} → Arc (SeatPool A Seat Reply Exchange Content) Z → A
   site_in pool = arc_value (arc_value pool).site
+
+  -- the site by which a server answers, and its settings
+  abbrev pub site_of : Server A Seat Reply Exchange Content → A
+  site_of server = site_in server.pool
+
+  abbrev pub settings_of : Server A Seat Reply Exchange Content → Settings
+  settings_of server = server.settings
 
   module _ {M I F R : Type 0} (makes : M → I → MessageService R A Seat Reply Exchange Content → F → Type 0)
       (connects : M) (io : I) where

@@ -2,7 +2,7 @@
 ghost use Rattle.std.specs.Prelude.{◌≡◌, ◌↔◌, IfOk, IsErrAnd, IsFalse, IsOk, IsSome, IsTrue};
 ghost use Rattle.std.specs.IoError.{error_kind};
 ghost use Rattle.std.specs.Arc.{arc_value};
-ghost use Rattle.http_connections.specs.Site.{site_in};
+ghost use Rattle.http_connections.specs.Site.{settings_of, site_of};
 
 use crate::accepting::Accepting;
 use crate::answers::Answers;
@@ -66,8 +66,8 @@ impl<A: Answers> Server<A> {
         turns: u64,
         ender: &Arc<Ender>,
     ) -> Result<Server<A>, AllocError>
-        ensures site { IfOk result (λ server. site_in server.pool ≡ arc_value site.now) }
-        ensures settings { IfOk result (λ server. server.settings ≡ settings) }
+        ensures site { IfOk result (λ server. site_of server ≡ arc_value site.now) }
+        ensures settings { IfOk result (λ server. settings_of server ≡ settings) }
     {
         let ender = Arc::try_clone(ender)?;
         let pool = SeatPool::new(alloc, Arc::try_clone(site)?, settings, ender)?;
@@ -108,7 +108,7 @@ impl<A: Answers> Server<A> {
         ran: &io::Result<()>,
     ) -> Result<Served<A::Seat>, AllocError>
         ensures { IfOk result (λ served. served.end ≡ End.AllServed
-            → IsSome self.now.settings.connections × IsOk ran.now) }
+            → IsSome (settings_of self.now).connections × IsOk ran.now) }
     {
         let end = end_of(
             ran,

@@ -7,9 +7,9 @@
 mod accepted;
 pub mod book;
 pub mod file_text;
-mod store;
 pub mod file_writer;
-pub mod server;
-pub mod save;
-pub mod start;
 pub mod recorded;
+pub mod save;
+pub mod server;
+pub mod start;
+mod store;

@@ -5,7 +5,8 @@ use Rattle.std.specs.Str.{bytes_eq}
 use Rattle.std.proofs.lemmas.Slice.Eq.{bytes_eq-Decides}
 use Rattle.data_tree.specs.Tree.{Tree, text, fields, no_members, member}
 use Rattle.data_tree.specs.LookUp.{at}
-use Rattle.needed_data.specs.Needed.{NeededData, is_needed, is_json_needed, field_path, AreAlike}
+use Rattle.needed_data.specs.Needed.{NeededData, is_needed, is_json_needed, AreAlike}
+use Rattle.data_tree.specs.RootPaths.{field_path}
 
 -- the request's path alone
 abbrev path_alone : NeededData

@@ -6,7 +6,8 @@ use Rattle.std.specs.List.{list_any}
 use Rattle.std.specs.Str.{bytes_eq}
 use Rattle.std.proofs.lemmas.List.Folds.{list_any_more}
 use Rattle.std.proofs.lemmas.Slice.Eq.{bytes_eq-Decides}
-use Rattle.needed_data.specs.Needed.{NeededData, is_needed, is_json_field_needed, field_path, json_field_path, Covers}
+use Rattle.needed_data.specs.Needed.{NeededData, is_needed, is_json_field_needed, json_field_path, Covers}
+use Rattle.data_tree.specs.RootPaths.{field_path}
 
 abbrev of_names : Bool → Bool → List (Bor (List ℕ)) → List (Bor (List ℕ)) → NeededData
 of_names everything json json_names names = record {

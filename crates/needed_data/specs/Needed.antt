@@ -4,6 +4,7 @@ use Rattle.std.specs.List.{list_any}
 use Rattle.std.specs.Str.{bytes_eq}
 use Rattle.data_tree.specs.Tree.{Tree}
 use Rattle.data_tree.specs.LookUp.{at}
+use Rattle.data_tree.specs.RootPaths.{field_path, json_path}
 use Rattle.data_tree.specs.declared.step.Step.{Step}
 use Rattle.data_tree.specs.declared.step.Step.TheVariants.{Name}
 
@@ -17,15 +18,9 @@ pub record NeededData : Type 0 where
 abbrev pub nothing : NeededData
 nothing = record { everything = false; json = false; json_names = []; names = [] }
 
--- the paths to the body's data, to a field of it, and to a field of the request
-abbrev pub json_path : List Step
-json_path = Name (codes "json") ∷ []
-
+-- the path to a field of the body's data
 abbrev pub json_field_path : List ℕ → List Step
 json_field_path name = Name (codes "json") ∷ Name name ∷ []
-
-abbrev pub field_path : List ℕ → List Step
-field_path name = Name (codes "request") ∷ Name name ∷ []
 
 abbrev pub is_json_needed : NeededData → Bool
 is_json_needed needed = needed.everything || needed.json

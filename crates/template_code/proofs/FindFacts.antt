@@ -12,7 +12,8 @@ use Rattle.helper_set.specs.declared.helper.Helper.{Helper}
 use Rattle.template_code.specs.Code.{StackCode}
 use Rattle.template_code.specs.Finds.{FindsSameBy, FindSame}
 use Rattle.template_code.specs.Instructions.{flow}
-use Rattle.template_code.specs.Machine.{Loop, State, with_stack, json_path, looked_up, result_of, effect}
+use Rattle.template_code.specs.Machine.{Loop, State, with_stack, looked_up, result_of, effect}
+use Rattle.data_tree.specs.RootPaths.{json_path}
 use Rattle.template_code.specs.Machine.{next_state, act, step, advance, Runs, first}
 use Rattle.template_code.specs.declared.instr.Instr.{Instr}
 use Rattle.template_code.specs.declared.instr.Instr.TheVariants.{Emit, Root, Item, Index, Key, First, Last, Text}

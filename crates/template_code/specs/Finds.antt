@@ -5,7 +5,7 @@ use Rattle.data_tree.specs.LookUp.{at}
 use Rattle.data_tree.specs.declared.step.Step.{Step}
 use Rattle.helper_set.specs.Helpers.{is_looked_up}
 use Rattle.template_code.specs.Code.{StackCode}
-use Rattle.template_code.specs.Machine.{json_path}
+use Rattle.data_tree.specs.RootPaths.{json_path}
 use Rattle.template_code.specs.declared.instr.Instr.{Instr}
 use Rattle.template_code.specs.declared.instr.Instr.TheVariants.{Root, Call}
 

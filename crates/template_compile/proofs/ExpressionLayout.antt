@@ -20,7 +20,8 @@ use Rattle.template_tags.specs.declared.expression.Datum.TheVariants as data_var
 use Rattle.template_tree.specs.Meaning.{second_parameter}
 use Rattle.template_compile.specs.Kinds.{conversion, expression_kind}
 use Rattle.template_compile.specs.Compiled.{◌▸◌, instructions, text_code, root_code, nothing_path}
-use Rattle.template_compile.specs.Compiled.{body_path, datum_code, expression_code, code_for}
+use Rattle.template_compile.specs.Compiled.{datum_code, expression_code, code_for}
+use Rattle.data_tree.specs.RootPaths.{body_path}
 use Rattle.template_tags.specs.Sound.{depth_of}
 use Rattle.template_tree.specs.Sound.{SoundDatum, SoundExpression}
 use Rattle.template_compile.proofs.CallLayout.{kind_for, IsWanted, wants-one, wants-two, lays-conversion, lays-call}

@@ -24,7 +24,8 @@ use Rattle.template_tags.specs.declared.expression.Datum.{Datum}
 use Rattle.template_tags.specs.declared.expression.Datum.TheVariants as data_variants
 use Rattle.template_tree.specs.Meaning.{Turn, item_at, body_data, datum_at, converted, second_parameter, value_of}
 use Rattle.template_compile.specs.Kinds.{conversion, expression_kind}
-use Rattle.template_compile.specs.Compiled.{◌▸◌, instructions, text_code, root_code, nothing_path, body_path}
+use Rattle.template_compile.specs.Compiled.{◌▸◌, instructions, text_code, root_code, nothing_path}
+use Rattle.data_tree.specs.RootPaths.{body_path}
 use Rattle.template_compile.specs.Compiled.{datum_code, expression_code, code_for}
 use Rattle.template_tree.specs.Sound.{SoundDatum, SoundExpression}
 use Rattle.template_compile.proofs.Calls.{call-one, call-two, kind-one, kind-two}

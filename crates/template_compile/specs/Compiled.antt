@@ -1,6 +1,7 @@
 -- The code of a template, part by part. It depends on where the code begins: jumps name the indexes of instructions,
 -- and each use of a text or a path is a new entry of its table, after those of the parts before.
-use Rattle.std.specs.Prelude.{ℕ, ◌+◌, ◌-◌, Bool, true, false, List, [], ◌∷◌, ◌++◌, length, codes}
+use Rattle.std.specs.Prelude.{ℕ, ◌+◌, ◌-◌, Bool, true, false, List, [], ◌∷◌, ◌++◌, length}
+use Rattle.data_tree.specs.RootPaths.{body_path}
 use Rattle.data_tree.specs.declared.step.Step.{Step}
 use Rattle.data_tree.specs.declared.step.Step.TheVariants.{Name}
 use Rattle.helper_set.specs.Helpers.{signature_of}
@@ -102,9 +103,6 @@ size f = length (f start_offsets).instrs
 -- a path that finds nothing in the data of a request
 abbrev pub nothing_path : List Step
 nothing_path = Name [] ∷ []
-
-abbrev pub body_path : List Step
-body_path = Name (codes "request") ∷ Name (codes "body") ∷ []
 
 abbrev pub datum_code : Datum → Gen
 datum_code Nothing = root_code nothing_path

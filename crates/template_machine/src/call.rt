@@ -9,7 +9,8 @@ ghost use Rattle.helper_set.specs.declared.helper.Helper.TheVariants.{DefaultIfE
 ghost use Rattle.helper_set.specs.Views.{value_view, made_view};
 ghost use Rattle.helper_set.specs.declared.kind.Kind.{Kind};
 ghost use Rattle.json_bridge.specs.Path.{SpellsPath};
-ghost use Rattle.template_code.specs.Machine.{result_of, found_by, json_path};
+ghost use Rattle.template_code.specs.Machine.{result_of, found_by};
+ghost use Rattle.data_tree.specs.RootPaths.{json_path};
 ghost use Rattle.template_machine.specs.Inner.Changes.{changes_text};
 ghost use Rattle.template_machine.specs.Inner.Slots.{slot_view, found_view, held_view};
 

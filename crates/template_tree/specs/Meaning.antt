@@ -1,11 +1,11 @@
 -- What a template means (Handlebars' paths, helpers and blocks): the text that it writes over a request's data, by
 -- recursion on its tree.
 use Rattle.std.specs.Prelude.{ℕ, zero, suc, pos, nat_eq, Bool, true, false, not, List, [], ◌∷◌, ◌++◌}
-use Rattle.std.specs.Prelude.{flat_map, codes, Option, Some, None, unwrap_or, if◌then◌else◌}
+use Rattle.std.specs.Prelude.{flat_map, Option, Some, None, unwrap_or, if◌then◌else◌}
 use Rattle.data_tree.specs.Tree.{Tree, nothing, list, fields, named, Items, no_items, item, Members, no_members, member}
-use Rattle.data_tree.specs.LookUp.{at, after}
+use Rattle.data_tree.specs.LookUp.{at}
+use Rattle.data_tree.specs.RootPaths.{json_path}
 use Rattle.data_tree.specs.declared.step.Step.{Step}
-use Rattle.data_tree.specs.declared.step.Step.TheVariants.{Name}
 use Rattle.helper_set.specs.Escape.{html_escaped}
 use Rattle.helper_set.specs.Helpers.{signature_of, applied}
 use Rattle.helper_set.specs.Values.{Value, a_datum, a_text, a_number, a_truth, text_of, truth_of}
@@ -75,7 +75,7 @@ found_by (Some path) t = at path t
 
 -- the data of the request's body, where it is JSON
 abbrev pub body_data : Tree → Tree
-body_data root = after (Name (codes "json")) root
+body_data root = at json_path root
 
 abbrev pub datum_at : Datum → Tree → List Turn → Tree
 datum_at Nothing root turns = nothing
