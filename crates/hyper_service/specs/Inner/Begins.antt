@@ -1,9 +1,10 @@
 -- What becomes of a message, before the journal's limit is kept.
 use Rattle.std.specs.Prelude.{◌≡◌, ◌⊎◌, ℕ, List, IfOk, IsErr, Result, Some}
 use Rattle.std.specs.declared.alloc.AllocError.{AllocError}
-use Rattle.answering.specs.Answering.{IsBegun}
+use Rattle.answering.specs.Answering.{Begins as BeginsAnswer, IsBegun}
 use Rattle.answering.specs.Forwarding.{IsFinished, IsToForward}
 use Rattle.answering.specs.Rendering.{IsRenderedReply, IsResponseOfRendered, IsToRender}
+use Rattle.answering.specs.declared.begun.Begun.{Begun as AnswerBegun}
 use Rattle.answering.specs.declared.forward.Forward.{Forward}
 use Rattle.answering.specs.declared.rendering.Rendering.{Rendering}
 use Rattle.http.specs.declared.request.Request.{Request as Message}
@@ -16,6 +17,11 @@ use Rattle.mapping_model.specs.declared.reply.Reply.{Reply}
 use Rattle.mock_request.specs.Request.{Request}
 use Rattle.proxy_client.specs.declared.error.ProxyError.{ProxyError}
 use Rattle.shared_book.specs.Held.{Held}
+
+-- what answering makes of the message, by the rules of the site
+abbrev pub IsAnswering : SiteRules → Held → Held → Message (List ℕ) → AnswerBegun → Type 0
+IsAnswering rules old new message begun =
+    BeginsAnswer rules.origin rules.history rules.limits rules.escape rules.page old new message begun
 
 module _ {E V : Type 0} (rendered : V → Result Reply AllocError → Type 0) (can_run : V → Type 0) where
   -- the exchange holds what is to be rendered, gives its reply, and may be polled
