@@ -364,6 +364,13 @@ class Upstream(threading.Thread):
 
 # ---- the report
 
+def memory_library(folder):
+    """Made in that folder: what is loaded before the C library to count calls for memory, and to let one fail."""
+    library = pathlib.Path(folder) / "failing_memory.so"
+    subprocess.run(["cc", "-O1", "-shared", "-fPIC", "-o", library, FOLDER / "failing_memory.c"], check=True)
+    return library
+
+
 def say(text):
     print(f"{SCRIPT}: {text}", file=sys.stderr)
 

@@ -2,3 +2,4 @@ pub mod Replies
 pub mod Answers
 pub mod Recordings
 pub mod JsonReply
+pub mod Inner

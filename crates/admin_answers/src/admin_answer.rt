@@ -2,7 +2,7 @@
 ghost use Rattle.std.specs.Prelude.{◌≡◌, ◌++◌, IfOk, OnOk, string_bytes};
 ghost use Rattle.admin_answers.specs.Replies.{reply_of};
 
-use admin_listing::listing::Listing;
+use crate::listing::Listing;
 use mapping_model::reply::Reply;
 use std::alloc::{AllocError, Global};
 use stub_response::error_reply::json_reply;

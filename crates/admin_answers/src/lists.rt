@@ -20,7 +20,7 @@ ghost use Rattle.shared_book.specs.Reached.{InPastOf};
 ghost use Rattle.shared_book.specs.Seen.{HasCaughtUp};
 
 use crate::error::SharedError;
-use admin_listing::listing::Listing;
+use crate::listing::Listing;
 use error_code::error_code::ErrorCode;
 use recorder::recording::{Recording, Session};
 use request_journal::entry::Entry;

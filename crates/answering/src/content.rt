@@ -6,7 +6,7 @@ ghost use Rattle.futures.specs.Runs.{After, Within};
 ghost use Rattle.futures.specs.Task.{IsArmed, Keeps};
 ghost use Rattle.http_body.specs.Frame.{data_frame};
 
-use admin_listing::listing::Listing;
+use admin_answers::listing::Listing;
 use bytes::Bytes;
 use futures::task::{Context, Poll};
 use http_body::{Body, Frame, SizeHint};

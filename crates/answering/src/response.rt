@@ -6,10 +6,10 @@ ghost use Rattle.http.specs.declared.version.TheConstants.Version.{HTTP_11};
 ghost use Rattle.stub_response.specs.ErrorReply.{error_reply, json_reply};
 
 use crate::content::Content;
-use admin_listing::listing::Listing;
+use admin_answers::listing::Listing;
 use error_code::error_code::ErrorCode;
-use http::response::Parts;
 use http::{HeaderMap, Response, StatusCode, Version};
+use http::response::Parts;
 use mapping_model::reply::Reply;
 use std::alloc::{AllocError, Global};
 use stub_response::error_reply::{error_reply, json_reply};

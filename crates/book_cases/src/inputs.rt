@@ -2,7 +2,7 @@
 
 use crate::mappings::{id, ready};
 use crate::words::text_of;
-use case_requests::exchanges::exchange_of;
+use case_table::exchanges::exchange_of;
 use case_table::words::{number, parts};
 use plain_text::items::Items;
 use request_journal::input::BookInput;

@@ -4,7 +4,7 @@ use Rattle.std.specs.Prelude.{◌≡◌, ◌⊎◌, ⊤, ℕ, Bool, true, false,
 use Rattle.std.specs.Io.KnownBytes.{Appends}
 use Rattle.command_output.specs.Files.{AreDocuments}
 use Rattle.command_output.specs.Output.{AppendsPart}
-use Rattle.mapping_answer.specs.Answering.{IsRequest, Sent, SpellDocuments}
+use Rattle.mapping_commands.specs.Answering.{IsRequest, Sent, SpellDocuments}
 use Rattle.mapping_explanation.specs.declared.explain.Form.{Form}
 use Rattle.mapping_explanation.specs.declared.explain.Form.TheVariants.{Coloured, Json, Text}
 use Rattle.mapping_explanation.specs.declared.explanation.GivenState.{GivenState}

@@ -9,10 +9,10 @@ use Rattle.std.specs.declared.cmp.Ordering.{Ordering}
 use Rattle.std.specs.declared.cmp.Ordering.TheVariants.{Less, Equal, Greater}
 use Rattle.std.proofs.lemmas.Bool.{cases_order, true≢false, false≢true}
 use Rattle.std.proofs.lemmas.Cmp.{tied_itself}
-use Rattle.live_mappings.specs.declared.entry.Entry.{Entry}
-use Rattle.live_mappings.specs.Kept.{choice_order, key_order, IsBefore, IsFirst}
-use Rattle.live_mappings.proofs.OrderLemmas.{choice_total, key_total, not_beaten_itself}
-use Rattle.live_mappings.proofs.RankLemmas.{less_than}
+use Rattle.mapping_store.specs.declared.entry.Entry.{Entry}
+use Rattle.mapping_store.specs.Kept.{choice_order, key_order, IsBefore, IsFirst}
+use Rattle.mapping_store.proofs.OrderLemmas.{choice_total, key_total, not_beaten_itself}
+use Rattle.mapping_store.proofs.RankLemmas.{less_than}
 use Rattle.mapping_store.specs.Inner.Best.{IsBest, IsBestAt, IsBetterOf, IsNone}
 use Rattle.request_match.specs.declared.url_key.UrlKey.{UrlKey}
 

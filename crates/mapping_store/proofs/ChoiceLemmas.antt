@@ -7,9 +7,9 @@ use Rattle.mock_request.specs.Request.{Request}
 use Rattle.request_journal.specs.Choice.{WinsOver, IsEligible, IsMissed, IsChosen}
 use Rattle.request_journal.specs.Past.{Placed}
 use Rattle.request_journal.specs.declared.mapping.Mapping.{Mapping}
-use Rattle.live_mappings.specs.declared.entry.Entry.{Entry}
-use Rattle.live_mappings.specs.Kept.{AreKept, Fits, IsFirst, placed_of}
-use Rattle.live_mappings.proofs.OrderLemmas.{not_won}
+use Rattle.mapping_store.specs.declared.entry.Entry.{Entry}
+use Rattle.mapping_store.specs.Kept.{AreKept, Fits, IsFirst, placed_of}
+use Rattle.mapping_store.proofs.OrderLemmas.{not_won}
 use Rattle.mapping_store.specs.Inner.Best.{IsBestAt, IsNone}
 use Rattle.mapping_store.proofs.StoreLemmas.{entry_of}
 

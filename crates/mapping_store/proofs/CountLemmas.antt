@@ -7,10 +7,10 @@ use Rattle.std.specs.Str.{bytes_eq}
 use Rattle.std.proofs.lemmas.List.{length-append}
 use Rattle.request_journal.specs.Past.{Placed, has_id, placed_from}
 use Rattle.request_journal.specs.declared.mapping.Mapping.{Mapping}
-use Rattle.live_mappings.specs.Ids.{all_differ}
-use Rattle.live_mappings.specs.Kept.{placed_of}
-use Rattle.live_mappings.specs.declared.entry.Entry.{Entry}
-use Rattle.live_mappings.proofs.DifferLemmas.{any_map, head_differs, last_differ, none_later, tail_differs}
+use Rattle.mapping_store.specs.Ids.{all_differ}
+use Rattle.mapping_store.specs.Kept.{placed_of}
+use Rattle.mapping_store.specs.declared.entry.Entry.{Entry}
+use Rattle.mapping_store.proofs.DifferLemmas.{any_map, head_differs, last_differ, none_later, tail_differs}
 
 pub length-placed : (number index other next : ℕ) (ms : List Mapping)
     → length (placed_from number index ms) ≡ length (placed_from other next ms)

@@ -12,8 +12,8 @@ use Rattle.request_journal.specs.Live.{edited, left_by, removes, is_removed}
 use Rattle.request_journal.specs.Past.{Placed}
 use Rattle.request_journal.specs.declared.event.Event.{Event}
 use Rattle.request_journal.specs.declared.event.Event.TheVariants as event
-use Rattle.live_mappings.proofs.IdLemmas.{same_id, other_id}
-use Rattle.live_mappings.proofs.ListLemmas.{IsPermutation-filter}
+use Rattle.mapping_store.proofs.IdLemmas.{same_id, other_id}
+use Rattle.mapping_store.proofs.ListLemmas.{IsPermutation-filter}
 
 -- ---- what an event leaves
 

@@ -10,8 +10,8 @@ use Rattle.request_match.specs.Parts.Key.{hash_of, key_of}
 use Rattle.request_match.specs.Parts.Matching.{MeetsUrl}
 use Rattle.request_match.specs.declared.url_key.UrlKey.{UrlKey}
 use Rattle.request_match.specs.declared.url_key.UrlKey.TheVariants as key
-use Rattle.live_mappings.specs.declared.entry.Entry.{Entry}
-use Rattle.live_mappings.specs.Kept.{Fits, placed_of}
+use Rattle.mapping_store.specs.declared.entry.Entry.{Entry}
+use Rattle.mapping_store.specs.Kept.{Fits, placed_of}
 
 -- it asks for no literal URL, for this one, or for one with this path
 abbrev pub IsAmong : List ℕ → UrlKey → Type 0

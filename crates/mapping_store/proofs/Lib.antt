@@ -1,3 +1,11 @@
+pub mod ListLemmas
+pub mod RankLemmas
+pub mod OrderLemmas
+pub mod LastLemmas
+pub mod DifferLemmas
+pub mod IdLemmas
+pub mod SeveralLemmas
+pub mod DefaultLemmas
 pub mod EventLemmas
 pub mod StoreLemmas
 pub mod BestLemmas

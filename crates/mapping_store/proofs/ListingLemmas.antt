@@ -6,7 +6,7 @@ use Rattle.std.specs.Ordering.{is_gt}
 use Rattle.std.proofs.lemmas.Cmp.{then_total, on_total, back_total, nat_cmp_total}
 use Rattle.request_journal.specs.Choice.{IsNewer}
 use Rattle.request_journal.specs.Past.{Placed}
-use Rattle.live_mappings.proofs.RankLemmas.{not_newer}
+use Rattle.mapping_store.proofs.RankLemmas.{not_newer}
 use Rattle.mapping_store.specs.Inner.Entries.{by_age}
 
 pub age_total : IsTotalOrder by_age

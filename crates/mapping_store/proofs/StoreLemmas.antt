@@ -15,11 +15,11 @@ use Rattle.request_journal.specs.Live.{left_by}
 use Rattle.request_journal.specs.Past.{Placed, placed_from}
 use Rattle.request_journal.specs.declared.event.Event.TheVariants as event
 use Rattle.request_journal.specs.declared.mapping.Mapping.{Mapping}
-use Rattle.live_mappings.specs.declared.entry.Entry.{Entry}
-use Rattle.live_mappings.specs.Kept.{Adds, AreKept, Fits, IsBefore, placed_of, without}
-use Rattle.live_mappings.proofs.EventLemmas.{others, at, replaced, fit_replaced}
-use Rattle.live_mappings.proofs.IdLemmas.{distinct_replaced, distinct_without, filter-map, filter_none, ids_without}
-use Rattle.live_mappings.proofs.IdLemmas.{without_none}
+use Rattle.mapping_store.specs.declared.entry.Entry.{Entry}
+use Rattle.mapping_store.specs.Kept.{Adds, AreKept, Fits, IsBefore, placed_of, without}
+use Rattle.mapping_store.proofs.SeveralLemmas.{others, at, replaced, fit_replaced}
+use Rattle.mapping_store.proofs.IdLemmas.{distinct_replaced, distinct_without, filter-map, filter_none, ids_without}
+use Rattle.mapping_store.proofs.IdLemmas.{without_none}
 use Rattle.mapping_store.proofs.EventLemmas.{left_plain, left_others, left_edited, left_alike}
 
 -- ---- entries and live mappings

@@ -1,2 +1,4 @@
 pub mod Stored
+pub mod Kept
+pub mod Ids
 pub mod Inner

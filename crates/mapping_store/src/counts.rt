@@ -1,11 +1,11 @@
 // How many mappings will be live once several are added.
 ghost use Rattle.std.specs.Prelude.{◌≡◌, ◌≤◌, ℕ, length, map, filter, not};
 ghost use Rattle.request_journal.specs.Past.{has_id, placed_from};
-ghost use Rattle.live_mappings.specs.Kept.{placed_of};
+ghost use Rattle.mapping_store.specs.Kept.{placed_of};
 
-use live_mappings::book_mapping::BookMapping;
-use live_mappings::defaults::has_id;
-use live_mappings::entry::Entry;
+use crate::book_mapping::BookMapping;
+use crate::defaults::has_id;
+use crate::entry::Entry;
 
 /// How many entries have none of the ids.
 pub(crate) fn count_others(entries: &[Entry], mappings: &[BookMapping]) -> usize

@@ -6,11 +6,11 @@ ghost use Rattle.std.specs.Ordering.{is_gt, is_lt};
 ghost use Rattle.request_journal.specs.Choice.{IsEligible, IsReady};
 ghost use Rattle.request_match.specs.Matching.{MeetsRequest};
 ghost use Rattle.scenario_core.specs.Scenarios.{state_of};
-ghost use Rattle.live_mappings.specs.Kept.{AreKept, Fits, IsBefore, key_order, placed_of};
+ghost use Rattle.mapping_store.specs.Kept.{AreKept, Fits, IsBefore, key_order, placed_of};
 ghost use Rattle.mapping_store.specs.Inner.Best.{IsBest, IsBetterOf};
 
-use live_mappings::book_mapping::BookMapping;
-use live_mappings::entry::{Entry, Source, key_order};
+use crate::book_mapping::BookMapping;
+use crate::entry::{Entry, Source, key_order};
 use mapping_model::scenario_spec::ScenarioSpec;
 use request_match::parsed_request::ParsedRequest;
 use request_match::shared_spec::SharedSpec;

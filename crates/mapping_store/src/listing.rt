@@ -1,13 +1,13 @@
 // The live mappings, the newest first.
 ghost use Rattle.std.specs.Prelude.{◌≡◌, All, AllPairs, IfOk, IsPermutation, map};
 ghost use Rattle.request_journal.specs.Choice.{IsNewer};
-ghost use Rattle.live_mappings.specs.Kept.{Fits, placed_of};
+ghost use Rattle.mapping_store.specs.Kept.{Fits, placed_of};
 ghost use Rattle.mapping_store.specs.Inner.Entries.{by_age};
 ghost use Rattle.mapping_store.specs.Stored.{IsNewestFirst};
 
+use crate::book_mapping::BookMapping;
 use crate::eligible::spec_of;
-use live_mappings::book_mapping::BookMapping;
-use live_mappings::entry::Entry;
+use crate::entry::Entry;
 use request_journal::mapping::Mapping;
 use std::alloc::{AllocError, Global};
 use std::cmp::Ordering;

@@ -10,16 +10,16 @@ ghost use Rattle.request_journal.specs.declared.event.Event.TheVariants as event
 ghost use Rattle.scenario_core.specs.Scenarios.{state_of};
 ghost use Rattle.mapping_store.specs.Stored.{Follows, IsNewestFirst};
 
+use crate::book_mapping::BookMapping;
 use crate::counts::{count_ids, count_others};
+use crate::defaults::{copies, lasts, named, put_defaults};
 use crate::eligible::{best_eligible, spec_of};
+use crate::entries::{index_of, put_in, replace, take_out};
+use crate::entry::Entry;
+use crate::ids::are_new;
 use crate::listing::newest_first;
 use crate::scenario_names::{knows, names};
-use live_mappings::book_mapping::BookMapping;
-use live_mappings::defaults::{copies, lasts, named, put_defaults};
-use live_mappings::entries::{index_of, put_in, replace, take_out};
-use live_mappings::entry::Entry;
-use live_mappings::ids::are_new;
-use live_mappings::several::put_all;
+use crate::several::put_all;
 use mapping_model::mapping_id::MappingId;
 use plain_text::items::Items;
 use request_journal::mapping::Mapping;
@@ -58,7 +58,7 @@ impl Model for MappingStore {
 
     ghost Value = { Stored };
 
-    ghost use Rattle.live_mappings.specs.Kept.{placed_of};
+    ghost use Rattle.mapping_store.specs.Kept.{placed_of};
     ghost use Rattle.mapping_store.specs.Inner.Entries.{IsStore};
 
     ghost view = { λ s. record {

@@ -1,11 +1,11 @@
 // The scenarios and states that live mappings name.
 ghost use Rattle.std.specs.Prelude.{◌≡◌, ◌↔◌, Some, All, Any, IsTrue, map};
 ghost use Rattle.request_journal.specs.State.{IsIn, Names};
-ghost use Rattle.live_mappings.specs.Kept.{Fits, placed_of};
+ghost use Rattle.mapping_store.specs.Kept.{Fits, placed_of};
 
+use crate::book_mapping::BookMapping;
 use crate::eligible::spec_of;
-use live_mappings::book_mapping::BookMapping;
-use live_mappings::entry::Entry;
+use crate::entry::Entry;
 use mapping_model::scenario_spec::ScenarioSpec;
 use plain_text::text::Text;
 

@@ -2,7 +2,7 @@
 ghost use Rattle.std.specs.Prelude.{◌≡◌, ◌<◌, ◌≤◌, ◌∷◌, [], IfOk, option_copied};
 ghost use Rattle.hyper_service.specs.Given.{rules_of};
 ghost use Rattle.hyper_service.specs.Report.{ReportsServed};
-ghost use Rattle.mapping_answer.specs.Answering.{usual_limits};
+ghost use Rattle.mapping_commands.specs.Answering.{usual_limits};
 ghost use Rattle.mock.specs.Served.{ServesBook};
 ghost use Rattle.served_book.specs.Served.{IsServedBook};
 ghost use Rattle.shared_history.specs.Entries.{opening};
@@ -47,8 +47,8 @@ use std::io::{ErrorKind, Read, Write};
 use std::marker::Brand;
 use std::net::{IpAddr, Net, SocketAddr, TcpListener, TcpStream};
 use std::random::RandomSource;
-use std::sync::ledger::Blank;
 use std::sync::{Arc, Wait};
+use std::sync::ledger::Blank;
 use std::thread::Threads;
 use std::time::{Clock, Duration};
 use stub_book::book::Book;

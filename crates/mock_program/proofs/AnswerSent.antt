@@ -1,8 +1,8 @@
 -- What `answer` does, from what was done for the request that was sent.
 use Rattle.std.proofs.Common.{◌≡◌, ℕ, List, [], Option, ap, inl, refl}
 use Rattle.command_output.specs.Output.{Followed}
-use Rattle.mapping_answer.specs.Answering.{AnswersFiles, sent_of}
-use Rattle.mapping_answer.specs.declared.sent.SentRequest.{SentRequest}
+use Rattle.mapping_commands.specs.Answering.{AnswersFiles, sent_of}
+use Rattle.mapping_commands.specs.declared.sent.SentRequest.{SentRequest}
 use Rattle.mock_program.specs.CommandLine.{answer}
 use Rattle.mock_program.specs.Commands.{Does}
 use Rattle.mock_request.specs.Request.{headers_of}

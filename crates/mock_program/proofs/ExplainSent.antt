@@ -1,7 +1,7 @@
 -- What `explain` does, from what was done for the request that was sent and the states that were given.
 use Rattle.std.proofs.Common.{◌≡◌, ◌≢◌, ℕ, List, [], Option, ap, inl, map, refl}
 use Rattle.command_output.specs.Output.{Followed}
-use Rattle.mapping_answer.specs.Answering.{sent_of}
+use Rattle.mapping_commands.specs.Answering.{sent_of}
 use Rattle.mapping_explanation.specs.Explaining.{ExplainsFiles, given_of}
 use Rattle.mapping_explanation.specs.declared.explain.Question.{Question}
 use Rattle.mapping_explanation.specs.declared.explain.Form.TheVariants.{Json}

@@ -6,8 +6,8 @@ use Rattle.template_tree.specs.declared.escape.Escape.{Escape}
 use Rattle.command_output.specs.Lines.{error_line, out_of_memory}
 use Rattle.command_output.proofs.PartsWritten.{alone}
 use Rattle.command_output.specs.Output.{AppendsFront}
-use Rattle.mapping_answer.specs.Answering.{AnswersFiles, Sent}
-use Rattle.mapping_check.specs.Checking.{ChecksFiles}
+use Rattle.mapping_commands.specs.Answering.{AnswersFiles, Sent}
+use Rattle.mapping_commands.specs.Checking.{ChecksFiles}
 use Rattle.mapping_explanation.specs.Explaining.{ExplainsFiles}
 use Rattle.mapping_explanation.specs.declared.explain.Form.{Form}
 use Rattle.mapping_explanation.specs.declared.explain.Form.TheVariants as form

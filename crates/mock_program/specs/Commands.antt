@@ -1,8 +1,8 @@
 -- What a command does, by what standard output and standard error hold before and after it, and the exit status.
 use Rattle.std.specs.Prelude.{◌≡◌, ◌≢◌, ◌⊎◌, ℕ, List, [], Option}
 use Rattle.command_output.specs.Output.{Followed}
-use Rattle.mapping_answer.specs.Answering.{AnswersFiles, Sent}
-use Rattle.mapping_check.specs.Checking.{ChecksFiles}
+use Rattle.mapping_commands.specs.Answering.{AnswersFiles, Sent}
+use Rattle.mapping_commands.specs.Checking.{ChecksFiles}
 use Rattle.mapping_explanation.specs.Explaining.{ExplainsFiles}
 use Rattle.mapping_explanation.specs.declared.explain.Form.{Form}
 use Rattle.mapping_explanation.specs.declared.explain.Form.TheVariants.{Json}

@@ -2,15 +2,15 @@
 use crate::lines::Lines;
 use crate::mapping_name::push_mapping;
 pub use crate::nearest::Offer;
-use admin_routes::url::is_admin;
-use bytes::Bytes;
-use call_refusal::told::call_of;
 use crate::nearest::nearest_lines;
 use crate::over_budget::over_budget_line;
 use crate::replaced::replaced_line;
 use crate::request_line::request_line;
 use crate::shared_names::{have_scenario, shared_name_lines};
 use crate::skipped::skipped_lines;
+use admin_routes::url::is_admin;
+use bytes::Bytes;
+use call_refusal::told::call_of;
 use error_code::error_code::ErrorCode;
 use http::Request;
 use itoa::Buffer;

@@ -2,7 +2,7 @@
 use Rattle.std.specs.Prelude.{◌≡◌, ◌≢◌, ◌⊎◌, ◌≤◌, ℕ, Bool, false, true, List, [], ◌∷◌, ◌++◌, length, Option, None}
 use Rattle.std.specs.Prelude.{Some, Result, Ok, Err}
 use Rattle.command_output.specs.Files.{AreDocuments}
-use Rattle.mapping_answer.specs.Answering.{SpellDocuments}
+use Rattle.mapping_commands.specs.Answering.{SpellDocuments}
 use Rattle.mapping_json.specs.Documents.{AreResults, IsOuterError}
 use Rattle.mapping_json.specs.declared.error.MappingError.{MappingError}
 use Rattle.mapping_json.specs.declared.error.MappingError.TheVariants.{OutOfMemory}

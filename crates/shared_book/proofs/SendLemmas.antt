@@ -49,10 +49,10 @@ use Rattle.book_history.specs.contracts.known.Known as known
 use Rattle.book_history.specs.contracts.parts.Parts as parts
 use Rattle.book_history.specs.contracts.history.History as history
 use Rattle.book_history.specs.contracts.history.History.TheInside as history_inside
-use Rattle.live_mappings.specs.contracts.book_mapping.BookMapping as book_mapping
-use Rattle.live_mappings.specs.contracts.book_mapping.BookMapping.TheInside as book_mapping_inside
-use Rattle.live_mappings.specs.contracts.entry.Source as source
-use Rattle.live_mappings.specs.contracts.entry.Entry as entry
+use Rattle.mapping_store.specs.contracts.book_mapping.BookMapping as book_mapping
+use Rattle.mapping_store.specs.contracts.book_mapping.BookMapping.TheInside as book_mapping_inside
+use Rattle.mapping_store.specs.contracts.entry.Source as source
+use Rattle.mapping_store.specs.contracts.entry.Entry as entry
 use Rattle.mapping_store.specs.contracts.mapping_store.MappingStore as mapping_store
 use Rattle.mapping_store.specs.contracts.mapping_store.MappingStore.TheInside as mapping_store_inside
 use Rattle.stub_book.specs.contracts.book.Book as book

@@ -1,27 +1,30 @@
 -- The pass over a tag's items reads what their parentheses group.
 use Rattle.std.proofs.Common.{◌≡◌, ℕ, suc, min, max, nat_lt, Bool, true, false}
-use Rattle.std.proofs.Common.{List, [], ◌∷◌, ◌++◌, map, Option, Some, None, option_map, Result, Ok, Err, inl, inr}
-use Rattle.std.proofs.Common.{refl, sym, ap, ◌∙◌, arith}
-use Rattle.std.specs.Prelude.{is_some, unwrap_or}
+use Rattle.std.proofs.Common.{List, [], ◌∷◌, ◌++◌, length, map, Option, Some, None, option_map, Result, Ok, Err}
+use Rattle.std.proofs.Common.{inl, inr, refl, sym, ap, ◌∙◌, arith}
+use Rattle.std.specs.Prelude.{not, is_some, unwrap_or}
+use Rattle.std.proofs.Math.Dec.{eqb-suc-zero}
 use Rattle.std.proofs.lemmas.Option.{none-some, same_Some}
 use Rattle.std.proofs.lemmas.Bool.{cases_Bool, ltb-true, ltb-false, lt-ltb}
 use Rattle.helper_set.specs.declared.helper.Helper.{Helper}
 use Rattle.template_words.specs.Errors.{joined}
 use Rattle.template_words.specs.declared.error.TagError.{TagError}
-use Rattle.template_words.specs.declared.error.TagError.TheVariants.{UnknownHelper}
-use Rattle.template_tags.specs.Inner.BlockReads.{match_error, only_one, block_argument, all_errors}
-use Rattle.template_tags.specs.Inner.CallReads.{beside, error_in, errors_in, limited, argument, arguments, call_of}
-use Rattle.template_tags.specs.Inner.CallReads.{call_read, helper_read}
+use Rattle.template_words.specs.declared.error.TagError.TheVariants.{UnknownHelper, UnsupportedTag}
+use Rattle.template_tags.specs.Inner.BlockReads.{match_error, only_one, block_argument, extra_error, all_errors}
+use Rattle.template_tags.specs.Inner.CallReads.{beside, error_if, error_in, errors_in, limited, argument, arguments}
+use Rattle.template_tags.specs.Inner.CallReads.{call_of, call_read, helper_read}
 use Rattle.template_tags.specs.Expression.{Expression}
 use Rattle.template_tags.specs.Inner.Pieces.{Piece, Parts, word_piece, group_piece, capped, piece_of, pieces_of}
 use Rattle.template_tags.specs.Inner.Pieces.{stack_pieces, tag_parts, word_pieces, greatest, piece_height}
 use Rattle.template_tags.specs.Inner.Pieces.{piece_argument, piece_arguments, piece_helper, piece_call}
 use Rattle.template_tags.specs.Inner.Pieces.{grouped_pieces, group_of_height, piece_before, pieces_before}
-use Rattle.template_tags.specs.Inner.Pieces.{all_parts_error, block_parts, value_pieces, print_parts}
+use Rattle.template_tags.specs.Inner.Pieces.{has_piece, extra_parts_error, all_parts_error, block_parts, value_pieces}
+use Rattle.template_tags.specs.Inner.Pieces.{print_parts}
 use Rattle.template_tags.specs.Items.{Item, word, left_parenthesis, right_parenthesis}
 use Rattle.template_tags.specs.Inner.TagReads.{value_said, print_read, print_said}
 use Rattle.template_tags.specs.Terms.{Term, single, group, Terms, no_terms, first_term, height, greatest_height}
-use Rattle.template_tags.specs.Terms.{grouped_before, grouped, only_list, terms_of, words_of, terms_in, is_matched}
+use Rattle.template_tags.specs.Terms.{grouped_before, grouped, only_list, terms_of, words_of, terms_in, has_term}
+use Rattle.template_tags.specs.Terms.{is_matched}
 use Rattle.template_tags.specs.declared.expression.TheConstants.{CALL_LIMIT}
 use Rattle.template_tags.specs.declared.level.Level.{Level}
 
@@ -202,6 +205,15 @@ unmatched_parts levels items pieces e is =
     unmatched_is levels (terms_of items) (words_of items) pieces e (is ∙ sym (words_are levels items))
 
 -- ---- what tags take
+
+has_piece_is : (levels : List Level) (ts : Terms) → has_piece (pieces_of levels ts) ≡ has_term ts
+has_piece_is levels no_terms = refl
+has_piece_is levels (first_term t ts) = ap not (eqb-suc-zero (length (pieces_of levels ts)))
+
+pub extra_error_is : (levels : List Level) (items : List Item)
+    → extra_parts_error (tag_parts levels items) ≡ extra_error items
+extra_error_is levels items =
+    ap (λ some. joined (match_error items) (error_if UnsupportedTag some)) (has_piece_is levels (terms_in items))
 
 pub all_errors_are : (levels : List Level) (items : List Item)
     → all_parts_error levels (tag_parts levels items) ≡ all_errors levels items

@@ -1,5 +1,5 @@
 -- What is read of a tag part by part is what the tag's value and the list of its errors give.
-use Rattle.std.proofs.Common.{◌≡◌, ℕ, suc, nat_lt, nat_le, ◌==◌, ◌||◌, ◌&&◌, Bool, true, false, List, [], ◌∷◌, ◌++◌}
+use Rattle.std.proofs.Common.{◌≡◌, ℕ, suc, nat_lt, nat_le, ◌||◌, ◌&&◌, Bool, true, false, List, [], ◌∷◌, ◌++◌}
 use Rattle.std.proofs.Common.{length, drop, Option, Some, None, Result, Ok, Err, refl, sym, ap, ◌∙◌, append-nil}
 use Rattle.std.proofs.Common.{append_assoc}
 use Rattle.std.specs.Prelude.{not, is_some, codes, if◌then◌else◌}
@@ -17,9 +17,9 @@ use Rattle.template_words.specs.declared.error.TagError.TheVariants.{UnclosedTag
 use Rattle.template_words.specs.declared.error.TagError.TheVariants.{WrongArguments, TooDeep, BadPath, UnsupportedTag}
 use Rattle.template_words.specs.declared.mode.Mode.TheVariants.{Start}
 use Rattle.template_tags.specs.Blocks.{LoopItems, loop_items, has_names, has_parameters, is_reserved_name}
-use Rattle.template_tags.specs.Blocks.{argument_errors, one_errors, first_value, one_value, test_errors, is_datum}
-use Rattle.template_tags.specs.Blocks.{datum_in, over_errors, loop_errors, each_errors, else_errors, is_innermost}
-use Rattle.template_tags.specs.Blocks.{close_errors}
+use Rattle.template_tags.specs.Blocks.{argument_errors, one_errors, first_value, one_value, test_errors}
+use Rattle.template_tags.specs.Blocks.{datum_in, over_errors, loop_errors, each_errors, awaits_else, extra_errors}
+use Rattle.template_tags.specs.Blocks.{else_errors, is_innermost, close_errors}
 use Rattle.template_tags.specs.Calls.{literal_in, body_value, pair_value, called, helper_in, helper_of, value, values}
 use Rattle.template_tags.specs.Calls.{call_value}
 use Rattle.template_tags.specs.Calls.{is_body, path_errors, form_errors, head_word_errors, errors, all_errors}
@@ -41,8 +41,8 @@ use Rattle.template_tags.specs.Said.{opening_purpose, purpose_of, unsupported, p
 use Rattle.template_tags.specs.Said.{Purpose, has_foreign_mark, printed_errors, printed, print_errors}
 use Rattle.template_tags.specs.Said.{tag_value, purpose_errors, tag_said}
 use Rattle.template_tags.specs.Tags.{Tag, print, open_if, open_each, begin_else, close}
-use Rattle.template_tags.specs.Terms.{Term, single, group, Terms, no_terms, first_term, height, greatest_height}
-use Rattle.template_tags.specs.Terms.{terms_in, is_matched}
+use Rattle.template_tags.specs.Terms.{Term, single, group, Terms, no_terms, first_term, greatest_height}
+use Rattle.template_tags.specs.Terms.{terms_in, has_term, is_matched}
 use Rattle.template_tags.specs.Words.{Word, text_word, number_word, truth_word, loop_word, helper_word, foreign_word}
 use Rattle.template_tags.specs.Words.{path_word, wrong_word, word_of, argument_of, word_value, word_errors, is_literal}
 use Rattle.template_tags.specs.declared.expression.TheConstants.{CALL_LIMIT}
@@ -52,7 +52,7 @@ use Rattle.template_tags.specs.declared.level.Level.{Level}
 use Rattle.template_tags.specs.declared.level.TheConstants.{BLOCK_LIMIT, LOOP_LIMIT}
 use Rattle.template_tags.specs.declared.tag.Opening.{Opening}
 use Rattle.template_tags.specs.declared.tag.Opening.TheVariants.{Double, Triple}
-use Rattle.template_tags.proofs.Joins.{joined_assoc, joined_none, earlier_assoc, earlier_same, earlier_back}
+use Rattle.template_tags.proofs.Joins.{joined_assoc, earlier_assoc, earlier_same, earlier_back}
 
 -- ---- the first of errors
 
@@ -589,38 +589,42 @@ module _ (levels : List Level) where
 
 -- ---- else and close
 
-else_is : (levels : List Level) (items : List Item)
-    → block_reads.else_said levels items ≡ reported (else_errors levels items) begin_else
-else_is [] [] = refl
-else_is [] (item ∷ items) = refl
-else_is (level ∷ levels) [] = by_else level.in_else
+extra_is : (items : List Item) → block_reads.extra_error items ≡ first_of (extra_errors items)
+extra_is items =
+    let bad = when (not (is_matched items)) BadPath in
+    let extra = when (has_term (terms_in items)) UnsupportedTag in
+    sym (first_append bad extra
+    ∙ ap (λ o. joined o (first_of extra)) (first_when (not (is_matched items)) BadPath)
+    ∙ ap (joined (block_reads.match_error items)) (first_when (has_term (terms_in items)) UnsupportedTag))
+
+first_else_is : (levels : List Level)
+    → block_reads.first_else levels ≡ reported (when (not (awaits_else levels)) UnexpectedClose) begin_else
+first_else_is [] = refl
+first_else_is (level ∷ levels) = by_else level.in_else
   where
     by_else : (b : Bool) → if b then Err UnexpectedClose else Ok begin_else
         ≡ reported (when (not (not b)) UnexpectedClose) begin_else
     by_else true = refl
     by_else false = refl
-else_is (level ∷ levels) (item ∷ items) = by_else level.in_else
-  where
-    by_else : (b : Bool) → ◌≡◌ {A = Result Tag TagError} (Err UnsupportedTag)
-        (reported (UnsupportedTag ∷ when (not (not b)) UnexpectedClose) begin_else)
-    by_else true = refl
-    by_else false = refl
 
-close_alone_is : (items : List Item)
-    → block_reads.close_alone items ≡ reported (when (not (has_count 0 items)) UnsupportedTag) close
-close_alone_is [] = refl
-close_alone_is (item ∷ items) = refl
+else_is : (levels : List Level) (items : List Item)
+    → block_reads.else_said levels items ≡ reported (else_errors levels items) begin_else
+else_is levels items =
+    let here = when (not (awaits_else levels)) UnexpectedClose in
+    ap (beside (block_reads.extra_error items)) (first_else_is levels)
+    ∙ ap (λ o. beside o (reported here begin_else)) (extra_is items)
+    ∙ sym (reported_append (extra_errors items) here begin_else)
 
 close_is : (levels : List Level) (name : List ℕ) (items : List Item)
     → block_reads.closing_said levels name items ≡ reported (close_errors levels name items) close
 close_is levels name items = by_name (is_innermost name levels)
   where
     by_name : (b : Bool)
-        → if b then block_reads.close_alone items
+        → if b then beside (block_reads.extra_error items) (Ok close)
         else beside (block_reads.all_errors levels items) (Err UnexpectedClose)
-        ≡ reported (if b then when (not (has_count 0 items)) UnsupportedTag
+        ≡ reported (if b then extra_errors items
         else argument_errors levels items ++ UnexpectedClose ∷ []) close
-    by_name true = close_alone_is items
+    by_name true = beside_ok_is (block_reads.extra_error items) close ∙ ap (λ o. checked o close) (extra_is items)
     by_name false =
         ap (λ o. beside o (Err UnexpectedClose)) (errors_are levels items)
         ∙ sym (reported_append (argument_errors levels items) (UnexpectedClose ∷ []) close)

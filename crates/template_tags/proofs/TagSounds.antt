@@ -12,12 +12,12 @@ use Rattle.template_words.specs.declared.error.TagError.TheVariants.{Unsupported
 use Rattle.template_words.specs.declared.error.TagError.TheVariants.{UnexpectedClose}
 use Rattle.template_tags.specs.Inner.BlockReads.{block_argument, only_one, data_only, test_said, loop_said}
 use Rattle.template_tags.specs.Blocks.{is_innermost}
-use Rattle.template_tags.specs.Inner.BlockReads.{each_said, opening_said, first_else, else_said, close_alone}
+use Rattle.template_tags.specs.Inner.BlockReads.{each_said, opening_said, first_else, extra_error, else_said}
 use Rattle.template_tags.specs.Blocks.{LoopItems, loop_items}
 use Rattle.template_tags.specs.Inner.BlockReads.{closing_said, all_errors, match_error}
 use Rattle.template_tags.specs.Blocks.{has_names, has_parameters, is_reserved_name}
-use Rattle.template_tags.specs.Inner.CallReads.{error_if, errors_in}
-use Rattle.template_tags.specs.Inner.CallReads.{argument, arguments}
+use Rattle.template_tags.specs.Inner.CallReads.{beside, error_if, errors_in}
+use Rattle.template_tags.specs.Inner.CallReads.{arguments}
 use Rattle.template_tags.specs.Expression.{Expression, datum, index, key, first, last, number, truth, call, call_two}
 use Rattle.template_tags.specs.Expression as expressions
 use Rattle.template_tags.specs.Levels.{loops_open, block_named}
@@ -26,7 +26,7 @@ use Rattle.template_tags.specs.Inner.TagReads.{space_error}
 use Rattle.template_tags.specs.Said.{tag_said}
 use Rattle.template_tags.specs.Items.{Item, word, left_parenthesis, right_parenthesis, items_of}
 use Rattle.template_tags.specs.Sound.{IsSoundDatum, IsSoundTag}
-use Rattle.template_tags.specs.Tags.{Tag}
+use Rattle.template_tags.specs.Tags.{Tag, close}
 use Rattle.template_tags.specs.Terms.{single, group, Terms, no_terms, first_term, terms_in, is_matched}
 use Rattle.template_tags.specs.Words.{word_of}
 use Rattle.template_tags.specs.Inner.WordReads.{word_value, lone_value}
@@ -41,7 +41,7 @@ use Rattle.template_tags.proofs.Reported.{tag_is}
 use Rattle.template_tags.proofs.Shorts.{ShortTerms, ShortItems, short_terms, short_loop_items}
 use Rattle.template_tags.proofs.Shorts.{short_items_of}
 use Rattle.template_tags.proofs.Sounds.{beside_ok, beside_none, bind_ok, word_fits, Sound, SoundRead, SoundReads}
-use Rattle.template_tags.proofs.Sounds.{higher, value_sound, lone_sound, argument_sound, arguments_sound}
+use Rattle.template_tags.proofs.Sounds.{higher, value_sound, lone_sound, arguments_sound}
 use Rattle.template_tags.proofs.Sounds.{own_call_sound}
 
 module _ (limit : ℕ) (levels : List Level) where
@@ -142,22 +142,17 @@ first_else_sound limit (level ∷ levels) =
 
 else_sound : (limit : ℕ) (levels : List Level) (items : List Item)
     → IfOk (else_said levels items) (IsSoundTag limit levels)
-else_sound limit levels [] = first_else_sound limit levels
-else_sound limit levels (item ∷ items) = tt
-
-close_sound : (limit : ℕ) (levels : List Level) (items : List Item) → 0 < length levels
-    → IfOk (close_alone items) (IsSoundTag limit levels)
-close_sound limit levels [] some = some
-close_sound limit levels (item ∷ items) some = tt
+else_sound limit levels items =
+    beside_ok (IsSoundTag limit levels) (extra_error items) (first_else levels) (first_else_sound limit levels)
 
 closing_sound : (limit : ℕ) (name : List ℕ) (levels : List Level) (items : List Item)
     → IfOk (closing_said levels name items) (IsSoundTag limit levels)
 closing_sound limit name [] items =
     beside_ok (IsSoundTag limit []) (all_errors [] items) (Err UnexpectedClose) tt
 closing_sound limit name (level ∷ levels) items =
-    cond_both (is_innermost name (level ∷ levels)) (close_alone items) _
+    cond_both (is_innermost name (level ∷ levels)) (beside (extra_error items) (Ok close)) _
     (λ said. IfOk said (IsSoundTag limit (level ∷ levels)))
-    (λ t. close_sound limit (level ∷ levels) items (omega arith))
+    (λ t. beside_ok (IsSoundTag limit (level ∷ levels)) (extra_error items) (Ok close) (omega arith))
     (λ f. beside_ok (IsSoundTag limit (level ∷ levels)) (all_errors (level ∷ levels) items)
     (Err UnexpectedClose) tt)
 

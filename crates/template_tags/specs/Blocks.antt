@@ -13,7 +13,7 @@ use Rattle.template_tags.specs.Expression.{Expression, datum}
 use Rattle.template_tags.specs.Items.{Item, word, left_parenthesis, right_parenthesis}
 use Rattle.template_tags.specs.Levels.{block_name, loops_open}
 use Rattle.template_tags.specs.Reported.{has_count, when}
-use Rattle.template_tags.specs.Terms.{terms_in, is_matched}
+use Rattle.template_tags.specs.Terms.{terms_in, has_term, is_matched}
 use Rattle.template_tags.specs.Words.{no_value}
 use Rattle.template_tags.specs.declared.expression.Datum.{Datum}
 use Rattle.template_tags.specs.declared.expression.Datum.TheVariants.{Nothing}
@@ -135,10 +135,13 @@ abbrev pub awaits_else : List Level → Bool
 awaits_else [] = false
 awaits_else (level ∷ levels) = not level.in_else
 
+-- the errors of items after a name that has no words after it
+abbrev pub extra_errors : List Item → List TagError
+extra_errors items = when (not (is_matched items)) BadPath ++ when (has_term (terms_in items)) UnsupportedTag
+
 -- an else has no words after it
 abbrev pub else_errors : List Level → List Item → List TagError
-else_errors levels items =
-    when (not (has_count 0 items)) UnsupportedTag ++ when (not (awaits_else levels)) UnexpectedClose
+else_errors levels items = extra_errors items ++ when (not (awaits_else levels)) UnexpectedClose
 
 abbrev pub is_innermost : List ℕ → List Level → Bool
 is_innermost name [] = false
@@ -147,5 +150,5 @@ is_innermost name (level ∷ levels) = bytes_eq name (block_name level.block)
 -- a close has the name of the innermost open block, and no words after it
 abbrev pub close_errors : List Level → List ℕ → List Item → List TagError
 close_errors levels name items =
-    if is_innermost name levels then when (not (has_count 0 items)) UnsupportedTag
+    if is_innermost name levels then extra_errors items
     else argument_errors levels items ++ UnexpectedClose ∷ []

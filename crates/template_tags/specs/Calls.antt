@@ -1,5 +1,5 @@
 -- The values that arguments and calls name (Handlebars' helpers and subexpressions), and the errors that they have.
-use Rattle.std.specs.Prelude.{ℕ, nat_lt, Bool, true, false, ◌&&◌, not, List, [], ◌∷◌, ◌++◌}
+use Rattle.std.specs.Prelude.{ℕ, nat_lt, Bool, false, ◌&&◌, not, List, [], ◌∷◌, ◌++◌}
 use Rattle.std.specs.Prelude.{Option, Some, None, is_some, if◌then◌else◌, codes}
 use Rattle.data_tree.specs.declared.step.Step.{Step}
 use Rattle.helper_set.specs.Helpers.{signature_of}

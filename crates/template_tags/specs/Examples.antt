@@ -94,6 +94,7 @@ pub record AreErrors : Type 0 where
   pub partial : Fails (codes "> p") [] UnsupportedTag
   pub unknown_block : Fails (codes "# if x") [] UnsupportedTag
   pub else_with_words : Fails (codes "else if x") in_loop UnsupportedTag
+  pub else_with_group : Fails (codes "else ()") in_loop UnsupportedTag
   pub literal_alone : Fails (codes "1") (open_loop (codes "1") []) UnsupportedTag
   pub group_alone : Fails (codes "(foo)") [] UnsupportedTag
   pub hash_argument : Fails (codes "upper (lower x=1)") [] UnsupportedTag
@@ -159,5 +160,10 @@ pub record AreUnmatched : Type 0 where
   pub reserved : Fails (codes "upper request.id)") [] UnsupportedTag
   pub in_test : Fails (codes "#if (upper x") [] BadPath
   pub in_loop : Fails (codes "#each )x") [] BadPath
+  pub in_else : Fails (codes "else (") (open_block If []) BadPath
+  pub word_in_else : Fails (codes "else (x") (open_block If []) UnsupportedTag
+  pub in_else_of_none : Fails (codes "else )") [] UnexpectedClose
+  pub else_inside : Fails (codes "(else") (open_block If []) BadPath
+  pub in_close : Fails (codes "/if )") (open_block If []) BadPath
   pub other_block_in_three_braces : tag_said Triple (codes "#foo") [] ≡ Err UnsupportedTag
   pub other_block_with_words : tag_said Triple (codes "#foo x") [] ≡ Err UnsupportedTag

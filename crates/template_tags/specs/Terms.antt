@@ -1,5 +1,5 @@
 -- What a tag's parentheses group (Handlebars' subexpressions).
-use Rattle.std.specs.Prelude.{ℕ, suc, max, Bool, List, [], ◌∷◌, Option, Some, None, is_some, unwrap_or}
+use Rattle.std.specs.Prelude.{ℕ, suc, max, Bool, true, false, List, [], ◌∷◌, Option, Some, None, is_some, unwrap_or}
 use Rattle.template_tags.specs.Items.{Item, word, left_parenthesis, right_parenthesis}
 
 -- a word, or what is between a `(` and its `)`
@@ -42,6 +42,10 @@ words_of (right_parenthesis ∷ items) = words_of items
 -- the terms of items. Where their parentheses don't match, these only separate words
 abbrev pub terms_in : List Item → Terms
 terms_in items = unwrap_or (terms_of items) (words_of items)
+
+abbrev pub has_term : Terms → Bool
+has_term no_terms = false
+has_term (first_term term terms) = true
 
 -- each parenthesis has its other one
 abbrev pub is_matched : List Item → Bool

@@ -6,11 +6,11 @@ ghost use Rattle.template_tags.specs.Inner.BlockReads.{only_one, block_argument,
 ghost use Rattle.template_tags.specs.Inner.BlockReads.{data_only};
 ghost use Rattle.template_tags.specs.Blocks.{is_reserved_name};
 ghost use Rattle.template_tags.specs.Inner.BlockReads.{if_read, each_read, loop_said, each_said, opening_said};
-ghost use Rattle.template_tags.specs.Inner.BlockReads.{first_else, else_said};
+ghost use Rattle.template_tags.specs.Inner.BlockReads.{first_else, extra_error, else_said};
 ghost use Rattle.template_tags.specs.Blocks.{is_innermost};
-ghost use Rattle.template_tags.specs.Inner.BlockReads.{close_alone, all_errors, closing_said};
+ghost use Rattle.template_tags.specs.Inner.BlockReads.{all_errors, closing_said};
 ghost use Rattle.template_tags.specs.Inner.CallReads.{error_if};
-ghost use Rattle.template_tags.specs.Inner.Pieces.{block_parts, all_parts_error};
+ghost use Rattle.template_tags.specs.Inner.Pieces.{block_parts, extra_parts_error, all_parts_error};
 ghost use Rattle.template_tags.specs.Inner.Scan.{item_view, item_is, with_items, loop_view};
 ghost use Rattle.template_tags.specs.Inner.Views.{read_view, parts_view, said_view};
 ghost use Rattle.template_words.specs.declared.error.TagError.TheVariants.{BadPath};
@@ -341,15 +341,40 @@ fn first_else(levels: &[Level]) -> Result<Tag, TagError>
     }
 }
 
-/// What an else tag says.
-pub fn else_said(levels: &[Level], items: &[Item<'_>]) -> Result<Tag, TagError>
-    ensures { said_view result ≡ else_said (reverse levels.now) (map item_view items.now) }
+// The error of parts after a name that has no words after it.
+fn extra_parts_error(parts: Parts<'_>) -> Option<TagError>
+    ensures { result ≡ extra_parts_error (parts_view parts.entry) }
 {
-    if items.is_empty() {
-        first_else(levels)
-    } else {
-        Err(TagError::UnsupportedTag)
-    }
+    let Parts { pieces, matched } = parts;
+    let extra = error_if(TagError::UnsupportedTag, !pieces.is_empty());
+    joined(match_error(matched), extra)
+}
+
+// The error of items after a name that has no words after it.
+#[tactic(auto, using(crate::proofs::Nests::extra_error_is))]
+fn extra_error(
+    alloc: Global,
+    levels: &[Level],
+    items: &[Item<'_>],
+) -> Result<Option<TagError>, AllocError>
+    requires { length levels.now < 2 ^ 32 }
+    ensures { IfOk result (λ e. e ≡ extra_error (map item_view items.now)) }
+{
+    Ok(extra_parts_error(tag_parts(alloc, levels, items)?))
+}
+
+/// What an else tag says.
+#[tactic(auto, using(crate::proofs::Besides::said_beside))]
+pub fn else_said(
+    alloc: Global,
+    levels: &[Level],
+    items: &[Item<'_>],
+) -> Result<Result<Tag, TagError>, AllocError>
+    requires { length levels.now < 2 ^ 32 }
+    ensures { IfOk result (λ said. said_view said ≡ else_said (reverse levels.now) (map item_view items.now)) }
+{
+    let error = extra_error(alloc, levels, items)?;
+    Ok(beside(error, first_else(levels)))
 }
 
 fn is_innermost(name: &str, levels: &[Level]) -> bool
@@ -358,16 +383,6 @@ fn is_innermost(name: &str, levels: &[Level]) -> bool
     match levels {
         [.., level] => name == level.block.name(),
         [] => false,
-    }
-}
-
-fn close_alone(items: &[Item<'_>]) -> Result<Tag, TagError>
-    ensures { said_view result ≡ close_alone (map item_view items.now) }
-{
-    if items.is_empty() {
-        Ok(Tag::Close)
-    } else {
-        Err(TagError::UnsupportedTag)
     }
 }
 
@@ -411,7 +426,8 @@ pub fn closing_said(
         (λ said. said_view said ≡ closing_said (reverse levels.now) name.now (map item_view items.now)) }
 {
     if is_innermost(name, levels) {
-        return Ok(close_alone(items));
+        let error = extra_error(alloc, levels, items)?;
+        return Ok(beside(error, Ok(Tag::Close)));
     }
     let error = all_errors(alloc, levels, items)?;
     Ok(beside(error, Err(TagError::UnexpectedClose)))

@@ -186,7 +186,7 @@ fn word_said(
     } else if let Some(name) = after_mark(text, "/") {
         closing_said(alloc, levels, name, rest)
     } else if text == "else" {
-        Ok(else_said(levels, rest))
+        else_said(alloc, levels, rest)
     } else {
         print_said(alloc, levels, items)
     }

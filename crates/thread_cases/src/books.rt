@@ -1,6 +1,6 @@
 //! Books to share, and calls to make on them.
 
-use case_requests::mappings::mapping;
+use case_table::mappings::mapping;
 use mapping_model::mapping_id::MappingId;
 use mapping_model::response_spec::{Body, Content};
 use mock_request::snapshot::Snapshot;

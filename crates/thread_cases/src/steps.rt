@@ -1,8 +1,8 @@
 //! The step of a cell: the actor's number, a word, and what it is about.
 
-use case_requests::exchanges::exchange_of;
-use case_requests::mappings::mapping;
-use case_requests::requests::request_of;
+use case_table::exchanges::exchange_of;
+use case_table::mappings::mapping;
+use case_table::requests::request_of;
 use case_table::words::{number, parts};
 use mapping_model::mapping_id::MappingId;
 use plain_text::items::Items;

@@ -1,6 +1,6 @@
 //! Requests of cells.
 
-use case_requests::requests::header;
+use case_table::requests::header;
 use http_header::{HeaderName, HeaderValue};
 use mock_request::error::SnapshotError;
 use mock_request::snapshot::Snapshot;

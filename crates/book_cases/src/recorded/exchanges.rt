@@ -1,8 +1,8 @@
 //! The exchanges that a row gives, cell by cell: a word, a blank and a text.
 
 use bytes::Bytes;
-use case_requests::octets::octets_of;
-use case_requests::requests::{header, request};
+use case_table::octets::octets_of;
+use case_table::requests::{header, request};
 use case_table::row::Row;
 use case_table::words::{number, parts};
 use http_header::{HeaderName, HeaderValue};

@@ -1,8 +1,8 @@
 //! Keys of exchanges, and the mappings that recordings give.
 
 use crate::recorded::exchanges::{Given, read};
-use case_requests::octets::add_octets;
 use case_table::cells::Cells;
+use case_table::octets::add_octets;
 use case_table::row::Row;
 use mapping_model::body_pattern::BodyPattern;
 use mapping_model::mapping_spec::MappingSpec;

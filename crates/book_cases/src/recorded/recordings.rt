@@ -1,7 +1,7 @@
 //! Targets, and the calls of a recording.
 
-use case_requests::exchanges::exchange_of;
 use case_table::cells::Cells;
+use case_table::exchanges::exchange_of;
 use case_table::row::Row;
 use case_table::words::{number, parts};
 use plain_text::items::Items;

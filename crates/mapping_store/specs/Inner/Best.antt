@@ -2,8 +2,8 @@
 use Rattle.std.specs.Prelude.{◌≡◌, ◌⊎◌, ℕ, ◌<◌, List, length, MatchOption, Option, None, Some}
 use Rattle.std.specs.Prelude.{slice_index_or}
 use Rattle.std.specs.List.{HoldsAt}
-use Rattle.live_mappings.specs.Kept.{IsFirst}
-use Rattle.live_mappings.specs.declared.entry.Entry.{Entry}
+use Rattle.mapping_store.specs.Kept.{IsFirst}
+use Rattle.mapping_store.specs.declared.entry.Entry.{Entry}
 
 -- none of the entries of which P holds meets; or this one does, and of those none that does wins over it
 module _ (P Meets : Entry → Type 0) (entries : List Entry) where

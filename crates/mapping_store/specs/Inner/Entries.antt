@@ -4,8 +4,8 @@ use Rattle.std.specs.Ordering.{nat_cmp, ordering_then}
 use Rattle.std.specs.declared.cmp.Ordering.{Ordering}
 use Rattle.request_journal.specs.Past.{Placed}
 use Rattle.request_journal.specs.declared.mapping.Mapping.{Mapping}
-use Rattle.live_mappings.specs.Kept.{AreKept, lasts_of}
-use Rattle.live_mappings.specs.declared.entry.Entry.{Entry}
+use Rattle.mapping_store.specs.Kept.{AreKept, lasts_of}
+use Rattle.mapping_store.specs.declared.entry.Entry.{Entry}
 
 -- the entries, with room for all defaults, and which defaults a reset brings back
 pub record IsStore (defaults : List Mapping) (lasts : List Bool) (entries : List Entry) (capacity : ℕ) : Type 0 where

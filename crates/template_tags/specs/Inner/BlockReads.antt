@@ -12,7 +12,7 @@ use Rattle.template_tags.specs.Inner.CallReads.{beside, error_if, errors_in, arg
 use Rattle.template_tags.specs.Items.{Item}
 use Rattle.template_tags.specs.Levels.{loops_open}
 use Rattle.template_tags.specs.Tags.{Tag, open_if, open_each, begin_else, close}
-use Rattle.template_tags.specs.Terms.{terms_in, is_matched}
+use Rattle.template_tags.specs.Terms.{terms_in, has_term, is_matched}
 use Rattle.template_tags.specs.declared.expression.Datum.{Datum}
 use Rattle.template_tags.specs.declared.level.TheConstants.{BLOCK_LIMIT, LOOP_LIMIT}
 use Rattle.template_tags.specs.declared.level.Block.{Block}
@@ -88,13 +88,12 @@ abbrev pub first_else : List Level → Result Tag TagError
 first_else [] = Err UnexpectedClose
 first_else (level ∷ levels) = if level.in_else then Err UnexpectedClose else Ok begin_else
 
-abbrev pub else_said : List Level → List Item → Result Tag TagError
-else_said levels [] = first_else levels
-else_said levels (item ∷ items) = Err UnsupportedTag
+-- the error of items after a name that has no words after it
+abbrev pub extra_error : List Item → Option TagError
+extra_error items = joined (match_error items) (error_if UnsupportedTag (has_term (terms_in items)))
 
-abbrev pub close_alone : List Item → Result Tag TagError
-close_alone [] = Ok close
-close_alone (item ∷ items) = Err UnsupportedTag
+abbrev pub else_said : List Level → List Item → Result Tag TagError
+else_said levels items = beside (extra_error items) (first_else levels)
 
 -- the errors of a tag's words, as arguments
 abbrev pub all_errors : List Level → List Item → Option TagError
@@ -103,5 +102,5 @@ all_errors levels items = joined (match_error items) (errors_in (arguments level
 -- a tag with `/` and that name, which closes the innermost open block
 abbrev pub closing_said : List Level → List ℕ → List Item → Result Tag TagError
 closing_said levels name items =
-    if is_innermost name levels then close_alone items
+    if is_innermost name levels then beside (extra_error items) (Ok close)
     else beside (all_errors levels items) (Err UnexpectedClose)

@@ -1,6 +1,6 @@
 -- What a tag's parentheses group, as a pass over its items keeps it: groups as what they are read as.
-use Rattle.std.specs.Prelude.{ℕ, suc, min, max, Bool, not, List, [], ◌∷◌, map, Option, Some, None, option_map}
-use Rattle.std.specs.Prelude.{Result, Err, if◌then◌else◌}
+use Rattle.std.specs.Prelude.{ℕ, ◌==◌, suc, min, max, Bool, not, List, [], ◌∷◌, length, map, Option, Some, None}
+use Rattle.std.specs.Prelude.{option_map, Result, Err, if◌then◌else◌}
 use Rattle.helper_set.specs.declared.helper.Helper.{Helper}
 use Rattle.template_words.specs.Errors.{joined}
 use Rattle.template_words.specs.declared.error.TagError.{TagError}
@@ -101,6 +101,13 @@ pieces_before levels (item ∷ items) stack = piece_before levels item (pieces_b
 
 abbrev pub parts_error : Parts → Option TagError
 parts_error parts = error_if BadPath (not parts.matched)
+
+abbrev pub has_piece : List Piece → Bool
+has_piece pieces = not (length pieces == 0)
+
+-- of parts after a name that has no words after it
+abbrev pub extra_parts_error : Parts → Option TagError
+extra_parts_error parts = joined (parts_error parts) (error_if UnsupportedTag (has_piece parts.pieces))
 
 abbrev pub all_parts_error : List Level → Parts → Option TagError
 all_parts_error levels parts = joined (parts_error parts) (errors_in (piece_arguments levels parts.pieces))

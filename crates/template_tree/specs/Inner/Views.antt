@@ -8,18 +8,18 @@ use Rattle.template_tree.specs.declared.error.ParseError.{ParseError}
 use Rattle.template_tree.specs.declared.error.ParseError.TheVariants.{Template, OutOfMemory}
 use Rattle.template_tree.specs.declared.error.TemplateErrorKind.{TemplateErrorKind}
 use Rattle.template_tree.specs.declared.error.TemplateErrorKind.TheVariants as kinds
-use Rattle.template_tree.specs.declared.tags.TagText.{TagText}
+use Rattle.template_tree.specs.declared.tags.TagText as found
 use Rattle.template_tree.specs.declared.tags.TagText.TheVariants as tags
 use Rattle.template_tree.specs.declared.tokens.Token as parser
 use Rattle.template_tree.specs.declared.tokens.Token.TheVariants as tokens
 use Rattle.template_tree.specs.Tags.{TagText, comment, shown}
 use Rattle.template_tree.specs.Tokens.{Token, text_token, comment_token, tag_token, Next, tag_error}
 
-abbrev pub tag_view : TagText → TagText
+abbrev pub tag_view : found.TagText → TagText
 tag_view tags.Comment = comment
 tag_view (tags.Shown opening text) = shown opening text.now
 
-abbrev pub tag_rest_view : Option (TagText × Bor (List ℕ)) → Option (TagText × List ℕ)
+abbrev pub tag_rest_view : Option (found.TagText × Bor (List ℕ)) → Option (TagText × List ℕ)
 tag_rest_view None = None
 tag_rest_view (Some x) = Some (tag_view x.0, x.1.now)
 

@@ -1,5 +1,5 @@
 use Rattle.std.proofs.Common.{Global, List, Vec, map, subst, ℕ}
-use Rattle.mapping_answer.specs.Answering.{SpellDocuments}
+use Rattle.mapping_commands.specs.Answering.{SpellDocuments}
 use Rattle.mapping_explanation.specs.Explaining.{AreSet, given_of}
 use Rattle.request_journal.specs.Past.{Past}
 use Rattle.mapping_explanation.proofs.explanation.explanation_of.Goals as goal

@@ -2,9 +2,9 @@ use Rattle.std.proofs.Common.{not, length, sym, ap, ◌∙◌, arith}
 use Rattle.std.specs.List.{filter}
 use Rattle.std.proofs.lemmas.List.{length-map, take_all}
 use Rattle.request_journal.specs.Past.{Placed, has_id}
-use Rattle.live_mappings.specs.declared.entry.Entry.{Entry}
-use Rattle.live_mappings.specs.Kept.{placed_of}
-use Rattle.live_mappings.proofs.IdLemmas.{filter-map}
+use Rattle.mapping_store.specs.declared.entry.Entry.{Entry}
+use Rattle.mapping_store.specs.Kept.{placed_of}
+use Rattle.mapping_store.proofs.IdLemmas.{filter-map}
 use Rattle.mapping_store.proofs.counts.count_others.Goals as goal
 
 pub returns-clause-count : goal.returns-clause-count

@@ -5,8 +5,8 @@ use Rattle.request_journal.specs.Choice.{IsEligible}
 use Rattle.request_match.specs.Parts.Key.{key_of}
 use Rattle.request_match.specs.declared.url_key.UrlKey.TheVariants.{Any}
 use Rattle.scenario_core.specs.Scenarios.{state_of}
-use Rattle.live_mappings.specs.declared.entry.Entry.{Entry}
-use Rattle.live_mappings.specs.Kept.{placed_of}
+use Rattle.mapping_store.specs.declared.entry.Entry.{Entry}
+use Rattle.mapping_store.specs.Kept.{placed_of}
 use Rattle.mapping_store.specs.Inner.Best.{IsBest}
 use Rattle.mapping_store.proofs.BestLemmas.{better_of, of_all}
 use Rattle.mapping_store.proofs.KeyLemmas.{eligible_among}

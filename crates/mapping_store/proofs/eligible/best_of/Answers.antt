@@ -2,8 +2,8 @@ use Rattle.std.proofs.Common.{◌≡◌, rules, List, ◌<◌, length, get_or, s
 use Rattle.std.proofs.lemmas.List.{get_or_default}
 use Rattle.request_journal.specs.Choice.{IsEligible}
 use Rattle.scenario_core.specs.Scenarios.{state_of}
-use Rattle.live_mappings.specs.declared.entry.Entry.{Entry}
-use Rattle.live_mappings.specs.Kept.{placed_of}
+use Rattle.mapping_store.specs.declared.entry.Entry.{Entry}
+use Rattle.mapping_store.specs.Kept.{placed_of}
 use Rattle.mapping_store.proofs.BestLemmas.{IsBounds, best_at}
 use Rattle.mapping_store.proofs.eligible.best_of.Goals as goal
 

@@ -2,7 +2,7 @@ use Rattle.std.proofs.Common.{◌≡◌}
 use Rattle.std.specs.List.{AllWithin}
 use Rattle.request_journal.specs.Choice.{IsEligible}
 use Rattle.scenario_core.specs.Scenarios.{state_of}
-use Rattle.live_mappings.specs.Kept.{placed_of}
+use Rattle.mapping_store.specs.Kept.{placed_of}
 use Rattle.mapping_store.proofs.eligible.best_of.Given as goal
 
 abbrev pub invariant-loop-i : goal.invariant-loop-i

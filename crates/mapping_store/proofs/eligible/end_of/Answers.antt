@@ -1,7 +1,7 @@
 use Rattle.std.proofs.Common.{not, get_or, arith, rules}
 use Rattle.std.specs.Ordering.{is_gt}
 use Rattle.std.proofs.lemmas.List.Sorted.{IsPartitionPoint-from_clause}
-use Rattle.live_mappings.specs.Kept.{key_order}
+use Rattle.mapping_store.specs.Kept.{key_order}
 use Rattle.mapping_store.proofs.BestLemmas.{parted_up_to, from_not_true, from_not_false}
 use Rattle.mapping_store.proofs.eligible.end_of.Goals as goal
 

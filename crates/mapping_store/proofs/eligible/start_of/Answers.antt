@@ -1,7 +1,7 @@
 use Rattle.std.proofs.Common.{arith, rules}
 use Rattle.std.specs.Ordering.{is_lt}
 use Rattle.std.proofs.lemmas.List.Sorted.{IsPartitionPoint-from_clause}
-use Rattle.live_mappings.specs.Kept.{key_order}
+use Rattle.mapping_store.specs.Kept.{key_order}
 use Rattle.mapping_store.proofs.BestLemmas.{parted_below}
 use Rattle.mapping_store.proofs.eligible.start_of.Goals as goal
 

@@ -1,5 +1,5 @@
 use Rattle.std.proofs.Common.{◌≡◌, map, take}
-use Rattle.live_mappings.specs.Kept.{placed_of}
+use Rattle.mapping_store.specs.Kept.{placed_of}
 use Rattle.mapping_store.proofs.listing.list_all.Given as goal
 
 abbrev pub invariant-loop-i : goal.invariant-loop-i

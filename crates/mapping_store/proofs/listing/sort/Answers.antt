@@ -2,7 +2,7 @@ use Rattle.std.proofs.Common.{◌≡◌, List, AllPairs, length, drop, sym, ap, 
 use Rattle.std.proofs.lemmas.List.{take_at}
 use Rattle.request_journal.specs.Choice.{IsNewer}
 use Rattle.request_journal.specs.Past.{Placed}
-use Rattle.live_mappings.proofs.RankLemmas.{sorted_by}
+use Rattle.mapping_store.proofs.RankLemmas.{sorted_by}
 use Rattle.mapping_store.proofs.ListingLemmas.{age_total, none_newer}
 use Rattle.mapping_store.proofs.listing.sort.Goals as goal
 

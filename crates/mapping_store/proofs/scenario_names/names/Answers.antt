@@ -3,8 +3,8 @@ use Rattle.std.proofs.lemmas.Bool.{false≢true}
 use Rattle.std.proofs.lemmas.List.{take_all}
 use Rattle.request_journal.specs.Past.{Placed}
 use Rattle.request_journal.specs.State.{Names}
-use Rattle.live_mappings.specs.declared.entry.Entry.{Entry}
-use Rattle.live_mappings.specs.Kept.{placed_of}
+use Rattle.mapping_store.specs.declared.entry.Entry.{Entry}
+use Rattle.mapping_store.specs.Kept.{placed_of}
 use Rattle.mapping_store.proofs.StoreLemmas.{any_at, none_among}
 use Rattle.mapping_store.proofs.scenario_names.names.Goals as goal
 

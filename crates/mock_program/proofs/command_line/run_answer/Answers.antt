@@ -1,5 +1,5 @@
 use Rattle.std.proofs.Common.{◌∙◌, inr, map, refl}
-use Rattle.mapping_answer.specs.declared.sent.SentRequest.{SentRequest}
+use Rattle.mapping_commands.specs.declared.sent.SentRequest.{SentRequest}
 use Rattle.mock_program.proofs.AnswerSent.{answered}
 use Rattle.mock_program.specs.Options.{given_of}
 use Rattle.mock_program.proofs.command_line.run_answer.Goals as goal

@@ -1,5 +1,5 @@
 use Rattle.std.proofs.Common.{refl, arith, map}
-use Rattle.live_mappings.specs.Kept.{placed_of}
+use Rattle.mapping_store.specs.Kept.{placed_of}
 use Rattle.mapping_store.proofs.StoreLemmas.{after_add_all}
 use Rattle.mapping_store.proofs.mapping_store.MappingStore.add_all.Goals as goal
 

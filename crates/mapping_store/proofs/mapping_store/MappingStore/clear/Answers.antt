@@ -1,5 +1,5 @@
 use Rattle.std.proofs.Common.{refl, map, arith}
-use Rattle.live_mappings.specs.Kept.{placed_of}
+use Rattle.mapping_store.specs.Kept.{placed_of}
 use Rattle.mapping_store.proofs.StoreLemmas.{after_clear, kept_nothing}
 use Rattle.mapping_store.proofs.mapping_store.MappingStore.clear.Goals as goal
 

@@ -1,6 +1,6 @@
 use Rattle.std.proofs.Common.{◌≡◌, ℕ, List, get_or, sym, ap, ◌∙◌}
 use Rattle.scenario_core.specs.Scenarios.{state_of}
-use Rattle.live_mappings.specs.declared.entry.Entry.{Entry}
+use Rattle.mapping_store.specs.declared.entry.Entry.{Entry}
 use Rattle.mapping_store.proofs.ChoiceLemmas.{chosen, missed, same_items}
 use Rattle.mapping_store.proofs.mapping_store.MappingStore.find.Goals as goal
 use Rattle.mapping_store.proofs.mapping_store.MappingStore.find.Goals.{in-Some+in_ok-try_clone-in-Some, in-None}

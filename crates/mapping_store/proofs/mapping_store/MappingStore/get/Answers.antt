@@ -1,6 +1,6 @@
 use Rattle.std.proofs.Common.{◌≡◌, None, refl, sym, ap, ◌∙◌}
 use Rattle.request_journal.specs.Past.{Placed}
-use Rattle.live_mappings.specs.declared.entry.Entry.{Entry}
+use Rattle.mapping_store.specs.declared.entry.Entry.{Entry}
 use Rattle.mapping_store.proofs.StoreLemmas.{any_at, any_with_id, found_index}
 use Rattle.mapping_store.proofs.mapping_store.MappingStore.get.Goals as goal
 

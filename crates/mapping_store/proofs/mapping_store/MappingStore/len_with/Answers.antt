@@ -2,8 +2,8 @@ use Rattle.std.proofs.Common.{◌≡◌, ◌+◌, List, ◌++◌, length, map, v
 use Rattle.request_journal.specs.Past.{placed_from}
 use Rattle.request_journal.specs.declared.event.Event.TheVariants as event
 use Rattle.request_journal.specs.declared.mapping.Mapping.{Mapping}
-use Rattle.live_mappings.specs.Kept.{placed_of}
-use Rattle.live_mappings.specs.declared.entry.Entry.{Entry}
+use Rattle.mapping_store.specs.Kept.{placed_of}
+use Rattle.mapping_store.specs.declared.entry.Entry.{Entry}
 use Rattle.mapping_store.proofs.CountLemmas.{all_new}
 use Rattle.mapping_store.proofs.EventLemmas.{left_plain}
 use Rattle.mapping_store.proofs.mapping_store.MappingStore.len_with.Goals as goal

@@ -1,3 +1,0 @@
-mod JoinedLemmas
-mod MeetsLemmas
-mod SearchLemmas

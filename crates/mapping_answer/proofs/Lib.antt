@@ -1,2 +1,0 @@
-pub mod DocumentLemmas
-pub mod FreshLemmas

@@ -1,2 +1,0 @@
--- Words for private clauses; no public contract cites them.
-pub mod Own

@@ -1,2 +1,0 @@
-pub mod LinesOf
-pub mod Totals

@@ -1,0 +1,4 @@
+pub mod LinesOf
+pub mod Totals
+pub mod DocumentLemmas
+pub mod FreshLemmas

@@ -1,0 +1,4 @@
+pub mod Checking
+pub mod Answering
+pub mod Fresh
+pub mod Inner

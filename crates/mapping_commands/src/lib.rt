@@ -1,0 +1,13 @@
+//! `mock check`: which mappings of a document or a file are taken, and the budgets of their templates, added up. And
+//! `mock answer`: the reply to one request of a book that was just opened with the mappings of a document or a file.
+//! Neither knows of the command line. Contracts cite `specs/Checking.antt` (the lines that are printed, and how a check
+//! ends) and `specs/Answering.antt` (the reply as it is printed, the errors and their order, and how an answer ends).
+#![tactic(auto)]
+
+pub mod notes;
+mod budgets;
+pub mod check;
+pub mod fresh;
+pub mod sent;
+mod printed;
+pub mod answer;
