@@ -1,12 +1,12 @@
 // A site answers the requests of connections.
-ghost use Rattle.std.specs.Prelude.{◌≡◌, IfErr, IfOk, IsSome, IsTrue, MatchResult};
+ghost use Rattle.std.specs.Prelude.{◌≡◌, IfErr, IfOk, IsSome, IsTrue};
 ghost use Rattle.answering.specs.Forwarding.{IsFinished};
 ghost use Rattle.answering.specs.Rendering.{IsResponseOfRendered};
 ghost use Rattle.http_messages.specs.declared.error.ServiceError.TheVariants.{OutOfMemory as NoMemory};
 ghost use Rattle.hyper_service.specs.Given.{IsGiven, IsLeft, IsPassedTo, IsUnanswered};
 ghost use Rattle.hyper_service.specs.Given.{rules_of};
-ghost use Rattle.hyper_service.specs.Inner.Begins.{Begins, IsAnswering, IsForwardBegun, IsForwardingBy};
-ghost use Rattle.hyper_service.specs.Inner.Begins.{IsRenderBegun, IsRenderingBy};
+ghost use Rattle.hyper_service.specs.Inner.Begins.{Begins, HasNoAnswer, IsAnswering, IsForwardBegun};
+ghost use Rattle.hyper_service.specs.Inner.Begins.{IsForwardingBy, IsRenderBegun, IsRenderingBy};
 ghost use Rattle.hyper_service.specs.Inner.Failure.{IsFailure};
 ghost use Rattle.hyper_service.specs.Seats.{IsJoined, IsSplit};
 ghost use Rattle.shared_book.specs.Seen.{HasMadeNoCall};
@@ -205,8 +205,9 @@ where
             → IfOk result (Begins (rules_of L.origin L.book self.now) (F.reaches self.now.forwarder) F.sends
             F.Exchange.gives F.Exchange.can_poll V.Run.gives V.Run.can_poll old seat.new message) }
         ensures err { (old : _) → (message : _)
-            → MatchResult answered (IsAnswering (rules_of L.origin L.book self.now) old seat.old message)
-            (λ error. (error ≡ NoMemory) × IsLeft (rules_of L.origin L.book self.now) old seat.old message)
+            → IfOk answered (IsAnswering (rules_of L.origin L.book self.now) old seat.old message)
+            → IfErr answered (λ error. (error ≡ NoMemory)
+            × HasNoAnswer (rules_of L.origin L.book self.now) old seat.old message)
             → IfErr result (λ error. (error ≡ NoMemory)
             × IsLeft (rules_of L.origin L.book self.now) old seat.new message) }
     {

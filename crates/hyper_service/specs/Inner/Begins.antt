@@ -1,7 +1,7 @@
 -- What becomes of a message, before the journal's limit is kept.
 use Rattle.std.specs.Prelude.{◌≡◌, ◌⊎◌, ℕ, List, IfOk, IsErr, Result, Some}
 use Rattle.std.specs.declared.alloc.AllocError.{AllocError}
-use Rattle.answering.specs.Answering.{Begins as BeginsAnswer, IsBegun}
+use Rattle.answering.specs.Answering.{Begins as BeginsAnswer, IsBegun, IsNotBegun}
 use Rattle.answering.specs.Forwarding.{IsFinished, IsToForward}
 use Rattle.answering.specs.Rendering.{IsRenderedReply, IsResponseOfRendered, IsToRender}
 use Rattle.answering.specs.declared.begun.Begun.{Begun as AnswerBegun}
@@ -22,6 +22,11 @@ use Rattle.shared_book.specs.Held.{Held}
 abbrev pub IsAnswering : SiteRules → Held → Held → Message (List ℕ) → AnswerBegun → Type 0
 IsAnswering rules old new message begun =
     BeginsAnswer rules.origin rules.history rules.limits rules.escape rules.page old new message begun
+
+-- it makes nothing of it
+abbrev pub HasNoAnswer : SiteRules → Held → Held → Message (List ℕ) → Type 0
+HasNoAnswer rules old new message =
+    IsNotBegun rules.origin rules.history rules.limits rules.escape rules.page old new message
 
 module _ {E V : Type 0} (rendered : V → Result Reply AllocError → Type 0) (can_run : V → Type 0) where
   -- the exchange holds what is to be rendered, gives its reply, and may be polled
