@@ -5,14 +5,14 @@
 // lists of mappings, and the HAR document of a recording.
 #![tactic(auto)]
 
-pub mod error;
-mod json_reply;
-mod entries;
-mod mapping_texts;
-mod search;
-pub mod listing;
-mod lists;
-mod reads;
-mod change;
 pub mod admin_answer;
 pub mod answer;
+mod change;
+mod entries;
+pub mod error;
+mod json_reply;
+pub mod listing;
+mod lists;
+mod mapping_texts;
+mod reads;
+mod search;

@@ -5,10 +5,10 @@
 #![tactic(auto)]
 
 pub mod cells;
-pub mod words;
-pub mod row;
 pub mod compare;
-pub mod octets;
-pub mod requests;
 pub mod exchanges;
 pub mod mappings;
+pub mod octets;
+pub mod requests;
+pub mod row;
+pub mod words;

@@ -4,10 +4,10 @@
 //! ends) and `specs/Answering.antt` (the reply as it is printed, the errors and their order, and how an answer ends).
 #![tactic(auto)]
 
-pub mod notes;
+pub mod answer;
 mod budgets;
 pub mod check;
 pub mod fresh;
-pub mod sent;
+pub mod notes;
 mod printed;
-pub mod answer;
+pub mod sent;

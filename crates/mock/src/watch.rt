@@ -1,7 +1,7 @@
 // The thread that waits for the end of standard input, ends the recording then, and the server.
 use http_connections::ender::Ender;
-use saved_mappings::file_writer::FileWriter;
-use saved_mappings::recorded::{RecordError, Recorded, end_recording};
+use mapping_files::file_writer::FileWriter;
+use mapping_files::recorded::{RecordError, Recorded, end_recording};
 use std::alloc::{AllocError, AllocGlobal, Global};
 use std::io::{ErrorKind, Read};
 use std::net::{IpAddr, Ipv4Addr, Ipv6Addr, Net, SocketAddr, TcpListener, TcpStream};

@@ -1,7 +1,7 @@
 use Rattle.std.proofs.Common.{◌≡◌, option_copied, subst, sym}
 use Rattle.mock.proofs.Serves.{serves_as}
 use Rattle.mock.proofs.serve.serve.Goals as goal
-use Rattle.served_book.specs.Served.{IsServedBook}
+use Rattle.mapping_files.specs.Served.{IsServedBook}
 
 pub returns-in-Ok-log_to-clause-serves : goal.returns-in-Ok-log_to-clause-serves
 returns-in-Ok-log_to-clause-serves g c =

@@ -1,0 +1,2 @@
+mod AcceptedLemmas
+pub mod Reversed

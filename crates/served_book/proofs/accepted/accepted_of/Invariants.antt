@@ -1,8 +1,0 @@
-use Rattle.std.proofs.Common.{map, take}
-use Rattle.served_book.specs.Served.{SpellAccepted}
-use Rattle.served_book.proofs.accepted.accepted_of.Given as goal
-
--- the mappings of the first documents
-abbrev pub invariant-loop-text : goal.invariant-loop-text
-invariant-loop-text l =
-    SpellAccepted l.fn.escape (map (λ text. text.items) (take l.text-index l.texts)) l.accepted.mappings.items
