@@ -2,4 +2,5 @@
 pub mod Begins
 pub mod Exchange
 pub mod Failure
+pub mod Outcome
 pub mod Started

@@ -1,15 +1,14 @@
 // A journal that the server itself clears once it shows as many requests as it may.
-ghost use Rattle.std.specs.Prelude.{◌≡◌, IsFalse, IsTrue};
+ghost use Rattle.std.specs.Prelude.{◌≡◌, IsFalse, IsSome, IsTrue};
 ghost use Rattle.admin_answers.specs.Answers.{Gains};
 ghost use Rattle.hyper_service.specs.Given.{IsKept};
 ghost use Rattle.request_journal.specs.declared.input.BookInput.TheVariants.{ClearJournal as Cleared};
 ghost use Rattle.shared_book.specs.Seen.{HasMadeNoCall};
 
-use crate::gained::gained;
+use crate::outcome::Outcome;
 use request_journal::event::Event;
 use request_journal::input::BookInput;
 use shared_book::origin::Origin;
-use shared_book::receipt::Receipt;
 use shared_book::seat::Seat;
 use shared_book::shared_book::SharedBook;
 use std::sync::{Mutex, Wait};
@@ -33,34 +32,35 @@ impl JournalLimit {
         }
     }
 
-    /// Counts what the seat has gained since its last receipt had that number. At the limit it clears the journal, by
-    /// the same call as a client would. Where that is refused, it tries again after the next request.
+    /// Counts the event of that outcome. Whether the journal then shows as many requests as it may.
+    pub(crate) fn count<R: Wait>(&self, rt: &R, outcome: Option<Outcome<'_>>) -> bool
+        ensures { IsTrue result → IsSome self.now.limit }
+    {
+        let Some(limit) = self.limit else {
+            return false;
+        };
+        let mut shown = self.shown.lock(rt);
+        if let Some(outcome) = outcome {
+            *shown = shown_after(*shown, outcome.receipt.event.event());
+        }
+        *shown > 0 && *shown >= limit
+    }
+
+    /// Clears the journal where it is full, by the same call as a client would. Where that is refused, it tries again
+    /// after the next request.
     pub(crate) fn keep<L: Origin, R: Wait>(
         &self,
         rt: &R,
         book: &SharedBook<L>,
         seat: &mut Seat<L>,
-        before: Option<u64>,
+        is_full: bool,
     )
+        requires { IsTrue is_full → IsSome self.now.limit }
         ensures { IsKept self.now.limit L.origin L.book seat.old seat.new }
     {
-        let Some(limit) = self.limit else { return };
-        let shown = self.count(rt, gained(seat, before));
-        if shown == 0 || shown < limit {
-            return;
-        }
-        if clear(rt, book, seat) {
+        if is_full && clear(rt, book, seat) {
             *self.shown.lock(rt) = 0;
         }
-    }
-
-    // How many requests the journal shows after that receipt.
-    fn count<R: Wait>(&self, rt: &R, gained: Option<&Receipt>) -> u64 {
-        let mut shown = self.shown.lock(rt);
-        if let Some(receipt) = gained {
-            *shown = shown_after(*shown, receipt.event.event());
-        }
-        *shown
     }
 }
 

@@ -3,9 +3,9 @@
 #![tactic(auto)]
 
 pub mod forward_exchange;
-mod gained;
 pub mod journal_limit;
 pub mod log;
+pub mod outcome;
 pub mod render_exchange;
 pub mod renderer;
 pub mod renders;

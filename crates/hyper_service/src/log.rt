@@ -1,4 +1,5 @@
 // What is told of messages once they are answered.
+use crate::outcome::Outcome;
 use answering::content::Content;
 use answering::refused::Refused;
 use answering::rendering::Rendering;
@@ -6,32 +7,29 @@ use bytes::Bytes;
 use http::{Request, Response};
 use mock_request::snapshot::Snapshot;
 use proxy_client::failure::Failure;
-use shared_book::receipt::Receipt;
 use std::alloc::Global;
 use std::sync::Wait;
 
 /// Is told how messages are answered, outside of the book's lock and before the answer is sent. So it shouldn't take
 /// long.
 pub trait Log {
-    /// A message was answered at once. The receipt is that of the event that it made, if it made one; then so many
-    /// mappings gave way to those that the event added.
+    /// A message was answered at once, with that outcome, if it made an event.
     fn answered<R: Wait>(
         &self,
         rt: &R,
         alloc: Global,
         message: &Request<Bytes>,
-        receipt: Option<&Receipt>,
-        replaced: u64,
+        outcome: Option<Outcome<'_>>,
         response: &Response<Content>,
     );
 
-    /// An admin call was refused. The receipt is that of the event that it made all the same, if it made one.
+    /// An admin call was refused. Its outcome is that of an event that it made all the same.
     fn refused<R: Wait>(
         &self,
         rt: &R,
         alloc: Global,
         message: &Request<Bytes>,
-        receipt: Option<&Receipt>,
+        outcome: Option<Outcome<'_>>,
         refused: &Refused,
     );
 
@@ -61,8 +59,7 @@ impl Log for NoLog {
         _rt: &R,
         _alloc: Global,
         _message: &Request<Bytes>,
-        _receipt: Option<&Receipt>,
-        _replaced: u64,
+        _outcome: Option<Outcome<'_>>,
         _response: &Response<Content>,
     ) {}
 
@@ -71,7 +68,7 @@ impl Log for NoLog {
         _rt: &R,
         _alloc: Global,
         _message: &Request<Bytes>,
-        _receipt: Option<&Receipt>,
+        _outcome: Option<Outcome<'_>>,
         _refused: &Refused,
     ) {}
 

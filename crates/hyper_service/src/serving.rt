@@ -1,5 +1,7 @@
 // The start and the end of a server.
 ghost use Rattle.std.specs.Prelude.{◌≡◌, ◌≤◌, IfErr, IfOk};
+ghost use Rattle.std.specs.Arc.{arc_value};
+ghost use Rattle.http_connections.specs.Site.{settings_of, site_of};
 ghost use Rattle.hyper_service.specs.Report.{Announces, IsAnnounced, IsSettling, MayReportMemory};
 ghost use Rattle.hyper_service.specs.Report.{ReportsEnded, ReportsUnserved};
 
@@ -55,6 +57,8 @@ where
     N: Log + Drop,
     O: Write,
     E: Write,
+    ensures serves { IfOk result (λ server. (site_of (arc_value server) ≡ answers)
+        × (settings_of (arc_value server) ≡ settings)) }
     ensures announced { IfOk result (λ _. IsAnnounced (O.contents out.old) (O.contents out.new)) }
     ensures silent { IfOk result (λ _. err.new ≡ err.old) }
     ensures failed { IfErr result (ReportsUnserved O.contents E.contents out.old out.new err.old err.new) }
@@ -123,6 +127,8 @@ where
     F: Forwards,
     V: Renders,
     N: Log + Drop,
+    ensures { IfOk result (λ server. (site_of (arc_value server) ≡ answers)
+        × (settings_of (arc_value server) ≡ settings)) }
 {
     let turns = answers.turns();
     let answers = Arc::new(alloc, answers)?;

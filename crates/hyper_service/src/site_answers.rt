@@ -1,26 +1,26 @@
 // A site answers the requests of connections.
-ghost use Rattle.std.specs.Prelude.{◌≡◌, IfErr, IfOk};
+ghost use Rattle.std.specs.Prelude.{◌≡◌, IfErr, IfOk, IsSome, IsTrue};
 ghost use Rattle.answering.specs.Forwarding.{IsFinished};
 ghost use Rattle.answering.specs.Rendering.{IsResponseOfRendered};
 ghost use Rattle.http_messages.specs.declared.error.ServiceError.TheVariants.{OutOfMemory as NoMemory};
 ghost use Rattle.hyper_service.specs.Given.{IsGiven, IsLeft, IsPassedTo, IsUnanswered};
 ghost use Rattle.hyper_service.specs.Given.{rules_of};
-ghost use Rattle.hyper_service.specs.Inner.Begins.{Begins, IsForwardBegun, IsForwardingBy, IsRenderBegun, IsRenderingBy};
+ghost use Rattle.hyper_service.specs.Inner.Begins.{Begins, HasNoAnswer, IsAnswering, IsForwardBegun};
+ghost use Rattle.hyper_service.specs.Inner.Begins.{IsForwardingBy, IsRenderBegun, IsRenderingBy};
 ghost use Rattle.hyper_service.specs.Inner.Failure.{IsFailure};
 ghost use Rattle.hyper_service.specs.Seats.{IsJoined, IsSplit};
 ghost use Rattle.shared_book.specs.Seen.{HasMadeNoCall};
 
 use crate::forward_exchange::Forwarded;
-use crate::gained::{gained, last_number};
 use crate::journal_limit::JournalLimit;
 use crate::log::Log;
+use crate::outcome::{Outcome, last_number, outcome_of};
 use crate::render_exchange::Rendered;
 use crate::renders::Renders;
 use crate::site_exchange::{SiteExchange, SiteReply};
 use answering::clock::Clock;
 use answering::content::Content;
 use answering::forward::Forward;
-use answering::refused::Refused;
 use answering::rendering::{Rendering, rendered_response};
 use answering::site::Site;
 use bytes::Bytes;
@@ -33,7 +33,6 @@ use proxy_client::failure::Failure;
 use proxy_client::forwards::Forwards;
 use shared_book::gate::Gate;
 use shared_book::origin::Origin;
-use shared_book::receipt::Receipt;
 use shared_book::seat::Seat;
 use std::alloc::Global;
 use std::sync::{Arc, Wait};
@@ -128,8 +127,10 @@ where
         request: &Request<Bytes>,
     ) -> Result<Begun<SiteExchange<F::Exchange, V::Run>, Content>, ServiceError> {
         let before = last_number(seat);
-        let begun = self.begin_message(rt, alloc, handle, seat, before, request);
-        self.journal.keep(rt, &self.site.book, seat, before);
+        let answered = answering::begin::begin(rt, alloc, &self.site, seat, request);
+        let is_full = self.tell(rt, alloc, request, outcome_of(seat, before), &answered);
+        let begun = self.pass_on(rt, alloc, handle, seat, answered);
+        self.journal.keep(rt, &self.site.book, seat, is_full);
         begun
     }
 
@@ -167,56 +168,59 @@ where
     V: Renders,
     N: Log + Drop,
 {
-    // The answer to a request, or the exchange that forwards it or renders its response. `before` is the number of the
-    // seat's last receipt.
-    fn begin_message<R: Wait>(
+    // Tells the log what was answered, and counts the event. Whether the journal is full.
+    fn tell<R: Wait>(
+        &self,
+        rt: &R,
+        alloc: Global,
+        request: &Request<Bytes>,
+        outcome: Option<Outcome<'_>>,
+        answered: &Result<answering::begun::Begun, ServiceError>,
+    ) -> bool
+        ensures { IsTrue result → IsSome self.now.journal.limit }
+    {
+        match answered {
+            Ok(answering::begun::Begun::Answered(response)) => {
+                self.log.answered(rt, alloc, request, outcome, response)
+            }
+            Ok(answering::begun::Begun::Refused(refused)) => {
+                self.log.refused(rt, alloc, request, outcome, refused)
+            }
+            _ => {}
+        }
+        self.journal.count(rt, outcome)
+    }
+
+    // The answer, or the exchange that forwards the request or renders its response.
+    fn pass_on<R: Wait>(
         &self,
         rt: &R,
         alloc: Global,
         handle: &Handle,
         seat: &mut Seat<L>,
-        before: Option<u64>,
-        request: &Request<Bytes>,
+        answered: Result<answering::begun::Begun, ServiceError>,
     ) -> Result<Begun<SiteExchange<F::Exchange, V::Run>, Content>, ServiceError>
-        ensures ok { IfOk result (Begins (rules_of L.origin L.book self.now) (F.reaches self.now.forwarder) F.sends
-            F.Exchange.gives F.Exchange.can_poll V.Run.gives V.Run.can_poll seat.old seat.new request.now) }
-        ensures err { IfErr result (λ error. (error ≡ NoMemory)
-            × IsLeft (rules_of L.origin L.book self.now) seat.old seat.new request.now) }
+        ensures ok { (old : _) → (message : _)
+            → IfOk answered (IsAnswering (rules_of L.origin L.book self.now) old seat.old message)
+            → IfOk result (Begins (rules_of L.origin L.book self.now) (F.reaches self.now.forwarder) F.sends
+            F.Exchange.gives F.Exchange.can_poll V.Run.gives V.Run.can_poll old seat.new message) }
+        ensures err { (old : _) → (message : _)
+            → IfOk answered (IsAnswering (rules_of L.origin L.book self.now) old seat.old message)
+            → IfErr answered (λ error. (error ≡ NoMemory)
+            × HasNoAnswer (rules_of L.origin L.book self.now) old seat.old message)
+            → IfErr result (λ error. (error ≡ NoMemory)
+            × IsLeft (rules_of L.origin L.book self.now) old seat.new message) }
     {
-        match answering::begin::begin(rt, alloc, &self.site, seat, request)? {
-            answering::begun::Begun::Answered(response) => {
-                let receipt = gained(seat, before);
-                self.log
-                    .answered(rt, alloc, request, receipt, seat.replaced(), &response);
-                Ok(Begun::Answered(response))
-            }
+        match answered? {
+            answering::begun::Begun::Answered(response) => Ok(Begun::Answered(response)),
             answering::begun::Begun::Refused(refused) => {
-                let receipt = gained(seat, before);
-                let response = self.refuse(rt, alloc, request, receipt, refused);
-                Ok(Begun::Answered(response))
+                Ok(Begun::Answered(Box::into_inner(refused).into_response()))
             }
             answering::begun::Begun::ToForward(forward) => {
                 self.forward(rt, alloc, handle, seat, forward)
             }
             answering::begun::Begun::ToRender(rendering) => self.render(rt, alloc, rendering),
         }
-    }
-
-    // The response to an admin call that is refused. Not inlined, as `forward`.
-    #[inline(never)]
-    fn refuse<R: Wait>(
-        &self,
-        rt: &R,
-        alloc: Global,
-        request: &Request<Bytes>,
-        receipt: Option<&Receipt>,
-        refused: Box<Refused>,
-    ) -> Response<Content>
-        ensures { result ≡ refused.value.response }
-    {
-        let refused = Box::into_inner(refused);
-        self.log.refused(rt, alloc, request, receipt, &refused);
-        refused.into_response()
     }
 
     // The exchange for what is to be forwarded; or the answer, where there can't be one. Not inlined: a function clears

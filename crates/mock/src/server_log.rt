@@ -5,13 +5,13 @@ use answering::rendering::Rendering;
 use bytes::Bytes;
 use http::{Request, Response};
 use hyper_service::log::Log;
+use hyper_service::outcome::Outcome;
 use mock_request::snapshot::Snapshot;
 use proxy_client::failure::Failure;
 use request_journal::event::Event;
 use request_log::request_log::{Offer, RequestLog};
 use shared_book::book_read::{BookRead, ReadAnswer};
 use shared_book::origin::Origin;
-use shared_book::receipt::Receipt;
 use shared_book::shared_book::SharedBook;
 use std::alloc::{AllocError, Global};
 use std::sync::Wait;
@@ -100,11 +100,10 @@ impl<L: Origin> Log for ServerLog<L> {
         rt: &R,
         alloc: Global,
         message: &Request<Bytes>,
-        receipt: Option<&Receipt>,
-        replaced: u64,
+        outcome: Option<Outcome<'_>>,
         response: &Response<Content>,
     ) {
-        let event = event_of(receipt);
+        let event = event_of(outcome);
         if !self.log.may_tell(event) {
             return;
         }
@@ -114,8 +113,10 @@ impl<L: Origin> Log for ServerLog<L> {
             _ => None,
         };
         self.log.answered(rt, alloc, message, event, status, offer);
-        if let Some((_number, event)) = event {
-            self.log.replaced(rt, alloc, message, event, replaced);
+        if let Some(outcome) = outcome {
+            let event = outcome.receipt.event.event();
+            self.log
+                .replaced(rt, alloc, message, event, outcome.replaced);
             self.tell_stopped(rt, alloc, message, event);
         }
     }
@@ -125,13 +126,13 @@ impl<L: Origin> Log for ServerLog<L> {
         rt: &R,
         alloc: Global,
         message: &Request<Bytes>,
-        receipt: Option<&Receipt>,
+        outcome: Option<Outcome<'_>>,
         refused: &Refused,
     ) {
         let status = refused.response.status().as_u16();
         let lines = refused.lines.as_str();
         self.log
-            .refused(rt, alloc, message, event_of(receipt), status, lines);
+            .refused(rt, alloc, message, event_of(outcome), status, lines);
     }
 
     fn forwarded<R: Wait>(
@@ -164,9 +165,9 @@ impl<L: Origin> Log for ServerLog<L> {
 }
 
 // The event that a message made, with its number.
-fn event_of(receipt: Option<&Receipt>) -> Option<(u64, &Event)> {
-    match receipt {
-        Some(receipt) => Some((receipt.number, receipt.event.event())),
+fn event_of(outcome: Option<Outcome<'_>>) -> Option<(u64, &Event)> {
+    match outcome {
+        Some(outcome) => Some((outcome.receipt.number, outcome.receipt.event.event())),
         None => None,
     }
 }

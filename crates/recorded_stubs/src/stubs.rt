@@ -8,6 +8,7 @@ use crate::kept::kept_of;
 use crate::request::request_of;
 use crate::response::response_of;
 use crate::scenario::scenario_of;
+use bytes::Bytes;
 use key_groups::place::Place;
 use key_groups::places::places_of;
 use mapping_model::mapping_id::MappingId;
@@ -24,6 +25,8 @@ use std::alloc::{AllocError, Global};
 pub struct Recorded {
     /// Each with its id, in the order of their exchanges.
     pub mappings: Vec<MappingSpec>,
+    /// The bodies of the replies that the mappings were made of, in the same order, which share their bytes.
+    pub bodies: Vec<Bytes>,
     /// How many exchanges can't be mappings.
     pub skipped: usize,
 }
@@ -45,11 +48,13 @@ pub fn stubs_of(
     let keys = keys_of(alloc, kept.as_slice(), captured)?;
     let places = places_of(alloc, keys.as_slice())?;
     let mut mappings = Vec::new(alloc);
+    let mut bodies = Vec::new(alloc);
     for index in 0..kept.len() {
         let (exchange, place) = (kept[index], places[index]);
         push_mapping(
             alloc,
             &mut mappings,
+            &mut bodies,
             exchange,
             place,
             captured,
@@ -58,7 +63,11 @@ pub fn stubs_of(
         )?;
     }
     let skipped = exchanges.len() - kept.len();
-    Ok(Recorded { mappings, skipped })
+    Ok(Recorded {
+        mappings,
+        bodies,
+        skipped,
+    })
 }
 
 fn keys_of<'a>(
@@ -75,10 +84,11 @@ fn keys_of<'a>(
     Ok(keys)
 }
 
-// Appends the mapping of an exchange, if it gives one.
+// Appends the mapping of an exchange and the body of its reply, if it gives one.
 fn push_mapping(
     alloc: Global,
     mappings: &mut Vec<MappingSpec>,
+    bodies: &mut Vec<Bytes>,
     exchange: &Exchange,
     place: Place,
     captured: &[Text],
@@ -96,6 +106,7 @@ fn push_mapping(
     } else {
         return Ok(());
     };
+    bodies.push(exchange.reply.body.clone()?)?;
     let index = mappings.len() as u64;
     mappings.push(mapping_of(alloc, exchange, captured, number, index, scenario)?)?;
     Ok(())

@@ -16,11 +16,11 @@ use crate::authority::{authority, host_and_port};
 use crate::grouped::grouped;
 use crate::object::Object;
 use crate::path_data::{bindings, path_data};
+use crate::query_data::query_data;
 use data_tree::data::Data;
 use mock_request::body::body_text;
 use mock_request::cookies::cookie_pairs;
 use mock_request::header_fields::header_pairs;
-use mock_request::query::query_pairs;
 use mock_request::snapshot::Snapshot;
 use needed_data::needed::Needed;
 use path_template::path_template::PathTemplate;
@@ -184,7 +184,7 @@ pub(crate) fn push_query(
     if !needed.has("query") {
         return Ok(());
     }
-    made.push("query", grouped(alloc, query_pairs(alloc, snapshot)?)?)
+    made.push("query", query_data(alloc, snapshot)?)
 }
 
 /// A field whose text is at hand.

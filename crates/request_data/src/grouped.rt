@@ -1,5 +1,5 @@
 // Names and values, grouped by name.
-ghost use Rattle.std.specs.Prelude.{◌≡◌, ℕ, List, [], map, is_some, IfOk, string_bytes};
+ghost use Rattle.std.specs.Prelude.{◌≡◌, ◌++◌, ℕ, List, [], map, is_some, IfOk, OnOk, string_bytes};
 ghost use Rattle.std.specs.BTreeMap.{get_by_text};
 ghost use Rattle.std.specs.List.{list_any};
 ghost use Rattle.std.specs.Option.{option_map_or};
@@ -7,6 +7,7 @@ ghost use Rattle.std.specs.Str.{bytes_eq};
 ghost use Rattle.data_tree.specs.Tree.{members_view, view};
 ghost use Rattle.mock_request.specs.Values.{first_of, pairs_of, values_of};
 ghost use Rattle.request_data.specs.Grouped.{firsts, grouped, values_tree};
+ghost use Rattle.request_data.specs.Inner.Runs.{pairs_of_runs};
 
 use data_tree::data::Data;
 use std::alloc::{AllocError, Global};
@@ -16,8 +17,31 @@ use std::collections::BTreeMap;
 pub(crate) fn grouped(alloc: Global, pairs: Vec<(String, String)>) -> Result<Data, AllocError>
     ensures { IfOk result (λ made. view made ≡ grouped (pairs_of pairs.items)) }
 {
-    let mut fields = Vec::new(alloc);
-    for (name, values) in by_name(alloc, pairs)? {
+    let groups = by_name(alloc, pairs)?;
+    fields_of(alloc, groups)
+}
+
+/// The same of names that come with several values.
+pub(crate) fn grouped_runs(
+    alloc: Global,
+    runs: Vec<(String, Vec<String>)>,
+) -> Result<Data, AllocError>
+    ensures { IfOk result (λ made. view made ≡ grouped (pairs_of_runs runs.items)) }
+{
+    let groups = runs_by_name(alloc, runs)?;
+    fields_of(alloc, groups)
+}
+
+// The first value and all values of each name.
+fn fields_of(alloc: Global, groups: BTreeMap<String, Vec<String>>) -> Result<Data, AllocError>
+    ensures { IfOk result (λ made. (pairs : List (List ℕ × List ℕ))
+        → ((name : List ℕ) → option_map_or (λ values. map string_bytes values.items) (get_by_text groups name) []
+        ≡ values_of name pairs)
+        → ((name : List ℕ) → is_some (get_by_text groups name) ≡ list_any (λ pair. bytes_eq name pair.0) pairs)
+        → view made ≡ grouped pairs) }
+{
+    let mut fields = Vec::with_capacity(alloc, groups.len())?;
+    for (name, values) in groups {
         fields.push((name, values_data(alloc, values)?))?;
     }
     Ok(Data::Fields(fields))
@@ -56,12 +80,43 @@ fn by_name(
     Ok(groups)
 }
 
+// The same of runs.
+fn runs_by_name(
+    alloc: Global,
+    runs: Vec<(String, Vec<String>)>,
+) -> Result<BTreeMap<String, Vec<String>>, AllocError>
+    ensures values { IfOk result (λ groups. (name : List ℕ) →
+        option_map_or (λ values. map string_bytes values.items) (get_by_text groups name) []
+        ≡ values_of name (pairs_of_runs runs.items)) }
+    ensures names { IfOk result (λ groups. (name : List ℕ) →
+        is_some (get_by_text groups name)
+        ≡ list_any (λ pair. bytes_eq name pair.0) (pairs_of_runs runs.items)) }
+{
+    let mut groups: BTreeMap<String, Vec<String>> = BTreeMap::new(alloc);
+    for (name, values) in runs {
+        if !values.is_empty() {
+            append(groups.entry(name)?.or_default(), values)?;
+        }
+    }
+    Ok(groups)
+}
+
+fn append(to: &mut Vec<String>, mut values: Vec<String>) -> Result<(), AllocError>
+    ensures { OnOk result (to.new.items ≡ to.old.items ++ values.items) }
+{
+    if to.is_empty() {
+        *to = values;
+        return Ok(());
+    }
+    to.append(&mut values)
+}
+
 // The first value and all values.
 fn values_data(alloc: Global, values: Vec<String>) -> Result<Data, AllocError>
     ensures { IfOk result (λ made. view made ≡ values_tree (map string_bytes values.items)) }
 {
     let text = first(alloc, &values)?;
-    let mut items = Vec::new(alloc);
+    let mut items = Vec::with_capacity(alloc, values.len())?;
     for value in values {
         items.push(Data::Text(value))?;
     }

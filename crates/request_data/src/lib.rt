@@ -14,3 +14,4 @@ mod fields;
 mod grouped;
 mod object;
 mod path_data;
+mod query_data;

@@ -4,15 +4,15 @@
 // `specs/Literal.antt` (which requests a literal URL leaves); `specs/Parts/` has the same of a matcher's parts.
 #![tactic(auto)]
 
-pub mod error;
-pub mod literal_kind;
-pub mod url_key;
-mod hashed_text;
-pub mod parsed_request;
-pub mod url_test;
-pub mod named_test;
 pub mod body_test;
+pub mod error;
+mod hashed_text;
 pub mod literal;
+pub mod literal_kind;
+pub mod named_test;
+pub mod parsed_request;
+pub mod ready_mapping;
 pub mod request_matcher;
 pub mod shared_spec;
-pub mod ready_mapping;
+pub mod url_key;
+pub mod url_test;

@@ -7,6 +7,7 @@ use crate::error::RequestMatchError;
 use crate::parsed_request::ParsedRequest;
 use crate::request_matcher::RequestMatcher;
 use crate::shared_spec::SharedSpec;
+use bytes::Bytes;
 use mapping_model::mapping_spec::MappingSpec;
 use std::alloc::{AllocError, Global};
 use std::marker::Model;
@@ -37,6 +38,21 @@ impl ReadyMapping {
     {
         let matcher = RequestMatcher::build(alloc, &spec.request)?;
         let spec = SharedSpec::new(alloc, spec)?;
+        Ok(ReadyMapping { spec, matcher })
+    }
+
+    /// The same. Where these bytes are those of the body of its responses, these share them.
+    pub fn build_sharing(
+        alloc: Global,
+        spec: MappingSpec,
+        bytes: &Bytes,
+    ) -> Result<ReadyMapping, RequestMatchError>
+        ensures ok { IfOk result (λ mapping. mapping ≡ spec) }
+        ensures usable { OnOk result (CanBeBuilt spec.request) }
+        ensures refusal { IfErr result (IsRefusal spec.request) }
+    {
+        let matcher = RequestMatcher::build(alloc, &spec.request)?;
+        let spec = SharedSpec::sharing(alloc, spec, bytes)?;
         Ok(ReadyMapping { spec, matcher })
     }
 

@@ -2,6 +2,7 @@
 ghost use Rattle.std.specs.Prelude.{◌≡◌, ◌↔◌, IfOk, IsTrue};
 ghost use Rattle.stub_response.specs.Prepared.{IsPrepared};
 
+use bytes::Bytes;
 use mapping_model::mapping_spec::MappingSpec;
 use plain_text::plain::{Same, TryClone};
 use std::alloc::{AllocError, Global};
@@ -47,6 +48,21 @@ impl SharedSpec {
         ensures { IfOk result (λ shared. shared ≡ spec) }
     {
         let prepared = Prepared::of(alloc, spec.response.response())?;
+        Ok(SharedSpec {
+            kept: Arc::new(alloc, Kept { spec, prepared })?,
+        })
+    }
+
+    /// The same. Where these bytes are those of the body of its responses, these share them.
+    pub fn sharing(
+        alloc: Global,
+        spec: MappingSpec,
+        bytes: &Bytes,
+    ) -> Result<SharedSpec, AllocError>
+        ensures { IfOk result (λ shared. shared ≡ spec) }
+    {
+        let mut prepared = Prepared::of(alloc, spec.response.response())?;
+        prepared.share_body(bytes);
         Ok(SharedSpec {
             kept: Arc::new(alloc, Kept { spec, prepared })?,
         })

@@ -272,8 +272,8 @@ impl<L: Origin> Seat<L> {
     }
 
     /// Takes over the other seat, which makes no call any more: its parts, its lists of receipts beside the own ones,
-    /// and its headers, if it has any. Both let go of events. Where memory runs out (or there are more receipts than a
-    /// number has room for) the other seat is handed back.
+    /// and its headers, if it has any. Both let go of events, and `replaced` stays. Where memory runs out (or there are
+    /// more receipts than a number has room for) the other seat is handed back.
     pub fn join<R: Wait>(
         &mut self,
         rt: &R,
@@ -282,6 +282,7 @@ impl<L: Origin> Seat<L> {
     ) -> Result<(), Seat<L>>
         ensures ok { OnOk result (HasLetGo L.origin (with_seat self.old other) self.new) }
         ensures joined { OnOk result (HasJoined L.origin L.book self.old other self.new) }
+        ensures replaced { OnOk result (self.new.replaced ≡ self.old.replaced) }
         ensures err { IfErr result (λ seat. (seat ≡ other) × (self.new ≡ self.old)) }
     {
         let Some(count) = self.count.checked_add(other.count) else {

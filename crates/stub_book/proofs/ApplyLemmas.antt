@@ -9,8 +9,10 @@ use Rattle.request_journal.specs.declared.input.BookInput.{BookInput}
 use Rattle.stub_book.specs.declared.accepted.Accepted.{Accepted}
 use Rattle.stub_book.specs.declared.prepared.Prepared.{Prepared}
 use Rattle.stub_book.specs.declared.accepted.Changed.{Changed}
-use Rattle.stub_book.specs.Growth.{Applies, Changes, Grows, IsAccepted, fewer, replaced}
+use Rattle.stub_book.specs.Growth.{Applies, Changes, Grows, IsAccepted, replaced}
+use Rattle.stub_book.specs.Inner.Counted.{fewer}
 use Rattle.stub_book.specs.Inner.Kept.{IsPrepared}
+use Rattle.stub_book.proofs.LeftLemmas.{fewer_replaced}
 
 -- what was prepared and then added
 pub accepts :
@@ -62,5 +64,6 @@ changes old new added changed before after grows same first last counted = recor
       ∙ ap (λ (n : ℕ). fewer added n after) first
       ∙ ap (λ (n : ℕ). fewer added (length (live old)) n) last
       ∙ fewer_after old new added (length (live old)) grows
+      ∙ fewer_replaced old added
       ∙ ap (λ (e : Event). replaced old e) (sym same);
 }

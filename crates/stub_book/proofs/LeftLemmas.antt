@@ -5,15 +5,17 @@ use Rattle.std.specs.List.{Any, Contains, filter}
 use Rattle.std.specs.List.Sorted.{IsPermutation}
 use Rattle.std.specs.Str.{bytes_eq}
 use Rattle.std.proofs.lemmas.Bool.{false_from_ne_true}
+use Rattle.std.proofs.lemmas.List.Elements.{filter_agree}
 use Rattle.std.proofs.lemmas.List.Sorted.{Contains-permutation}
 use Rattle.std.proofs.lemmas.Slice.Eq.{bytes_eq-Decides}
 use Rattle.request_journal.specs.Live.{live, adds, left_by, edited, removes, is_removed}
-use Rattle.request_journal.specs.Past.{Past, Placed, with_event, last_number}
+use Rattle.request_journal.specs.Past.{Past, Placed, has_id, placed_from, with_event, last_number}
 use Rattle.request_journal.specs.declared.event.Event.{Event}
 use Rattle.request_journal.specs.declared.event.Event.TheVariants as event
 use Rattle.request_journal.specs.declared.mapping.Mapping.{Mapping}
 use Rattle.request_journal.proofs.LiveLemmas.{live_after, gone, kept}
-use Rattle.stub_book.specs.Growth.{replaced}
+use Rattle.stub_book.specs.Growth.{named_by, repeated, replaced}
+use Rattle.stub_book.specs.Inner.Counted.{fewer}
 
 -- a fact that holds of some element holds of some element of the list in another order
 pub Any-permutation : {X : Type 0} (P : X → Type 0) (xs ys : List X) → IsPermutation xs ys → Any P xs → Any P ys
@@ -131,11 +133,100 @@ less_some :
 less_some m [] less = absurd (omega (arith, less))
 less_some m (p ∷ ps) less = some_at m p ps (bytes_eq m.id p.mapping.id) (less_some m ps) refl less
 
+-- an event takes those that it removes, and leaves the others
+left_or_gone :
+    (e : Event) (placed : List Placed)
+    → length (left_by (e ∷ []) placed) + length (filter (λ p. removes e p.mapping.id) placed) ≡ length placed
+left_or_gone e [] = refl
+left_or_gone e (p ∷ ps) =
+    let rest : List Placed = filter (λ q. not (is_removed (e ∷ []) q.mapping.id)) ps in
+    let taken : List Placed = filter (λ q. removes e q.mapping.id) ps in
+    let as_many : length (left_by (e ∷ []) ps) + length taken ≡ length ps = left_or_gone e ps in
+    elim (removes e p.mapping.id)
+    as (λ b. length (map (edited (e ∷ [])) (cond (not (b || false)) (p ∷ rest) rest))
+    + length (cond b (p ∷ taken) taken) ≡ length (p ∷ ps)) [
+      | true ↦ omega (arith, as_many)
+      | false ↦ omega (arith, as_many)
+    ]
+
+-- mappings of one event are added but for those that a later one has the id of
+placed_or_repeated :
+    (number index : ℕ) (mappings : List Mapping)
+    → length (placed_from number index mappings) + repeated mappings ≡ length mappings
+placed_or_repeated number index [] = refl
+placed_or_repeated number index (m ∷ ms) =
+    let here : Placed = record { place = record { event = number; index = index }; mapping = m } in
+    let more : List Placed = placed_from number (index + 1) ms in
+    let as_many : length more + repeated ms ≡ length ms = placed_or_repeated number (index + 1) ms in
+    elim (has_id ms m.id)
+    as (λ b. length (cond b more (here ∷ more)) + cond b (repeated ms + 1) (repeated ms) ≡ length (m ∷ ms)) [
+      | true ↦ omega (arith, as_many)
+      | false ↦ omega (arith, as_many)
+    ]
+
+-- how many mappings are live after a stop
+length-stopped :
+    (past : Past) (mappings : List Mapping) (skipped : ℕ)
+    → length (live (with_event past (event.StopRecording mappings skipped)))
+    ≡ length (left_by (event.StopRecording mappings skipped ∷ []) (live past))
+    + length (placed_from (last_number past + 1) 0 mappings)
+length-stopped past mappings skipped =
+    let e : Event = event.StopRecording mappings skipped in
+    ap length (live_after past e)
+    ∙ length-append (left_by (e ∷ []) (live past)) (adds past.defaults (last_number past + 1) e)
+
+or_false : (b : Bool) → (b || false) ≡ b
+or_false true = refl
+or_false false = refl
+
+-- one mapping names those that an add of it removes
+one_id : (m : Mapping) (placed : List Placed)
+    → named_by (m ∷ []) placed ≡ length (filter (λ p. removes (event.Add m) p.mapping.id) placed)
+one_id m placed =
+    ap length
+    (filter_agree (λ p. has_id (m ∷ []) p.mapping.id) (λ p. removes (event.Add m) p.mapping.id)
+    (λ p. or_false (bytes_eq m.id p.mapping.id)) placed)
+
+-- the mappings that are fewer are those that gave way
+pub fewer_replaced :
+    (past : Past) (added : Event)
+    → fewer added (length (live past)) (length (live (with_event past added))) ≡ replaced past added
+fewer_replaced past (event.Serve request answer) = refl
+fewer_replaced past (event.Add m) =
+    let split = left_or_gone (event.Add m) (live past) in
+    omega (arith, length-added past m, split, one_id m (live past))
+fewer_replaced past (event.Edit id spec) = refl
+fewer_replaced past (event.Delete id) = refl
+fewer_replaced past event.DeleteAll = refl
+fewer_replaced past event.ResetMappings = refl
+fewer_replaced past event.ResetAll = refl
+fewer_replaced past event.ResetScenarios = refl
+fewer_replaced past (event.SetScenario name state) = refl
+fewer_replaced past event.ClearJournal = refl
+fewer_replaced past (event.StartRecording target captured repeats) = refl
+fewer_replaced past (event.Record serve exchange) = refl
+fewer_replaced past (event.StopRecording ms skipped) =
+    let split = left_or_gone (event.StopRecording ms skipped) (live past) in
+    let placed = placed_or_repeated (last_number past + 1) 0 ms in
+    omega (arith, length-stopped past ms skipped, split, placed)
+
 -- a mapping gives way exactly where the id is live
 pub gives_way :
     (past : Past) (m : Mapping) → (0 < replaced past (event.Add m)) ↔ Any (λ q. q.mapping.id ≡ m.id) (live past)
-gives_way past m = (
-  λ (some : 0 < length (live past) + 1 - length (live (with_event past (event.Add m)))).
-      less_some m (live past) (omega (arith, length-added past m, some)),
-  λ a. omega (arith, held_few past m a),
-)
+gives_way past m =
+    let split = left_or_gone (event.Add m) (live past) in
+    let many = one_id m (live past) in (
+      λ (some : 0 < replaced past (event.Add m)). less_some m (live past) (omega (arith, split, many, some)),
+      λ a. omega (arith, split, many, less_at m (live past) a.0 a.1 a.2 a.3 a.4),
+    )
+
+-- those that are live after a stop and those that gave way are together those before and those that it adds
+pub stop_counts :
+    (past : Past) (mappings : List Mapping) (skipped : ℕ)
+    → length (live (with_event past (event.StopRecording mappings skipped)))
+    + replaced past (event.StopRecording mappings skipped)
+    ≡ length (live past) + length mappings
+stop_counts past mappings skipped =
+    let split = left_or_gone (event.StopRecording mappings skipped) (live past) in
+    let placed = placed_or_repeated (last_number past + 1) 0 mappings in
+    omega (arith, length-stopped past mappings skipped, split, placed)

@@ -1,16 +1,17 @@
 -- How the past of a book grows.
-use Rattle.std.specs.Prelude.{◌≡◌, ◌+◌, ◌-◌, ℕ, MatchBool, length}
+use Rattle.std.specs.Prelude.{◌≡◌, ◌+◌, ℕ, List, [], ◌∷◌, MatchBool, cond, filter, length}
 use Rattle.mock_request.specs.Request.{Request}
 use Rattle.request_journal.specs.Input.{IsAsked, answer_of}
 use Rattle.request_journal.specs.Journal.{clears}
 use Rattle.request_journal.specs.Legal.{IsNext, IsCheckpoint}
 use Rattle.request_journal.specs.Live.{live}
-use Rattle.request_journal.specs.Past.{Past, with_event}
+use Rattle.request_journal.specs.Past.{Past, Placed, has_id, with_event}
 use Rattle.request_journal.specs.declared.event.Event.{Event}
 use Rattle.request_journal.specs.declared.event.Event.TheVariants as event
 use Rattle.request_journal.specs.declared.event.ServeAnswer.{ServeAnswer}
 use Rattle.request_journal.specs.declared.input.BookAnswer.{BookAnswer}
 use Rattle.request_journal.specs.declared.input.BookInput.{BookInput}
+use Rattle.request_journal.specs.declared.mapping.Mapping.{Mapping}
 use Rattle.stub_book.specs.declared.accepted.Accepted.{Accepted}
 use Rattle.stub_book.specs.declared.accepted.Changed.{Changed}
 
@@ -45,16 +46,21 @@ IsServed request served = (answer : ServeAnswer) × (served ≡ event.Serve requ
 
 -- ---- what gives way to mappings that are added
 
--- how many fewer mappings there are after the event than before it and those that it adds together
-abbrev pub fewer : Event → ℕ → ℕ → ℕ
-fewer (event.Add mapping) before after = before + 1 - after
-fewer (event.StopRecording mappings skipped) before after = before + length mappings - after
-fewer other before after = 0
+-- how many live mappings have the id of one of these
+abbrev pub named_by : List Mapping → List Placed → ℕ
+named_by mappings placed = length (filter (λ p. has_id mappings p.mapping.id) placed)
+
+-- how many of these have the id of a later one
+abbrev pub repeated : List Mapping → ℕ
+repeated [] = 0
+repeated (m ∷ ms) = cond (has_id ms m.id) (repeated ms + 1) (repeated ms)
 
 -- how many mappings give way to one with their id that the event adds to the past: live ones, and at a stop of a
 -- recording also those that a later one of the same event has the id of
 abbrev pub replaced : Past → Event → ℕ
-replaced past added = fewer added (length (live past)) (length (live (with_event past added)))
+replaced past (event.Add mapping) = named_by (mapping ∷ []) (live past)
+replaced past (event.StopRecording mappings skipped) = named_by mappings (live past) + repeated mappings
+replaced past other = 0
 
 -- the past has grown by one such event, which was given back with how many mappings gave way to what it adds
 pub record Changes (old new : Past) (changed : Changed) : Type 0 where

@@ -1,13 +1,14 @@
 // One call for every change.
-ghost use Rattle.std.specs.Prelude.{◌≡◌, ◌<◌, ◌≤◌, ◌↔◌, IfErr, IfOk, OnErr, length};
+ghost use Rattle.std.specs.Prelude.{◌≡◌, ◌<◌, ◌≤◌, ◌↔◌, ◌+◌, ℕ, IfErr, IfOk, List, OnErr, length};
 ghost use Rattle.request_journal.specs.Input.{IsAsked};
 ghost use Rattle.request_journal.specs.Legal.{IsLive};
 ghost use Rattle.request_journal.specs.Live.{live};
-ghost use Rattle.request_journal.specs.Past.{Past};
+ghost use Rattle.request_journal.specs.Past.{Past, with_event};
 ghost use Rattle.request_journal.specs.declared.event.Event.TheVariants as event;
 ghost use Rattle.request_journal.specs.declared.limits.TheConstants.{LIVE_LIMIT};
 ghost use Rattle.request_journal.specs.declared.mapping.Mapping.{Mapping};
-ghost use Rattle.stub_book.specs.Growth.{Applies, Changes, IsAccepted, fewer, replaced};
+ghost use Rattle.stub_book.specs.Growth.{Applies, Changes, IsAccepted, replaced};
+ghost use Rattle.stub_book.specs.Inner.Counted.{fewer};
 ghost use Rattle.stub_book.specs.Refusals.{IsRefusal};
 
 use crate::accepted::{Accepted, Changed};
@@ -39,10 +40,15 @@ impl Book {
         Ok(Changed { event, replaced })
     }
 
-    /// An event that adds a mapping replaces one exactly where the id is live.
+    /// An event that adds a mapping replaces one exactly where the id is live. None is lost at the stop of a recording:
+    /// those that are live after it, and those that it replaces, are as many as were live before it and it adds.
     pub fn law_replaced(&self)
-        ensures { (past : Past) → (mapping : Mapping)
+        ensures add { (past : Past) → (mapping : Mapping)
             → (0 < replaced past (event.Add mapping)) ↔ IsLive past mapping.id }
+        ensures stop { (past : Past) → (mappings : List Mapping) → (skipped : ℕ)
+            → length (live (with_event past (event.StopRecording mappings skipped)))
+            + replaced past (event.StopRecording mappings skipped)
+            ≡ length (live past) + length mappings }
     {}
 
     // How many mappings are live.

@@ -10,12 +10,14 @@ ghost use Rattle.request_journal.specs.declared.input.BookInput.TheVariants as i
 ghost use Rattle.request_journal.specs.declared.limits.TheConstants.{LIVE_LIMIT};
 ghost use Rattle.stub_book.specs.Growth.{IsAccepted};
 ghost use Rattle.stub_book.specs.Inner.Recorded.{LacksOnlyMemory};
+ghost use Rattle.request_match.specs.Refusal as matcher;
 ghost use Rattle.stub_book.specs.Refusals.{IsOwnReason, IsRefusal};
 
 use crate::accepted::Accepted;
 use crate::book::Book;
 use crate::error::BookError;
 use crate::prepared::prepare;
+use bytes::Bytes;
 use error_code::error_code::ErrorCode;
 use mapping_model::mapping_id::MappingId;
 use mapping_model::mapping_spec::MappingSpec;
@@ -111,7 +113,7 @@ fn additions_of(alloc: Global, session: &Session, number: u64) -> Result<Additio
         number,
     )?;
     let skipped = recorded.skipped as u64;
-    let added = all_ready(alloc, recorded.mappings)?;
+    let added = all_ready(alloc, recorded.mappings, recorded.bodies)?;
     let mappings = Items::from(copies(alloc, added.as_slice())?);
     Ok(Additions {
         added,
@@ -120,27 +122,52 @@ fn additions_of(alloc: Global, session: &Session, number: u64) -> Result<Additio
     })
 }
 
-// The mappings under their ids, ready to be served.
-fn all_ready(alloc: Global, specs: Vec<MappingSpec>) -> Result<Vec<BookMapping>, AllocError>
+// The mappings under their ids, ready to be served. What they are answered with is kept once with these bodies.
+fn all_ready(
+    alloc: Global,
+    specs: Vec<MappingSpec>,
+    bodies: Vec<Bytes>,
+) -> Result<Vec<BookMapping>, AllocError>
     requires { All LacksOnlyMemory specs.items }
     ensures { IfOk result (λ ready. ready.items ≡ identified specs.items) }
 {
     let mut ready = Vec::with_capacity(alloc, specs.len())?;
+    let mut bodies = bodies.into_iter();
     for spec in specs {
+        let body = bodies.next();
         if let Some(id) = spec.id {
-            ready.push(one_ready(alloc, id, spec)?)?;
+            ready.push(one_ready(alloc, id, spec, body)?)?;
         }
     }
     Ok(ready)
 }
 
-fn one_ready(alloc: Global, id: MappingId, spec: MappingSpec) -> Result<BookMapping, AllocError>
+fn one_ready(
+    alloc: Global,
+    id: MappingId,
+    spec: MappingSpec,
+    body: Option<Bytes>,
+) -> Result<BookMapping, AllocError>
     requires { LacksOnlyMemory spec }
     ensures { IfOk result (λ ready. ready ≡ record { id = id; spec = spec }) }
 {
-    match ReadyMapping::build(alloc, spec) {
+    match built(alloc, spec, body) {
         Ok(ready) => Ok(BookMapping::new(alloc, id, ready)?),
         Err(RequestMatchError::OutOfMemory) => Err(AllocError),
         Err(_) => unreachable!(),
+    }
+}
+
+fn built(
+    alloc: Global,
+    spec: MappingSpec,
+    body: Option<Bytes>,
+) -> Result<ReadyMapping, RequestMatchError>
+    ensures ok { IfOk result (λ mapping. mapping ≡ spec) }
+    ensures refusal { IfErr result (matcher.IsRefusal spec.request) }
+{
+    match body {
+        Some(body) => ReadyMapping::build_sharing(alloc, spec, &body),
+        None => ReadyMapping::build(alloc, spec),
     }
 }

@@ -22,6 +22,20 @@ pub struct PlainResponse {
     pub body: Bytes,
 }
 
+impl PlainResponse {
+    /// Shares these bytes, where they are those of the body, so that they are kept once. Takes no memory.
+    pub(crate) fn share_body(&mut self, bytes: &Bytes)
+        ensures { self.new ≡ self.old }
+    {
+        if self.body.as_slice() != bytes.as_slice() {
+            return;
+        }
+        if let Ok(shared) = bytes.clone() {
+            self.body = shared;
+        }
+    }
+}
+
 /// What they have: status, headers in their order, and body. Copies each value and the body once.
 pub(crate) fn made_of(
     alloc: Global,

@@ -1,5 +1,5 @@
 // What the responses of a mapping have in common.
-ghost use Rattle.std.specs.Prelude.{IfOk, IfSome};
+ghost use Rattle.std.specs.Prelude.{◌≡◌, IfOk, IfSome};
 ghost use Rattle.stub_response.specs.Prepared.{HoldsHeaders, IsPrepared};
 
 use crate::headers::header_map;
@@ -7,6 +7,7 @@ use crate::limits::{Limits, keep_to};
 use crate::needs::needed_by_headers;
 use crate::plain_response::{PlainResponse, made_of};
 use crate::rendered::rendered_headers;
+use bytes::Bytes;
 use data_tree::data::Data;
 use data_tree::request_data::RequestData;
 use http_header::HeaderMap;
@@ -48,6 +49,17 @@ impl Prepared {
                     None => Ok(Prepared::Nothing),
                 }
             }
+        }
+    }
+}
+
+impl Prepared {
+    /// Shares these bytes, where they are those of the body that it has, so that they are kept once. Takes no memory.
+    pub fn share_body(&mut self, bytes: &Bytes)
+        ensures { self.new ≡ self.old }
+    {
+        if let Prepared::Response(made) = self {
+            made.share_body(bytes);
         }
     }
 }

@@ -1,9 +1,10 @@
 -- What becomes of a message, before the journal's limit is kept.
 use Rattle.std.specs.Prelude.{◌≡◌, ◌⊎◌, ℕ, List, IfOk, IsErr, Result, Some}
 use Rattle.std.specs.declared.alloc.AllocError.{AllocError}
-use Rattle.answering.specs.Answering.{IsBegun}
+use Rattle.answering.specs.Answering.{Begins as BeginsAnswer, IsBegun, IsNotBegun}
 use Rattle.answering.specs.Forwarding.{IsFinished, IsToForward}
 use Rattle.answering.specs.Rendering.{IsRenderedReply, IsResponseOfRendered, IsToRender}
+use Rattle.answering.specs.declared.begun.Begun.{Begun as AnswerBegun}
 use Rattle.answering.specs.declared.forward.Forward.{Forward}
 use Rattle.answering.specs.declared.rendering.Rendering.{Rendering}
 use Rattle.http.specs.declared.request.Request.{Request as Message}
@@ -16,6 +17,16 @@ use Rattle.mapping_model.specs.declared.reply.Reply.{Reply}
 use Rattle.mock_request.specs.Request.{Request}
 use Rattle.proxy_client.specs.declared.error.ProxyError.{ProxyError}
 use Rattle.shared_book.specs.Held.{Held}
+
+-- what answering makes of the message, by the rules of the site
+abbrev pub IsAnswering : SiteRules → Held → Held → Message (List ℕ) → AnswerBegun → Type 0
+IsAnswering rules old new message begun =
+    BeginsAnswer rules.origin rules.history rules.limits rules.escape rules.page old new message begun
+
+-- it makes nothing of it
+abbrev pub HasNoAnswer : SiteRules → Held → Held → Message (List ℕ) → Type 0
+HasNoAnswer rules old new message =
+    IsNotBegun rules.origin rules.history rules.limits rules.escape rules.page old new message
 
 module _ {E V : Type 0} (rendered : V → Result Reply AllocError → Type 0) (can_run : V → Type 0) where
   -- the exchange holds what is to be rendered, gives its reply, and may be polled

@@ -95,3 +95,6 @@ returns-clause-joined g c =
       joined = lines_in c.self.inside.lines.joined.items;
       replaced = c.self.inside.replaced;
     }) o new) c.other.view_is c.join.ensures)
+
+pub returns-clause-replaced : goal.returns-clause-replaced
+returns-clause-replaced g c = ap (λ (h : Held). h.replaced) c.self.view_is

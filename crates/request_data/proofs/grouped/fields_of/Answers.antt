@@ -3,24 +3,23 @@ use Rattle.std.proofs.lemmas.Iterator.Consumers.{YieldsList-from_rest, YieldsLis
 use Rattle.std.proofs.lemmas.List.{map-id}
 use Rattle.data_tree.proofs.Views.{view-Fields}
 use Rattle.data_tree.specs.Tree.{fields, members_of}
-use Rattle.mock_request.specs.Values.{pairs_of}
 use Rattle.request_data.specs.Grouped.{values_tree}
 use Rattle.request_data.proofs.GroupLemmas.{entry_tree, grouped_entries}
-use Rattle.request_data.proofs.grouped.grouped.Goals as goal
+use Rattle.request_data.proofs.grouped.fields_of.Goals as goal
 
 pub returns : goal.returns
 returns c =
-    let entries = c.in_ok-items.items.entries in
+    let entries = c.args.groups.entries in
     let same = c.into_iter-name-iterator.ensures.into_iter_gives in
     let end =
     YieldsList-end (YieldsList-from_rest entries same.0) c.loop-name.yielded _ c.loop-name.yielded_by _ _
     c.in-None.is c.next.ensures.steps in
     let whole : c.loop-name.yielded ≡ entries = sym (map-id c.loop-name.yielded) ∙ end.0 in
+    λ pairs each among.
     view-Fields c.loop-name.fields
     ∙ ap (λ ms. fields (members_of ms)) c.loop-name.invariant
     ∙ ap (λ es. fields (members_of
     (map (entry_tree values_tree (λ values. map string_bytes values.items)) es))) whole
     ∙ ap fields (
-    grouped_entries values_tree (λ values. map string_bytes values.items) (pairs_of c.args.pairs.items) entries same.5
-    c.in_ok-items.ensures.values c.in_ok-items.ensures.names
+    grouped_entries values_tree (λ values. map string_bytes values.items) pairs entries same.5 each among
     )

@@ -1,0 +1,75 @@
+// A query's names and values as templates see them.
+ghost use Rattle.std.specs.Prelude.{◌≡◌, ◌++◌, map, All, IfOk, OnOk, IsTrue, string_bytes};
+ghost use Rattle.std.specs.Str.Lossy.{utf8_lossy};
+ghost use Rattle.data_tree.specs.Tree.{view};
+ghost use Rattle.form_urlencoded.specs.Form.{decode, parse, IsPlain};
+ghost use Rattle.mock_request.specs.Query.{query_pairs, text_pair};
+ghost use Rattle.request_data.specs.Grouped.{grouped};
+ghost use Rattle.request_data.specs.Inner.Runs.{pairs_of_runs, pairs_under};
+
+use crate::grouped::grouped_runs;
+use data_tree::data::Data;
+use mock_request::snapshot::Snapshot;
+use std::alloc::{AllocError, Global};
+
+/// The decoded names in byte order, each with its first value and all its values. None where the URL has no query.
+pub(crate) fn query_data(alloc: Global, snapshot: &Snapshot) -> Result<Data, AllocError>
+    ensures { IfOk result (λ made. view made ≡ grouped (query_pairs snapshot.now.url)) }
+{
+    match snapshot.query() {
+        Some(query) => grouped_runs(alloc, form_runs(alloc, query)?),
+        None => Ok(Data::Fields(Vec::new(alloc))),
+    }
+}
+
+// The decoded names and values of a form. A query mostly gives the values of one name one after the other, and then the
+// name is decoded once.
+fn form_runs(alloc: Global, form: &str) -> Result<Vec<(String, Vec<String>)>, AllocError>
+    ensures { IfOk result (λ runs. pairs_of_runs runs.items ≡ map text_pair (parse form.now)) }
+{
+    let mut runs = Vec::new(alloc);
+    let mut last: &[u8] = &[];
+    let mut values = Vec::new(alloc);
+    for (name, value) in form_urlencoded::raw_pairs(form.as_bytes()) {
+        if name != last {
+            push_run(alloc, &mut runs, last, values)?;
+            last = name;
+            values = Vec::new(alloc);
+        }
+        values.push(decoded(alloc, value)?)?;
+    }
+    push_run(alloc, &mut runs, last, values)?;
+    Ok(runs)
+}
+
+fn push_run(
+    alloc: Global,
+    runs: &mut Vec<(String, Vec<String>)>,
+    name: &[u8],
+    values: Vec<String>,
+) -> Result<(), AllocError>
+    ensures { OnOk result (pairs_of_runs runs.new.items
+        ≡ pairs_of_runs runs.old.items ++ pairs_under (utf8_lossy (decode name.now)) values.items) }
+{
+    runs.push((decoded(alloc, name)?, values))?;
+    Ok(())
+}
+
+// The text of a name or a value.
+fn decoded(alloc: Global, encoded: &[u8]) -> Result<String, AllocError>
+    ensures { IfOk result (λ text. string_bytes text ≡ utf8_lossy (decode encoded.now)) }
+{
+    if is_plain(encoded) {
+        if let Ok(text) = str::from_utf8(encoded) {
+            return String::from_str(alloc, text);
+        }
+    }
+    form_urlencoded::decode(alloc, encoded)?.into_owned(alloc)
+}
+
+// Whether the bytes stand for themselves, as most do: then they are gone over once.
+fn is_plain(encoded: &[u8]) -> bool
+    ensures { IsTrue result → All IsPlain encoded.now }
+{
+    encoded.iter().all(|&byte| byte != b'+' && byte != b'%')
+}
