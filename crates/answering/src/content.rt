@@ -62,16 +62,6 @@ impl Content {
         }
     }
 
-    /// Its bytes, where they are there as a whole.
-    pub fn as_whole(&self) -> Option<&[u8]>
-        ensures { IfSome result (λ bytes. bytes.now ≡ self.now) }
-    {
-        match &self.kind {
-            Kind::Whole(bytes) => Some(bytes.as_slice()),
-            Kind::Listed(_listed) => None,
-        }
-    }
-
     pub fn listed(alloc: Global, listing: Listing) -> Result<Content, AllocError>
         ensures { IfOk result (λ content. content ≡ listing) }
     {
