@@ -21,6 +21,7 @@ use crate::site_exchange::{SiteExchange, SiteReply};
 use answering::clock::Clock;
 use answering::content::Content;
 use answering::forward::Forward;
+use answering::refused::Refused;
 use answering::rendering::{Rendering, rendered_response};
 use answering::site::Site;
 use bytes::Bytes;
@@ -214,7 +215,7 @@ where
         match answered? {
             answering::begun::Begun::Answered(response) => Ok(Begun::Answered(response)),
             answering::begun::Begun::Refused(refused) => {
-                Ok(Begun::Answered(Box::into_inner(refused).into_response()))
+                Ok(Begun::Answered(refused_response(refused)))
             }
             answering::begun::Begun::ToForward(forward) => {
                 self.forward(rt, alloc, handle, seat, forward)
@@ -343,6 +344,14 @@ where
             }),
         }
     }
+}
+
+// The response to an admin call that is refused. Not inlined, as `forward`.
+#[inline(never)]
+fn refused_response(refused: Box<Refused>) -> Response<Content>
+    ensures { result ≡ refused.value.response }
+{
+    Box::into_inner(refused).into_response()
 }
 
 // Why the target gave no reply; nothing where it gave one, or where memory ran out.

@@ -15,7 +15,7 @@ returns-in-Refused-clause-ok g c = λ old message answered.
     let rules = rules_of g.L.Origin.origin g.L.Naming.book c.args.self.now in
     let begun = subst (IsAnswering rules old c.args.seat.now message) c.in-Refused.is
     (rw c.in_ok-response.was at answered) in
-    inl (rw c.into_response.ensures begun)
+    inl (rw c.refused_response.ensures begun)
 
 pub returns-in-ToForward-clause-ok : goal.returns-in-ToForward-clause-ok
 returns-in-ToForward-clause-ok g c = λ old message answered.
