@@ -5,13 +5,13 @@
 #![tactic(auto)]
 
 pub mod book_mapping;
+mod counts;
+pub mod defaults;
+mod eligible;
+mod entries;
 pub mod entry;
 mod ids;
-mod entries;
-pub mod defaults;
-mod several;
-mod counts;
-mod eligible;
 mod listing;
-mod scenario_names;
 pub mod mapping_store;
+mod scenario_names;
+mod several;

@@ -12,6 +12,6 @@ returns-clause-ok c =
     let after = c.live_count.result in (
       accepted.asked_for,
       changes c.args.self.now c.accept.new.self added (record { event = added; replaced = c.fewer-replaced.result })
-      before after accepted.grows refl c.live_count-before.ensures.count c.live_count.ensures.count
-      (c.fewer-replaced.ensures ∙ ap (λ (e : Event). fewer e before after) c.event.ensures),
+          before after accepted.grows refl c.live_count-before.ensures.count c.live_count.ensures.count
+          (c.fewer-replaced.ensures ∙ ap (λ (e : Event). fewer e before after) c.event.ensures),
     )
