@@ -23,7 +23,9 @@ pub enum BookRead {
     Recording,
 }
 
-/// What is answered. Mappings, requests and exchanges are shared with the book.
+/// What is answered, a case for each that is asked for. Mappings, requests and exchanges are shared with the book.
+/// Where requests are to be matched these are all requests, with the matcher: they are matched after the lock was let
+/// go.
 #[derive(Drop)]
 pub enum ReadAnswer {
     /// The newest first.
@@ -32,7 +34,17 @@ pub enum ReadAnswer {
     Mapping(Option<Mapping>),
     /// The newest first.
     Requests(Vec<Entry>),
-    Count(usize),
+    /// The newest first.
+    Unmatched(Vec<Entry>),
+    /// The newest first.
+    Find {
+        requests: Vec<Entry>,
+        matcher: RequestMatcher,
+    },
+    Count {
+        requests: Vec<Entry>,
+        matcher: RequestMatcher,
+    },
     /// The states, and the live mappings, the newest first, which name the scenarios.
     Scenarios {
         states: Scenarios,

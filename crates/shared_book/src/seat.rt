@@ -19,7 +19,6 @@ ghost use mathlib.Core.Option.{none};
 use crate::book_read::{BookRead, Reading};
 use crate::history::{Front, Place};
 use crate::lines::Lines;
-use crate::look::answer;
 use crate::origin::Origin;
 use crate::receipt::Receipt;
 use crate::shared_book::SharedBook;
@@ -263,14 +262,7 @@ impl<L: Origin> Seat<L> {
         ensures ok { IfOk result (IsRead L.origin self.new.seen asked) }
     {
         let alloc = *self.lines.joined.allocator();
-        let Reading {
-            number,
-            answer: found,
-        } = shared.lock(rt).read(rt, &mut self.place, alloc, &asked)?;
-        Ok(Reading {
-            number,
-            answer: answer(alloc, asked, found)?,
-        })
+        shared.lock(rt).read(rt, &mut self.place, alloc, asked)
     }
 
     /// Takes over the other seat, which makes no call any more: its parts, its lists of receipts beside the own ones,
