@@ -13,7 +13,7 @@ use Rattle.shared_book.specs.Inner.Kept.{IsKept}
 use Rattle.shared_book.specs.Reached.{InPastOf, IsLawful, IsPastOf, Log, MayFollow}
 use Rattle.shared_book.specs.Reading.{IsRead, IsReadAnswer, IsReadOnce}
 use Rattle.shared_book.specs.Seen.{IsEntered, IsJoined, IsSplit, SeesAll}
-use Rattle.shared_book.specs.declared.book_read.BookRead.{BookRead}
+use Rattle.request_journal.specs.declared.read.BookRead.{BookRead}
 use Rattle.shared_book.specs.declared.book_read.ReadAnswer.{ReadAnswer}
 use Rattle.shared_book.specs.declared.book_read.Reading.{Reading}
 use Rattle.shared_book.specs.declared.receipt.Receipt.{Receipt}

@@ -11,8 +11,8 @@ use Rattle.request_journal.specs.Recording.{recording}
 use Rattle.request_journal.specs.State.{state}
 use Rattle.scenario_core.specs.Scenarios.{state_of}
 use Rattle.shared_book.specs.Reached.{IsLawful, IsPastOf, Log, MayFollow}
-use Rattle.shared_book.specs.declared.book_read.BookRead.{BookRead}
-use Rattle.shared_book.specs.declared.book_read.BookRead.TheVariants as read
+use Rattle.request_journal.specs.declared.read.BookRead.{BookRead}
+use Rattle.request_journal.specs.declared.read.BookRead.TheVariants as read
 use Rattle.shared_book.specs.declared.book_read.ReadAnswer.{ReadAnswer}
 use Rattle.shared_book.specs.declared.book_read.ReadAnswer.TheVariants as answer
 use Rattle.shared_book.specs.declared.book_read.Reading.{Reading}

@@ -16,7 +16,8 @@ ghost use Rattle.stub_book.specs.Refusals.{IsRefusal, IsServeRefusal};
 
 use crate::audit::{audit, have_parts};
 use crate::base::base_of;
-use crate::book_read::{BookRead, ReadAnswer, Reading};
+use crate::book_read::{ReadAnswer, Reading};
+use request_journal::read::BookRead;
 use crate::compare::compare;
 use crate::entered::Entered;
 use crate::history::{History, Place};

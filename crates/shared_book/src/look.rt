@@ -1,10 +1,11 @@
 // Reading a book.
 ghost use Rattle.std.specs.Prelude.{◌≡◌, IfOk};
 ghost use Rattle.shared_book.specs.Reading.{IsReadAnswer};
-ghost use Rattle.shared_book.specs.declared.book_read.BookRead.TheVariants as read;
+ghost use Rattle.request_journal.specs.declared.read.BookRead.TheVariants as read;
 ghost use Rattle.shared_book.specs.declared.book_read.ReadAnswer.TheVariants as answer;
 
-use crate::book_read::{BookRead, ReadAnswer};
+use crate::book_read::ReadAnswer;
+use request_journal::read::BookRead;
 use mapping_model::mapping_id::MappingId;
 use request_journal::mapping::Mapping;
 use std::alloc::{AllocError, Global};

@@ -16,7 +16,8 @@ ghost use Rattle.std.specs.Borrow.{sem};
 ghost use denote.Follow.{follows_so};
 ghost use mathlib.Core.Option.{none};
 
-use crate::book_read::{BookRead, Reading};
+use crate::book_read::Reading;
+use request_journal::read::BookRead;
 use crate::history::{Front, Place};
 use crate::lines::Lines;
 use crate::origin::Origin;

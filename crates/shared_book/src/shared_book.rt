@@ -4,7 +4,8 @@ ghost use Rattle.shared_book.specs.Held.{new_seat};
 ghost use Rattle.shared_book.specs.Reading.{IsReadOnce};
 ghost use Rattle.shared_history.specs.Entries.{opening};
 
-use crate::book_read::{BookRead, ReadAnswer};
+use crate::book_read::ReadAnswer;
+use request_journal::read::BookRead;
 use crate::history::OpenedHistory;
 use crate::locked::Locked;
 use crate::origin::Origin;
