@@ -1,11 +1,11 @@
 -- Where a name is among members whose names ascend.
-use Rattle.std.proofs.Common.{◌≡◌, ◌<◌, ◌+◌, ℕ, zero, suc, List, [], ◌∷◌, ◌++◌, length, take, drop, String, Global}
+use Rattle.std.proofs.Common.{◌≡◌, ◌<◌, ◌+◌, ℕ, zero, suc, List, [], ◌∷◌, length, String, Global}
 use Rattle.std.proofs.Common.{string_bytes, Greater, Less, Equal, nat_cmp, refl, ap, arith, slice_index_or, slice_set}
 use Rattle.std.specs.Cmp.Lexicographic.{slice_cmp}
 use Rattle.std.specs.List.{insert}
-use Rattle.data_tree.specs.Tree.{Members, no_members, member, view, members_view}
+use Rattle.data_tree.specs.Tree.{no_members, member, view, members_view}
 use Rattle.data_tree.specs.declared.data.Data.{Data}
-use Rattle.json_bridge.specs.Inner.Direct.{put, put_all, ArePassed, IsFoundAt, BelongsAt}
+use Rattle.json_bridge.specs.Inner.Direct.{put, ArePassed, IsFoundAt, BelongsAt}
 
 abbrev pub Field : Type 0
 Field = String Global × Data

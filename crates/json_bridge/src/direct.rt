@@ -205,10 +205,7 @@ fn sorted(alloc: Global, found: Vec<(String, Data)>) -> Result<Vec<(String, Data
 }
 
 // Each is put where its name belongs.
-fn put_each(
-    alloc: Global,
-    found: Vec<(String, Data)>,
-) -> Result<Vec<(String, Data)>, AllocError>
+fn put_each(alloc: Global, found: Vec<(String, Data)>) -> Result<Vec<(String, Data)>, AllocError>
     ensures { IfOk result (λ made. members_view made.items ≡ put_all found.items no_members) }
 {
     let mut made = Vec::with_capacity(alloc, found.len())?;

@@ -1,6 +1,6 @@
 -- For private clauses: the tree of a JSON value, made straight from what its tokens spell. Each number in it is whole,
 -- also in values that a repeated name gives up.
-use Rattle.std.specs.Prelude.{◌≡◌, ℕ, zero, suc, ⊥, ℤ, List, [], ◌∷◌, Option, Some, option_map, option_and_then, String, string_bytes}
+use Rattle.std.specs.Prelude.{◌≡◌, ℕ, zero, suc, ℤ, List, [], ◌∷◌, Option, Some, option_map, option_and_then, String, string_bytes}
 use Rattle.std.specs.Cmp.Lexicographic.{slice_cmp}
 use Rattle.std.specs.Ordering.{nat_cmp, match_ordering}
 use Rattle.std.specs.declared.cmp.Ordering.TheVariants.{Less, Equal, Greater}
