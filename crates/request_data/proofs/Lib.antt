@@ -1,6 +1,5 @@
 pub mod GroupLemmas
 pub mod RunLemmas
-pub mod LastLemmas
 pub mod HostLemmas
 pub mod AuthorityLemmas
 pub mod PathLemmas

@@ -1,7 +1,7 @@
 use Rattle.std.proofs.Common.{◌≡◌, ◌≤◌, ◌∙◌, sym, length, arith}
 use Rattle.std.proofs.lemmas.Bool.{eqb-false}
-use Rattle.request_data.proofs.AuthorityLemmas.{port_read}
-use Rattle.request_data.proofs.authority.port.Goals as goal
+use Rattle.mock_request.proofs.AuthorityLemmas.{port_read}
+use Rattle.mock_request.proofs.authority.port.Goals as goal
 
 pub returns : goal.returns
 returns c =

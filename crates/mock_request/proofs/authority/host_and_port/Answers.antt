@@ -1,5 +1,5 @@
-use Rattle.request_data.proofs.AuthorityLemmas.{cut_at_colon, names_port, names_no_port, names_no_colon}
-use Rattle.request_data.proofs.authority.host_and_port.Goals as goal
+use Rattle.mock_request.proofs.AuthorityLemmas.{cut_at_colon, names_port, names_no_port, names_no_colon}
+use Rattle.mock_request.proofs.authority.host_and_port.Goals as goal
 
 pub returns-in_default-clause-host : goal.returns-in_default-clause-host
 returns-in_default-clause-host c = (names_no_colon c.args.authority.now c.in_default.ensures.cases).host_is

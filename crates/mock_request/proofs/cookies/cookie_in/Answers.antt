@@ -2,7 +2,7 @@ use Rattle.std.proofs.Common.{◌≡◌, ◌&&◌, nat_lt, length, None, Some, a
 use Rattle.std.specs.List.{before_first, after_first}
 use Rattle.mock_request.specs.Cookies.{equals_sign, is_equals_sign, cookie_in}
 use Rattle.mock_request.proofs.UrlLemmas.{lacks_char}
-use Rattle.mock_request.proofs.cookies.cookie.Goals as goal
+use Rattle.mock_request.proofs.cookies.cookie_in.Goals as goal
 
 pub returns-in_err-name : goal.returns-in_err-name
 returns-in_err-name c =

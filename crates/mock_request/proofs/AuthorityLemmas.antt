@@ -1,5 +1,5 @@
 -- How the code's cut at the last colon and its reading of digits meet the definition of a host and a port.
-use Rattle.std.proofs.Common.{eqb, leb, ◌≡◌, ◌≢◌, ℕ, ◌<◌, ◌≤◌, Bool, true, false, not}
+use Rattle.std.proofs.Common.{eqb, leb, ◌≡◌, ◌≢◌, ℕ, ◌<◌, ◌≤◌, Bool, true, false, not, cond}
 use Rattle.std.proofs.Common.{if◌then◌else◌, List, [], ◌∷◌, ◌++◌, None, Some, Result, Ok, Err}
 use Rattle.std.proofs.Common.{length, take, drop, get_or, All, sym, refl, ap, ◌∙◌, subst, arith}
 use Rattle.std.specs.Result.{result_ok}
@@ -14,18 +14,10 @@ use Rattle.std.proofs.lemmas.Bool.{false_from_ne_true}
 use Rattle.std.proofs.lemmas.List.{get_or_default, take-append-drop}
 use Rattle.std.proofs.lemmas.Str.Pattern.{NoCharPasses-char, drop_at_char}
 use Rattle.std.proofs.lemmas.Str.Parse.{IsNumeralModel, numerals_by_value, tells_all_ascii_digits, parse_plain}
-use Rattle.recorder.specs.Target.{default_port, is_colon, is_port, has_port, host_of, port_of}
-use Rattle.recorder.proofs.LastLemmas.{before_last_at, after_last_at, any_at}
+use Rattle.mock_request.specs.Authority.{colon, default_port, greatest_port, port_digits}
+use Rattle.mock_request.specs.Authority.{is_colon, is_port, has_port, host_of, port_of}
+use Rattle.mock_request.proofs.LastLemmas.{before_last_at, after_last_at, any_at}
 use Rattle.mock_request.proofs.UrlLemmas.{lacks_char}
-
-abbrev colon : ℕ
-colon = 58
-
-abbrev port_digits : ℕ
-port_digits = 5
-
-abbrev greatest_port : ℕ
-greatest_port = 65535
 
 -- ---- the last colon
 
@@ -159,3 +151,13 @@ port_read {E} bs (Err e) parsed few plain =
     false_from_ne_true _
     (λ yes_port. let p = port_parts bs yes_port in is (p.digits, p.some, omega (arith, p.small))) in
     rw none refl
+
+-- ---- the port of any text
+
+pub port_at_most : (text : List ℕ) → port_of text ≤ greatest_port
+port_at_most text = by (has_port text) refl
+  where
+    by : (b : Bool) → has_port text ≡ b
+        → cond b (digits_value 10 (after_last is_colon text)) default_port ≤ greatest_port
+    by true e = (port_parts (after_last is_colon text) (and_parts _ _ e).1).small
+    by false e = omega arith
