@@ -1,8 +1,8 @@
 //! Mapping documents, the mappings and matchers that they give, path templates, and requests.
 
 mod answers;
-pub mod literals;
 pub mod mappings;
+pub mod matchers;
 pub mod path_templates;
 pub mod ready;
 mod requests;

@@ -1,6 +1,6 @@
 //! The tables, and which call each of them is about.
 
-use crate::documents::{literals, mappings, path_templates, ready, snapshots};
+use crate::documents::{mappings, matchers, path_templates, ready, snapshots};
 use crate::recorded::{groups, hars, mappings as recorded, recordings};
 use crate::{books, scenarios};
 use case_table::compare::CaseTable;
@@ -17,7 +17,8 @@ pub enum Table {
     SameTemplates,
     /// Documents of single mappings, whose results an independent program computed.
     Documents,
-    Literals,
+    /// Request matchers by themselves.
+    Matchers,
     /// Mappings that are ready to be served.
     Ready,
     Groups,
@@ -40,7 +41,7 @@ impl CaseTable for Table {
             Table::NamedValues => "named_values.tsv",
             Table::SameTemplates => "same_templates.tsv",
             Table::Documents => "documents.tsv",
-            Table::Literals => "literals.tsv",
+            Table::Matchers => "matchers.tsv",
             Table::Ready => "ready.tsv",
             Table::Groups => "groups.tsv",
             Table::Targets => "targets.tsv",
@@ -60,7 +61,7 @@ impl CaseTable for Table {
             Table::NamedValues => snapshots::named_values(alloc, row),
             Table::SameTemplates => path_templates::same(alloc, row),
             Table::Documents => mappings::of_text(alloc, row),
-            Table::Literals => literals::answer(alloc, row.cell(0)),
+            Table::Matchers => matchers::answer(alloc, row),
             Table::Ready => ready::answer(alloc, row),
             Table::Groups => groups::places(alloc, row),
             Table::Targets => recordings::target(alloc, row),

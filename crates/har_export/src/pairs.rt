@@ -2,13 +2,14 @@
 ghost use Rattle.std.specs.Prelude.{◌≡◌, ◌∷◌, [], ◌++◌, map, option_map, string_bytes, IfOk, OnOk};
 ghost use Rattle.har_export.specs.Pairs.{json_of_pair, json_of_pairs, first_named, reply_pairs, cookie_set};
 ghost use Rattle.har_export.specs.Pairs.{cookies_set};
-ghost use Rattle.mock_request.specs.Cookies.{cookie_in, is_semicolon, without_spaces_around};
+ghost use Rattle.mock_request.specs.Cookies.{is_semicolon};
 ghost use Rattle.std.specs.List.{before_first};
 ghost use Rattle.std.specs.Str.{str_eq_ignore_ascii_case};
 ghost use Rattle.mock_request.specs.Values.{pair_of, pairs_of};
 ghost use Rattle.serde_json.specs.View.{view};
 
 use mapping_model::reply::ReplyHeader;
+use mock_request::cookies::{cookie_in, without_spaces_around};
 use serde_json::{Map, Value};
 use std::alloc::{AllocError, Global};
 
@@ -121,21 +122,4 @@ fn before_semicolon(text: &str) -> &str
         Some((before, _attributes)) => before,
         None => text,
     }
-}
-
-// A name and a value on the two sides of the first `=`, where there is a name.
-fn cookie_in(piece: &str) -> Option<(&str, &str)>
-    ensures { option_map (λ pair. (pair.0.now, pair.1.now)) result ≡ cookie_in piece.now }
-{
-    let (name, value) = piece.split_once('=')?;
-    if name.is_empty() {
-        return None;
-    }
-    Some((name, value))
-}
-
-fn without_spaces_around(piece: &str) -> &str
-    ensures { result.now ≡ without_spaces_around piece.now }
-{
-    piece.trim_start_matches(' ').trim_end_matches(' ')
 }

@@ -199,17 +199,6 @@ impl Notes {
         Ok(())
     }
 
-    /// Why an admin call was refused: the body of its answer has a code and a title.
-    pub fn add_refusal(
-        &mut self,
-        alloc: Global,
-        call: &str,
-        answer: &[u8],
-    ) -> Result<(), AllocError> {
-        let reason = refusal_of(alloc, answer)?;
-        self.add_line(["refused ", call, ": ", reason.as_str(), "\n"].as_slice())
-    }
-
     /// What there is to say of a mapping that was posted, and which has this error, if it has one.
     pub fn add_posted(
         &mut self,
@@ -354,30 +343,6 @@ fn document_fault(alloc: Global, document: &Value) -> Result<String, AllocError>
 fn found_instead(alloc: Global, wanted: &str, value: &Value) -> Result<String, AllocError> {
     let found = shown(alloc, value)?;
     joined(alloc, [wanted, ", found ", found.as_str()].as_slice())
-}
-
-/// As `error 12: unsupported field`.
-fn refusal_of(alloc: Global, answer: &[u8]) -> Result<String, AllocError> {
-    let Ok(answer) = Value::from_slice(alloc, answer) else {
-        return String::from_str(alloc, "error");
-    };
-    let mut digits = Buffer::new();
-    match first_error(&answer) {
-        Some((code, title)) => {
-            joined(
-                alloc,
-                ["error ", digits.format(code), ": ", title].as_slice(),
-            )
-        }
-        None => String::from_str(alloc, "error"),
-    }
-}
-
-fn first_error(answer: &Value) -> Option<(u64, &str)> {
-    let error = answer.get("errors")?.as_array()?.first()?;
-    let code = error.get("code")?.as_u64()?;
-    let title = error.get("title")?.as_str()?;
-    Some((code, title))
 }
 
 /// As `todo.json, mapping 2 (name "todo")`; where it has no name, its id, or nothing.

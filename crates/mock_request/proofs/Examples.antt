@@ -1,5 +1,5 @@
--- Queries, headers and cookies that the definitions read as the standards and the documents say.
-use Rattle.std.proofs.Common.{◌≡◌, List, [], ◌∷◌, refl, codes}
+-- Queries, headers, cookies and authorities that the definitions read as the standards and the documents say.
+use Rattle.std.proofs.Common.{◌≡◌, ℕ, List, [], ◌∷◌, refl, codes}
 use Rattle.std.specs.Str.{is_utf8, chars}
 use Rattle.std.specs.Str.Lossy.{utf8_lossy, utf8_valid_len, utf8_error_len}
 use Rattle.std.proofs.Math.Utf8.{encode}
@@ -8,6 +8,7 @@ use Rattle.mock_request.specs.Request.{Header}
 use Rattle.mock_request.specs.Values.{values_of}
 use Rattle.mock_request.specs.Query.{query_pairs}
 use Rattle.mock_request.specs.Cookies.{cookies_in, cookie_pairs}
+use Rattle.mock_request.specs.Authority.{host_of, port_of}
 
 -- ---- names and values by name
 
@@ -62,3 +63,40 @@ cookies_of_all_headers
     ≡ (codes "a", codes "1") ∷ (codes "b", codes "2") ∷ (codes "a", codes "3") ∷ []
 unfolding utf8_lossy utf8_valid_len is_utf8 chars encode
 cookies_of_all_headers = refl
+
+-- ---- host and port
+
+-- what an authority names
+abbrev named_by : List ℕ → List ℕ × ℕ
+named_by authority = (host_of authority, port_of authority)
+
+host_with_port : named_by (codes "a:80") ≡ (codes "a", 80)
+host_with_port = refl
+
+port_too_large : named_by (codes "a:65536") ≡ (codes "a:65536", 80)
+port_too_large = refl
+
+greatest_port : named_by (codes "a:65535") ≡ (codes "a", 65535)
+greatest_port = refl
+
+address_with_port : named_by (codes "[::1]:8080") ≡ (codes "[::1]", 8080)
+address_with_port = refl
+
+-- an IPv6 address without its brackets: its last colon counts as any other
+bare_address : named_by (codes "::1") ≡ (codes ":", 1)
+bare_address = refl
+
+no_digits : named_by (codes "a:") ≡ (codes "a:", 80)
+no_digits = refl
+
+leading_zeros : named_by (codes "a:00081") ≡ (codes "a", 81)
+leading_zeros = refl
+
+six_digits : named_by (codes "a:000081") ≡ (codes "a:000081", 80)
+six_digits = refl
+
+no_colon : named_by (codes "a") ≡ (codes "a", 80)
+no_colon = refl
+
+nothing_named : named_by [] ≡ ([], 80)
+nothing_named = refl

@@ -6,4 +6,6 @@ pub mod UrlLemmas
 pub mod HeaderLemmas
 pub mod CookieLemmas
 pub mod QueryLemmas
+mod LastLemmas
+pub mod AuthorityLemmas
 pub mod Examples

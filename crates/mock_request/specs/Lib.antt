@@ -6,4 +6,5 @@ pub mod Values
 pub mod Query
 pub mod HeaderFields
 pub mod Cookies
+pub mod Authority
 pub mod Inner

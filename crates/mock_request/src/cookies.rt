@@ -31,7 +31,7 @@ fn push_cookies(
     ensures { OnOk result (pairs_of pairs.new.items ≡ pairs_of pairs.old.items ++ cookies_in text.now) }
 {
     for piece in text.split(';') {
-        if let Some((name, value)) = cookie(without_spaces_around(piece)) {
+        if let Some((name, value)) = cookie_in(without_spaces_around(piece)) {
             pairs.push((
                 String::from_str(alloc, name)?,
                 String::from_str(alloc, value)?,
@@ -41,8 +41,8 @@ fn push_cookies(
     Ok(())
 }
 
-// A name and a value on the two sides of the first `=`, where there is a name.
-fn cookie(piece: &str) -> Option<(&str, &str)>
+/// A name and a value on the two sides of the first `=`, where there is a name.
+pub fn cookie_in(piece: &str) -> Option<(&str, &str)>
     ensures { option_map (λ pair. (pair.0.now, pair.1.now)) result ≡ cookie_in piece.now }
 {
     let (name, value) = piece.split_once('=')?;
@@ -52,8 +52,8 @@ fn cookie(piece: &str) -> Option<(&str, &str)>
     Some((name, value))
 }
 
-// Spaces alone (U+0020), as cookies have them: a tab stays.
-fn without_spaces_around(piece: &str) -> &str
+/// Without the spaces at both ends. Spaces alone (U+0020), as cookies have them: a tab stays.
+pub fn without_spaces_around(piece: &str) -> &str
     ensures { result.now ≡ without_spaces_around piece.now }
 {
     piece.trim_start_matches(' ').trim_end_matches(' ')

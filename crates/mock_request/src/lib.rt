@@ -1,7 +1,7 @@
 //! A request as it was received (`Snapshot`), and its values by name (`query_pairs`, `header_pairs`, `cookie_pairs`),
 //! as templates and matchers see them. It uses `http_header` for names and values of headers, and `form_urlencoded` to
-//! read queries. Contracts cite `specs/Target.antt` (which URL a target asks for), `Url` (a URL's parts), and `Query`,
-//! `HeaderFields` and `Cookies` over `Values` (names with values).
+//! read queries. Contracts cite `specs/Target.antt` (which URL a target asks for), `Url` (a URL's parts), `Query`,
+//! `HeaderFields` and `Cookies` over `Values` (names with values), and `Authority` (a host and its port).
 #![tactic(auto)]
 
 // The request.
@@ -13,7 +13,8 @@ pub mod last_headers;
 pub mod snapshot;
 mod target;
 
-// What it says by name, and the text of its body.
+// What it says by name, the host in an authority, and the text of its body.
+pub mod authority;
 pub mod body;
 pub mod cookies;
 pub mod header_fields;

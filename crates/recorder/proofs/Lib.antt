@@ -1,6 +1,4 @@
 pub mod HashLemmas
-pub mod LastLemmas
-pub mod AuthorityLemmas
 pub mod TargetLemmas
 pub mod KeyLemmas
 pub mod ConnectionLemmas

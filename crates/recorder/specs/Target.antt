@@ -1,25 +1,16 @@
 -- Which texts are targets of a recording: `http://host[:port][/prefix]` (RFC 9112, section 3.2.2; the host as in RFC
 -- 3986, section 3.2.2, an IP address or the name `localhost`).
 use Rattle.std.specs.Prelude.{◌≡◌, ℕ, Bool, true, not, ◌&&◌, List, [], ◌∷◌, ◌++◌, ◌⊎◌}
-use Rattle.std.specs.Prelude.{length, drop, ◌==◌, nat_lt, nat_le, if◌then◌else◌, codes}
-use Rattle.std.specs.List.{before_first, after_first, before_last, after_last, list_any, list_all}
-use Rattle.std.specs.Str.{all_ascii_digits}
-use Rattle.std.specs.Str.Parse.{digits_value}
+use Rattle.std.specs.Prelude.{length, drop, ◌==◌, nat_lt, if◌then◌else◌, codes}
+use Rattle.std.specs.List.{before_first, after_first, list_all}
 use Rattle.std.specs.Net.Grammar.{IsIpv4Text, IsIpv6Text}
 use Rattle.std.specs.declared.net.ipv4_addr.Ipv4Addr.{Ipv4Addr}
 use Rattle.std.specs.declared.net.ipv6_addr.Ipv6Addr.{Ipv6Addr}
+use Rattle.mock_request.specs.Authority.{host_of, port_of}
 
 -- b'/'
 abbrev pub is_slash : ℕ → Bool
 is_slash b = b == 47
-
--- b':'
-abbrev pub is_colon : ℕ → Bool
-is_colon b = b == 58
-
--- HTTP's
-abbrev pub default_port : ℕ
-default_port = 80
 
 abbrev pub scheme : List ℕ
 scheme = codes "http://"
@@ -40,22 +31,6 @@ prefix_of rest = after_first is_slash rest
 abbrev pub path_of : List ℕ → List ℕ
 path_of rest = drop (length (authority_of rest)) rest
 
--- one to five digits, at most 65535
-abbrev pub is_port : List ℕ → Bool
-is_port bs =
-    all_ascii_digits bs && nat_lt 0 (length bs) && nat_le (length bs) 5 && nat_le (digits_value 10 bs) 65535
-
--- a port is after the last colon
-abbrev pub has_port : List ℕ → Bool
-has_port authority = list_any is_colon authority && is_port (after_last is_colon authority)
-
--- what is before that colon, or the whole
-abbrev pub host_of : List ℕ → List ℕ
-host_of authority = if has_port authority then before_last is_colon authority else authority
-
-abbrev pub port_of : List ℕ → ℕ
-port_of authority = if has_port authority then digits_value 10 (after_last is_colon authority) else default_port
-
 -- an address in version 6, in brackets
 abbrev pub IsBracketed : List ℕ → Type 0
 IsBracketed host = (inner : List ℕ) × (a : Ipv6Addr) × (host ≡ codes "[" ++ (inner ++ codes "]"))
@@ -68,7 +43,7 @@ IsHost host = (host ≡ codes "localhost") ⊎ (((a : Ipv4Addr) × IsIpv4Text ho
 abbrev pub is_prefix_byte : ℕ → Bool
 is_prefix_byte b = nat_lt 32 b && nat_lt b 127 && not (b == 63) && not (b == 35)
 
--- the text is `http://`, a host, perhaps a port, and perhaps a slash and a prefix
+-- the text is `http://`, a host, perhaps a colon and a port, and perhaps a slash and a prefix
 pub record IsTarget (text : List ℕ) : Type 0 where
   pub spelled : text ≡ scheme ++ after_scheme text
   pub host : IsHost (host_of (authority_of (after_scheme text)))

@@ -4,9 +4,8 @@ ghost use Rattle.recorder.specs.Forwarding.{target_authority};
 ghost use Rattle.recorder.specs.Target.{IsTarget, after_scheme, target_host, target_port, target_prefix};
 
 use crate::error::RecordingError;
-use crate::target_text::{
-    after_scheme, host_and_port, is_target, path, split_prefix, without_last_slash,
-};
+use crate::target_text::{after_scheme, is_target, path, split_prefix, without_last_slash};
+use mock_request::authority::host_and_port;
 use plain_text::plain::{Same, TryClone};
 use plain_text::text::Text;
 use std::alloc::{AllocError, Global};

@@ -1,22 +1,16 @@
 // The parts of a target's text.
 ghost use Rattle.std.specs.Prelude.{◌≡◌, ◌≢◌, ◌↔◌, ℕ, List, ◌++◌};
-ghost use Rattle.std.specs.Prelude.{codes, if◌then◌else◌, Some, None, IsTrue, MatchOption};
+ghost use Rattle.std.specs.Prelude.{codes, IsTrue, MatchOption};
 ghost use Rattle.std.specs.List.{list_all};
-ghost use Rattle.std.specs.Str.Parse.{digits_value};
 ghost use Rattle.std.specs.Net.Grammar.{IsIpv4Text, IsIpv6Text};
 ghost use Rattle.std.specs.declared.net.ipv4_addr.Ipv4Addr.{Ipv4Addr};
 ghost use Rattle.std.specs.declared.net.ipv6_addr.Ipv6Addr.{Ipv6Addr};
 ghost use Rattle.recorder.specs.Target.{scheme, after_scheme, authority_of, prefix_of};
-ghost use Rattle.recorder.specs.Target.{path_of, is_port, host_of, port_of};
+ghost use Rattle.recorder.specs.Target.{path_of};
 ghost use Rattle.recorder.specs.Target.{IsBracketed, IsHost, is_prefix_byte, IsTarget, without_last_slash};
 
+use mock_request::authority::host_and_port;
 use std::net::{Ipv4Addr, Ipv6Addr};
-
-// The port of a target that names none: HTTP's.
-const DEFAULT_PORT: u16 = 80;
-
-// The most digits of a port.
-const PORT_DIGITS: usize = 5;
 
 pub(crate) fn is_target(text: &str) -> bool
     ensures { IsTrue result ↔ IsTarget text.now }
@@ -65,31 +59,6 @@ pub(crate) fn without_last_slash(path: &str) -> &str
         Some(front) => front,
         None => path,
     }
-}
-
-/// The host, and the port after the last colon or else the default one.
-pub(crate) fn host_and_port(authority: &str) -> (&str, u16)
-    ensures host { result.0.now ≡ host_of authority.now }
-    ensures port { result.1 ≡ port_of authority.now }
-{
-    let Some((host, digits)) = authority.rsplit_once(':') else {
-        return (authority, DEFAULT_PORT);
-    };
-    match port(digits) {
-        Some(port) => (host, port),
-        None => (authority, DEFAULT_PORT),
-    }
-}
-
-// The number, where the text is a port.
-fn port(digits: &str) -> Option<u16>
-    ensures { result ≡ (if is_port digits.now then Some (digits_value 10 digits.now) else None) }
-{
-    // `parse` alone would take a sign and more leading zeros.
-    if digits.len() > PORT_DIGITS || digits.starts_with('+') {
-        return None;
-    }
-    digits.parse::<u16>().ok()
 }
 
 fn is_host(host: &str) -> bool

@@ -21,11 +21,12 @@ use Rattle.mock_request.specs.HeaderFields.{header_pair, header_pairs, texts_of}
 use Rattle.mock_request.specs.Cookies.{cookie_pairs}
 use Rattle.mock_request.specs.Query.{query_pairs}
 use Rattle.mock_request.specs.Url.{path_of, query_of, is_question_mark}
-use Rattle.request_data.specs.Authority.{authority_of, host_of, port_of, has_port, is_colon}
+use Rattle.mock_request.specs.Authority.{host_of, port_of, has_port, is_colon}
+use Rattle.mock_request.proofs.AuthorityLemmas.{port_at_most}
+use Rattle.request_data.specs.Authority.{authority_of}
 use Rattle.request_data.specs.Grouped.{grouped}
 use Rattle.request_data.specs.Inner.Lengths.{header_weight, template_len}
 use Rattle.request_data.specs.RequestTree.{bound_in, json_tree, path_tree, request_fields, request_tree}
-use Rattle.request_data.proofs.AuthorityLemmas.{port_at_most}
 use Rattle.request_data.proofs.TreeLemmas.{members_from}
 use Rattle.request_data.proofs.TextBounds.{quoted_most, first_member, member_most, lossy_most}
 use Rattle.request_data.proofs.TextBounds.{quoted_lossy_most}

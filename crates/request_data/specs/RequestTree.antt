@@ -15,7 +15,8 @@ use Rattle.request_data.specs.Grouped.{texts, grouped, firsts}
 use Rattle.mock_request.specs.Query.{query_pairs}
 use Rattle.mock_request.specs.HeaderFields.{header_pairs}
 use Rattle.mock_request.specs.Cookies.{cookie_pairs}
-use Rattle.request_data.specs.Authority.{authority_of, host_of, port_of}
+use Rattle.mock_request.specs.Authority.{host_of, port_of}
+use Rattle.request_data.specs.Authority.{authority_of}
 
 -- the tree of the body's text where that is JSON and each of its numbers is taken, else nothing
 abbrev pub json_tree : List ℕ → Tree

@@ -7,12 +7,13 @@ ghost use Rattle.mock_request.specs.Cookies.{cookie_pairs};
 ghost use Rattle.mock_request.specs.HeaderFields.{header_pairs};
 ghost use Rattle.mock_request.specs.Query.{query_pairs};
 ghost use Rattle.mock_request.specs.Url.{path_of};
-ghost use Rattle.request_data.specs.Authority.{authority_of, host_of, port_of};
+ghost use Rattle.mock_request.specs.Authority.{host_of, port_of};
+ghost use Rattle.request_data.specs.Authority.{authority_of};
 ghost use Rattle.request_data.specs.Grouped.{grouped};
 ghost use Rattle.request_data.specs.Inner.Views.{entries_of, kept_of};
 ghost use Rattle.request_data.specs.RequestTree.{bound_in, path_tree};
 
-use crate::authority::{authority, host_and_port};
+use crate::authority::authority;
 use crate::grouped::grouped;
 use crate::object::Object;
 use crate::path_data::{bindings, path_data};

@@ -1,5 +1,4 @@
 -- The parts of a request matcher.
 pub mod Matching
 pub mod Refusal
-pub mod Literal
 pub mod Key

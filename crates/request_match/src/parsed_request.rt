@@ -11,7 +11,7 @@ ghost use Rattle.mock_request.specs.Cookies.{cookie_pairs};
 ghost use Rattle.mock_request.specs.Query.{query_pairs};
 ghost use Rattle.mock_request.specs.Url.{path_of};
 ghost use Rattle.request_match.specs.Inner.Read.{IsReadOf};
-ghost use Rattle.request_match.specs.Parts.Key.{MayHave, key_of};
+ghost use Rattle.request_match.specs.Parts.Key.{key_of};
 ghost use Rattle.request_match.specs.Parts.Matching.{MeetHeaders, MeetPairs, MeetsText, found_text};
 ghost use Rattle.value_match.specs.Matching as value;
 
@@ -104,17 +104,6 @@ impl<'a> ParsedRequest<'a> {
         ensures { result.now ≡ path_of self.now.url }
     {
         self.path.as_str()
-    }
-
-    /// Whether its URL is another one than that which is known by this.
-    pub fn has_another_url(&self, key: UrlKey) -> bool
-        ensures { IsTrue result ↔ ¬ (MayHave key self.now.url) }
-    {
-        match key {
-            UrlKey::Any => false,
-            UrlKey::Url(hash) => hash != self.url.hash(),
-            UrlKey::UrlPath(hash) => hash != self.path.hash(),
-        }
     }
 
     /// What a matcher that asks for its very path and query is known by.

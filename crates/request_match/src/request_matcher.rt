@@ -1,16 +1,13 @@
 // Which requests meet a matcher.
-ghost use Rattle.std.specs.Prelude.{◌≡◌, ◌↔◌, IfOk, IfErr, IfSome, OnOk, IsTrue, option_map, option_copied};
+ghost use Rattle.std.specs.Prelude.{◌≡◌, ◌↔◌, IfOk, IfErr, OnOk, IsTrue};
 ghost use Rattle.mock_request.specs.Request.{Request};
 ghost use Rattle.request_match.specs.Inner.Heads.{MeetsHead};
-ghost use Rattle.request_match.specs.Literal.{method_of};
 ghost use Rattle.request_match.specs.Matching.{MeetsRequest, MeetsMethod};
 ghost use Rattle.request_match.specs.Refusal.{CanBeBuilt, IsRefusal};
 ghost use Rattle.request_match.specs.Parts.Key.{MayHave, key_of};
-ghost use Rattle.request_match.specs.Parts.Literal.{literal_url, text_of};
 
 use crate::body_test::{BodyTest, build_body, meet_body};
 use crate::error::RequestMatchError;
-use crate::literal::Literal;
 use crate::named_test::{NamedTest, build_tests};
 use crate::parsed_request::ParsedRequest;
 use crate::url_key::UrlKey;
@@ -107,22 +104,6 @@ impl RequestMatcher {
     {
         self.url.key()
     }
-
-    /// The literal URL that it asks for, if it does. Takes no memory.
-    pub fn literal(&self) -> Option<Literal<'_>>
-        ensures value { option_map (λ l. (l.kind, l.text.now)) result ≡ literal_url self.now.url }
-        ensures method { IfSome result (λ l. option_copied l.method ≡ method_of self.now.method) }
-        ensures only { (request : Request) → MeetsRequest self.now request → IfSome result (λ l.
-            (text_of l.kind request.url ≡ l.text.now)
-            × IfSome (option_copied l.method) (λ method. request.method ≡ method)) }
-    {
-        let (kind, text) = self.url.literal()?;
-        Some(Literal {
-            kind,
-            method: wanted_method(&self.method),
-            text,
-        })
-    }
 }
 
 // Written out, so that a caller's proof sees one call and not the drop of each field.
@@ -137,15 +118,6 @@ impl Drop for RequestMatcher {
             body: _body,
             alloc: _alloc,
         } = self;
-    }
-}
-
-fn wanted_method(method: &Option<Text>) -> Option<&str>
-    ensures { option_copied result ≡ method_of method.now }
-{
-    match method {
-        Some(method) if method.as_str() != "ANY" => Some(method.as_str()),
-        _ => None,
     }
 }
 

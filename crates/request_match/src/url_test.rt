@@ -1,9 +1,8 @@
 // Does the URL of a request meet a URL matcher?
-ghost use Rattle.std.specs.Prelude.{◌≡◌, ◌↔◌, ◌∷◌, [], ℕ, List, IfOk, IfErr, IfSome, IsErrOf};
-ghost use Rattle.std.specs.Prelude.{IsSomeAnd, IsTrue, OnOk, All, Any, option_map};
+ghost use Rattle.std.specs.Prelude.{◌≡◌, ◌↔◌, ◌∷◌, [], ℕ, List, IfOk, IfErr, IsErrOf};
+ghost use Rattle.std.specs.Prelude.{IsSomeAnd, IsTrue, OnOk, All, Any};
 ghost use Rattle.path_template.specs.Matching.{bindings_of};
 ghost use Rattle.request_match.specs.Parts.Key.{MayHave, key_of};
-ghost use Rattle.request_match.specs.Parts.Literal.{literal_url, text_of};
 ghost use Rattle.request_match.specs.Parts.Matching.{MeetsUrl, MeetPairs};
 ghost use Rattle.request_match.specs.Parts.Refusal.{HasTemplate, IsUrlRefusal, matchers_of, url_matchers};
 ghost use Rattle.path_template.specs.Template.{IsTemplate};
@@ -12,7 +11,6 @@ ghost use Rattle.value_match.specs.Refusal.{HasPattern, MayBeRefused};
 
 use crate::error::RequestMatchError;
 use crate::hashed_text::HashedText;
-use crate::literal_kind::LiteralKind;
 use crate::named_test::{NamedTest, build_tests, meet_pairs};
 use crate::parsed_request::ParsedRequest;
 use crate::url_key::UrlKey;
@@ -82,19 +80,6 @@ impl UrlTest {
             UrlKind::Url(text) => UrlKey::Url(text.hash()),
             UrlKind::UrlPath(text) => UrlKey::UrlPath(text.hash()),
             _ => UrlKey::Any,
-        }
-    }
-
-    /// The literal URL that it asks for, if it does. Takes no memory.
-    pub fn literal(&self) -> Option<(LiteralKind, &str)>
-        ensures value { option_map (λ l. (l.0, l.1.now)) result ≡ literal_url self.now }
-        ensures only { (target : List ℕ) → MeetsUrl self.now target
-            → IfSome result (λ l. text_of l.0 target ≡ l.1.now) }
-    {
-        match &self.kind {
-            UrlKind::Url(text) => Some((LiteralKind::Url, text.as_str())),
-            UrlKind::UrlPath(text) => Some((LiteralKind::UrlPath, text.as_str())),
-            _ => None,
         }
     }
 }

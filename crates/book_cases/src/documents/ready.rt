@@ -1,9 +1,8 @@
 //! Mappings that are ready to be served. A row gives a mapping's document, and then a request.
 
 use crate::documents::answers::yes_or_no;
-use crate::documents::literals::cells_of;
 use crate::documents::mappings::{read, refused};
-use crate::documents::requests::request_of;
+use crate::documents::requests::request_in;
 use case_table::row::{Row, add_cell};
 use mapping_model::mapping_spec::MappingSpec;
 use mock_request::snapshot::Snapshot;
@@ -12,8 +11,8 @@ use request_match::ready_mapping::ReadyMapping;
 use request_match::shared_spec::SharedSpec;
 use std::alloc::{AllocError, Global};
 
-/// Whether the request meets the mapping, the name of the mapping, whether a copy of it is the same, and the literal
-/// URL of its matcher; or the code of the document's error.
+/// Whether the request meets the mapping, the name of the mapping, and whether a copy of it is the same; or the code of
+/// the document's error.
 pub fn answer(alloc: Global, row: &Row) -> Result<String, AllocError> {
     match read(alloc, row.cell(0).as_bytes()) {
         Ok(mut mapping) => answered(alloc, &mut mapping, row),
@@ -30,19 +29,11 @@ fn cells(alloc: Global, mapping: &ReadyMapping, yes: bool) -> Result<String, All
     let mut cells = String::from_str(alloc, yes_or_no(yes))?;
     add_cell(&mut cells, name(mapping.spec()))?;
     cells.push_str(yes_or_no(is_same(mapping.shared())?))?;
-    cells.push_str(cells_of(alloc, mapping.matcher())?.as_str())?;
     Ok(cells)
 }
 
 fn meets(alloc: Global, mapping: &mut ReadyMapping, row: &Row) -> Result<bool, AllocError> {
-    meets_request(alloc, mapping, &snapshot(alloc, row)?)
-}
-
-// None of the table's requests is refused.
-fn snapshot(alloc: Global, row: &Row) -> Result<Snapshot, AllocError> {
-    let (method, target) = (row.cell(1), row.cell(2));
-    let made = request_of(alloc, method, target, row.cell(3), row.cell(4));
-    made.ok().ok_or(AllocError)
+    meets_request(alloc, mapping, &request_in(alloc, row)?)
 }
 
 fn meets_request(

@@ -1,10 +1,18 @@
 //! Requests of cells.
 
 use case_table::requests::header;
+use case_table::row::Row;
 use http_header::{HeaderName, HeaderValue};
 use mock_request::error::SnapshotError;
 use mock_request::snapshot::Snapshot;
 use std::alloc::{AllocError, Global};
+
+/// The request that a row has after its first cell. None that is asked for here is refused.
+pub fn request_in(alloc: Global, row: &Row) -> Result<Snapshot, AllocError> {
+    let (method, target) = (row.cell(1), row.cell(2));
+    let made = request_of(alloc, method, target, row.cell(3), row.cell(4));
+    made.ok().ok_or(AllocError)
+}
 
 /// The request of a method, a target, headers with a line feed between two, and a body. The characters of the headers'
 /// values and of the body are bytes (ISO-8859-1).

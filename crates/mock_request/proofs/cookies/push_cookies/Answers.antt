@@ -11,9 +11,9 @@ use Rattle.mock_request.proofs.cookies.push_cookies.Goals as goal
 pub loop-piece-preserved-in_ok-push : goal.loop-piece-preserved-in_ok-push
 loop-piece-preserved-in_ok-push c =
     cookie_pushed c.loop-piece.pairs.items _ (pairs_of c.args.pairs.now.items) c.loop-piece.yielded c.in-Some.piece
-    (c.in_ok-from_str.field-0, c.in_ok-from_str-2.field-0) c.in-Some-cookie.name.now c.in-Some-cookie.value.now
+    (c.in_ok-from_str.field-0, c.in_ok-from_str-2.field-0) c.in-Some-cookie_in.name.now c.in-Some-cookie_in.value.now
     c.loop-piece.invariant c.in_ok-push.ensures.items c.in_ok-from_str.ensures.ok c.in_ok-from_str-2.ensures.ok
-    (c.in-Some-cookie.ensures ∙ ap cookie_in c.without_spaces_around.ensures)
+    (c.in-Some-cookie_in.ensures ∙ ap cookie_in c.without_spaces_around.ensures)
 
 pub loop-piece-preserved : goal.loop-piece-preserved
 loop-piece-preserved c =
