@@ -28,7 +28,7 @@ fn main(rt: HostRuntime) -> io::Result<ExitCode> {
             Table::NamedValues,
             Table::SameTemplates,
             Table::Documents,
-            Table::Literals,
+            Table::Matchers,
             Table::Ready,
             Table::Groups,
             Table::Targets,
