@@ -9,6 +9,7 @@ pub mod WellRead
 pub mod Back
 pub mod Vectors
 pub mod TreeSteps
+pub mod Places
 pub mod Shorter
 pub mod KeptNames
 pub mod KeptSteps

@@ -1,5 +1,5 @@
 // From a JSON text straight to its value, where each number in it is whole.
-ghost use Rattle.std.specs.Prelude.{◌≡◌, ◌<◌, length, Some, None, Err, IfOk, OnOk, IfSome, IsErrOf, option_map};
+ghost use Rattle.std.specs.Prelude.{◌≡◌, ◌<◌, length, Some, None, Err, IfOk, OnOk, IfSome, IsErrOf, option_map, string_bytes};
 ghost use Rattle.std.specs.Prelude.{MatchResult, option_and_then, true, false};
 ghost use Rattle.std.specs.Bool.{OnTrue};
 ghost use Rattle.json.specs.Json.{value, items, members, read_key};
@@ -8,7 +8,8 @@ ghost use Rattle.data_tree.specs.Tree.{view, items_view, members_view, no_member
 ghost use Rattle.data_tree.specs.Parts.{names_of};
 ghost use Rattle.data_tree.specs.WellFormed.{IsAscending};
 ghost use Rattle.json_bridge.specs.Reading.{IsJson, tree_of_text, whole_number};
-ghost use Rattle.json_bridge.specs.Inner.Direct.{whole_of, put_all, tree_of_json, items_of_json, members_of_json};
+ghost use Rattle.json_bridge.specs.Inner.Direct.{whole_of, put, put_all, tree_of_json, items_of_json, members_of_json};
+ghost use Rattle.json_bridge.specs.Inner.Direct.{IsFoundAt, BelongsAt};
 
 use crate::error::JsonError;
 use crate::next_step::after_byte;
@@ -21,6 +22,9 @@ use std::collections::BTreeMap;
 
 // How deep lists and objects may nest.
 pub(crate) const MAX_DEPTH: usize = 127;
+
+// The most members that are put in order one after the other, with as many comparisons as there are pairs.
+const FEW: usize = 16;
 
 /// The value of a JSON text. `NumberNotWhole` says that some number in it isn't whole or doesn't fit: the text has a
 /// value all the same where that number is in a value of a name that is repeated, of which the last value counts.
@@ -193,8 +197,49 @@ fn is_ascending(members: &[(String, Data)]) -> bool
 fn sorted(alloc: Global, found: Vec<(String, Data)>) -> Result<Vec<(String, Data)>, AllocError>
     ensures { IfOk result (λ made. members_view made.items ≡ put_all found.items no_members) }
 {
+    if found.len() <= FEW {
+        return put_each(alloc, found);
+    }
     let members = by_name(alloc, found)?;
     in_list(alloc, members)
+}
+
+// Each is put where its name belongs.
+fn put_each(alloc: Global, found: Vec<(String, Data)>) -> Result<Vec<(String, Data)>, AllocError>
+    ensures { IfOk result (λ made. members_view made.items ≡ put_all found.items no_members) }
+{
+    let mut made = Vec::with_capacity(alloc, found.len())?;
+    for (name, member) in found {
+        put(&mut made, name, member)?;
+    }
+    Ok(made)
+}
+
+fn put(made: &mut Vec<(String, Data)>, name: String, member: Data) -> Result<(), AllocError>
+    ensures { OnOk result (members_view made.new.items
+        ≡ put (string_bytes name) (view member) (members_view made.old.items)) }
+{
+    match place_of(made.as_slice(), name.as_str()) {
+        Ok(index) => made[index].1 = member,
+        Err(index) => made.insert(index, (name, member))?,
+    }
+    Ok(())
+}
+
+// Where the name is, or else where it belongs.
+fn place_of(members: &[(String, Data)], name: &str) -> Result<usize, usize>
+    ensures { MatchResult result
+        (λ index. IsFoundAt name.now index members.now) (λ index. BelongsAt name.now index members.now) }
+{
+    let mut index = 0;
+    while index < members.len() {
+        match name.cmp(members[index].0.as_str()) {
+            Ordering::Less => return Err(index),
+            Ordering::Equal => return Ok(index),
+            Ordering::Greater => index += 1,
+        }
+    }
+    Err(index)
 }
 
 // Each name with its last value.

@@ -1,6 +1,20 @@
 -- Names whose values follow each other, as pairs.
 use Rattle.std.proofs.Common.{◌≡◌, ℕ, Bool, true, false, ◌||◌, cond, List, [], ◌∷◌, ◌++◌, map, String, Global}
 use Rattle.std.proofs.Common.{string_bytes, refl, ap, sym, ◌∙◌, append-nil, append_assoc, ◌<◌, length, arith}
+use Rattle.std.proofs.Common.{is_some}
+use Rattle.std.specs.Option.{option_map_or}
+use Rattle.std.specs.Ordering.{is_eq}
+use Rattle.std.specs.declared.cmp.Ordering.TheVariants.{Less}
+use Rattle.std.specs.List.{AllByRecursion}
+use Rattle.std.specs.List.Sorted.{IsStrictlySortedBy}
+use Rattle.std.specs.Map.{keys_of}
+use Rattle.std.specs.String.{string_cmp}
+use Rattle.std.proofs.lemmas.Cmp.{nat_list_cmp_total}
+use Rattle.std.proofs.lemmas.Map.Text.{is_eq-slice_cmp}
+use Rattle.std.proofs.lemmas.Slice.Eq.{bytes_eq-Decides}
+use Rattle.data_tree.specs.Tree.{members_of}
+use Rattle.request_data.specs.Grouped.{members_under, names_in, values_tree}
+use Rattle.request_data.proofs.GroupLemmas.{entry_tree, found, grouped_entries}
 use Rattle.std.specs.List.{filter, list_any, flat_map}
 use Rattle.std.specs.Str.{bytes_eq}
 use Rattle.std.proofs.lemmas.Grind.{flat_map-append}
@@ -11,7 +25,7 @@ use Rattle.std.specs.Str.Lossy.{utf8_lossy}
 use Rattle.form_urlencoded.specs.Form.{decode}
 use Rattle.mock_request.specs.Values.{values_of}
 use Rattle.mock_request.proofs.QueryLemmas.{texts_left}
-use Rattle.request_data.specs.Inner.Runs.{Run, pairs_under, run_pairs, pairs_of_runs}
+use Rattle.request_data.specs.Inner.Runs.{Run, Values, pairs_under, run_pairs, pairs_of_runs, IsBefore, AreInOrder}
 
 -- the name of a pair is that name
 abbrev pub is_named : List ℕ → List ℕ × List ℕ → Bool
@@ -137,3 +151,102 @@ pub none_left
 none_left done new last values left whole so_far none pushed =
     pushed ∙ sym (append-nil (done ++ pairs_under (text_of last) values))
     ∙ ap (λ raw. (done ++ pairs_under (text_of last) values) ++ texts_left raw) (sym none) ∙ so_far
+
+-- ---- runs in order
+
+abbrev pub texts_in : Values → List (List ℕ)
+texts_in values = map string_bytes values.items
+
+above
+    : (name : String Global) (runs : List Run) → IsBefore (string_bytes name) runs → AreInOrder runs
+    → AllByRecursion (λ k. string_cmp name k ≡ Less) (keys_of runs)
+above name [] before order = tt
+above name (run ∷ runs) before order = (before, later runs (above run.0 runs order.1 order.2))
+  where
+    later
+        : (rest : List Run) → AllByRecursion (λ k. string_cmp run.0 k ≡ Less) (keys_of rest)
+        → AllByRecursion (λ k. string_cmp name k ≡ Less) (keys_of rest)
+    later [] all = tt
+    later (next ∷ rest) all = (
+      nat_list_cmp_total.trans (string_bytes name) (string_bytes run.0) (string_bytes next.0) before all.0,
+      later rest all.1,
+    )
+
+sorted_runs : (runs : List Run) → AreInOrder runs → IsStrictlySortedBy string_cmp (keys_of runs)
+unfolding IsStrictlySortedBy
+sorted_runs [] order = tt
+sorted_runs (run ∷ runs) order = (above run.0 runs order.1 order.2, sorted_runs runs order.2)
+
+values_before
+    : (name : List ℕ) (run : Run) (runs : List Run)
+    → values_of name (pairs_of_runs (run ∷ runs))
+    ≡ cond (bytes_eq name (string_bytes run.0)) (texts_in run.1) [] ++ values_of name (pairs_of_runs runs)
+values_before name run runs =
+    ap (map (λ pair. pair.1)) (filter-append (is_named name) (run_pairs run) (pairs_of_runs runs))
+    ∙ map-append (λ pair. pair.1) (filter (is_named name) (run_pairs run)) (filter (is_named name) (pairs_of_runs runs))
+    ∙ ap (λ vs. vs ++ values_of name (pairs_of_runs runs)) (values_under name (string_bytes run.0) run.1.items)
+
+-- a name that is before all others has no values there
+none_above
+    : (name : String Global) (runs : List Run) → AllByRecursion (λ k. string_cmp name k ≡ Less) (keys_of runs)
+    → values_of (string_bytes name) (pairs_of_runs runs) ≡ []
+none_above name [] all = refl
+none_above name (run ∷ runs) all =
+    let apart : bytes_eq (string_bytes name) (string_bytes run.0) ≡ false =
+    sym (is_eq-slice_cmp (string_bytes name) (string_bytes run.0)) ∙ ap is_eq all.0 in
+    values_before (string_bytes name) run runs ∙ rw apart (none_above name runs all.1)
+
+-- what is found under a name are its values
+found_values
+    : (runs : List Run) → AreInOrder runs → (name : List ℕ)
+    → option_map_or texts_in (found values_tree texts_in name runs) [] ≡ values_of name (pairs_of_runs runs)
+found_values [] order name = refl
+found_values (run ∷ runs) order name =
+    by (bytes_eq name (string_bytes run.0)) refl (found_values runs order.2 name) ∙ sym (values_before name run runs)
+  where
+    by
+        : (b : Bool) → bytes_eq name (string_bytes run.0) ≡ b
+        → option_map_or texts_in (found values_tree texts_in name runs) [] ≡ values_of name (pairs_of_runs runs)
+        → option_map_or texts_in (found values_tree texts_in name (run ∷ runs)) []
+        ≡ cond (bytes_eq name (string_bytes run.0)) (texts_in run.1) [] ++ values_of name (pairs_of_runs runs)
+    by true e later =
+        let same : name ≡ string_bytes run.0 = (bytes_eq-Decides name (string_bytes run.0)).0 e in
+        let none : values_of name (pairs_of_runs runs) ≡ [] =
+        ap (λ n. values_of n (pairs_of_runs runs)) same ∙ none_above run.0 runs (above run.0 runs order.1 order.2) in
+        rw (is_eq-slice_cmp name (string_bytes run.0), e, none) (sym (append-nil (texts_in run.1)))
+    by false e later = rw (is_eq-slice_cmp name (string_bytes run.0), e) later
+
+-- a name is found where a pair has it
+found_among
+    : (runs : List Run) → AreInOrder runs → (name : List ℕ)
+    → is_some (found values_tree texts_in name runs) ≡ list_any (is_named name) (pairs_of_runs runs)
+found_among [] order name = refl
+found_among (run ∷ runs) order name =
+    by (bytes_eq name (string_bytes run.0)) refl (found_among runs order.2 name)
+    ∙ sym (any_before run.1.items order.0)
+  where
+    any_before
+        : (values : List (String Global)) → 0 < length values
+        → list_any (is_named name) (pairs_under (string_bytes run.0) values ++ pairs_of_runs runs)
+        ≡ (bytes_eq name (string_bytes run.0) || list_any (is_named name) (pairs_of_runs runs))
+    any_before [] none = absurd (omega (arith, none))
+    any_before (value ∷ values) some =
+        list_any-append (is_named name) (pairs_under (string_bytes run.0) (value ∷ values)) (pairs_of_runs runs)
+        ∙ ap (λ b. b || list_any (is_named name) (pairs_of_runs runs)) (any_under name (string_bytes run.0) value values)
+
+    by
+        : (b : Bool) → bytes_eq name (string_bytes run.0) ≡ b
+        → is_some (found values_tree texts_in name runs) ≡ list_any (is_named name) (pairs_of_runs runs)
+        → is_some (found values_tree texts_in name (run ∷ runs))
+        ≡ (bytes_eq name (string_bytes run.0) || list_any (is_named name) (pairs_of_runs runs))
+    by true e later = rw (is_eq-slice_cmp name (string_bytes run.0), e) refl
+    by false e later = rw (is_eq-slice_cmp name (string_bytes run.0), e) later
+
+-- runs in order are what the definition groups
+pub grouped_in_order
+    : (runs : List Run) → AreInOrder runs
+    → members_of (map (entry_tree values_tree texts_in) runs)
+    ≡ members_under values_tree (names_in (pairs_of_runs runs)) (pairs_of_runs runs)
+grouped_in_order runs order =
+    grouped_entries values_tree texts_in (pairs_of_runs runs) runs (sorted_runs runs order) (found_values runs order)
+    (found_among runs order)

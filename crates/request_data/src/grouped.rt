@@ -1,5 +1,6 @@
 // Names and values, grouped by name.
 ghost use Rattle.std.specs.Prelude.{◌≡◌, ◌++◌, ℕ, List, [], map, is_some, IfOk, OnOk, string_bytes};
+ghost use Rattle.std.specs.Bool.{OnTrue};
 ghost use Rattle.std.specs.BTreeMap.{get_by_text};
 ghost use Rattle.std.specs.List.{list_any};
 ghost use Rattle.std.specs.Option.{option_map_or};
@@ -7,10 +8,11 @@ ghost use Rattle.std.specs.Str.{bytes_eq};
 ghost use Rattle.data_tree.specs.Tree.{members_view, view};
 ghost use Rattle.mock_request.specs.Values.{first_of, pairs_of, values_of};
 ghost use Rattle.request_data.specs.Grouped.{firsts, grouped, values_tree};
-ghost use Rattle.request_data.specs.Inner.Runs.{pairs_of_runs};
+ghost use Rattle.request_data.specs.Inner.Runs.{pairs_of_runs, AreInOrder};
 
 use data_tree::data::Data;
 use std::alloc::{AllocError, Global};
+use std::cmp::Ordering;
 use std::collections::BTreeMap;
 
 /// The names in byte order, each with its first value and all its values.
@@ -21,15 +23,48 @@ pub(crate) fn grouped(alloc: Global, pairs: Vec<(String, String)>) -> Result<Dat
     fields_of(alloc, groups)
 }
 
-/// The same of names that come with several values.
+/// The same of names that come with several values. No map is made of names that are in byte order.
 pub(crate) fn grouped_runs(
     alloc: Global,
     runs: Vec<(String, Vec<String>)>,
 ) -> Result<Data, AllocError>
     ensures { IfOk result (λ made. view made ≡ grouped (pairs_of_runs runs.items)) }
 {
+    if are_in_order(&runs) {
+        return fields_of_runs(alloc, runs);
+    }
     let groups = runs_by_name(alloc, runs)?;
     fields_of(alloc, groups)
+}
+
+// Whether each name is before the next, and each has a value.
+fn are_in_order(runs: &[(String, Vec<String>)]) -> bool
+    ensures { OnTrue result (AreInOrder runs.now) }
+{
+    let mut rest = runs;
+    while let [(name, values), after @ ..] = rest {
+        if values.is_empty() {
+            return false;
+        }
+        if let [(next, _), ..] = after {
+            if name.as_str().cmp(next.as_str()) != Ordering::Less {
+                return false;
+            }
+        }
+        rest = after;
+    }
+    true
+}
+
+fn fields_of_runs(alloc: Global, runs: Vec<(String, Vec<String>)>) -> Result<Data, AllocError>
+    requires { AreInOrder runs.items }
+    ensures { IfOk result (λ made. view made ≡ grouped (pairs_of_runs runs.items)) }
+{
+    let mut fields = Vec::with_capacity(alloc, runs.len())?;
+    for (name, values) in runs {
+        fields.push((name, values_data(alloc, values)?))?;
+    }
+    Ok(Data::Fields(fields))
 }
 
 // The first value and all values of each name.

@@ -1,8 +1,9 @@
 // A query's names and values as templates see them.
-ghost use Rattle.std.specs.Prelude.{◌≡◌, ◌++◌, map, All, IfOk, OnOk, IsTrue, string_bytes};
+ghost use Rattle.std.specs.Prelude.{◌≡◌, ◌≢◌, ◌++◌, map, All, IfOk, OnOk, IsTrue, string_bytes};
 ghost use Rattle.std.specs.Str.Lossy.{utf8_lossy};
 ghost use Rattle.data_tree.specs.Tree.{view};
-ghost use Rattle.form_urlencoded.specs.Form.{decode, parse, IsPlain};
+ghost use Rattle.form_urlencoded.specs.Form.{decode, parse, plus_to_space};
+ghost use Rattle.percent_encoding.specs.Percent.{percent_sign};
 ghost use Rattle.mock_request.specs.Query.{query_pairs, text_pair};
 ghost use Rattle.request_data.specs.Grouped.{grouped};
 ghost use Rattle.request_data.specs.Inner.Runs.{pairs_of_runs, pairs_under};
@@ -51,25 +52,36 @@ fn push_run(
     ensures { OnOk result (pairs_of_runs runs.new.items
         ≡ pairs_of_runs runs.old.items ++ pairs_under (utf8_lossy (decode name.now)) values.items) }
 {
-    runs.push((decoded(alloc, name)?, values))?;
+    if !values.is_empty() {
+        runs.push((decoded(alloc, name)?, values))?;
+    }
     Ok(())
 }
 
-// The text of a name or a value.
+// The text of a name or a value. In most no byte is escaped.
 fn decoded(alloc: Global, encoded: &[u8]) -> Result<String, AllocError>
     ensures { IfOk result (λ text. string_bytes text ≡ utf8_lossy (decode encoded.now)) }
 {
-    if is_plain(encoded) {
-        if let Ok(text) = str::from_utf8(encoded) {
-            return String::from_str(alloc, text);
+    if has_no_escape(encoded) {
+        if let Ok(text) = String::from_utf8(with_spaces(alloc, encoded)?) {
+            return Ok(text);
         }
     }
     form_urlencoded::decode(alloc, encoded)?.into_owned(alloc)
 }
 
-// Whether the bytes stand for themselves, as most do: then they are gone over once.
-fn is_plain(encoded: &[u8]) -> bool
-    ensures { IsTrue result → All IsPlain encoded.now }
+fn has_no_escape(encoded: &[u8]) -> bool
+    ensures { IsTrue result → All (λ byte. byte ≢ percent_sign) encoded.now }
 {
-    encoded.iter().all(|&byte| byte != b'+' && byte != b'%')
+    encoded.iter().all(|&byte| byte != b'%')
+}
+
+// The bytes, with a space for each `+`.
+fn with_spaces(alloc: Global, encoded: &[u8]) -> Result<Vec<u8>, AllocError>
+    ensures { IfOk result (λ made. made.items ≡ map plus_to_space encoded.now) }
+{
+    let bytes = encoded
+        .iter()
+        .map(|&byte| if byte == b'+' { b' ' } else { byte });
+    bytes.collect(alloc)
 }

@@ -1,8 +1,9 @@
 -- For private clauses: the tree of a JSON value, made straight from what its tokens spell. Each number in it is whole,
 -- also in values that a repeated name gives up.
-use Rattle.std.specs.Prelude.{◌≡◌, ℕ, ℤ, List, [], ◌∷◌, Option, Some, option_map, option_and_then, String, string_bytes}
+use Rattle.std.specs.Prelude.{◌≡◌, ℕ, zero, suc, ℤ, List, [], ◌∷◌, Option, Some, option_map, option_and_then, String, string_bytes}
 use Rattle.std.specs.Cmp.Lexicographic.{slice_cmp}
 use Rattle.std.specs.Ordering.{nat_cmp, match_ordering}
+use Rattle.std.specs.declared.cmp.Ordering.TheVariants.{Less, Equal, Greater}
 use Rattle.std.specs.declared.alloc.Global.{Global}
 use Rattle.json.specs.Json as json
 use Rattle.json.specs.Token.{Token}
@@ -55,3 +56,23 @@ HaveTrees read rest = (ts : Items) × (converted items_of_json read ≡ Some (ts
 
 abbrev pub HasMembers : Option (json.Members × List Token) → Members → List Token → Type 0
 HasMembers read ms rest = converted (λ found. members_of_json found no_members) read ≡ Some (ms, rest)
+
+-- the names of that many members are before k
+abbrev pub ArePassed : List ℕ → ℕ → List (String Global × Data) → Type 0
+ArePassed k zero ms = Unit {0}
+ArePassed k (suc n) [] = ⊥
+ArePassed k (suc n) (m ∷ ms) = (slice_cmp nat_cmp k (string_bytes m.0) ≡ Greater) × ArePassed k n ms
+
+-- k is the name of the member after these
+abbrev pub IsFoundAt : List ℕ → ℕ → List (String Global × Data) → Type 0
+IsFoundAt k zero [] = ⊥
+IsFoundAt k zero (m ∷ ms) = slice_cmp nat_cmp k (string_bytes m.0) ≡ Equal
+IsFoundAt k (suc n) [] = ⊥
+IsFoundAt k (suc n) (m ∷ ms) = (slice_cmp nat_cmp k (string_bytes m.0) ≡ Greater) × IsFoundAt k n ms
+
+-- k is before all others
+abbrev pub BelongsAt : List ℕ → ℕ → List (String Global × Data) → Type 0
+BelongsAt k zero [] = Unit {0}
+BelongsAt k zero (m ∷ ms) = slice_cmp nat_cmp k (string_bytes m.0) ≡ Less
+BelongsAt k (suc n) [] = ⊥
+BelongsAt k (suc n) (m ∷ ms) = (slice_cmp nat_cmp k (string_bytes m.0) ≡ Greater) × BelongsAt k n ms

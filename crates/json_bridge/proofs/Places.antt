@@ -1,0 +1,74 @@
+-- Where a name is among members whose names ascend.
+use Rattle.std.proofs.Common.{◌≡◌, ◌<◌, ◌+◌, ℕ, zero, suc, List, [], ◌∷◌, length, String, Global}
+use Rattle.std.proofs.Common.{string_bytes, Greater, Less, Equal, nat_cmp, refl, ap, arith, slice_index_or, slice_set}
+use Rattle.std.specs.Cmp.Lexicographic.{slice_cmp}
+use Rattle.std.specs.List.{insert}
+use Rattle.data_tree.specs.Tree.{no_members, member, view, members_view}
+use Rattle.data_tree.specs.declared.data.Data.{Data}
+use Rattle.json_bridge.specs.Inner.Direct.{put, ArePassed, IsFoundAt, BelongsAt}
+
+abbrev pub Field : Type 0
+Field = String Global × Data
+
+pub passed_more
+    : (k : List ℕ) (n : ℕ) (ms : List Field) (m : Field) → ArePassed k n ms → n < length ms
+    → slice_cmp nat_cmp k (string_bytes (slice_index_or ms n m).0) ≡ Greater → ArePassed k (suc n) ms
+passed_more k n [] m passed within is = absurd (omega (arith, within))
+passed_more k zero (e ∷ ms) m passed within is = (is, tt)
+passed_more k (suc n) (e ∷ ms) m passed within is =
+    (passed.0, passed_more k n ms m passed.1 (omega (arith, within)) is)
+
+pub found_after
+    : (k : List ℕ) (n : ℕ) (ms : List Field) (m : Field) → ArePassed k n ms → n < length ms
+    → slice_cmp nat_cmp k (string_bytes (slice_index_or ms n m).0) ≡ Equal → IsFoundAt k n ms
+found_after k n [] m passed within is = absurd (omega (arith, within))
+found_after k zero (e ∷ ms) m passed within is = is
+found_after k (suc n) (e ∷ ms) m passed within is =
+    (passed.0, found_after k n ms m passed.1 (omega (arith, within)) is)
+
+pub belongs_after
+    : (k : List ℕ) (n : ℕ) (ms : List Field) (m : Field) → ArePassed k n ms → n < length ms
+    → slice_cmp nat_cmp k (string_bytes (slice_index_or ms n m).0) ≡ Less → BelongsAt k n ms
+belongs_after k n [] m passed within is = absurd (omega (arith, within))
+belongs_after k zero (e ∷ ms) m passed within is = is
+belongs_after k (suc n) (e ∷ ms) m passed within is =
+    (passed.0, belongs_after k n ms m passed.1 (omega (arith, within)) is)
+
+pub belongs_last : (k : List ℕ) (n : ℕ) (ms : List Field) → ArePassed k n ms → n ≡ length ms → BelongsAt k n ms
+belongs_last k zero [] passed all = tt
+belongs_last k (suc n) [] passed all = absurd passed
+belongs_last k zero (e ∷ ms) passed all = absurd (omega (arith, all))
+belongs_last k (suc n) (e ∷ ms) passed all = (passed.0, belongs_last k n ms passed.1 (omega (arith, all)))
+
+pub put_inserted
+    : (name : String Global) (d : Data) (n : ℕ) (ms : List Field) → BelongsAt (string_bytes name) n ms
+    → members_view (insert ms n (name, d)) ≡ put (string_bytes name) (view d) (members_view ms)
+put_inserted name d zero [] at = refl
+put_inserted name d zero (e ∷ ms) at = rw at refl
+put_inserted name d (suc n) [] at = absurd at
+put_inserted name d (suc n) (e ∷ ms) at =
+    rw at.0 (ap (member (string_bytes e.0) (view e.1)) (put_inserted name d n ms at.1))
+
+pub put_changed
+    : (k : List ℕ) (d : Data) (n : ℕ) (ms : List Field) (m : Field) → IsFoundAt k n ms
+    → members_view (slice_set ms n ((slice_index_or ms n m).0, d)) ≡ put k (view d) (members_view ms)
+put_changed k d n [] m at = by n at
+  where
+    by : (n : ℕ) → IsFoundAt k n [] → members_view (slice_set [] n ((slice_index_or [] n m).0, d)) ≡ put k (view d) no_members
+    by zero at = absurd at
+    by (suc n) at = absurd at
+put_changed k d zero (e ∷ ms) m at = rw at refl
+put_changed k d (suc n) (e ∷ ms) m at =
+    rw at.0 (ap (member (string_bytes e.0) (view e.1)) (put_changed k d n ms m at.1))
+
+pub found_within : (k : List ℕ) (n : ℕ) (ms : List Field) → IsFoundAt k n ms → n < length ms
+found_within k zero [] at = absurd at
+found_within k (suc n) [] at = absurd at
+found_within k zero (e ∷ ms) at = omega arith
+found_within k (suc n) (e ∷ ms) at = omega (arith, found_within k n ms at.1)
+
+pub belongs_within : (k : List ℕ) (n : ℕ) (ms : List Field) → BelongsAt k n ms → n < length ms + 1
+belongs_within k zero [] at = omega arith
+belongs_within k (suc n) [] at = absurd at
+belongs_within k zero (e ∷ ms) at = omega arith
+belongs_within k (suc n) (e ∷ ms) at = omega (arith, belongs_within k n ms at.1)
