@@ -7,6 +7,9 @@ use Rattle.admin_answers.proofs.NumberLemmas.{AreBelow, below_more, visible_belo
 use Rattle.admin_answers.specs.Answers.{IsHeldReply, IsReadReply, IsUnread}
 use Rattle.admin_answers.specs.Inner.Said.{IsSaid, IsUnsaid}
 use Rattle.admin_answers.specs.Recordings.{HasNoHar, IsHarReply}
+use Rattle.admin_answers.specs.Replies.{reply_of}
+use Rattle.admin_answers.specs.declared.admin_answer.AdminAnswer.{AdminAnswer}
+use Rattle.admin_answers.specs.declared.error.SharedError.{SharedError}
 use Rattle.error_code.specs.declared.error_code.ErrorCode.{ErrorCode}
 use Rattle.error_code.specs.declared.error_code.ErrorCode.TheVariants as code
 use Rattle.admin_answers.specs.JsonReply.{IsJsonReply}
@@ -158,7 +161,7 @@ same_mapping a b id spec = λ i. record { id = id i; spec = spec i }
 pub held
     : (number : ℕ) (kept : Option Mapping) (reply : Reply) → IsHeldReply kept reply
     → IsSaid number (answer.Mapping kept) reply
-held number None reply json = absurd json
+held number None reply json past asked at last = absurd json
 held number (Some m) reply json past (read.Mapping id) at last =
     let is = at.1 in
     let same = same_mapping m is.1.mapping (at.0 ∙ sym is.4.0) (sym is.4.1) in
@@ -206,17 +209,27 @@ no_har kept reason (inr none) = inr (λ past asked says. missing past asked says
 -- ---- the past is that after what was seen
 
 pub replied_in
-    : {E : Type 0} (origin : Past) (log : Log) (asked : BookRead) (reading : Reading) (result : Result Reply E)
-    → IsRead origin log asked reading → IfOk result (IsSaid reading.number reading.answer)
-    → IfOk result (λ reply. InPastOf origin log (IsReadReply asked reply))
-replied_in origin log asked reading (Ok reply) is said =
-    (is.past, is.past_of, said is.past asked is.answer is.number)
-replied_in origin log asked reading (Err why) is said = tt
+    : {A E : Type 0} (origin : Past) (log : Log) (asked : BookRead) (reading : Reading) (result : Result AdminAnswer E)
+    → A → IsRead origin log asked reading
+    → IfOk result (λ answer. IsSaid reading.number reading.answer (reply_of answer))
+    → IfOk result (λ answer. A × InPastOf origin log (IsReadReply asked (reply_of answer)))
+replied_in origin log asked reading (Ok given) caught is says =
+    (caught, (is.past, is.past_of, says is.past asked is.answer is.number))
+replied_in origin log asked reading (Err why) caught is says = tt
 
-pub refused_in
+refused_as
     : (origin : Past) (log : Log) (asked : BookRead) (reading : Reading) (reason : ErrorCode)
     → IsRead origin log asked reading → IsUnsaid reading.answer reason
     → (reason ≡ code.OutOfMemory) ⊎ InPastOf origin log (IsUnread asked reason)
-refused_in origin log asked reading reason is (inl memory) = inl memory
-refused_in origin log asked reading reason is (inr why) =
+refused_as origin log asked reading reason is (inl memory) = inl memory
+refused_as origin log asked reading reason is (inr why) =
     inr (is.past, is.past_of, why is.past asked is.answer)
+
+pub refused_in
+    : {A : Type 0} (origin : Past) (log : Log) (asked : BookRead) (reading : Reading)
+    (result : Result AdminAnswer SharedError) → A → IsRead origin log asked reading
+    → IfErr result (λ error. IsUnsaid reading.answer error.code)
+    → IfErr result (λ error. A × ((error.code ≡ code.OutOfMemory) ⊎ InPastOf origin log (IsUnread asked error.code)))
+refused_in origin log asked reading (Ok given) caught is why = tt
+refused_in origin log asked reading (Err error) caught is why =
+    (caught, refused_as origin log asked reading error.code is why)

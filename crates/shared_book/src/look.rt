@@ -5,9 +5,9 @@ ghost use Rattle.request_journal.specs.declared.read.BookRead.TheVariants as rea
 ghost use Rattle.shared_book.specs.declared.book_read.ReadAnswer.TheVariants as answer;
 
 use crate::book_read::ReadAnswer;
-use request_journal::read::BookRead;
 use mapping_model::mapping_id::MappingId;
 use request_journal::mapping::Mapping;
+use request_journal::read::BookRead;
 use std::alloc::{AllocError, Global};
 use stub_book::book::Book;
 

@@ -17,7 +17,6 @@ ghost use denote.Follow.{follows_so};
 ghost use mathlib.Core.Option.{none};
 
 use crate::book_read::Reading;
-use request_journal::read::BookRead;
 use crate::history::{Front, Place};
 use crate::lines::Lines;
 use crate::origin::Origin;
@@ -27,6 +26,7 @@ use mock_request::last_headers::LastHeaders;
 use mock_request::snapshot::Snapshot;
 use request_journal::event_memory::EventMemory;
 use request_journal::input::BookInput;
+use request_journal::read::BookRead;
 use request_journal::shared_request::SharedRequest;
 use request_match::parsed_request::ParsedRequest;
 use std::alloc::{AllocError, Global};

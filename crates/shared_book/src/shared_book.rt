@@ -5,11 +5,11 @@ ghost use Rattle.shared_book.specs.Reading.{IsReadOnce};
 ghost use Rattle.shared_history.specs.Entries.{opening};
 
 use crate::book_read::ReadAnswer;
-use request_journal::read::BookRead;
 use crate::history::OpenedHistory;
 use crate::locked::Locked;
 use crate::origin::Origin;
 use crate::seat::Seat;
+use request_journal::read::BookRead;
 use std::alloc::{AllocError, Global};
 use std::hint::spin_loop;
 use std::sync::ledger::Blank;
