@@ -1,15 +1,15 @@
 // Which mapping answers a request, and what each other one wants.
 ghost use Rattle.std.specs.Prelude.{◌≡◌, IfOk, OnOk, map};
 ghost use Rattle.mapping_commands.specs.Answering.{sent_of};
-ghost use Rattle.mapping_explanation.specs.Explaining.{AreSet, IsAnswer, IsSetTo, given_of};
+ghost use Rattle.mapping_commands.specs.Explaining.{AreSet, IsAnswer, IsSetTo, given_of};
 ghost use Rattle.request_journal.specs.Choice.{IsChoice};
 ghost use Rattle.request_journal.specs.Past.{opened};
 
+use crate::fresh::mappings_of;
+use crate::sent::{SentRequest, snapshot_of};
 use command_output::error::CommandError;
 use command_output::files::Documents;
 use error_code::error_code::ErrorCode;
-use mapping_commands::fresh::mappings_of;
-use mapping_commands::sent::{SentRequest, snapshot_of};
 use mapping_model::mapping_id::MappingId;
 use match_difference::difference::{Difference, differences};
 use mock_request::snapshot::Snapshot;

@@ -1,6 +1,6 @@
 // An explanation as text.
 ghost use Rattle.std.specs.Prelude.{◌≡◌, IfOk, string_bytes};
-ghost use Rattle.mapping_explanation.specs.Explaining.{Names, front_of};
+ghost use Rattle.mapping_commands.specs.Explaining.{Names, front_of};
 
 use crate::explanation::{Explained, Explanation};
 use itoa::Buffer;

@@ -5,9 +5,9 @@ use Rattle.std.specs.Io.KnownBytes.{Appends}
 use Rattle.command_output.specs.Files.{AreDocuments}
 use Rattle.command_output.specs.Output.{AppendsPart}
 use Rattle.mapping_commands.specs.Answering.{IsRequest, Sent, SpellDocuments}
-use Rattle.mapping_explanation.specs.declared.explain.Form.{Form}
-use Rattle.mapping_explanation.specs.declared.explain.Form.TheVariants.{Coloured, Json, Text}
-use Rattle.mapping_explanation.specs.declared.explanation.GivenState.{GivenState}
+use Rattle.mapping_commands.specs.declared.explain.Form.{Form}
+use Rattle.mapping_commands.specs.declared.explain.Form.TheVariants.{Coloured, Json, Text}
+use Rattle.mapping_commands.specs.declared.explanation.GivenState.{GivenState}
 use Rattle.mapping_model.specs.declared.mapping_spec.MappingSpec.{MappingSpec}
 use Rattle.mock_request.specs.Request.{Request}
 use Rattle.request_journal.specs.Choice.{IsChoice}

@@ -1,8 +1,8 @@
 use Rattle.std.proofs.Common.{Global, List, Vec, map, subst, ℕ}
 use Rattle.mapping_commands.specs.Answering.{SpellDocuments}
-use Rattle.mapping_explanation.specs.Explaining.{AreSet, given_of}
+use Rattle.mapping_commands.specs.Explaining.{AreSet, given_of}
 use Rattle.request_journal.specs.Past.{Past}
-use Rattle.mapping_explanation.proofs.explanation.explanation_of.Goals as goal
+use Rattle.mapping_commands.proofs.explanation.explanation_of.Goals as goal
 
 pub returns : goal.returns
 returns c =

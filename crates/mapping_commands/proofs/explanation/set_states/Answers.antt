@@ -1,8 +1,8 @@
 use Rattle.std.proofs.Common.{◌+◌, List, drop, map, subst, sym, arith}
 use Rattle.std.proofs.lemmas.List.{drop_more}
-use Rattle.mapping_explanation.specs.Explaining.{AreSet, given_of}
-use Rattle.mapping_explanation.specs.declared.explanation.GivenState.{GivenState}
-use Rattle.mapping_explanation.proofs.explanation.set_states.Goals as goal
+use Rattle.mapping_commands.specs.Explaining.{AreSet, given_of}
+use Rattle.mapping_commands.specs.declared.explanation.GivenState.{GivenState}
+use Rattle.mapping_commands.proofs.explanation.set_states.Goals as goal
 
 pub loop-given-preserved : goal.loop-given-preserved
 loop-given-preserved c = λ last rest.

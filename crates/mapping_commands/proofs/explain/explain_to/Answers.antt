@@ -1,7 +1,7 @@
 use Rattle.std.proofs.Common.{inl, inr, refl, string_bytes, sym, subst}
-use Rattle.mapping_explanation.proofs.OneStream.{of_end, of_error, of_output}
-use Rattle.mapping_explanation.specs.Explaining.{Ends}
-use Rattle.mapping_explanation.proofs.explain.explain_to.Goals as goal
+use Rattle.mapping_commands.proofs.OneStream.{of_end, of_error, of_output}
+use Rattle.mapping_commands.specs.Explaining.{Ends}
+use Rattle.mapping_commands.proofs.explain.explain_to.Goals as goal
 
 pub returns-in-Ok-clause-answer : goal.returns-in-Ok-clause-answer
 returns-in-Ok-clause-answer g c =

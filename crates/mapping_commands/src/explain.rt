@@ -2,20 +2,20 @@
 ghost use Rattle.std.specs.Prelude.{◌≡◌, IfOk, map, string_bytes};
 ghost use Rattle.command_output.specs.Output.{Followed, WritesOneStream};
 ghost use Rattle.mapping_commands.specs.Answering.{sent_of};
-ghost use Rattle.mapping_explanation.specs.Explaining.{Ends, Explains, ExplainsFiles, IsAnswer, Says, given_of};
-ghost use Rattle.mapping_explanation.specs.Explaining.{is_answered};
+ghost use Rattle.mapping_commands.specs.Explaining.{Ends, Explains, ExplainsFiles, IsAnswer, Says, given_of};
+ghost use Rattle.mapping_commands.specs.Explaining.{is_answered};
 ghost use Rattle.request_journal.specs.declared.event.ServeAnswer.{ServeAnswer};
 
 use crate::as_json::json_of;
 pub use crate::explanation::GivenState;
 use crate::explanation::{Explanation, explanation_of};
+use crate::notes::{notes_of, put_all_notes};
+use crate::sent::SentRequest;
 use crate::text::text_of;
 use command_output::error::CommandError;
 use command_output::files::{Documents, FileReader, read_documents};
 use command_output::output::put;
 use command_output::status::{FAILURE, SUCCESS};
-use mapping_commands::notes::{notes_of, put_all_notes};
-use mapping_commands::sent::SentRequest;
 use request_journal::event::ServeAnswer;
 use std::alloc::{AllocError, Global};
 use std::io::Write;

@@ -1,7 +1,7 @@
 -- A command that writes to standard output alone, or to standard error alone.
 use Rattle.std.proofs.Common.{◌≡◌, ◌⊎◌, ℕ, Bool, List, Option, inl, inr, true, false, arith}
 use Rattle.command_output.specs.Output.{WritesOneStream}
-use Rattle.mapping_explanation.specs.Explaining.{Ends}
+use Rattle.mapping_commands.specs.Explaining.{Ends}
 
 -- the exit status of a text that was written, or a part of it
 pub of_end : (answered : Bool) (text : List ℕ) (old new : Option (List ℕ)) (status : ℕ)

@@ -1,8 +1,8 @@
 -- Where the states that are left are set, all of them were.
 use Rattle.std.proofs.Common.{drop, map}
-use Rattle.mapping_explanation.specs.Explaining.{AreSet, given_of}
+use Rattle.mapping_commands.specs.Explaining.{AreSet, given_of}
 use Rattle.request_journal.specs.Past.{Past}
-use Rattle.mapping_explanation.proofs.explanation.set_states.Given as goal
+use Rattle.mapping_commands.proofs.explanation.set_states.Given as goal
 
 abbrev pub invariant-loop-given : goal.invariant-loop-given
 invariant-loop-given l =
