@@ -1,7 +1,7 @@
 // What makes a connection of a reader and writer.
 ghost use Rattle.std.specs.Prelude.{◌≡◌, IfOk, IfSome, IsSomeAnd, ⊤};
+ghost use Rattle.counted_io.specs.Turns.{IsOver};
 ghost use Rattle.http_connections.specs.Site.{IsConnectionFor, giver_of};
-ghost use Rattle.http_connections.specs.Turns.{IsOver};
 ghost use Rattle.hyper.specs.ServerDispatch.{Runs};
 
 use crate::answers::Answers;
@@ -72,7 +72,7 @@ where
 
     ghost makes = { λ connecting io service leaving. IsSomeAnd leaving.connection (λ made.
         Runs ⟦<Watched<I> as AsyncRead>⟧ ⟦<Watched<I> as AsyncWrite>⟧ S.Service S.Future.Future
-        B.Body B.Data.Into made.conn × IsOver connecting.turns io made.conn.link.io
+        B.Body B.Data.Into made.conn × IsOver connecting.turns io made.conn.link.io.io
         × (made.conn.service ≡ service)) };
 
     fn connect(&self, io: I, course: &Arc<Course>, service: S) -> Option<Leaving<I, S, B, T>> {

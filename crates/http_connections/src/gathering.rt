@@ -23,7 +23,8 @@ use std::time::Clock;
 pub const SKIPPED: usize = 67_108_864;
 
 /// Gathers the content of a request, since each of its pieces would keep a buffer of the connection. Of content that is
-/// too long nothing is kept.
+/// too long nothing is kept. (A reply that is too long ends its exchange, so what gathers replies in `proxy_client` has
+/// neither patience nor a course.)
 #[derive(Drop)]
 pub struct Gathering<R, B> {
     alloc: Global,

@@ -1,9 +1,10 @@
-// A reader and writer that tells the course of a connection, and is asked a limited number of times.
-ghost use Rattle.std.specs.Prelude.{◌≡◌, ◌+◌, ◌≤◌, OnErr, OnOk, ⊤};
+// A counted reader and writer that tells the course of a connection what comes.
+ghost use Rattle.std.specs.Prelude.{⊤};
+ghost use Rattle.counted_io.specs.Turns.{Costs, IsOver, costs_in_order, costs_nothing};
 ghost use Rattle.futures.specs.Task.{Keeps};
-ghost use Rattle.http_connections.specs.Turns.{Costs, IsOver, costs_in_order, costs_nothing};
 
 use crate::course::{Course, Stage};
+use counted_io::counted::Counted;
 use futures::task::{Context, Poll};
 use hyper::rt::Timer;
 use std::alloc::AllocError;
@@ -14,19 +15,15 @@ use std::time::{Instant, SystemTime};
 use tokio::io::{AsyncRead, AsyncWrite};
 use tokio::time::Sleep;
 
-/// The most turns that the loop over the bytes of a connection has.
-pub const TURN_LIMIT: u64 = 100_000_000;
-
 /// What a client is sent that has to leave, where something of its request has come (RFC 9110, section 15.5.9).
 const REQUEST_TIMEOUT: &[u8] =
     b"HTTP/1.1 408 Request Timeout\r\nconnection: close\r\ncontent-length: 0\r\n\r\n";
 
 /// A reader and writer that tells the course of a connection what comes, and that fails once the connection has to
-/// leave, or once it was polled as often as it may be.
+/// leave, or once its turns are at their end.
 #[derive(Drop)]
 pub struct Watched<I> {
-    io: I,
-    turns: u64,
+    io: Counted<I>,
     course: Arc<Course>,
 }
 
@@ -38,64 +35,40 @@ pub struct HeadTimer<T> {
 }
 
 impl<I> Watched<I> {
-    /// Each poll of a read, a write, a flush or a shutdown is a turn.
     pub fn new(io: I, turns: u64, course: Arc<Course>) -> Watched<I>
-        ensures { IsOver turns io result }
+        ensures { IsOver turns io result.io }
     {
-        let turns = turns.min(TURN_LIMIT);
-        Watched { io, turns, course }
+        let io = Counted::new(io, turns);
+        Watched { io, course }
     }
 
-    // A small error: each local is cleared when a function is entered.
-    fn take_turn(&mut self) -> Result<(), ErrorKind>
-        ensures counted { OnOk result (self.new.turns + 1 ≡ self.old.turns) }
-        ensures ended { OnErr result ((self.old.turns ≡ 0) × (self.new.turns ≡ 0)) }
-        ensures same { self.new.io ≡ self.old.io }
-    {
-        match self.turns.checked_sub(1) {
-            Some(left) => {
-                self.turns = left;
-                Ok(())
-            }
-            None => Err(ErrorKind::QuotaExceeded),
-        }
-    }
-
-    // As for any poll; and nothing is read once the connection has to leave, but for content that is still to come: what
-    // gathers that leaves by itself.
-    fn begin_read(&mut self) -> Result<(), ErrorKind>
-        ensures counted { OnOk result (self.new.turns + 1 ≡ self.old.turns) }
-        ensures fewer { self.new.turns ≤ self.old.turns }
-        ensures same { self.new.io ≡ self.old.io }
-    {
-        self.take_turn()?;
-        if self.course.must_leave() && !self.course.is_at(Stage::Content) {
-            return Err(ErrorKind::TimedOut);
-        }
-        Ok(())
+    // Nothing is read once the connection has to leave, but for content that is still to come: what gathers that leaves
+    // by itself.
+    fn is_read_no_more(&self) -> bool {
+        self.course.must_leave() && !self.course.is_at(Stage::Content)
     }
 }
 
 // Not inlined, as it is rarely made.
 #[inline(never)]
-fn refusal(kind: ErrorKind) -> io::Error {
-    io::Error::from(kind)
+fn timed_out() -> io::Error {
+    io::Error::from(ErrorKind::TimedOut)
 }
 
 impl<I: AsyncRead + AsyncWrite> AsyncRead for Watched<I> {
-    ghost needs = { λ w. I.AsyncRead.needs w.io };
+    ghost needs = { λ w. ⟦<Counted<I> as AsyncRead>⟧.needs w.io };
 
-    ghost reads = { Costs I.reads };
+    ghost reads = { λ old bytes new. Costs I.reads old.io bytes new.io };
 
-    ghost is_at_end = { λ w. I.is_at_end w.io };
+    ghost is_at_end = { λ w. ⟦<Counted<I> as AsyncRead>⟧.is_at_end w.io };
 
-    ghost reads_nothing = { costs_nothing I.reads I.reads_nothing };
+    ghost reads_nothing = { λ w. costs_nothing I.reads I.reads_nothing w.io };
 
-    ghost reads_in_order = { costs_in_order I.reads I.reads_in_order };
+    ghost reads_in_order = { λ a xs b ys c. costs_in_order I.reads I.reads_in_order a.io xs b.io ys c.io };
 
     fn poll_read(&mut self, cx: &mut Context<'_>, buf: &mut [u8]) -> Poll<io::Result<usize>> {
-        if let Err(kind) = self.begin_read() {
-            return Poll::Ready(Err(refusal(kind)));
+        if self.is_read_no_more() {
+            return Poll::Ready(Err(timed_out()));
         }
         self.course.wants();
         let polled = self.io.poll_read(cx, buf);
@@ -109,32 +82,23 @@ impl<I: AsyncRead + AsyncWrite> AsyncRead for Watched<I> {
 }
 
 impl<I: AsyncWrite> AsyncWrite for Watched<I> {
-    ghost needs = { λ w. I.needs w.io };
+    ghost needs = { λ w. ⟦<Counted<I> as AsyncWrite>⟧.needs w.io };
 
-    ghost writes = { Costs I.writes };
+    ghost writes = { λ old bytes new. Costs I.writes old.io bytes new.io };
 
-    ghost writes_nothing = { costs_nothing I.writes I.writes_nothing };
+    ghost writes_nothing = { λ w. costs_nothing I.writes I.writes_nothing w.io };
 
-    ghost writes_in_order = { costs_in_order I.writes I.writes_in_order };
+    ghost writes_in_order = { λ a xs b ys c. costs_in_order I.writes I.writes_in_order a.io xs b.io ys c.io };
 
     fn poll_write(&mut self, cx: &mut Context<'_>, buf: &[u8]) -> Poll<io::Result<usize>> {
-        if let Err(kind) = self.take_turn() {
-            return Poll::Ready(Err(refusal(kind)));
-        }
         self.io.poll_write(cx, buf)
     }
 
     fn poll_flush(&mut self, cx: &mut Context<'_>) -> Poll<io::Result<()>> {
-        if let Err(kind) = self.take_turn() {
-            return Poll::Ready(Err(refusal(kind)));
-        }
         self.io.poll_flush(cx)
     }
 
     fn poll_shutdown(&mut self, cx: &mut Context<'_>) -> Poll<io::Result<()>> {
-        if let Err(kind) = self.take_turn() {
-            return Poll::Ready(Err(refusal(kind)));
-        }
         self.io.poll_shutdown(cx)
     }
 }

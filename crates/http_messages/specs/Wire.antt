@@ -1,22 +1,12 @@
 -- What is sent of a response.
-use Rattle.std.specs.Prelude.{◌≡◌, ℕ, Bool, ◌==◌, ◌||◌, List, [], ◌∷◌, codes, fold, reverse}
-use Rattle.std.specs.Prelude.{IsFalse, IsTrue, if◌then◌else◌, bytes_eq}
-use Rattle.std.specs.List.{list_any}
+use Rattle.std.specs.Prelude.{◌≡◌, ℕ, Bool, ◌==◌, ◌||◌, List, [], ◌∷◌, fold, reverse}
+use Rattle.std.specs.Prelude.{IsFalse, IsTrue, if◌then◌else◌}
+use Rattle.connection_headers.specs.Names.{is_connection_name}
 use Rattle.http.specs.Response.{head_of, body_of}
 use Rattle.http.specs.declared.response.Response.{Response}
 use Rattle.http_header.specs.FieldValue.{FieldValue}
 use Rattle.http_header.specs.HeaderMap.{Entries, append, pairs}
 use Rattle.http_header.specs.Token.{space, tab}
-
--- Headers that say how a message is framed (RFC 9112, sections 6 and 9.6; RFC 9110, section 7.6.1): they are those of
--- the connection, and not of who wrote the response.
-abbrev pub framing_names : List (List ℕ)
-framing_names =
-    codes "content-length" ∷ codes "transfer-encoding" ∷ codes "connection" ∷ codes "keep-alive"
-    ∷ codes "proxy-connection" ∷ codes "te" ∷ codes "trailer" ∷ codes "upgrade" ∷ []
-
-abbrev pub is_framing : List ℕ → Bool
-is_framing name = list_any (bytes_eq name) framing_names
 
 abbrev pub is_blank : ℕ → Bool
 is_blank b = (b == space) || (b == tab)
@@ -32,10 +22,10 @@ without_end_blanks bytes = reverse (without_front_blanks (reverse bytes))
 abbrev pub without_blanks : List ℕ → List ℕ
 without_blanks bytes = without_end_blanks (without_front_blanks bytes)
 
--- one more header, unless it is one of framing
+-- one more header, unless it is one of the connection
 abbrev pub with_sent : Entries FieldValue → List ℕ × FieldValue → Entries FieldValue
 with_sent headers field =
-    if is_framing field.0 then headers
+    if is_connection_name field.0 then headers
     else append headers field.0 (record field.1 { bytes = without_blanks field.1.bytes })
 
 abbrev pub sent_headers : Entries FieldValue → Entries FieldValue

@@ -3,10 +3,11 @@ ghost use Rattle.std.specs.Prelude.{◌≡◌, All, IfOk, IsTrue, OnOk};
 ghost use Rattle.http_header.specs.FieldValue.{IsFieldValue};
 ghost use Rattle.http_header.specs.HeaderMap.{pairs};
 ghost use Rattle.http_messages.specs.Inner.AsSent.{IsAsSent};
-ghost use Rattle.http_messages.specs.Wire.{IsSent, has_no_content, is_blank, is_framing, sent_headers, with_sent};
+ghost use Rattle.http_messages.specs.Wire.{IsSent, has_no_content, is_blank, sent_headers, with_sent};
 ghost use Rattle.http_messages.specs.Wire.{without_blanks, without_end_blanks, without_front_blanks};
 
 use bytes::Bytes;
+use connection_headers::names::is_connection_name;
 use http::response::Parts;
 use http::{HeaderMap, HeaderName, HeaderValue, Response, StatusCode};
 use std::alloc::{AllocError, Global};
@@ -55,7 +56,7 @@ fn is_each_as_sent(headers: &HeaderMap) -> bool
     ensures { IsTrue result → All IsAsSent (pairs headers.now) }
 {
     for (name, value) in headers.iter() {
-        if is_framing(name.as_str()) || !is_trimmed(value) {
+        if is_connection_name(name.as_str()) || !is_trimmed(value) {
             return false;
         }
     }
@@ -94,26 +95,13 @@ fn push_sent(
 ) -> Result<(), AllocError>
     ensures { OnOk result (headers.new ≡ with_sent headers.old (name.now, value.now)) }
 {
-    if is_framing(name.as_str()) {
+    if is_connection_name(name.as_str()) {
         return Ok(());
     }
     let Ok(_) = headers.append(name.clone()?, sent_value(alloc, value)?) else {
         return Err(AllocError);
     };
     Ok(())
-}
-
-fn is_framing(name: &str) -> bool
-    ensures { result ≡ is_framing name.now }
-{
-    name == "content-length"
-        || name == "transfer-encoding"
-        || name == "connection"
-        || name == "keep-alive"
-        || name == "proxy-connection"
-        || name == "te"
-        || name == "trailer"
-        || name == "upgrade"
 }
 
 // The value without the blanks at its ends. It is shared where it has none.

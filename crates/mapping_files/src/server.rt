@@ -3,7 +3,7 @@ use bytes::Bytes;
 use mapping_model::reply::Reply;
 use mock_request::error::SnapshotError;
 use mock_request::snapshot::Snapshot;
-use proxy_client::counted::TURN_LIMIT;
+use counted_io::counted::TURN_LIMIT;
 use proxy_client::error::ProxyError;
 use proxy_client::forward::forward;
 use recorder::error::RecordingError;

@@ -106,7 +106,7 @@ pub struct RecordArguments<'a> {
 
 /// What the arguments ask for.
 #[derive(Drop)]
-pub enum Call<'a> {
+pub enum ServerCall<'a> {
     Serve(ServeArguments<'a>),
     Record(ServeArguments<'a>, RecordArguments<'a>),
     /// The mappings of a server are to be written to a file.
@@ -117,7 +117,10 @@ pub enum Call<'a> {
 
 /// What the arguments ask for, the first being the program's name and the second that of the command; or the text of
 /// `clap` in place of it, for help or for arguments that aren't valid.
-pub fn call_of<'a>(alloc: Global, arguments: &'a [&'a str]) -> Result<Option<Call<'a>>, Error> {
+pub fn call_of<'a>(
+    alloc: Global,
+    arguments: &'a [&'a str],
+) -> Result<Option<ServerCall<'a>>, Error> {
     let matches = command(alloc)?.try_get_matches_from(arguments)?;
     match matches.subcommand() {
         Some((name, given)) => Ok(call_in(alloc, name, given)?),
@@ -129,7 +132,7 @@ fn call_in<'a>(
     alloc: Global,
     name: &str,
     given: &ArgMatches<'a>,
-) -> Result<Option<Call<'a>>, AllocError> {
+) -> Result<Option<ServerCall<'a>>, AllocError> {
     match name {
         "save" => Ok(save_in(given)),
         "record" => record_in(alloc, given),
@@ -137,24 +140,27 @@ fn call_in<'a>(
     }
 }
 
-fn save_in<'a>(given: &ArgMatches<'a>) -> Option<Call<'a>> {
-    Some(Call::Save {
+fn save_in<'a>(given: &ArgMatches<'a>) -> Option<ServerCall<'a>> {
+    Some(ServerCall::Save {
         server: given.get_str("server")?,
         file: given.get_str("file")?,
     })
 }
 
-fn serve_in<'a>(given: &ArgMatches<'a>) -> Option<Call<'a>> {
+fn serve_in<'a>(given: &ArgMatches<'a>) -> Option<ServerCall<'a>> {
     match address_in(given) {
-        Ok(address) => Some(Call::Serve(arguments_in(given, address)?)),
-        Err(text) => Some(Call::BadAddress(text)),
+        Ok(address) => Some(ServerCall::Serve(arguments_in(given, address)?)),
+        Err(text) => Some(ServerCall::BadAddress(text)),
     }
 }
 
-fn record_in<'a>(alloc: Global, given: &ArgMatches<'a>) -> Result<Option<Call<'a>>, AllocError> {
+fn record_in<'a>(
+    alloc: Global,
+    given: &ArgMatches<'a>,
+) -> Result<Option<ServerCall<'a>>, AllocError> {
     match address_in(given) {
         Ok(address) => record_at(alloc, given, address),
-        Err(text) => Ok(Some(Call::BadAddress(text))),
+        Err(text) => Ok(Some(ServerCall::BadAddress(text))),
     }
 }
 
@@ -162,7 +168,7 @@ fn record_at<'a>(
     alloc: Global,
     given: &ArgMatches<'a>,
     address: IpAddr,
-) -> Result<Option<Call<'a>>, AllocError> {
+) -> Result<Option<ServerCall<'a>>, AllocError> {
     let Some(served) = arguments_in(given, address) else {
         return Ok(None);
     };
@@ -183,7 +189,7 @@ fn record_at<'a>(
         har,
         captured,
     };
-    Ok(Some(Call::Record(served, record)))
+    Ok(Some(ServerCall::Record(served, record)))
 }
 
 fn push_names<'a>(all: &mut Vec<&'a str>, names: &[&'a str]) -> Result<(), AllocError> {

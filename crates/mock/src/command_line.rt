@@ -9,7 +9,7 @@ ghost use Rattle.template_tree.specs.declared.escape.Escape.{Escape};
 ghost use Rattle.mock.specs.CommandLine.{AskForOwn, AskToHelp, is_own};
 ghost use Rattle.mock.specs.Inner.Arguments.{ask_for_own, ask_to_help};
 
-use crate::arguments::{Call, ServeArguments, call_of};
+use crate::arguments::{ServeArguments, ServerCall, call_of};
 use crate::page::page_in;
 use crate::record::record as record_until;
 use crate::serve::{Plan, serve};
@@ -230,7 +230,14 @@ where
     }
 }
 
-fn run_call<R, O, E, W, I>(rt: R, call: Call<'_>, out: &mut O, err: &mut E, log: W, input: I) -> u8
+fn run_call<R, O, E, W, I>(
+    rt: R,
+    call: ServerCall<'_>,
+    out: &mut O,
+    err: &mut E,
+    log: W,
+    input: I,
+) -> u8
 where
     R: Threads
         + Wait
@@ -252,10 +259,10 @@ where
     ensures { result ≤ 2 }
 {
     match call {
-        Call::Serve(given) => serve_until(rt, given, out, err, log, input),
-        Call::Record(given, record) => record_until(rt, given, &record, out, err, log, input),
-        Call::Save { server, file } => save(rt, server, file, out, err),
-        Call::BadAddress(text) => report_address(text, err),
+        ServerCall::Serve(given) => serve_until(rt, given, out, err, log, input),
+        ServerCall::Record(given, record) => record_until(rt, given, &record, out, err, log, input),
+        ServerCall::Save { server, file } => save(rt, server, file, out, err),
+        ServerCall::BadAddress(text) => report_address(text, err),
     }
 }
 

@@ -30,7 +30,7 @@ use hyper_service::site_answers::SiteAnswers;
 use mapping_files::book::{BookArguments, book_of};
 use mapping_files::file_writer::FileWriter;
 use proxy_client::client::{Client, SILENCE_SECONDS};
-use proxy_client::counted::TURN_LIMIT;
+use counted_io::counted::TURN_LIMIT;
 use proxy_client::forwarder::Forwarder;
 use request_journal::input::BookInput;
 use request_log::lines::Lines;

@@ -13,7 +13,7 @@ ghost use Rattle.template_tree.specs.declared.escape.Escape.{Escape};
 
 use crate::arguments::{escape_asked, parser_arguments};
 use crate::options::{GivenOption, Split, split_arguments};
-use crate::parser::{Call, call_of};
+use crate::parser::{CommandCall, call_of};
 use crate::render::render_to;
 use crate::request_options::request_options;
 use clap::Error;
@@ -96,7 +96,7 @@ fn run_call<F: FileReader, O: Write, E: Write>(
     alloc: Global,
     files: &F,
     escape: Escape,
-    call: Call<'_>,
+    call: CommandCall<'_>,
     options: &[GivenOption<'_>],
     out: &mut O,
     err: &mut E,
@@ -106,20 +106,20 @@ fn run_call<F: FileReader, O: Write, E: Write>(
         (asked_of call.entry) (map given_of options.now) out.old out.new err.old err.new result }
 {
     match call {
-        Call::Render {
+        CommandCall::Render {
             template,
             method,
             target,
         } => render_to(alloc, template, method, target, out, err, escape),
-        Call::Check { file } => check_file(alloc, files, file, out, err, escape),
-        Call::Answer {
+        CommandCall::Check { file } => check_file(alloc, files, file, out, err, escape),
+        CommandCall::Answer {
             file,
             method,
             target,
         } => run_answer(
             alloc, files, escape, options, file, method, target, out, err,
         ),
-        Call::Explain {
+        CommandCall::Explain {
             file,
             method,
             target,

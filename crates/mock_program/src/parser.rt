@@ -166,7 +166,7 @@ prints
 
 /// A command that is asked for, with its arguments as they are on the command line.
 #[derive(Clone, Copy)]
-pub(crate) enum Call<'a> {
+pub(crate) enum CommandCall<'a> {
     Render {
         template: &'a str,
         method: &'a str,
@@ -192,7 +192,7 @@ pub(crate) enum Call<'a> {
 pub(crate) fn call_of<'a>(
     alloc: Global,
     arguments: &'a [&'a str],
-) -> Result<Option<Call<'a>>, Error>
+) -> Result<Option<CommandCall<'a>>, Error>
     ensures ok { IfOk result (λ call.
         option_map asked_of call ≡ asked_by (map (λ argument. argument.now) arguments.now)) }
     ensures err { is_taken (map (λ argument. argument.now) arguments.now) ≡ true
@@ -206,7 +206,7 @@ pub(crate) fn call_of<'a>(
     }
 }
 
-fn call_in<'a>(name: &str, arguments: &ArgMatches<'a>) -> Option<Call<'a>>
+fn call_in<'a>(name: &str, arguments: &ArgMatches<'a>) -> Option<CommandCall<'a>>
     ensures { option_map asked_of result ≡ asked_in name.now (rows_of (found_of arguments.now)) }
 {
     match name {
@@ -218,38 +218,38 @@ fn call_in<'a>(name: &str, arguments: &ArgMatches<'a>) -> Option<Call<'a>>
     }
 }
 
-fn render_call<'a>(arguments: &ArgMatches<'a>) -> Option<Call<'a>>
+fn render_call<'a>(arguments: &ArgMatches<'a>) -> Option<CommandCall<'a>>
     ensures { option_map asked_of result ≡ render_in (rows_of (found_of arguments.now)) }
 {
-    Some(Call::Render {
+    Some(CommandCall::Render {
         template: value(arguments, "template")?,
         method: value(arguments, "method")?,
         target: value(arguments, "url")?,
     })
 }
 
-fn check_call<'a>(arguments: &ArgMatches<'a>) -> Option<Call<'a>>
+fn check_call<'a>(arguments: &ArgMatches<'a>) -> Option<CommandCall<'a>>
     ensures { option_map asked_of result ≡ check_in (rows_of (found_of arguments.now)) }
 {
-    Some(Call::Check {
+    Some(CommandCall::Check {
         file: value(arguments, "file")?,
     })
 }
 
-fn answer_call<'a>(arguments: &ArgMatches<'a>) -> Option<Call<'a>>
+fn answer_call<'a>(arguments: &ArgMatches<'a>) -> Option<CommandCall<'a>>
     ensures { option_map asked_of result ≡ answer_in (rows_of (found_of arguments.now)) }
 {
-    Some(Call::Answer {
+    Some(CommandCall::Answer {
         file: value(arguments, "mappings")?,
         method: value(arguments, "method")?,
         target: value(arguments, "url")?,
     })
 }
 
-fn explain_call<'a>(arguments: &ArgMatches<'a>) -> Option<Call<'a>>
+fn explain_call<'a>(arguments: &ArgMatches<'a>) -> Option<CommandCall<'a>>
     ensures { option_map asked_of result ≡ explain_in (rows_of (found_of arguments.now)) }
 {
-    Some(Call::Explain {
+    Some(CommandCall::Explain {
         file: value(arguments, "mappings")?,
         method: value(arguments, "method")?,
         target: value(arguments, "url")?,

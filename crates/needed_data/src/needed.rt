@@ -75,8 +75,8 @@ impl<'a> Needed<'a> {
         self.json = true;
     }
 
-    // Steps that are taken from the body's data.
-    fn add_json_steps(&mut self, steps: &'a [Step])
+    /// What the steps find in the body's data is needed too: a field of it, or else all of it.
+    pub fn add_json_steps(&mut self, steps: &'a [Step])
         ensures more { Includes self.new self.old }
         ensures steps { Covers self.new (Name (codes "json") ∷ steps.now) }
     {

@@ -1,7 +1,7 @@
 // Cases: a peer that goes away or fails at each place in turn.
 use crate::outcome::{Outcome, Shown, exchange};
 use crate::peer::{CHUNKS, REPLY, SENT};
-use proxy_client::counted::TURN_LIMIT;
+use counted_io::counted::TURN_LIMIT;
 use proxy_client::scripted_io::Script;
 use std::alloc::{AllocError, AllocGlobal};
 use std::net::Net;

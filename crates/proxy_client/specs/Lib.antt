@@ -3,4 +3,3 @@ pub mod Messages
 pub mod Address
 pub mod Own
 pub mod Content
-pub mod Turns

@@ -4,14 +4,13 @@ ghost use Rattle.futures.specs.Poll.{IfReady, OnPending};
 ghost use Rattle.futures.specs.Task.{IsArmed, Keeps};
 ghost use Rattle.hyper.specs.ClientDispatch.{Runs};
 ghost use Rattle.proxy_client.specs.Messages.{IsSomeReply};
-ghost use Rattle.proxy_client.specs.Turns.{Costs};
 ghost use Rattle.proxy_client.specs.declared.stage.Stage.TheVariants.{Connecting, Talking};
 
-use crate::counted::Counted;
 use crate::error::ProxyError;
 use crate::failure::Failure;
 use crate::motion::Motion;
 use crate::talk::{HttpTalk, http_talk};
+use crate::target_io::TargetIo;
 use bytes::Bytes;
 use futures::task::{Context, Poll};
 use futures::{Future, ready};
@@ -29,7 +28,7 @@ use tokio::io::{AsyncRead, AsyncWrite};
 pub enum Stage<K, I: Drop> {
     /// What is sent is taken once there is a connection.
     Connecting(K, Option<Start>),
-    Talking(Box<HttpTalk<Counted<I>>>),
+    Talking(Box<HttpTalk<TargetIo<I>>>),
 }
 
 // Written out, so that a caller's proof sees one call and not the drop of each part.
@@ -53,9 +52,12 @@ pub struct Start {
 }
 
 impl Start {
-    fn talk<I: AsyncRead + AsyncWrite>(self, io: I) -> Result<Box<HttpTalk<Counted<I>>>, ProxyError>
+    fn talk<I: AsyncRead + AsyncWrite>(
+        self,
+        io: I,
+    ) -> Result<Box<HttpTalk<TargetIo<I>>>, ProxyError>
         ensures { IfOk result (λ talk. IfSome talk.value.connection (λ conn. Runs
-            (Costs I.reads) (Costs I.writes) (λ _. ⊤) conn.inner)) }
+            ⟦<TargetIo<I> as AsyncRead>⟧.reads ⟦<TargetIo<I> as AsyncWrite>⟧.writes (λ _. ⊤) conn.inner)) }
     {
         let Start {
             alloc,
@@ -64,7 +66,7 @@ impl Start {
             turns,
             motion,
         } = self;
-        let talk = http_talk(alloc, &builder, Counted::new(io, turns, motion), message)?;
+        let talk = http_talk(alloc, &builder, TargetIo::new(io, turns, motion), message)?;
         match Box::new(alloc, talk) {
             Ok(talk) => Ok(talk),
             Err(_refused) => Err(ProxyError::OutOfMemory),
@@ -82,7 +84,7 @@ where
     ghost can_poll = { elim [
       | Connecting connect start ↦ K.can_poll connect
       | Talking talk ↦ IfSome talk.value.connection (λ conn. Runs
-          (Costs I.reads) (Costs I.writes) (λ _. ⊤) conn.inner)
+          ⟦<TargetIo<I> as AsyncRead>⟧.reads ⟦<TargetIo<I> as AsyncWrite>⟧.writes (λ _. ⊤) conn.inner)
     ] };
 
     ghost gives = { λ _ result. IfOk result IsSomeReply };

@@ -1,14 +1,9 @@
 -- The headers of a message that belong to its connection alone (RFC 9110, section 7.6.1; RFC 9112, section 6).
-use Rattle.std.specs.Prelude.{ℕ, Bool, ◌&&◌, ◌||◌, ◌==◌, List, [], ◌∷◌, codes}
+use Rattle.std.specs.Prelude.{ℕ, Bool, ◌&&◌, ◌||◌, ◌==◌, List, codes}
 use Rattle.std.specs.List.{list_any, slice_split}
 use Rattle.std.specs.Str.{bytes_eq, str_eq_ignore_ascii_case}
+use Rattle.connection_headers.specs.Names.{is_connection_name}
 use Rattle.mock_request.specs.Request.{Header}
-
--- those that do whatever the message says
-abbrev pub connection_names : List (List ℕ)
-connection_names =
-    codes "connection" ∷ codes "keep-alive" ∷ codes "proxy-connection" ∷ codes "transfer-encoding" ∷ codes "te"
-    ∷ codes "trailer" ∷ codes "upgrade" ∷ codes "content-length" ∷ []
 
 -- a comma, a space or a tab
 abbrev pub is_between_options : ℕ → Bool
@@ -32,4 +27,4 @@ is_named_by_connection headers name = list_any (is_naming name) headers
 
 -- it belongs to the connection of the message with these headers
 abbrev pub is_of_connection : List Header → List ℕ → Bool
-is_of_connection headers name = list_any (bytes_eq name) connection_names || is_named_by_connection headers name
+is_of_connection headers name = is_connection_name name || is_named_by_connection headers name

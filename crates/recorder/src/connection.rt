@@ -1,13 +1,12 @@
 // The headers of a message that belong to its connection alone.
 ghost use Rattle.std.specs.Prelude.{◌≡◌};
-ghost use Rattle.std.specs.Prelude.{bytes_eq};
-ghost use Rattle.std.specs.List.{list_any};
 ghost use Rattle.std.specs.Str.{str_eq_ignore_ascii_case};
 ghost use Rattle.http_header.specs.HeaderMap.{pairs};
 ghost use Rattle.mock_request.specs.Request.{headers_of};
-ghost use Rattle.recorder.specs.Connection.{connection_names, has_option, is_between_options, is_named_by_connection};
+ghost use Rattle.recorder.specs.Connection.{has_option, is_between_options, is_named_by_connection};
 ghost use Rattle.recorder.specs.Connection.{is_naming, is_of_connection};
 
+use connection_headers::names::is_connection_name;
 use http_header::HeaderMap;
 use mock_request::snapshot::Snapshot;
 
@@ -23,19 +22,6 @@ pub(crate) fn is_of_reply_connection(received: &HeaderMap, name: &str) -> bool
     ensures { result ≡ is_of_connection (headers_of (pairs received.now)) name.now }
 {
     is_connection_name(name) || is_named_by_reply(received, name)
-}
-
-fn is_connection_name(name: &str) -> bool
-    ensures { result ≡ list_any (bytes_eq name.now) connection_names }
-{
-    name == "connection"
-        || name == "keep-alive"
-        || name == "proxy-connection"
-        || name == "transfer-encoding"
-        || name == "te"
-        || name == "trailer"
-        || name == "upgrade"
-        || name == "content-length"
 }
 
 fn is_named_by_request(request: &Snapshot, name: &str) -> bool

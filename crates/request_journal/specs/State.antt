@@ -27,6 +27,11 @@ touch name other = None
 abbrev pub state : Past → List ℕ → List ℕ
 state past name = unwrap_or (last_of (touch name) past.events) (state_of past.base.states name)
 
+-- the states of all scenarios before the event and after it: each is where the event leaves it, if the event touches it,
+-- and else where it was
+abbrev pub StatesFollow : (List ℕ → List ℕ) → (List ℕ → List ℕ) → Event → Type 0
+StatesFollow before after event = (name : List ℕ) → after name ≡ unwrap_or (touch name event) (before name)
+
 -- the mapping plays a part in the scenario, and names the state
 abbrev pub IsIn : List ℕ → Option ScenarioSpec → Type 0
 IsIn name None = ⊥

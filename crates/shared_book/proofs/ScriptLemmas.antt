@@ -18,7 +18,7 @@ use Rattle.shared_book.specs.Held.{Gained, Held, HasLetGo, IsDropped, LetsGo, li
 use Rattle.shared_book.specs.Lent.{LendsApplied, LendsServed}
 use Rattle.shared_book.specs.Reached.{Log}
 use Rattle.shared_book.specs.Receipts.{IsReceipt, Line}
-use Rattle.shared_book.specs.Script.{AreReceiptsOf, HasGivenTwo, HasPlayed, IsLineOf, IsOf, IsPlayed, IsStopped}
+use Rattle.shared_book.specs.Script.{AreReceiptsOf, HasGivenTwo, HasPlayed, IsAskedBy, IsLineOf, IsPlayed, IsStopped}
 use Rattle.shared_book.specs.Script.{IsUnplayed, Plays, with_receipts}
 use Rattle.shared_book.specs.Seen.{Enters, HasCaughtUp, HasSplit}
 use Rattle.shared_book.specs.Settled.{AreSettled, AreUnsettled, HaveSeen, IsSettled}
@@ -135,7 +135,7 @@ receipt_of origin old new receipt entered = record {
 
 pub plays_accepted : {name : Book} (origin : Past) (old new : Held) (call : Call) (receipt : Receipt)
     → Gained origin old receipt new
-    → IsOf call receipt.event → Enters origin name old new receipt → Plays origin old new (call ∷ [])
+    → IsAskedBy call receipt.event → Enters origin name old new receipt → Plays origin old new (call ∷ [])
 plays_accepted origin old new call receipt gained of entered = record {
   receipts = receipt ∷ [];
   are = inl (receipt, [], refl, of, receipt_of origin old new receipt entered, refl);
@@ -166,7 +166,8 @@ pub plays_served : (origin : Past) (name : Book) (old new : Held) (request : Req
     (result : Result (Bor Receipt) BookError)
     → LendsServed origin name old new request result → Plays origin old new (Serve request ∷ [])
 plays_served origin name old new request (Ok lent) told =
-    plays_accepted origin old new (Serve request) lent.now told.0 told.1 told.2
+    plays_accepted origin old new (Serve request) lent.now told.0
+    (subst (IsAskedBy (Serve request)) (sym told.1.1) refl) told.2
 plays_served origin name old new request (Err error) told = plays_refused origin old new (Serve request) told
 
 pub plays_applied : (origin : Past) (name : Book) (old new : Held) (asked : BookInput)

@@ -5,9 +5,10 @@ use Rattle.logbook.specs.Pages.{Book}
 use Rattle.mock_request.specs.Request.{Request}
 use Rattle.request_journal.specs.Input.{IsAsked}
 use Rattle.request_journal.specs.Past.{Past}
+use Rattle.request_journal.specs.declared.event.Event.{Event}
 use Rattle.request_journal.specs.declared.input.BookInput.{BookInput}
 use Rattle.shared_book.specs.Held.{Gained, Held}
-use Rattle.shared_book.specs.Inner.Gains.{Applies, Serves}
+use Rattle.shared_book.specs.Inner.Gains.{Gains}
 use Rattle.shared_book.specs.Receipts.{IsLast}
 use Rattle.shared_book.specs.Seen.{Enters}
 use Rattle.shared_book.specs.declared.receipt.Receipt.{Receipt}
@@ -33,27 +34,28 @@ added_last origin old new added last gained is_last =
     one_last gained.before.own.held is_last.0 added last
     (sym (ap (λ (h : Held). h.own.held) gained.added) ∙ is_last.1)
 
-pub lends_served : {name : Book} (origin : Past) (old new : Held) (request : Request) (last : Receipt)
-    → Serves origin name old new request
+lends : {name : Book} (origin : Past) (old new : Held) (asked : Event → Type 0) (last : Receipt)
+    → Gains origin name old new asked
     → IsLast last new.own.held
-    → Gained origin old last new × IsServed request last.event × Enters origin name old new last
-lends_served {name} origin old new request last made is_last =
+    → Gained origin old last new × asked last.event × Enters origin name old new last
+lends {name} origin old new asked last made is_last =
     let same : made.receipt ≡ last = added_last origin old new made.receipt last made.gained is_last in (
       subst (λ (r : Receipt). Gained origin old r new) same made.gained,
-      subst (λ (r : Receipt). IsServed request r.event) same made.served,
+      subst (λ (r : Receipt). asked r.event) same made.asked_for,
       subst (λ (r : Receipt). Enters origin name old new r) same made.entered,
     )
 
+pub lends_served : {name : Book} (origin : Past) (old new : Held) (request : Request) (last : Receipt)
+    → Gains origin name old new (IsServed request)
+    → IsLast last new.own.held
+    → Gained origin old last new × IsServed request last.event × Enters origin name old new last
+lends_served {name} origin old new request = lends {name = name} origin old new (IsServed request)
+
 pub lends_applied : {name : Book} (origin : Past) (old new : Held) (asked : BookInput) (last : Receipt)
-    → Applies origin name old new asked
+    → Gains origin name old new (IsAsked asked)
     → IsLast last new.own.held
     → Gained origin old last new × IsAsked asked last.event × Enters origin name old new last
-lends_applied {name} origin old new asked last made is_last =
-    let same : made.receipt ≡ last = added_last origin old new made.receipt last made.gained is_last in (
-      subst (λ (r : Receipt). Gained origin old r new) same made.gained,
-      subst (λ (r : Receipt). IsAsked asked r.event) same made.asked_for,
-      subst (λ (r : Receipt). Enters origin name old new r) same made.entered,
-    )
+lends_applied {name} origin old new asked = lends {name = name} origin old new (IsAsked asked)
 
 -- the seat's own line isn't empty then
 pub gained_some : (origin : Past) (old new : Held) (receipt : Receipt) → Gained origin old receipt new

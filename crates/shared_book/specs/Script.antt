@@ -4,6 +4,7 @@ use mathlib.Core.List.{IsPrefix}
 use Rattle.request_journal.specs.Input.{IsAsked}
 use Rattle.request_journal.specs.Past.{Past}
 use Rattle.request_journal.specs.declared.event.Event.{Event}
+use Rattle.request_journal.specs.declared.event.Event.TheVariants as event
 use Rattle.shared_book.specs.Held.{Held, HasLetGo, IsDropped, LetsGo, lists, new_seat}
 use Rattle.logbook.specs.Pages.{Book}
 use Rattle.shared_book.specs.Reached.{Log, MayFollow}
@@ -17,19 +18,19 @@ use Rattle.shared_book.specs.declared.settled.SettleRefusal.{SettleRefusal}
 use Rattle.shared_book.specs.declared.settled.SettleRefusal.TheVariants.{OutOfMemory}
 use Rattle.shared_history.specs.History.{HasEnded}
 use Rattle.shared_history.specs.Seal.{IsSeen}
-use Rattle.stub_book.specs.Growth.{IsServed}
 
--- the event is that of this call
-abbrev pub IsOf : Call → Event → Type 0
-IsOf (Serve request) event = IsServed request event
-IsOf (Apply input) event = IsAsked input event
+-- the event is what the call asks for, with whatever answer
+abbrev pub IsAskedBy : Call → Event → Type 0
+IsAskedBy (Serve request) (event.Serve served answer) = served ≡ request
+IsAskedBy (Serve request) other = ⊥
+IsAskedBy (Apply input) event = IsAsked input event
 
 -- these receipts are those of the accepted ones among the calls, in their order, by the seat of this number
 abbrev pub AreReceiptsOf : Past → ℕ → Log → List Call → List Receipt → Type 0
 AreReceiptsOf origin seat log [] receipts = receipts ≡ []
 AreReceiptsOf origin seat log (call ∷ calls) receipts =
     ((receipt : Receipt) × (rest : List Receipt) × (receipts ≡ receipt ∷ rest)
-    × IsOf call receipt.event × IsReceipt origin seat log receipt × AreReceiptsOf origin seat log calls rest)
+    × IsAskedBy call receipt.event × IsReceipt origin seat log receipt × AreReceiptsOf origin seat log calls rest)
     ⊎ AreReceiptsOf origin seat log calls receipts
 
 -- these receipts at the end of its own line

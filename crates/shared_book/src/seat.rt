@@ -1,8 +1,9 @@
 // A seat, by which calls are made on a shared book.
 ghost use Rattle.std.specs.Prelude.{◌≡◌, ◌-◌, ◌^◌, ◌<◌, length, IfErr, IfOk, OnOk, ⊤};
 ghost use Rattle.shared_book.specs.Held.{HasLetGo, new_seat, sight, with_seat};
-ghost use Rattle.shared_book.specs.Inner.Gains.{Serves, Applies};
+ghost use Rattle.shared_book.specs.Inner.Gains.{Gains};
 ghost use Rattle.shared_book.specs.Lent.{LendsServed, LendsApplied};
+ghost use Rattle.request_journal.specs.Input.{IsAsked};
 ghost use Rattle.request_journal.specs.Past.{Past};
 ghost use Rattle.shared_book.specs.Reached.{IsLawful, IsPastOf, MayFollow};
 ghost use Rattle.shared_book.specs.Reading.{IsRead};
@@ -10,6 +11,7 @@ ghost use Rattle.shared_book.specs.Receipts.{IsLast};
 ghost use Rattle.shared_book.specs.Refused.{IsRefused, IsServeRefused};
 ghost use Rattle.shared_book.specs.Seen.{HasCaughtUp, HasJoined, HasSplit};
 ghost use Rattle.shared_history.specs.Seal.{IsSeen};
+ghost use Rattle.stub_book.specs.Growth.{IsServed};
 ghost use Rattle.std.specs.Borrow.{sem};
 ghost use denote.Follow.{follows_so};
 ghost use mathlib.Core.Option.{none};
@@ -320,7 +322,7 @@ impl<L: Origin> Seat<L> {
         shared: &SharedBook<L>,
         request: Snapshot,
     ) -> Result<(), BookError>
-        ensures ok { OnOk result (Serves L.origin L.book self.old self.new request) }
+        ensures ok { OnOk result (Gains L.origin L.book self.old self.new (IsServed request)) }
         ensures why { IfErr result (λ error. IsServeRefused L.origin L.book self.old self.new error.code) }
     {
         self.lines.own.held.reserve(1)?;
@@ -349,7 +351,7 @@ impl<L: Origin> Seat<L> {
         shared: &SharedBook<L>,
         input: BookInput,
     ) -> Result<(), BookError>
-        ensures ok { OnOk result (Applies L.origin L.book self.old self.new input) }
+        ensures ok { OnOk result (Gains L.origin L.book self.old self.new (IsAsked input)) }
         ensures why { IfErr result (λ error. IsRefused L.origin L.book self.old self.new input error.code) }
     {
         self.lines.own.held.reserve(1)?;

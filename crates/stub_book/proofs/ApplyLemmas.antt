@@ -29,8 +29,10 @@ accepts old new asked given added made prepared same asked_for grows =
 pub applies :
     (old new : Past) (asked : BookInput) (accepted : Accepted) → IsAccepted old new asked accepted
     → Applies old new asked accepted.answer
-applies old new asked accepted is =
-    record { event = accepted.event; asked_for = is.asked_for; answered = is.answered; grows = is.grows }
+applies old new asked accepted is = (
+  accepted.event,
+  record { asked_for = is.asked_for; answered = is.answered; grows = is.grows },
+)
 
 -- where mappings were added, the new past is the old one with the event
 fewer_after :

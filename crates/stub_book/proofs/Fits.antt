@@ -13,7 +13,7 @@ use Rattle.request_journal.specs.Legal.{IsNext, IsCheckpoint}
 use Rattle.request_journal.specs.Live.{live, adds, left_by}
 use Rattle.request_journal.specs.Past.{Past, with_event, last_number, placed_from}
 use Rattle.request_journal.specs.Recording.{recording}
-use Rattle.request_journal.specs.State.{touch}
+use Rattle.request_journal.specs.State.{StatesFollow, touch}
 use Rattle.request_journal.specs.declared.event.Event.{Event}
 use Rattle.request_journal.specs.declared.event.Event.TheVariants as event
 use Rattle.request_journal.specs.declared.limits.TheConstants.{LIVE_LIMIT, NUMBER_LIMIT}
@@ -22,9 +22,9 @@ use Rattle.request_journal.proofs.LegalLemmas.{legal_after}
 use Rattle.request_journal.proofs.LiveLemmas.{live_at_checkpoint, state_after, state_at_checkpoint}
 use Rattle.request_journal.proofs.RecordingLemmas.{recording_by, recording_after, recording_at_checkpoint}
 use Rattle.request_journal.proofs.SameLemmas.{live_since_checkpoint, number_after}
-use Rattle.scenario_core.specs.Scenarios.{States}
+use Rattle.scenario_core.specs.Scenarios.{States, state_of}
 use Rattle.stub_book.specs.Growth.{Grows}
-use Rattle.stub_book.specs.Inner.Kept.{Agrees, StatesFollow}
+use Rattle.stub_book.specs.Inner.Kept.{Agrees}
 
 -- a number that has room leaves room for itself
 room_after : (past : Past) (event : Event) → last_number past < NUMBER_LIMIT
@@ -34,7 +34,7 @@ room_after past event room = let e = number_after past event in omega (arith, e,
 module _
     (past : Past) (event : Event) (stored stored' : Stored) (states states' : States) (kept kept' : Recording)
     (fits : Agrees past stored states kept) (next : IsNext past event)
-    (follows : Follows stored stored' (last_number past + 1) event) (moves : StatesFollow states states' event)
+    (follows : Follows stored stored' (last_number past + 1) event) (moves : StatesFollow (state_of states) (state_of states') event)
     (records : kept' ≡ recording_by (last_number past + 1) event kept)
   where
     -- what fitted fits after one more event with the right answer
@@ -122,7 +122,7 @@ pub fits_added :
     (recorded recorded' : Recording)
     → kept ≡ past → shared ≡ event → new ≡ with_event kept shared
     → Agrees past stored states recorded → IsNext past event
-    → Follows stored stored' (last_number past + 1) event → StatesFollow states states' event
+    → Follows stored stored' (last_number past + 1) event → StatesFollow (state_of states) (state_of states') event
     → recorded' ≡ recording_by (last_number past + 1) event recorded → Agrees new stored' states' recorded'
 fits_added past kept new event shared stored stored' states states' recorded recorded' same is grown fits next
     follows moves records =
@@ -148,7 +148,7 @@ pub fits_reset :
     (recorded : Recording)
     → kept ≡ past → shared ≡ event → IsCheckpoint kept base → new ≡ with_event base shared
     → clears event ≡ true → Agrees past stored states recorded → IsNext past event
-    → Follows stored stored' (last_number past + 1) event → StatesFollow states states' event
+    → Follows stored stored' (last_number past + 1) event → StatesFollow (state_of states) (state_of states') event
     → recorded ≡ recording_by (last_number past + 1) event recorded → Agrees new stored' states' recorded
 fits_reset past kept base new event shared stored stored' states states' recorded same is checkpoint grown clear fits
     next follows moves records =

@@ -33,12 +33,10 @@ pub record IsAccepted (old new : Past) (asked : BookInput) (accepted : Accepted)
   pub answered : accepted.answer ≡ answer_of accepted.event
   pub grows : Grows old new accepted.event
 
--- by one such event, which is this input with this answer
-pub record Applies (old new : Past) (asked : BookInput) (answer : BookAnswer) : Type 0 where
-  pub event : Event
-  pub asked_for : IsAsked asked event
-  pub answered : answer ≡ answer_of event
-  pub grows : Grows old new event
+-- the same, but the answer alone was given back
+abbrev pub Applies : Past → Past → BookInput → BookAnswer → Type 0
+Applies old new asked answer =
+    (event : Event) × IsAccepted old new asked (record { event = event; answer = answer })
 
 -- the event is that of the request, with whatever answer
 abbrev pub IsServed : Request → Event → Type 0

@@ -19,6 +19,7 @@ use request_journal::input::{BookAnswer, BookInput};
 
 impl Book {
     /// Makes the change that is asked for.
+    #[tactic(auto, using(crate::proofs::ApplyLemmas::applies))]
     pub fn apply(&mut self, input: BookInput) -> Result<BookAnswer, BookError>
         ensures ok { IfOk result (Applies self.old self.new input) }
         ensures err { OnErr result (self.new ≡ self.old) }

@@ -3,9 +3,11 @@ ghost use Rattle.std.specs.Prelude.{◌≡◌, IfErr, IfOk, OnErr, OnOk};
 ghost use Rattle.mock_request.specs.Request.{Request};
 ghost use Rattle.request_journal.specs.Choice.{IsChoice};
 ghost use Rattle.request_journal.specs.Past.{Past};
+ghost use Rattle.request_journal.specs.State.{StatesFollow};
 ghost use Rattle.request_journal.specs.declared.event.Event.TheVariants as event;
+ghost use Rattle.scenario_core.specs.Scenarios.{state_of};
 ghost use Rattle.stub_book.specs.Growth.{Grows, IsServed};
-ghost use Rattle.stub_book.specs.Inner.Kept.{Agrees, IsUnchosen, StatesFollow};
+ghost use Rattle.stub_book.specs.Inner.Kept.{Agrees, IsUnchosen};
 ghost use Rattle.stub_book.specs.Refusals.{IsServeRefusal};
 
 use crate::book::Book;
@@ -121,7 +123,7 @@ fn unchosen(recording: &Recording) -> Result<ServeAnswer, AllocError>
 // Moves the scenario of the mapping that a request was answered with, if it moves one.
 fn move_scenario(alloc: Global, scenarios: &mut Scenarios, served: &Event) -> Result<(), AllocError>
     ensures ok { OnOk result ((request : Request) (answer : ServeAnswer) → served.now ≡ event.Serve request answer
-        → StatesFollow scenarios.old scenarios.new (event.Serve request answer)) }
+        → StatesFollow (state_of scenarios.old) (state_of scenarios.new) (event.Serve request answer)) }
     ensures err { OnErr result (scenarios.new ≡ scenarios.old) }
 {
     let Event::Serve {

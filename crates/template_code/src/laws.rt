@@ -15,7 +15,8 @@ pub fn law_open_loops_have_an_item()
     ensures { EachLoopHasItem }
 {}
 
-/// A run reads no more of the root than what its code's paths find and the body's data.
+/// A run reads no more of the root than what its code's paths find, and of the body's data, where a helper looks a path
+/// up, what that path finds, if it is a literal before the call.
 pub fn law_runs_read_what_is_found()
     ensures { RunsReadWhatIsFound }
 {}

@@ -1,33 +1,76 @@
 //! The data that code looks at.
+ghost use Rattle.std.specs.Prelude.{IfSome};
 ghost use Rattle.needed_data.specs.Needed.{Includes};
-ghost use Rattle.template_machine.specs.Inner.Needs.{CoversInstr, CoversCode};
+ghost use Rattle.helper_set.specs.declared.helper.Helper.TheVariants.{JsonPath};
+ghost use Rattle.template_code.specs.Finds.{IsPushedBefore};
+ghost use Rattle.template_code.specs.declared.instr.Instr.TheVariants.{Call};
+ghost use Rattle.template_machine.specs.Inner.Needs.{CoversInstr, CoversJump, CoversCode};
 
 use helper_set::helper::Helper;
 use needed_data::needed::Needed;
 use template_code::code::Code;
+use template_code::code_text::CodeText;
 use template_code::instr::Instr;
 
-// What the code's paths find is needed too, and the body's data, where a helper looks a path up in it.
+// What the code's paths find is needed too, and what helpers look up in the body's data.
 pub(crate) fn add_code<'a>(code: &'a Code, needed: &mut Needed<'a>)
     ensures more { Includes needed.new needed.old }
     ensures code { CoversCode needed.new code.now }
 {
-    for instr in code.instrs() {
-        add_instr(code, *instr, needed);
+    for (index, instr) in code.instrs().iter().enumerate() {
+        add_instr(code, index, *instr, needed);
     }
 }
 
-fn add_instr<'a>(code: &'a Code, instr: Instr, needed: &mut Needed<'a>)
+fn add_instr<'a>(code: &'a Code, index: usize, instr: Instr, needed: &mut Needed<'a>)
     ensures more { Includes needed.new needed.old }
-    ensures instr { CoversInstr needed.new code.now instr }
+    ensures instr { CoversInstr needed.new code.now index instr }
 {
     match instr {
-        Instr::Root(index) => {
-            if let Some(path) = code.paths().get(index) {
+        Instr::Root(path) => {
+            if let Some(path) = code.paths().get(path) {
                 needed.add_steps(path.steps());
             }
         }
-        Instr::Call(Helper::JsonPath) => needed.add_json(),
+        Instr::Call(Helper::JsonPath) => add_looked_up(code, index, needed),
+        Instr::Jump(target) | Instr::Branch(target) | Instr::Each(target) | Instr::Next(target) => {
+            add_jump(code, target, needed)
+        }
         _ => {}
+    }
+}
+
+// The part of the body's data that a literal path finds. Another text may be any path.
+fn add_looked_up<'a>(code: &'a Code, index: usize, needed: &mut Needed<'a>)
+    ensures more { Includes needed.new needed.old }
+    ensures call { CoversInstr needed.new code.now index (Call JsonPath) }
+{
+    if let Some(text) = text_before(code, index) {
+        if let Some(path) = text.json_path() {
+            needed.add_json_steps(path.steps());
+            return;
+        }
+    }
+    needed.add_json();
+}
+
+// The text that the instruction before that index pushes.
+fn text_before(code: &Code, index: usize) -> Option<&CodeText>
+    ensures { IfSome result (λ text. IsPushedBefore code.now index text.now) }
+{
+    let before = index.checked_sub(1)?;
+    match code.instrs().get(before) {
+        Some(Instr::Text(entry)) => code.texts().get(*entry),
+        _ => None,
+    }
+}
+
+// Where a jump leads to the call, its path may be another text than the one before it.
+fn add_jump<'a>(code: &'a Code, target: usize, needed: &mut Needed<'a>)
+    ensures more { Includes needed.new needed.old }
+    ensures jump { CoversJump needed.new code.now target }
+{
+    if let Some(Instr::Call(Helper::JsonPath)) = code.instrs().get(target) {
+        needed.add_json();
     }
 }

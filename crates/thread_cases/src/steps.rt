@@ -8,8 +8,9 @@ use mapping_model::mapping_id::MappingId;
 use plain_text::items::Items;
 use plain_text::text::Text;
 use request_journal::input::BookInput;
+use shared_book::script::Call;
 use std::alloc::{AllocError, Global};
-use world_core::step::{Call, Step};
+use world_core::step::Step;
 
 /// As `1 serve GET /x`, `2 edit ID DOCUMENT`, `1 finish`.
 pub fn step(alloc: Global, cell: &str) -> Result<Step, AllocError> {

@@ -17,8 +17,8 @@ use Rattle.world_core.specs.Laws.{IsAnswered, IsLastChoice, PassesBy, choosing, 
 use Rattle.world_core.specs.Schedule.{Happens, IsAct, IsFinish, IsGiven, IsResponseOf, IsRun, IsStep, Outcome}
 use Rattle.world_core.specs.Schedule.{WorldState, held_by, held_by_others}
 use Rattle.world_core.specs.declared.held.Held.{Held}
-use Rattle.world_core.specs.declared.step.Call.{Call}
-use Rattle.world_core.specs.declared.step.Call.TheVariants.{Serve, Apply}
+use Rattle.shared_book.specs.declared.script.Call.{Call}
+use Rattle.shared_book.specs.declared.script.Call.TheVariants.{Serve, Apply}
 use Rattle.world_core.specs.declared.step.Step.{Step}
 use Rattle.world_core.specs.declared.step.Step.TheVariants.{Act, Finish}
 use Rattle.world_core.proofs.StepLemmas.{no_serve}

@@ -11,7 +11,7 @@ use Rattle.request_journal.proofs.OrderLemmas.{placed_opened}
 use Rattle.stub_book.specs.Growth.{Grows}
 use Rattle.world_core.specs.Laws.{IsOpened}
 use Rattle.world_core.specs.Schedule.{IsAct, IsRun, IsStep, Outcome, WorldState}
-use Rattle.world_core.specs.declared.step.Call.{Call}
+use Rattle.shared_book.specs.declared.script.Call.{Call}
 use Rattle.world_core.specs.declared.step.Step.{Step}
 use Rattle.world_core.specs.declared.step.Step.TheVariants.{Act, Finish}
 use Rattle.world_core.proofs.Grown.{added}

@@ -4,7 +4,7 @@ use Rattle.std.specs.Prelude.{Option, Some, None}
 use Rattle.request_journal.specs.Legal.{IsLegal}
 use Rattle.request_journal.specs.declared.event.Event.{Event}
 use Rattle.world_core.specs.Schedule.{IsAct, IsRun, IsStep, Outcome, WorldState}
-use Rattle.world_core.specs.declared.step.Call.{Call}
+use Rattle.shared_book.specs.declared.script.Call.{Call}
 use Rattle.world_core.specs.declared.step.Step.{Step}
 use Rattle.world_core.specs.declared.step.Step.TheVariants.{Act, Finish}
 use Rattle.world_core.proofs.Grown.{legal_grown}

@@ -6,14 +6,14 @@ use Rattle.request_journal.specs.Choice.{IsChoice}
 use Rattle.request_journal.specs.Events.{last_of}
 use Rattle.mapping_model.specs.declared.reply.Reply.{Reply}
 use Rattle.request_journal.specs.Past.{Past}
-use Rattle.request_journal.specs.State.{state, touch}
+use Rattle.request_journal.specs.State.{StatesFollow, state, touch}
 use Rattle.request_journal.specs.declared.event.Event.{Event}
 use Rattle.request_journal.specs.declared.event.Event.TheVariants as event
 use Rattle.request_journal.proofs.LiveLemmas.{unwrap_or_more}
-use Rattle.world_core.specs.Laws.{IsServedOnce, MovesBy, events_of}
+use Rattle.world_core.specs.Laws.{IsServedOnce, events_of}
 use Rattle.world_core.specs.Schedule.{Happens, IsAct, IsRun, IsStep, Outcome, WorldState}
-use Rattle.world_core.specs.declared.step.Call.{Call}
-use Rattle.world_core.specs.declared.step.Call.TheVariants.{Serve}
+use Rattle.shared_book.specs.declared.script.Call.{Call}
+use Rattle.shared_book.specs.declared.script.Call.TheVariants.{Serve}
 use Rattle.world_core.specs.declared.step.Step.{Step}
 use Rattle.world_core.specs.declared.step.Step.TheVariants.{Act, Finish}
 use Rattle.world_core.proofs.Grown.{state_grown}
@@ -21,7 +21,7 @@ use Rattle.world_core.proofs.Grown.{state_grown}
 -- ---- one step
 
 moved_by : (old new : WorldState) (actor : ℕ) (call : Call) (e : Event) → Happens old actor call e new
-    → MovesBy old e new
+    → StatesFollow (state old.past) (state new.past) e
 moved_by old new actor call e happens = λ name. state_grown old.past new.past e name happens.grows
 
 is_served : (old new : WorldState) (actor : ℕ) (request : Request) (e : Event)

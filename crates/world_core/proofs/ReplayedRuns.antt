@@ -22,7 +22,7 @@ use Rattle.stub_response.specs.declared.limits.Limits.{Limits}
 use Rattle.world_core.specs.Replay.{HasRecorded, IsReplayable, replies_of, sending}
 use Rattle.world_core.specs.Schedule.{Happens, IsAct, IsGiven, IsRun, Outcome, WorldState, held_by}
 use Rattle.world_core.specs.declared.held.Held.{Held}
-use Rattle.world_core.specs.declared.step.Call.TheVariants.{Serve}
+use Rattle.shared_book.specs.declared.script.Call.TheVariants.{Serve}
 use Rattle.world_core.proofs.HeldLemmas.{put_own}
 use Rattle.world_core.proofs.ListFacts.{all_item, item_between, IsItem}
 use Rattle.world_core.proofs.Replayed.{IsBetween, after_one, at_first, chosen, own}

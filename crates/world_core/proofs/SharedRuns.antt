@@ -16,7 +16,8 @@ use Rattle.stub_book.specs.Growth.{Grows}
 use Rattle.world_core.proofs.ChosenRuns.{one_choice_after}
 use Rattle.world_core.proofs.Grown.{state_grown}
 use Rattle.world_core.specs.Laws.{IsOpened, events_of}
-use Rattle.world_core.specs.Schedule.{IsAskedBy, IsRun, Outcome, WorldState, held_after}
+use Rattle.shared_book.specs.Script.{IsAskedBy}
+use Rattle.world_core.specs.Schedule.{IsRun, Outcome, WorldState, held_after}
 use Rattle.world_core.specs.Shared.{IsRightAfter, IsScheduled, call_of, calling}
 
 asked_for : (e : Event) → IsAskedBy (call_of e) e

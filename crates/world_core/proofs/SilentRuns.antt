@@ -11,8 +11,8 @@ use Rattle.request_journal.specs.declared.event.ServeAnswer.TheVariants.{Stub}
 use Rattle.world_core.specs.Laws.{IsLastChoice, IsNoStub, PassesBy, choosing, silent}
 use Rattle.world_core.specs.Schedule.{IsAct, IsGiven, IsRun, IsStep, Outcome, WorldState, held_after, held_by}
 use Rattle.world_core.specs.declared.held.Held.{Held}
-use Rattle.world_core.specs.declared.step.Call.{Call}
-use Rattle.world_core.specs.declared.step.Call.TheVariants.{Serve}
+use Rattle.shared_book.specs.declared.script.Call.{Call}
+use Rattle.shared_book.specs.declared.script.Call.TheVariants.{Serve}
 use Rattle.world_core.specs.declared.step.Step.{Step}
 use Rattle.world_core.specs.declared.step.Step.TheVariants.{Act, Finish}
 use Rattle.world_core.proofs.HeldLemmas.{others_stay, put_others, put_own}

@@ -15,10 +15,11 @@ use Rattle.request_journal.specs.declared.input.BookInput.{BookInput}
 use Rattle.request_journal.specs.declared.input.BookInput.TheVariants as input
 use Rattle.stub_book.specs.Growth.{Grows, IsServed}
 use Rattle.stub_book.specs.Refusals.{IsFull, IsServeRefusal}
-use Rattle.world_core.specs.Schedule.{Happens, IsAct, IsAskedBy, IsFinish, IsRefusedBy, IsStep, WorldState, held_after}
+use Rattle.shared_book.specs.Script.{IsAskedBy}
+use Rattle.world_core.specs.Schedule.{Happens, IsAct, IsFinish, IsRefusedBy, IsStep, WorldState, held_after}
 use Rattle.world_core.specs.declared.held.Held.{Held}
-use Rattle.world_core.specs.declared.step.Call.{Call}
-use Rattle.world_core.specs.declared.step.Call.TheVariants.{Serve, Apply}
+use Rattle.shared_book.specs.declared.script.Call.{Call}
+use Rattle.shared_book.specs.declared.script.Call.TheVariants.{Serve, Apply}
 use Rattle.world_core.specs.declared.step.Step.{Step}
 use Rattle.world_core.specs.declared.step.Step.TheVariants.{Act, Finish}
 

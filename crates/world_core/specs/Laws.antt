@@ -1,12 +1,12 @@
 -- What the laws over every schedule say.
 use Rattle.std.specs.Prelude.{◌≡◌, ◌≢◌, ◌⊎◌, ℕ, List, [], ◌∷◌, ◌++◌, filter_map, Option, Some}
-use Rattle.std.specs.Prelude.{None, MatchOption, unwrap_or}
+use Rattle.std.specs.Prelude.{None, MatchOption}
 use Rattle.std.specs.List.{AllZip}
 use Rattle.mapping_model.specs.declared.reply.Reply.{Reply}
 use Rattle.mock_request.specs.Request.{Request}
 use Rattle.request_journal.specs.Choice.{IsChoice}
 use Rattle.request_journal.specs.Past.{Past, opening_base}
-use Rattle.request_journal.specs.State.{state, touch}
+use Rattle.request_journal.specs.State.{StatesFollow, state}
 use Rattle.request_journal.specs.declared.event.Captured.{Captured}
 use Rattle.request_journal.specs.declared.event.Event.{Event}
 use Rattle.request_journal.specs.declared.event.Event.TheVariants as event
@@ -14,7 +14,7 @@ use Rattle.request_journal.specs.declared.event.ServeAnswer.{ServeAnswer}
 use Rattle.request_journal.specs.declared.event.ServeAnswer.TheVariants.{Stub}
 use Rattle.stub_response.specs.Response.{IsRendering, IsResponse}
 use Rattle.world_core.specs.Schedule.{Outcome, WorldState, IsRun}
-use Rattle.world_core.specs.declared.step.Call.TheVariants.{Serve}
+use Rattle.shared_book.specs.declared.script.Call.TheVariants.{Serve}
 use Rattle.world_core.specs.declared.step.Step.{Step}
 use Rattle.world_core.specs.declared.step.Step.TheVariants.{Act, Finish}
 
@@ -75,14 +75,9 @@ IsAnswered start steps outcomes actor reply =
 abbrev pub events_of : List Outcome → List Event
 events_of outcomes = filter_map (λ outcome. outcome.event) outcomes
 
--- each scenario is where the event leaves it, if the event touches it, and else where it was
-abbrev pub MovesBy : WorldState → Event → WorldState → Type 0
-MovesBy old event new =
-    (name : List ℕ) → state new.past name ≡ unwrap_or (touch name event) (state old.past name)
-
 -- a request is served once, with the choice of the past, and moves what its answer moves; or it is refused
 abbrev pub IsServedOnce : WorldState → Request → Option Event → WorldState → Type 0
 IsServedOnce old request served new =
     MatchOption served (new ≡ old)
     (λ e. (answer : ServeAnswer) × (e ≡ event.Serve request answer) × IsChoice old.past request answer
-    × MovesBy old e new)
+    × StatesFollow (state old.past) (state new.past) e)

@@ -16,7 +16,7 @@ use Rattle.request_journal.specs.State.{state}
 use Rattle.request_journal.specs.declared.limits.TheConstants.{NUMBER_LIMIT}
 use Rattle.scenario_core.specs.Scenarios.{started}
 use Rattle.world_core.specs.Schedule.{Outcome}
-use Rattle.world_core.specs.declared.step.Call.TheVariants.{Serve}
+use Rattle.shared_book.specs.declared.script.Call.TheVariants.{Serve}
 use Rattle.world_core.specs.declared.step.Step.{Step}
 use Rattle.world_core.specs.declared.step.Step.TheVariants.{Act, Finish}
 

@@ -7,18 +7,18 @@ use Rattle.std.specs.List.{filter}
 use Rattle.error_code.specs.declared.error_code.ErrorCode.{ErrorCode}
 use Rattle.error_code.specs.declared.error_code.ErrorCode.TheVariants.{OutOfMemory}
 use Rattle.mapping_model.specs.declared.reply.Reply.{Reply}
-use Rattle.request_journal.specs.Input.{IsAsked}
 use Rattle.request_journal.specs.Past.{Past}
 use Rattle.request_journal.specs.declared.event.Event.{Event}
 use Rattle.request_journal.specs.declared.event.Event.TheVariants as event
 use Rattle.request_journal.specs.declared.event.ServeAnswer.TheVariants.{Stub}
+use Rattle.shared_book.specs.Script.{IsAskedBy}
 use Rattle.stub_book.specs.Growth.{Grows}
 use Rattle.stub_book.specs.Refusals.{IsFull, IsRefusal}
 use Rattle.stub_response.specs.Response.{IsRendering, IsResponse}
 use Rattle.stub_response.specs.declared.limits.Limits.{Limits}
 use Rattle.world_core.specs.declared.held.Held.{Held}
-use Rattle.world_core.specs.declared.step.Call.{Call}
-use Rattle.world_core.specs.declared.step.Call.TheVariants.{Serve, Apply}
+use Rattle.shared_book.specs.declared.script.Call.{Call}
+use Rattle.shared_book.specs.declared.script.Call.TheVariants.{Serve, Apply}
 use Rattle.world_core.specs.declared.step.Step.{Step}
 use Rattle.world_core.specs.declared.step.Step.TheVariants.{Act, Finish}
 
@@ -36,12 +36,6 @@ abbrev pub held_by_others : ℕ → List Held → List Held
 held_by_others actor held = filter (λ h. not (h.actor == actor)) held
 
 -- ---- one step
-
--- the event is what the call asks for, with whatever answer
-abbrev pub IsAskedBy : Call → Event → Type 0
-IsAskedBy (Serve request) (event.Serve served answer) = served ≡ request
-IsAskedBy (Serve request) other = ⊥
-IsAskedBy (Apply input) event = IsAsked input event
 
 -- the history refuses the call, and not because memory is out
 abbrev pub IsRefusedBy : Past → Call → Type 0

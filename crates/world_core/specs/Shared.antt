@@ -1,8 +1,8 @@
 -- The one history of a shared book as a schedule, and what is so of each event in it.
-use Rattle.std.specs.Prelude.{◌≡◌, ℕ, List, [], ◌∷◌, unwrap_or}
+use Rattle.std.specs.Prelude.{◌≡◌, ℕ, List, [], ◌∷◌}
 use Rattle.request_journal.specs.Legal.{IsNext}
 use Rattle.request_journal.specs.Past.{Past}
-use Rattle.request_journal.specs.State.{state, touch}
+use Rattle.request_journal.specs.State.{StatesFollow, state}
 use Rattle.request_journal.specs.declared.event.Event.{Event}
 use Rattle.request_journal.specs.declared.event.Event.TheVariants as event
 use Rattle.request_journal.specs.declared.input.BookInput.TheVariants as input
@@ -11,8 +11,8 @@ use Rattle.shared_history.specs.Entries.{events}
 use Rattle.shared_history.specs.declared.entry.Deed.TheVariants.{Called, Left, Looked, Opened, Split}
 use Rattle.world_core.specs.Laws.{events_of}
 use Rattle.world_core.specs.Schedule.{IsRun, Outcome, WorldState}
-use Rattle.world_core.specs.declared.step.Call.{Call}
-use Rattle.world_core.specs.declared.step.Call.TheVariants.{Serve, Apply}
+use Rattle.shared_book.specs.declared.script.Call.{Call}
+use Rattle.shared_book.specs.declared.script.Call.TheVariants.{Serve, Apply}
 use Rattle.world_core.specs.declared.step.Step.{Step}
 use Rattle.world_core.specs.declared.step.Step.TheVariants.{Act}
 
@@ -60,4 +60,4 @@ pub record IsRightAfter (origin : Past) (before : Log) (event : Event) (with : L
   pub next : IsNext old event
   pub new : Past
   pub then : IsPastOf origin with new
-  pub moves : (name : List ℕ) → state new name ≡ unwrap_or (touch name event) (state old name)
+  pub moves : StatesFollow (state old) (state new) event

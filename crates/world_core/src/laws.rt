@@ -19,7 +19,7 @@ ghost use Rattle.world_core.specs.Laws.{IsAnswered, IsLastChoice, IsOpened, IsSe
 ghost use Rattle.world_core.specs.Replay.{HasRecorded, IsReplayable, replies_of, sending};
 ghost use Rattle.world_core.specs.Schedule.{IsRun, IsStep, Outcome, WorldState};
 ghost use Rattle.world_core.specs.Shared.{IsRightAfter, IsScheduled};
-ghost use Rattle.world_core.specs.declared.step.Call.TheVariants.{Serve};
+ghost use Rattle.shared_book.specs.declared.script.Call.TheVariants.{Serve};
 ghost use Rattle.world_core.specs.declared.step.Step.{Step};
 ghost use Rattle.world_core.specs.declared.step.Step.TheVariants.{Act, Finish};
 

@@ -1,13 +1,5 @@
 // The steps of a schedule.
-use mock_request::snapshot::Snapshot;
-use request_journal::input::BookInput;
-
-/// What an actor asks a book for.
-#[derive(Drop)]
-pub enum Call {
-    Serve(Snapshot),
-    Apply(BookInput),
-}
+use shared_book::script::Call;
 
 /// A step of an actor. Actors are told apart by their numbers.
 #[derive(Drop)]

@@ -6,8 +6,8 @@ use Rattle.clap.specs.Words.{App, Kinds, Row, Rule, Text, fault_of, first_of, ne
 use Rattle.clap.specs.Words.{with_rule, with_subcommand}
 use Rattle.clap.specs.declared.error.kind.ErrorKind.{ErrorKind}
 use Rattle.mock_program.specs.CommandLine.{Asked, render, check, answer, explain}
-use Rattle.mock_program.specs.declared.parser.Call.{Call}
-use Rattle.mock_program.specs.declared.parser.Call.TheVariants as call
+use Rattle.mock_program.specs.declared.parser.CommandCall.{CommandCall}
+use Rattle.mock_program.specs.declared.parser.CommandCall.TheVariants as call
 
 -- an argument that is required
 abbrev pub required_rule : List ℕ → Rule
@@ -89,7 +89,7 @@ asked_in name rows =
 unfoldable pub asked_by : List Text → Option Asked
 asked_by arguments = option_and_then (λ p. asked_in p.0 p.1) (subcommand_of mock_app arguments)
 
-abbrev pub asked_of : Call → Asked
+abbrev pub asked_of : CommandCall → Asked
 asked_of (call.Render template method target) = render template.now method.now target.now
 asked_of (call.Check file) = check file.now
 asked_of (call.Answer file method target) = answer file.now method.now target.now

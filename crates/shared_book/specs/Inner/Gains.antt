@@ -1,28 +1,18 @@
 -- What a seat gains by a call that is accepted.
 use Rattle.std.specs.Prelude.{◌≡◌, ◌≤◌, ℕ, [], ◌∷◌, ◌++◌}
 use Rattle.logbook.specs.Pages.{Book}
-use Rattle.mock_request.specs.Request.{Request}
-use Rattle.request_journal.specs.Input.{IsAsked}
 use Rattle.request_journal.specs.Past.{Past}
-use Rattle.request_journal.specs.declared.input.BookInput.{BookInput}
+use Rattle.request_journal.specs.declared.event.Event.{Event}
 use Rattle.shared_book.specs.Held.{Held, Gained, LetsGo}
 use Rattle.shared_book.specs.Receipts.{Line}
 use Rattle.shared_book.specs.Seen.{Enters}
 use Rattle.shared_book.specs.declared.receipt.Receipt.{Receipt}
-use Rattle.stub_book.specs.Growth.{IsServed}
 
--- a receipt for this request
-pub record Serves (origin : Past) (name : Book) (old new : Held) (request : Request) : Type 0 where
+-- a receipt for an event that was asked for
+pub record Gains (origin : Past) (name : Book) (old new : Held) (asked : Event → Type 0) : Type 0 where
   pub receipt : Receipt
   pub gained : Gained origin old receipt new
-  pub served : IsServed request receipt.event
-  pub entered : Enters origin name old new receipt
-
--- a receipt for this change
-pub record Applies (origin : Past) (name : Book) (old new : Held) (asked : BookInput) : Type 0 where
-  pub receipt : Receipt
-  pub gained : Gained origin old receipt new
-  pub asked_for : IsAsked asked receipt.event
+  pub asked_for : asked receipt.event
   pub entered : Enters origin name old new receipt
 
 -- the receipt at the end of the line, which may have let go of events up to this number before

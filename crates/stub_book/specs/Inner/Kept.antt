@@ -1,5 +1,5 @@
 -- What a book keeps agrees with its past.
-use Rattle.std.specs.Prelude.{◌≡◌, ◌≤◌, ℕ, List, length, unwrap_or}
+use Rattle.std.specs.Prelude.{◌≡◌, ◌≤◌, ℕ, List, length}
 use Rattle.std.specs.List.Sorted.{IsPermutation}
 use Rattle.mapping_store.specs.Stored.{Stored}
 use Rattle.recorder.specs.Recording.{IsOn, IsOnAnd}
@@ -9,7 +9,7 @@ use Rattle.request_journal.specs.Legal.{IsLegal}
 use Rattle.request_journal.specs.Live.{live}
 use Rattle.request_journal.specs.Past.{Past, last_number, placed_from}
 use Rattle.request_journal.specs.Recording.{recording}
-use Rattle.request_journal.specs.State.{state, touch}
+use Rattle.request_journal.specs.State.{state}
 use Rattle.request_journal.specs.declared.event.Event.{Event}
 use Rattle.request_journal.specs.declared.event.ServeAnswer.{ServeAnswer}
 use Rattle.request_journal.specs.declared.event.ServeAnswer.TheVariants.{Stub, Proxy, Unmatched}
@@ -28,11 +28,6 @@ pub record Agrees (past : Past) (stored : Stored) (scenarios : States) (kept : R
   pub few_live : length (live past) ≤ LIVE_LIMIT
   pub few_defaults : length (placed_from 0 0 past.defaults) ≤ LIVE_LIMIT
   pub has_room : last_number past ≤ NUMBER_LIMIT
-
--- the event leaves the states so
-abbrev pub StatesFollow : States → States → Event → Type 0
-StatesFollow old new event =
-    (name : List ℕ) → state_of new name ≡ unwrap_or (touch name event) (state_of old name)
 
 -- what a request is answered with that no mapping was chosen for
 abbrev pub IsUnchosen : Recording → ServeAnswer → Type 0

@@ -3,17 +3,21 @@ use Rattle.std.specs.Prelude.{◌≡◌, ℕ, ◌<◌, Some, slice_get}
 use Rattle.data_tree.specs.Tree.{Tree}
 use Rattle.needed_data.specs.Needed.{NeededData, AreAlike}
 use Rattle.template_code.specs.Code.{StackCode}
-use Rattle.template_code.specs.Finds.{FindsSameBy, FindSame}
+use Rattle.template_code.specs.Finds.{JumpFindsSame, FindsSameBy, FindSame}
 use Rattle.template_code.specs.declared.instr.Instr.{Instr}
 
--- in what the instruction finds
-abbrev pub CoversInstr : NeededData → StackCode → Instr → Type 0
-CoversInstr needed code i = (r r' : Tree) → AreAlike needed r r' → FindsSameBy code r r' i
+-- in what the instruction at that index finds
+abbrev pub CoversInstr : NeededData → StackCode → ℕ → Instr → Type 0
+CoversInstr needed code index i = (r r' : Tree) → AreAlike needed r r' → FindsSameBy code r r' index i
+
+-- in what a jump to that index finds
+abbrev pub CoversJump : NeededData → StackCode → ℕ → Type 0
+CoversJump needed code target = (r r' : Tree) → AreAlike needed r r' → JumpFindsSame code r r' target
 
 -- in what that many instructions at the start find
 abbrev pub CoversFirst : ℕ → NeededData → StackCode → Type 0
 CoversFirst count needed code =
-    (index : ℕ) (i : Instr) → index < count → slice_get code.instrs index ≡ Some i → CoversInstr needed code i
+    (index : ℕ) (i : Instr) → index < count → slice_get code.instrs index ≡ Some i → CoversInstr needed code index i
 
 abbrev pub CoversCode : NeededData → StackCode → Type 0
 CoversCode needed code = (r r' : Tree) → AreAlike needed r r' → FindSame code r r'

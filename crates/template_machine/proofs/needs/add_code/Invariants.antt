@@ -2,5 +2,5 @@ use Rattle.needed_data.specs.Needed.{Includes}
 use Rattle.template_machine.specs.Inner.Needs.{CoversFirst}
 use Rattle.template_machine.proofs.needs.add_code.Given as goal
 
-abbrev pub invariant-loop-instr : goal.invariant-loop-instr
-invariant-loop-instr l = Includes l.needed l.fn.needed × CoversFirst l.instr-index l.needed l.code
+abbrev pub invariant-loop-index : goal.invariant-loop-index
+invariant-loop-index l = Includes l.needed l.fn.needed × CoversFirst l.index l.needed l.code

@@ -1,10 +1,10 @@
 use Rattle.std.proofs.Common.{inl, inr, ◌≡◌, ◌+◌, ◌∙◌, ℕ, List, refl, sym, subst}
 use Rattle.request_journal.specs.Past.{Past, last_number}
-use Rattle.request_journal.specs.State.{HasState}
+use Rattle.request_journal.specs.State.{HasState, StatesFollow}
+use Rattle.scenario_core.specs.Scenarios.{state_of}
 use Rattle.request_journal.specs.declared.event.Event.{Event}
 use Rattle.request_journal.specs.declared.event.Event.TheVariants as event
 use Rattle.request_journal.specs.declared.input.BookInput.TheVariants as input
-use Rattle.stub_book.specs.Inner.Kept.{StatesFollow}
 use Rattle.std.proofs.lemmas.Result.{err_from_is_err_and}
 use Rattle.stub_book.specs.Refusals.{IsOwnReason}
 use Rattle.stub_book.proofs.Fits.{fits_added, follows_same, grew}
@@ -29,7 +29,7 @@ invariant_of-self-2 c =
     let given : event.SetScenario c.in_ok-scenario.scenario c.in_ok-target.target ≡ e =
     λ i. event.SetScenario (c.in_ok-scenario.ensures i) (c.in_ok-target.ensures i) in
     let same : c.in_ok-made.made.event ≡ e = ok.0.is ∙ given in
-    let moves : StatesFollow c.self.inside.scenarios c.move_to.new.self
+    let moves : StatesFollow (state_of c.self.inside.scenarios) (state_of c.move_to.new.self)
     (event.SetScenario c.as_str-3.result.now c.as_str-4.result.now) =
     moved c.self.inside.scenarios c.move_to.new.self c.as_str-3.result.now c.as_str-4.result.now
     c.in_ok-move_to.ensures.ok in
@@ -40,9 +40,9 @@ invariant_of-self-2 c =
     c.self.invariant.few_live ok.2)
     (follows_same store (last_number past + 1) e (left_all e (λ id. refl) (λ placed. refl) store.live) refl)
     (subst (λ (n : List ℕ).
-    StatesFollow c.self.inside.scenarios c.move_to.new.self (event.SetScenario n state)) c.as_str-3.ensures
+    StatesFollow (state_of c.self.inside.scenarios) (state_of c.move_to.new.self) (event.SetScenario n state)) c.as_str-3.ensures
     (subst (λ (s : List ℕ).
-    StatesFollow c.self.inside.scenarios c.move_to.new.self (event.SetScenario c.as_str-3.result.now s))
+    StatesFollow (state_of c.self.inside.scenarios) (state_of c.move_to.new.self) (event.SetScenario c.as_str-3.result.now s))
     c.as_str-4.ensures moves))
     refl
 

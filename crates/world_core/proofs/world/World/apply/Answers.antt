@@ -1,7 +1,7 @@
 use Rattle.std.proofs.Common.{refl}
 use Rattle.std.proofs.lemmas.Result.{on_ok_weaker}
 use Rattle.world_core.specs.Schedule.{WorldState}
-use Rattle.world_core.specs.declared.step.Call.TheVariants.{Apply}
+use Rattle.shared_book.specs.declared.script.Call.TheVariants.{Apply}
 use Rattle.world_core.proofs.StepLemmas.{applied, on_ok_at, refused}
 use Rattle.world_core.proofs.world.World.apply.Goals as goal
 use Rattle.world_core.proofs.world.World.apply.Goals.{in-Ok, in-Err}

@@ -2,15 +2,15 @@
 use Rattle.std.proofs.Common.{◌≡◌, ◌≢◌, ◌≤◌, ◌<◌, ℕ, List, [], ◌∷◌, ◌++◌, min, refl}
 use Rattle.std.proofs.Math.Nat.{le_refl, le_trans, lt_of_le_of_lt, lt_of_lt_of_le}
 use Rattle.tokio.specs.Io.Moved.{Passes, PassesNothing, PassesInOrder}
-use Rattle.http_connections.specs.declared.watched.TheConstants.{TURN_LIMIT}
-use Rattle.http_connections.specs.declared.watched.Watched.{Watched}
+use Rattle.counted_io.specs.declared.counted.TheConstants.{TURN_LIMIT}
+use Rattle.counted_io.specs.declared.counted.Counted.{Counted}
 
 -- it watches this very reader and writer, with so many turns, and no more than the limit
-abbrev pub IsOver : {I : Type 0} → ℕ → I → Watched I → Type 0
-IsOver turns io watched = (watched.io ≡ io) × (watched.turns ≡ min turns TURN_LIMIT)
+abbrev pub IsOver : {I : Type 0} → ℕ → I → Counted I → Type 0
+IsOver turns io counted = (counted.io ≡ io) × (counted.turns ≡ min turns TURN_LIMIT)
 
--- These bytes passed in what is watched. No turn comes back, and where a byte passed there are fewer left.
-pub record Costs {I : Type 0} (passes : Passes I) (old : Watched I) (bytes : List ℕ) (new : Watched I) : Type 0 where
+-- These bytes passed in what is counted. No turn comes back, and where a byte passed there are fewer left.
+pub record Costs {I : Type 0} (passes : Passes I) (old : Counted I) (bytes : List ℕ) (new : Counted I) : Type 0 where
   pub passed : passes old.io bytes new.io
   pub falls : new.turns ≤ old.turns
   pub counted : bytes ≢ [] → new.turns < old.turns
