@@ -19,6 +19,7 @@ use crate::object::Object;
 use crate::path_data::{bindings, path_data};
 use crate::query_data::query_data;
 use data_tree::data::Data;
+use mock_request::authority::host_and_port;
 use mock_request::body::body_text;
 use mock_request::cookies::cookie_pairs;
 use mock_request::header_fields::header_pairs;
