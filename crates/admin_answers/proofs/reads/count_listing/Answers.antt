@@ -1,7 +1,7 @@
 use Rattle.admin_answers.proofs.ReadLemmas.{numbered}
 use Rattle.request_journal.specs.declared.entry.Entry.{Entry}
 use Rattle.request_match.specs.Matching.{MeetsRequest}
-use Rattle.admin_answers.proofs.lists.count_listing.Goals as goal
+use Rattle.admin_answers.proofs.reads.count_listing.Goals as goal
 
 pub returns : goal.returns
 returns c =

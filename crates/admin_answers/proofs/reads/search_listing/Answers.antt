@@ -2,7 +2,7 @@ use Rattle.std.proofs.Common.{◌+◌, ◌≤◌, ◌^◌, arith}
 use Rattle.admin_answers.proofs.ReadLemmas.{searched}
 use Rattle.request_journal.specs.declared.entry.Entry.{Entry}
 use Rattle.request_match.specs.Matching.{MeetsRequest}
-use Rattle.admin_answers.proofs.lists.search_listing.Goals as goal
+use Rattle.admin_answers.proofs.reads.search_listing.Goals as goal
 
 pub returns : goal.returns
 returns c =

@@ -2,7 +2,7 @@ use Rattle.std.proofs.Common.{◌+◌, ◌≤◌, ◌^◌, arith}
 use Rattle.admin_answers.proofs.NumberLemmas.{AreBelow, below_more}
 use Rattle.admin_answers.proofs.ReadLemmas.{replied}
 use Rattle.admin_json.specs.Requests.{json_of_found}
-use Rattle.admin_answers.proofs.lists.found_listing.Goals as goal
+use Rattle.admin_answers.proofs.reads.found_listing.Goals as goal
 
 pub returns : goal.returns
 returns c =

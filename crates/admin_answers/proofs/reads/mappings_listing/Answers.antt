@@ -1,6 +1,6 @@
 use Rattle.admin_answers.proofs.ReadLemmas.{listed}
 use Rattle.admin_json.specs.Mappings.{json_of_mappings}
-use Rattle.admin_answers.proofs.lists.mappings_listing.Goals as goal
+use Rattle.admin_answers.proofs.reads.mappings_listing.Goals as goal
 
 pub returns : goal.returns
 returns c =
