@@ -33,3 +33,15 @@ abbrev pub IsElsewhere : SocketAddr → SocketAddr → Type 0
 IsElsewhere own address = (socket_port address ≢ socket_port own)
     ⊎ ((ip : IpAddr) × IsCanonicalIp (socket_ip address) ip
     × ((own_ip : IpAddr) × IsCanonicalIp (socket_ip own) own_ip × (¬ (ComesTo ip own_ip))))
+
+-- the ends of a connection that a server which listens at the first address has with itself: they have one address, and
+-- the peer has the server's port
+abbrev pub AreOwnEnds : SocketAddr → SocketAddr → SocketAddr → Type 0
+AreOwnEnds own local peer = (socket_port peer ≡ socket_port own)
+    × ((ip : IpAddr) × IsCanonicalIp (socket_ip local) ip × IsCanonicalIp (socket_ip peer) ip)
+
+-- the peer has another port than the server, or the ends have two addresses
+abbrev pub AreOtherEnds : SocketAddr → SocketAddr → SocketAddr → Type 0
+AreOtherEnds own local peer = (socket_port peer ≢ socket_port own)
+    ⊎ ((ip : IpAddr) × IsCanonicalIp (socket_ip local) ip
+    × ((peer_ip : IpAddr) × IsCanonicalIp (socket_ip peer) peer_ip × (ip ≢ peer_ip)))

@@ -1,5 +1,8 @@
 // Connections that don't come back to the server that makes them.
+ghost use Rattle.std.specs.Prelude.{◌≡◌, true, false};
+ghost use Rattle.std.specs.declared.net.socket_addr.SocketAddr.{SocketAddr};
 ghost use Rattle.futures.specs.Poll.{IfReady, OnPending};
+ghost use Rattle.proxy_client.specs.Own.{AreOwnEnds, AreOtherEnds};
 
 use futures::task::{Context, Poll};
 use futures::{Future, ready};
@@ -43,9 +46,15 @@ impl Future for Elsewhere {
 // Where the system doesn't say which addresses the ends have, there is nothing to go by.
 fn comes_back(stream: &TcpStream, own: SocketAddr) -> bool {
     match (stream.local_addr(), stream.peer_addr()) {
-        (Ok(local), Ok(peer)) => {
-            peer.port() == own.port() && local.ip().to_canonical() == peer.ip().to_canonical()
-        }
+        (Ok(local), Ok(peer)) => are_own_ends(local, peer, own),
         _ => false,
     }
+}
+
+// Whether these are the ends of a connection that the server has with itself.
+fn are_own_ends(local: SocketAddr, peer: SocketAddr, own: SocketAddr) -> bool
+    ensures own { result ≡ true → AreOwnEnds own local peer }
+    ensures others { result ≡ false → AreOtherEnds own local peer }
+{
+    peer.port() == own.port() && local.ip().to_canonical() == peer.ip().to_canonical()
 }
