@@ -15,7 +15,8 @@ use Rattle.recorder.specs.declared.recording.Recording.TheVariants.{On}
 use Rattle.recorder.specs.declared.recording.Session.{Session}
 use Rattle.request_journal.specs.Legal.{identified}
 use Rattle.request_journal.specs.Live.{adds, left_by, live}
-use Rattle.request_journal.specs.Past.{Past, Placed, defaults_from, has_id, last_number, opened, placed_from, with_event}
+use Rattle.request_journal.specs.Past.{Past, Placed, defaults_from, has_id, last_number, opened, placed_from}
+use Rattle.request_journal.specs.Past.{with_event}
 use Rattle.request_journal.specs.Recording.{recording}
 use Rattle.request_journal.specs.State.{state}
 use Rattle.request_journal.specs.declared.event.Event.{Event}
@@ -60,7 +61,8 @@ all_identified captured number index [] = refl
 all_identified captured number index (part ∷ parts) =
     ap (λ l. mapping_of captured number index part.0 part.1 ∷ l) (all_identified captured number (suc index) parts)
 
-all_defaults : (index : ℕ) (specs : List MappingSpec) → map (λ (m : Mapping). m.spec) (defaults_from index specs) ≡ specs
+all_defaults : (index : ℕ) (specs : List MappingSpec)
+    → map (λ (m : Mapping). m.spec) (defaults_from index specs) ≡ specs
 all_defaults index [] = refl
 all_defaults index (s ∷ ss) = ap (λ l. s ∷ l) (all_defaults (index + 1) ss)
 

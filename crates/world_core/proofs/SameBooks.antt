@@ -182,7 +182,8 @@ all_legal a old new [] legal g same = subst IsLegal (sym (ap (λ l. with_events 
 all_legal a old new (e ∷ es) legal g (next, grows, lead) =
     subst IsLegal (event_before a e es)
     (all_legal (with_event a e) next new es
-    (legal_after a e legal (next_moved old a e (agree_back a old g) grows.next)) (agree_grown a old next e g grows) lead)
+    (legal_after a e legal (next_moved old a e (agree_back a old g) grows.next))
+    (agree_grown a old next e g grows) lead)
 
 -- ---- the laws
 

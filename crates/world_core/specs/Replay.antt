@@ -68,8 +68,8 @@ pub record HasRecorded (captured : List (List ℕ)) (number : ℕ) (exchanges : 
 
 -- ---- how a past becomes ready
 
--- A recording is on, equal requests as scenarios, and no mapping is live; it is stopped, no two of its mappings have one
--- id, and the scenarios are reset.
+-- A recording is on that keeps equal requests as scenarios, and no mapping is live; it is stopped, no two of its
+-- mappings have one id, and the scenarios are reset.
 pub record IsStoppedAndReset (old : Past) (session : Session) (ready : Past) : Type 0 where
   pub on : recording old ≡ On session
   pub repeats : session.repeats ≡ true
