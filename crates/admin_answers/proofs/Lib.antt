@@ -4,4 +4,3 @@ mod SearchLemmas
 pub mod NumberLemmas
 pub mod ReadLemmas
 pub mod ChangeLemmas
-pub mod RecordingLemmas

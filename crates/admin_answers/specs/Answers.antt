@@ -26,7 +26,8 @@ use Rattle.request_journal.specs.declared.event.Event.{Event}
 use Rattle.request_journal.specs.declared.event.Event.TheVariants as event
 use Rattle.request_journal.specs.declared.mapping.Mapping.{Mapping}
 use Rattle.request_journal.specs.declared.input.BookInput.{BookInput}
-use Rattle.request_journal.specs.declared.input.BookInput.TheVariants as input
+use Rattle.request_journal.specs.declared.read.BookRead.{BookRead}
+use Rattle.request_journal.specs.declared.read.BookRead.TheVariants as read
 use Rattle.request_match.specs.Matching.{MeetsRequest}
 use Rattle.scenario_core.specs.Scenarios.{States, state_of}
 use Rattle.serde_json.specs.Data.{object, no_members}
@@ -51,28 +52,33 @@ abbrev pub IsHeldReply : Option Mapping → Reply → Type 0
 IsHeldReply None reply = ⊥
 IsHeldReply (Some mapping) reply = IsJsonReply 200 (json_of_held mapping) reply
 
--- what a call that changes nothing is answered in a past: mappings and requests the newest first
-abbrev pub IsReadReply : AdminCall → Reply → Past → Type 0
-IsReadReply call.ListMappings reply past =
+-- what is answered in a past to who reads it: mappings and requests the newest first
+abbrev pub IsReadReply : BookRead → Reply → Past → Type 0
+IsReadReply read.Mappings reply past =
     (listed : List Mapping) × IsNewestFirst (live past) listed × IsJsonReply 200 (json_of_mappings listed) reply
-IsReadReply (call.ReadMapping id) reply past =
+IsReadReply (read.Mapping id) reply past =
     Any (λ p. (p.mapping.id ≡ id) × IsJsonReply 200 (json_of_held p.mapping) reply) (live past)
-IsReadReply call.ListRequests reply past = IsJsonReply 200 (json_of_requests (requests past)) reply
-IsReadReply call.ListUnmatched reply past = IsJsonReply 200 (json_of_found (unmatched past)) reply
-IsReadReply (call.FindRequests matcher) reply past =
+IsReadReply read.Requests reply past = IsJsonReply 200 (json_of_requests (requests past)) reply
+IsReadReply read.Unmatched reply past = IsJsonReply 200 (json_of_found (unmatched past)) reply
+IsReadReply (read.Find matcher) reply past =
     (found : List Entry) × Picks (λ entry. MeetsRequest matcher entry.request) (requests past) found
     × IsJsonReply 200 (json_of_found found) reply
-IsReadReply (call.CountRequests matcher) reply past =
+IsReadReply (read.Count matcher) reply past =
     (count : ℕ) × IsCount (λ entry. MeetsRequest matcher entry.request) (requests past) count
     × IsJsonReply 200 (json_of_number count) reply
-IsReadReply call.ListScenarios reply past =
+IsReadReply read.Scenarios reply past =
     (states : States) × ((name : List ℕ) → state_of states name ≡ state past name)
     × ((listed : List Mapping) × IsNewestFirst (live past) listed
     × IsJsonReply 200 (json_of_scenarios states listed) reply)
-IsReadReply call.ReadRecordingStatus reply past =
+IsReadReply read.RecordingStatus reply past =
     IsJsonReply 200 (json_of_status (status_of (recording past))) reply
-IsReadReply call.ReadRecordingHar reply past = IsHarReply (session_of (recording past)) reply
-IsReadReply other reply past = ⊥
+IsReadReply read.Recording reply past = IsHarReply (session_of (recording past)) reply
+
+-- why a past has no answer to it
+abbrev pub IsUnread : BookRead → ErrorCode → Past → Type 0
+IsUnread (read.Mapping id) reason past = (reason ≡ code.UnknownMapping) × ¬ (IsLive past id)
+IsUnread read.Recording reason past = HasNoHar (session_of (recording past)) reason
+IsUnread other reason past = ⊥
 
 -- ---- calls
 
@@ -98,42 +104,13 @@ module _ (origin : Past) (name : Book) where
   -- the call was answered: what it changed is the seat's next call in the one history, and what it read is what the
   -- history says at the entry of the reading
   abbrev pub IsAnswered : Held → Held → AdminCall → Reply → Type 0
-  IsAnswered old new (call.AddMapping mapping) reply = IsChanged old new (input.Add mapping) reply
-  IsAnswered old new (call.EditMapping id mapping) reply = IsChanged old new (input.Edit id mapping) reply
-  IsAnswered old new (call.DeleteMapping id) reply = IsChanged old new (input.Delete id) reply
-  IsAnswered old new call.DeleteMappings reply = IsChanged old new input.DeleteAll reply
-  IsAnswered old new call.ResetMappings reply = IsChanged old new input.ResetMappings reply
-  IsAnswered old new call.ResetAll reply = IsChanged old new input.ResetAll reply
-  IsAnswered old new call.ClearRequests reply = IsChanged old new input.ClearJournal reply
-  IsAnswered old new call.ResetScenarios reply = IsChanged old new input.ResetScenarios reply
-  IsAnswered old new (call.SetScenario scenario state) reply =
-      IsChanged old new (input.SetScenario scenario state) reply
-  IsAnswered old new (call.StartRecording start) reply =
-      IsChanged old new (input.StartRecording start.target start.captured start.repeats) reply
-  IsAnswered old new call.StopRecording reply = IsChanged old new input.StopRecording reply
-  IsAnswered old new read reply = HasCaughtUp origin name old new × InPastOf origin new.seen (IsReadReply read reply)
+  IsAnswered old new (call.Change asked) reply = IsChanged old new asked reply
+  IsAnswered old new (call.Read asked) reply =
+      HasCaughtUp origin name old new × InPastOf origin new.seen (IsReadReply asked reply)
 
   -- why the call has no answer, and what it left
   abbrev pub IsNotAnswered : Held → Held → AdminCall → ErrorCode → Type 0
-  IsNotAnswered old new (call.AddMapping mapping) reason = IsNotChanged old new (input.Add mapping) reason
-  IsNotAnswered old new (call.EditMapping id mapping) reason =
-      IsNotChanged old new (input.Edit id mapping) reason
-  IsNotAnswered old new (call.DeleteMapping id) reason = IsNotChanged old new (input.Delete id) reason
-  IsNotAnswered old new call.DeleteMappings reason = IsNotChanged old new input.DeleteAll reason
-  IsNotAnswered old new call.ResetMappings reason = IsNotChanged old new input.ResetMappings reason
-  IsNotAnswered old new call.ResetAll reason = IsNotChanged old new input.ResetAll reason
-  IsNotAnswered old new call.ClearRequests reason = IsNotChanged old new input.ClearJournal reason
-  IsNotAnswered old new call.ResetScenarios reason = IsNotChanged old new input.ResetScenarios reason
-  IsNotAnswered old new (call.SetScenario scenario state) reason =
-      IsNotChanged old new (input.SetScenario scenario state) reason
-  IsNotAnswered old new (call.StartRecording start) reason =
-      IsNotChanged old new (input.StartRecording start.target start.captured start.repeats) reason
-  IsNotAnswered old new call.StopRecording reason = IsNotChanged old new input.StopRecording reason
-  IsNotAnswered old new (call.ReadMapping id) reason =
+  IsNotAnswered old new (call.Change asked) reason = IsNotChanged old new asked reason
+  IsNotAnswered old new (call.Read asked) reason =
       HasCaughtUp origin name old new
-      × ((reason ≡ code.OutOfMemory)
-      ⊎ ((reason ≡ code.UnknownMapping) × InPastOf origin new.seen (λ past. ¬ (IsLive past id))))
-  IsNotAnswered old new call.ReadRecordingHar reason =
-      HasCaughtUp origin name old new × ((reason ≡ code.OutOfMemory)
-      ⊎ InPastOf origin new.seen (λ past. HasNoHar (session_of (recording past)) reason))
-  IsNotAnswered old new read reason = HasCaughtUp origin name old new × (reason ≡ code.OutOfMemory)
+      × ((reason ≡ code.OutOfMemory) ⊎ InPastOf origin new.seen (IsUnread asked reason))

@@ -2,4 +2,5 @@
 pub mod Joined
 pub mod Mapped
 pub mod Meets
+pub mod Said
 pub mod Searched

@@ -12,7 +12,6 @@ mod entries;
 pub mod error;
 mod json_reply;
 pub mod listing;
-mod lists;
 mod mapping_texts;
 mod reads;
 mod search;

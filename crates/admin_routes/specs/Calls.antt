@@ -17,6 +17,8 @@ use Rattle.mapping_json.specs.Spelling.{SpellsDocument, IsDocumentError}
 use Rattle.mapping_model.specs.declared.mapping_spec.MappingSpec.{MappingSpec}
 use Rattle.mapping_model.specs.declared.request_spec.RequestSpec.{RequestSpec}
 use Rattle.mapping_json.specs.RequestRefusal.{Spells, IsRefused}
+use Rattle.request_journal.specs.declared.input.BookInput.TheVariants as input
+use Rattle.request_journal.specs.declared.read.BookRead.TheVariants as read
 use Rattle.request_match.specs.Refusal.{CanBeBuilt}
 use Rattle.template_tree.specs.declared.escape.Escape.{Escape}
 use Rattle.uuid.specs.Text.{parsed}
@@ -24,36 +26,36 @@ use Rattle.uuid.specs.Text.{parsed}
 -- the call of the route that this body makes it, where the prints of a mapping's templates are escaped so; calls that
 -- take no body ignore it
 abbrev pub IsCallOf : Escape → Route → List ℕ → AdminCall → Type 0
-IsCallOf escape route.ListMappings body found = found ≡ call.ListMappings
+IsCallOf escape route.ListMappings body found = found ≡ call.Read read.Mappings
 IsCallOf escape route.AddMapping body found =
-    (mapping : MappingSpec) × SpellsDocument escape body mapping × (found ≡ call.AddMapping mapping)
-IsCallOf escape route.DeleteMappings body found = found ≡ call.DeleteMappings
+    (mapping : MappingSpec) × SpellsDocument escape body mapping × (found ≡ call.Change (input.Add mapping))
+IsCallOf escape route.DeleteMappings body found = found ≡ call.Change input.DeleteAll
 IsCallOf escape (route.ReadMapping text) body found =
-    (id : List ℕ) × (parsed text ≡ Some id) × (found ≡ call.ReadMapping id)
+    (id : List ℕ) × (parsed text ≡ Some id) × (found ≡ call.Read (read.Mapping id))
 IsCallOf escape (route.EditMapping text) body found =
     (id : List ℕ) × (mapping : MappingSpec) × (parsed text ≡ Some id) × SpellsDocument escape body mapping
-    × (found ≡ call.EditMapping id mapping)
+    × (found ≡ call.Change (input.Edit id mapping))
 IsCallOf escape (route.DeleteMapping text) body found =
-    (id : List ℕ) × (parsed text ≡ Some id) × (found ≡ call.DeleteMapping id)
-IsCallOf escape route.ResetMappings body found = found ≡ call.ResetMappings
-IsCallOf escape route.ResetAll body found = found ≡ call.ResetAll
-IsCallOf escape route.ListRequests body found = found ≡ call.ListRequests
-IsCallOf escape route.ClearRequests body found = found ≡ call.ClearRequests
-IsCallOf escape route.ListUnmatched body found = found ≡ call.ListUnmatched
+    (id : List ℕ) × (parsed text ≡ Some id) × (found ≡ call.Change (input.Delete id))
+IsCallOf escape route.ResetMappings body found = found ≡ call.Change input.ResetMappings
+IsCallOf escape route.ResetAll body found = found ≡ call.Change input.ResetAll
+IsCallOf escape route.ListRequests body found = found ≡ call.Read read.Requests
+IsCallOf escape route.ClearRequests body found = found ≡ call.Change input.ClearJournal
+IsCallOf escape route.ListUnmatched body found = found ≡ call.Read read.Unmatched
 IsCallOf escape route.FindRequests body found =
-    (matcher : RequestSpec) × Spells body (Read matcher) × CanBeBuilt matcher × (found ≡ call.FindRequests matcher)
+    (matcher : RequestSpec) × Spells body (Read matcher) × CanBeBuilt matcher × (found ≡ call.Read (read.Find matcher))
 IsCallOf escape route.CountRequests body found =
     (matcher : RequestSpec) × Spells body (Read matcher) × CanBeBuilt matcher
-    × (found ≡ call.CountRequests matcher)
-IsCallOf escape route.ListScenarios body found = found ≡ call.ListScenarios
-IsCallOf escape route.ResetScenarios body found = found ≡ call.ResetScenarios
+    × (found ≡ call.Read (read.Count matcher))
+IsCallOf escape route.ListScenarios body found = found ≡ call.Read read.Scenarios
+IsCallOf escape route.ResetScenarios body found = found ≡ call.Change input.ResetScenarios
 IsCallOf escape (route.SetScenario name) body found =
-    (state : List ℕ) × AsksFor body state × (found ≡ call.SetScenario (decoded name) state)
+    (state : List ℕ) × AsksFor body state × (found ≡ call.Change (input.SetScenario (decoded name) state))
 IsCallOf escape route.StartRecording body found =
-    (start : RecordingStart) × IsRead reading_of_start body (Read start) × (found ≡ call.StartRecording start)
-IsCallOf escape route.StopRecording body found = found ≡ call.StopRecording
-IsCallOf escape route.ReadRecordingStatus body found = found ≡ call.ReadRecordingStatus
-IsCallOf escape route.ReadRecordingHar body found = found ≡ call.ReadRecordingHar
+    (start : RecordingStart) × IsRead reading_of_start body (Read start) × (found ≡ call.Change (input.StartRecording start.target start.captured start.repeats))
+IsCallOf escape route.StopRecording body found = found ≡ call.Change input.StopRecording
+IsCallOf escape route.ReadRecordingStatus body found = found ≡ call.Read read.RecordingStatus
+IsCallOf escape route.ReadRecordingHar body found = found ≡ call.Read read.Recording
 
 -- the id of the route is none
 abbrev pub HasNoId : Route → Type 0

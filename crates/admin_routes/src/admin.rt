@@ -4,6 +4,8 @@ ghost use Rattle.admin_routes.specs.Calls.{IsCall, IsCallOf, IsAdminError, IsRef
 ghost use Rattle.admin_routes.specs.declared.call.AdminCall.TheVariants as call;
 ghost use Rattle.admin_routes.specs.declared.error.AdminError.TheVariants.{UnknownMapping};
 ghost use Rattle.admin_routes.specs.declared.route.Route.TheVariants as route;
+ghost use Rattle.request_journal.specs.declared.input.BookInput.TheVariants as input;
+ghost use Rattle.request_journal.specs.declared.read.BookRead.TheVariants as read;
 ghost use Rattle.template_tree.specs.declared.escape.Escape.{Escape};
 ghost use Rattle.template_tree.specs.declared.escape.Escape.TheVariants.{Off};
 ghost use Rattle.uuid.specs.Text.{parsed};
@@ -18,6 +20,8 @@ use admin_json::state::state_of;
 use mapping_json::read::read_mapping_with;
 use mapping_json::read_request::read_request;
 use mapping_model::mapping_id::MappingId;
+use request_journal::input::BookInput;
+use request_journal::read::BookRead;
 use std::alloc::Global;
 use template_tree::escape::Escape;
 
@@ -66,26 +70,26 @@ fn call_of(
     ensures error { IfErr result (IsRefusalOf escape route.now body.now) }
 {
     match route {
-        Route::ListMappings => Ok(AdminCall::ListMappings),
+        Route::ListMappings => Ok(AdminCall::Read(BookRead::Mappings)),
         Route::AddMapping => add_of(alloc, body, escape),
-        Route::DeleteMappings => Ok(AdminCall::DeleteMappings),
+        Route::DeleteMappings => Ok(AdminCall::Change(BookInput::DeleteAll)),
         Route::ReadMapping(id) => read_of(id),
         Route::EditMapping(id) => edit_of(alloc, id, body, escape),
         Route::DeleteMapping(id) => delete_of(id),
-        Route::ResetMappings => Ok(AdminCall::ResetMappings),
-        Route::ResetAll => Ok(AdminCall::ResetAll),
-        Route::ListRequests => Ok(AdminCall::ListRequests),
-        Route::ClearRequests => Ok(AdminCall::ClearRequests),
-        Route::ListUnmatched => Ok(AdminCall::ListUnmatched),
+        Route::ResetMappings => Ok(AdminCall::Change(BookInput::ResetMappings)),
+        Route::ResetAll => Ok(AdminCall::Change(BookInput::ResetAll)),
+        Route::ListRequests => Ok(AdminCall::Read(BookRead::Requests)),
+        Route::ClearRequests => Ok(AdminCall::Change(BookInput::ClearJournal)),
+        Route::ListUnmatched => Ok(AdminCall::Read(BookRead::Unmatched)),
         Route::FindRequests => find_of(alloc, body),
         Route::CountRequests => count_of(alloc, body),
-        Route::ListScenarios => Ok(AdminCall::ListScenarios),
-        Route::ResetScenarios => Ok(AdminCall::ResetScenarios),
+        Route::ListScenarios => Ok(AdminCall::Read(BookRead::Scenarios)),
+        Route::ResetScenarios => Ok(AdminCall::Change(BookInput::ResetScenarios)),
         Route::SetScenario(name) => set_of(alloc, name, body),
         Route::StartRecording => start_recording_of(alloc, body),
-        Route::StopRecording => Ok(AdminCall::StopRecording),
-        Route::ReadRecordingStatus => Ok(AdminCall::ReadRecordingStatus),
-        Route::ReadRecordingHar => Ok(AdminCall::ReadRecordingHar),
+        Route::StopRecording => Ok(AdminCall::Change(BookInput::StopRecording)),
+        Route::ReadRecordingStatus => Ok(AdminCall::Read(BookRead::RecordingStatus)),
+        Route::ReadRecordingHar => Ok(AdminCall::Read(BookRead::Recording)),
     }
 }
 
@@ -94,16 +98,16 @@ fn add_of(alloc: Global, body: &[u8], escape: Escape) -> Result<AdminCall, Admin
     ensures error { IfErr result (IsRefusalOf escape route.AddMapping body.now) }
 {
     let mapping = read_mapping_with(alloc, body, escape)?;
-    Ok(AdminCall::AddMapping(mapping))
+    Ok(AdminCall::Change(BookInput::Add(mapping)))
 }
 
 fn read_of(segment: &Segment<'_>) -> Result<AdminCall, AdminError>
     ensures ok { IfOk result
-        (λ found. (id : List ℕ) × (parsed segment.now ≡ Some id) × (found ≡ call.ReadMapping id)) }
+        (λ found. (id : List ℕ) × (parsed segment.now ≡ Some id) × (found ≡ call.Read (read.Mapping id))) }
     ensures error { IfErr result (λ error. (error ≡ UnknownMapping) × (parsed segment.now ≡ None)) }
 {
     let id = id_of(segment)?;
-    Ok(AdminCall::ReadMapping(id))
+    Ok(AdminCall::Read(BookRead::Mapping(id)))
 }
 
 fn edit_of(
@@ -117,16 +121,16 @@ fn edit_of(
 {
     let id = id_of(segment)?;
     let mapping = read_mapping_with(alloc, body, escape)?;
-    Ok(AdminCall::EditMapping { id, mapping })
+    Ok(AdminCall::Change(BookInput::Edit { id, mapping }))
 }
 
 fn delete_of(segment: &Segment<'_>) -> Result<AdminCall, AdminError>
     ensures ok { IfOk result
-        (λ found. (id : List ℕ) × (parsed segment.now ≡ Some id) × (found ≡ call.DeleteMapping id)) }
+        (λ found. (id : List ℕ) × (parsed segment.now ≡ Some id) × (found ≡ call.Change (input.Delete id))) }
     ensures error { IfErr result (λ error. (error ≡ UnknownMapping) × (parsed segment.now ≡ None)) }
 {
     let id = id_of(segment)?;
-    Ok(AdminCall::DeleteMapping(id))
+    Ok(AdminCall::Change(BookInput::Delete(id)))
 }
 
 fn id_of(segment: &Segment<'_>) -> Result<MappingId, AdminError>
@@ -144,7 +148,7 @@ fn find_of(alloc: Global, body: &[u8]) -> Result<AdminCall, AdminError>
     ensures error { (escape : Escape) → IfErr result (IsRefusalOf escape route.FindRequests body.now) }
 {
     let matcher = read_request(alloc, body)?;
-    Ok(AdminCall::FindRequests(matcher))
+    Ok(AdminCall::Read(BookRead::Find(matcher)))
 }
 
 fn count_of(alloc: Global, body: &[u8]) -> Result<AdminCall, AdminError>
@@ -152,7 +156,7 @@ fn count_of(alloc: Global, body: &[u8]) -> Result<AdminCall, AdminError>
     ensures error { (escape : Escape) → IfErr result (IsRefusalOf escape route.CountRequests body.now) }
 {
     let matcher = read_request(alloc, body)?;
-    Ok(AdminCall::CountRequests(matcher))
+    Ok(AdminCall::Read(BookRead::Count(matcher)))
 }
 
 fn set_of(alloc: Global, segment: &Segment<'_>, body: &[u8]) -> Result<AdminCall, AdminError>
@@ -161,7 +165,7 @@ fn set_of(alloc: Global, segment: &Segment<'_>, body: &[u8]) -> Result<AdminCall
 {
     let state = state_of(alloc, body)?;
     let name = segment.decoded(alloc)?;
-    Ok(AdminCall::SetScenario { name, state })
+    Ok(AdminCall::Change(BookInput::SetScenario { name, state }))
 }
 
 fn start_recording_of(alloc: Global, body: &[u8]) -> Result<AdminCall, AdminError>
@@ -169,7 +173,11 @@ fn start_recording_of(alloc: Global, body: &[u8]) -> Result<AdminCall, AdminErro
     ensures error { (escape : Escape) → IfErr result (IsRefusalOf escape route.StartRecording body.now) }
 {
     match start_of(alloc, body) {
-        Ok(start) => Ok(AdminCall::StartRecording(start)),
+        Ok(start) => Ok(AdminCall::Change(BookInput::StartRecording {
+            target: start.target,
+            captured: start.captured,
+            repeats: start.repeats,
+        })),
         Err(error) => Err(AdminError::Start(error)),
     }
 }

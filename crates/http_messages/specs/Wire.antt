@@ -1,7 +1,7 @@
 -- What is sent of a response.
 use Rattle.std.specs.Prelude.{◌≡◌, ℕ, Bool, ◌==◌, ◌||◌, List, [], ◌∷◌, fold, reverse}
 use Rattle.std.specs.Prelude.{IsFalse, IsTrue, if◌then◌else◌}
-use Rattle.connection_headers.specs.Names.{is_connection_name}
+use Rattle.mock_request.specs.ConnectionNames.{is_connection_name}
 use Rattle.http.specs.Response.{head_of, body_of}
 use Rattle.http.specs.declared.response.Response.{Response}
 use Rattle.http_header.specs.FieldValue.{FieldValue}

@@ -7,9 +7,9 @@ ghost use Rattle.http_messages.specs.Wire.{IsSent, has_no_content, is_blank, sen
 ghost use Rattle.http_messages.specs.Wire.{without_blanks, without_end_blanks, without_front_blanks};
 
 use bytes::Bytes;
-use connection_headers::names::is_connection_name;
 use http::response::Parts;
 use http::{HeaderMap, HeaderName, HeaderValue, Response, StatusCode};
+use mock_request::connection_names::is_connection_name;
 use std::alloc::{AllocError, Global};
 
 /// Whether a response is sent as it is: most are, and nothing of them is made anew. `sent` makes what is sent

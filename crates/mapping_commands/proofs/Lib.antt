@@ -2,3 +2,4 @@ pub mod LinesOf
 pub mod Totals
 pub mod DocumentLemmas
 pub mod FreshLemmas
+pub mod OneStream

@@ -2,9 +2,9 @@
 use Rattle.std.proofs.Common.{◌≡◌, ◌≢◌, ℕ, List, [], Option, ap, inl, map, refl}
 use Rattle.command_output.specs.Output.{Followed}
 use Rattle.mapping_commands.specs.Answering.{sent_of}
-use Rattle.mapping_explanation.specs.Explaining.{ExplainsFiles, given_of}
-use Rattle.mapping_explanation.specs.declared.explain.Question.{Question}
-use Rattle.mapping_explanation.specs.declared.explain.Form.TheVariants.{Json}
+use Rattle.mapping_commands.specs.Explaining.{ExplainsFiles, given_of}
+use Rattle.mapping_commands.specs.declared.explain.Question.{Question}
+use Rattle.mapping_commands.specs.declared.explain.Form.TheVariants.{Json}
 use Rattle.mock_program.specs.CommandLine.{explain}
 use Rattle.mock_program.specs.Commands.{Does}
 use Rattle.mock_request.specs.Request.{headers_of}

@@ -3,8 +3,8 @@ use Rattle.std.proofs.Common.{◌≡◌, ◌⊎◌, ℕ, List, Option, inl, inr,
 use Rattle.std.proofs.Common.{if◌then◌else◌}
 use Rattle.mapping_commands.specs.Answering.{Answers, AnswersFiles, Sent}
 use Rattle.mapping_commands.specs.Checking.{Checks, ChecksFiles}
-use Rattle.mapping_explanation.specs.Explaining.{Ends, Explains, ExplainsFiles, is_answered}
-use Rattle.mapping_explanation.specs.declared.explain.Form.{Form}
+use Rattle.mapping_commands.specs.Explaining.{Ends, Explains, ExplainsFiles, is_answered}
+use Rattle.mapping_commands.specs.declared.explain.Form.{Form}
 use Rattle.mock_program.specs.CommandLine.{Asked, render, check, answer, explain}
 use Rattle.mock_program.specs.Commands.{Does}
 use Rattle.command_output.proofs.PartsWritten.{alone, followed_map}

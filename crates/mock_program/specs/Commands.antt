@@ -3,9 +3,9 @@ use Rattle.std.specs.Prelude.{◌≡◌, ◌≢◌, ◌⊎◌, ℕ, List, [], Op
 use Rattle.command_output.specs.Output.{Followed}
 use Rattle.mapping_commands.specs.Answering.{AnswersFiles, Sent}
 use Rattle.mapping_commands.specs.Checking.{ChecksFiles}
-use Rattle.mapping_explanation.specs.Explaining.{ExplainsFiles}
-use Rattle.mapping_explanation.specs.declared.explain.Form.{Form}
-use Rattle.mapping_explanation.specs.declared.explain.Form.TheVariants.{Json}
+use Rattle.mapping_commands.specs.Explaining.{ExplainsFiles}
+use Rattle.mapping_commands.specs.declared.explain.Form.{Form}
+use Rattle.mapping_commands.specs.declared.explain.Form.TheVariants.{Json}
 use Rattle.mock_program.specs.CommandLine.{Asked, render, check, answer, explain}
 use Rattle.mock_program.specs.Rendering.{Renders}
 use Rattle.template_tree.specs.Source.{with_escape}

@@ -2,7 +2,7 @@
 ghost use Rattle.std.specs.Prelude.{◌≡◌, ◌≢◌, ◌⊎◌, false, map, string_bytes};
 ghost use Rattle.clap.specs.Words.{kind_of};
 ghost use Rattle.clap.specs.declared.error.kind.ErrorKind.{ErrorKind};
-ghost use Rattle.mapping_explanation.specs.declared.explain.Form.TheVariants.{Json};
+ghost use Rattle.mapping_commands.specs.declared.explain.Form.TheVariants.{Json};
 ghost use Rattle.mock_program.specs.CommandLine.{AreInvalid, Asked, AsksFor, CallsForHelp, answer, explain};
 ghost use Rattle.mock_program.specs.Commands.{Does};
 ghost use Rattle.mock_program.specs.Inner.Parser.{IsHelp, asked_of};
@@ -24,8 +24,8 @@ use command_output::status::{FAILURE, INVALID_ARGUMENTS, SUCCESS};
 use error_code::error_code::ErrorCode;
 use mapping_commands::answer::answer_file;
 use mapping_commands::check::check_file;
+use mapping_commands::explain::{Form, Question, explain_file};
 use mapping_commands::sent::SentRequest;
-use mapping_explanation::explain::{Form, Question, explain_file};
 use std::alloc::Global;
 use std::io::Write;
 use template_tree::escape::Escape;

@@ -9,7 +9,7 @@ use command_output::output::{put_all, put_notes};
 use command_output::status::{FAILURE, INVALID_ARGUMENTS};
 use error_code::error_code::ErrorCode;
 use http_header::{HeaderName, HeaderNameError, HeaderValue, HeaderValueError};
-use mapping_explanation::explain::GivenState;
+use mapping_commands::explain::GivenState;
 use std::alloc::{AllocError, Global};
 use std::io::Write;
 

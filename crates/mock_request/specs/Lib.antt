@@ -7,4 +7,5 @@ pub mod Query
 pub mod HeaderFields
 pub mod Cookies
 pub mod Authority
+pub mod ConnectionNames
 pub mod Inner

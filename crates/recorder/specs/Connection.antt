@@ -2,7 +2,7 @@
 use Rattle.std.specs.Prelude.{ℕ, Bool, ◌&&◌, ◌||◌, ◌==◌, List, codes}
 use Rattle.std.specs.List.{list_any, slice_split}
 use Rattle.std.specs.Str.{bytes_eq, str_eq_ignore_ascii_case}
-use Rattle.connection_headers.specs.Names.{is_connection_name}
+use Rattle.mock_request.specs.ConnectionNames.{is_connection_name}
 use Rattle.mock_request.specs.Request.{Header}
 
 -- a comma, a space or a tab

@@ -6,8 +6,8 @@ ghost use Rattle.mock_request.specs.Request.{headers_of};
 ghost use Rattle.recorder.specs.Connection.{has_option, is_between_options, is_named_by_connection};
 ghost use Rattle.recorder.specs.Connection.{is_naming, is_of_connection};
 
-use connection_headers::names::is_connection_name;
 use http_header::HeaderMap;
+use mock_request::connection_names::is_connection_name;
 use mock_request::snapshot::Snapshot;
 
 /// Whether a header of that name belongs to the connection of a request.

@@ -1,5 +1,6 @@
 -- Encoded texts in which no byte is escaped.
-use Rattle.std.proofs.Common.{◌≡◌, ◌≢◌, ◌==◌, ℕ, Bool, true, false, if◌then◌else◌, List, [], ◌∷◌, map, All, ap, ◌∙◌, arith}
+use Rattle.std.proofs.Common.{◌≡◌, ◌≢◌, ◌==◌, ◌≤◌, ℕ, zero, suc, Bool, true, false, if◌then◌else◌, List, [], ◌∷◌}
+use Rattle.std.proofs.Common.{map, length, slice_index_or, slice_set, All, refl, ap, ◌∙◌, arith}
 use Rattle.std.proofs.lemmas.List.Elements.{All-head, All-tail}
 use Rattle.percent_encoding.proofs.PercentLemmas.{percent_decode-nil, percent_decode_not_percent}
 use Rattle.percent_encoding.specs.Percent.{percent_sign}
@@ -19,3 +20,23 @@ decode_unescaped (b ∷ bs) none =
     percent_decode_not_percent (plus_to_space b) (map plus_to_space bs)
     (unescaped b (All-head (λ x. x ≢ percent_sign) b bs none))
     ∙ ap (λ l. plus_to_space b ∷ l) (decode_unescaped bs (All-tail (λ x. x ≢ percent_sign) b bs none))
+
+-- that many bytes with a space for each `+`, and the others
+abbrev pub spaced : ℕ → List ℕ → List ℕ
+spaced zero bs = bs
+spaced (suc n) [] = []
+spaced (suc n) (b ∷ bs) = plus_to_space b ∷ spaced n bs
+
+pub spaced_more
+    : (n d : ℕ) (bs : List ℕ)
+    → slice_set (spaced n bs) n (plus_to_space (slice_index_or (spaced n bs) n d)) ≡ spaced (suc n) bs
+spaced_more zero d [] = refl
+spaced_more zero d (b ∷ bs) = refl
+spaced_more (suc n) d [] = refl
+spaced_more (suc n) d (b ∷ bs) = ap (λ l. plus_to_space b ∷ l) (spaced_more n d bs)
+
+pub spaced_all : (n : ℕ) (bs : List ℕ) → length bs ≤ n → spaced n bs ≡ map plus_to_space bs
+spaced_all zero [] all = refl
+spaced_all zero (b ∷ bs) all = absurd (omega (arith, all))
+spaced_all (suc n) [] all = refl
+spaced_all (suc n) (b ∷ bs) all = ap (λ l. plus_to_space b ∷ l) (spaced_all n bs (omega (arith, all)))

@@ -80,8 +80,15 @@ fn has_no_escape(encoded: &[u8]) -> bool
 fn with_spaces(alloc: Global, encoded: &[u8]) -> Result<Vec<u8>, AllocError>
     ensures { IfOk result (λ made. made.items ≡ map plus_to_space encoded.now) }
 {
-    let bytes = encoded
-        .iter()
-        .map(|&byte| if byte == b'+' { b' ' } else { byte });
-    bytes.collect(alloc)
+    let mut bytes = Vec::from_slice(alloc, encoded)?;
+    for index in 0..bytes.len() {
+        bytes[index] = plus_to_space(bytes[index]);
+    }
+    Ok(bytes)
+}
+
+fn plus_to_space(byte: u8) -> u8
+    ensures { result ≡ plus_to_space byte }
+{
+    if byte == b'+' { b' ' } else { byte }
 }

@@ -10,5 +10,6 @@ pub mod event_memory;
 pub mod input;
 pub mod limits;
 pub mod mapping;
+pub mod read;
 pub mod shared_event;
 pub mod shared_request;

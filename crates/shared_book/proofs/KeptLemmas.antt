@@ -10,13 +10,11 @@ use Rattle.shared_book.proofs.ReachedLemmas.{dropped_last, lawful_on, lawful_ope
 use Rattle.shared_book.proofs.ReachedLemmas.{past_left, past_looked, past_opened, past_split}
 use Rattle.shared_book.specs.Held.{IsDropped}
 use Rattle.shared_book.specs.Inner.Kept.{IsKept}
-use Rattle.shared_book.specs.Inner.Looked.{IsLooked, IsLookedUp, IsLookedUpOnce}
 use Rattle.shared_book.specs.Reached.{InPastOf, IsLawful, IsPastOf, Log, MayFollow}
 use Rattle.shared_book.specs.Reading.{IsRead, IsReadAnswer, IsReadOnce}
 use Rattle.shared_book.specs.Seen.{IsEntered, IsJoined, IsSplit, SeesAll}
-use Rattle.shared_book.specs.declared.book_read.BookRead.{BookRead}
+use Rattle.request_journal.specs.declared.read.BookRead.{BookRead}
 use Rattle.shared_book.specs.declared.book_read.ReadAnswer.{ReadAnswer}
-use Rattle.shared_book.specs.declared.book_read.Reading.{Reading}
 use Rattle.shared_book.specs.declared.receipt.Receipt.{Receipt}
 use Rattle.shared_history.specs.Entries.{entry, opening}
 use Rattle.shared_history.specs.History.{HasLeft, IsHistory}
@@ -120,11 +118,11 @@ was_joined {name} origin whole new seat other later lawful leaves left history c
       was_seen = subst (IsSeen MayFollow name) back was_seen;
     }
 
--- what was looked up in the past after the whole history
+-- what is answered in the past after the whole history
 pub looked_up : (origin past : Past) (whole : Log) (old new : Sight Past Event) (asked : BookRead) (number : ℕ)
     (answer : ReadAnswer) → IsPastOf origin whole past → Looks old whole new → number ≡ last_number past
-    → IsLooked past asked answer
-    → IsLookedUp origin new.seen asked (record { number = number; answer = answer })
+    → IsReadAnswer past asked answer
+    → IsRead origin new.seen asked (record { number = number; answer = answer })
 looked_up origin past whole old new asked number answer is looks last looked = record {
   past = past;
   past_of = past_looked origin past whole new.seen old.number looks.seen is;
@@ -132,23 +130,11 @@ looked_up origin past whole old new asked number answer is looks last looked = r
   answer = looked;
 }
 
--- what is answered, of what was looked up
-pub answered : (origin : Past) (log : Log) (asked : BookRead) (looked : Reading) (answer : ReadAnswer)
-    → IsLookedUp origin log asked looked
-    → ((past : Past) → IsLooked past asked looked.answer → IsReadAnswer past asked answer)
-    → IsRead origin log asked (record { number = looked.number; answer = answer })
-answered origin log asked looked answer is right = record {
-  past = is.past;
-  past_of = is.past_of;
-  number = is.number;
-  answer = right is.past is.answer;
-}
-
 -- the same for who has no place
 pub looked_up_once : {E : Type 0} (name : Book) (origin past : Past) (whole seen : Log) (asked : BookRead)
     (result : Result ReadAnswer E) → IsLawful origin whole → IsPastOf origin whole past → seen ≡ whole
-    → IsSeen MayFollow name seen → IfOk result (IsLooked past asked)
-    → IfOk result (IsLookedUpOnce origin name asked)
+    → IsSeen MayFollow name seen → IfOk result (IsReadAnswer past asked)
+    → IfOk result (IsReadOnce origin name asked)
 looked_up_once name origin past whole seen asked (Err error) lawful is same was_seen looked = looked
 looked_up_once name origin past whole seen asked (Ok found) lawful is same was_seen looked = record {
   log = whole;
@@ -157,20 +143,6 @@ looked_up_once name origin past whole seen asked (Ok found) lawful is same was_s
   past = past;
   past_of = is;
   answer = looked;
-}
-
-pub read_once : {E : Type 0} {name : Book} (origin : Past) (asked : BookRead) (found : ReadAnswer)
-    (result : Result ReadAnswer E) → IsLookedUpOnce origin name asked found
-    → IfOk result (λ answer. (past : Past) → IsLooked past asked found → IsReadAnswer past asked answer)
-    → IfOk result (IsReadOnce origin name asked)
-read_once origin asked found (Err error) is right = right
-read_once origin asked found (Ok answer) is right = record {
-  log = is.log;
-  lawful = is.lawful;
-  was_seen = is.was_seen;
-  past = is.past;
-  past_of = is.past_of;
-  answer = right is.past is.answer;
 }
 
 -- the book was just shared

@@ -2,6 +2,5 @@ pub mod Kept
 pub mod Seat
 pub mod Gains
 pub mod Refusal
-pub mod Looked
 pub mod Misplaced
 pub mod Ends

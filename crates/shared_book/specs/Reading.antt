@@ -3,34 +3,34 @@ use Rattle.std.specs.Prelude.{◌≡◌, ℕ, List, Any, Some, None}
 use Rattle.logbook.specs.Pages.{Book}
 use Rattle.mapping_store.specs.Stored.{IsNewestFirst}
 use Rattle.recorder.specs.Recording.{status_of}
-use Rattle.request_journal.specs.Journal.{requests, unmatched, IsCount, Picks}
+use Rattle.request_journal.specs.Journal.{requests, unmatched}
 use Rattle.request_journal.specs.Legal.{IsLive}
 use Rattle.request_journal.specs.Live.{live}
 use Rattle.request_journal.specs.Past.{Past, last_number}
 use Rattle.request_journal.specs.Recording.{recording}
 use Rattle.request_journal.specs.State.{state}
-use Rattle.request_match.specs.Matching.{MeetsRequest}
 use Rattle.scenario_core.specs.Scenarios.{state_of}
 use Rattle.shared_book.specs.Reached.{IsLawful, IsPastOf, Log, MayFollow}
-use Rattle.shared_book.specs.declared.book_read.BookRead.{BookRead}
-use Rattle.shared_book.specs.declared.book_read.BookRead.TheVariants as read
+use Rattle.request_journal.specs.declared.read.BookRead.{BookRead}
+use Rattle.request_journal.specs.declared.read.BookRead.TheVariants as read
 use Rattle.shared_book.specs.declared.book_read.ReadAnswer.{ReadAnswer}
 use Rattle.shared_book.specs.declared.book_read.ReadAnswer.TheVariants as answer
 use Rattle.shared_book.specs.declared.book_read.Reading.{Reading}
 use Rattle.shared_history.specs.Seal.{IsSeen}
 
--- the answer is what the past says: mappings and requests the newest first
+-- the answer is what the past says: mappings and requests the newest first; where requests are to be matched, all
+-- requests with the matcher
 abbrev pub IsReadAnswer : Past → BookRead → ReadAnswer → Type 0
 IsReadAnswer past read.Mappings (answer.Mappings mappings) = IsNewestFirst (live past) mappings.items
 IsReadAnswer past (read.Mapping id) (answer.Mapping None) = ¬ (IsLive past id)
 IsReadAnswer past (read.Mapping id) (answer.Mapping (Some mapping)) =
     (mapping.id ≡ id) × Any (λ p. (p.mapping.id ≡ id) × (p.mapping.spec ≡ mapping.spec)) (live past)
 IsReadAnswer past read.Requests (answer.Requests entries) = entries.items ≡ requests past
-IsReadAnswer past read.Unmatched (answer.Requests entries) = entries.items ≡ unmatched past
-IsReadAnswer past (read.Find matcher) (answer.Requests entries) =
-    Picks (λ entry. MeetsRequest matcher entry.request) (requests past) entries.items
-IsReadAnswer past (read.Count matcher) (answer.Count count) =
-    IsCount (λ entry. MeetsRequest matcher entry.request) (requests past) count
+IsReadAnswer past read.Unmatched (answer.Unmatched entries) = entries.items ≡ unmatched past
+IsReadAnswer past (read.Find asked) (answer.Find entries matcher) =
+    (entries.items ≡ requests past) × (matcher ≡ asked)
+IsReadAnswer past (read.Count asked) (answer.Count entries matcher) =
+    (entries.items ≡ requests past) × (matcher ≡ asked)
 IsReadAnswer past read.Scenarios (answer.Scenarios states mappings) =
     ((name : List ℕ) → state_of states name ≡ state past name) × IsNewestFirst (live past) mappings.items
 IsReadAnswer past read.RecordingStatus (answer.RecordingStatus status) = status ≡ status_of (recording past)

@@ -1,29 +1,13 @@
-// What may be asked of a shared book without changing it, and what is answered.
-use mapping_model::mapping_id::MappingId;
+// What is answered to who asks a shared book without changing it.
 use recorder::recording::{Recording, RecordingStatus};
 use request_journal::entry::Entry;
 use request_journal::mapping::Mapping;
 use request_match::request_matcher::RequestMatcher;
 use scenario_core::scenarios::Scenarios;
 
-/// What is asked for: a case for each admin call that changes nothing.
-#[derive(Drop)]
-pub enum BookRead {
-    Mappings,
-    /// The live mapping with this id.
-    Mapping(MappingId),
-    Requests,
-    Unmatched,
-    /// The requests that meet the matcher.
-    Find(RequestMatcher),
-    /// How many meet it.
-    Count(RequestMatcher),
-    Scenarios,
-    RecordingStatus,
-    Recording,
-}
-
-/// What is answered. Mappings, requests and exchanges are shared with the book.
+/// What is answered, a case for each that is asked for. Mappings, requests and exchanges are shared with the book.
+/// Where requests are to be matched these are all requests, with the matcher: they are matched after the lock was let
+/// go.
 #[derive(Drop)]
 pub enum ReadAnswer {
     /// The newest first.
@@ -32,7 +16,17 @@ pub enum ReadAnswer {
     Mapping(Option<Mapping>),
     /// The newest first.
     Requests(Vec<Entry>),
-    Count(usize),
+    /// The newest first.
+    Unmatched(Vec<Entry>),
+    /// The newest first.
+    Find {
+        requests: Vec<Entry>,
+        matcher: RequestMatcher,
+    },
+    Count {
+        requests: Vec<Entry>,
+        matcher: RequestMatcher,
+    },
     /// The states, and the live mappings, the newest first, which name the scenarios.
     Scenarios {
         states: Scenarios,

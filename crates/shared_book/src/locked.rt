@@ -5,7 +5,7 @@ ghost use Rattle.request_journal.specs.Past.{last_number};
 ghost use Rattle.request_journal.specs.declared.limits.TheConstants.{NUMBER_LIMIT};
 ghost use Rattle.shared_book.specs.Held.{IsDropped};
 ghost use Rattle.shared_book.specs.Inner.Ends.{Ends, HaveAgreed};
-ghost use Rattle.shared_book.specs.Inner.Looked.{IsLookedUp, IsLookedUpOnce};
+ghost use Rattle.shared_book.specs.Reading.{IsRead, IsReadOnce};
 ghost use Rattle.shared_book.specs.Reached.{InPastOf, IsLawful, IsPastOf, MayFollow};
 ghost use Rattle.shared_book.specs.Seen.{IsEntered, IsJoined, IsSplit, SeesAll};
 ghost use Rattle.shared_book.specs.Settled.{AreSettled, AreUnsettled, HaveSeen};
@@ -16,7 +16,7 @@ ghost use Rattle.stub_book.specs.Refusals.{IsRefusal, IsServeRefusal};
 
 use crate::audit::{audit, have_parts};
 use crate::base::base_of;
-use crate::book_read::{BookRead, ReadAnswer, Reading};
+use crate::book_read::{ReadAnswer, Reading};
 use crate::compare::compare;
 use crate::entered::Entered;
 use crate::history::{History, Place};
@@ -27,6 +27,7 @@ use crate::seat::Seat;
 use crate::settled::{SettleRefusal, Settled};
 use request_journal::event_memory::EventMemory;
 use request_journal::input::BookInput;
+use request_journal::read::BookRead;
 use request_journal::shared_request::SharedRequest;
 use request_match::parsed_request::ParsedRequest;
 use std::alloc::{AllocError, Global};
@@ -186,10 +187,10 @@ impl<L: Origin> Locked<L> {
         rt: &R,
         place: &mut Place<L>,
         alloc: Global,
-        asked: &BookRead,
+        asked: BookRead,
     ) -> Result<Reading, AllocError>
         ensures seen { SeesAll L.origin L.book place.old place.new }
-        ensures answer { IfOk result (IsLookedUp L.origin place.new.seen asked.now) }
+        ensures answer { IfOk result (IsRead L.origin place.new.seen asked) }
     {
         self.history.look(rt, place);
         let number = self.book.event_count();
@@ -198,8 +199,8 @@ impl<L: Origin> Locked<L> {
     }
 
     /// Looks up what is asked for, for who has no place.
-    pub(crate) fn peek(&self, alloc: Global, asked: &BookRead) -> Result<ReadAnswer, AllocError>
-        ensures { IfOk result (IsLookedUpOnce L.origin L.book asked.now) }
+    pub(crate) fn peek(&self, alloc: Global, asked: BookRead) -> Result<ReadAnswer, AllocError>
+        ensures { IfOk result (IsReadOnce L.origin L.book asked) }
     {
         self.history.front();
         look(&self.book, alloc, asked)

@@ -16,10 +16,9 @@ ghost use Rattle.std.specs.Borrow.{sem};
 ghost use denote.Follow.{follows_so};
 ghost use mathlib.Core.Option.{none};
 
-use crate::book_read::{BookRead, Reading};
+use crate::book_read::Reading;
 use crate::history::{Front, Place};
 use crate::lines::Lines;
-use crate::look::answer;
 use crate::origin::Origin;
 use crate::receipt::Receipt;
 use crate::shared_book::SharedBook;
@@ -27,6 +26,7 @@ use mock_request::last_headers::LastHeaders;
 use mock_request::snapshot::Snapshot;
 use request_journal::event_memory::EventMemory;
 use request_journal::input::BookInput;
+use request_journal::read::BookRead;
 use request_journal::shared_request::SharedRequest;
 use request_match::parsed_request::ParsedRequest;
 use std::alloc::{AllocError, Global};
@@ -263,14 +263,7 @@ impl<L: Origin> Seat<L> {
         ensures ok { IfOk result (IsRead L.origin self.new.seen asked) }
     {
         let alloc = *self.lines.joined.allocator();
-        let Reading {
-            number,
-            answer: found,
-        } = shared.lock(rt).read(rt, &mut self.place, alloc, &asked)?;
-        Ok(Reading {
-            number,
-            answer: answer(alloc, asked, found)?,
-        })
+        shared.lock(rt).read(rt, &mut self.place, alloc, asked)
     }
 
     /// Takes over the other seat, which makes no call any more: its parts, its lists of receipts beside the own ones,

@@ -4,12 +4,12 @@ ghost use Rattle.shared_book.specs.Held.{new_seat};
 ghost use Rattle.shared_book.specs.Reading.{IsReadOnce};
 ghost use Rattle.shared_history.specs.Entries.{opening};
 
-use crate::book_read::{BookRead, ReadAnswer};
+use crate::book_read::ReadAnswer;
 use crate::history::OpenedHistory;
 use crate::locked::Locked;
-use crate::look::answer;
 use crate::origin::Origin;
 use crate::seat::Seat;
+use request_journal::read::BookRead;
 use std::alloc::{AllocError, Global};
 use std::hint::spin_loop;
 use std::sync::ledger::Blank;
@@ -75,7 +75,6 @@ impl<L: Origin> SharedBook<L> {
 
     /// Reads the book as it is at some point during the call, for who has no seat. It enters nothing, so nothing says
     /// when that was.
-    #[tactic(auto, using(crate::proofs::KeptLemmas::read_once))]
     pub fn peek<R: Wait>(
         &self,
         rt: &R,
@@ -84,8 +83,7 @@ impl<L: Origin> SharedBook<L> {
     ) -> Result<ReadAnswer, AllocError>
         ensures { IfOk result (IsReadOnce L.origin L.book asked) }
     {
-        let found = self.lock(rt).peek(alloc, &asked)?;
-        answer(alloc, asked, found)
+        self.lock(rt).peek(alloc, asked)
     }
 
     // Takes the lock. It is tried for a while, since a call holds it for less time than it takes to wake a thread.

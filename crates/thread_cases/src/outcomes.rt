@@ -43,8 +43,8 @@ fn size_of(answer: &ReadAnswer) -> usize {
     match answer {
         ReadAnswer::Mappings(mappings) => mappings.len(),
         ReadAnswer::Mapping(mapping) => usize::from(mapping.is_some()),
-        ReadAnswer::Requests(entries) => entries.len(),
-        ReadAnswer::Count(count) => *count,
+        ReadAnswer::Requests(requests) | ReadAnswer::Unmatched(requests) => requests.len(),
+        ReadAnswer::Find { requests, .. } | ReadAnswer::Count { requests, .. } => requests.len(),
         ReadAnswer::Scenarios { mappings, .. } => mappings.len(),
         ReadAnswer::RecordingStatus(_status) => 1,
         ReadAnswer::Recording(recording) => usize::from(recording.session().is_some()),

@@ -1,7 +1,7 @@
 -- Headers that are sent as they are.
 use Rattle.std.specs.Prelude.{◌≡◌, ℕ, List, false}
 use Rattle.http_header.specs.FieldValue.{FieldValue}
-use Rattle.connection_headers.specs.Names.{is_connection_name}
+use Rattle.mock_request.specs.ConnectionNames.{is_connection_name}
 use Rattle.http_messages.specs.Wire.{without_blanks}
 
 -- it is none of the connection, and its value has no blanks at its ends

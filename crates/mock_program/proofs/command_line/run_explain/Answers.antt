@@ -1,5 +1,5 @@
 use Rattle.std.proofs.Common.{◌∙◌, inr, map, refl}
-use Rattle.mapping_explanation.specs.declared.explain.Question.{Question}
+use Rattle.mapping_commands.specs.declared.explain.Question.{Question}
 use Rattle.mock_program.proofs.ExplainSent.{explained}
 use Rattle.mock_program.specs.Options.{given_of}
 use Rattle.mock_program.proofs.command_line.run_explain.Goals as goal
