@@ -308,6 +308,13 @@ fn recording_sought(alloc: Global, answer: &[u8]) -> Option<Sought> {
     Sought::of_recording(number)
 }
 
+fn first_error(answer: &Value) -> Option<(u64, &str)> {
+    let error = answer.get("errors")?.as_array()?.first()?;
+    let code = error.get("code")?.as_u64()?;
+    let title = error.get("title")?.as_str()?;
+    Some((code, title))
+}
+
 /// Each fault of it has the same code.
 fn state_fault(alloc: Global, value: &Value) -> Result<Option<Fault>, AllocError> {
     let found = part_fault(alloc, Part::ScenarioState, value, Sought::Field)?;
