@@ -36,7 +36,7 @@ is_served old new actor request other happens = absurd happens.asked_for
 
 served_or_not : (old new : WorldState) (actor : ℕ) (request : Request) (event : Option Event)
     → IsAct old actor (Serve request) event new → IsServedOnce old request event new
-served_or_not old new actor request None act = act.1
+served_or_not old new actor request None act = act
 served_or_not old new actor request (Some e) act = is_served old new actor request e act
 
 pub served_once : (old new : WorldState) (actor : ℕ) (request : Request) (outcome : Outcome)

@@ -12,6 +12,7 @@ use Rattle.request_journal.specs.declared.event.Event.{Event}
 use Rattle.request_journal.specs.declared.event.Event.TheVariants as event
 use Rattle.request_journal.specs.declared.event.ServeAnswer.{ServeAnswer}
 use Rattle.request_journal.specs.declared.event.ServeAnswer.TheVariants.{Stub}
+use Rattle.stub_book.specs.Refusals.{IsFull}
 use Rattle.stub_response.specs.Response.{IsRendering, IsResponse}
 use Rattle.world_core.specs.Schedule.{Outcome, WorldState, IsRun}
 use Rattle.shared_book.specs.declared.script.Call.TheVariants.{Serve}
@@ -75,9 +76,10 @@ IsAnswered start steps outcomes actor reply =
 abbrev pub events_of : List Outcome → List Event
 events_of outcomes = filter_map (λ outcome. outcome.event) outcomes
 
--- a request is served once, with the choice of the past, and moves what its answer moves; or it is refused
+-- a request is served once, with the choice of the past, and moves what its answer moves; or it is refused, since there
+-- is no number for it
 abbrev pub IsServedOnce : WorldState → Request → Option Event → WorldState → Type 0
 IsServedOnce old request served new =
-    MatchOption served (new ≡ old)
+    MatchOption served (IsFull old.past × (new ≡ old))
     (λ e. (answer : ServeAnswer) × (e ≡ event.Serve request answer) × IsChoice old.past request answer
     × StatesFollow (state old.past) (state new.past) e)

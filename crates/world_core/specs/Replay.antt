@@ -9,12 +9,24 @@ use Rattle.mapping_model.specs.declared.mapping_spec.MappingSpec.{MappingSpec}
 use Rattle.mapping_model.specs.declared.reply.Reply.{Reply}
 use Rattle.recorder.specs.Stubs.{is_kept, mappings_of}
 use Rattle.recorder.specs.declared.exchange.Exchange.{Exchange}
+use Rattle.recorder.specs.declared.recording.Recording.TheVariants.{On}
+use Rattle.recorder.specs.declared.recording.Session.{Session}
 use Rattle.recorder.specs.declared.recording.TheConstants.{EXCHANGE_LIMIT}
 use Rattle.request_journal.specs.Live.{live}
 use Rattle.request_journal.specs.Past.{Past, last_number}
+use Rattle.request_journal.specs.Recording.{recording}
 use Rattle.request_journal.specs.State.{state}
+use Rattle.request_journal.specs.declared.event.Captured.{Captured}
+use Rattle.request_journal.specs.declared.event.Event.{Event}
+use Rattle.request_journal.specs.declared.event.Event.TheVariants as event
+use Rattle.request_journal.specs.declared.event.ServeAnswer.TheVariants.{Stub}
+use Rattle.request_journal.specs.declared.mapping.Mapping.{Mapping}
 use Rattle.request_journal.specs.declared.limits.TheConstants.{NUMBER_LIMIT}
 use Rattle.scenario_core.specs.Scenarios.{started}
+use Rattle.shared_book.specs.Reached.{Lead}
+use Rattle.stub_book.specs.Growth.{repeated}
+use Rattle.stub_response.specs.Response.{IsResponse}
+use Rattle.stub_response.specs.declared.limits.Limits.{Limits}
 use Rattle.world_core.specs.Schedule.{Outcome}
 use Rattle.shared_book.specs.declared.script.Call.TheVariants.{Serve}
 use Rattle.world_core.specs.declared.step.Step.{Step}
@@ -53,3 +65,26 @@ pub record HasRecorded (captured : List (List ℕ)) (number : ℕ) (exchanges : 
       (mappings_of captured exchanges true number)
   -- there is a number for each request
   pub room : last_number past + length exchanges ≤ NUMBER_LIMIT
+
+-- ---- how a past becomes ready
+
+-- A recording is on that keeps equal requests as scenarios, and no mapping is live; it is stopped, no two of its
+-- mappings have one id, and the scenarios are reset.
+pub record IsStoppedAndReset (old : Past) (session : Session) (ready : Past) : Type 0 where
+  pub on : recording old ≡ On session
+  pub repeats : session.repeats ≡ true
+  pub alone : live old ≡ []
+  pub mappings : List Mapping
+  pub skipped : ℕ
+  pub leads : Lead old (event.StopRecording mappings skipped ∷ event.ResetScenarios ∷ []) ready
+  pub distinct : repeated mappings ≡ 0
+  pub room : last_number ready + length session.exchanges ≤ NUMBER_LIMIT
+
+-- ---- replay to a shared book
+
+-- the event serves the recorded request by a version whose response is the recorded reply, and no other
+abbrev pub GivesBack : Exchange → Event → Type 0
+GivesBack exchange served =
+    (captured : Captured) × (served ≡ event.Serve exchange.request (Stub captured))
+    × ((limits : Limits) (reply : Reply) → IsResponse limits captured.mapping.spec exchange.request reply
+    → reply ≡ exchange.reply)

@@ -1,10 +1,15 @@
 -- The one history of a shared book as a schedule, and what is so of each event in it.
-use Rattle.std.specs.Prelude.{◌≡◌, ℕ, List, [], ◌∷◌}
+use Rattle.std.specs.Prelude.{◌≡◌, ◌↔◌, ℕ, List, [], ◌∷◌, ◌++◌}
+use Rattle.mock_request.specs.Request.{Request}
+use Rattle.request_journal.specs.Choice.{IsChoice}
 use Rattle.request_journal.specs.Legal.{IsNext}
-use Rattle.request_journal.specs.Past.{Past}
+use Rattle.request_journal.specs.Live.{live}
+use Rattle.request_journal.specs.Past.{Past, with_events}
+use Rattle.request_journal.specs.Recording.{recording}
 use Rattle.request_journal.specs.State.{StatesFollow, state}
 use Rattle.request_journal.specs.declared.event.Event.{Event}
 use Rattle.request_journal.specs.declared.event.Event.TheVariants as event
+use Rattle.request_journal.specs.declared.event.ServeAnswer.{ServeAnswer}
 use Rattle.request_journal.specs.declared.input.BookInput.TheVariants as input
 use Rattle.shared_book.specs.Reached.{IsPastOf, Log}
 use Rattle.shared_history.specs.Entries.{events}
@@ -61,3 +66,18 @@ pub record IsRightAfter (origin : Past) (before : Log) (event : Event) (with : L
   pub new : Past
   pub then : IsPastOf origin with new
   pub moves : StatesFollow (state old) (state new) event
+
+-- ---- what checkpoints leave
+
+-- the same mappings are live, each scenario is in the same state, the same recording is on or was the last, and each
+-- request has the same choice
+pub record IsSameBook (one other : Past) : Type 0 where
+  pub same_live : live other ≡ live one
+  pub same_states : (name : List ℕ) → state other name ≡ state one name
+  pub same_recording : recording other ≡ recording one
+  pub same_choice : (request : Request) (answer : ServeAnswer)
+      → IsChoice one request answer ↔ IsChoice other request answer
+
+-- the past with these events too, of which none is dropped
+abbrev pub with_all : Past → List Event → Past
+with_all past events = with_events past (past.events ++ events)
