@@ -1,6 +1,6 @@
 -- What is answered of what was read is what the past says.
 use Rattle.std.proofs.Common.{◌≡◌, ◌⊎◌, ℕ, List, Vec, Option, Some, None, Result, Ok, Err, IfOk}
-use Rattle.std.proofs.Common.{IfErr, inl, inr, sym, subst, ap, refl, ◌∙◌, ◌+◌, ◌^◌, ◌≤◌, arith}
+use Rattle.std.proofs.Common.{IfErr, inl, inr, sym, subst, refl, ◌∙◌, ◌+◌, ◌^◌, ◌≤◌, arith}
 use Rattle.std.specs.declared.alloc.AllocError.{AllocError}
 use Rattle.std.specs.declared.alloc.Global.{Global}
 use Rattle.admin_answers.proofs.NumberLemmas.{AreBelow, below_more, visible_below}
@@ -23,7 +23,7 @@ use Rattle.recorder.specs.Recording.{session_of}
 use Rattle.recorder.specs.declared.recording.Recording.{Recording}
 use Rattle.recorder.specs.declared.recording.RecordingStatus.{RecordingStatus}
 use Rattle.request_journal.specs.Journal.{request_of, unmatched_of, IsCount, Picks}
-use Rattle.request_journal.specs.Past.{Past, last_number}
+use Rattle.request_journal.specs.Past.{Past}
 use Rattle.request_journal.specs.declared.entry.Entry.{Entry}
 use Rattle.request_journal.specs.declared.mapping.Mapping.{Mapping}
 use Rattle.request_journal.specs.declared.read.BookRead.{BookRead}
@@ -36,7 +36,6 @@ use Rattle.serde_json.specs.Read.{max_depth}
 use Rattle.serde_json.specs.Written.{compact_text}
 use Rattle.shared_book.specs.Reached.{InPastOf, Log}
 use Rattle.shared_book.specs.Reading.{IsRead, IsReadAnswer}
-use Rattle.shared_book.specs.declared.book_read.ReadAnswer.{ReadAnswer}
 use Rattle.shared_book.specs.declared.book_read.ReadAnswer.TheVariants as answer
 use Rattle.shared_book.specs.declared.book_read.Reading.{Reading}
 use Rattle.stub_response.specs.ErrorReply.{json_reply}

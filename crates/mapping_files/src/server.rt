@@ -1,9 +1,9 @@
 // Admin calls to a running server.
 use bytes::Bytes;
+use counted_io::counted::TURN_LIMIT;
 use mapping_model::reply::Reply;
 use mock_request::error::SnapshotError;
 use mock_request::snapshot::Snapshot;
-use counted_io::counted::TURN_LIMIT;
 use proxy_client::error::ProxyError;
 use proxy_client::forward::forward;
 use recorder::error::RecordingError;

@@ -1,9 +1,9 @@
 // One request forwarded to the target that the arguments name.
+use counted_io::counted::TURN_LIMIT;
 use http_header::{HeaderName, HeaderValue};
 use mapping_model::reply::Reply;
 use mock_request::snapshot::Snapshot;
 use proxy_client::client::{Client, SILENCE_SECONDS};
-use counted_io::counted::TURN_LIMIT;
 use proxy_client::error::ProxyError;
 use proxy_client::forward::forward;
 use recorder::target::Target;

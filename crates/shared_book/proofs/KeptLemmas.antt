@@ -15,7 +15,6 @@ use Rattle.shared_book.specs.Reading.{IsRead, IsReadAnswer, IsReadOnce}
 use Rattle.shared_book.specs.Seen.{IsEntered, IsJoined, IsSplit, SeesAll}
 use Rattle.request_journal.specs.declared.read.BookRead.{BookRead}
 use Rattle.shared_book.specs.declared.book_read.ReadAnswer.{ReadAnswer}
-use Rattle.shared_book.specs.declared.book_read.Reading.{Reading}
 use Rattle.shared_book.specs.declared.receipt.Receipt.{Receipt}
 use Rattle.shared_history.specs.Entries.{entry, opening}
 use Rattle.shared_history.specs.History.{HasLeft, IsHistory}

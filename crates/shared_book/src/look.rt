@@ -1,5 +1,5 @@
 // Reading a book.
-ghost use Rattle.std.specs.Prelude.{◌≡◌, IfOk};
+ghost use Rattle.std.specs.Prelude.{IfOk};
 ghost use Rattle.shared_book.specs.Reading.{IsReadAnswer};
 ghost use Rattle.request_journal.specs.declared.read.BookRead.TheVariants as read;
 ghost use Rattle.shared_book.specs.declared.book_read.ReadAnswer.TheVariants as answer;
