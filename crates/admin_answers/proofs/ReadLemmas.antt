@@ -135,7 +135,7 @@ found number matcher list text json past (read.Find asked) says last =
     let below = visible_below (number + 1) request_of past (omega (arith, last)) in
     let made = json (subst (AreBelow (number + 1)) (sym says.0) below) in
     let picks = subst (λ es. Picks (meets matcher) es made.0) says.0 made.1 in
-    (made.0, subst (λ (m : RequestSpec). Picks (meets m) (journal.requests past) made.0) says.1 picks, made.2)
+    (made.0, subst (λ m. Picks (meets m) (journal.requests past) made.0) says.1 picks, made.2)
 found number matcher list text json past asked says last = absurd says
 
 pub counted
@@ -144,7 +144,7 @@ pub counted
     → IsSaid number (answer.Count list matcher) (json_reply 200 text)
 counted number matcher list text json past (read.Count asked) says last =
     let counts = subst (λ es. IsCount (meets matcher) es json.0) says.0 json.1 in
-    (json.0, subst (λ (m : RequestSpec). IsCount (meets m) (journal.requests past) json.0) says.1 counts, json.2)
+    (json.0, subst (λ m. IsCount (meets m) (journal.requests past) json.0) says.1 counts, json.2)
 counted number matcher list text json past asked says last = absurd says
 
 pub scenarios
