@@ -27,6 +27,7 @@ use data_tree::request_data::RequestData;
 use needed_data::needed::Needed;
 use std::alloc::{AllocError, Global};
 use std::marker::Model;
+use template_code::code::Code;
 use template_compile::compiler::compile;
 use template_tree::escape::Escape;
 use template_tree::parser::parse_with;
@@ -124,6 +125,13 @@ impl Program {
         ensures finds { (r r' : Tree) → AreAlike needed.new r r' → FindsSame self.now.source r r' }
     {
         add_code(self.verified.code(), needed);
+    }
+
+    /// Its verified code.
+    pub fn code(&self) -> &Code
+        ensures { result.now ≡ self.now.code }
+    {
+        self.verified.code()
     }
 
     /// How many steps a rendering takes and how many bytes it writes, at most.
