@@ -97,9 +97,10 @@ module _ {name : Book} {so_many : ℕ} (origin : Past) (old new : Sight Past Eve
         counted = omega (arith, seat.counted, counted);
         lawful = entered.lawful;
         dropped = told_on before base told entered seat.dropped more either;
-        receipts = held_kept origin new.seen told own kept receipt joined later (in_entered origin old new receipt entered)
-            keeps go
-            (held_later origin old.seen new.seen (own ∷ joined) (entered_on origin old new receipt entered) seat.receipts);
+        receipts = held_kept origin new.seen told own kept receipt joined later
+            (in_entered origin old new receipt entered) keeps go
+            (held_later origin old.seen new.seen (own ∷ joined) (entered_on origin old new receipt entered)
+            seat.receipts);
       }
 
 -- it has made another, which has one of its parts

@@ -23,8 +23,8 @@ use request_journal::shared_event::SharedEvent;
 use std::alloc::{AllocError, Global};
 use stub_book::book::Book;
 
-/// Compares the numbers of the seats' receipts with the history of a book, which has as many events since the `start` as
-/// they have receipts. The event of each that is held needs no comparison: it is that of a call of the history.
+/// Compares the numbers of the seats' receipts with the history of a book, which has as many events since the `start`
+/// as they have receipts. The event of each that is held needs no comparison: it is that of a call of the history.
 pub(crate) fn compare<L: Origin>(
     book: &Book,
     whole: &History<L>,
