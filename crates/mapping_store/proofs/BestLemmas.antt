@@ -1,5 +1,5 @@
 -- Which of some entries wins over the others, found among those of each key.
-use Rattle.std.proofs.Common.{◌≡◌, ℕ, ◌<◌, ◌≤◌, true, false, Bool, not, List, length, get_or, refl}
+use Rattle.std.proofs.Common.{◌≡◌, ℕ, ◌<◌, ◌≤◌, true, false, Bool, List, length, get_or, refl}
 use Rattle.std.proofs.Common.{sym, ap, subst, ◌∙◌, arith, ◌⊎◌, inl, inr, Option, Some, None}
 use Rattle.std.specs.Cmp.{IsTotalOrder}
 use Rattle.std.specs.List.{AllPairs, AllWithin, HoldsAt}
@@ -15,6 +15,7 @@ use Rattle.mapping_store.proofs.OrderLemmas.{choice_total, key_total, not_beaten
 use Rattle.mapping_store.proofs.RankLemmas.{less_than}
 use Rattle.mapping_store.specs.Inner.Best.{IsBest, IsBestAt, IsBetterOf, IsNone}
 use Rattle.request_match.specs.declared.url_key.UrlKey.{UrlKey}
+use Rattle.request_match.specs.declared.url_key.UrlKey.TheVariants.{Any, Url, UrlPath}
 
 -- ---- a total order
 
@@ -135,14 +136,6 @@ in_keys Less q h = refl
 in_keys Equal q h = refl
 in_keys Greater q h = absurd (true≢false h)
 
-pub from_not_true : (b : Bool) → not b ≡ true → b ≡ false
-from_not_true true h = absurd (false≢true h)
-from_not_true false h = refl
-
-pub from_not_false : (b : Bool) → not b ≡ false → b ≡ true
-from_not_false true h = refl
-from_not_false false h = absurd (true≢false h)
-
 module _ (xs : List Entry) (key : UrlKey) (pairs : AllPairs IsBefore xs) where
   keys : (i j : ℕ) (d : Entry) → i < j → j < length xs
       → is_gt (key_order (get_or xs i d).key (get_or xs j d).key) ≡ false
@@ -161,18 +154,11 @@ module _ (xs : List Entry) (key : UrlKey) (pairs : AllPairs IsBefore xs) where
         ]
       ]
 
-  -- and before those whose keys are greater, the others
-  pub parted_up_to : IsPartitionedBy (λ e. not (is_gt (key_order e.key key))) xs
-  parted_up_to i j d le l no_more =
-      elim (cases_order i j) as (λ _. not (is_gt (key_order (get_or xs i d).key key)) ≡ true) [
-        | inl same ↦ subst (λ k. not (is_gt (key_order (get_or xs k d).key key)) ≡ true) (sym same) no_more
-        | inr other ↦ elim other as (λ _. not (is_gt (key_order (get_or xs i d).key key)) ≡ true) [
-          | inl below ↦ ap not
-              (not_gt_trans key_total (get_or xs i d).key (get_or xs j d).key key (keys i j d below l)
-              (from_not_true (is_gt (key_order (get_or xs j d).key key)) no_more))
-          | inr above ↦ absurd (omega arith)
-        ]
-      ]
+-- and none is less than what asks for no literal URL
+pub none_below_any : (k : UrlKey) → is_lt (key_order k Any) ≡ false
+none_below_any Any = refl
+none_below_any (Url hash) = refl
+none_below_any (UrlPath hash) = refl
 
 -- where a key is neither less nor greater, what is in order is in the order of choice
 in_choice : (r q : Ordering) → is_lt r ≡ false → is_gt r ≡ false → is_gt (ordering_then r q) ≡ false
@@ -181,60 +167,81 @@ in_choice Less q no_less no_more h = absurd (true≢false no_less)
 in_choice Equal q no_less no_more h = h
 in_choice Greater q no_less no_more h = absurd (true≢false no_more)
 
-module _ (entries : List Entry) (key : UrlKey) (start end : ℕ) where
-  pub record IsBounds : Type 0 where
-    pub before : AllWithin (λ e. is_lt (key_order e.key key) ≡ true) entries 0 start
-    pub from : AllWithin (λ e. is_lt (key_order e.key key) ≡ false) entries start (length entries)
-    pub up_to : AllWithin (λ e. is_gt (key_order e.key key) ≡ false) entries 0 end
-    pub beyond : AllWithin (λ e. is_gt (key_order e.key key) ≡ true) entries end (length entries)
+-- the entries before the start have lesser keys, and none after it has
+pub record IsStart (entries : List Entry) (key : UrlKey) (start : ℕ) : Type 0 where
+  pub before : AllWithin (λ e. is_lt (key_order e.key key) ≡ true) entries 0 start
+  pub from : AllWithin (λ e. is_lt (key_order e.key key) ≡ false) entries start (length entries)
 
-  module _ (bounds : IsBounds) where
-    same_key : (a : UrlKey) → a ≡ key → key_order a key ≡ Equal
-    same_key a is = subst (λ b. key_order b key ≡ Equal) (sym is) (tied_itself key_total key)
+module _ (entries : List Entry) (key : UrlKey) (start : ℕ) (is_start : IsStart entries key start)
+    (Meets : Entry → Type 0) where
+  abbrev Passed : Entry → Type 0
+  Passed e = ¬ (Meets e)
 
-    not_before : (k : ℕ) (d : Entry) → (get_or entries k d).key ≡ key → ¬ (k < start)
-    not_before k d is less =
-        false≢true (sym (ap is_lt (same_key (get_or entries k d).key is)) ∙ bounds.before k d (omega arith) less)
+  same_key : (a : UrlKey) → a ≡ key → key_order a key ≡ Equal
+  same_key a is = subst (λ b. key_order b key ≡ Equal) (sym is) (tied_itself key_total key)
 
-    not_beyond : (k : ℕ) (d : Entry) → k < length entries → (get_or entries k d).key ≡ key → ¬ (end ≤ k)
-    not_beyond k d within is more =
-        false≢true (sym (ap is_gt (same_key (get_or entries k d).key is)) ∙ bounds.beyond k d more within)
+  not_greater : (a : UrlKey) → a ≡ key → ¬ (is_gt (key_order a key) ≡ true)
+  not_greater a is greater = false≢true (sym (ap is_gt (same_key a is)) ∙ greater)
 
-    module _ (Meets : Entry → Type 0) where
-      abbrev Passed : Entry → Type 0
-      Passed e = ¬ (Meets e)
+  not_before : (k : ℕ) (d : Entry) → (get_or entries k d).key ≡ key → ¬ (k < start)
+  not_before k d is less =
+      false≢true (sym (ap is_lt (same_key (get_or entries k d).key is)) ∙ is_start.before k d (omega arith) less)
 
-      pub none_of : AllWithin Passed entries start end → IsNone (λ e. e.key ≡ key) Meets entries
-      none_of passed k d within is =
-          let from = not_before k d is in
-          let to = not_beyond k d within is in
-          passed k d (omega (arith, from)) (omega (arith, to))
+  pub none_at_all : AllWithin Passed entries start (length entries) → IsNone (λ e. e.key ≡ key) Meets entries
+  none_at_all passed k d within is =
+      let from = not_before k d is in
+      passed k d (omega (arith, from)) within
 
-      pub best_at : (at : ℕ) → AllPairs IsBefore entries → start ≤ at → at < end → at < length entries
-          → HoldsAt Meets entries at → AllWithin Passed entries start at
-          → IsBestAt (λ e. e.key ≡ key) Meets entries at
-      best_at at in_order from to within meets passed = record {
-        within = within;
-        meets = meets;
-        first = λ k d inside is meets_too.
-            let after_start = not_before k d is in
-            elim (cases_order k at) as (λ _. IsFirst (get_or entries at d) (get_or entries k d)) [
-              | inl same ↦ subst (λ n. IsFirst (get_or entries at d) (get_or entries n d)) (sym same)
-                  (not_beaten_itself (get_or entries at d))
-              | inr other ↦ elim other as (λ _. IsFirst (get_or entries at d) (get_or entries k d)) [
-                | inl below ↦ absurd (passed k d (omega (arith, after_start)) below meets_too)
-                | inr above ↦
-                    let a : Entry = get_or entries at d in
-                    let b : Entry = get_or entries k d in
-                    let no_less : is_lt (key_order a.key b.key) ≡ false =
-                    subst (λ c. is_lt (key_order a.key c) ≡ false) (sym is) (bounds.from at d from within) in
-                    let no_more : is_gt (key_order a.key b.key) ≡ false =
-                    subst (λ c. is_gt (key_order a.key c) ≡ false) (sym is) (bounds.up_to at d (omega arith) to) in
-                    in_choice (key_order a.key b.key) (choice_order a b) no_less no_more
-                    (in_order at k d above inside)
-              ]
-            ];
-      }
+  module _ (in_order : AllPairs IsBefore entries) where
+    -- none has the key from an entry on whose own is greater
+    not_beyond : (at k : ℕ) (d : Entry) → HoldsAt (λ e. is_gt (key_order e.key key) ≡ true) entries at
+        → k < length entries → (get_or entries k d).key ≡ key → ¬ (at ≤ k)
+    not_beyond at k d greater within is more =
+        elim (cases_order at k) as (λ _. ⊥) [
+          | inl same ↦ not_greater (get_or entries at d).key
+              (subst (λ n. (get_or entries n d).key ≡ key) (sym same) is) (greater d)
+          | inr other ↦ elim other as (λ _. ⊥) [
+            | inl below ↦ true≢false
+                (sym (greater d)
+                ∙ subst (λ b. is_gt (key_order (get_or entries at d).key b) ≡ false) is
+                (keys entries key in_order at k d below within))
+            | inr above ↦ absurd (omega arith)
+          ]
+        ]
+
+    pub none_up_to : (at : ℕ) → HoldsAt (λ e. is_gt (key_order e.key key) ≡ true) entries at
+        → AllWithin Passed entries start at → IsNone (λ e. e.key ≡ key) Meets entries
+    none_up_to at greater passed k d within is =
+        let from = not_before k d is in
+        let to = not_beyond at k d greater within is in
+        passed k d (omega (arith, from)) (omega (arith, to))
+
+    pub best_at : (at : ℕ) → start ≤ at → at < length entries
+        → HoldsAt (λ e. is_gt (key_order e.key key) ≡ false) entries at
+        → HoldsAt Meets entries at → AllWithin Passed entries start at
+        → IsBestAt (λ e. e.key ≡ key) Meets entries at
+    best_at at from within no_greater meets passed = record {
+      within = within;
+      meets = meets;
+      first = λ k d inside is meets_too.
+          let after_start = not_before k d is in
+          elim (cases_order k at) as (λ _. IsFirst (get_or entries at d) (get_or entries k d)) [
+            | inl same ↦ subst (λ n. IsFirst (get_or entries at d) (get_or entries n d)) (sym same)
+                (not_beaten_itself (get_or entries at d))
+            | inr other ↦ elim other as (λ _. IsFirst (get_or entries at d) (get_or entries k d)) [
+              | inl below ↦ absurd (passed k d (omega (arith, after_start)) below meets_too)
+              | inr above ↦
+                  let a : Entry = get_or entries at d in
+                  let b : Entry = get_or entries k d in
+                  let no_less : is_lt (key_order a.key b.key) ≡ false =
+                  subst (λ c. is_lt (key_order a.key c) ≡ false) (sym is) (is_start.from at d from within) in
+                  let no_more : is_gt (key_order a.key b.key) ≡ false =
+                  subst (λ c. is_gt (key_order a.key c) ≡ false) (sym is) (no_greater d) in
+                  in_choice (key_order a.key b.key) (choice_order a b) no_less no_more
+                  (in_order at k d above inside)
+            ]
+          ];
+    }
 
 -- ---- all
 

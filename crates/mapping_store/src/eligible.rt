@@ -2,7 +2,7 @@
 ghost use Rattle.std.specs.Prelude.{◌≡◌, ◌↔◌, ◌<◌, ◌≤◌, ⊤, false, length, true, AllPairs, IfOk};
 ghost use Rattle.std.specs.Prelude.{IfSome, IsTrue};
 ghost use Rattle.std.specs.List.{AllWithin};
-ghost use Rattle.std.specs.Ordering.{is_gt, is_lt};
+ghost use Rattle.std.specs.Ordering.{is_lt};
 ghost use Rattle.request_journal.specs.Choice.{IsEligible, IsReady};
 ghost use Rattle.request_match.specs.Matching.{MeetsRequest};
 ghost use Rattle.scenario_core.specs.Scenarios.{state_of};
@@ -89,8 +89,11 @@ fn best_of(
     ensures same_request { request.new ≡ request.old }
 {
     let start = start_of(entries, key);
-    let end = end_of(entries, key);
+    let end = entries.len();
     for i in start..end {
+        if key_order(entries[i].key, key).is_gt() {
+            return Ok(None);
+        }
         if is_eligible(&mut entries[i], defaults, scenarios, request)? {
             return Ok(Some(i));
         }
@@ -98,24 +101,17 @@ fn best_of(
     Ok(None)
 }
 
-// Where the entries with this key begin.
+// Where the entries with this key begin. Those that ask for no literal URL come first.
 fn start_of(entries: &[Entry], key: UrlKey) -> usize
     requires { AllPairs IsBefore entries.now }
     ensures before { AllWithin (λ e. is_lt (key_order e.key key) ≡ true) entries.now 0 result }
     ensures from { AllWithin (λ e. is_lt (key_order e.key key) ≡ false) entries.now result (length entries.now) }
     ensures within { result ≤ length entries.now }
 {
+    if matches!(key, UrlKey::Any) {
+        return 0;
+    }
     entries.partition_point(|entry| key_order(entry.key, key).is_lt())
-}
-
-// Where they end.
-fn end_of(entries: &[Entry], key: UrlKey) -> usize
-    requires { AllPairs IsBefore entries.now }
-    ensures before { AllWithin (λ e. is_gt (key_order e.key key) ≡ false) entries.now 0 result }
-    ensures from { AllWithin (λ e. is_gt (key_order e.key key) ≡ true) entries.now result (length entries.now) }
-    ensures within { result ≤ length entries.now }
-{
-    entries.partition_point(|entry| !key_order(entry.key, key).is_gt())
 }
 
 fn is_eligible(

@@ -3,9 +3,11 @@ pub mod SeenLemmas
 pub mod KeptLemmas
 pub mod HeldLemmas
 pub mod LetGoLemmas
+pub mod HoldLemmas
 pub mod SeatLemmas
 pub mod EndLemmas
 pub mod SettledLemmas
+pub mod EventLemmas
 pub mod ReceiptLemmas
 pub mod CountLemmas
 pub mod RefusalLemmas

@@ -11,6 +11,7 @@ use Rattle.mock_request.specs.Request.{Request}
 use Rattle.request_journal.specs.Past.{Past}
 use Rattle.request_journal.specs.declared.input.BookInput.{BookInput}
 use Rattle.shared_book.proofs.HeldLemmas.{lets_go_weaker}
+use Rattle.shared_book.proofs.HoldLemmas.{receipt_later}
 use Rattle.shared_book.proofs.LetGoLemmas.{has_let_go_none, has_let_go_twice, let_go_then}
 use Rattle.shared_book.proofs.ReachedLemmas.{dropped_later}
 use Rattle.shared_book.proofs.SeenLemmas.{entered_on, sees_on, split_on}
@@ -31,18 +32,6 @@ use Rattle.shared_history.proofs.Prefixes.{prefix_self, prefix_trans}
 use Rattle.shared_history.specs.Entries.{entry}
 use Rattle.shared_history.specs.declared.entry.Deed.TheVariants.{Called}
 use Rattle.stub_book.specs.declared.error.BookError.{BookError}
-
--- receipts of a beginning of the log are those of the log
-receipt_later : (origin : Past) (seat : ℕ) (old new : Log) (receipt : Receipt) → IsPrefix old new
-    → IsReceipt origin seat old receipt → IsReceipt origin seat new receipt
-receipt_later origin seat old new receipt on is = record {
-  before = is.before;
-  entered = prefix_trans (is.before ++ entry seat (Called receipt.event) ∷ []) old new is.entered on;
-  past = is.past;
-  past_of = is.past_of;
-  next = is.next;
-  number = is.number;
-}
 
 told_later : (origin : Past) (seat : ℕ) (old new : Log) (calls : List Call) (rs : List Receipt) → IsPrefix old new
     → AreReceiptsOf origin seat old calls rs → AreReceiptsOf origin seat new calls rs

@@ -1,5 +1,5 @@
 -- What a seat keeps, once it has seen more.
-use Rattle.std.proofs.Common.{◌≡◌, ℕ, ◌+◌, ◌-◌, ◌<◌, ◌≤◌, ◌⊎◌, inr, List, ◌∷◌, ap, sym, subst, ◌∙◌, arith, length}
+use Rattle.std.proofs.Common.{◌≡◌, ℕ, ◌+◌, ◌-◌, ◌<◌, ◌≤◌, ◌⊎◌, inr, List, ◌∷◌, ◌++◌, ap, sym, subst, ◌∙◌, arith, length}
 use Rattle.std.proofs.Common.{Result, Ok, Err, IfErr, IsErrAnd}
 use Rattle.std.specs.List.{AllZip}
 use mathlib.Core.List.{IsPrefix}
@@ -7,12 +7,13 @@ use Rattle.logbook.specs.Pages.{Book}
 use Rattle.request_journal.specs.Past.{Past}
 use Rattle.request_journal.specs.declared.event.Event.{Event}
 use Rattle.shared_book.proofs.HeldLemmas.{count_kept}
+use Rattle.shared_book.proofs.HoldLemmas.{held_joined, held_kept, held_later, in_entered}
 use Rattle.shared_book.proofs.LetGoLemmas.{dropped_either}
 use Rattle.shared_book.proofs.ReachedLemmas.{dropped_later}
 use Rattle.shared_book.proofs.SeenLemmas.{entered_on, joined_on, left_on, sees_on, split_on}
 use Rattle.error_code.specs.declared.error_code.ErrorCode.{ErrorCode}
 use Rattle.request_journal.specs.declared.input.BookInput.{BookInput}
-use Rattle.shared_book.specs.Held.{Held, IsDropped, LetsGo, all_numbers, sight}
+use Rattle.shared_book.specs.Held.{Held, HoldReceipts, IsDropped, LetsGo, all_numbers, filled, sight}
 use Rattle.shared_book.specs.Inner.Gains.{Keeps}
 use Rattle.shared_book.specs.Inner.Seat.{IsSeat}
 use Rattle.shared_book.specs.Reached.{InPastOf, IsLawful, Log}
@@ -35,6 +36,7 @@ module _ (origin : Past) (all share amount parts count told : ℕ) (lines : List
     counted = seat.counted;
     lawful = lawful;
     dropped = dropped_later origin old new told on seat.dropped;
+    receipts = held_later origin old new lines on seat.receipts;
   }
 
   -- it has caught up
@@ -62,6 +64,10 @@ seat_refused origin old new all share amount parts count told later_share later_
           (sym same);
       lawful = sees.lawful;
       dropped = dropped_later origin old.seen new.seen told (sees_on origin old new sees) seat.dropped;
+      receipts = subst (λ (rs : List Receipt).
+          HoldReceipts origin new.seen (record { let_go = let_go; held = rs } ∷ joined)) (sym same)
+          (held_later origin old.seen new.seen (record { let_go = let_go; held = held } ∷ joined)
+          (sees_on origin old new sees) seat.receipts);
     }
 
 -- it has made a call, and has kept the receipt
@@ -91,6 +97,10 @@ module _ {name : Book} {so_many : ℕ} (origin : Past) (old new : Sight Past Eve
         counted = omega (arith, seat.counted, counted);
         lawful = entered.lawful;
         dropped = told_on before base told entered seat.dropped more either;
+        receipts = held_kept origin new.seen told own kept receipt joined later
+            (in_entered origin old new receipt entered) keeps go
+            (held_later origin old.seen new.seen (own ∷ joined) (entered_on origin old new receipt entered)
+            seat.receipts);
       }
 
 -- it has made another, which has one of its parts
@@ -108,6 +118,7 @@ seat_split origin old new made all share amount parts count told later_share lat
       counted = seat.counted;
       lawful = split.lawful;
       dropped = dropped_later origin old.seen new.seen told (split_on origin old new made split) seat.dropped;
+      receipts = held_later origin old.seen new.seen lines (split_on origin old new made split) seat.receipts;
     }
 
 -- it has taken over another
@@ -118,6 +129,15 @@ told_joined origin old other new before others told joined one two either =
     dropped_either origin new.seen before others told
     (dropped_later origin old.seen new.seen before (joined_on origin old new other joined) one)
     (dropped_later origin other.seen new.seen others (left_on origin old new other joined) two) either
+
+pub held_taken : {name : Book} (origin : Past) (old other new : Sight Past Event) (last : ℕ) (own now : Line)
+    (lines others later : List Line) → IsJoined origin name old other new → LetsGo (λ n. n ≤ last) own now
+    → AllZip (LetsGo (λ n. n ≤ last)) (lines ++ filled others) later → HoldReceipts origin old.seen (own ∷ lines)
+    → HoldReceipts origin other.seen others → HoldReceipts origin new.seen (now ∷ later)
+held_taken origin old other new last own now lines others later joined go all mine theirs =
+    held_joined origin new.seen (λ n. n ≤ last) own now lines others later go all
+    (held_later origin old.seen new.seen (own ∷ lines) (joined_on origin old new other joined) mine)
+    (held_later origin other.seen new.seen others (left_on origin old new other joined) theirs)
 
 -- ---- what contracts see
 

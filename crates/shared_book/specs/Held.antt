@@ -4,7 +4,7 @@ use Rattle.std.specs.List.{AllZip, flat_map, sum_by}
 use Rattle.request_journal.specs.Past.{Past}
 use Rattle.request_journal.specs.declared.event.Event.{Event}
 use Rattle.shared_book.specs.Reached.{IsReached, Log}
-use Rattle.shared_book.specs.Receipts.{Line, numbers, numbers_of}
+use Rattle.shared_book.specs.Receipts.{IsReceiptIn, Line, numbers, numbers_of}
 use Rattle.shared_book.specs.declared.receipt.Receipt.{Receipt}
 use Rattle.shared_history.specs.Sight.{Sight}
 
@@ -51,6 +51,10 @@ receipts_of lines = flat_map (λ l. l.held) lines
 
 abbrev pub all_numbers : List Line → List ℕ
 all_numbers lines = flat_map numbers_of lines
+
+-- each receipt that one of these lines holds is that of a call of the log
+abbrev pub HoldReceipts : Past → Log → List Line → Type 0
+HoldReceipts origin log lines = All (IsReceiptIn origin log) (receipts_of lines)
 
 -- the lines that have a receipt
 abbrev pub is_filled : List ℕ → Bool

@@ -20,6 +20,11 @@ pub record IsReceipt (origin : Past) (seat : ℕ) (log : Log) (receipt : Receipt
   pub next : IsNext past receipt.event
   pub number : receipt.number ≡ last_number past + 1
 
+-- that of a call of some seat
+pub record IsReceiptIn (origin : Past) (log : Log) (receipt : Receipt) : Type 0 where
+  pub seat : ℕ
+  pub is : IsReceipt origin seat log receipt
+
 abbrev pub numbers : List Receipt → List ℕ
 numbers receipts = map (λ r. r.number) receipts
 

@@ -1,13 +1,12 @@
 -- What is said of all seats of a book together, once each of them is there.
-use Rattle.std.specs.Prelude.{◌≡◌, ◌≢◌, ◌⊎◌, ◌+◌, ◌<◌, ◌≤◌, ℕ, List, length, Option}
-use Rattle.std.specs.Prelude.{All, Any, IfSome, IsSomeAnd, IsPermutation}
+use Rattle.std.specs.Prelude.{◌≡◌, ◌≢◌, ◌⊎◌, ◌+◌, ◌<◌, ◌≤◌, ℕ, List, length}
+use Rattle.std.specs.Prelude.{All, Any, IfSome, IsPermutation}
 use Rattle.std.specs.List.{range_with_len}
 use mathlib.Core.List.{IsPrefix}
 use Rattle.std.specs.List.Sorted.{IsNonDecreasingBy}
 use Rattle.request_journal.specs.Journal.{event_at}
 use Rattle.request_journal.specs.Legal.{IsLegal}
 use Rattle.request_journal.specs.Past.{Past, last_number}
-use Rattle.request_journal.specs.declared.event.Event.{Event}
 use Rattle.shared_book.specs.Held.{Held, all_lists, all_numbers, all_parts, receipts_of}
 use Rattle.shared_book.specs.Reached.{IsLawful, IsPastOf, Log, MayFollow}
 use Rattle.shared_history.specs.Entries.{events}
@@ -51,12 +50,11 @@ IsMiscounted start numbers number =
     (IsDue start numbers number × (count_of number numbers ≢ 1))
     ⊎ (¬ (IsDue start numbers number) × (0 < count_of number numbers))
 
--- These lines aren't those of one history, as this number shows: it is miscounted; its receipt has another event than
--- is kept; it isn't above the one before it in a line; or a line has let go of its event, which the past didn't drop.
-abbrev pub IsMismatch : Past → Past → List Line → ℕ → Option Event → Type 0
-IsMismatch origin past lines number kept =
+-- These lines aren't those of one history, as this number shows: it is miscounted; it isn't above the one before it in
+-- a line; or a line has let go of its event, which the past didn't drop.
+abbrev pub IsMismatch : Past → Past → List Line → ℕ → Type 0
+IsMismatch origin past lines number =
     IsMiscounted (last_number origin) (all_numbers lines) number
-    ⊎ IsSomeAnd kept (λ event. Any (λ r. (r.number ≡ number) × (r.event ≢ event)) (receipts_of lines))
     ⊎ Any (Falls number) lines
     ⊎ Any (LetGoAbove past.base.number number) lines
 
@@ -65,7 +63,7 @@ abbrev pub IsUnsettled : Past → ℕ → Past → List Held → SettleRefusal �
 IsUnsettled origin parts past seats SeatsMissing = all_parts seats ≢ parts
 IsUnsettled origin parts past seats (Mismatch number kept) =
     (all_parts seats ≡ parts) × (kept ≡ event_at past number)
-    × IsMismatch origin past (all_lists seats) number kept
+    × IsMismatch origin past (all_lists seats) number
 IsUnsettled origin parts past seats OutOfMemory = all_parts seats ≡ parts
 
 -- ---- of seats

@@ -1,11 +1,10 @@
-// Receipts beside a history.
-ghost use Rattle.std.specs.Prelude.{◌≡◌, ◌≢◌, ◌+◌, ◌<◌, ◌^◌, length, All, Any, IfErr, IfOk};
-ghost use Rattle.std.specs.Prelude.{IfSome, IsPermutation, IsSomeAnd, MatchOption};
+// The receipts of all seats beside a history, of whose calls they are.
+ghost use Rattle.std.specs.Prelude.{◌≡◌, ◌+◌, ◌<◌, ◌^◌, length, IfErr, IfOk, IsPermutation, MatchOption};
 ghost use Rattle.std.specs.List.{range_with_len};
 ghost use Rattle.std.specs.List.Sorted.{IsNonDecreasingBy};
 ghost use Rattle.request_journal.specs.Journal.{event_at};
 ghost use Rattle.request_journal.specs.Past.{last_number};
-ghost use Rattle.shared_book.specs.Held.{all_lists, all_numbers, all_parts};
+ghost use Rattle.shared_book.specs.Held.{HoldReceipts, all_lists, all_numbers, all_parts};
 ghost use Rattle.shared_book.specs.Inner.Refusal.{IsRefusalAt};
 ghost use Rattle.shared_book.specs.Reached.{IsLawful, IsPastOf};
 ghost use Rattle.shared_book.specs.Settled.{IsMiscounted, IsSettled, IsUnsettled};
@@ -24,8 +23,8 @@ use request_journal::shared_event::SharedEvent;
 use std::alloc::{AllocError, Global};
 use stub_book::book::Book;
 
-/// Compares the receipts of seats with the history of a book, which has as many events since the `start` as they have
-/// receipts.
+/// Compares the numbers of the seats' receipts with the history of a book, which has as many events since the `start`
+/// as they have receipts. The event of each that is held needs no comparison: it is that of a call of the history.
 pub(crate) fn compare<L: Origin>(
     book: &Book,
     whole: &History<L>,
@@ -37,6 +36,7 @@ pub(crate) fn compare<L: Origin>(
     requires past_of { IsPastOf L.origin whole.now book.now }
     requires start { start ≡ last_number L.origin }
     requires counted { last_number book.now ≡ start + length (all_numbers (all_lists seats.now)) }
+    requires held { HoldReceipts L.origin whole.now (all_lists seats.now) }
     requires parts { all_parts seats.now ≡ L.parts }
     ensures settled { IfOk result (IsSettled L.origin whole.now book.now (all_lists seats.now)) }
     ensures why { IfErr result (IsUnsettled L.origin L.parts book.now seats.now) }
@@ -54,9 +54,6 @@ pub(crate) fn compare<L: Origin>(
         Ok(receipts) => sorted(receipts),
         Err(_error) => return Err(SettleRefusal::OutOfMemory),
     };
-    if let Some(number) = differing(receipts.as_slice(), book.history()) {
-        return Err(mismatch(book, number));
-    }
     Ok(Settled { events, receipts })
 }
 
@@ -102,23 +99,6 @@ fn miscounted_in<L: Origin>(
 {
     let numbers = sorted_numbers(gather_numbers(alloc, seats)?);
     Ok(miscounted(numbers.as_slice(), start))
-}
-
-/// The number of a receipt that has another event than the history keeps.
-pub(crate) fn differing(receipts: &[Receipt], history: &history::History) -> Option<u64>
-    ensures { MatchOption result
-        (All (λ r. IfSome (event_at history.now.past r.number) (λ event. r.event ≡ event)) receipts.now)
-        (λ n. IsSomeAnd (event_at history.now.past n)
-        (λ event. Any (λ r. (r.number ≡ n) × (r.event ≢ event)) receipts.now)) }
-{
-    for receipt in receipts {
-        if let Some(kept) = history.event(receipt.number) {
-            if !kept.same(&receipt.event) {
-                return Some(receipt.number);
-            }
-        }
-    }
-    None
 }
 
 /// A copy of the event that the history keeps under the number. Takes no memory.

@@ -1,7 +1,7 @@
 //! One book for several threads. A lock keeps it, each accepted call is one event under it, and who makes calls has a
-//! seat, which keeps a receipt for each. Once all seats are there, `settle` compares their receipts with the book's
-//! history: they are those of one history, none missing or doubled, each the event that the history keeps under its
-//! number. Of events that a checkpoint dropped only the numbers are compared.
+//! seat, which keeps a receipt for each. Once all seats are there, `settle` compares the numbers of their receipts with
+//! the book's history: they are those of one history, none missing or doubled, and each has the event that the history
+//! keeps under its number.
 #![tactic(auto)]
 
 mod audit;

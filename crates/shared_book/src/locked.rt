@@ -3,7 +3,7 @@ ghost use Rattle.std.specs.Prelude.{◌≡◌, ◌+◌, ◌<◌, ◌≤◌, ◌�
 ghost use Rattle.request_journal.specs.Input.{IsAsked};
 ghost use Rattle.request_journal.specs.Past.{last_number};
 ghost use Rattle.request_journal.specs.declared.limits.TheConstants.{NUMBER_LIMIT};
-ghost use Rattle.shared_book.specs.Held.{IsDropped};
+ghost use Rattle.shared_book.specs.Held.{HoldReceipts, IsDropped, all_lists};
 ghost use Rattle.shared_book.specs.Inner.Ends.{Ends, HaveAgreed};
 ghost use Rattle.shared_book.specs.Reading.{IsRead, IsReadOnce};
 ghost use Rattle.shared_book.specs.Reached.{InPastOf, IsLawful, IsPastOf, MayFollow};
@@ -305,9 +305,10 @@ fn enter<L: Origin, R: Wait>(
     entered(book, changed)
 }
 
-// Each seat has seen a beginning of the history.
+// Each seat has seen a beginning of the history, and the receipts that they hold are of its calls.
 fn cover<L: Origin, R: Wait>(rt: &R, history: &History<L>, seats: &[Seat<L>])
     ensures beginnings { HaveSeen history.now seats.now }
+    ensures receipts { HoldReceipts L.origin history.now (all_lists seats.now) }
     ensures was_seen { IsSeen MayFollow L.book history.now }
 {
     history.front();

@@ -1,6 +1,6 @@
 // A seat, by which calls are made on a shared book.
 ghost use Rattle.std.specs.Prelude.{◌≡◌, ◌-◌, ◌^◌, ◌<◌, length, IfErr, IfOk, OnOk, ⊤};
-ghost use Rattle.shared_book.specs.Held.{HasLetGo, new_seat, sight, with_seat};
+ghost use Rattle.shared_book.specs.Held.{HasLetGo, HoldReceipts, lists, new_seat, sight, with_seat};
 ghost use Rattle.shared_book.specs.Inner.Gains.{Gains};
 ghost use Rattle.shared_book.specs.Lent.{LendsServed, LendsApplied};
 ghost use Rattle.request_journal.specs.Input.{IsAsked};
@@ -144,13 +144,15 @@ impl<L: Origin> Seat<L> {
         self.parts
     }
 
-    /// What it has seen of the history, whose calls lead to a past.
+    /// What it has seen of the history, whose calls lead to a past. Each receipt that it holds is that of one of these
+    /// calls.
     #[tactic(auto, using(crate::proofs::ReachedLemmas::lawful_past))]
     pub fn front(&self) -> Front<L>
         ensures value { result ≡ self.now.seen }
         ensures lawful { IsLawful L.origin result }
         ensures seen { IsSeen MayFollow L.book self.now.seen }
         ensures past { (past : Past) × IsPastOf L.origin self.now.seen past }
+        ensures receipts { HoldReceipts L.origin self.now.seen (lists self.now) }
     {
         self.place.front()
     }

@@ -19,8 +19,8 @@ pub struct SettleError<L: Origin> {
     pub alone: Option<Seat<L>>,
 }
 
-/// Compares the receipts of all seats with the book's history. Where they are those of its calls, the seats leave, the
-/// history is over, and the receipts are given by their numbers; else book and seats are handed back.
+/// Compares the numbers of all seats' receipts with the book's history. Where they are those of its calls, the seats
+/// leave, the history is over, and the receipts are given by their numbers; else book and seats are handed back.
 pub fn settle<L: Origin, R: Wait>(
     rt: &R,
     alloc: Global,

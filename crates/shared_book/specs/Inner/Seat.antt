@@ -2,7 +2,7 @@
 use Rattle.std.specs.Prelude.{◌≡◌, ◌<◌, ◌^◌, ℕ, List, [], ◌∷◌, length, map}
 use Rattle.std.specs.List.{flat_map}
 use Rattle.request_journal.specs.Past.{Past}
-use Rattle.shared_book.specs.Held.{IsDropped, all_numbers}
+use Rattle.shared_book.specs.Held.{HoldReceipts, IsDropped, all_numbers}
 use Rattle.shared_book.specs.Reached.{IsLawful, Log}
 use Rattle.shared_book.specs.Receipts.{Line}
 use Rattle.shared_book.specs.declared.pile.Pile.{Pile}
@@ -27,7 +27,8 @@ abbrev pub lines_in : List Pile → List Line
 lines_in piles = flat_map lines_of piles
 
 -- The share has the seat's parts, of which there is one at least, and an entry for each receipt. What was seen is a
--- history of this book, in which a checkpoint has dropped the events up to the number that the seat was told.
+-- history of this book, in which a checkpoint has dropped the events up to the number that the seat was told, and of
+-- whose calls the receipts are that are held.
 pub record IsSeat (origin : Past) (all_parts share_parts share_amount parts count told : ℕ) (seen : Log)
     (lines : List Line) : Type 0 where
   pub same_parts : share_parts ≡ parts
@@ -37,3 +38,4 @@ pub record IsSeat (origin : Past) (all_parts share_parts share_amount parts coun
   pub counted : count ≡ length (all_numbers lines)
   pub lawful : IsLawful origin seen
   pub dropped : IsDropped origin seen told
+  pub receipts : HoldReceipts origin seen lines

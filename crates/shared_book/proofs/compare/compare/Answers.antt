@@ -1,12 +1,12 @@
-use Rattle.std.proofs.Common.{◌≡◌, ℕ, ◌+◌, List, All, length, IfSome, ap, ◌∙◌, subst}
+use Rattle.std.proofs.Common.{◌≡◌, ℕ, ◌+◌, List, All, length, ap, ◌∙◌, subst}
 use Rattle.std.proofs.lemmas.List.Elements.{All-weaker}
 use Rattle.std.specs.List.{range_with_len}
 use Rattle.std.specs.List.Sorted.{IsPermutation}
 use Rattle.std.specs.Prelude.{MatchOption, Option}
-use Rattle.request_journal.specs.Journal.{event_at}
 use Rattle.request_journal.specs.Past.{Past, last_number}
-use Rattle.shared_book.proofs.RefusalLemmas.{unsettled_differing, unsettled_miscounted}
-use Rattle.shared_book.specs.Held.{all_lists, all_numbers}
+use Rattle.shared_book.proofs.EventLemmas.{events_are_kept}
+use Rattle.shared_book.proofs.RefusalLemmas.{unsettled_miscounted}
+use Rattle.shared_book.specs.Held.{all_lists, all_numbers, receipts_of}
 use Rattle.shared_book.specs.Inner.Misplaced.{IsWellPlaced}
 use Rattle.shared_book.specs.Receipts.{IsRising, LetGoUpTo, Line}
 use Rattle.shared_book.specs.Settled.{IsMiscounted}
@@ -24,14 +24,6 @@ returns-in-Ok-Some-clause-why g c =
     (IsMiscounted c.args.start (all_numbers (all_lists c.args.seats.now)))) c.in-Ok-Some.field-0-is
     c.in-Ok-Some.ensures)
 
-pub returns-in-Some-differing-clause-why : goal.returns-in-Some-differing-clause-why
-returns-in-Some-differing-clause-why g c =
-    unsettled_differing g.L.Origin.origin g.L.Ledger.parts c.args.book.now c.args.seats.now
-    c.in-Some-differing.number c.mismatch-in-Some-differing.result c.requires.parts
-    c.mismatch-in-Some-differing.ensures c.in-Ok.receipts.items c.sorted-receipts.result.items
-    c.as_slice.result.now c.history.result.now.past c.in-Ok.ensures c.sorted-receipts.ensures.moved
-    c.as_slice.ensures.value c.history.ensures c.in-Some-differing.ensures
-
 pub returns-clause-settled : goal.returns-clause-settled
 returns-clause-settled g c =
     let origin : Past = g.L.Origin.origin in
@@ -42,6 +34,8 @@ returns-clause-settled g c =
     let start : c.args.start ≡ last_number origin = c.requires.start in
     let placed : All (IsWellPlaced past.base.number) lines =
     subst (λ (b : ℕ). All (IsWellPlaced b) lines) c.base_of.ensures c.in_default.ensures in
+    let moved : IsPermutation (receipts_of lines) rs =
+    subst (λ (l : List Receipt). IsPermutation l rs) c.in-Ok.ensures c.sorted-receipts.ensures.moved in
     record {
       lawful = c.requires.lawful;
       past_of = c.requires.past_of;
@@ -57,12 +51,7 @@ returns-clause-settled g c =
       rising = All-weaker (IsWellPlaced past.base.number) IsRising (λ line well. well.0) lines placed;
       let_go = All-weaker (IsWellPlaced past.base.number) (LetGoUpTo past.base.number) (λ line well. well.1) lines
           placed;
-      held = subst (λ (l : List Receipt). IsPermutation l rs) c.in-Ok.ensures c.sorted-receipts.ensures.moved;
+      held = moved;
       ordered = c.sorted-receipts.ensures.sorted;
-      kept =
-          subst (λ (l : List Receipt). All (λ r. IfSome (event_at past r.number) (λ event. r.event ≡ event)) l)
-          c.as_slice.ensures.value
-          (subst (λ (p : Past). All
-          (λ r. IfSome (event_at p r.number) (λ event. r.event ≡ event)) c.as_slice.result.now)
-          c.history.ensures c.in_default-differing.ensures);
+      kept = events_are_kept origin past c.args.whole.now lines rs c.requires.past_of c.requires.held moved;
     }

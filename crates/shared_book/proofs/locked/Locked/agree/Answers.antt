@@ -1,8 +1,13 @@
-use Rattle.std.proofs.Common.{arith}
+use Rattle.std.proofs.Common.{List, arith, subst, sym}
 use Rattle.shared_book.proofs.SettledLemmas.{are_all, are_unsettled, have_agreed, not_all, why_unsettled}
-use Rattle.shared_book.specs.Held.{all_parts}
+use Rattle.shared_book.specs.Held.{Held, HoldReceipts, all_lists, all_parts}
 use Rattle.shared_book.specs.declared.settled.SettleRefusal.TheVariants.{SeatsMissing}
 use Rattle.shared_book.proofs.locked.Locked.agree.Goals as goal
+
+pub compare-requires-clause-held : goal.compare-requires-clause-held
+compare-requires-clause-held g c =
+    subst (λ (seats : List Held). HoldReceipts g.L.Origin.origin c.self.inside.history (all_lists seats))
+    (sym c.audit.ensures.same_seats) c.cover.ensures.receipts
 
 pub returns-then-not-have_parts-clause-why : goal.returns-then-not-have_parts-clause-why
 returns-then-not-have_parts-clause-why g c =

@@ -2,7 +2,7 @@ use Rattle.std.proofs.Common.{◌≡◌, ◌+◌, ◌≤◌, ◌∷◌, ◌++◌
 use Rattle.std.specs.List.{AllZip}
 use Rattle.shared_book.proofs.HeldLemmas.{count_joined}
 use Rattle.shared_book.proofs.LetGoLemmas.{let_go_joined}
-use Rattle.shared_book.proofs.SeatLemmas.{told_joined}
+use Rattle.shared_book.proofs.SeatLemmas.{held_taken, told_joined}
 use Rattle.shared_book.specs.Held.{Held, HasLetGo, LetsGo, all_numbers, filled, with_seat}
 use Rattle.shared_book.specs.Inner.Seat.{line_of, lines_in}
 use Rattle.shared_book.specs.Receipts.{Line}
@@ -36,6 +36,9 @@ invariant_of-self-2 g c =
       dropped = told_joined g.L.Origin.origin c.self.inside.place c.other.inside.place c.join.new.place
           c.self.inside.lines.told c.other.inside.lines.told last c.join.ensures mine.dropped others.dropped
           c.take_over.ensures.told;
+      receipts = held_taken g.L.Origin.origin c.self.inside.place c.other.inside.place c.join.new.place last
+          (line_of c.self.inside.lines.own) (line_of c.take_over.new.self.own) lines other new c.join.ensures
+          c.take_over.ensures.own joined mine.receipts others.receipts;
     }
 
 pub returns-clause-ok : goal.returns-clause-ok

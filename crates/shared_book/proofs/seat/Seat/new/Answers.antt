@@ -1,4 +1,5 @@
 use Rattle.std.proofs.Common.{◌≡◌, ◌∷◌, [], List, ap, length, subst, sym}
+use Rattle.shared_book.proofs.HoldLemmas.{held_none}
 use Rattle.shared_book.proofs.ReachedLemmas.{dropped_none}
 use Rattle.shared_book.specs.Held.{IsDropped, all_numbers}
 use Rattle.shared_book.specs.Inner.Seat.{line_of, lines_in}
@@ -19,4 +20,6 @@ invariant_of-result g c =
       lawful = c.requires.lawful;
       dropped = subst (IsDropped g.L.Origin.origin c.args.place.seen) (sym c.new.ensures.told)
           (dropped_none g.L.Origin.origin c.args.place.seen);
+      receipts = held_none g.L.Origin.origin c.args.place.seen
+          (line_of c.new.result.own ∷ lines_in c.new.result.joined.items) none;
     }
