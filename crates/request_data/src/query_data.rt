@@ -13,6 +13,9 @@ use data_tree::data::Data;
 use mock_request::snapshot::Snapshot;
 use std::alloc::{AllocError, Global};
 
+// Few queries have more names. Room for more is made as they come.
+const USUAL_NAMES: usize = 16;
+
 /// The decoded names in byte order, each with its first value and all its values. None where the URL has no query.
 pub(crate) fn query_data(alloc: Global, snapshot: &Snapshot) -> Result<Data, AllocError>
     ensures { IfOk result (λ made. view made ≡ grouped (query_pairs snapshot.now.url)) }
@@ -28,7 +31,7 @@ pub(crate) fn query_data(alloc: Global, snapshot: &Snapshot) -> Result<Data, All
 fn form_runs(alloc: Global, form: &str) -> Result<Vec<(String, Vec<String>)>, AllocError>
     ensures { IfOk result (λ runs. pairs_of_runs runs.items ≡ map text_pair (parse form.now)) }
 {
-    let mut runs = Vec::new(alloc);
+    let mut runs = Vec::with_capacity(alloc, USUAL_NAMES)?;
     let mut last: &[u8] = &[];
     let mut values = Vec::new(alloc);
     for (name, value) in form_urlencoded::raw_pairs(form.as_bytes()) {
@@ -62,6 +65,9 @@ fn push_run(
 fn decoded(alloc: Global, encoded: &[u8]) -> Result<String, AllocError>
     ensures { IfOk result (λ text. string_bytes text ≡ utf8_lossy (decode encoded.now)) }
 {
+    if encoded.is_empty() {
+        return Ok(String::new(alloc));
+    }
     if has_no_escape(encoded) {
         if let Ok(text) = String::from_utf8(with_spaces(alloc, encoded)?) {
             return Ok(text);
@@ -81,10 +87,17 @@ fn with_spaces(alloc: Global, encoded: &[u8]) -> Result<Vec<u8>, AllocError>
     ensures { IfOk result (λ made. made.items ≡ map plus_to_space encoded.now) }
 {
     let mut bytes = Vec::from_slice(alloc, encoded)?;
+    put_spaces(&mut bytes);
+    Ok(bytes)
+}
+
+// Puts a space for each `+`. Over a slice it takes many bytes at a time.
+fn put_spaces(bytes: &mut [u8])
+    ensures { bytes.new ≡ map plus_to_space bytes.old }
+{
     for index in 0..bytes.len() {
         bytes[index] = plus_to_space(bytes[index]);
     }
-    Ok(bytes)
 }
 
 fn plus_to_space(byte: u8) -> u8
