@@ -1,11 +1,9 @@
 -- Replies that a call gives, or would give if it had the memory.
-use Rattle.std.proofs.Common.{◌≡◌, ℕ, List, Ok, Err, inl, refl, sym, subst}
+use Rattle.std.proofs.Common.{◌≡◌, Ok, Err, inl, refl, sym, subst}
 use Rattle.std.specs.Prelude.{Result, IfOk, MatchResult}
-use Rattle.http.specs.declared.response.Response.{Response}
 use Rattle.answering.specs.Inner.Outcome.{reply_in}
-use Rattle.answering.specs.Inner.Sent.{HasBegun, HasReply, IsBegunOf}
+use Rattle.answering.specs.Inner.Sent.{HasBegun, IsBegunOf}
 use Rattle.answering.specs.Reason.{IsRefusalReply}
-use Rattle.answering.specs.Reply.{IsResponseOf}
 use Rattle.answering.specs.declared.admin_answer.AdminOutcome.{AdminOutcome}
 use Rattle.answering.specs.declared.begun.Begun.{Begun}
 use Rattle.answering.specs.declared.begun.Begun.TheVariants.{Answered, Refused, ToForward, ToRender}
@@ -44,12 +42,6 @@ begun_of P F R reply is (Ok (Refused refused)) h = (reply, is, h)
 begun_of P F R reply is (Ok (ToForward forward)) h = absurd h
 begun_of P F R reply is (Ok (ToRender rendering)) h = absurd h
 begun_of P F R reply is (Err error) h = (reply, is)
-
--- the same, where nothing is asked of an error
-pub of_right : {E : Type 0} (P : Reply → Type 0) (reply : Reply) (result : Result (Response (List ℕ)) E)
-    → P reply → IfOk result (IsResponseOf reply) → IfOk result (HasReply P)
-of_right P reply (Ok response) is h = (reply, is, h)
-of_right P reply (Err error) is h = tt
 
 -- what begins in one sense begins in another
 pub begun_weaker : {E : Type 0} (P Q : Reply → Type 0) (F G : Forward → Type 0) (R S : Rendering → Type 0)

@@ -2,6 +2,9 @@
 ghost use Rattle.std.specs.Prelude.{◌≡◌, IfErr, IfOk};
 ghost use Rattle.http_messages.specs.declared.error.ServiceError.TheVariants.{OutOfMemory as NoMemory};
 ghost use Rattle.answering.specs.Answering.{Begins, IsNotBegun};
+ghost use Rattle.answering.specs.Inner.Sent.{IsBegunOf};
+ghost use Rattle.error_code.specs.declared.error_code.ErrorCode.TheVariants.{OutOfMemory};
+ghost use Rattle.stub_response.specs.ErrorReply.{error_reply};
 
 use crate::begin_message::begin_message;
 use crate::begun::Begun;
@@ -36,9 +39,17 @@ pub fn begin<L: Origin, R: Wait, G: Gate, C: Clock>(
 {
     match begin_message(rt, alloc, site, seat, message) {
         Ok(begun) => Ok(begun),
-        Err(_error) => {
-            let response = error_response(alloc, 503, ErrorCode::OutOfMemory)?;
-            Ok(Begun::Answered(response))
-        }
+        Err(_error) => no_memory(alloc),
     }
+}
+
+// The answer where there was no memory to write another. Not inlined: a function clears all its locals when it is
+// entered, and most messages need none of these.
+#[inline(never)]
+fn no_memory(alloc: Global) -> Result<Begun, ServiceError>
+    ensures ok { IfOk result (IsBegunOf (error_reply 503 OutOfMemory)) }
+    ensures err { IfErr result (λ error. error ≡ NoMemory) }
+{
+    let response = error_response(alloc, 503, ErrorCode::OutOfMemory)?;
+    Ok(Begun::Answered(response))
 }

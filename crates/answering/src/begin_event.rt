@@ -1,21 +1,18 @@
 // Requests that were served.
 ghost use Rattle.std.specs.Prelude.{◌≡◌, IfOk};
-ghost use Rattle.answering.specs.Inner.Sent.{HasBegun, IsForwardOf, IsRenderingOf};
-ghost use Rattle.answering.specs.Reply.{IsResponseOf};
+ghost use Rattle.answering.specs.Inner.Sent.{HasBegun, IsBegunOf, IsForwardOf, IsRenderingOf};
 ghost use Rattle.answering.specs.Served.{IsEventReply};
 ghost use Rattle.stub_book.specs.Growth.{IsServed};
 ghost use Rattle.stub_response.specs.ErrorReply.{unmatched_reply};
 
 use crate::begun::Begun;
 use crate::clock::Clock;
-use crate::content::Content;
 use crate::forward::Forward;
 use crate::mapping_response::mapping_response;
 use crate::rendering::Rendering;
 use crate::response::response_of;
 use crate::site::Site;
 use crate::slow::is_slow;
-use http::Response;
 use recorder::target::Target;
 use request_journal::event::{Captured, Event, ServeAnswer};
 use request_journal::shared_request::SharedRequest;
@@ -47,17 +44,13 @@ pub(crate) fn begin_event<L: Origin, G: Gate, C: Clock>(
                 let rendering = rendering_of(number, request, captured, site.limits)?;
                 return Ok(Begun::ToRender(rendering));
             }
-            let response = mapping_response(alloc, spec, request.request(), site.limits)?;
-            Ok(Begun::Answered(response))
+            mapping_response(alloc, spec, request.request(), site.limits)
         }
         ServeAnswer::Proxy(target) => {
             let forward = forward_of(&site.clock, number, request, target)?;
             Ok(Begun::ToForward(forward))
         }
-        ServeAnswer::Unmatched => {
-            let response = unmatched_response(alloc)?;
-            Ok(Begun::Answered(response))
-        }
+        ServeAnswer::Unmatched => unmatched_response(alloc),
     }
 }
 
@@ -104,8 +97,9 @@ fn rendering_of(
 
 // Not inlined, as `templated_response`.
 #[inline(never)]
-fn unmatched_response(alloc: Global) -> Result<Response<Content>, AllocError>
-    ensures { IfOk result (IsResponseOf unmatched_reply) }
+fn unmatched_response(alloc: Global) -> Result<Begun, AllocError>
+    ensures { IfOk result (IsBegunOf unmatched_reply) }
 {
-    response_of(alloc, unmatched_reply(alloc)?)
+    let response = response_of(alloc, unmatched_reply(alloc)?)?;
+    Ok(Begun::Answered(response))
 }

@@ -1,14 +1,15 @@
 // The response of a mapping.
 ghost use Rattle.std.specs.Prelude.{IfOk};
-ghost use Rattle.answering.specs.Inner.Sent.{HasReply};
+ghost use Rattle.answering.specs.Inner.Sent.{HasBegun};
 ghost use Rattle.stub_response.specs.Prepared.{IsPrepared};
 ghost use Rattle.stub_response.specs.Response.{IsRendering};
 ghost use Rattle.stub_response.specs.declared.prepared.Prepared.TheVariants.{Headers};
 
+use crate::begun::Begun;
 use crate::content::Content;
 use crate::response::{error_response, response_of, response_with};
 use error_code::error_code::ErrorCode;
-use http::{HeaderMap, Response};
+use http::HeaderMap;
 use mapping_model::mapping_spec::MappingSpec;
 use mock_request::snapshot::Snapshot;
 use request_match::shared_spec::SharedSpec;
@@ -17,22 +18,23 @@ use stub_response::limits::Limits;
 use stub_response::prepared::Prepared;
 use stub_response::respond::{respond, respond_body};
 
-/// The response of a mapping for a request. What was made once with the mapping, all of the response or its headers, is
+/// The response of a mapping for a request, as an answer, so that it isn't moved into one. What was made once with the mapping, all of the response or its headers, is
 /// shared; the rest is made for the request.
 pub(crate) fn mapping_response(
     alloc: Global,
     mapping: &SharedSpec,
     request: &Snapshot,
     limits: Limits,
-) -> Result<Response<Content>, AllocError>
-    ensures { IfOk result (HasReply (IsRendering limits mapping.now request.now)) }
+) -> Result<Begun, AllocError>
+    ensures { IfOk result (HasBegun (IsRendering limits mapping.now request.now) (λ _. ⊥) (λ _. ⊥)) }
 {
     match mapping.prepared() {
         Prepared::Response(plain) => {
             // Neither copies a byte.
             let headers = plain.headers.clone()?;
             let body = plain.body.clone()?;
-            Ok(response_with(plain.status, headers, Content::whole(body)))
+            let response = response_with(plain.status, headers, Content::whole(body));
+            Ok(Begun::Answered(response))
         }
         Prepared::Headers(headers) => {
             templated_body_response(alloc, mapping.spec(), headers, request, limits)
@@ -48,11 +50,12 @@ fn templated_response(
     mapping: &MappingSpec,
     request: &Snapshot,
     limits: Limits,
-) -> Result<Response<Content>, AllocError>
-    ensures { IfOk result (HasReply (IsRendering limits mapping.now request.now)) }
+) -> Result<Begun, AllocError>
+    ensures { IfOk result (HasBegun (IsRendering limits mapping.now request.now) (λ _. ⊥) (λ _. ⊥)) }
 {
     let reply = respond(alloc, mapping, request, limits)?;
-    response_of(alloc, reply)
+    let response = response_of(alloc, reply)?;
+    Ok(Begun::Answered(response))
 }
 
 // The headers were made before. Not inlined, as `templated_response`.
@@ -63,13 +66,19 @@ fn templated_body_response(
     headers: &HeaderMap,
     request: &Snapshot,
     limits: Limits,
-) -> Result<Response<Content>, AllocError>
+) -> Result<Begun, AllocError>
     requires { IsPrepared mapping.now.response (Headers headers.now) }
-    ensures { IfOk result (HasReply (IsRendering limits mapping.now request.now)) }
+    ensures { IfOk result (HasBegun (IsRendering limits mapping.now request.now) (λ _. ⊥) (λ _. ⊥)) }
 {
     let status = mapping.response.response().status.code();
     match respond_body(alloc, mapping, request, limits)? {
-        Some(body) => Ok(response_with(status, headers.clone()?, Content::whole(body))),
-        None => error_response(alloc, 500, ErrorCode::OverBudget),
+        Some(body) => {
+            let response = response_with(status, headers.clone()?, Content::whole(body));
+            Ok(Begun::Answered(response))
+        }
+        None => {
+            let response = error_response(alloc, 500, ErrorCode::OverBudget)?;
+            Ok(Begun::Answered(response))
+        }
     }
 }

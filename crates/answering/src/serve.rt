@@ -1,13 +1,15 @@
 // Requests that are no admin calls.
-ghost use Rattle.std.specs.Prelude.{MatchResult};
+ghost use Rattle.std.specs.Prelude.{IfOk, MatchResult};
 ghost use Rattle.answering.specs.Answering.{IsServeAnswered};
-ghost use Rattle.answering.specs.Inner.Sent.{HasBegun, IsServedToForward, IsServedToRender};
+ghost use Rattle.answering.specs.Inner.Sent.{HasBegun, IsBegunOf, IsServedToForward, IsServedToRender};
+ghost use Rattle.stub_response.specs.ErrorReply.{error_reply};
 
 use crate::begin_event::begin_event;
 use crate::begun::Begun;
 use crate::clock::Clock;
 use crate::response::error_response;
 use crate::site::Site;
+use error_code::error_code::ErrorCode;
 use mock_request::snapshot::Snapshot;
 use shared_book::gate::Gate;
 use shared_book::origin::Origin;
@@ -32,9 +34,15 @@ pub(crate) fn serve<L: Origin, R: Wait, G: Gate, C: Clock>(
 {
     match seat.serve(rt, &site.book, request) {
         Ok(receipt) => begin_event(alloc, site, receipt.number, receipt.event.event()),
-        Err(error) => {
-            let response = error_response(alloc, 503, error.code)?;
-            Ok(Begun::Answered(response))
-        }
+        Err(error) => unserved(alloc, error.code),
     }
+}
+
+// The answer to a request that isn't served. Not inlined, as `templated_response`.
+#[inline(never)]
+fn unserved(alloc: Global, reason: ErrorCode) -> Result<Begun, AllocError>
+    ensures { IfOk result (IsBegunOf (error_reply 503 reason)) }
+{
+    let response = error_response(alloc, 503, reason)?;
+    Ok(Begun::Answered(response))
 }

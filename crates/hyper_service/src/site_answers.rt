@@ -212,15 +212,16 @@ where
             → IfErr result (λ error. (error ≡ NoMemory)
             × IsLeft (rules_of L.origin L.book self.now) old seat.new message) }
     {
-        match answered? {
-            answering::begun::Begun::Answered(response) => Ok(Begun::Answered(response)),
-            answering::begun::Begun::Refused(refused) => {
+        match answered {
+            Ok(answering::begun::Begun::Answered(response)) => Ok(Begun::Answered(response)),
+            Ok(answering::begun::Begun::Refused(refused)) => {
                 Ok(Begun::Answered(refused_response(refused)))
             }
-            answering::begun::Begun::ToForward(forward) => {
+            Ok(answering::begun::Begun::ToForward(forward)) => {
                 self.forward(rt, alloc, handle, seat, forward)
             }
-            answering::begun::Begun::ToRender(rendering) => self.render(rt, alloc, rendering),
+            Ok(answering::begun::Begun::ToRender(rendering)) => self.render(rt, alloc, rendering),
+            Err(error) => Err(error),
         }
     }
 

@@ -1,13 +1,12 @@
 use Rattle.std.proofs.Common.{ap, subst, ◌∙◌}
 use Rattle.answering.specs.Reply.{response_status}
 use Rattle.answering.proofs.HeaderLemmas.{headers_same}
-use Rattle.answering.proofs.ResultLemmas.{of_right}
 use Rattle.answering.proofs.mapping_response.templated_body_response.Goals as goal
 use Rattle.error_code.specs.declared.error_code.ErrorCode.TheVariants.{OverBudget}
 use Rattle.mapping_model.specs.declared.response_spec.ResponseSpec.{ResponseSpec}
 use Rattle.answering.proofs.RenderingLemmas.{is_over, is_rendering_with}
 use Rattle.stub_response.specs.ErrorReply.{error_reply}
-use Rattle.stub_response.specs.Response.{IsRenderedBody, IsRendering}
+use Rattle.stub_response.specs.Response.{IsRenderedBody}
 
 pub returns-in_ok-clone-in-Some : goal.returns-in_ok-clone-in-Some
 returns-in_ok-clone-in-Some c =
@@ -29,11 +28,11 @@ returns-in_ok-clone-in-Some c =
       },
     )
 
-pub returns-in-None : goal.returns-in-None
-returns-in-None c =
+pub returns-in_ok-response-in-None : goal.returns-in_ok-response-in-None
+returns-in_ok-response-in-None c =
     let made = subst (IsRenderedBody c.args.limits c.args.mapping.now c.args.request.now) c.in-None.is
-    c.in_ok-body.ensures in
-    of_right (IsRendering c.args.limits c.args.mapping.now c.args.request.now) (error_reply 500 OverBudget)
-    c.error_response.result
-    (is_over c.args.limits c.args.mapping.now c.args.request.now c.args.headers.now c.requires made)
-    c.error_response.ensures
+    c.in_ok-body.ensures in (
+      error_reply 500 OverBudget,
+      is_over c.args.limits c.args.mapping.now c.args.request.now c.args.headers.now c.requires made,
+      c.in_ok-response-in-None.ensures,
+    )

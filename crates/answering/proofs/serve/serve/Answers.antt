@@ -1,10 +1,12 @@
 use Rattle.std.proofs.Common.{inl, inr, refl, subst}
 use Rattle.std.specs.Prelude.{IfOk}
-use Rattle.std.proofs.lemmas.Result.{err_from_is_err_and}
 use Rattle.stub_response.specs.ErrorReply.{error_reply}
-use Rattle.answering.specs.Inner.Sent.{HasBegun, IsForwardOf, IsRenderingOf}
+use Rattle.answering.specs.Answering.{IsServeAnswered}
+use Rattle.answering.specs.Inner.Sent.{HasBegun, IsForwardOf, IsRenderingOf, IsServedToForward, IsServedToRender}
 use Rattle.answering.specs.Served.{IsEventReply}
+use Rattle.answering.proofs.ResultLemmas.{begun_of}
 use Rattle.answering.proofs.ServeLemmas.{of_event}
+use Rattle.shared_book.specs.Held.{Held}
 use Rattle.shared_book.specs.Lent.{LendsServed}
 use Rattle.answering.proofs.serve.serve.Goals as goal
 
@@ -22,21 +24,15 @@ returns-in-Ok g c =
     (IsRenderingOf c.args.site.now.limits c.in-Ok.receipt.now.number event)))
     c.event.ensures c.begin_event.ensures)
 
-pub returns-in_err-response-in-Err : goal.returns-in_err-response-in-Err
-returns-in_err-response-in-Err g c =
-    let none = err_from_is_err_and c.from_residual.result c.from_residual.ensures.1 in
+pub returns-in-Err : goal.returns-in-Err
+returns-in-Err g c =
+    let new : Held = c.serve.follows.lender-at-none in
     let same = subst
     (λ r. LendsServed g.L.Origin.origin g.L.Naming.book c.args.seat.now c.serve.follows.lender-at-none c.args.request r)
     c.in-Err.is c.serve.follows.holds-at-none in
-    rw none.1
-    (error_reply 503 c.in-Err.error.code, inr (c.in-Err.error.code, inl same, refl))
-
-pub returns-in_ok-response-in-Err : goal.returns-in_ok-response-in-Err
-returns-in_ok-response-in-Err g c =
-    let same = subst
-    (λ r. LendsServed g.L.Origin.origin g.L.Naming.book c.args.seat.now c.serve.follows.lender-at-none c.args.request r)
-    c.in-Err.is c.serve.follows.holds-at-none in (
-      error_reply 503 c.in-Err.error.code,
-      inr (c.in-Err.error.code, inl same, refl),
-      c.in_ok-response-in-Err.ensures,
-    )
+    begun_of
+    (IsServeAnswered g.L.Origin.origin g.L.Naming.book c.args.site.now.limits c.args.seat.now new c.args.request)
+    (IsServedToForward g.L.Origin.origin g.L.Naming.book c.args.seat.now new c.args.request)
+    (IsServedToRender g.L.Origin.origin g.L.Naming.book c.args.site.now.limits c.args.seat.now new c.args.request)
+    (error_reply 503 c.in-Err.error.code) (inr (c.in-Err.error.code, inl same, refl)) c.unserved.result
+    c.unserved.ensures
