@@ -18,8 +18,8 @@ use stub_response::limits::Limits;
 use stub_response::prepared::Prepared;
 use stub_response::respond::{respond, respond_body};
 
-/// The response of a mapping for a request, as an answer, so that it isn't moved into one. What was made once with the mapping, all of the response or its headers, is
-/// shared; the rest is made for the request.
+/// The response of a mapping for a request, made as the answer so that it isn't moved. What was made once with the
+/// mapping, all of the response or its headers, is shared; the rest is made for the request.
 pub(crate) fn mapping_response(
     alloc: Global,
     mapping: &SharedSpec,
@@ -33,8 +33,7 @@ pub(crate) fn mapping_response(
             // Neither copies a byte.
             let headers = plain.headers.clone()?;
             let body = plain.body.clone()?;
-            let response = response_with(plain.status, headers, Content::whole(body));
-            Ok(Begun::Answered(response))
+            Ok(Begun::Answered(response_with(plain.status, headers, Content::whole(body))))
         }
         Prepared::Headers(headers) => {
             templated_body_response(alloc, mapping.spec(), headers, request, limits)
@@ -72,10 +71,11 @@ fn templated_body_response(
 {
     let status = mapping.response.response().status.code();
     match respond_body(alloc, mapping, request, limits)? {
-        Some(body) => {
-            let response = response_with(status, headers.clone()?, Content::whole(body));
-            Ok(Begun::Answered(response))
-        }
+        Some(body) => Ok(Begun::Answered(response_with(
+            status,
+            headers.clone()?,
+            Content::whole(body),
+        ))),
         None => {
             let response = error_response(alloc, 500, ErrorCode::OverBudget)?;
             Ok(Begun::Answered(response))
