@@ -1,5 +1,5 @@
 // A site, beside the place of a connection's seat.
-ghost use Rattle.std.specs.Prelude.{◌≡◌, ◌≢◌, IfErr, IfOk, IfSome, IsTrue};
+ghost use Rattle.std.specs.Prelude.{◌≡◌, ◌≢◌, IfErr, IfOk, IfSome, IsOkAnd, IsTrue};
 ghost use Rattle.std.specs.Arc.{arc_value};
 ghost use Rattle.http_connections.specs.Sent.{IsBegun, IsForwardedBy, IsGivenBy, IsSentFor};
 ghost use Rattle.http_connections.specs.Inner.Begun.{IsSentOf};
@@ -61,12 +61,22 @@ impl<A: Answers> SeatSlot<A> {
             (IsBegun (IsSentFor A.Content.is_default (IsGivenBy A.number_of A.gives (giver self.now)))
             (IsForwardedBy A.number_of A.forwards (giver self.now)) A.Exchange.can_poll request.now) }
     {
-        let begun = self.begin_at_seat(rt, alloc, request);
+        let mut held = self.place.seat.lock(rt);
+        let begun = begin_by(
+            rt,
+            alloc,
+            &*self.handle,
+            &*self.site,
+            self.number,
+            &mut *held,
+            request,
+        );
+        drop(held);
         // Most answers are sent as they are, and aren't moved to see that.
         if goes_as_it_is(&begun) {
             return begun;
         }
-        begun_anew(alloc, begun?)
+        begun_anew(alloc, begun)
     }
 
     /// What is sent of the answer to a request that was forwarded, by the seat.
@@ -82,27 +92,6 @@ impl<A: Answers> SeatSlot<A> {
     {
         let response = self.finish_at_seat(rt, alloc, reply)?;
         Ok(as_sent(alloc, response)?)
-    }
-
-    fn begin_at_seat<R: Wait>(
-        &self,
-        rt: &R,
-        alloc: Global,
-        request: &Request<Bytes>,
-    ) -> Result<Begun<A::Exchange, A::Content>, ServiceError>
-        ensures { IfOk result (IsBegun (IsGivenBy A.number_of A.gives (giver self.now))
-            (IsForwardedBy A.number_of A.forwards (giver self.now)) A.Exchange.can_poll request.now) }
-    {
-        let mut held = self.place.seat.lock(rt);
-        begin_by(
-            rt,
-            alloc,
-            &*self.handle,
-            &*self.site,
-            self.number,
-            &mut *held,
-            request,
-        )
     }
 
     fn finish_at_seat<R: Wait>(
@@ -211,14 +200,15 @@ fn is_sent_as_it_is<E, C: Default>(begun: &Begun<E, C>) -> bool
     }
 }
 
-// With what is sent of an answer in the place of it.
+// With what is sent of an answer in the place of it. Not inlined: a function clears all its locals when it is entered.
+#[inline(never)]
 fn begun_anew<E: Drop, C: Default + Drop>(
     alloc: Global,
-    begun: Begun<E, C>,
+    begun: Result<Begun<E, C>, ServiceError>,
 ) -> Result<Begun<E, C>, ServiceError>
-    ensures { IfOk result (IsSentOf C.is_default begun) }
+    ensures { IfOk result (λ made. IsOkAnd begun (λ begun. IsSentOf C.is_default begun made)) }
 {
-    match begun {
+    match begun? {
         Begun::Answered(response) => Ok(Begun::Answered(sent(alloc, response)?)),
         Begun::Forwarding(exchange) => Ok(Begun::Forwarding(exchange)),
     }
