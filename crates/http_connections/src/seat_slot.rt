@@ -1,5 +1,5 @@
 // A site, beside the place of a connection's seat.
-ghost use Rattle.std.specs.Prelude.{◌≡◌, ◌≢◌, IfErr, IfOk, IfSome, IsOkAnd, IsTrue};
+ghost use Rattle.std.specs.Prelude.{◌≡◌, ◌≢◌, IfErr, IfOk, IfSome, IsTrue};
 ghost use Rattle.std.specs.Arc.{arc_value};
 ghost use Rattle.http_connections.specs.Sent.{IsBegun, IsForwardedBy, IsGivenBy, IsSentFor};
 ghost use Rattle.http_connections.specs.Inner.Begun.{IsSentOf};
@@ -76,7 +76,7 @@ impl<A: Answers> SeatSlot<A> {
         if goes_as_it_is(&begun) {
             return begun;
         }
-        begun_anew(alloc, begun)
+        begun_anew(alloc, begun?)
     }
 
     /// What is sent of the answer to a request that was forwarded, by the seat.
@@ -200,15 +200,14 @@ fn is_sent_as_it_is<E, C: Default>(begun: &Begun<E, C>) -> bool
     }
 }
 
-// With what is sent of an answer in the place of it. Not inlined: a function clears all its locals when it is entered.
-#[inline(never)]
+// With what is sent of an answer in the place of it.
 fn begun_anew<E: Drop, C: Default + Drop>(
     alloc: Global,
-    begun: Result<Begun<E, C>, ServiceError>,
+    begun: Begun<E, C>,
 ) -> Result<Begun<E, C>, ServiceError>
-    ensures { IfOk result (λ made. IsOkAnd begun (λ begun. IsSentOf C.is_default begun made)) }
+    ensures { IfOk result (IsSentOf C.is_default begun) }
 {
-    match begun? {
+    match begun {
         Begun::Answered(response) => Ok(Begun::Answered(sent(alloc, response)?)),
         Begun::Forwarding(exchange) => Ok(Begun::Forwarding(exchange)),
     }

@@ -1,6 +1,5 @@
 // The requests of one connection.
 ghost use Rattle.std.specs.Prelude.{◌≡◌, ◌<◌, ℕ, List, Result, Some, length, IfOk, IsSome, IsTrue};
-ghost use Rattle.http.specs.declared.request.Request.{Request as Message};
 ghost use Rattle.futures.specs.Poll.{IfReady, OnPending};
 ghost use Rattle.futures.specs.Task.{IsArmed, Keeps};
 ghost use Rattle.http_connections.specs.declared.content_error.ContentError.{ContentError as GatherError};
@@ -12,7 +11,7 @@ ghost use Rattle.http_connections.specs.Answering.{IsCalled};
 ghost use Rattle.http_connections.specs.Content.{IsAnswerFor, IsAnswerTo, IsContentAtOnce, IsNewFor, IsTooLong};
 ghost use Rattle.http_connections.specs.Inner.Begun.{IsBegunWith};
 ghost use Rattle.http_connections.specs.Inner.Ready.{IsReady};
-ghost use Rattle.http_connections.specs.Sent.{IsBegun, IsExchangeFor, IsForwardedBy, IsGivenBy, IsSentFor};
+ghost use Rattle.http_connections.specs.Sent.{IsExchangeFor, IsForwardedBy, IsGivenBy};
 ghost use Rattle.http_connections.specs.Site.{giver_of};
 ghost use Rattle.mock_request.specs.declared.snapshot.TheConstants.{BODY_LIMIT};
 
@@ -136,32 +135,6 @@ where
         let (head, _body) = request.into_parts();
         let message = Request::from_parts(head, content);
         match self.slot.begin(&self.rt, self.rt.alloc(), &message) {
-            Ok(Begun::Answered(response)) => Answering::Made(Some(Ok(response))),
-            begun => self.unanswered(begun),
-        }
-    }
-
-    // What comes of a request that may have no answer yet. Not inlined, as `gathering`.
-    #[inline(never)]
-    fn unanswered<I: Drop>(
-        &self,
-        begun: Result<Begun<A::Exchange, A::Content>, ServiceError>,
-    ) -> Answering<R, A, Gathering<R, Incoming<I>>>
-        ensures called { (request : Message (Incoming I)) → (content : List ℕ)
-            → IsContentAtOnce (body_of request) content
-            → IfOk begun (IsBegun
-            (IsSentFor A.Content.is_default (IsGivenBy A.number_of A.gives (giver_of self.now.slot)))
-            (IsForwardedBy A.number_of A.forwards (giver_of self.now.slot)) A.Exchange.can_poll
-            (record { head = head_of request; body = content }))
-            → IsCalled A.Content.is_default (IsGivenBy A.number_of A.gives)
-            (IsForwardedBy A.number_of A.forwards) (giver_of self.now.slot) request result }
-        ensures can_poll { (message : Message (List ℕ))
-            → IfOk begun (IsBegun
-            (IsSentFor A.Content.is_default (IsGivenBy A.number_of A.gives (giver_of self.now.slot)))
-            (IsForwardedBy A.number_of A.forwards (giver_of self.now.slot)) A.Exchange.can_poll message)
-            → IsReady A.Exchange.can_poll result }
-    {
-        match begun {
             Ok(Begun::Answered(response)) => Answering::Made(Some(Ok(response))),
             Ok(Begun::Forwarding(exchange)) => match self.forwarding(exchange) {
                 Ok(forwarding) => Answering::Forwarding(forwarding),
