@@ -1,14 +1,13 @@
 -- What a message begins, by what its request does.
-use Rattle.std.proofs.Common.{◌≡◌, ◌≤◌, ◌<◌, ℕ, List, All, length, Ok, Err, refl, subst, sym, inl, inr}
-use Rattle.std.specs.Prelude.{Option, Result, IfErr, IfOk, IsErr, IsErrOf, MatchResult}
+use Rattle.std.proofs.Common.{◌≡◌, ◌≤◌, ◌<◌, ℕ, List, All, length, Ok, Err, refl, subst, sym, inr}
+use Rattle.std.specs.Prelude.{Option, Result, IfOk, IsErrOf, MatchResult, is_err, true}
+use Rattle.std.proofs.lemmas.Bool.{false≢true}
 use Rattle.admin_routes.specs.Routes.{IsAdmin}
 use Rattle.error_code.specs.declared.error_code.ErrorCode.TheVariants.{OutOfMemory}
 use Rattle.http.specs.Request.{body_of}
 use Rattle.http.specs.declared.request.Request.{Request as Message}
 use Rattle.http_header.specs.FieldName.{IsHeaderName}
 use Rattle.http_messages.specs.Received.{IsReceived, target_of}
-use Rattle.http_messages.specs.declared.error.ServiceError.{ServiceError}
-use Rattle.http_messages.specs.declared.error.ServiceError.TheVariants.{OutOfMemory as NoMemory}
 use Rattle.answering.specs.Answering.{Begins, IsNotBegun, IsNotRead, IsReply, IsRequestAnswered, IsUnread, refusal}
 use Rattle.answering.specs.Forwarding.{IsToForward, serve_receipt}
 use Rattle.answering.specs.Inner.Sent.{HasBegun, IsBegunOf, IsRequestToForward, IsRequestToRender}
@@ -128,41 +127,19 @@ refused old new message error same is = (same, (error, is, refl))
 
 module _ (origin : Past) (name : Book) (limits : Limits) (escape : Escape) (page : Option (List ℕ)) (old new : Held)
     (message : Message (List ℕ)) where
-  -- what a message begins with its reply
-  HasBegunReply : Begun → Type 0
-  HasBegunReply =
-      HasBegun (IsReply origin name limits escape page old new message) (IsToForward origin name old new message)
-      (IsToRender origin name limits old new message)
-
-  -- it begins so
-  pub begins : {E : Type 0} (result : Result Begun E)
-      → MatchResult result HasBegunReply (λ _. IsNotBegun origin name limits escape page old new message)
-      → IfOk result (Begins origin name limits escape page old new message)
-  begins (Ok (Answered response)) is = (is.0, is.1, inl is.2)
-  begins (Ok (Refused refused)) is = (is.0, is.1, inl is.2)
-  begins (Ok (ToForward forward)) is = is
-  begins (Ok (ToRender rendering)) is = is
-  begins (Err error) is = tt
-
-  -- or there was no memory for its answer
-  pub begins_nothing : {E : Type 0} (result : Result Begun E) → IsErr result
-      → MatchResult result HasBegunReply (λ _. IsNotBegun origin name limits escape page old new message)
+  -- nothing was begun, and the seat is as a reply leaves it
+  pub begins_nothing : {E : Type 0} (P : Begun → Type 0) (result : Result Begun E) → is_err result ≡ true
+      → MatchResult result P (λ _. IsNotBegun origin name limits escape page old new message)
       → IsNotBegun origin name limits escape page old new message
-  begins_nothing (Ok begun) is not = absurd is
-  begins_nothing (Err error) is not = not
+  begins_nothing P (Ok begun) is left = absurd (false≢true is)
+  begins_nothing P (Err error) is left = left
 
-  -- and this is the answer to that
+  -- then the answer is that memory ran out
   pub begins_503 : {E : Type 0} (result : Result Begun E) → IsNotBegun origin name limits escape page old new message
       → IfOk result (IsBegunOf (error_reply 503 OutOfMemory))
       → IfOk result (Begins origin name limits escape page old new message)
-  begins_503 (Ok (Answered response)) not is = (not.0, not.1, inr is)
-  begins_503 (Ok (Refused refused)) not is = (not.0, not.1, inr is)
-  begins_503 (Ok (ToForward forward)) not is = absurd is
-  begins_503 (Ok (ToRender rendering)) not is = absurd is
-  begins_503 (Err error) not is = tt
-
-  pub leaves_503 : (result : Result Begun ServiceError) → IsNotBegun origin name limits escape page old new message
-      → IfErr result (λ error. error ≡ NoMemory)
-      → IfErr result (λ error. (error ≡ NoMemory) × IsNotBegun origin name limits escape page old new message)
-  leaves_503 (Ok begun) not is = tt
-  leaves_503 (Err error) not is = (is, not)
+  begins_503 (Ok (Answered response)) left is = (left.0, left.1, inr is)
+  begins_503 (Ok (Refused refused)) left is = (left.0, left.1, inr is)
+  begins_503 (Ok (ToForward forward)) left is = absurd is
+  begins_503 (Ok (ToRender rendering)) left is = absurd is
+  begins_503 (Err error) left is = tt

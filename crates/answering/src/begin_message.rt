@@ -115,7 +115,10 @@ fn refused_begun(
 ) -> Result<Begun, ServiceError>
     ensures { (reply : _) → IsResponseOf reply response → IfOk result (IsBegunOf reply) }
 {
-    Ok(Begun::Refused(Box::new(alloc, Refused { response, lines })?))
+    match Box::new(alloc, Refused { response, lines }) {
+        Ok(refused) => Ok(Begun::Refused(refused)),
+        Err(_failed) => Err(ServiceError::OutOfMemory),
+    }
 }
 
 // The response to a message that isn't read.

@@ -39,7 +39,7 @@ pub(crate) fn serve<L: Origin, R: Wait, G: Gate, C: Clock>(
     }
 }
 
-// The answer to a request that isn't served. Not inlined, as `templated_response`.
+// The answer to a request that isn't served. Not inlined, as `begin_other` in `begin_event.rt`.
 #[inline(never)]
 fn unserved(alloc: Global, reason: ErrorCode) -> Result<Begun, ServiceError>
     ensures { IfOk result (IsBegunOf (error_reply 503 reason)) }

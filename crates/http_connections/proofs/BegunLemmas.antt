@@ -1,5 +1,6 @@
 -- What is sent of what a request has become.
-use Rattle.std.proofs.Common.{◌≡◌, ℕ, List, Option, None, Some, Result, Ok, Err, IfOk, inl, sym, subst}
+use Rattle.std.proofs.Common.{◌≡◌, ℕ, List, Option, None, Some, Result, Ok, Err, IfOk, inl, refl, sym, subst}
+use Rattle.http.specs.Request.{body_of, head_of}
 use Rattle.http.specs.declared.request.Parts.{Parts}
 use Rattle.http.specs.declared.request.Request.{Request}
 use Rattle.http.specs.declared.response.Response.{Response}
@@ -63,3 +64,8 @@ module _ {E C : Type 0} (IsEmpty : C → Type 0) (gives : Request (List ℕ) →
   begun_with (Ok (Answered made)) given = inl (content, is, given)
   begun_with (Ok (Forwarding exchange)) given = ((content, is, given.0), given.1)
   begun_with (Err refusal) given = tt
+
+-- a message is its head and its content
+pub message_of : (message : Request (List ℕ)) (head : Parts) (content : List ℕ) → head_of message ≡ head
+    → body_of message ≡ content → message ≡ record { head = head; body = content }
+message_of message head content of_head of_body = rw (sym of_head, sym of_body) refl

@@ -11,8 +11,8 @@ use Rattle.answering.proofs.ResultLemmas.{begun_of, begun_weaker}
 use Rattle.answering.proofs.begin_message.begin_message.Goals as goal
 
 -- the seat is as it was when the request has been read
-pub returns-in-Ok : goal.returns-in-Ok
-returns-in-Ok g c =
+pub returns-else-is_admin : goal.returns-else-is_admin
+returns-else-is_admin g c =
     let origin = g.L.Origin.origin in
     let name = g.L.Naming.book in
     let site = c.args.site.now in
@@ -34,8 +34,8 @@ returns-in-Ok g c =
     (λ reply is. inr (other, is)) (λ forward is. (other, is)) (λ rendering is. (other, is)) c.serve.result
     c.serve.ensures)
 
-pub returns-then-is_admin-in-Ok : goal.returns-then-is_admin-in-Ok
-returns-then-is_admin-in-Ok g c =
+pub returns-then-is_admin : goal.returns-then-is_admin
+returns-then-is_admin g c =
     let origin = g.L.Origin.origin in
     let name = g.L.Naming.book in
     let site = c.args.site.now in
