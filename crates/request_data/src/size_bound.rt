@@ -48,7 +48,10 @@ pub fn closer_size_bound(snapshot: &Snapshot, template: Option<&PathTemplate>) -
         return None;
     };
     let of_escapes = escape_count(text).checked_mul(JSON_OF_ESCAPE)?;
-    let of_body = text.len().checked_mul(JSON_OF_TEXT)?.checked_add(of_escapes)?;
+    let of_body = text
+        .len()
+        .checked_mul(JSON_OF_TEXT)?
+        .checked_add(of_escapes)?;
     let of_head = head_bound(snapshot, template)?;
     Some(of_head.checked_add(of_body)? as u64)
 }

@@ -88,7 +88,12 @@ fn copied(alloc: Global, value: &Data) -> Result<Data, AllocError>
 fn named_text(alloc: Global, text: &String, items: &Data, fields: &Data) -> Result<Data, AllocError>
     ensures { IfOk result (λ value. IsWellFormed (view value)) }
 {
-    named(alloc, text.clone()?, copied(alloc, items)?, copied(alloc, fields)?)
+    named(
+        alloc,
+        text.clone()?,
+        copied(alloc, items)?,
+        copied(alloc, fields)?,
+    )
 }
 
 fn named(alloc: Global, text: String, items: Data, fields: Data) -> Result<Data, AllocError>

@@ -12,13 +12,13 @@ loop-byte-preserved c =
     let byte = get_or items i 0 in
     let from = escape_from items i (omega (arith, c.loop-byte-test.true)) in
     elim c.if-has_escape.branch [
-      then-has_escape w ↦ record {
+      | then-has_escape w ↦ record {
         few = omega (arith, c.loop-byte.invariant.few, w.count-is);
         whole = omega (arith, c.loop-byte.invariant.whole, from, escape_byte_most byte, w.count-is);
       }
       | else-has_escape w ↦ record {
         few = omega (arith, c.loop-byte.invariant.few, w.count-is);
         whole = let one : length (escape_byte byte) ≤ 1 = ltb-false 1 (length (escape_byte byte)) (sym c.has_escape.ensures ∙ w.if-has_escape.false) in
-        omega (arith, c.loop-byte.invariant.whole, from, one, w.count-is);
+            omega (arith, c.loop-byte.invariant.whole, from, one, w.count-is);
       }
     ]
