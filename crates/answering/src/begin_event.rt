@@ -37,7 +37,10 @@ pub(crate) fn begin_event<L: Origin, G: Gate, C: Clock>(
     ensures { IfOk result (HasBegun (IsEventReply site.now.limits event.now) (IsForwardOf number event.now)
         (IsRenderingOf site.now.limits number event.now)) }
 {
-    if let Event::Serve { request: _request, answer } = event
+    if let Event::Serve {
+        request: _request,
+        answer,
+    } = event
         && let ServeAnswer::Stub(captured) = answer
         && let Prepared::Response(plain) = captured.mapping.spec.prepared()
     {
