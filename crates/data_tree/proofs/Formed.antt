@@ -1,17 +1,15 @@
 -- What is found in a well-formed value is well formed.
 use Rattle.std.proofs.Common.{◌≡◌, ℕ, zero, suc, Bool, true, false, if◌then◌else◌, List, [], ◌∷◌}
-use Rattle.std.proofs.Common.{Vec, String, Global, bytes_eq, decimal, slice_get, Option, None, Some, IfSome, option_map}
-use Rattle.std.proofs.Common.{Bor, ap, ◌∙◌, sym, subst, inl, inr}
+use Rattle.std.proofs.Common.{bytes_eq, decimal, slice_get, Option, None, Some, IfSome, option_map, Bor, sym, subst}
 use Rattle.std.specs.Option.{option_map_or}
 use Rattle.data_tree.specs.Tree.{Tree, nothing, truth, number, text, list, fields, named, Items, no_items, item}
-use Rattle.data_tree.specs.Tree.{Members, no_members, member, view, members_view}
-use Rattle.data_tree.specs.Parts.{trees_of, values_of, names_of, items}
+use Rattle.data_tree.specs.Tree.{Members, no_members, member, view}
+use Rattle.data_tree.specs.Parts.{trees_of, values_of, items}
 use Rattle.data_tree.specs.LookUp.{nth, under, after, at}
-use Rattle.data_tree.specs.WellFormed.{IsAscending, IsWellFormed, AreWellFormed, HaveWellFormedValues}
+use Rattle.data_tree.specs.WellFormed.{IsWellFormed, AreWellFormed, HaveWellFormedValues}
 use Rattle.data_tree.specs.declared.data.Data.{Data}
 use Rattle.data_tree.specs.declared.step.Step.{Step}
 use Rattle.data_tree.specs.declared.step.Step.TheVariants.{Name, Index}
-use Rattle.data_tree.proofs.Views.{HasMembers, view-Fields, view-Named}
 
 either_formed : (first : Bool) (t u : Tree) → IsWellFormed t → IsWellFormed u
     → IsWellFormed (if first then t else u)
@@ -78,13 +76,6 @@ formed_item (text s) i u found h = absurd cc
 formed_item (list ts) i u found h = one_of_trees ts i u found h
 formed_item (fields ms) i u found h = one_of_values ms i u found h.1
 formed_item (named s ts ms) i u found h = one_of_trees ts i u found h.0
-
--- the names of an object or a named text ascend
-pub ascending-HasMembers
-    : (d : Data) (w : Vec (String Global × Data) Global) → HasMembers d w → IsWellFormed (view d)
-    → IsAscending (names_of (members_view w.items))
-ascending-HasMembers d w (inl e) h = (subst IsWellFormed (ap view e ∙ view-Fields w) h).0
-ascending-HasMembers d w (inr n) h = (subst IsWellFormed (ap view n.2 ∙ view-Named n.0 n.1 w) h).1
 
 -- where a step found something, that is well formed
 pub formed_step

@@ -3,7 +3,6 @@ pub mod Views
 pub mod Lengths
 pub mod Printed
 pub mod Numerals
-pub mod Escapes
 pub mod Drafts
 pub mod Sizes
 pub mod Lookups

@@ -1,17 +1,16 @@
 -- A value, level by level, beside its tree and its parts.
-use Rattle.std.proofs.Common.{◌≡◌, ◌⊎◌, inl, inr, ℕ, zero, suc, List, [], ◌∷◌, length, map, Vec}
-use Rattle.std.proofs.Common.{String, Global, string_bytes, Option, None, Some, option_map, Bor, not, nat_eq, false}
+use Rattle.std.proofs.Common.{◌≡◌, ℕ, zero, suc, List, [], ◌∷◌, length, map, Vec}
+use Rattle.std.proofs.Common.{String, Global, Box, string_bytes, Option, None, Some, option_map, Bor, not, nat_eq, false}
 use Rattle.std.proofs.Common.{arith, refl, sym, ap, ◌∙◌, rules}
 use Rattle.std.specs.Option.{option_copied, option_map_or}
 use Rattle.std.specs.List.{slice_get}
 use Rattle.std.proofs.lemmas.Option.{slice_get-map}
 use Rattle.std.proofs.lemmas.Bool.Decides.{nat_tests}
 use Rattle.data_tree.specs.Print.{is_true}
-use Rattle.data_tree.specs.LookUp.{nth, under, after}
+use Rattle.data_tree.specs.LookUp.{nth}
 use Rattle.data_tree.specs.Tree.{Tree, nothing, list, fields, named, items_of, view, items_view, members_view}
 use Rattle.data_tree.specs.Parts.{items, keys, trees_of, values_of, names_of}
 use Rattle.data_tree.specs.declared.data.Data.{Data, List as ListData, Fields, Named, the_lemmas}
-use Rattle.data_tree.specs.declared.step.Step.TheVariants.{Name, Index}
 
 abbrev pub Field : Type 0
 Field = String Global × Data
@@ -22,10 +21,15 @@ view-List v = search (rules, the_lemmas)
 pub view-Fields : (v : Vec (String Global × Data) Global) → view (Fields v) ≡ fields (members_view v.items)
 view-Fields v = search (rules, the_lemmas)
 
+-- the text, the items and the members of a named text
+abbrev pub Parts : Type 0
+Parts = Box (String Global × Vec Data Global × Vec Field Global) Global
+
 pub view-Named
-    : (s : String Global) (v : Vec Data Global) (w : Vec (String Global × Data) Global)
-    → view (Named s v w) ≡ named (string_bytes s) (items_view v.items) (members_view w.items)
-view-Named s v w = search (rules, the_lemmas)
+    : (parts : Parts)
+    → view (Named parts)
+    ≡ named (string_bytes parts.value.0) (items_view parts.value.1.items) (members_view parts.value.2.items)
+view-Named parts = search (rules, the_lemmas)
 
 -- ---- items and names
 
@@ -41,18 +45,11 @@ names_of-members_view : (fs : List Field) → names_of (members_view fs) ≡ map
 names_of-members_view [] = refl
 names_of-members_view (f ∷ fs) = ap (λ us. string_bytes f.0 ∷ us) (names_of-members_view fs)
 
--- the value is a list or a named text, with these items
-abbrev pub HasItems : Data → Vec Data Global → Type 0
-HasItems d v =
-    (d ≡ ListData v) ⊎ ((s : String Global) × (w : Vec (String Global × Data) Global) × (d ≡ Named s v w))
+pub items-List : (v : Vec Data Global) → items (view (ListData v)) ≡ map view v.items
+items-List v = ap items (view-List v) ∙ trees_of-items_of (map view v.items)
 
--- the value is an object or a named text, with these members
-abbrev pub HasMembers : Data → Vec (String Global × Data) Global → Type 0
-HasMembers d w = (d ≡ Fields w) ⊎ ((s : String Global) × (v : Vec Data Global) × (d ≡ Named s v w))
-
-pub items-HasItems : (d : Data) (v : Vec Data Global) → HasItems d v → items (view d) ≡ map view v.items
-items-HasItems d v (inl e) = ap items (ap view e ∙ view-List v) ∙ trees_of-items_of (map view v.items)
-items-HasItems d v (inr n) = ap items (ap view n.2 ∙ view-Named n.0 v n.1) ∙ trees_of-items_of (map view v.items)
+pub items-Named : (parts : Parts) → items (view (Named parts)) ≡ map view parts.value.1.items
+items-Named parts = ap items (view-Named parts) ∙ trees_of-items_of (map view parts.value.1.items)
 
 pub items-Fields
     : (v : Vec (String Global × Data) Global) → items (view (Fields v)) ≡ map (λ (f : Field). view f.1) v.items
@@ -75,18 +72,6 @@ pub view_of_element
 view_of_element r xs k e = view-copied r ∙ ap (option_map view) e ∙ sym (slice_get-map view xs k)
 
 -- ---- a step
-
-pub after-HasItems
-    : (k : ℕ) (d : Data) (v : Vec Data Global) → HasItems d v
-    → after (Index k) (view d) ≡ nth k (items_view v.items)
-after-HasItems k d v (inl e) = ap (after (Index k)) (ap view e ∙ view-List v)
-after-HasItems k d v (inr n) = ap (after (Index k)) (ap view n.2 ∙ view-Named n.0 v n.1)
-
-pub after-HasMembers
-    : (name : List ℕ) (d : Data) (w : Vec (String Global × Data) Global) → HasMembers d w
-    → after (Name name) (view d) ≡ under name (members_view w.items)
-after-HasMembers name d w (inl e) = ap (after (Name name)) (ap view e ∙ view-Fields w)
-after-HasMembers name d w (inr n) = ap (after (Name name)) (ap view n.2 ∙ view-Named n.0 n.1 w)
 
 found-copied
     : (r : Option (Bor Data))

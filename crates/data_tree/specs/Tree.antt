@@ -40,7 +40,8 @@ view_step (Data-F.Number n) = number n
 view_step (Data-F.Text s) = text (string_bytes s)
 view_step (Data-F.List v) = list (items_of v.items)
 view_step (Data-F.Fields v) = fields (members_of v.items)
-view_step (Data-F.Named s v w) = named (string_bytes s) (items_of v.items) (members_of w.items)
+view_step (Data-F.Named parts) =
+    named (string_bytes parts.value.0) (items_of parts.value.1.items) (members_of parts.value.2.items)
 
 -- the tree of a value
 abbrev pub view : Data → Tree

@@ -15,6 +15,7 @@ pub mod data;
 mod draft;
 pub mod look_up;
 pub mod parts;
+mod plain;
 pub mod print;
 pub mod size;
 

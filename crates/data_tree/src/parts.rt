@@ -25,7 +25,8 @@ impl Data {
             Data::Nothing => false,
             Data::Truth(truth) => *truth,
             Data::Number(number) => *number != 0,
-            Data::Text(text) | Data::Named { text, .. } => !text.is_empty(),
+            Data::Text(text) => !text.is_empty(),
+            Data::Named(parts) => !parts.0.is_empty(),
             Data::List(items) => !items.is_empty(),
             Data::Fields(_) => true,
         }
@@ -36,7 +37,8 @@ impl Data {
         ensures { result ≡ length (items (view self.now)) }
     {
         match self {
-            Data::List(items) | Data::Named { items, .. } => items.len(),
+            Data::List(items) => items.len(),
+            Data::Named(parts) => parts.1.len(),
             Data::Fields(fields) => fields.len(),
             _ => 0,
         }
@@ -48,7 +50,8 @@ impl Data {
         ensures well_formed { IsWellFormed (view self.now) → IfSome result (λ found. IsWellFormed (view found.now)) }
     {
         match self {
-            Data::List(items) | Data::Named { items, .. } => item_at(items.as_slice(), index),
+            Data::List(items) => item_at(items.as_slice(), index),
+            Data::Named(parts) => item_at(parts.1.as_slice(), index),
             Data::Fields(fields) => {
                 let (_name, value) = item_at(fields.as_slice(), index)?;
                 Some(value)

@@ -1,18 +1,15 @@
 // What a value prints as: a text as it is, a list or an object as its compact JSON text.
-ghost use Rattle.std.specs.Prelude.{◌≡◌, ◌==◌, ◌++◌, length, OnOk, OnErr, IfOk, string_bytes};
-ghost use Rattle.std.specs.Bool.{OnTrue};
-ghost use Rattle.json.specs.Print.{quoted, escape, escape_byte};
+ghost use Rattle.std.specs.Prelude.{◌≡◌, ◌++◌, OnOk, OnErr, IfOk, string_bytes};
+ghost use Rattle.json.specs.Print.{quoted};
 ghost use Rattle.data_tree.specs.Json.{json, comma_if};
 ghost use Rattle.data_tree.specs.Tree.{view, list, fields, items_view, members_view};
 
 use crate::data::Data;
 use crate::draft::Draft;
+use crate::plain::is_plain;
 use json::Writer;
 use std::alloc::{AllocError, Global};
 use std::mem;
-
-// A string of more bytes isn't looked at byte by byte.
-const SHORT: usize = 32;
 
 impl Data {
     ghost use Rattle.data_tree.specs.Print.{print};
@@ -20,10 +17,9 @@ impl Data {
     /// Appends what the value prints as.
     ///
     /// Nothing prints as the empty text, a `Text` and a `Named` as their text, and a list or an object as
-    /// its compact JSON text, which is written straight into `out`, but for a string that is long or in which
-    /// something is to be escaped: that is put between quotes in a text of its own first. The recursion is as
-    /// deep as lists, objects and named texts nest in the value. Where an allocation fails, `out` keeps the text
-    /// that it had.
+    /// its compact JSON text, which is written straight into `out`, but for a string in which something is to be
+    /// escaped: that is put between quotes in a text of its own first. The recursion is as deep as lists, objects and
+    /// named texts nest in the value. Where an allocation fails, `out` keeps the text that it had.
     pub fn print_into(&self, alloc: Global, out: &mut String) -> Result<(), AllocError>
         ensures ok { OnOk result
             (string_bytes out.new ≡ string_bytes out.old ++ print (view self.now)) }
@@ -37,7 +33,8 @@ impl Data {
                 let mut buffer = itoa::Buffer::new();
                 out.push_str(buffer.format(*number))
             }
-            Data::Text(text) | Data::Named { text, .. } => out.push_str(text.as_str()),
+            Data::Text(text) => out.push_str(text.as_str()),
+            Data::Named(parts) => out.push_str(parts.0.as_str()),
             Data::List(_) | Data::Fields(_) => self.json_into(alloc, out),
         }
     }
@@ -79,11 +76,8 @@ fn write_value(value: &Data, alloc: Global, out: &mut Draft) -> Result<(), Alloc
         Data::Text(text) => write_text(text.as_str(), alloc, out),
         Data::List(items) => write_items(items, alloc, out),
         Data::Fields(members) => write_members(members, alloc, out),
-        Data::Named {
-            text,
-            items,
-            fields,
-        } => {
+        Data::Named(parts) => {
+            let (text, items, fields) = &**parts;
             out.push("{\"fields\":")?;
             write_members(fields, alloc, out)?;
             out.push(",\"items\":")?;
@@ -138,32 +132,17 @@ fn write_comma_if(later: bool, out: &mut Draft) -> Result<(), AllocError>
     if later { out.push(",") } else { Ok(()) }
 }
 
-// A text between quotes. A short one in which nothing is to be escaped takes no memory but in `out`; of a long one the
-// writer of `json` looks at many bytes at a time.
+// A text between quotes. One in which nothing is to be escaped takes no memory but in `out`.
 fn write_text(text: &str, alloc: Global, out: &mut Draft) -> Result<(), AllocError>
     ensures ok { OnOk result (out.new.1 ≡ out.old.1 ++ quoted text.now) }
     ensures before { out.new.0 ≡ out.old.0 }
 {
-    if text.len() > SHORT || !is_plain(text) {
+    if !is_plain(text) {
         return out.push(quoted(text, alloc)?.as_str());
     }
     out.push("\"")?;
     out.push(text)?;
     out.push("\"")
-}
-
-/// Whether the text has no byte that is to be escaped.
-pub(crate) fn is_plain(text: &str) -> bool
-    ensures { OnTrue result (escape text.now ≡ text.now) }
-{
-    text.as_bytes().iter().all(|byte| is_plain_byte(*byte))
-}
-
-#[tactic(auto, unfolding(json::specs::Print::escape_byte))]
-fn is_plain_byte(byte: u8) -> bool
-    ensures { result ≡ (length (escape_byte byte) == 1) }
-{
-    b' ' <= byte && byte != b'"' && byte != b'\\'
 }
 
 // The text between quotes, by the writer of `json`. It asks for room for a comma, too.

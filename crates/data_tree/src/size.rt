@@ -6,7 +6,7 @@ ghost use Rattle.data_tree.specs.Json.{json, size, items_json, members_json};
 ghost use Rattle.data_tree.specs.Capped.{capped};
 
 use crate::data::Data;
-use crate::print::is_plain;
+use crate::plain::is_plain;
 use itoa::Buffer;
 
 impl Data {
@@ -31,15 +31,14 @@ fn json_len(value: &Data) -> u64
         Data::Text(text) => quoted_len(text.as_str()),
         Data::List(items) => bracketed_len(items.len(), items_len(items)),
         Data::Fields(fields) => bracketed_len(fields.len(), members_len(fields)),
-        Data::Named {
-            text,
-            items,
-            fields,
-        } => bracketed_len(fields.len(), members_len(fields))
-            .saturating_add(bracketed_len(items.len(), items_len(items)))
-            .saturating_add(quoted_len(text.as_str()))
-            // `{"fields":`, `,"items":`, `,"text":` and `}`.
-            .saturating_add(28),
+        Data::Named(parts) => {
+            let (text, items, fields) = &**parts;
+            bracketed_len(fields.len(), members_len(fields))
+                .saturating_add(bracketed_len(items.len(), items_len(items)))
+                .saturating_add(quoted_len(text.as_str()))
+                // `{"fields":`, `,"items":`, `,"text":` and `}`.
+                .saturating_add(28)
+        }
     }
 }
 

@@ -5,7 +5,11 @@ use Rattle.std.specs.Cmp.Lexicographic.{slice_cmp}
 use Rattle.std.specs.List.{insert}
 use Rattle.data_tree.specs.Tree.{no_members, member, view, members_view}
 use Rattle.data_tree.specs.declared.data.Data.{Data}
-use Rattle.json_bridge.specs.Inner.Direct.{put, ArePassed, IsFoundAt, BelongsAt}
+use Rattle.std.proofs.lemmas.Cmp.{nat_list_cmp_total}
+use Rattle.data_tree.specs.Parts.{names_of}
+use Rattle.data_tree.specs.WellFormed.{IsAscending}
+use Rattle.json_bridge.specs.Inner.Direct.{put, ArePassed, IsFoundAt, BelongsAt, EndBefore}
+use Rattle.json_bridge.proofs.TreeSteps.{greater_of}
 
 abbrev pub Field : Type 0
 Field = String Global × Data
@@ -72,3 +76,28 @@ belongs_within k zero [] at = omega arith
 belongs_within k (suc n) [] at = absurd at
 belongs_within k zero (e ∷ ms) at = omega arith
 belongs_within k (suc n) (e ∷ ms) at = omega (arith, belongs_within k n ms at.1)
+
+-- ---- after all others
+
+below : (k : List ℕ) (m : Field) (ms : List Field) → IsAscending (names_of (members_view (m ∷ ms)))
+    → EndBefore (m ∷ ms) k → slice_cmp nat_cmp (string_bytes m.0) k ≡ Less
+below k m [] up ends = ends
+below k m (n ∷ ms) up ends =
+    nat_list_cmp_total.trans (string_bytes m.0) (string_bytes n.0) k up.0 (below k n ms up.1 ends)
+
+pub belongs_at_end : (k : List ℕ) (ms : List Field) → IsAscending (names_of (members_view ms)) → EndBefore ms k
+    → BelongsAt k (length ms) ms
+belongs_at_end k [] up ends = tt
+belongs_at_end k (m ∷ []) up ends = (greater_of (string_bytes m.0) k ends, tt)
+belongs_at_end k (m ∷ n ∷ ms) up ends = (
+  greater_of (string_bytes m.0) k (below k m (n ∷ ms) up ends),
+  belongs_at_end k (n ∷ ms) up.1 ends,
+)
+
+pub end_before : (ms : List Field) (n : ℕ) (any : Field) (k : List ℕ) → n + 1 ≡ length ms
+    → slice_cmp nat_cmp (string_bytes (slice_index_or ms n any).0) k ≡ Less → EndBefore ms k
+end_before [] n any k last less = tt
+end_before (m ∷ []) zero any k last less = less
+end_before (m ∷ []) (suc n) any k last less = absurd (omega (arith, last))
+end_before (m ∷ next ∷ ms) zero any k last less = absurd (omega (arith, last))
+end_before (m ∷ next ∷ ms) (suc n) any k last less = end_before (next ∷ ms) n any k (omega (arith, last)) less

@@ -163,7 +163,7 @@ above_join : (name k : List ℕ) (t : Tree) (found : Members) → IsAbove name f
 above_join name k t no_members h is = (is, tt)
 above_join name k t (member l u ms) h is = (h.0, above_join name k t ms h.1 is)
 
-greater_of : (a b : List ℕ) → slice_cmp nat_cmp a b ≡ Less → slice_cmp nat_cmp b a ≡ Greater
+pub greater_of : (a b : List ℕ) → slice_cmp nat_cmp a b ≡ Less → slice_cmp nat_cmp b a ≡ Greater
 greater_of a b e = nat_list_cmp_total.antisymm b a ∙ ap ordering_reverse e
 
 without_next : (a b : List ℕ) (names : List (List ℕ)) → IsAscending (a ∷ b ∷ names) → IsAscending (a ∷ names)

@@ -1,5 +1,5 @@
 // From a JSON text straight to its value, where each number in it is whole.
-ghost use Rattle.std.specs.Prelude.{◌≡◌, ◌<◌, length, Some, None, Err, IfOk, OnOk, IfSome, IsErrOf, option_map, string_bytes};
+ghost use Rattle.std.specs.Prelude.{◌≡◌, ◌<◌, length, Some, None, Err, IfOk, OnOk, IfSome, IsErrOf, IsTrue, option_map, string_bytes};
 ghost use Rattle.std.specs.Prelude.{MatchResult, option_and_then, true, false};
 ghost use Rattle.std.specs.Bool.{OnTrue};
 ghost use Rattle.json.specs.Json.{value, items, members, read_key};
@@ -9,7 +9,7 @@ ghost use Rattle.data_tree.specs.Parts.{names_of};
 ghost use Rattle.data_tree.specs.WellFormed.{IsAscending};
 ghost use Rattle.json_bridge.specs.Reading.{IsJson, tree_of_text, whole_number};
 ghost use Rattle.json_bridge.specs.Inner.Direct.{whole_of, put, put_all, tree_of_json, items_of_json, members_of_json};
-ghost use Rattle.json_bridge.specs.Inner.Direct.{IsFoundAt, BelongsAt};
+ghost use Rattle.json_bridge.specs.Inner.Direct.{IsFoundAt, BelongsAt, EndBefore, AreFewInOrder};
 
 use crate::error::JsonError;
 use crate::next_step::after_byte;
@@ -115,11 +115,9 @@ fn read_members(
     'members: while let Some(name) = next_name(reader)? {
         let key = String::from_str(alloc, name)?;
         let member = read(alloc, reader, depth)?;
-        let Ok(()) = found.push((key, member)) else {
-            return Err(JsonError::OutOfMemory);
-        };
+        add(&mut found, key, member)?;
     }
-    Ok(in_order(alloc, found)?)
+    Ok(finished(alloc, found)?)
 }
 
 // The name of an object's next member; none at its end.
@@ -163,6 +161,32 @@ fn from_zero(numeral: &Numeral<'_>) -> Option<i128>
         Some(number) => Some(i128::from(number)),
         None => None,
     }
+}
+
+// One more member. A few are put where their names belong; the others are put in order when all are there.
+fn add(found: &mut Vec<(String, Data)>, name: String, member: Data) -> Result<(), AllocError>
+    requires { AreFewInOrder found.old.items }
+    ensures put { OnOk result (put_all found.new.items no_members
+        ≡ put (string_bytes name) (view member) (put_all found.old.items no_members)) }
+    ensures in_order { OnOk result (AreFewInOrder found.new.items) }
+{
+    if found.len() < FEW {
+        put(found, name, member)?;
+        return Ok(());
+    }
+    found.push((name, member))?;
+    Ok(())
+}
+
+// The members that were added, in the order of their names.
+fn finished(alloc: Global, found: Vec<(String, Data)>) -> Result<Vec<(String, Data)>, AllocError>
+    requires { AreFewInOrder found.items }
+    ensures { IfOk result (λ made. members_view made.items ≡ put_all found.items no_members) }
+{
+    if found.len() <= FEW {
+        return Ok(found);
+    }
+    in_order(alloc, found)
 }
 
 // The members in the order of their names, each name once, with its last value.
@@ -216,6 +240,7 @@ fn put_each(alloc: Global, found: Vec<(String, Data)>) -> Result<Vec<(String, Da
 }
 
 fn put(made: &mut Vec<(String, Data)>, name: String, member: Data) -> Result<(), AllocError>
+    requires { IsAscending (names_of (members_view made.old.items)) }
     ensures { OnOk result (members_view made.new.items
         ≡ put (string_bytes name) (view member) (members_view made.old.items)) }
 {
@@ -226,11 +251,15 @@ fn put(made: &mut Vec<(String, Data)>, name: String, member: Data) -> Result<(),
     Ok(())
 }
 
-// Where the name is, or else where it belongs.
+// Where the name is, or else where it belongs. Mostly it is after all others.
 fn place_of(members: &[(String, Data)], name: &str) -> Result<usize, usize>
+    requires { IsAscending (names_of (members_view members.now)) }
     ensures { MatchResult result
         (λ index. IsFoundAt name.now index members.now) (λ index. BelongsAt name.now index members.now) }
 {
+    if end_before(members, name) {
+        return Err(members.len());
+    }
     let mut index = 0;
     while index < members.len() {
         match name.cmp(members[index].0.as_str()) {
@@ -240,6 +269,17 @@ fn place_of(members: &[(String, Data)], name: &str) -> Result<usize, usize>
         }
     }
     Err(index)
+}
+
+// Whether the last of the members, if there is one, is before the name.
+fn end_before(members: &[(String, Data)], name: &str) -> bool
+    ensures { IsTrue result → EndBefore members.now name.now }
+{
+    let count = members.len();
+    if count == 0 {
+        return true;
+    }
+    members[count - 1].0.as_str().cmp(name) == Ordering::Less
 }
 
 // Each name with its last value.

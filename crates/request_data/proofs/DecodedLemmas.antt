@@ -1,10 +1,12 @@
 -- Encoded texts in which no byte is escaped.
-use Rattle.std.proofs.Common.{◌≡◌, ◌≢◌, ◌==◌, ◌≤◌, ℕ, zero, suc, Bool, true, false, if◌then◌else◌, List, [], ◌∷◌}
+use Rattle.std.proofs.Common.{◌≡◌, ◌≢◌, ◌==◌, ◌≤◌, ◌<◌, ℕ, zero, suc, Bool, true, false, if◌then◌else◌, List, [], ◌∷◌}
 use Rattle.std.proofs.Common.{map, length, slice_index_or, slice_set, All, refl, ap, ◌∙◌, arith}
 use Rattle.std.proofs.lemmas.List.Elements.{All-head, All-tail}
+use Rattle.std.specs.Str.{IsAscii}
 use Rattle.percent_encoding.proofs.PercentLemmas.{percent_decode-nil, percent_decode_not_percent}
 use Rattle.percent_encoding.specs.Percent.{percent_sign}
 use Rattle.form_urlencoded.specs.Form.{decode, plus_to_space, plus_sign, space}
+use Rattle.request_data.specs.Inner.Plain.{IsPlain}
 
 unescaped : (b : ℕ) → b ≢ percent_sign → plus_to_space b ≢ percent_sign
 unescaped b other = by (b == plus_sign)
@@ -14,12 +16,24 @@ unescaped b other = by (b == plus_sign)
     by false = other
 
 -- only each `+` stands for something else
-pub decode_unescaped : (bs : List ℕ) → All (λ b. b ≢ percent_sign) bs → decode bs ≡ map plus_to_space bs
-decode_unescaped [] none = percent_decode-nil
-decode_unescaped (b ∷ bs) none =
-    percent_decode_not_percent (plus_to_space b) (map plus_to_space bs)
-    (unescaped b (All-head (λ x. x ≢ percent_sign) b bs none))
-    ∙ ap (λ l. plus_to_space b ∷ l) (decode_unescaped bs (All-tail (λ x. x ≢ percent_sign) b bs none))
+pub decode_plain : (bs : List ℕ) → All IsPlain bs → decode bs ≡ map plus_to_space bs
+decode_plain [] plain = percent_decode-nil
+decode_plain (b ∷ bs) plain =
+    percent_decode_not_percent (plus_to_space b) (map plus_to_space bs) (unescaped b (All-head IsPlain b bs plain).1)
+    ∙ ap (λ l. plus_to_space b ∷ l) (decode_plain bs (All-tail IsPlain b bs plain))
+
+ascii : (b : ℕ) → b < 128 → plus_to_space b < 128
+ascii b small = by (b == plus_sign)
+  where
+    by : (t : Bool) → (if t then space else b) < 128
+    by true = omega arith
+    by false = small
+
+-- so is the text
+pub ascii_spaces : (bs : List ℕ) → All IsPlain bs → IsAscii (map plus_to_space bs)
+ascii_spaces [] plain i = omega arith
+ascii_spaces (b ∷ bs) plain zero = ascii b (All-head IsPlain b bs plain).0
+ascii_spaces (b ∷ bs) plain (suc i) = ascii_spaces bs (All-tail IsPlain b bs plain) i
 
 -- that many bytes with a space for each `+`, and the others
 abbrev pub spaced : ℕ → List ℕ → List ℕ

@@ -1,7 +1,7 @@
 -- How long the JSON text of a text, of a list of texts and of an object is at most.
 use Rattle.std.proofs.Common.{◌≡◌, ℕ, zero, suc, ◌+◌, ◌*◌, ◌≤◌, Bool, true, false, cond, List, []}
 use Rattle.std.proofs.Common.{◌∷◌, ◌++◌, length, take, ◌<◌, Option, None, Some, refl, arith, length-append}
-use Rattle.std.proofs.Common.{length-drop, drop, eqb, ltb, codes}
+use Rattle.std.proofs.Common.{length-drop, drop, eqb, ltb, codes, get_or, ◌∙◌}
 use Rattle.std.specs.List.{sum_by}
 use Rattle.std.specs.Str.Lossy.{utf8_valid_len, utf8_invalid_len, after_first_chunk, utf8_lossy_within, utf8_lossy}
 use Rattle.std.specs.Str.Lossy.{replacement_bytes, second_byte_min, second_byte_max, error_len_after_two}
@@ -11,7 +11,7 @@ use Rattle.std.specs.Prelude.{unwrap_or, slice_index}
 use Rattle.std.proofs.lemmas.Bool.{eqb-false, cond_both}
 use Rattle.std.proofs.lemmas.List.Sums.{sum_by-cons}
 use Rattle.std.proofs.lemmas.Str.{utf8_valid_len_le}
-use Rattle.std.proofs.lemmas.List.{length-take-le}
+use Rattle.std.proofs.lemmas.List.{length-take-le, at_drop_more}
 use Rattle.json.specs.Print.{escape_byte, escape, quoted}
 use Rattle.data_tree.specs.Tree.{Tree, Members, no_members, member}
 use Rattle.data_tree.specs.Json.{json, items_json, members_json, comma_if}
@@ -27,7 +27,7 @@ escape_byte_by false true x letter high low = omega arith
 escape_byte_by false false x letter high low = omega arith
 
 -- a byte in a string becomes six at most
-escape_byte_most : (x : ℕ) → length (escape_byte x) ≤ 6
+pub escape_byte_most : (x : ℕ) → length (escape_byte x) ≤ 6
 unfolding escape_byte
 escape_byte_most x = search escape_byte_by
 
@@ -35,8 +35,20 @@ escape_most : (s : List ℕ) → length (escape s) ≤ 6 * length s
 escape_most [] = omega arith
 escape_most (x ∷ s) = omega (arith, length-append (escape_byte x) (escape s), escape_byte_most x, escape_most s)
 
+-- its two quotes
+pub quoted_len : (s : List ℕ) → length (quoted s) ≡ length (escape s) + 2
+quoted_len s = omega (arith, length-append (escape s) (34 ∷ []))
+
 pub quoted_most : (s : List ℕ) → length (quoted s) ≤ 6 * length s + 2
-quoted_most s = omega (arith, length-append (escape s) (34 ∷ []), escape_most s)
+quoted_most s = omega (arith, quoted_len s, escape_most s)
+
+-- what is left of a text from a byte on
+pub escape_from
+    : (s : List ℕ) (i : ℕ) → i < length s
+    → length (escape (drop i s)) ≡ length (escape_byte (get_or s i 0)) + length (escape (drop (i + 1) s))
+escape_from s i within =
+    at_drop_more (λ rest. length (escape rest)) s i 0 within
+    ∙ length-append (escape_byte (get_or s i 0)) (escape (drop (i + 1) s))
 
 -- ---- lists and objects
 
@@ -165,10 +177,9 @@ within_escaped (suc k) bs =
     (λ text. length (escape text) ≤ 6 * length bs) (λ _. escape_most bs)
     (fault_escaped bs (utf8_lossy_within k (after_first_chunk bs)) (within_escaped k (after_first_chunk bs)))
 
-pub quoted_lossy_most : (bs : List ℕ) → length (quoted (utf8_lossy bs)) ≤ 6 * length bs + 2
+pub escaped_lossy_most : (bs : List ℕ) → length (escape (utf8_lossy bs)) ≤ 6 * length bs
 unfolding utf8_lossy
-quoted_lossy_most bs =
-    omega (arith, length-append (escape (utf8_lossy bs)) (34 ∷ []), within_escaped (length bs) bs)
+escaped_lossy_most bs = within_escaped (length bs) bs
 
 pub lossy_most : (bs : List ℕ) → length (utf8_lossy bs) ≤ 3 * length bs
 unfolding utf8_lossy

@@ -10,6 +10,7 @@ use Rattle.std.proofs.lemmas.Bool.{cond_both}
 use Rattle.std.proofs.lemmas.Fmt.{length-decimal-le}
 use Rattle.std.proofs.lemmas.List.{length-take}
 use Rattle.std.proofs.lemmas.List.Sums.{sum_by-cons}
+use Rattle.json.specs.Print.{escape}
 use Rattle.data_tree.specs.Tree.{Tree, nothing, number, text, fields, no_members, member}
 use Rattle.data_tree.specs.Json.{json, members_json, size}
 use Rattle.data_tree.proofs.Sizes.{length_fields}
@@ -29,7 +30,7 @@ use Rattle.request_data.specs.Inner.Lengths.{header_weight, template_len}
 use Rattle.request_data.specs.RequestTree.{bound_in, json_tree, path_tree, request_fields, request_tree}
 use Rattle.request_data.proofs.TreeLemmas.{members_from}
 use Rattle.request_data.proofs.TextBounds.{quoted_most, first_member, member_most, lossy_most}
-use Rattle.request_data.proofs.TextBounds.{quoted_lossy_most}
+use Rattle.request_data.proofs.TextBounds.{quoted_len}
 use Rattle.request_data.proofs.GroupBounds.{pair_cost, grouped_most}
 use Rattle.request_data.proofs.CookieBounds.{cookie_len, cookies_most}
 use Rattle.std.proofs.lemmas.Cmp.{nat_list_eq_equiv}
@@ -199,11 +200,12 @@ json_most bytes = by (tree_of_text bytes) refl
 
 -- ---- the whole
 
+-- what is said of the head, and the body as a text and as a value
 pub tree_most
     : (request : Request) (template : Option (List ℕ))
     → size (request_tree request template)
     ≤ 84 * (sum_by header_weight request.headers + length request.headers + length request.method + length request.url
-    + template_len template) + 1000 + 9 * length request.body
+    + template_len template) + 1000 + length (escape (utf8_lossy request.body)) + length (utf8_lossy request.body)
 tree_most request template =
     let headers = request.headers in
     let authority = authority_of headers in
@@ -211,8 +213,7 @@ tree_most request template =
     omega (
       arith,
       json_most (utf8_lossy request.body),
-      lossy_most request.body,
-      quoted_lossy_most request.body,
+      quoted_len (utf8_lossy request.body),
       root_most (json_tree (utf8_lossy request.body)) (fields (request_fields request template)),
       fields_most
           (text (codes "http://" ++ authority))

@@ -1,3 +1,4 @@
 pub mod Views
 pub mod Lengths
 pub mod Runs
+pub mod Plain

@@ -155,11 +155,7 @@ fn values_data(alloc: Global, values: Vec<String>) -> Result<Data, AllocError>
     for value in values {
         items.push(Data::Text(value))?;
     }
-    Ok(Data::Named {
-        text,
-        items,
-        fields: Vec::new(alloc),
-    })
+    Data::named(alloc, text, items, Vec::new(alloc))
 }
 
 fn first(alloc: Global, values: &[String]) -> Result<String, AllocError>

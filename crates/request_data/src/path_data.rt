@@ -38,11 +38,8 @@ pub(crate) fn path_data(
     requires { IsRooted path.now }
     ensures { IfOk result (λ made. view made ≡ path_tree path.now (members_view bindings.items)) }
 {
-    Ok(Data::Named {
-        text: String::from_str(alloc, path)?,
-        items: segments(alloc, path)?,
-        fields: bindings,
-    })
+    let text = String::from_str(alloc, path)?;
+    Data::named(alloc, text, segments(alloc, path)?, bindings)
 }
 
 fn segments(alloc: Global, path: &str) -> Result<Vec<Data>, AllocError>

@@ -1,11 +1,11 @@
 // A query's names and values as templates see them.
-ghost use Rattle.std.specs.Prelude.{◌≡◌, ◌≢◌, ◌++◌, map, All, IfOk, OnOk, IsTrue, string_bytes};
+ghost use Rattle.std.specs.Prelude.{◌≡◌, ◌++◌, map, All, IfOk, OnOk, IsTrue, string_bytes};
 ghost use Rattle.std.specs.Str.Lossy.{utf8_lossy};
 ghost use Rattle.data_tree.specs.Tree.{view};
 ghost use Rattle.form_urlencoded.specs.Form.{decode, parse, plus_to_space};
-ghost use Rattle.percent_encoding.specs.Percent.{percent_sign};
 ghost use Rattle.mock_request.specs.Query.{query_pairs, text_pair};
 ghost use Rattle.request_data.specs.Grouped.{grouped};
+ghost use Rattle.request_data.specs.Inner.Plain.{IsPlain};
 ghost use Rattle.request_data.specs.Inner.Runs.{pairs_of_runs, pairs_under};
 
 use crate::grouped::grouped_runs;
@@ -61,25 +61,25 @@ fn push_run(
     Ok(())
 }
 
-// The text of a name or a value. In most no byte is escaped.
+// The text of a name or a value. Most are ASCII, with no byte escaped.
 fn decoded(alloc: Global, encoded: &[u8]) -> Result<String, AllocError>
     ensures { IfOk result (λ text. string_bytes text ≡ utf8_lossy (decode encoded.now)) }
 {
     if encoded.is_empty() {
         return Ok(String::new(alloc));
     }
-    if has_no_escape(encoded) {
-        if let Ok(text) = String::from_utf8(with_spaces(alloc, encoded)?) {
-            return Ok(text);
-        }
+    if is_plain(encoded) {
+        let bytes = with_spaces(alloc, encoded)?;
+        // SAFETY: it is proved that the bytes are ASCII.
+        return Ok(unsafe { String::from_utf8_unchecked(bytes) });
     }
     form_urlencoded::decode(alloc, encoded)?.into_owned(alloc)
 }
 
-fn has_no_escape(encoded: &[u8]) -> bool
-    ensures { IsTrue result → All (λ byte. byte ≢ percent_sign) encoded.now }
+fn is_plain(encoded: &[u8]) -> bool
+    ensures { IsTrue result → All IsPlain encoded.now }
 {
-    encoded.iter().all(|&byte| byte != b'%')
+    encoded.iter().all(|&byte| byte < 128 && byte != b'%')
 }
 
 // The bytes, with a space for each `+`.

@@ -1,5 +1,6 @@
 // Replies of templates, within the limits.
 ghost use Rattle.std.specs.Prelude.{◌≡◌, ◌≤◌, ◌<◌, IfOk, IfSome, IfNone, IsTrue, option_copied};
+ghost use Rattle.data_tree.specs.Tree.{Tree};
 ghost use Rattle.data_tree.specs.Json.{size};
 ghost use Rattle.data_tree.specs.RequestData.{root_of};
 ghost use Rattle.data_tree.specs.declared.request_data.TheConstants.{SIZE_LIMIT};
@@ -23,7 +24,7 @@ use mock_request::snapshot::Snapshot;
 use needed_data::needed::Needed;
 use path_template::path_template::PathTemplate;
 use request_data::part::part_of_data;
-use request_data::size_bound::size_bound;
+use request_data::size_bound::{closer_size_bound, size_bound};
 use request_data::tree::request_data;
 use std::alloc::{AllocError, Global};
 
@@ -69,7 +70,8 @@ pub(crate) fn templated_body(
     }
 }
 
-// Whether a bound on the size of the request's data shows that data and templates are within their limits.
+// Whether a bound on the size of the request's data shows that data and templates are within their limits. The closer
+// one takes a pass over the body.
 fn is_within(
     limits: Limits,
     headers: &[HeaderLine<TemplateText>],
@@ -80,8 +82,22 @@ fn is_within(
     ensures { IsTrue result → IsWithin limits (templates_of headers.now body.now)
         (request_tree request.now (option_copied template.entry)) }
 {
-    match size_bound(request, template) {
-        Some(bound) => bound <= SIZE_LIMIT && keep_to(limits, headers, body, bound),
+    is_kept_to(limits, headers, body, size_bound(request, template))
+        || is_kept_to(limits, headers, body, closer_size_bound(request, template))
+}
+
+// Whether data of at most that size are within their limit, and the templates within theirs.
+fn is_kept_to(
+    limits: Limits,
+    headers: &[HeaderLine<TemplateText>],
+    body: &Body<TemplateText>,
+    bound: Option<u64>,
+) -> bool
+    ensures { IsTrue result → (root : Tree) → IfSome bound (λ most. size root ≤ most)
+        → IsWithin limits (templates_of headers.now body.now) root }
+{
+    match bound {
+        Some(most) => most <= SIZE_LIMIT && keep_to(limits, headers, body, most),
         None => false,
     }
 }

@@ -88,21 +88,22 @@ fn copied(alloc: Global, value: &Data) -> Result<Data, AllocError>
 fn named_text(alloc: Global, text: &String, items: &Data, fields: &Data) -> Result<Data, AllocError>
     ensures { IfOk result (λ value. IsWellFormed (view value)) }
 {
-    Ok(named(text.clone()?, copied(alloc, items)?, copied(alloc, fields)?))
+    named(
+        alloc,
+        text.clone()?,
+        copied(alloc, items)?,
+        copied(alloc, fields)?,
+    )
 }
 
-fn named(text: String, items: Data, fields: Data) -> Data
+fn named(alloc: Global, text: String, items: Data, fields: Data) -> Result<Data, AllocError>
     requires items { IsWellFormed (view items) }
     requires fields { IsWellFormed (view fields) }
-    ensures { IsWellFormed (view result) }
+    ensures { IfOk result (λ value. IsWellFormed (view value)) }
 {
     match (items, fields) {
-        (Data::List(items), Data::Fields(fields)) => Data::Named {
-            text,
-            items,
-            fields,
-        },
-        _ => Data::Nothing,
+        (Data::List(items), Data::Fields(fields)) => Data::named(alloc, text, items, fields),
+        _ => Ok(Data::Nothing),
     }
 }
 

@@ -57,8 +57,11 @@ fn lower_case<'a>(alloc: Global, text: &'a str) -> Result<Held<'a>, AllocError>
 pub fn printed<'a>(alloc: Global, value: Value<'a>) -> Result<CowStr<'a, Global>, AllocError>
     ensures { IfOk result (λ text. cow_str_bytes text ≡ text_of (value_view value.entry)) }
 {
-    if let Value::Datum(Some(Data::Text(text) | Data::Named { text, .. })) = value {
+    if let Value::Datum(Some(Data::Text(text))) = value {
         return Ok(CowStr::Borrowed(text.as_str()));
+    }
+    if let Value::Datum(Some(Data::Named(parts))) = value {
+        return Ok(CowStr::Borrowed(parts.0.as_str()));
     }
     let mut text = String::new(alloc);
     value.print_into(alloc, &mut text)?;

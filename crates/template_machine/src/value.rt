@@ -102,7 +102,8 @@ fn data_prints(found: &Data) -> bool
 {
     match found {
         Data::Nothing => false,
-        Data::Text(text) | Data::Named { text, .. } => !text.is_empty(),
+        Data::Text(text) => !text.is_empty(),
+        Data::Named(parts) => !parts.0.is_empty(),
         Data::Number(number) => decimal_prints(*number),
         Data::Truth(_) | Data::List(_) | Data::Fields(_) => true,
     }

@@ -1,6 +1,6 @@
 -- For private clauses: the tree of a JSON value, made straight from what its tokens spell. Each number in it is whole,
 -- also in values that a repeated name gives up.
-use Rattle.std.specs.Prelude.{◌≡◌, ℕ, zero, suc, ℤ, List, [], ◌∷◌, Option, Some, option_map, option_and_then, String, string_bytes}
+use Rattle.std.specs.Prelude.{◌≡◌, ◌≤◌, length, ℕ, zero, suc, ℤ, List, [], ◌∷◌, Option, Some, option_map, option_and_then, String, string_bytes}
 use Rattle.std.specs.Cmp.Lexicographic.{slice_cmp}
 use Rattle.std.specs.Ordering.{nat_cmp, match_ordering}
 use Rattle.std.specs.declared.cmp.Ordering.TheVariants.{Less, Equal, Greater}
@@ -9,9 +9,12 @@ use Rattle.json.specs.Json as json
 use Rattle.json.specs.Token.{Token}
 use Rattle.serde_json.specs.Read.{number_of, converted}
 use Rattle.data_tree.specs.Tree.{Tree, nothing, truth, number, text, list, fields, Items, no_items, item, Members}
-use Rattle.data_tree.specs.Tree.{no_members, member, view}
+use Rattle.data_tree.specs.Tree.{no_members, member, members_view, view}
 use Rattle.data_tree.specs.declared.data.Data.{Data}
+use Rattle.data_tree.specs.Parts.{names_of}
+use Rattle.data_tree.specs.WellFormed.{IsAscending}
 use Rattle.json_bridge.specs.Reading.{whole_number}
+use Rattle.json_bridge.specs.declared.direct.TheConstants.{FEW}
 
 -- the number that a text spells, where it is whole and fits
 abbrev pub whole_of : List ℕ → Option ℤ
@@ -76,3 +79,13 @@ BelongsAt k zero [] = Unit {0}
 BelongsAt k zero (m ∷ ms) = slice_cmp nat_cmp k (string_bytes m.0) ≡ Less
 BelongsAt k (suc n) [] = ⊥
 BelongsAt k (suc n) (m ∷ ms) = (slice_cmp nat_cmp k (string_bytes m.0) ≡ Greater) × BelongsAt k n ms
+
+-- the last of the members, if there is one, is before k
+abbrev pub EndBefore : List (String Global × Data) → List ℕ → Type 0
+EndBefore [] k = Unit {0}
+EndBefore (m ∷ []) k = slice_cmp nat_cmp (string_bytes m.0) k ≡ Less
+EndBefore (m ∷ n ∷ ms) k = EndBefore (n ∷ ms) k
+
+-- where they are few, they are in the order of their names
+abbrev pub AreFewInOrder : List (String Global × Data) → Type 0
+AreFewInOrder ms = length ms ≤ FEW → IsAscending (names_of (members_view ms))

@@ -1,15 +1,34 @@
-use Rattle.std.proofs.Common.{◌∙◌, sym}
-use Rattle.data_tree.proofs.Views.{after-HasItems, after-HasMembers, nth_of_element}
+use Rattle.std.proofs.Common.{refl, sym, ap, ◌∙◌}
+use Rattle.data_tree.specs.LookUp.{after}
+use Rattle.data_tree.specs.declared.step.Step.TheVariants.{Name, Index}
+use Rattle.data_tree.proofs.Views.{view-List, view-Fields, view-Named, nth_of_element}
 use Rattle.data_tree.proofs.look_up.after.Goals as goal
-
-pub returns-in-List : goal.returns-in-List
-returns-in-List c =
-    let items = c.in-List.items in
-    rw (c.in-Index.is, after-HasItems c.in-Index.index c.args.value.now items c.in-List.is)
-    (nth_of_element c.item_at.result items.items c.in-Index.index
-    (c.item_at.ensures ∙ rw c.as_slice-in-List.ensures.value))
 
 pub returns-in-Fields : goal.returns-in-Fields
 returns-in-Fields c =
-    rw (c.in-Name.is, c.under.ensures, c.as_str.ensures, c.as_slice.ensures.value)
-    (sym (after-HasMembers c.in-Name.name c.args.value.now c.in-Fields.fields c.in-Fields.is))
+    rw (c.in-Name.is, c.in-Fields.is, c.under.ensures, c.as_str.ensures, c.as_slice.ensures.value)
+    (sym (ap (after (Name c.in-Name.name)) (view-Fields c.in-Fields.fields)))
+
+pub returns-in-Named : goal.returns-in-Named
+returns-in-Named c =
+    rw (c.in-Name.is, c.in-Named.is, c.under-in-Named.ensures, c.as_str-in-Named.ensures)
+    (rw (c.as_slice-in-Named.ensures.value, c.deref.ensures)
+    (sym (ap (after (Name c.in-Name.name)) (view-Named c.in-Named.parts))))
+
+pub returns-in-List : goal.returns-in-List
+returns-in-List c =
+    let k = c.in-Index.index in
+    let items = c.in-List.items in
+    rw (c.in-Index.is, c.in-List.is)
+    (nth_of_element c.item_at.result items.items k (c.item_at.ensures ∙ rw c.as_slice-in-List.ensures.value refl)
+    ∙ sym (ap (after (Index k)) (view-List items)))
+
+pub returns-in-Named-value : goal.returns-in-Named-value
+returns-in-Named-value c =
+    let k = c.in-Index.index in
+    let parts = c.in-Named-value.parts in
+    rw (c.in-Index.is, c.in-Named-value.is)
+    (nth_of_element c.item_at-in-Named-value.result parts.value.1.items k
+    (c.item_at-in-Named-value.ensures
+    ∙ rw (c.as_slice-in-Named-value.ensures.value, c.deref-in-Named-value.ensures) refl)
+    ∙ sym (ap (after (Index k)) (view-Named parts)))

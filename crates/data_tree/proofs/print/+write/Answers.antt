@@ -3,7 +3,7 @@ use Rattle.std.proofs.Common.{false}
 use Rattle.std.proofs.lemmas.Result.{on_ok_weaker}
 use Rattle.json.specs.Print.{quoted}
 use Rattle.data_tree.specs.Json.{json, items_json, members_json}
-use Rattle.data_tree.specs.Tree.{view, items_view, members_view}
+use Rattle.data_tree.specs.Tree.{named, view, items_view, members_view}
 use Rattle.data_tree.proofs.Views.{view-Named}
 use Rattle.data_tree.proofs.print.+write.Goals as goal
 
@@ -18,12 +18,15 @@ pieces o o1 o2 o3 o4 o5 o6 o7 a m b i d q z c1 c2 c3 c4 e1 e2 e3 e4 e5 e6 e7 =
 pub write_value-returns-in_ok-write_text-in-Named-clause-ok
     : goal.write_value-returns-in_ok-write_text-in-Named-clause-ok
 write_value-returns-in_ok-write_text-in-Named-clause-ok t c =
-    let n = c.in-Named in
-    let seen = ap view n.is ∙ view-Named n.text n.items n.fields in
+    let parts = c.deref.result.now in
+    let seen : view c.args.value.now
+    ≡ named (string_bytes parts.0) (items_view parts.1.items) (members_view parts.2.items) =
+    ap view c.in-Named.is ∙ view-Named c.in-Named.parts
+    ∙ ap (λ p. named (string_bytes p.0) (items_view p.1.items) (members_view p.2.items)) (sym c.deref.ensures) in
     on_ok_weaker c.push-in-Named-4.result (λ w.
     pieces _ _ _ _ _ _ _ _ (codes "{\"fields\":")
-    (members_json false (members_view n.fields.items)) (codes ",\"items\":")
-    (items_json false (items_view n.items.items)) (codes ",\"text\":") (quoted (string_bytes n.text)) (codes "}")
+    (members_json false (members_view parts.2.items)) (codes ",\"items\":")
+    (items_json false (items_view parts.1.items)) (codes ",\"text\":") (quoted (string_bytes parts.0)) (codes "}")
     (codes "{") (codes "}") (codes "[") (codes "]")
     c.in_ok-push-in-Named.ensures.ok c.in_ok-write_members-in-Named.ensures.ok c.in_ok-push-in-Named-2.ensures.ok
     c.in_ok-write_items-in-Named.ensures.ok c.in_ok-push-in-Named-3.ensures.ok

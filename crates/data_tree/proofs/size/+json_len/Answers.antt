@@ -1,5 +1,5 @@
-use Rattle.std.proofs.Common.{◌≡◌, length, ◌∙◌, rules}
-use Rattle.data_tree.specs.Tree.{items_view, members_view, fields, list}
+use Rattle.std.proofs.Common.{◌≡◌, length, string_bytes, ap, sym, ◌∙◌, rules}
+use Rattle.data_tree.specs.Tree.{view, items_view, members_view, fields, list, named}
 use Rattle.data_tree.specs.Json.{json}
 use Rattle.data_tree.specs.Capped.{capped}
 use Rattle.data_tree.proofs.Views.{view-List, view-Fields, view-Named}
@@ -19,15 +19,19 @@ json_len-returns-in-Fields t c =
 
 pub json_len-returns-in-Named : goal.json_len-returns-in-Named
 json_len-returns-in-Named t c =
-    let n = c.in-Named in
-    let ms = members_view n.fields.items in
-    let ts = items_view n.items.items in
+    let parts = c.deref.result.now in
+    let seen : view c.args.value.now
+    ≡ named (string_bytes parts.0) (items_view parts.1.items) (members_view parts.2.items) =
+    ap view c.in-Named.is ∙ view-Named c.in-Named.parts
+    ∙ ap (λ p. named (string_bytes p.0) (items_view p.1.items) (members_view p.2.items)) (sym c.deref.ensures) in
+    let ms = members_view parts.2.items in
+    let ts = items_view parts.1.items in
     let f : c.bracketed_len-in-Named.result ≡ capped (length (json (fields ms))) =
     c.bracketed_len-in-Named.ensures ∙ rw (c.len-in-Named.ensures, c.members_len-in-Named.ensures)
-    (fields_length n.fields.items _ (search rules)) in
+    (fields_length parts.2.items _ (search rules)) in
     let i : c.bracketed_len-in-Named-2.result ≡ capped (length (json (list ts))) =
     c.bracketed_len-in-Named-2.ensures ∙ rw (c.len-in-Named-2.ensures, c.items_len-in-Named.ensures)
-    (list_length n.items.items _ (search rules)) in
-    rw (n.is, view-Named n.text n.items n.fields)
+    (list_length parts.1.items _ (search rules)) in
+    rw seen
     (rw (c.saturating_add-in-Named-2.ensures, c.saturating_add-in-Named.ensures, c.saturating_add.ensures)
     (rw (f, i, c.quoted_len-in-Named.ensures, c.as_str-in-Named.ensures.value) (named_length _ ts ms)))

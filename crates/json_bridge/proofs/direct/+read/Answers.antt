@@ -1,4 +1,4 @@
-use Rattle.std.proofs.Common.{◌≡◌, ◌-◌, ◌<◌, [], ◌∷◌, length, Some, None, string_bytes, sym, ap, ap₂, ◌∙◌, arith, rules}
+use Rattle.std.proofs.Common.{◌≡◌, ◌-◌, ◌<◌, [], ◌∷◌, length, Some, None, string_bytes, sym, subst, ap, ap₂, ◌∙◌, arith, rules}
 use Rattle.std.proofs.Common.{to_z, of_z, to_z-of_z}
 use Rattle.std.specs.Int.{w128}
 use Rattle.json.specs.Token.{Token}
@@ -10,10 +10,10 @@ use Rattle.serde_json.specs.Read.{converted}
 use Rattle.data_tree.specs.Tree.{nothing, truth, number, text, list, fields, no_members, view}
 use Rattle.data_tree.specs.declared.data.Data.{Nothing, Truth, Number, Text, the_lemmas}
 use Rattle.data_tree.proofs.Views.{view-List, view-Fields}
-use Rattle.json_bridge.specs.Inner.Direct.{put, put_all, tree_of_json, items_of_json, members_of_json}
+use Rattle.json_bridge.specs.Inner.Direct.{put, put_all, tree_of_json, items_of_json, members_of_json, AreFewInOrder}
 use Rattle.json_bridge.proofs.Grown.{items_before, items_before-none}
 use Rattle.json_bridge.proofs.TreeSteps.{converted-array, converted-object, item_read, items_over, member_read}
-use Rattle.json_bridge.proofs.TreeSteps.{members_over, one_more_item, none_before, put_all_last}
+use Rattle.json_bridge.proofs.TreeSteps.{members_over, one_more_item, none_before}
 use Rattle.json_bridge.proofs.direct.+read.Goals as goal
 
 pub read-returns-in_err-token-clause-not_json : goal.read-returns-in_err-token-clause-not_json
@@ -172,6 +172,7 @@ read_members-members-init t c =
       ap (λ es. converted (λ ms. members_of_json ms (put_all es no_members)) all) (sym c.new-found.ensures.items),
       λ none. none,
       omega arith,
+      subst AreFewInOrder (sym c.new-found.ensures.items) (λ _. tt),
     )
 
 pub read_members-returns-in_err-name-clause-not_json : goal.read_members-returns-in_err-name-clause-not_json
@@ -204,9 +205,8 @@ read_members-members-preserved t c =
     let less = read_key-shorter l.reader (Some k) s named in
     let lesser = done.shorter in
     let copied : string_bytes c.in_ok-key.key ≡ k = search rules in
-    let pushed : put_all c.push.new.self.items no_members ≡ put k (view d) old =
-    ap (λ es. put_all es no_members) c.in-Ok.ensures.items ∙ put_all_last l.found.items (c.in_ok-key.key, d) no_members
-    ∙ ap (λ name. put name (view d) old) copied in
+    let pushed : put_all c.add.new.found.items no_members ≡ put k (view d) old =
+    c.in_ok-add.ensures.put ∙ ap (λ name. put name (view d) old) copied in
     let turn = member_read p old n k l.reader s r (view d) (omega (arith, l.invariant.1)) named done.ok in (
       n - 1,
       omega (arith, l.invariant.1),
@@ -214,6 +214,7 @@ read_members-members-preserved t c =
           (sym pushed),
       λ none. l.invariant.3 (turn.1 none),
       omega (arith, l.invariant.4),
+      c.in_ok-add.ensures.in_order,
     )
 
 pub read_members-returns-clause-ok : goal.read_members-returns-clause-ok
@@ -224,4 +225,4 @@ read_members-returns-clause-ok t c =
     let r = c.next_name.new.reader in
     let old = put_all l.found.items no_members in
     l.invariant.2 ∙ members_over p old n l.reader r l.invariant.1 (grind arith)
-    ∙ ap (λ ms. Some (ms, r)) (sym c.in_ok-in_order.ensures)
+    ∙ ap (λ ms. Some (ms, r)) (sym c.in_ok-finished.ensures)

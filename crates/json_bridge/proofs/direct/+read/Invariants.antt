@@ -2,7 +2,7 @@ use Rattle.std.proofs.Common.{◌≡◌, ℕ, ◌+◌, ◌*◌, ◌≤◌, lengt
 use Rattle.json.specs.Json.{items, members, value, parse_map}
 use Rattle.serde_json.specs.Read.{converted}
 use Rattle.data_tree.specs.Tree.{no_members}
-use Rattle.json_bridge.specs.Inner.Direct.{put_all, items_of_json, members_of_json}
+use Rattle.json_bridge.specs.Inner.Direct.{put_all, items_of_json, members_of_json, AreFewInOrder}
 use Rattle.json_bridge.proofs.Grown.{items_before}
 use Rattle.json_bridge.proofs.direct.+read.Given as goal
 
@@ -37,6 +37,7 @@ invariant-read_members-members l =
     × (members (value l.depth) n l.reader ≡ None
     → members (value l.depth) (length l.initial.reader) l.initial.reader ≡ None)
     × (length l.reader ≤ length l.initial.reader)
+    × AreFewInOrder l.found.items
 
 abbrev pub decreases-read_members-members : goal.decreases-read_members-members
 decreases-read_members-members l = length l.reader

@@ -1,7 +1,10 @@
-use Rattle.std.proofs.Common.{ap, sym, ◌∙◌, length, arith}
+use Rattle.std.proofs.Common.{ap, sym, subst, ◌∙◌, length, string_bytes, arith}
 use Rattle.std.specs.Vec.Iter.{into_iter_items}
-use Rattle.data_tree.specs.Tree.{members_view}
+use Rattle.data_tree.specs.Parts.{names_of}
+use Rattle.data_tree.specs.Tree.{members_view, view}
+use Rattle.data_tree.specs.WellFormed.{IsAscending}
 use Rattle.json_bridge.specs.Inner.Direct.{put_all}
+use Rattle.json_bridge.proofs.KeptSteps.{ascends_put}
 use Rattle.json_bridge.proofs.TreeSteps.{put_none}
 use Rattle.json_bridge.proofs.direct.put_each.Goals as goal
 
@@ -11,6 +14,8 @@ loop-name-preserved c =
     let rest = into_iter_items c.next.new.self in
     let steps = c.in-Some.ensures.steps in
     record {
+      up = subst (λ ms. IsAscending (names_of ms)) (sym c.in_ok-put.ensures)
+          (ascends_put (string_bytes c.in-Some.name) (view c.in-Some.member) (members_view l.made.items) l.invariant.up);
       counted = omega (arith, l.invariant.counted, steps.1, ap length steps.0);
       whole = l.invariant.whole ∙ ap (λ es. put_all es (members_view l.made.items)) steps.0
           ∙ ap (put_all rest) (sym c.in_ok-put.ensures);

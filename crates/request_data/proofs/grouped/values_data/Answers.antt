@@ -2,7 +2,7 @@ use Rattle.std.proofs.Common.{◌≡◌, map, string_bytes, ap, sym, ◌∙◌}
 use Rattle.std.proofs.lemmas.Iterator.Adapters.{YieldsList-from_vec}
 use Rattle.std.proofs.lemmas.Iterator.Consumers.{YieldsList-end}
 use Rattle.std.proofs.lemmas.List.{map-id}
-use Rattle.data_tree.proofs.Views.{view-Named}
+use Rattle.std.proofs.lemmas.Result.{IfOk-weaker}
 use Rattle.data_tree.specs.Tree.{named, items_of, members_view, view}
 use Rattle.mock_request.specs.Values.{first_of}
 use Rattle.request_data.specs.Grouped.{texts}
@@ -23,7 +23,7 @@ returns c =
     let items : items_of (map view c.loop-value.items.items) ≡ texts values =
     ap items_of c.loop-value.invariant ∙ texts_from_values c.loop-value.yielded
     ∙ ap (λ vs. texts (map string_bytes vs)) whole in
-    view-Named c.in_ok-text.text c.loop-value.items c.new.result
-    ∙ ap (λ t. named t (items_of (map view c.loop-value.items.items)) (members_view c.new.result.items)) text
+    IfOk-weaker c.named.result _ _ (λ made same_tree.
+    same_tree ∙ ap (λ t. named t (items_of (map view c.loop-value.items.items)) (members_view c.new.result.items)) text
     ∙ ap (λ is. named (first_of values) is (members_view c.new.result.items)) items
-    ∙ ap (λ ms. named (first_of values) (texts values) (members_view ms)) c.new.ensures.items
+    ∙ ap (λ ms. named (first_of values) (texts values) (members_view ms)) c.new.ensures.items) c.named.ensures

@@ -1,23 +1,14 @@
-use Rattle.std.proofs.Common.{◌≡◌, ◌≢◌, [], All, map, length, string_bytes, rules, ap, refl, sym, ◌∙◌}
+use Rattle.std.proofs.Common.{◌≡◌, [], All, map, length, rules, ap, refl, sym, subst, ◌∙◌}
+use Rattle.std.specs.Str.{IsUtf8}
 use Rattle.std.specs.Str.Lossy.{utf8_lossy}
 use Rattle.std.proofs.lemmas.Bool.{eqb-true}
 use Rattle.std.proofs.lemmas.List.{nil_from_length}
-use Rattle.std.proofs.lemmas.Str.{utf8_lossy-IsUtf8, utf8_lossy_empty, IsUtf8-string_bytes}
+use Rattle.std.proofs.lemmas.Str.{utf8_lossy-IsUtf8, utf8_lossy_empty, IsUtf8-from_ascii}
 use Rattle.form_urlencoded.specs.Form.{decode, plus_to_space}
-use Rattle.percent_encoding.specs.Percent.{percent_sign}
 use Rattle.percent_encoding.proofs.PercentLemmas.{percent_decode-nil}
-use Rattle.request_data.proofs.DecodedLemmas.{decode_unescaped}
+use Rattle.request_data.specs.Inner.Plain.{IsPlain}
+use Rattle.request_data.proofs.DecodedLemmas.{decode_plain, ascii_spaces}
 use Rattle.request_data.proofs.query_data.decoded.Goals as goal
-
-pub returns-in-Ok : goal.returns-in-Ok
-returns-in-Ok c =
-    let encoded = c.args.encoded.now in
-    let unescaped : All (λ byte. byte ≢ percent_sign) encoded = search rules in
-    let same : string_bytes c.in-Ok.text ≡ decode encoded =
-    (let made : string_bytes c.in-Ok.text ≡ map plus_to_space encoded = search rules in made)
-    ∙ sym (decode_unescaped encoded unescaped) in
-    let is_text = IsUtf8-string_bytes c.in-Ok.text in
-    same ∙ sym (ap utf8_lossy (sym same) ∙ utf8_lossy-IsUtf8 (string_bytes c.in-Ok.text) is_text ∙ same)
 
 pub returns-then-is_empty : goal.returns-then-is_empty
 returns-then-is_empty c =
@@ -27,3 +18,18 @@ returns-then-is_empty c =
     let nothing : utf8_lossy (decode encoded) ≡ [] =
     ap (λ bs. utf8_lossy (decode bs)) none ∙ ap utf8_lossy percent_decode-nil ∙ utf8_lossy_empty [] refl in
     c.new.ensures.bytes ∙ sym nothing
+
+pub from_utf8_unchecked-requires : goal.from_utf8_unchecked-requires
+from_utf8_unchecked-requires c =
+    let encoded = c.args.encoded.now in
+    let plain : All IsPlain encoded = search rules in
+    subst IsUtf8 (sym c.in_ok-bytes.ensures) (IsUtf8-from_ascii (map plus_to_space encoded) (ascii_spaces encoded plain))
+
+pub returns-then-is_plain : goal.returns-then-is_plain
+returns-then-is_plain c =
+    let encoded = c.args.encoded.now in
+    let plain : All IsPlain encoded = search rules in
+    let is_text = IsUtf8-from_ascii (map plus_to_space encoded) (ascii_spaces encoded plain) in
+    ap (λ v. v.items) c.from_utf8_unchecked.ensures.value ∙ c.in_ok-bytes.ensures
+    ∙ sym (utf8_lossy-IsUtf8 (map plus_to_space encoded) is_text)
+    ∙ ap utf8_lossy (sym (decode_plain encoded plain))

@@ -1,0 +1,44 @@
+use Rattle.std.proofs.Common.{[], ◌∷◌, length, string_bytes, arith, sym, ap, subst, ◌∙◌, length-append}
+use Rattle.data_tree.specs.Parts.{names_of}
+use Rattle.data_tree.specs.Tree.{members_view, no_members, view}
+use Rattle.data_tree.specs.WellFormed.{IsAscending}
+use Rattle.json_bridge.specs.Inner.Direct.{put, put_all}
+use Rattle.json_bridge.proofs.KeptSteps.{ascends_put}
+use Rattle.json_bridge.proofs.TreeSteps.{put_all_ascending, put_all_last}
+use Rattle.json_bridge.proofs.direct.add.Goals as goal
+
+pub put-requires : goal.put-requires
+put-requires c = c.requires (omega arith)
+
+pub returns-then-len-lt-FEW-clause-put : goal.returns-then-len-lt-FEW-clause-put
+returns-then-len-lt-FEW-clause-put c =
+    let old = c.args.found.now.items in
+    let k = string_bytes c.args.name in
+    let t = view c.args.member in
+    let up : IsAscending (names_of (members_view old)) = c.requires (omega arith) in
+    let later : IsAscending (names_of (members_view c.put.new.made.items)) =
+    subst (λ ms. IsAscending (names_of ms)) (sym c.in_ok-put.ensures) (ascends_put k t (members_view old) up) in
+    sym (put_all_ascending c.put.new.made.items later) ∙ c.in_ok-put.ensures
+    ∙ ap (put k t) (put_all_ascending old up)
+
+pub returns-then-len-lt-FEW-clause-in_order : goal.returns-then-len-lt-FEW-clause-in_order
+returns-then-len-lt-FEW-clause-in_order c = λ _.
+    let old = c.args.found.now.items in
+    let up : IsAscending (names_of (members_view old)) = c.requires (omega arith) in
+    subst (λ ms. IsAscending (names_of ms)) (sym c.in_ok-put.ensures)
+    (ascends_put (string_bytes c.args.name) (view c.args.member) (members_view old) up)
+
+pub returns-clause-put : goal.returns-clause-put
+returns-clause-put c =
+    let old = c.args.found.now.items in
+    ap (λ ms. put_all ms no_members) c.in_ok-push.ensures.items
+    ∙ put_all_last old (c.args.name, c.args.member) no_members
+
+pub returns-clause-in_order : goal.returns-clause-in_order
+returns-clause-in_order c = λ few.
+    absurd (omega (
+      arith,
+      few,
+      ap length c.in_ok-push.ensures.items,
+      length-append c.args.found.now.items ((c.args.name, c.args.member) ∷ []),
+    ))
