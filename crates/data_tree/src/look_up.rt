@@ -6,6 +6,7 @@ ghost use Rattle.data_tree.specs.Parts.{names_of};
 ghost use Rattle.data_tree.specs.LookUp.{at, after, nth, under};
 ghost use Rattle.data_tree.specs.WellFormed.{IsAscending, IsWellFormed};
 
+use crate::compact_text::CompactText;
 use crate::data::Data;
 use crate::parts::item_at;
 use crate::step::Step;
@@ -50,7 +51,7 @@ fn after<'v>(value: &'v Data, step: &Step) -> Option<&'v Data>
     }
 }
 
-fn under<'v>(fields: &'v [(String, Data)], name: &str) -> Option<&'v Data>
+fn under<'v>(fields: &'v [(CompactText, Data)], name: &str) -> Option<&'v Data>
     requires { IsAscending (names_of (members_view fields.now)) }
     ensures { option_map_or (λ found. view found.now) result nothing ≡ under name.now (members_view fields.now) }
 {
@@ -63,7 +64,7 @@ fn under<'v>(fields: &'v [(String, Data)], name: &str) -> Option<&'v Data>
     }
 }
 
-fn among_few<'v>(fields: &'v [(String, Data)], name: &str) -> Option<&'v Data>
+fn among_few<'v>(fields: &'v [(CompactText, Data)], name: &str) -> Option<&'v Data>
     ensures { option_map_or (λ found. view found.now) result nothing ≡ under name.now (members_view fields.now) }
 {
     let mut rest = fields;

@@ -25,8 +25,8 @@ impl Data {
             Data::Nothing => false,
             Data::Truth(truth) => *truth,
             Data::Number(number) => *number != 0,
-            Data::Text(text) => !text.is_empty(),
-            Data::Named(parts) => !parts.0.is_empty(),
+            Data::Text(text) => !text.as_str().is_empty(),
+            Data::Named(parts) => !parts.0.as_str().is_empty(),
             Data::List(items) => !items.is_empty(),
             Data::Fields(_) => true,
         }

@@ -4,6 +4,7 @@ ghost use Rattle.json.specs.Print.{quoted};
 ghost use Rattle.data_tree.specs.Json.{json, comma_if};
 ghost use Rattle.data_tree.specs.Tree.{view, list, fields, items_view, members_view};
 
+use crate::compact_text::CompactText;
 use crate::data::Data;
 use crate::draft::Draft;
 use crate::plain::is_plain;
@@ -106,7 +107,7 @@ fn write_items(items: &Vec<Data>, alloc: Global, out: &mut Draft) -> Result<(), 
 
 #[cycle(write)]
 fn write_members(
-    members: &Vec<(String, Data)>,
+    members: &Vec<(CompactText, Data)>,
     alloc: Global,
     out: &mut Draft,
 ) -> Result<(), AllocError>

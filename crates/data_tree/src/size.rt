@@ -5,6 +5,7 @@ ghost use Rattle.data_tree.specs.Tree.{view, items_view, members_view};
 ghost use Rattle.data_tree.specs.Json.{json, size, items_json, members_json};
 ghost use Rattle.data_tree.specs.Capped.{capped};
 
+use crate::compact_text::CompactText;
 use crate::data::Data;
 use crate::plain::is_plain;
 use itoa::Buffer;
@@ -63,7 +64,7 @@ fn items_len(items: &Vec<Data>) -> u64
 
 // Each member with a comma before it.
 #[cycle(json_len)]
-fn members_len(members: &Vec<(String, Data)>) -> u64
+fn members_len(members: &Vec<(CompactText, Data)>) -> u64
     ensures { result ≡ capped (length (members_json true (members_view members.now.items))) }
 {
     let mut len = 0u64;
