@@ -199,8 +199,8 @@ module _ {X : Type 0} (tree_of : List (List ℕ) → Tree) (values : X → List 
   abbrev pub found : List ℕ → List (String Global × X) → Option X
   found name entries = lookup (is_at (λ k. slice_cmp nat_cmp name (string_bytes k))) entries
 
-  abbrev pub entry_tree : String Global × X → String Global × Tree
-  entry_tree entry = (entry.0, tree_of (values entry.1))
+  abbrev pub entry_tree : String Global × X → List ℕ × Tree
+  entry_tree entry = (name_of entry, tree_of (values entry.1))
 
   above_all
       : (key : String Global) (entries : List (String Global × X))

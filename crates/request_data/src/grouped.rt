@@ -10,6 +10,7 @@ ghost use Rattle.mock_request.specs.Values.{first_of, pairs_of, values_of};
 ghost use Rattle.request_data.specs.Grouped.{firsts, grouped, values_tree};
 ghost use Rattle.request_data.specs.Inner.Runs.{pairs_of_runs, AreInOrder};
 
+use data_tree::compact_text::CompactText;
 use data_tree::data::Data;
 use std::alloc::{AllocError, Global};
 use std::cmp::Ordering;
@@ -62,7 +63,7 @@ fn fields_of_runs(alloc: Global, runs: Vec<(String, Vec<String>)>) -> Result<Dat
 {
     let mut fields = Vec::with_capacity(alloc, runs.len())?;
     for (name, values) in runs {
-        fields.push((name, values_data(alloc, values)?))?;
+        fields.push((CompactText::new(name), values_data(alloc, values)?))?;
     }
     Ok(Data::Fields(fields))
 }
@@ -77,7 +78,7 @@ fn fields_of(alloc: Global, groups: BTreeMap<String, Vec<String>>) -> Result<Dat
 {
     let mut fields = Vec::with_capacity(alloc, groups.len())?;
     for (name, values) in groups {
-        fields.push((name, values_data(alloc, values)?))?;
+        fields.push((CompactText::new(name), values_data(alloc, values)?))?;
     }
     Ok(Data::Fields(fields))
 }
@@ -86,12 +87,12 @@ fn fields_of(alloc: Global, groups: BTreeMap<String, Vec<String>>) -> Result<Dat
 pub(crate) fn firsts(
     alloc: Global,
     pairs: Vec<(String, String)>,
-) -> Result<Vec<(String, Data)>, AllocError>
+) -> Result<Vec<(CompactText, Data)>, AllocError>
     ensures { IfOk result (λ made. members_view made.items ≡ firsts (pairs_of pairs.items)) }
 {
     let mut fields = Vec::new(alloc);
     for (name, values) in by_name(alloc, pairs)? {
-        fields.push((name, Data::Text(first(alloc, &values)?)))?;
+        fields.push((CompactText::new(name), Data::Text(first(alloc, &values)?)))?;
     }
     Ok(fields)
 }
@@ -153,16 +154,16 @@ fn values_data(alloc: Global, values: Vec<String>) -> Result<Data, AllocError>
     let text = first(alloc, &values)?;
     let mut items = Vec::with_capacity(alloc, values.len())?;
     for value in values {
-        items.push(Data::Text(value))?;
+        items.push(Data::Text(CompactText::new(value)))?;
     }
     Data::named(alloc, text, items, Vec::new(alloc))
 }
 
-fn first(alloc: Global, values: &[String]) -> Result<String, AllocError>
-    ensures { IfOk result (λ made. string_bytes made ≡ first_of (map string_bytes values.now)) }
+fn first(alloc: Global, values: &[String]) -> Result<CompactText, AllocError>
+    ensures { IfOk result (λ made. made ≡ first_of (map string_bytes values.now)) }
 {
     match values.first() {
-        Some(first) => first.clone(),
-        None => Ok(String::new(alloc)),
+        Some(first) => CompactText::from_str(alloc, first.as_str()),
+        None => CompactText::from_str(alloc, ""),
     }
 }

@@ -204,7 +204,7 @@ read_members-members-preserved t c =
     let r = c.read.new.reader in
     let less = read_key-shorter l.reader (Some k) s named in
     let lesser = done.shorter in
-    let copied : string_bytes c.in_ok-key.key ≡ k = search rules in
+    let copied : c.in_ok-key.key ≡ k = search rules in
     let pushed : put_all c.add.new.found.items no_members ≡ put k (view d) old =
     c.in_ok-add.ensures.put ∙ ap (λ name. put name (view d) old) copied in
     let turn = member_read p old n k l.reader s r (view d) (omega (arith, l.invariant.1)) named done.ok in (

@@ -16,7 +16,7 @@ pub returns-in-Ok : goal.returns-in-Ok
 returns-in-Ok c =
     let i = c.in-Ok.index in
     let items = c.args.made.now.items in
-    let k = string_bytes c.args.name in
+    let k = c.args.name in
     let at : IsFoundAt k i items =
     subst (λ ms. IsFoundAt k i ms) c.as_slice.ensures.value
     (subst (λ name. IsFoundAt name i c.as_slice.result.now) c.as_str.ensures.value c.in-Ok.ensures) in
@@ -28,7 +28,7 @@ pub returns-in_ok-insert-in-Err : goal.returns-in_ok-insert-in-Err
 returns-in_ok-insert-in-Err c =
     let i = c.in-Err.index in
     let items = c.args.made.now.items in
-    let k = string_bytes c.args.name in
+    let k = c.args.name in
     let at : BelongsAt k i items =
     subst (λ ms. BelongsAt k i ms) c.as_slice.ensures.value
     (subst (λ name. BelongsAt name i c.as_slice.result.now) c.as_str.ensures.value c.in-Err.ensures) in

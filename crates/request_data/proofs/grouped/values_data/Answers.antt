@@ -18,7 +18,7 @@ returns c =
     c.next.new.self c.in-None.is c.next.ensures.steps in
     let whole : c.loop-value.yielded ≡ c.args.values.items = sym (map-id c.loop-value.yielded) ∙ end.0 in
     let values = map string_bytes c.args.values.items in
-    let text : string_bytes c.in_ok-text.text ≡ first_of values =
+    let text : c.in_ok-text.text ≡ first_of values =
     c.in_ok-text.ensures ∙ ap (λ vs. first_of (map string_bytes vs)) c.deref.ensures.value in
     let items : items_of (map view c.loop-value.items.items) ≡ texts values =
     ap items_of c.loop-value.invariant ∙ texts_from_values c.loop-value.yielded
