@@ -19,7 +19,7 @@ returns-in-Ok c =
     let k = c.args.name in
     let at : IsFoundAt k i items =
     subst (λ ms. IsFoundAt k i ms) c.as_slice.ensures.value
-    (subst (λ name. IsFoundAt name i c.as_slice.result.now) c.as_str.ensures.value c.in-Ok.ensures) in
+    (subst (λ name. IsFoundAt name i c.as_slice.result.now) c.as_str.ensures c.in-Ok.ensures) in
     let same : c.index_mut.result.now ≡ slice_index_or items i c.index_mut.result.now = search rules in
     ap (λ m. members_view (slice_set items i (m.0, c.args.member))) same
     ∙ put_changed k c.args.member i items c.index_mut.result.now at
@@ -31,6 +31,6 @@ returns-in_ok-insert-in-Err c =
     let k = c.args.name in
     let at : BelongsAt k i items =
     subst (λ ms. BelongsAt k i ms) c.as_slice.ensures.value
-    (subst (λ name. BelongsAt name i c.as_slice.result.now) c.as_str.ensures.value c.in-Err.ensures) in
+    (subst (λ name. BelongsAt name i c.as_slice.result.now) c.as_str.ensures c.in-Err.ensures) in
     ap members_view c.in_ok-insert-in-Err.ensures.items
     ∙ put_inserted c.args.name c.args.member i items at

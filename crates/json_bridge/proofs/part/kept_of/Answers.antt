@@ -18,7 +18,7 @@ loop-name-preserved-in-Continue-1 c =
     let rest = kept (is_kept names) (members_view (into_iter_items c.next.new.self)) in
     let steps = c.in-Some.ensures.steps in
     let asked : is_kept names k ≡ true =
-    ap (is_kept names) (sym c.as_str.ensures.value) ∙ sym (kept_name c.as_str.result.now c.args.names.now)
+    ap (is_kept names) (sym c.as_str.ensures) ∙ sym (kept_name c.as_str.result.now c.args.names.now)
     ∙ sym c.is_kept.ensures ∙ c.if-is_kept.true in
     record {
       counted = omega (arith, l.invariant.counted, steps.1, ap length steps.0);
@@ -38,7 +38,7 @@ loop-name-preserved c =
     let rest = kept (is_kept names) (members_view (into_iter_items c.next.new.self)) in
     let steps = c.in-Some.ensures.steps in
     let other : is_kept names k ≡ false =
-    ap (is_kept names) (sym c.as_str.ensures.value) ∙ sym (kept_name c.as_str.result.now c.args.names.now)
+    ap (is_kept names) (sym c.as_str.ensures) ∙ sym (kept_name c.as_str.result.now c.args.names.now)
     ∙ sym c.is_kept.ensures ∙ c.if-is_kept.false in
     record {
       counted = omega (arith, l.invariant.counted, steps.1, ap length steps.0);
