@@ -55,6 +55,17 @@ impl CompactText {
         }
     }
 
+    /// The text as a `String`: a long one is given back, without copying it.
+    pub fn into_string(self, alloc: Global) -> Result<String, AllocError>
+        ensures { IfOk result (λ text. string_bytes text ≡ self) }
+    {
+        let CompactText { held } = self;
+        match held {
+            Held::Short(text) => String::from_str(alloc, text.as_str()),
+            Held::Long(text) => Ok(text),
+        }
+    }
+
     /// The text.
     pub fn as_str(&self) -> &str
         ensures { result.now ≡ self.now }

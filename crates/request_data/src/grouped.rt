@@ -1,5 +1,5 @@
 // Names and values, grouped by name.
-ghost use Rattle.std.specs.Prelude.{◌≡◌, ◌++◌, ℕ, List, [], map, is_some, IfOk, OnOk, string_bytes};
+ghost use Rattle.std.specs.Prelude.{◌≡◌, ◌++◌, ℕ, List, [], is_some, IfOk, OnOk};
 ghost use Rattle.std.specs.Bool.{OnTrue};
 ghost use Rattle.std.specs.BTreeMap.{get_by_text};
 ghost use Rattle.std.specs.List.{list_any};
@@ -27,7 +27,7 @@ pub(crate) fn grouped(alloc: Global, pairs: Vec<(String, String)>) -> Result<Dat
 /// The same of names that come with several values. No map is made of names that are in byte order.
 pub(crate) fn grouped_runs(
     alloc: Global,
-    runs: Vec<(String, Vec<String>)>,
+    runs: Vec<(CompactText, Vec<CompactText>)>,
 ) -> Result<Data, AllocError>
     ensures { IfOk result (λ made. view made ≡ grouped (pairs_of_runs runs.items)) }
 {
@@ -39,7 +39,7 @@ pub(crate) fn grouped_runs(
 }
 
 // Whether each name is before the next, and each has a value.
-fn are_in_order(runs: &[(String, Vec<String>)]) -> bool
+fn are_in_order(runs: &[(CompactText, Vec<CompactText>)]) -> bool
     ensures { OnTrue result (AreInOrder runs.now) }
 {
     let mut rest = runs;
@@ -57,21 +57,24 @@ fn are_in_order(runs: &[(String, Vec<String>)]) -> bool
     true
 }
 
-fn fields_of_runs(alloc: Global, runs: Vec<(String, Vec<String>)>) -> Result<Data, AllocError>
+fn fields_of_runs(
+    alloc: Global,
+    runs: Vec<(CompactText, Vec<CompactText>)>,
+) -> Result<Data, AllocError>
     requires { AreInOrder runs.items }
     ensures { IfOk result (λ made. view made ≡ grouped (pairs_of_runs runs.items)) }
 {
     let mut fields = Vec::with_capacity(alloc, runs.len())?;
     for (name, values) in runs {
-        fields.push((CompactText::new(name), values_data(alloc, values)?))?;
+        fields.push((name, values_data(alloc, values)?))?;
     }
     Ok(Data::Fields(fields))
 }
 
 // The first value and all values of each name.
-fn fields_of(alloc: Global, groups: BTreeMap<String, Vec<String>>) -> Result<Data, AllocError>
+fn fields_of(alloc: Global, groups: BTreeMap<String, Vec<CompactText>>) -> Result<Data, AllocError>
     ensures { IfOk result (λ made. (pairs : List (List ℕ × List ℕ))
-        → ((name : List ℕ) → option_map_or (λ values. map string_bytes values.items) (get_by_text groups name) []
+        → ((name : List ℕ) → option_map_or (λ values. values.items) (get_by_text groups name) []
         ≡ values_of name pairs)
         → ((name : List ℕ) → is_some (get_by_text groups name) ≡ list_any (λ pair. bytes_eq name pair.0) pairs)
         → view made ≡ grouped pairs) }
@@ -101,17 +104,20 @@ pub(crate) fn firsts(
 fn by_name(
     alloc: Global,
     pairs: Vec<(String, String)>,
-) -> Result<BTreeMap<String, Vec<String>>, AllocError>
+) -> Result<BTreeMap<String, Vec<CompactText>>, AllocError>
     ensures values { IfOk result (λ groups. (name : List ℕ) →
-        option_map_or (λ values. map string_bytes values.items) (get_by_text groups name) []
+        option_map_or (λ values. values.items) (get_by_text groups name) []
         ≡ values_of name (pairs_of pairs.items)) }
     ensures names { IfOk result (λ groups. (name : List ℕ) →
         is_some (get_by_text groups name)
         ≡ list_any (λ pair. bytes_eq name pair.0) (pairs_of pairs.items)) }
 {
-    let mut groups: BTreeMap<String, Vec<String>> = BTreeMap::new(alloc);
+    let mut groups: BTreeMap<String, Vec<CompactText>> = BTreeMap::new(alloc);
     for (name, value) in pairs {
-        groups.entry(name)?.or_default().push(value)?;
+        groups
+            .entry(name)?
+            .or_default()
+            .push(CompactText::new(value))?;
     }
     Ok(groups)
 }
@@ -119,25 +125,25 @@ fn by_name(
 // The same of runs.
 fn runs_by_name(
     alloc: Global,
-    runs: Vec<(String, Vec<String>)>,
-) -> Result<BTreeMap<String, Vec<String>>, AllocError>
+    runs: Vec<(CompactText, Vec<CompactText>)>,
+) -> Result<BTreeMap<String, Vec<CompactText>>, AllocError>
     ensures values { IfOk result (λ groups. (name : List ℕ) →
-        option_map_or (λ values. map string_bytes values.items) (get_by_text groups name) []
+        option_map_or (λ values. values.items) (get_by_text groups name) []
         ≡ values_of name (pairs_of_runs runs.items)) }
     ensures names { IfOk result (λ groups. (name : List ℕ) →
         is_some (get_by_text groups name)
         ≡ list_any (λ pair. bytes_eq name pair.0) (pairs_of_runs runs.items)) }
 {
-    let mut groups: BTreeMap<String, Vec<String>> = BTreeMap::new(alloc);
+    let mut groups: BTreeMap<String, Vec<CompactText>> = BTreeMap::new(alloc);
     for (name, values) in runs {
         if !values.is_empty() {
-            append(groups.entry(name)?.or_default(), values)?;
+            append(groups.entry(name.into_string(alloc)?)?.or_default(), values)?;
         }
     }
     Ok(groups)
 }
 
-fn append(to: &mut Vec<String>, mut values: Vec<String>) -> Result<(), AllocError>
+fn append(to: &mut Vec<CompactText>, mut values: Vec<CompactText>) -> Result<(), AllocError>
     ensures { OnOk result (to.new.items ≡ to.old.items ++ values.items) }
 {
     if to.is_empty() {
@@ -148,19 +154,19 @@ fn append(to: &mut Vec<String>, mut values: Vec<String>) -> Result<(), AllocErro
 }
 
 // The first value and all values.
-fn values_data(alloc: Global, values: Vec<String>) -> Result<Data, AllocError>
-    ensures { IfOk result (λ made. view made ≡ values_tree (map string_bytes values.items)) }
+fn values_data(alloc: Global, values: Vec<CompactText>) -> Result<Data, AllocError>
+    ensures { IfOk result (λ made. view made ≡ values_tree values.items) }
 {
     let text = first(alloc, &values)?;
     let mut items = Vec::with_capacity(alloc, values.len())?;
     for value in values {
-        items.push(Data::Text(CompactText::new(value)))?;
+        items.push(Data::Text(value))?;
     }
     Data::named(alloc, text, items, Vec::new(alloc))
 }
 
-fn first(alloc: Global, values: &[String]) -> Result<CompactText, AllocError>
-    ensures { IfOk result (λ made. made ≡ first_of (map string_bytes values.now)) }
+fn first(alloc: Global, values: &[CompactText]) -> Result<CompactText, AllocError>
+    ensures { IfOk result (λ made. made ≡ first_of values.now) }
 {
     match values.first() {
         Some(first) => CompactText::from_str(alloc, first.as_str()),

@@ -5,13 +5,15 @@ ghost use Rattle.data_tree.specs.Tree.{view};
 ghost use Rattle.form_urlencoded.specs.Form.{decode, parse, plus_to_space};
 ghost use Rattle.mock_request.specs.Query.{query_pairs, text_pair};
 ghost use Rattle.request_data.specs.Grouped.{grouped};
-ghost use Rattle.request_data.specs.Inner.Plain.{IsPlain};
+ghost use Rattle.request_data.specs.Inner.Plain.{IsItself, IsPlain};
 ghost use Rattle.request_data.specs.Inner.Runs.{pairs_of_runs, pairs_under};
 
 use crate::grouped::grouped_runs;
+use data_tree::compact_text::CompactText;
 use data_tree::data::Data;
 use mock_request::snapshot::Snapshot;
 use std::alloc::{AllocError, Global};
+use std::str;
 
 // Few queries have more names. Room for more is made as they come.
 const USUAL_NAMES: usize = 16;
@@ -28,7 +30,7 @@ pub(crate) fn query_data(alloc: Global, snapshot: &Snapshot) -> Result<Data, All
 
 // The decoded names and values of a form. A query mostly gives the values of one name one after the other, and then the
 // name is decoded once.
-fn form_runs(alloc: Global, form: &str) -> Result<Vec<(String, Vec<String>)>, AllocError>
+fn form_runs(alloc: Global, form: &str) -> Result<Vec<(CompactText, Vec<CompactText>)>, AllocError>
     ensures { IfOk result (λ runs. pairs_of_runs runs.items ≡ map text_pair (parse form.now)) }
 {
     let mut runs = Vec::with_capacity(alloc, USUAL_NAMES)?;
@@ -48,9 +50,9 @@ fn form_runs(alloc: Global, form: &str) -> Result<Vec<(String, Vec<String>)>, Al
 
 fn push_run(
     alloc: Global,
-    runs: &mut Vec<(String, Vec<String>)>,
+    runs: &mut Vec<(CompactText, Vec<CompactText>)>,
     name: &[u8],
-    values: Vec<String>,
+    values: Vec<CompactText>,
 ) -> Result<(), AllocError>
     ensures { OnOk result (pairs_of_runs runs.new.items
         ≡ pairs_of_runs runs.old.items ++ pairs_under (utf8_lossy (decode name.now)) values.items) }
@@ -61,13 +63,29 @@ fn push_run(
     Ok(())
 }
 
-// The text of a name or a value. Most are ASCII, with no byte escaped.
-fn decoded(alloc: Global, encoded: &[u8]) -> Result<String, AllocError>
+// The text of a name or a value. Most are ASCII that stands for itself.
+fn decoded(alloc: Global, encoded: &[u8]) -> Result<CompactText, AllocError>
+    ensures { IfOk result (λ text. text ≡ utf8_lossy (decode encoded.now)) }
+{
+    if is_itself(encoded) {
+        // SAFETY: it is proved that the bytes are ASCII.
+        return CompactText::from_str(alloc, unsafe { str::from_utf8_unchecked(encoded) });
+    }
+    Ok(CompactText::new(decoded_string(alloc, encoded)?))
+}
+
+// Whether each byte is ASCII and stands for itself.
+fn is_itself(encoded: &[u8]) -> bool
+    ensures { IsTrue result → All IsItself encoded.now }
+{
+    encoded
+        .iter()
+        .all(|&byte| byte < 128 && byte != b'%' && byte != b'+')
+}
+
+fn decoded_string(alloc: Global, encoded: &[u8]) -> Result<String, AllocError>
     ensures { IfOk result (λ text. string_bytes text ≡ utf8_lossy (decode encoded.now)) }
 {
-    if encoded.is_empty() {
-        return Ok(String::new(alloc));
-    }
     if is_plain(encoded) {
         let bytes = with_spaces(alloc, encoded)?;
         // SAFETY: it is proved that the bytes are ASCII.

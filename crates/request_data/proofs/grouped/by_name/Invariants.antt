@@ -10,7 +10,7 @@ use Rattle.request_data.proofs.grouped.by_name.Given as goal
 abbrev pub invariant-loop-name : goal.invariant-loop-name
 invariant-loop-name l =
     ((name : List ℕ)
-    → option_map_or (λ values. map string_bytes values.items) (get_by_text l.groups name) []
+    → option_map_or (λ values. values.items) (get_by_text l.groups name) []
     ≡ values_of name (pairs_of l.yielded))
     × ((name : List ℕ)
     → is_some (get_by_text l.groups name) ≡ list_any (λ pair. bytes_eq name pair.0) (pairs_of l.yielded))

@@ -20,5 +20,5 @@ returns c =
     let whole : c.loop-name.yielded ≡ runs = sym (map-id c.loop-name.yielded) ∙ end.0 in
     view-Fields c.loop-name.fields
     ∙ ap (λ ms. fields (members_of ms)) c.loop-name.invariant
-    ∙ ap (λ es. fields (members_of (map (entry_tree values_tree texts_in) es))) whole
+    ∙ ap (λ es. fields (members_of (map (entry_tree (λ key. key) values_tree texts_in) es))) whole
     ∙ ap fields (grouped_in_order runs c.requires)

@@ -7,4 +7,4 @@ use Rattle.request_data.proofs.grouped.fields_of_runs.Given as goal
 
 abbrev pub invariant-loop-name : goal.invariant-loop-name
 invariant-loop-name l =
-    map (λ field. (field.0, view field.1)) l.fields.items ≡ map (entry_tree values_tree texts_in) l.yielded
+    map (λ field. (field.0, view field.1)) l.fields.items ≡ map (entry_tree (λ key. key) values_tree texts_in) l.yielded

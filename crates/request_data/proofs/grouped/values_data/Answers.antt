@@ -1,4 +1,4 @@
-use Rattle.std.proofs.Common.{◌≡◌, map, string_bytes, ap, sym, ◌∙◌}
+use Rattle.std.proofs.Common.{◌≡◌, map, ap, sym, ◌∙◌}
 use Rattle.std.proofs.lemmas.Iterator.Adapters.{YieldsList-from_vec}
 use Rattle.std.proofs.lemmas.Iterator.Consumers.{YieldsList-end}
 use Rattle.std.proofs.lemmas.List.{map-id}
@@ -17,12 +17,12 @@ returns c =
     YieldsList-end given c.loop-value.yielded c.loop-value.value-iterator c.loop-value.yielded_by c.next.result
     c.next.new.self c.in-None.is c.next.ensures.steps in
     let whole : c.loop-value.yielded ≡ c.args.values.items = sym (map-id c.loop-value.yielded) ∙ end.0 in
-    let values = map string_bytes c.args.values.items in
+    let values = c.args.values.items in
     let text : c.in_ok-text.text ≡ first_of values =
-    c.in_ok-text.ensures ∙ ap (λ vs. first_of (map string_bytes vs)) c.deref.ensures.value in
+    c.in_ok-text.ensures ∙ ap first_of c.deref.ensures.value in
     let items : items_of (map view c.loop-value.items.items) ≡ texts values =
     ap items_of c.loop-value.invariant ∙ texts_from_values c.loop-value.yielded
-    ∙ ap (λ vs. texts (map string_bytes vs)) whole in
+    ∙ ap texts whole in
     IfOk-weaker c.named.result _ _ (λ made same_tree.
     same_tree ∙ ap (λ t. named t (items_of (map view c.loop-value.items.items)) (members_view c.new.result.items)) text
     ∙ ap (λ is. named (first_of values) is (members_view c.new.result.items)) items

@@ -1,35 +1,22 @@
-use Rattle.std.proofs.Common.{◌≡◌, [], All, map, length, rules, ap, refl, sym, subst, ◌∙◌}
-use Rattle.std.specs.Str.{IsUtf8}
+use Rattle.std.proofs.Common.{All, rules, ap, sym, ◌∙◌}
 use Rattle.std.specs.Str.Lossy.{utf8_lossy}
-use Rattle.std.proofs.lemmas.Bool.{eqb-true}
-use Rattle.std.proofs.lemmas.List.{nil_from_length}
-use Rattle.std.proofs.lemmas.Str.{utf8_lossy-IsUtf8, utf8_lossy_empty, IsUtf8-from_ascii}
-use Rattle.form_urlencoded.specs.Form.{decode, plus_to_space}
-use Rattle.percent_encoding.proofs.PercentLemmas.{percent_decode-nil}
-use Rattle.request_data.specs.Inner.Plain.{IsPlain}
-use Rattle.request_data.proofs.DecodedLemmas.{decode_plain, ascii_spaces}
+use Rattle.std.proofs.lemmas.Result.{IfOk-weaker}
+use Rattle.std.proofs.lemmas.Str.{utf8_lossy-IsUtf8, IsUtf8-from_ascii}
+use Rattle.request_data.specs.Inner.Plain.{IsItself}
+use Rattle.request_data.proofs.DecodedLemmas.{decode_itself, ascii_itself}
 use Rattle.request_data.proofs.query_data.decoded.Goals as goal
-
-pub returns-then-is_empty : goal.returns-then-is_empty
-returns-then-is_empty c =
-    let encoded = c.args.encoded.now in
-    let none : encoded ≡ [] =
-    nil_from_length encoded (eqb-true (length encoded) 0 (sym c.is_empty.ensures ∙ c.if-is_empty.true)) in
-    let nothing : utf8_lossy (decode encoded) ≡ [] =
-    ap (λ bs. utf8_lossy (decode bs)) none ∙ ap utf8_lossy percent_decode-nil ∙ utf8_lossy_empty [] refl in
-    c.new.ensures.bytes ∙ sym nothing
 
 pub from_utf8_unchecked-requires : goal.from_utf8_unchecked-requires
 from_utf8_unchecked-requires c =
     let encoded = c.args.encoded.now in
-    let plain : All IsPlain encoded = search rules in
-    subst IsUtf8 (sym c.in_ok-bytes.ensures) (IsUtf8-from_ascii (map plus_to_space encoded) (ascii_spaces encoded plain))
+    let itself : All IsItself encoded = search rules in
+    IsUtf8-from_ascii encoded (ascii_itself encoded itself)
 
-pub returns-then-is_plain : goal.returns-then-is_plain
-returns-then-is_plain c =
+pub returns-then-is_itself : goal.returns-then-is_itself
+returns-then-is_itself c =
     let encoded = c.args.encoded.now in
-    let plain : All IsPlain encoded = search rules in
-    let is_text = IsUtf8-from_ascii (map plus_to_space encoded) (ascii_spaces encoded plain) in
-    ap (λ v. v.items) c.from_utf8_unchecked.ensures.value ∙ c.in_ok-bytes.ensures
-    ∙ sym (utf8_lossy-IsUtf8 (map plus_to_space encoded) is_text)
-    ∙ ap utf8_lossy (sym (decode_plain encoded plain))
+    let itself : All IsItself encoded = search rules in
+    let is_text = IsUtf8-from_ascii encoded (ascii_itself encoded itself) in
+    IfOk-weaker c.from_str.result _ _ (λ made is.
+    is ∙ c.from_utf8_unchecked.ensures ∙ sym (utf8_lossy-IsUtf8 encoded is_text)
+    ∙ ap utf8_lossy (sym (decode_itself encoded itself))) c.from_str.ensures
