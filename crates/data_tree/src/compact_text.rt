@@ -11,7 +11,7 @@ use std::str;
 const SHORT_BYTES: usize = 30;
 
 /// A text that contracts see as its bytes. One of up to 30 bytes, as most names and values have, lies within it.
-#[derive(Debug, Drop)]
+#[derive(Debug)]
 pub struct CompactText {
     held: Held,
 }
@@ -74,6 +74,13 @@ impl CompactText {
             Held::Short(text) => text.as_str(),
             Held::Long(text) => text.as_str(),
         }
+    }
+}
+
+// Written out, so that a caller's proof sees one call and not the drop of either form.
+impl Drop for CompactText {
+    fn drop(self) {
+        let CompactText { held: _held } = self;
     }
 }
 
