@@ -1,14 +1,16 @@
 -- What a message begins, by what its request does.
 use Rattle.std.proofs.Common.{◌≡◌, ◌≤◌, ◌<◌, ℕ, List, All, length, Ok, Err, refl, subst, sym, inr}
-use Rattle.std.specs.Prelude.{Option, Result, IsErrOf, MatchResult}
+use Rattle.std.specs.Prelude.{Option, Result, IfOk, IsErrOf, MatchResult, is_err, true}
+use Rattle.std.proofs.lemmas.Bool.{false≢true}
 use Rattle.admin_routes.specs.Routes.{IsAdmin}
+use Rattle.error_code.specs.declared.error_code.ErrorCode.TheVariants.{OutOfMemory}
 use Rattle.http.specs.Request.{body_of}
 use Rattle.http.specs.declared.request.Request.{Request as Message}
 use Rattle.http_header.specs.FieldName.{IsHeaderName}
 use Rattle.http_messages.specs.Received.{IsReceived, target_of}
-use Rattle.answering.specs.Answering.{IsNotBegun, IsNotRead, IsReply, IsRequestAnswered, IsUnread, refusal}
+use Rattle.answering.specs.Answering.{Begins, IsNotBegun, IsNotRead, IsReply, IsRequestAnswered, IsUnread, refusal}
 use Rattle.answering.specs.Forwarding.{IsToForward, serve_receipt}
-use Rattle.answering.specs.Inner.Sent.{HasBegun, IsRequestToForward, IsRequestToRender}
+use Rattle.answering.specs.Inner.Sent.{HasBegun, IsBegunOf, IsRequestToForward, IsRequestToRender}
 use Rattle.answering.specs.Rendering.{IsToRender, rendering_receipt}
 use Rattle.answering.specs.Served.{GainsServe}
 use Rattle.answering.specs.declared.begun.Begun.{Begun}
@@ -24,6 +26,7 @@ use Rattle.mock_request.specs.declared.error.SnapshotError.TheVariants as unread
 use Rattle.mock_request.specs.declared.snapshot.TheConstants.{BODY_LIMIT}
 use Rattle.request_journal.specs.Past.{Past}
 use Rattle.shared_book.specs.Held.{Held}
+use Rattle.stub_response.specs.ErrorReply.{error_reply}
 use Rattle.stub_response.specs.declared.limits.Limits.{Limits}
 use Rattle.template_tree.specs.declared.escape.Escape.{Escape}
 
@@ -121,3 +124,22 @@ of_request origin name limits escape page old middle new message request (Err er
 pub refused : (old new : Held) (message : Message (List ℕ)) (error : SnapshotError) → new ≡ old
     → IsUnread message error → IsNotRead old new message (refusal error)
 refused old new message error same is = (same, (error, is, refl))
+
+module _ (origin : Past) (name : Book) (limits : Limits) (escape : Escape) (page : Option (List ℕ)) (old new : Held)
+    (message : Message (List ℕ)) where
+  -- nothing was begun, and the seat is as a reply leaves it
+  pub begins_nothing : {E : Type 0} (P : Begun → Type 0) (result : Result Begun E) → is_err result ≡ true
+      → MatchResult result P (λ _. IsNotBegun origin name limits escape page old new message)
+      → IsNotBegun origin name limits escape page old new message
+  begins_nothing P (Ok begun) is left = absurd (false≢true is)
+  begins_nothing P (Err error) is left = left
+
+  -- then the answer is that memory ran out
+  pub begins_503 : {E : Type 0} (result : Result Begun E) → IsNotBegun origin name limits escape page old new message
+      → IfOk result (IsBegunOf (error_reply 503 OutOfMemory))
+      → IfOk result (Begins origin name limits escape page old new message)
+  begins_503 (Ok (Answered response)) left is = (left.0, left.1, inr is)
+  begins_503 (Ok (Refused refused)) left is = (left.0, left.1, inr is)
+  begins_503 (Ok (ToForward forward)) left is = absurd is
+  begins_503 (Ok (ToRender rendering)) left is = absurd is
+  begins_503 (Err error) left is = tt

@@ -6,10 +6,10 @@ ghost use Rattle.mock_request.specs.Target.{HasUrl};
 ghost use Rattle.mock_request.specs.declared.snapshot.TheConstants.{BODY_LIMIT};
 ghost use Rattle.admin_answers.specs.Replies.{reply_of};
 ghost use Rattle.answering.specs.Admin.{IsAdminAnswered};
-ghost use Rattle.answering.specs.Answering.{IsNotBegun, IsReply, IsRequestAnswered, refusal};
+ghost use Rattle.answering.specs.Answering.{IsNotBegun, IsReply, refusal};
 ghost use Rattle.answering.specs.Forwarding.{IsToForward};
 ghost use Rattle.answering.specs.Inner.Outcome.{reply_in};
-ghost use Rattle.answering.specs.Inner.Sent.{HasBegun, IsBegunOf, IsRequestToForward, IsRequestToRender};
+ghost use Rattle.answering.specs.Inner.Sent.{HasBegun, IsBegunOf};
 ghost use Rattle.answering.specs.Rendering.{IsToRender};
 ghost use Rattle.answering.specs.Reply.{IsResponseOf};
 
@@ -29,6 +29,7 @@ use call_refusal::refusal::Refusal;
 use call_refusal::told::told_of;
 use error_code::error_code::ErrorCode;
 use http::{Request, Response};
+use http_messages::error::ServiceError;
 use http_messages::received::snapshot_of;
 use mock_request::error::SnapshotError;
 use mock_request::snapshot::Snapshot;
@@ -45,7 +46,7 @@ pub(crate) fn begin_message<L: Origin, R: Wait, G: Gate, C: Clock>(
     site: &Site<L, G, C>,
     seat: &mut Seat<L>,
     message: &Request<Bytes>,
-) -> Result<Begun, AllocError>
+) -> Result<Begun, ServiceError>
     ensures { MatchResult result
         (HasBegun (IsReply L.origin L.book site.now.limits site.now.escape site.now.page seat.old seat.new message.now)
         (IsToForward L.origin L.book seat.old seat.new message.now)
@@ -55,7 +56,10 @@ pub(crate) fn begin_message<L: Origin, R: Wait, G: Gate, C: Clock>(
     match request_of(alloc, seat, message) {
         Ok(request) => {
             request.law_names();
-            begin_request(rt, alloc, site, seat, request)
+            if is_admin(request.url()) {
+                return admin_begun(rt, alloc, site, seat, &request);
+            }
+            serve(rt, alloc, site, seat, request)
         }
         Err(error) => unread(alloc, &site.routes, message, error),
     }
@@ -88,7 +92,7 @@ fn unread(
     routes: &AdminRoutes,
     message: &Request<Bytes>,
     error: SnapshotError,
-) -> Result<Begun, AllocError>
+) -> Result<Begun, ServiceError>
     ensures { IfOk result (IsBegunOf (refusal error)) }
 {
     let response = refusal_response(alloc, error)?;
@@ -108,10 +112,13 @@ fn refused_begun(
     alloc: Global,
     response: Response<Content>,
     lines: String,
-) -> Result<Begun, AllocError>
+) -> Result<Begun, ServiceError>
     ensures { (reply : _) → IsResponseOf reply response → IfOk result (IsBegunOf reply) }
 {
-    Ok(Begun::Refused(Box::new(alloc, Refused { response, lines })?))
+    match Box::new(alloc, Refused { response, lines }) {
+        Ok(refused) => Ok(Begun::Refused(refused)),
+        Err(_failed) => Err(ServiceError::OutOfMemory),
+    }
 }
 
 // The response to a message that isn't read.
@@ -125,27 +132,6 @@ fn refusal_response(alloc: Global, error: SnapshotError) -> Result<Response<Cont
     }
 }
 
-fn begin_request<L: Origin, R: Wait, G: Gate, C: Clock>(
-    rt: &R,
-    alloc: Global,
-    site: &Site<L, G, C>,
-    seat: &mut Seat<L>,
-    request: Snapshot,
-) -> Result<Begun, AllocError>
-    ensures { MatchResult result
-        (HasBegun
-        (IsRequestAnswered L.origin L.book site.now.limits site.now.escape site.now.page seat.old seat.new request)
-        (IsRequestToForward L.origin L.book seat.old seat.new request)
-        (IsRequestToRender L.origin L.book site.now.limits seat.old seat.new request))
-        (λ _. (reply : _) × IsRequestAnswered L.origin L.book site.now.limits site.now.escape site.now.page seat.old
-        seat.new request reply) }
-{
-    if is_admin(request.url()) {
-        return admin_begun(rt, alloc, site, seat, &request);
-    }
-    serve(rt, alloc, site, seat, request)
-}
-
 // Not inlined, as `admin_answer`.
 #[inline(never)]
 fn admin_begun<L: Origin, R: Wait, G: Gate, C: Clock>(
@@ -154,7 +140,7 @@ fn admin_begun<L: Origin, R: Wait, G: Gate, C: Clock>(
     site: &Site<L, G, C>,
     seat: &mut Seat<L>,
     request: &Snapshot,
-) -> Result<Begun, AllocError>
+) -> Result<Begun, ServiceError>
     ensures { MatchResult result
         (HasBegun
         (IsAdminAnswered L.origin L.book site.now.escape site.now.page seat.old seat.new request.now)
@@ -166,7 +152,7 @@ fn admin_begun<L: Origin, R: Wait, G: Gate, C: Clock>(
     outcome_begun(alloc, outcome)
 }
 
-fn outcome_begun(alloc: Global, outcome: AdminOutcome) -> Result<Begun, AllocError>
+fn outcome_begun(alloc: Global, outcome: AdminOutcome) -> Result<Begun, ServiceError>
     ensures { IfOk result (IsBegunOf (reply_in outcome)) }
 {
     match outcome {

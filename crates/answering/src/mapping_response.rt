@@ -10,46 +10,39 @@ use crate::content::Content;
 use crate::response::{error_response, response_of, response_with};
 use error_code::error_code::ErrorCode;
 use http::HeaderMap;
+use http_messages::error::ServiceError;
 use mapping_model::mapping_spec::MappingSpec;
 use mock_request::snapshot::Snapshot;
 use request_match::shared_spec::SharedSpec;
-use std::alloc::{AllocError, Global};
+use std::alloc::Global;
 use stub_response::limits::Limits;
 use stub_response::prepared::Prepared;
 use stub_response::respond::{respond, respond_body};
 
-/// The response of a mapping for a request, made as the answer so that it isn't moved. What was made once with the
-/// mapping, all of the response or its headers, is shared; the rest is made for the request.
+/// The response of a mapping for a request, made for it. Headers that were made once with the mapping are shared. (A
+/// response that was made so as a whole is given by `begin_event`.)
 pub(crate) fn mapping_response(
     alloc: Global,
     mapping: &SharedSpec,
     request: &Snapshot,
     limits: Limits,
-) -> Result<Begun, AllocError>
+) -> Result<Begun, ServiceError>
     ensures { IfOk result (HasBegun (IsRendering limits mapping.now request.now) (λ _. ⊥) (λ _. ⊥)) }
 {
     match mapping.prepared() {
-        Prepared::Response(plain) => {
-            // Neither copies a byte.
-            let headers = plain.headers.clone()?;
-            let body = plain.body.clone()?;
-            Ok(Begun::Answered(response_with(plain.status, headers, Content::whole(body))))
-        }
         Prepared::Headers(headers) => {
             templated_body_response(alloc, mapping.spec(), headers, request, limits)
         }
-        Prepared::Nothing => templated_response(alloc, mapping.spec(), request, limits),
+        _ => whole_response(alloc, mapping.spec(), request, limits),
     }
 }
 
-// Not inlined: a function clears all its locals when it is entered, and a plain response needs none of these.
-#[inline(never)]
-fn templated_response(
+fn whole_response(
     alloc: Global,
     mapping: &MappingSpec,
     request: &Snapshot,
     limits: Limits,
-) -> Result<Begun, AllocError>
+) -> Result<Begun, ServiceError>
     ensures { IfOk result (HasBegun (IsRendering limits mapping.now request.now) (λ _. ⊥) (λ _. ⊥)) }
 {
     let reply = respond(alloc, mapping, request, limits)?;
@@ -57,15 +50,14 @@ fn templated_response(
     Ok(Begun::Answered(response))
 }
 
-// The headers were made before. Not inlined, as `templated_response`.
-#[inline(never)]
+// The headers were made before.
 fn templated_body_response(
     alloc: Global,
     mapping: &MappingSpec,
     headers: &HeaderMap,
     request: &Snapshot,
     limits: Limits,
-) -> Result<Begun, AllocError>
+) -> Result<Begun, ServiceError>
     requires { IsPrepared mapping.now.response (Headers headers.now) }
     ensures { IfOk result (HasBegun (IsRendering limits mapping.now request.now) (λ _. ⊥) (λ _. ⊥)) }
 {

@@ -10,11 +10,12 @@ use crate::clock::Clock;
 use crate::response::error_response;
 use crate::site::Site;
 use error_code::error_code::ErrorCode;
+use http_messages::error::ServiceError;
 use mock_request::snapshot::Snapshot;
 use shared_book::gate::Gate;
 use shared_book::origin::Origin;
 use shared_book::seat::Seat;
-use std::alloc::{AllocError, Global};
+use std::alloc::Global;
 use std::sync::Wait;
 
 /// Serves the request, and gives the response or what is to be forwarded or rendered. That is made after the lock was
@@ -25,7 +26,7 @@ pub(crate) fn serve<L: Origin, R: Wait, G: Gate, C: Clock>(
     site: &Site<L, G, C>,
     seat: &mut Seat<L>,
     request: Snapshot,
-) -> Result<Begun, AllocError>
+) -> Result<Begun, ServiceError>
     ensures { MatchResult result
         (HasBegun (IsServeAnswered L.origin L.book site.now.limits seat.old seat.new request)
         (IsServedToForward L.origin L.book seat.old seat.new request)
@@ -38,9 +39,9 @@ pub(crate) fn serve<L: Origin, R: Wait, G: Gate, C: Clock>(
     }
 }
 
-// The answer to a request that isn't served. Not inlined, as `templated_response`.
+// The answer to a request that isn't served. Not inlined, as `begin_other` in `begin_event.rt`.
 #[inline(never)]
-fn unserved(alloc: Global, reason: ErrorCode) -> Result<Begun, AllocError>
+fn unserved(alloc: Global, reason: ErrorCode) -> Result<Begun, ServiceError>
     ensures { IfOk result (IsBegunOf (error_reply 503 reason)) }
 {
     let response = error_response(alloc, 503, reason)?;

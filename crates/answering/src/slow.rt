@@ -4,6 +4,7 @@ use mapping_model::response_spec::{Body, Content};
 use mapping_model::template_text::TemplateText;
 use mock_request::snapshot::Snapshot;
 use request_match::shared_spec::SharedSpec;
+use std::simd::prelude::*;
 use stub_response::prepared::Prepared;
 use template_code::instr::Instr;
 
@@ -153,11 +154,26 @@ fn item_count(request: &Snapshot) -> u64 {
 }
 
 fn separator_count(bytes: &[u8]) -> usize {
+    let (blocks, rest) = bytes.as_chunks::<32>();
     let mut count: usize = 0;
-    for byte in bytes {
+    for block in blocks {
+        count = count.wrapping_add(block_separator_count(u8x32::from_array(*block)));
+    }
+    for byte in rest {
         if matches!(*byte, b'&' | b'/' | b';' | b',' | b'[' | b'{') {
             count = count.wrapping_add(1);
         }
     }
     count
+}
+
+#[inline(always)]
+fn block_separator_count(bytes: u8x32) -> usize {
+    let are_separators = bytes.simd_eq(u8x32::splat(b'&'))
+        | bytes.simd_eq(u8x32::splat(b'/'))
+        | bytes.simd_eq(u8x32::splat(b';'))
+        | bytes.simd_eq(u8x32::splat(b','))
+        | bytes.simd_eq(u8x32::splat(b'['))
+        | bytes.simd_eq(u8x32::splat(b'{'));
+    are_separators.to_bitmask().count_ones() as usize
 }

@@ -1,14 +1,36 @@
 -- What is sent of what a request has become.
-use Rattle.std.proofs.Common.{ℕ, List, Result, Ok, Err, IfOk, inl, sym, subst}
+use Rattle.std.proofs.Common.{◌≡◌, ℕ, List, Option, None, Some, Result, Ok, Err, IfOk, inl, refl, sym, subst}
+use Rattle.http.specs.Request.{body_of, head_of}
 use Rattle.http.specs.declared.request.Parts.{Parts}
 use Rattle.http.specs.declared.request.Request.{Request}
 use Rattle.http.specs.declared.response.Response.{Response}
 use Rattle.http_connections.specs.Content.{IsContentOf}
 use Rattle.http_connections.specs.Inner.Begun.{IsBegunWith, IsSentOf}
-use Rattle.http_connections.specs.Sent.{IsBegun, IsSentFor}
+use Rattle.http_connections.specs.Inner.Seat.{OnSeat}
+use Rattle.http_connections.specs.Sent.{Giver, IsBegun, IsForwardedBy, IsGivenBy, IsSentFor}
 use Rattle.http_connections.specs.declared.begun.Begun.{Begun}
 use Rattle.http_connections.specs.declared.begun.Begun.TheVariants.{Answered, Forwarding}
 use Rattle.http_connections.specs.declared.content_error.ContentError.{ContentError}
+
+module _ {A Seat E C : Type 0} (number_of : Seat → ℕ)
+    (gives : A → Seat → Seat → Request (List ℕ) → Response C → Type 0)
+    (forwards : A → Seat → Seat → Request (List ℕ) → E → Type 0) (can_poll : E → Type 0) (by : Giver A)
+    (message : Request (List ℕ)) where
+  -- what the seat of a place has begun, the site has begun by a seat with the place's number
+  begun_by : (old new : Seat) → number_of old ≡ by.number → (begun : Begun E C)
+      → IsBegun (gives by.site old new) (forwards by.site old new) can_poll message begun
+      → IsBegun (IsGivenBy number_of gives by) (IsForwardedBy number_of forwards by) can_poll message begun
+  begun_by old new same (Answered answer) given = (old, new, same, given)
+  begun_by old new same (Forwarding exchange) given = ((old, new, same, given.0), given.1)
+
+  pub by_seat : {Refusal : Type 0} (held held' : Option Seat) (result : Result (Begun E C) Refusal)
+      → IfOk result (λ begun. OnSeat held held' (λ old new. (number_of old ≡ by.number)
+      × IsBegun (gives by.site old new) (forwards by.site old new) can_poll message begun))
+      → IfOk result (IsBegun (IsGivenBy number_of gives by) (IsForwardedBy number_of forwards by) can_poll message)
+  by_seat (Some old) (Some new) (Ok begun) given = begun_by old new given.0 begun given.1
+  by_seat (Some old) None (Ok begun) given = absurd given
+  by_seat None held (Ok begun) given = absurd given
+  by_seat held held' (Err refusal) given = tt
 
 module _ {E C : Type 0} (IsEmpty : C → Type 0) (gives : Request (List ℕ) → Response C → Type 0)
     (forwards : Request (List ℕ) → E → Type 0) (can_poll : E → Type 0) (message : Request (List ℕ)) where
@@ -42,3 +64,8 @@ module _ {E C : Type 0} (IsEmpty : C → Type 0) (gives : Request (List ℕ) →
   begun_with (Ok (Answered made)) given = inl (content, is, given)
   begun_with (Ok (Forwarding exchange)) given = ((content, is, given.0), given.1)
   begun_with (Err refusal) given = tt
+
+-- a message is its head and its content
+pub message_of : (message : Request (List ℕ)) (head : Parts) (content : List ℕ) → head_of message ≡ head
+    → body_of message ≡ content → message ≡ record { head = head; body = content }
+message_of message head content of_head of_body = rw (sym of_head, sym of_body) refl

@@ -61,7 +61,17 @@ impl<A: Answers> SeatSlot<A> {
             (IsBegun (IsSentFor A.Content.is_default (IsGivenBy A.number_of A.gives (giver self.now)))
             (IsForwardedBy A.number_of A.forwards (giver self.now)) A.Exchange.can_poll request.now) }
     {
-        let begun = self.begin_at_seat(rt, alloc, request);
+        let mut held = self.place.seat.lock(rt);
+        let begun = begin_by(
+            rt,
+            alloc,
+            &*self.handle,
+            &*self.site,
+            self.number,
+            &mut *held,
+            request,
+        );
+        drop(held);
         // Most answers are sent as they are, and aren't moved to see that.
         if goes_as_it_is(&begun) {
             return begun;
@@ -82,27 +92,6 @@ impl<A: Answers> SeatSlot<A> {
     {
         let response = self.finish_at_seat(rt, alloc, reply)?;
         Ok(as_sent(alloc, response)?)
-    }
-
-    fn begin_at_seat<R: Wait>(
-        &self,
-        rt: &R,
-        alloc: Global,
-        request: &Request<Bytes>,
-    ) -> Result<Begun<A::Exchange, A::Content>, ServiceError>
-        ensures { IfOk result (IsBegun (IsGivenBy A.number_of A.gives (giver self.now))
-            (IsForwardedBy A.number_of A.forwards (giver self.now)) A.Exchange.can_poll request.now) }
-    {
-        let mut held = self.place.seat.lock(rt);
-        begin_by(
-            rt,
-            alloc,
-            &*self.handle,
-            &*self.site,
-            self.number,
-            &mut *held,
-            request,
-        )
     }
 
     fn finish_at_seat<R: Wait>(

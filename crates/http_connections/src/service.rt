@@ -107,8 +107,7 @@ where
     // A request without content is answered at once, or forwarded.
     fn call(&self, request: Request<Incoming<I>>) -> Self::Future {
         if is_empty(request.body()) {
-            let message = with_content(request, Bytes::new());
-            return self.at_once(&message);
+            return self.at_once(request, Bytes::new());
         }
         self.gathering(request)
     }
@@ -119,19 +118,23 @@ where
     R: Wait + AllocGlobal + Copy + Drop,
     A: Answers,
 {
-    // The answer to a request of which nothing has to come, with its content. By reference, since a request is large.
+    // The answer to a request of which nothing has to come, with its content. Not inlined, and the message is made here:
+    // a request is large, and each function that hands it on would copy it.
+    #[inline(never)]
     fn at_once<I: Drop>(
         &self,
-        message: &Request<Bytes>,
+        request: Request<Incoming<I>>,
+        content: Bytes,
     ) -> Answering<R, A, Gathering<R, Incoming<I>>>
-        ensures called { (request : _) → IsContentAtOnce (body_of request) message.now.body
-            → message.now ≡ record { head = head_of request; body = message.now.body }
+        ensures called { IsContentAtOnce (body_of request) content
             → IsCalled A.Content.is_default (IsGivenBy A.number_of A.gives)
             (IsForwardedBy A.number_of A.forwards) (giver_of self.now.slot) request result }
         ensures can_poll { IsReady A.Exchange.can_poll result }
     {
         self.course.answers();
-        match self.slot.begin(&self.rt, self.rt.alloc(), message) {
+        let (head, _body) = request.into_parts();
+        let message = Request::from_parts(head, content);
+        match self.slot.begin(&self.rt, self.rt.alloc(), &message) {
             Ok(Begun::Answered(response)) => Answering::Made(Some(Ok(response))),
             Ok(Begun::Forwarding(exchange)) => match self.forwarding(exchange) {
                 Ok(forwarding) => Answering::Forwarding(forwarding),
@@ -187,10 +190,7 @@ where
         ensures can_poll { IsReady A.Exchange.can_poll result }
     {
         match overlong(self.rt.alloc()) {
-            Ok(content) => {
-                let message = with_content(request, content);
-                self.at_once(&message)
-            }
+            Ok(content) => self.at_once(request, content),
             Err(AllocError) => Answering::Made(Some(Ok(out_of_memory(self.rt.alloc())))),
         }
     }
@@ -253,7 +253,10 @@ where
 
     fn poll(&mut self, cx: &mut Context<'_>) -> Poll<Result<Response<A::Content>, ServiceError>> {
         match self {
-            Answering::Made(made) => Poll::Ready(made.take().unwrap()),
+            Answering::Made(made) => match made.take() {
+                Some(result) => Poll::Ready(result),
+                None => unreachable!(),
+            },
             Answering::Waiting(waiting) => match waiting.poll(cx) {
                 Poll::Pending => Poll::Pending,
                 Poll::Ready(Err(error)) => Poll::Ready(Err(error)),
@@ -340,14 +343,6 @@ where
     {
         Ok(Forwarding::new(self.rt, Arc::try_clone(&self.slot)?, exchange))
     }
-}
-
-// The request, with this content.
-fn with_content<I: Drop>(request: Request<Incoming<I>>, content: Bytes) -> Request<Bytes>
-    ensures { result ≡ record { head = head_of request; body = content } }
-{
-    let (head, _body) = request.into_parts();
-    Request::from_parts(head, content)
 }
 
 fn is_empty<I: Drop>(body: &Incoming<I>) -> bool

@@ -9,7 +9,6 @@ use Rattle.command_output.specs.Output.{AppendsFront}
 use Rattle.mapping_commands.specs.Answering.{AnswersFiles, Sent}
 use Rattle.mapping_commands.specs.Checking.{ChecksFiles}
 use Rattle.mapping_commands.specs.Explaining.{ExplainsFiles}
-use Rattle.mapping_commands.specs.declared.explain.Form.{Form}
 use Rattle.mapping_commands.specs.declared.explain.Form.TheVariants as form
 use Rattle.command_output.specs.declared.files.FileError.TheVariants as file
 

@@ -13,7 +13,7 @@ ghost use Rattle.template_tree.specs.declared.escape.Escape.{Escape};
 
 use crate::arguments::{escape_asked, parser_arguments};
 use crate::options::{GivenOption, Split, split_arguments};
-use crate::parser::{CommandCall, call_of};
+use crate::parser::{CommandCall, RequestArguments, call_of};
 use crate::render::render_to;
 use crate::request_options::request_options;
 use clap::Error;
@@ -85,75 +85,70 @@ fn run_words<F: FileReader, O: Write, E: Write>(
     match call_of(alloc, arguments.as_slice()) {
         Ok(Some(call)) => {
             let options = given.options.as_slice();
-            run_call(alloc, files, escape, call, options, out, err, is_coloured)
+            let settings = Settings {
+                escape,
+                options,
+                is_coloured,
+            };
+            run_call(alloc, files, call, settings, out, err)
         }
         Ok(None) => FAILURE,
         Err(error) => write_parser_message(&error, out, err),
     }
 }
 
+// What a command is given besides its arguments.
+#[derive(Clone, Copy)]
+struct Settings<'s, 'a> {
+    // How the prints of templates are escaped.
+    escape: Escape,
+    // The options of `answer` and `explain`.
+    options: &'s [GivenOption<'a>],
+    // Whether the text of `explain` is coloured.
+    is_coloured: bool,
+}
+
 fn run_call<F: FileReader, O: Write, E: Write>(
     alloc: Global,
     files: &F,
-    escape: Escape,
     call: CommandCall<'_>,
-    options: &[GivenOption<'_>],
+    settings: Settings<'_, '_>,
     out: &mut O,
     err: &mut E,
-    is_coloured: bool,
 ) -> u8
-    ensures { Does O.contents E.contents (F.listed files.now) (F.content files.now) escape
-        (asked_of call.entry) (map given_of options.now) out.old out.new err.old err.new result }
+    ensures { Does O.contents E.contents (F.listed files.now) (F.content files.now) settings.entry.escape
+        (asked_of call.entry) (map given_of settings.entry.options.now) out.old out.new err.old err.new result }
 {
     match call {
         CommandCall::Render {
             template,
             method,
             target,
-        } => render_to(alloc, template, method, target, out, err, escape),
-        CommandCall::Check { file } => check_file(alloc, files, file, out, err, escape),
-        CommandCall::Answer {
-            file,
-            method,
-            target,
-        } => run_answer(
-            alloc, files, escape, options, file, method, target, out, err,
-        ),
-        CommandCall::Explain {
-            file,
-            method,
-            target,
-        } => run_explain(
-            alloc,
-            files,
-            escape,
-            options,
-            file,
-            method,
-            target,
-            out,
-            err,
-            is_coloured,
-        ),
+        } => render_to(alloc, template, method, target, out, err, settings.escape),
+        CommandCall::Check { file } => check_file(alloc, files, file, out, err, settings.escape),
+        CommandCall::Answer(asked) => run_answer(alloc, files, asked, settings, out, err),
+        CommandCall::Explain(asked) => run_explain(alloc, files, asked, settings, out, err),
     }
 }
 
 fn run_answer<F: FileReader, O: Write, E: Write>(
     alloc: Global,
     files: &F,
-    escape: Escape,
-    options: &[GivenOption<'_>],
-    file: &str,
-    method: &str,
-    target: &str,
+    asked: RequestArguments<'_, '_, '_>,
+    settings: Settings<'_, '_>,
     out: &mut O,
     err: &mut E,
 ) -> u8
-    ensures { Does O.contents E.contents (F.listed files.now) (F.content files.now) escape
-        (answer file.now method.now target.now) (map given_of options.now)
-        out.old out.new err.old err.new result }
+    ensures { Does O.contents E.contents (F.listed files.now) (F.content files.now) settings.entry.escape
+        (answer asked.entry.file.now asked.entry.method.now asked.entry.target.now)
+        (map given_of settings.entry.options.now) out.old out.new err.old err.new result }
 {
-    match request_options(alloc, files, options, false) {
+    let RequestArguments {
+        file,
+        method,
+        target,
+    } = asked;
+    match request_options(alloc, files, settings.options, false) {
         Ok(given) => {
             let sent = SentRequest {
                 method,
@@ -161,7 +156,7 @@ fn run_answer<F: FileReader, O: Write, E: Write>(
                 headers: given.headers.as_slice(),
                 body: given.body.as_slice(),
             };
-            answer_file(alloc, files, file, sent, out, err, escape)
+            answer_file(alloc, files, file, sent, out, err, settings.escape)
         }
         Err(error) => error.report(alloc, err),
     }
@@ -170,20 +165,21 @@ fn run_answer<F: FileReader, O: Write, E: Write>(
 fn run_explain<F: FileReader, O: Write, E: Write>(
     alloc: Global,
     files: &F,
-    escape: Escape,
-    options: &[GivenOption<'_>],
-    file: &str,
-    method: &str,
-    target: &str,
+    asked: RequestArguments<'_, '_, '_>,
+    settings: Settings<'_, '_>,
     out: &mut O,
     err: &mut E,
-    is_coloured: bool,
 ) -> u8
-    ensures { Does O.contents E.contents (F.listed files.now) (F.content files.now) escape
-        (explain file.now method.now target.now) (map given_of options.now)
-        out.old out.new err.old err.new result }
+    ensures { Does O.contents E.contents (F.listed files.now) (F.content files.now) settings.entry.escape
+        (explain asked.entry.file.now asked.entry.method.now asked.entry.target.now)
+        (map given_of settings.entry.options.now) out.old out.new err.old err.new result }
 {
-    match request_options(alloc, files, options, true) {
+    let RequestArguments {
+        file,
+        method,
+        target,
+    } = asked;
+    match request_options(alloc, files, settings.options, true) {
         Ok(given) => {
             let question = Question {
                 request: SentRequest {
@@ -193,9 +189,9 @@ fn run_explain<F: FileReader, O: Write, E: Write>(
                     body: given.body.as_slice(),
                 },
                 states: given.states.as_slice(),
-                form: form_of(given.is_json, is_coloured),
+                form: form_of(given.is_json, settings.is_coloured),
             };
-            explain_file(alloc, files, file, question, out, err, escape)
+            explain_file(alloc, files, file, question, out, err, settings.escape)
         }
         Err(error) => error.report(alloc, err),
     }

@@ -3,9 +3,10 @@ ghost use Rattle.std.specs.Prelude.{◌≡◌, IfOk, IfErr, codes, false, map, o
 ghost use Rattle.clap.specs.Words.{FailsBy, app_of, first_of, found_of, kind_of, rows_of, rule_of};
 ghost use Rattle.clap.specs.declared.builder.command.Command.TheViews.{out-Command as fields_of};
 ghost use Rattle.clap.specs.declared.error.kind.ErrorKind.{ErrorKind};
-ghost use Rattle.mock_program.specs.Inner.Parser.{answer_app, answer_in, answers_to, asked_by, asked_in, asked_of};
-ghost use Rattle.mock_program.specs.Inner.Parser.{check_app, check_in, explain_app, explain_in, is_taken, mock_app};
-ghost use Rattle.mock_program.specs.Inner.Parser.{render_app, render_in, required_rule, with_request};
+ghost use Rattle.mock_program.specs.Inner.Parser.{answer_app, answer_in, answers_to, asked_by, asked_in};
+ghost use Rattle.mock_program.specs.Inner.Parser.{asked_of, check_app, check_in, explain_app, explain_in, is_taken};
+ghost use Rattle.mock_program.specs.Inner.Parser.{mock_app, render_app, render_in, request_in, required_rule, texts_of};
+ghost use Rattle.mock_program.specs.Inner.Parser.{with_request};
 
 use clap::{Arg, ArgMatches, Command, Error};
 use std::alloc::{AllocError, Global};
@@ -175,16 +176,17 @@ pub(crate) enum CommandCall<'a> {
     Check {
         file: &'a str,
     },
-    Answer {
-        file: &'a str,
-        method: &'a str,
-        target: &'a str,
-    },
-    Explain {
-        file: &'a str,
-        method: &'a str,
-        target: &'a str,
-    },
+    Answer(RequestArguments<'a, 'a, 'a>),
+    Explain(RequestArguments<'a, 'a, 'a>),
+}
+
+/// The arguments of a command that is about one request: the mappings, and the request's method and target. Each has a
+/// lifetime of its own, since they are lent beside what the options hold.
+#[derive(Clone, Copy)]
+pub(crate) struct RequestArguments<'f, 'm, 't> {
+    pub(crate) file: &'f str,
+    pub(crate) method: &'m str,
+    pub(crate) target: &'t str,
 }
 
 /// The command that the arguments ask for, or the text of `clap` in place of one. The parser requires one of the
@@ -239,17 +241,19 @@ fn check_call<'a>(arguments: &ArgMatches<'a>) -> Option<CommandCall<'a>>
 fn answer_call<'a>(arguments: &ArgMatches<'a>) -> Option<CommandCall<'a>>
     ensures { option_map asked_of result ≡ answer_in (rows_of (found_of arguments.now)) }
 {
-    Some(CommandCall::Answer {
-        file: value(arguments, "mappings")?,
-        method: value(arguments, "method")?,
-        target: value(arguments, "url")?,
-    })
+    Some(CommandCall::Answer(request_arguments(arguments)?))
 }
 
 fn explain_call<'a>(arguments: &ArgMatches<'a>) -> Option<CommandCall<'a>>
     ensures { option_map asked_of result ≡ explain_in (rows_of (found_of arguments.now)) }
 {
-    Some(CommandCall::Explain {
+    Some(CommandCall::Explain(request_arguments(arguments)?))
+}
+
+fn request_arguments<'a>(arguments: &ArgMatches<'a>) -> Option<RequestArguments<'a, 'a, 'a>>
+    ensures { option_map texts_of result ≡ request_in (rows_of (found_of arguments.now)) }
+{
+    Some(RequestArguments {
         file: value(arguments, "mappings")?,
         method: value(arguments, "method")?,
         target: value(arguments, "url")?,

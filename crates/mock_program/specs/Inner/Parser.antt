@@ -8,6 +8,7 @@ use Rattle.clap.specs.declared.error.kind.ErrorKind.{ErrorKind}
 use Rattle.mock_program.specs.CommandLine.{Asked, render, check, answer, explain}
 use Rattle.mock_program.specs.declared.parser.CommandCall.{CommandCall}
 use Rattle.mock_program.specs.declared.parser.CommandCall.TheVariants as call
+use Rattle.mock_program.specs.declared.parser.RequestArguments.{RequestArguments}
 
 -- an argument that is required
 abbrev pub required_rule : List ℕ → Rule
@@ -68,15 +69,20 @@ render_in rows =
 abbrev pub check_in : List Row → Option Asked
 check_in rows = option_map check (first_of (codes "file") rows)
 
-abbrev pub answer_in : List Row → Option Asked
-answer_in rows =
-    option_and_then (λ file. option_and_then (λ method. option_map (λ target. answer file method target)
+-- the mappings, the method and the target of a request that is asked about
+abbrev pub RequestTexts : Type 0
+RequestTexts = Text × Text × Text
+
+abbrev pub request_in : List Row → Option RequestTexts
+request_in rows =
+    option_and_then (λ file. option_and_then (λ method. option_map (λ target. (file, method, target))
     (first_of (codes "url") rows)) (first_of (codes "method") rows)) (first_of (codes "mappings") rows)
 
+abbrev pub answer_in : List Row → Option Asked
+answer_in rows = option_map (λ (given : RequestTexts). answer given.0 given.1 given.2) (request_in rows)
+
 abbrev pub explain_in : List Row → Option Asked
-explain_in rows =
-    option_and_then (λ file. option_and_then (λ method. option_map (λ target. explain file method target)
-    (first_of (codes "url") rows)) (first_of (codes "method") rows)) (first_of (codes "mappings") rows)
+explain_in rows = option_map (λ (given : RequestTexts). explain given.0 given.1 given.2) (request_in rows)
 
 abbrev pub asked_in : Text → List Row → Option Asked
 asked_in name rows =
@@ -89,8 +95,11 @@ asked_in name rows =
 unfoldable pub asked_by : List Text → Option Asked
 asked_by arguments = option_and_then (λ p. asked_in p.0 p.1) (subcommand_of mock_app arguments)
 
+abbrev pub texts_of : RequestArguments → RequestTexts
+texts_of given = (given.file.now, given.method.now, given.target.now)
+
 abbrev pub asked_of : CommandCall → Asked
 asked_of (call.Render template method target) = render template.now method.now target.now
 asked_of (call.Check file) = check file.now
-asked_of (call.Answer file method target) = answer file.now method.now target.now
-asked_of (call.Explain file method target) = explain file.now method.now target.now
+asked_of (call.Answer given) = answer given.file.now given.method.now given.target.now
+asked_of (call.Explain given) = explain given.file.now given.method.now given.target.now

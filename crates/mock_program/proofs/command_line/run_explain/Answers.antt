@@ -8,8 +8,8 @@ pub returns-in-Ok : goal.returns-in-Ok
 returns-in-Ok g c =
     let question : Question = record {
       request = record {
-        method = c.args.method;
-        target = c.args.target;
+        method = c.args.asked.method;
+        target = c.args.asked.target;
         headers = c.as_slice.result;
         body = c.as_slice-in-Ok.result;
       };
@@ -17,7 +17,8 @@ returns-in-Ok g c =
       form = c.form_of.result;
     } in
     explained g.O.Write.contents g.E.Write.contents (g.F.FileReader.listed c.args.files.now)
-    (g.F.FileReader.content c.args.files.now) c.args.escape c.args.file.now question (map given_of c.args.options.now)
+    (g.F.FileReader.content c.args.files.now) c.args.settings.escape c.args.asked.file.now question
+    (map given_of c.args.settings.options.now)
     c.args.out.now c.explain_file.new.out c.args.err.now c.explain_file.new.err c.explain_file.result
     (λ none. (
       c.as_slice.ensures.value ∙ (c.in-Ok.ensures.plain none).0,
