@@ -13,17 +13,23 @@ use crate::arguments::{ServeArguments, ServerCall, call_of};
 use crate::page::page_in;
 use crate::record::record as record_until;
 use crate::serve::{Plan, serve};
-use crate::system::System;
 use crate::watch::Watch;
 use clap::Error;
 use command_output::error::CommandError;
+use command_output::files::FileReader;
 use command_output::output::put_all;
 use command_output::status::{FAILURE, INVALID_ARGUMENTS};
 use error_code::error_code::ErrorCode;
+use mapping_files::file_writer::FileWriter;
 use mapping_files::save::save;
 use mock_program::command_line::write_parser_message;
-use std::alloc::{AllocError, Global};
+use std::alloc::{AllocError, AllocGlobal, Global};
 use std::io::{Read, Write};
+use std::net::{Net, TcpListener, TcpStream};
+use std::random::RandomSource;
+use std::sync::Wait;
+use std::thread::Threads;
+use std::time::Clock;
 
 /// Runs the command that the arguments name, the first of them being the program's name, and gives the exit status:
 /// 0; 1 for an error or output that can't be written; 2 for invalid arguments. The text of `clap` for invalid
@@ -39,7 +45,19 @@ pub fn run<R, O, E, W, I>(
     is_coloured: bool,
 ) -> u8
 where
-    R: System,
+    R: Threads
+        + Wait
+        + Net<Listener = TcpListener, Stream = TcpStream>
+        + Clock
+        + RandomSource
+        + AllocGlobal
+        + FileReader
+        + FileWriter
+        + Copy
+        + Drop
+        + Send
+        + Sync
+        + 'static,
     O: Write,
     E: Write,
     W: Write + Drop + Send + 'static,
@@ -96,12 +114,11 @@ fn ask_to_help(arguments: &[String]) -> bool
 
 // The help of the program, or of the command that is named: what its flag for help writes.
 #[tactic(auto, using(command_output::proofs::PartsWritten::alone))]
-fn run_help<R: System, O: Write, E: Write>(
-    rt: R,
-    arguments: &[String],
-    out: &mut O,
-    err: &mut E,
-) -> u8
+fn run_help<R, O, E>(rt: R, arguments: &[String], out: &mut O, err: &mut E) -> u8
+where
+    R: Wait + Net + Clock + RandomSource + AllocGlobal + FileReader + Copy + Drop,
+    O: Write,
+    E: Write,
     ensures range { result ≤ 2 }
     ensures streams { Followed E.contents (λ e. WritesOneStream out.old out.new err.old e result) err.new }
 {
@@ -160,7 +177,19 @@ fn run_own<R, O, E, W, I>(
     input: I,
 ) -> u8
 where
-    R: System,
+    R: Threads
+        + Wait
+        + Net<Listener = TcpListener, Stream = TcpStream>
+        + Clock
+        + RandomSource
+        + AllocGlobal
+        + FileReader
+        + FileWriter
+        + Copy
+        + Drop
+        + Send
+        + Sync
+        + 'static,
     O: Write,
     E: Write,
     W: Write + Drop + Send + 'static,
@@ -175,7 +204,19 @@ where
 
 fn run_words<R, O, E, W, I>(rt: R, words: &[&str], out: &mut O, err: &mut E, log: W, input: I) -> u8
 where
-    R: System,
+    R: Threads
+        + Wait
+        + Net<Listener = TcpListener, Stream = TcpStream>
+        + Clock
+        + RandomSource
+        + AllocGlobal
+        + FileReader
+        + FileWriter
+        + Copy
+        + Drop
+        + Send
+        + Sync
+        + 'static,
     O: Write,
     E: Write,
     W: Write + Drop + Send + 'static,
@@ -198,7 +239,19 @@ fn run_call<R, O, E, W, I>(
     input: I,
 ) -> u8
 where
-    R: System,
+    R: Threads
+        + Wait
+        + Net<Listener = TcpListener, Stream = TcpStream>
+        + Clock
+        + RandomSource
+        + AllocGlobal
+        + FileReader
+        + FileWriter
+        + Copy
+        + Drop
+        + Send
+        + Sync
+        + 'static,
     O: Write,
     E: Write,
     W: Write + Drop + Send + 'static,
@@ -222,7 +275,19 @@ fn serve_until<R, O, E, W, I>(
     input: I,
 ) -> u8
 where
-    R: System,
+    R: Threads
+        + Wait
+        + Net<Listener = TcpListener, Stream = TcpStream>
+        + Clock
+        + RandomSource
+        + AllocGlobal
+        + FileReader
+        + FileWriter
+        + Copy
+        + Drop
+        + Send
+        + Sync
+        + 'static,
     O: Write,
     E: Write,
     W: Write + Drop + Send + 'static,

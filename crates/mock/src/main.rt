@@ -12,7 +12,6 @@ mod serve;
 mod server_log;
 mod serving_threads;
 mod streams;
-mod system;
 mod watch;
 
 use command_line::run;
