@@ -8,9 +8,10 @@ use Rattle.std.proofs.lemmas.Option.{slice_get-map}
 use Rattle.std.proofs.lemmas.Bool.Decides.{nat_tests}
 use Rattle.data_tree.specs.Print.{is_true}
 use Rattle.data_tree.specs.LookUp.{nth}
-use Rattle.data_tree.specs.Tree.{Tree, nothing, list, fields, named, items_of, view, items_view, members_view}
+use Rattle.data_tree.specs.Tree.{Tree, nothing, list, fields, named, no_members, first_text, items_of, view, items_view}
+use Rattle.data_tree.specs.Tree.{members_view}
 use Rattle.data_tree.specs.Parts.{items, keys, trees_of, values_of, names_of}
-use Rattle.data_tree.specs.declared.data.Data.{Data, List as ListData, Fields, Named, the_lemmas}
+use Rattle.data_tree.specs.declared.data.Data.{Data, List as ListData, Fields, Named, Values, the_lemmas}
 
 abbrev pub Field : Type 0
 Field = List ℕ × Data
@@ -31,6 +32,10 @@ pub view-Named
     ≡ named parts.value.0 (items_view parts.value.1.items) (members_view parts.value.2.items)
 view-Named parts = search (rules, the_lemmas)
 
+pub view-Values
+    : (v : Vec Data Global) → view (Values v) ≡ named (first_text (items_view v.items)) (items_view v.items) no_members
+view-Values v = search (rules, the_lemmas)
+
 -- ---- items and names
 
 trees_of-items_of : (ts : List Tree) → trees_of (items_of ts) ≡ ts
@@ -50,6 +55,9 @@ items-List v = ap items (view-List v) ∙ trees_of-items_of (map view v.items)
 
 pub items-Named : (parts : Parts) → items (view (Named parts)) ≡ map view parts.value.1.items
 items-Named parts = ap items (view-Named parts) ∙ trees_of-items_of (map view parts.value.1.items)
+
+pub items-Values : (v : Vec Data Global) → items (view (Values v)) ≡ map view v.items
+items-Values v = ap items (view-Values v) ∙ trees_of-items_of (map view v.items)
 
 pub items-Fields
     : (v : Vec (List ℕ × Data) Global) → items (view (Fields v)) ≡ map (λ (f : Field). view f.1) v.items

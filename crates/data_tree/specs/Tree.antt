@@ -31,6 +31,11 @@ abbrev pub members_of : List (List ℕ × Tree) → Members
 members_of [] = no_members
 members_of (m ∷ ms) = member m.0 m.1 (members_of ms)
 
+-- the text of the first item, where there is one and it is a text
+abbrev pub first_text : Items → List ℕ
+first_text (item (text s) ts) = s
+first_text ts = []
+
 -- one level, with each value inside already seen as its tree
 abbrev pub view_step : Data-F Tree → Tree
 view_step Data-F.Nothing = nothing
@@ -41,6 +46,7 @@ view_step (Data-F.List v) = list (items_of v.items)
 view_step (Data-F.Fields v) = fields (members_of v.items)
 view_step (Data-F.Named parts) =
     named parts.value.0 (items_of parts.value.1.items) (members_of parts.value.2.items)
+view_step (Data-F.Values v) = named (first_text (items_of v.items)) (items_of v.items) no_members
 
 -- the tree of a value
 abbrev pub view : Data → Tree

@@ -20,6 +20,9 @@ pub enum Data {
     /// A text that also has items and fields, as a request's path has its segments: the text, the items and the fields.
     /// They lie in memory of their own, so that every value is small.
     Named(Box<(CompactText, Vec<Data>, Vec<(CompactText, Data)>)>),
+    /// A `Named` whose text is that of its first item, and which has no fields, as the values of one name of a query
+    /// are: its items. It takes memory once.
+    Values(Vec<Data>),
 }
 
 impl Data {

@@ -13,7 +13,7 @@ use crate::step::Step;
 use itoa::Buffer;
 
 // The most fields that are looked at one after the other: a name of another length isn't compared any further.
-const FEW: usize = 8;
+const FEW: usize = 16;
 
 impl Data {
     /// What the steps find, taken from the left; `None` is Nothing, as is a `Data::Nothing` that is found.
@@ -45,6 +45,7 @@ fn after<'v>(value: &'v Data, step: &Step) -> Option<&'v Data>
         Step::Index(index) => match value {
             Data::List(items) => item_at(items.as_slice(), *index as usize),
             Data::Named(parts) => item_at(parts.1.as_slice(), *index as usize),
+            Data::Values(items) => item_at(items.as_slice(), *index as usize),
             Data::Fields(fields) => under(fields.as_slice(), Buffer::new().format(*index)),
             _ => None,
         },

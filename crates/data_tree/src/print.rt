@@ -7,6 +7,7 @@ ghost use Rattle.data_tree.specs.Tree.{view, list, fields, items_view, members_v
 use crate::compact_text::CompactText;
 use crate::data::Data;
 use crate::draft::Draft;
+use crate::parts::first_text;
 use crate::plain::is_plain;
 use json::Writer;
 use std::alloc::{AllocError, Global};
@@ -36,6 +37,7 @@ impl Data {
             }
             Data::Text(text) => out.push_str(text.as_str()),
             Data::Named(parts) => out.push_str(parts.0.as_str()),
+            Data::Values(items) => out.push_str(first_text(items.as_slice())),
             Data::List(_) | Data::Fields(_) => self.json_into(alloc, out),
         }
     }
@@ -85,6 +87,13 @@ fn write_value(value: &Data, alloc: Global, out: &mut Draft) -> Result<(), Alloc
             write_items(items, alloc, out)?;
             out.push(",\"text\":")?;
             write_text(text.as_str(), alloc, out)?;
+            out.push("}")
+        }
+        Data::Values(items) => {
+            out.push("{\"fields\":{},\"items\":")?;
+            write_items(items, alloc, out)?;
+            out.push(",\"text\":")?;
+            write_text(first_text(items.as_slice()), alloc, out)?;
             out.push("}")
         }
     }

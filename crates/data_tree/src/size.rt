@@ -7,6 +7,7 @@ ghost use Rattle.data_tree.specs.Capped.{capped};
 
 use crate::compact_text::CompactText;
 use crate::data::Data;
+use crate::parts::first_text;
 use crate::plain::is_plain;
 use itoa::Buffer;
 
@@ -39,6 +40,12 @@ fn json_len(value: &Data) -> u64
                 .saturating_add(quoted_len(text.as_str()))
                 // `{"fields":`, `,"items":`, `,"text":` and `}`.
                 .saturating_add(28)
+        }
+        Data::Values(items) => {
+            bracketed_len(items.len(), items_len(items))
+                .saturating_add(quoted_len(first_text(items.as_slice())))
+                // `{"fields":{},"items":`, `,"text":` and `}`.
+                .saturating_add(30)
         }
     }
 }

@@ -2,8 +2,8 @@ use Rattle.std.proofs.Common.{◌≡◌, length, ap, sym, ◌∙◌, rules}
 use Rattle.data_tree.specs.Tree.{view, items_view, members_view, fields, list, named}
 use Rattle.data_tree.specs.Json.{json}
 use Rattle.data_tree.specs.Capped.{capped}
-use Rattle.data_tree.proofs.Views.{view-List, view-Fields, view-Named}
-use Rattle.data_tree.proofs.Lengths.{list_length, fields_length, named_length}
+use Rattle.data_tree.proofs.Views.{view-List, view-Fields, view-Named, view-Values}
+use Rattle.data_tree.proofs.Lengths.{list_length, fields_length, named_length, values_length}
 use Rattle.data_tree.proofs.size.+json_len.Goals as goal
 
 pub json_len-returns-in-List : goal.json_len-returns-in-List
@@ -35,3 +35,14 @@ json_len-returns-in-Named t c =
     rw seen
     (rw (c.saturating_add-in-Named-2.ensures, c.saturating_add-in-Named.ensures, c.saturating_add.ensures)
     (rw (f, i, c.quoted_len-in-Named.ensures, c.as_str-in-Named.ensures) (named_length _ ts ms)))
+
+pub json_len-returns-in-Values : goal.json_len-returns-in-Values
+json_len-returns-in-Values t c =
+    let items = c.in-Values.items in
+    let ts = items_view items.items in
+    let i : c.bracketed_len-in-Values.result ≡ capped (length (json (list ts))) =
+    c.bracketed_len-in-Values.ensures ∙ rw (c.len-in-Values.ensures, c.items_len-in-Values.ensures)
+    (list_length items.items _ (search rules)) in
+    rw (c.in-Values.is, view-Values items)
+    (rw (c.saturating_add-in-Values-2.ensures, c.saturating_add-in-Values.ensures)
+    (rw (i, c.quoted_len-in-Values.ensures, c.first_text.ensures, c.as_slice.ensures.value) (values_length _ ts)))
