@@ -1,13 +1,14 @@
 -- Encoded texts in which no byte is escaped.
 use Rattle.std.proofs.Common.{◌≡◌, ◌≢◌, ◌==◌, ◌≤◌, ◌<◌, ℕ, zero, suc, Bool, true, false, if◌then◌else◌, List, [], ◌∷◌}
-use Rattle.std.proofs.Common.{map, length, slice_index_or, slice_set, All, refl, ap, ◌∙◌, arith}
-use Rattle.std.proofs.lemmas.Bool.{eqb-true}
+use Rattle.std.proofs.Common.{map, length, slice_index_or, slice_set, All, refl, sym, ap, ◌∙◌, arith}
 use Rattle.std.proofs.lemmas.List.Elements.{All-head, All-tail}
-use Rattle.std.specs.Str.{IsAscii}
+use Rattle.std.proofs.lemmas.Str.{utf8_lossy-IsUtf8, IsUtf8-from_ascii}
+use Rattle.std.specs.Str.{IsAscii, IsUtf8}
+use Rattle.std.specs.Str.Lossy.{utf8_lossy}
 use Rattle.percent_encoding.proofs.PercentLemmas.{percent_decode-nil, percent_decode_not_percent}
 use Rattle.percent_encoding.specs.Percent.{percent_sign}
 use Rattle.form_urlencoded.specs.Form.{decode, plus_to_space, plus_sign, space}
-use Rattle.request_data.specs.Inner.Plain.{IsItself, IsPlain}
+use Rattle.request_data.specs.Inner.Plain.{IsPlain}
 
 unescaped : (b : ℕ) → b ≢ percent_sign → plus_to_space b ≢ percent_sign
 unescaped b other = by (b == plus_sign)
@@ -36,26 +37,14 @@ ascii_spaces [] plain i = omega arith
 ascii_spaces (b ∷ bs) plain zero = ascii b (All-head IsPlain b bs plain).0
 ascii_spaces (b ∷ bs) plain (suc i) = ascii_spaces bs (All-tail IsPlain b bs plain) i
 
-not_plus : (b : ℕ) → b ≢ plus_sign → plus_to_space b ≡ b
-not_plus b other = by (b == plus_sign) refl
-  where
-    by : (t : Bool) → (b == plus_sign) ≡ t → (if t then space else b) ≡ b
-    by true e = absurd (other (eqb-true b plus_sign e))
-    by false e = refl
+pub spaces_utf8 : (bs : List ℕ) → All IsPlain bs → IsUtf8 (map plus_to_space bs)
+spaces_utf8 bs plain = IsUtf8-from_ascii (map plus_to_space bs) (ascii_spaces bs plain)
 
--- bytes that stand for themselves
-pub decode_itself : (bs : List ℕ) → All IsItself bs → decode bs ≡ bs
-decode_itself [] itself = percent_decode-nil
-decode_itself (b ∷ bs) itself =
-    let here = All-head IsItself b bs itself in
-    percent_decode_not_percent (plus_to_space b) (map plus_to_space bs) (unescaped b here.1)
-    ∙ ap (λ c. c ∷ decode bs) (not_plus b here.2)
-    ∙ ap (λ l. b ∷ l) (decode_itself bs (All-tail IsItself b bs itself))
-
-pub ascii_itself : (bs : List ℕ) → All IsItself bs → IsAscii bs
-ascii_itself [] itself i = omega arith
-ascii_itself (b ∷ bs) itself zero = (All-head IsItself b bs itself).0
-ascii_itself (b ∷ bs) itself (suc i) = ascii_itself bs (All-tail IsItself b bs itself) i
+-- what they stand for
+pub text_plain : (bs : List ℕ) → All IsPlain bs → map plus_to_space bs ≡ utf8_lossy (decode bs)
+text_plain bs plain =
+    sym (utf8_lossy-IsUtf8 (map plus_to_space bs) (spaces_utf8 bs plain))
+    ∙ ap utf8_lossy (sym (decode_plain bs plain))
 
 -- that many bytes with a space for each `+`, and the others
 abbrev pub spaced : ℕ → List ℕ → List ℕ

@@ -2,8 +2,9 @@
 use Rattle.std.proofs.Common.{◌≡◌, ℕ, Bool, true, false, ◌||◌, cond, List, [], ◌∷◌, ◌++◌, map, String, Global}
 use Rattle.std.proofs.Common.{refl, ap, sym, ◌∙◌, append-nil, append_assoc, ◌<◌, length, arith}
 use Rattle.std.proofs.Common.{is_some}
-use Rattle.std.specs.Option.{option_map_or}
-use Rattle.std.specs.Ordering.{is_eq}
+use Rattle.std.specs.Option.{unwrap_or}
+use Rattle.std.specs.Cmp.Lexicographic.{slice_cmp}
+use Rattle.std.specs.Ordering.{is_eq, nat_cmp}
 use Rattle.std.specs.declared.cmp.Ordering.TheVariants.{Less}
 use Rattle.std.specs.List.{AllByRecursion}
 use Rattle.std.specs.List.Sorted.{IsStrictlySortedBy}
@@ -24,7 +25,7 @@ use Rattle.std.specs.Str.Lossy.{utf8_lossy}
 use Rattle.form_urlencoded.specs.Form.{decode}
 use Rattle.mock_request.specs.Values.{values_of}
 use Rattle.mock_request.proofs.QueryLemmas.{texts_left}
-use Rattle.request_data.specs.Inner.Runs.{Run, Values, pairs_under, run_pairs, pairs_of_runs, IsBefore, AreInOrder}
+use Rattle.request_data.specs.Inner.Runs.{Run, pairs_under, run_pairs, pairs_of_runs, IsBefore, AreInOrder}
 
 -- the name of a pair is that name
 abbrev pub is_named : List ℕ → List ℕ × List ℕ → Bool
@@ -66,23 +67,23 @@ any_under name other value (next ∷ values) =
 pub values_of_run
     : (name : List ℕ) (runs : List Run) (run : Run)
     → values_of name (pairs_of_runs (runs ++ run ∷ []))
-    ≡ values_of name (pairs_of_runs runs) ++ cond (bytes_eq name run.0) run.1.items []
+    ≡ values_of name (pairs_of_runs runs) ++ cond (bytes_eq name run.0) run.1 []
 values_of_run name runs run =
     let before = pairs_of_runs runs in
     let here = run_pairs run in
     ap (values_of name) (runs_more runs run)
     ∙ ap (map (λ pair. pair.1)) (filter-append (is_named name) before here)
     ∙ map-append (λ pair. pair.1) (filter (is_named name) before) (filter (is_named name) here)
-    ∙ ap (λ vs. values_of name before ++ vs) (values_under name run.0 run.1.items)
+    ∙ ap (λ vs. values_of name before ++ vs) (values_under name run.0 run.1)
 
 pub any_of_run
-    : (name : List ℕ) (runs : List Run) (run : Run) → 0 < length run.1.items
+    : (name : List ℕ) (runs : List Run) (run : Run) → 0 < length run.1
     → list_any (is_named name) (pairs_of_runs (runs ++ run ∷ []))
     ≡ (list_any (is_named name) (pairs_of_runs runs) || bytes_eq name run.0)
 any_of_run name runs run some =
     ap (list_any (is_named name)) (runs_more runs run)
     ∙ list_any-append (is_named name) (pairs_of_runs runs) (run_pairs run)
-    ∙ by run.1.items some
+    ∙ by run.1 some
   where
     by
         : (values : List (List ℕ)) → 0 < length values
@@ -94,7 +95,7 @@ any_of_run name runs run some =
         ap (λ b. list_any (is_named name) (pairs_of_runs runs) || b) (any_under name run.0 value values)
 
 -- a run without values has no pairs
-pub empty_run : (runs : List Run) (run : Run) → run.1.items ≡ [] → pairs_of_runs (runs ++ run ∷ []) ≡ pairs_of_runs runs
+pub empty_run : (runs : List Run) (run : Run) → run.1 ≡ [] → pairs_of_runs (runs ++ run ∷ []) ≡ pairs_of_runs runs
 empty_run runs run none =
     runs_more runs run ∙ ap (λ vs. pairs_of_runs runs ++ pairs_under run.0 vs) none
     ∙ append-nil (pairs_of_runs runs)
@@ -153,9 +154,6 @@ none_left done new last values left whole so_far none pushed =
 
 -- ---- runs in order
 
-abbrev pub texts_in : Values → List (List ℕ)
-texts_in values = values.items
-
 above
     : (name : List ℕ) (runs : List Run) → IsBefore name runs → AreInOrder runs
     → AllByRecursion (λ k. slice_cmp nat_cmp name k ≡ Less) (keys_of runs)
@@ -179,11 +177,11 @@ sorted_runs (run ∷ runs) order = (above run.0 runs order.1 order.2, sorted_run
 values_before
     : (name : List ℕ) (run : Run) (runs : List Run)
     → values_of name (pairs_of_runs (run ∷ runs))
-    ≡ cond (bytes_eq name run.0) (texts_in run.1) [] ++ values_of name (pairs_of_runs runs)
+    ≡ cond (bytes_eq name run.0) run.1 [] ++ values_of name (pairs_of_runs runs)
 values_before name run runs =
     ap (map (λ pair. pair.1)) (filter-append (is_named name) (run_pairs run) (pairs_of_runs runs))
     ∙ map-append (λ pair. pair.1) (filter (is_named name) (run_pairs run)) (filter (is_named name) (pairs_of_runs runs))
-    ∙ ap (λ vs. vs ++ values_of name (pairs_of_runs runs)) (values_under name run.0 run.1.items)
+    ∙ ap (λ vs. vs ++ values_of name (pairs_of_runs runs)) (values_under name run.0 run.1)
 
 -- a name that is before all others has no values there
 none_above
@@ -198,31 +196,31 @@ none_above name (run ∷ runs) all =
 -- what is found under a name are its values
 found_values
     : (runs : List Run) → AreInOrder runs → (name : List ℕ)
-    → option_map_or texts_in (found (λ key. key) values_tree texts_in name runs) [] ≡ values_of name (pairs_of_runs runs)
+    → unwrap_or (found (λ key. key) values_tree name runs) [] ≡ values_of name (pairs_of_runs runs)
 found_values [] order name = refl
 found_values (run ∷ runs) order name =
     by (bytes_eq name run.0) refl (found_values runs order.2 name) ∙ sym (values_before name run runs)
   where
     by
         : (b : Bool) → bytes_eq name run.0 ≡ b
-        → option_map_or texts_in (found (λ key. key) values_tree texts_in name runs) [] ≡ values_of name (pairs_of_runs runs)
-        → option_map_or texts_in (found (λ key. key) values_tree texts_in name (run ∷ runs)) []
-        ≡ cond (bytes_eq name run.0) (texts_in run.1) [] ++ values_of name (pairs_of_runs runs)
+        → unwrap_or (found (λ key. key) values_tree name runs) [] ≡ values_of name (pairs_of_runs runs)
+        → unwrap_or (found (λ key. key) values_tree name (run ∷ runs)) []
+        ≡ cond (bytes_eq name run.0) run.1 [] ++ values_of name (pairs_of_runs runs)
     by true e later =
         let same : name ≡ run.0 = (bytes_eq-Decides name run.0).0 e in
         let none : values_of name (pairs_of_runs runs) ≡ [] =
         ap (λ n. values_of n (pairs_of_runs runs)) same ∙ none_above run.0 runs (above run.0 runs order.1 order.2) in
-        rw (is_eq-slice_cmp name run.0, e, none) (sym (append-nil (texts_in run.1)))
+        rw (is_eq-slice_cmp name run.0, e, none) (sym (append-nil run.1))
     by false e later = rw (is_eq-slice_cmp name run.0, e) later
 
 -- a name is found where a pair has it
 found_among
     : (runs : List Run) → AreInOrder runs → (name : List ℕ)
-    → is_some (found (λ key. key) values_tree texts_in name runs) ≡ list_any (is_named name) (pairs_of_runs runs)
+    → is_some (found (λ key. key) values_tree name runs) ≡ list_any (is_named name) (pairs_of_runs runs)
 found_among [] order name = refl
 found_among (run ∷ runs) order name =
     by (bytes_eq name run.0) refl (found_among runs order.2 name)
-    ∙ sym (any_before run.1.items order.0)
+    ∙ sym (any_before run.1 order.0)
   where
     any_before
         : (values : List (List ℕ)) → 0 < length values
@@ -235,8 +233,8 @@ found_among (run ∷ runs) order name =
 
     by
         : (b : Bool) → bytes_eq name run.0 ≡ b
-        → is_some (found (λ key. key) values_tree texts_in name runs) ≡ list_any (is_named name) (pairs_of_runs runs)
-        → is_some (found (λ key. key) values_tree texts_in name (run ∷ runs))
+        → is_some (found (λ key. key) values_tree name runs) ≡ list_any (is_named name) (pairs_of_runs runs)
+        → is_some (found (λ key. key) values_tree name (run ∷ runs))
         ≡ (bytes_eq name run.0 || list_any (is_named name) (pairs_of_runs runs))
     by true e later = rw (is_eq-slice_cmp name run.0, e) refl
     by false e later = rw (is_eq-slice_cmp name run.0, e) later
@@ -244,8 +242,8 @@ found_among (run ∷ runs) order name =
 -- runs in order are what the definition groups
 pub grouped_in_order
     : (runs : List Run) → AreInOrder runs
-    → members_of (map (entry_tree (λ key. key) values_tree texts_in) runs)
+    → members_of (map (entry_tree (λ key. key) values_tree) runs)
     ≡ members_under values_tree (names_in (pairs_of_runs runs)) (pairs_of_runs runs)
 grouped_in_order runs order =
-    grouped_entries (λ key. key) values_tree texts_in (pairs_of_runs runs) runs (sorted_runs runs order) (found_values runs order)
+    grouped_entries (λ key. key) values_tree (pairs_of_runs runs) runs (sorted_runs runs order) (found_values runs order)
     (found_among runs order)

@@ -1,11 +1,6 @@
 -- Bytes of a form that stand for themselves, or for a space.
 use Rattle.std.specs.Prelude.{◌≢◌, ◌<◌, ℕ}
-use Rattle.form_urlencoded.specs.Form.{plus_sign}
 use Rattle.percent_encoding.specs.Percent.{percent_sign}
-
--- an ASCII character that stands for itself
-abbrev pub IsItself : ℕ → Type 0
-IsItself b = (b < 128) × (b ≢ percent_sign) × (b ≢ plus_sign)
 
 -- an ASCII character that begins no escape
 abbrev pub IsPlain : ℕ → Type 0
