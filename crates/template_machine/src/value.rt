@@ -1,5 +1,5 @@
 //! The values of the machine's stack that aren't texts. They borrow from the request's data.
-ghost use Rattle.std.specs.Prelude.{◌≡◌, ◌++◌, OnOk, string_bytes};
+ghost use Rattle.std.specs.Prelude.{◌≡◌, ◌++◌, OnOk, pos, string_bytes};
 ghost use Rattle.std.specs.Fmt.{signed_decimal};
 ghost use Rattle.data_tree.specs.Print.{print, is_not_empty};
 ghost use Rattle.data_tree.specs.Tree.{view};
@@ -7,6 +7,7 @@ ghost use Rattle.template_machine.specs.Inner.Slots.{found_view};
 
 use crate::append::push_ascii;
 use data_tree::data::Data;
+use data_tree::parts::first_text;
 use std::alloc::{AllocError, Global};
 
 /// A value that isn't a text.
@@ -75,6 +76,19 @@ fn print_number(number: i64, out: &mut String) -> Result<(), AllocError>
     print_digits(number, out)
 }
 
+/// Appends an index. Apart, as a number.
+#[inline(never)]
+#[tactic(auto, using(std::proofs::lemmas::Fmt::decimal_digit))]
+pub fn print_index(index: usize, out: &mut String) -> Result<(), AllocError>
+    ensures { OnOk result (string_bytes out.new ≡ string_bytes out.old ++ signed_decimal (pos index)) }
+{
+    if index < 10 {
+        return push_ascii(48 + index as u8, out);
+    }
+    let mut buffer = itoa::Buffer::new();
+    out.push_str(buffer.format(index))
+}
+
 // Appends a number of any length.
 #[inline(never)]
 fn print_digits(number: i64, out: &mut String) -> Result<(), AllocError>
@@ -104,6 +118,7 @@ fn data_prints(found: &Data) -> bool
         Data::Nothing => false,
         Data::Text(text) => !text.as_str().is_empty(),
         Data::Named(parts) => !parts.0.as_str().is_empty(),
+        Data::Values(items) => !first_text(items.as_slice()).is_empty(),
         Data::Number(number) => decimal_prints(*number),
         Data::Truth(_) | Data::List(_) | Data::Fields(_) => true,
     }
