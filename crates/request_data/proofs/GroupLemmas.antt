@@ -15,10 +15,10 @@ use Rattle.std.proofs.lemmas.Bool.{false≢true}
 use Rattle.std.proofs.lemmas.Cmp.{nat_list_cmp_total}
 use Rattle.std.proofs.lemmas.Map.Text.{is_eq-slice_cmp}
 use Rattle.std.proofs.lemmas.Slice.Eq.{bytes_eq-Decides}
-use Rattle.data_tree.specs.Tree.{Tree, text, item, items_of, members_of}
+use Rattle.data_tree.specs.Tree.{Tree, text, item, items_of, members_of, first_text as first_item_text}
 use Rattle.data_tree.specs.Parts.{names_of}
 use Rattle.data_tree.specs.WellFormed.{IsAscending, IsWellFormed, AreWellFormed, HaveWellFormedValues}
-use Rattle.mock_request.specs.Values.{values_of}
+use Rattle.mock_request.specs.Values.{first_of, values_of}
 use Rattle.request_data.specs.Grouped.{texts, with_name, names_in, members_under, values_tree, grouped, first_text}
 use Rattle.request_data.specs.Grouped.{firsts}
 use Rattle.mock_request.specs.Values.{pairs_of}
@@ -186,6 +186,10 @@ any_of_pairs name (pair ∷ pairs) = ap (λ b. bytes_eq name (string_bytes pair.
 pub texts_from_values : (values : List (List ℕ)) → items_of (map text values) ≡ texts values
 texts_from_values [] = refl
 texts_from_values (value ∷ values) = ap (item (text value)) (texts_from_values values)
+
+pub text_of_first : (values : List (List ℕ)) → first_item_text (texts values) ≡ first_of values
+text_of_first [] = refl
+text_of_first (value ∷ values) = refl
 
 -- ---- a map's entries
 
