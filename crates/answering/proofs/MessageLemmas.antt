@@ -1,7 +1,6 @@
 -- What a message begins, by what its request does.
 use Rattle.std.proofs.Common.{◌≡◌, ◌≤◌, ◌<◌, ℕ, List, All, length, Ok, Err, refl, subst, sym, inr}
-use Rattle.std.specs.Prelude.{Option, Result, IfOk, IsErrOf, MatchResult, is_err, true}
-use Rattle.std.proofs.lemmas.Bool.{false≢true}
+use Rattle.std.specs.Prelude.{Option, Result, IfOk, IsErrOf, MatchResult}
 use Rattle.admin_routes.specs.Routes.{IsAdmin}
 use Rattle.error_code.specs.declared.error_code.ErrorCode.TheVariants.{OutOfMemory}
 use Rattle.http.specs.Request.{body_of}
@@ -127,14 +126,7 @@ refused old new message error same is = (same, (error, is, refl))
 
 module _ (origin : Past) (name : Book) (limits : Limits) (escape : Escape) (page : Option (List ℕ)) (old new : Held)
     (message : Message (List ℕ)) where
-  -- nothing was begun, and the seat is as a reply leaves it
-  pub begins_nothing : {E : Type 0} (P : Begun → Type 0) (result : Result Begun E) → is_err result ≡ true
-      → MatchResult result P (λ _. IsNotBegun origin name limits escape page old new message)
-      → IsNotBegun origin name limits escape page old new message
-  begins_nothing P (Ok begun) is left = absurd (false≢true is)
-  begins_nothing P (Err error) is left = left
-
-  -- then the answer is that memory ran out
+  -- where nothing was begun, the answer is that memory ran out
   pub begins_503 : {E : Type 0} (result : Result Begun E) → IsNotBegun origin name limits escape page old new message
       → IfOk result (IsBegunOf (error_reply 503 OutOfMemory))
       → IfOk result (Begins origin name limits escape page old new message)

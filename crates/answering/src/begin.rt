@@ -37,11 +37,11 @@ pub fn begin<L: Origin, R: Wait, G: Gate, C: Clock>(
     ensures err { IfErr result (λ error. (error ≡ NoMemory)
         × IsNotBegun L.origin L.book site.now.limits site.now.escape site.now.page seat.old seat.new message.now) }
 {
-    let begun = begin_message(rt, alloc, site, seat, message);
-    if begun.is_err() {
-        return no_memory(alloc);
+    match begin_message(rt, alloc, site, seat, message) {
+        // `return`, as in `serve`.
+        Ok(begun) => return Ok(begun),
+        Err(_error) => no_memory(alloc),
     }
-    begun
 }
 
 // The answer where there was no memory to write another. Not inlined: a function clears all its locals when it is

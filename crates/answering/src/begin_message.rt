@@ -59,7 +59,8 @@ pub(crate) fn begin_message<L: Origin, R: Wait, G: Gate, C: Clock>(
             if is_admin(request.url()) {
                 return admin_begun(rt, alloc, site, seat, &request);
             }
-            serve(rt, alloc, site, seat, request)
+            // `return`, as in `serve`.
+            return serve(rt, alloc, site, seat, request);
         }
         Err(error) => unread(alloc, &site.routes, message, error),
     }

@@ -1,10 +1,11 @@
 // The body of a response.
-ghost use Rattle.std.specs.Prelude.{◌≡◌, [], IfNone, IfOk, IfSome, string_bytes, ⊤};
+ghost use Rattle.std.specs.Prelude.{◌≡◌, [], IfNone, IfOk, IfSome, length, string_bytes, ⊤};
 ghost use Rattle.answering.specs.Content.{Yields};
 ghost use Rattle.futures.specs.Poll.{IfReady, OnPending};
 ghost use Rattle.futures.specs.Runs.{After, Within};
 ghost use Rattle.futures.specs.Task.{IsArmed, Keeps};
 ghost use Rattle.http_body.specs.Frame.{data_frame};
+ghost use Rattle.http_body.specs.SizeHint.{exact};
 
 use admin_answers::listing::Listing;
 use bytes::Bytes;
@@ -108,7 +109,9 @@ impl Body for Content {
         }
     }
 
-    fn size_hint(&self) -> SizeHint {
+    fn size_hint(&self) -> SizeHint
+        ensures { IfSome (exact result) (λ size. size ≡ length self.now) }
+    {
         match &self.kind {
             Kind::Whole(bytes) => SizeHint::with_exact(bytes.len() as u64),
             Kind::Listed(_listed) => SizeHint::new(),

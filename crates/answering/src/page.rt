@@ -1,7 +1,6 @@
 // The page of a server.
 ghost use Rattle.std.specs.Prelude.{◌≡◌, ◌↔◌, IfOk, IfSome, IsNone, IsTrue};
 ghost use Rattle.answering.specs.Page.{IsGivenPage, IsPageCall, page_headers, page_reply};
-ghost use Rattle.mock_request.specs.Url.{path_of};
 
 use crate::header::text_header;
 use bytes::Bytes;
@@ -35,16 +34,7 @@ pub(crate) fn page_in<'p>(page: &'p Option<Bytes>, request: &Snapshot) -> Option
 fn is_page_call(request: &Snapshot) -> bool
     ensures { IsTrue result ↔ IsPageCall request.now }
 {
-    request.method() == "GET" && path_of(request.url()) == PATH
-}
-
-fn path_of(url: &str) -> &str
-    ensures { result.now ≡ path_of url.now }
-{
-    match url.split_once('?') {
-        Some((path, _query)) => path,
-        None => url,
-    }
+    request.method() == "GET" && request.path() == PATH
 }
 
 /// The reply with the page. It shares its bytes.

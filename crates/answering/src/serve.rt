@@ -34,7 +34,8 @@ pub(crate) fn serve<L: Origin, R: Wait, G: Gate, C: Clock>(
         (λ _. (reply : _) × IsServeAnswered L.origin L.book site.now.limits seat.old seat.new request reply) }
 {
     match seat.serve(rt, &site.book, request) {
-        Ok(receipt) => begin_event(alloc, site, receipt.number, receipt.event.event()),
+        // `return`, since what a `match` gives is moved once more, and an answer is large.
+        Ok(receipt) => return begin_event(alloc, site, receipt.number, receipt.event.event()),
         Err(error) => unserved(alloc, error.code),
     }
 }

@@ -132,7 +132,7 @@ fn begin_by<R: Wait, A: Answers>(
             if A::number(seat) != number {
                 return Err(ServiceError::Broken);
             }
-            site.begin(rt, alloc, handle, seat, request)
+            return site.begin(rt, alloc, handle, seat, request);
         }
         None => Err(ServiceError::Broken),
     }

@@ -36,6 +36,7 @@ use hyper::body::Incoming;
 use hyper::service::Service;
 use mock_request::snapshot::BODY_LIMIT;
 use std::alloc::{AllocError, AllocGlobal, Global};
+use std::mem;
 use std::sync::{Arc, Wait};
 use std::time::Clock;
 use tokio::time::Handle;
@@ -131,11 +132,17 @@ where
             (IsForwardedBy A.number_of A.forwards) (giver_of self.now.slot) request result }
         ensures can_poll { IsReady A.Exchange.can_poll result }
     {
-        self.course.answers();
-        let (head, _body) = request.into_parts();
-        let message = Request::from_parts(head, content);
-        match self.slot.begin(&self.rt, self.rt.alloc(), &message) {
-            Ok(Begun::Answered(response)) => Answering::Made(Some(Ok(response))),
+        // The message is made before the course is told, so that the head is copied straight from where it lies; and in
+        // a block, so that it is dropped before the answer is moved.
+        let begun = {
+            let (head, _body) = request.into_parts();
+            let message = Request::from_parts(head, content);
+            self.course.answers();
+            self.slot.begin(&self.rt, self.rt.alloc(), &message)
+        };
+        match begun {
+            // `return`, here and in other hot arms, since what a `match` gives is moved once more, and an answer is large.
+            Ok(Begun::Answered(response)) => return Answering::Made(Some(Ok(response))),
             Ok(Begun::Forwarding(exchange)) => match self.forwarding(exchange) {
                 Ok(forwarding) => Answering::Forwarding(forwarding),
                 Err(AllocError) => Answering::Made(Some(Err(ServiceError::OutOfMemory))),
@@ -253,8 +260,8 @@ where
 
     fn poll(&mut self, cx: &mut Context<'_>) -> Poll<Result<Response<A::Content>, ServiceError>> {
         match self {
-            Answering::Made(made) => match made.take() {
-                Some(result) => Poll::Ready(result),
+            Answering::Made(made) => match mem::replace(made, None) {
+                Some(result) => return Poll::Ready(result),
                 None => unreachable!(),
             },
             Answering::Waiting(waiting) => match waiting.poll(cx) {

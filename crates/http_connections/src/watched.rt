@@ -71,13 +71,17 @@ impl<I: AsyncRead + AsyncWrite> AsyncRead for Watched<I> {
             return Poll::Ready(Err(timed_out()));
         }
         self.course.wants();
-        let polled = self.io.poll_read(cx, buf);
-        if let Poll::Ready(Ok(count)) = &polled
-            && *count > 0
-        {
-            self.course.hears();
+        // By its arms, as an error is large, and would be moved with each poll.
+        match self.io.poll_read(cx, buf) {
+            Poll::Ready(Ok(count)) => {
+                if count > 0 {
+                    self.course.hears();
+                }
+                return Poll::Ready(Ok(count));
+            }
+            Poll::Ready(Err(error)) => Poll::Ready(Err(error)),
+            Poll::Pending => return Poll::Pending,
         }
-        polled
     }
 }
 
