@@ -1,5 +1,5 @@
 // A query's names and values as templates see them.
-ghost use Rattle.std.specs.Prelude.{◌≡◌, ◌≤◌, ◌++◌, length, map, All, IfOk, IfSome, OnOk, IsTrue, string_bytes};
+ghost use Rattle.std.specs.Prelude.{◌≡◌, ◌≤◌, ◌++◌, length, map, take, All, IfOk, IfSome, OnOk, IsTrue, string_bytes};
 ghost use Rattle.std.specs.Str.Lossy.{utf8_lossy};
 ghost use Rattle.data_tree.specs.Tree.{view};
 ghost use Rattle.form_urlencoded.specs.Form.{decode, parse, plus_to_space};
@@ -88,8 +88,7 @@ fn short_text(alloc: Global, encoded: &[u8]) -> Result<Option<CompactText>, Allo
     requires { length encoded.now ≤ 32 }
     ensures { IfOk result (λ made. IfSome made (λ text. text ≡ utf8_lossy (decode encoded.now))) }
 {
-    let mut room = [0; ARRAY_BYTES];
-    room[..encoded.len()].copy_from_slice(encoded);
+    let mut room = begun_by(encoded);
     if !is_plain(&room) {
         return Ok(None);
     }
@@ -97,6 +96,16 @@ fn short_text(alloc: Global, encoded: &[u8]) -> Result<Option<CompactText>, Allo
     // SAFETY: it is proved that the bytes are ASCII.
     let text = unsafe { str::from_utf8_unchecked(&room[..encoded.len()]) };
     Ok(Some(CompactText::from_str(alloc, text)?))
+}
+
+// An array that begins with these bytes.
+fn begun_by(bytes: &[u8]) -> [u8; ARRAY_BYTES]
+    requires { length bytes.now ≤ 32 }
+    ensures { take (length bytes.now) result ≡ bytes.now }
+{
+    let mut room = [0; ARRAY_BYTES];
+    room[..bytes.len()].copy_from_slice(bytes);
+    room
 }
 
 fn decoded_string(alloc: Global, encoded: &[u8]) -> Result<String, AllocError>

@@ -1,4 +1,4 @@
-use Rattle.std.proofs.Common.{◌≡◌, ap, sym, ◌∙◌}
+use Rattle.std.proofs.Common.{◌≡◌, ap, ◌∙◌}
 use Rattle.data_tree.proofs.Views.{view-Values}
 use Rattle.data_tree.specs.Tree.{first_text, items_of, items_view, named, no_members}
 use Rattle.request_data.specs.Grouped.{texts, values_tree}
@@ -14,4 +14,4 @@ returns c =
     view-Values c.self.inside.items
     ∙ ap (λ ts. named (first_text ts) ts no_members) items
     ∙ ap (λ s. named s (texts values) no_members) (text_of_first values)
-    ∙ ap values_tree (sym c.self.view_is)
+    ∙ ap values_tree c.self.view_is
