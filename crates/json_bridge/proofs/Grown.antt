@@ -1,6 +1,6 @@
 -- Lists and objects that grow at their end, an item or a member at a time.
-use Rattle.std.proofs.Common.{◌≡◌, ℕ, List, [], ◌∷◌, ◌++◌, Option, Some, None, option_map, String}
-use Rattle.std.proofs.Common.{Global, string_bytes, length, refl, sym, ap, ◌∙◌, arith}
+use Rattle.std.proofs.Common.{◌≡◌, ℕ, List, [], ◌∷◌, ◌++◌, Option, Some, None, option_map}
+use Rattle.std.proofs.Common.{length, refl, sym, ap, ◌∙◌, arith}
 use Rattle.data_tree.specs.declared.data.Data.{Data}
 use Rattle.data_tree.specs.Tree.{Tree, Items, no_items, item, Members, no_members, member, view, items_view}
 use Rattle.data_tree.specs.Tree.{members_view}

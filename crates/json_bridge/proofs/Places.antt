@@ -1,6 +1,6 @@
 -- Where a name is among members whose names ascend.
-use Rattle.std.proofs.Common.{◌≡◌, ◌<◌, ◌+◌, ℕ, zero, suc, List, [], ◌∷◌, length, String, Global}
-use Rattle.std.proofs.Common.{string_bytes, Greater, Less, Equal, nat_cmp, refl, ap, arith, slice_index_or, slice_set}
+use Rattle.std.proofs.Common.{◌≡◌, ◌<◌, ◌+◌, ℕ, zero, suc, List, [], ◌∷◌, length}
+use Rattle.std.proofs.Common.{Greater, Less, Equal, nat_cmp, refl, ap, arith, slice_index_or, slice_set}
 use Rattle.std.specs.Cmp.Lexicographic.{slice_cmp}
 use Rattle.std.specs.List.{insert}
 use Rattle.data_tree.specs.Tree.{no_members, member, view, members_view}

@@ -1,4 +1,4 @@
-use Rattle.std.proofs.Common.{◌≡◌, ◌-◌, ◌<◌, [], ◌∷◌, length, Some, None, string_bytes, sym, subst, ap, ap₂, ◌∙◌, arith, rules}
+use Rattle.std.proofs.Common.{◌≡◌, ◌-◌, ◌<◌, [], ◌∷◌, length, Some, None, sym, subst, ap, ap₂, ◌∙◌, arith, rules}
 use Rattle.std.proofs.Common.{to_z, of_z, to_z-of_z}
 use Rattle.std.specs.Int.{w128}
 use Rattle.json.specs.Token.{Token}

@@ -1,4 +1,4 @@
-use Rattle.std.proofs.Common.{[], ◌∷◌, length, string_bytes, arith, sym, ap, subst, ◌∙◌, length-append}
+use Rattle.std.proofs.Common.{[], ◌∷◌, length, arith, sym, ap, subst, ◌∙◌, length-append}
 use Rattle.data_tree.specs.Parts.{names_of}
 use Rattle.data_tree.specs.Tree.{members_view, no_members, view}
 use Rattle.data_tree.specs.WellFormed.{IsAscending}

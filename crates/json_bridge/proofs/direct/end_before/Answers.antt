@@ -1,4 +1,4 @@
-use Rattle.std.proofs.Common.{◌≡◌, ◌-◌, length, slice_index_or, string_bytes, nat_cmp, Less, arith, rules}
+use Rattle.std.proofs.Common.{◌≡◌, ◌-◌, length, slice_index_or, nat_cmp, Less, arith, rules}
 use Rattle.std.specs.Cmp.Lexicographic.{slice_cmp}
 use Rattle.json_bridge.proofs.Places.{end_before}
 use Rattle.json_bridge.proofs.direct.end_before.Goals as goal

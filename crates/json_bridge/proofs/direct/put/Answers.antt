@@ -1,4 +1,4 @@
-use Rattle.std.proofs.Common.{◌≡◌, slice_index_or, slice_set, string_bytes, rules, arith, subst, ap, ◌∙◌}
+use Rattle.std.proofs.Common.{◌≡◌, slice_index_or, slice_set, rules, arith, subst, ap, ◌∙◌}
 use Rattle.data_tree.specs.Tree.{members_view}
 use Rattle.json_bridge.specs.Inner.Direct.{IsFoundAt, BelongsAt}
 use Rattle.json_bridge.proofs.Places.{put_changed, put_inserted, found_within, belongs_within}

@@ -1,4 +1,4 @@
-use Rattle.std.proofs.Common.{ap, sym, subst, ◌∙◌, length, string_bytes, arith}
+use Rattle.std.proofs.Common.{ap, sym, subst, ◌∙◌, length, arith}
 use Rattle.std.specs.Vec.Iter.{into_iter_items}
 use Rattle.data_tree.specs.Parts.{names_of}
 use Rattle.data_tree.specs.Tree.{members_view, view}

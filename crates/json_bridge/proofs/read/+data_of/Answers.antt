@@ -1,4 +1,4 @@
-use Rattle.std.proofs.Common.{Some, option_map, ℕ, List, length, refl, sym, ap, ◌∙◌, arith}
+use Rattle.std.proofs.Common.{Some, option_map, ℕ, List, length, sym, ap, ◌∙◌, arith}
 use Rattle.std.specs.Vec.Iter.{into_iter_items}
 use Rattle.data_tree.specs.declared.data.Data.{Data}
 use Rattle.serde_json.specs.View as seen
