@@ -1,5 +1,5 @@
 -- Names whose values follow each other, as pairs.
-use Rattle.std.proofs.Common.{◌≡◌, ℕ, Bool, true, false, ◌||◌, cond, List, [], ◌∷◌, ◌++◌, map, String, Global}
+use Rattle.std.proofs.Common.{◌≡◌, ℕ, Bool, true, false, ◌||◌, cond, List, [], ◌∷◌, ◌++◌, map}
 use Rattle.std.proofs.Common.{refl, ap, sym, ◌∙◌, append-nil, append_assoc, ◌<◌, length, arith}
 use Rattle.std.proofs.Common.{is_some}
 use Rattle.std.specs.Option.{unwrap_or}

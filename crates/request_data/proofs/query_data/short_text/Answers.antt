@@ -1,6 +1,5 @@
-use Rattle.std.proofs.Common.{◌≡◌, All, length, map, rules, sym, subst, take, ◌∙◌}
+use Rattle.std.proofs.Common.{All, rules, sym, subst, ◌∙◌}
 use Rattle.std.specs.Str.{IsUtf8}
-use Rattle.form_urlencoded.specs.Form.{plus_to_space}
 use Rattle.request_data.specs.Inner.Plain.{IsPlain}
 use Rattle.request_data.proofs.DecodedLemmas.{begun_plain, begun_spaced, spaces_utf8, text_plain}
 use Rattle.request_data.proofs.query_data.short_text.Goals as goal
