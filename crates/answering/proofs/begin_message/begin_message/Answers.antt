@@ -11,8 +11,8 @@ use Rattle.answering.proofs.ResultLemmas.{begun_of, begun_weaker}
 use Rattle.answering.proofs.begin_message.begin_message.Goals as goal
 
 -- the seat is as it was when the request has been read
-pub returns-else-is_admin : goal.returns-else-is_admin
-returns-else-is_admin g c =
+pub returns-in-Ok : goal.returns-in-Ok
+returns-in-Ok g c =
     let origin = g.L.Origin.origin in
     let name = g.L.Naming.book in
     let site = c.args.site.now in
@@ -56,8 +56,8 @@ returns-then-is_admin g c =
     (λ reply answered. inl (is, answered)) (λ forward none. absurd none) (λ rendering none. absurd none)
     c.admin_begun.result c.admin_begun.ensures)
 
-pub returns-in-Err : goal.returns-in-Err
-returns-in-Err g c =
+pub returns : goal.returns
+returns g c =
     let why = is_unread c.args.message.now c.in-Err.error c.request_of.result c.in-Err.is
     c.request_of.ensures.bad_url c.request_of.ensures.too_large in
     begun_of

@@ -24,8 +24,8 @@ returns-in-Ok g c =
     (IsRenderingOf c.args.site.now.limits c.in-Ok.receipt.now.number event)))
     c.event.ensures c.begin_event.ensures)
 
-pub returns-in-Err : goal.returns-in-Err
-returns-in-Err g c =
+pub returns : goal.returns
+returns g c =
     let new : Held = c.serve.follows.lender-at-none in
     let same = subst
     (λ r. LendsServed g.L.Origin.origin g.L.Naming.book c.args.seat.now c.serve.follows.lender-at-none c.args.request r)
