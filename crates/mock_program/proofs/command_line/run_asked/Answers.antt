@@ -6,8 +6,8 @@ use Rattle.mock_program.proofs.ExplainSent.{explained}
 use Rattle.mock_program.specs.Options.{given_of}
 use Rattle.mock_program.proofs.command_line.run_asked.Goals as goal
 
-pub returns-in-Ok-else-is_explain-clause-answered : goal.returns-in-Ok-else-is_explain-clause-answered
-returns-in-Ok-else-is_explain-clause-answered g c = λ _.
+pub returns-in-Ok-clause-answered : goal.returns-in-Ok-clause-answered
+returns-in-Ok-clause-answered g c = λ _.
     let sent : SentRequest = record {
       method = c.args.asked.method;
       target = c.args.asked.target;
@@ -24,8 +24,8 @@ returns-in-Ok-else-is_explain-clause-answered g c = λ _.
     ))
     c.answer_file.ensures
 
-pub returns-in-Ok-then-is_explain-clause-explained : goal.returns-in-Ok-then-is_explain-clause-explained
-returns-in-Ok-then-is_explain-clause-explained g c = λ _.
+pub returns-then-is_explain-clause-explained : goal.returns-then-is_explain-clause-explained
+returns-then-is_explain-clause-explained g c = λ _.
     let question : Question = record {
       request = record {
         method = c.args.asked.method;
@@ -33,7 +33,7 @@ returns-in-Ok-then-is_explain-clause-explained g c = λ _.
         headers = c.as_slice.result;
         body = c.as_slice-in-Ok.result;
       };
-      states = c.as_slice-in-Ok-2.result;
+      states = c.as_slice-then-is_explain.result;
       form = c.form_of.result;
     } in
     explained g.O.Write.contents g.E.Write.contents (g.F.FileReader.listed c.args.files.now)
@@ -43,15 +43,15 @@ returns-in-Ok-then-is_explain-clause-explained g c = λ _.
     (λ none. (
       c.as_slice.ensures.value ∙ (c.in-Ok.ensures.plain none).0,
       c.as_slice-in-Ok.ensures.value ∙ (c.in-Ok.ensures.plain none).1,
-      c.as_slice-in-Ok-2.ensures.value ∙ (c.in-Ok.ensures.plain none).2,
+      c.as_slice-then-is_explain.ensures.value ∙ (c.in-Ok.ensures.plain none).2,
       c.form_of.ensures (c.in-Ok.ensures.plain none).3,
     ))
     c.explain_file.ensures.answer
 
-pub returns-in-Err-clause-answered : goal.returns-in-Err-clause-answered
-returns-in-Err-clause-answered g c = λ _.
+pub returns-clause-answered : goal.returns-clause-answered
+returns-clause-answered g c = λ _.
     inr (record { given = c.in-Err.ensures.given; failure = c.report.ensures; same = refl })
 
-pub returns-in-Err-clause-explained : goal.returns-in-Err-clause-explained
-returns-in-Err-clause-explained g c = λ _.
+pub returns-clause-explained : goal.returns-clause-explained
+returns-clause-explained g c = λ _.
     inr (record { given = c.in-Err.ensures.given; failure = c.report.ensures; same = refl })
