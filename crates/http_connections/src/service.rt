@@ -141,7 +141,7 @@ where
             self.slot.begin(&self.rt, self.rt.alloc(), &message)
         };
         match begun {
-            // `return`, here and in other hot arms, since what a `match` gives is moved once more, and an answer is large.
+            // `return`, here and in other such arms, since what a `match` gives is moved once more.
             Ok(Begun::Answered(response)) => return Answering::Made(Some(Ok(response))),
             Ok(Begun::Forwarding(exchange)) => match self.forwarding(exchange) {
                 Ok(forwarding) => Answering::Forwarding(forwarding),
