@@ -72,6 +72,12 @@ impl<I: AsyncWrite> AsyncWrite for Counted<I> {
 
     ghost writes = { Costs I.writes };
 
+    ghost is_flushed = { λ c. I.is_flushed c.io };
+
+    ghost is_shut_down = { λ c. I.is_shut_down c.io };
+
+    ghost is_full = { λ c. I.is_full c.io };
+
     ghost writes_nothing = { costs_nothing I.writes I.writes_nothing };
 
     ghost writes_in_order = { costs_in_order I.writes I.writes_in_order };

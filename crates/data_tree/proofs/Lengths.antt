@@ -2,7 +2,7 @@
 use Rattle.std.proofs.Common.{◌≡◌, ℕ, ◌+◌, List, [], ◌∷◌, ◌++◌, true, false, length, nat_eq}
 use Rattle.std.proofs.Common.{if◌then◌else◌, refl, arith, length-append}
 use Rattle.json.specs.Print.{quoted}
-use Rattle.data_tree.specs.Tree.{list, fields, named, Items, Members, view, items_view, members_view}
+use Rattle.data_tree.specs.Tree.{list, fields, named, no_members, Items, Members, view, items_view, members_view}
 use Rattle.data_tree.specs.Json.{json, items_json, members_json}
 use Rattle.data_tree.specs.Capped.{capped}
 use Rattle.data_tree.specs.declared.data.Data.{Data}
@@ -49,4 +49,17 @@ named_length s ts ms =
       length-append m
           (125 ∷ 44 ∷ 34 ∷ 105 ∷ 116 ∷ 101 ∷ 109 ∷ 115 ∷ 34 ∷ 58 ∷ 91 ∷
           (i ++ (93 ∷ 44 ∷ 34 ∷ 116 ∷ 101 ∷ 120 ∷ 116 ∷ 34 ∷ 58 ∷ (q ++ 125 ∷ [])))),
+    )
+
+pub values_length : (s : List ℕ) (ts : Items)
+    → capped (capped (capped (length (json (list ts))) + capped (length (quoted s))) + 30)
+    ≡ capped (length (json (named s ts no_members)))
+values_length s ts =
+    let i = items_json false ts in
+    let q = quoted s in
+    omega (
+      arith,
+      length-append i (93 ∷ []),
+      length-append q (125 ∷ []),
+      length-append i (93 ∷ 44 ∷ 34 ∷ 116 ∷ 101 ∷ 120 ∷ 116 ∷ 34 ∷ 58 ∷ (q ++ 125 ∷ [])),
     )

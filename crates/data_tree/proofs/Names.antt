@@ -1,6 +1,6 @@
 -- A binary search among names that ascend finds what a search from the front finds.
 use Rattle.std.proofs.Common.{◌≡◌, ℕ, zero, suc, ◌<◌, false, true, List, [], ◌∷◌, length, get_or}
-use Rattle.std.proofs.Common.{bytes_eq, add-one, string_bytes, Err, refl, sym, ap, ◌∙◌, subst, inl, inr, arith}
+use Rattle.std.proofs.Common.{bytes_eq, add-one, Err, refl, sym, ap, ◌∙◌, subst, inl, inr, arith}
 use Rattle.std.proofs.lemmas.Bool.{cases_lt}
 use Rattle.std.proofs.lemmas.Cmp.{nat_list_cmp_total}
 use Rattle.std.proofs.lemmas.Map.Lookups.{exact_bytes}
@@ -21,7 +21,7 @@ abbrev pub order : List ℕ → List ℕ → Ordering
 order = slice_cmp nat_cmp
 
 abbrev pub name_of : Field → List ℕ
-name_of f = string_bytes f.0
+name_of f = f.0
 
 abbrev pub NamesAscend : List Field → Type 0
 NamesAscend fs = IsAscending (names_of (members_view fs))

@@ -1,6 +1,6 @@
 -- A value, level by level, beside its tree and its parts.
 use Rattle.std.proofs.Common.{◌≡◌, ℕ, zero, suc, List, [], ◌∷◌, length, map, Vec}
-use Rattle.std.proofs.Common.{String, Global, Box, string_bytes, Option, None, Some, option_map, Bor, not, nat_eq, false}
+use Rattle.std.proofs.Common.{Global, Box, Option, None, Some, option_map, Bor, not, nat_eq, false}
 use Rattle.std.proofs.Common.{arith, refl, sym, ap, ◌∙◌, rules}
 use Rattle.std.specs.Option.{option_copied, option_map_or}
 use Rattle.std.specs.List.{slice_get}
@@ -8,28 +8,33 @@ use Rattle.std.proofs.lemmas.Option.{slice_get-map}
 use Rattle.std.proofs.lemmas.Bool.Decides.{nat_tests}
 use Rattle.data_tree.specs.Print.{is_true}
 use Rattle.data_tree.specs.LookUp.{nth}
-use Rattle.data_tree.specs.Tree.{Tree, nothing, list, fields, named, items_of, view, items_view, members_view}
+use Rattle.data_tree.specs.Tree.{Tree, nothing, list, fields, named, no_members, first_text, items_of, view, items_view}
+use Rattle.data_tree.specs.Tree.{members_view}
 use Rattle.data_tree.specs.Parts.{items, keys, trees_of, values_of, names_of}
-use Rattle.data_tree.specs.declared.data.Data.{Data, List as ListData, Fields, Named, the_lemmas}
+use Rattle.data_tree.specs.declared.data.Data.{Data, List as ListData, Fields, Named, Values, the_lemmas}
 
 abbrev pub Field : Type 0
-Field = String Global × Data
+Field = List ℕ × Data
 
 pub view-List : (v : Vec Data Global) → view (ListData v) ≡ list (items_view v.items)
 view-List v = search (rules, the_lemmas)
 
-pub view-Fields : (v : Vec (String Global × Data) Global) → view (Fields v) ≡ fields (members_view v.items)
+pub view-Fields : (v : Vec (List ℕ × Data) Global) → view (Fields v) ≡ fields (members_view v.items)
 view-Fields v = search (rules, the_lemmas)
 
 -- the text, the items and the members of a named text
 abbrev pub Parts : Type 0
-Parts = Box (String Global × Vec Data Global × Vec Field Global) Global
+Parts = Box (List ℕ × Vec Data Global × Vec Field Global) Global
 
 pub view-Named
     : (parts : Parts)
     → view (Named parts)
-    ≡ named (string_bytes parts.value.0) (items_view parts.value.1.items) (members_view parts.value.2.items)
+    ≡ named parts.value.0 (items_view parts.value.1.items) (members_view parts.value.2.items)
 view-Named parts = search (rules, the_lemmas)
+
+pub view-Values
+    : (v : Vec Data Global) → view (Values v) ≡ named (first_text (items_view v.items)) (items_view v.items) no_members
+view-Values v = search (rules, the_lemmas)
 
 -- ---- items and names
 
@@ -41,9 +46,9 @@ values_of-members_view : (fs : List Field) → values_of (members_view fs) ≡ m
 values_of-members_view [] = refl
 values_of-members_view (f ∷ fs) = ap (λ us. view f.1 ∷ us) (values_of-members_view fs)
 
-names_of-members_view : (fs : List Field) → names_of (members_view fs) ≡ map (λ (f : Field). string_bytes f.0) fs
+names_of-members_view : (fs : List Field) → names_of (members_view fs) ≡ map (λ (f : Field). f.0) fs
 names_of-members_view [] = refl
-names_of-members_view (f ∷ fs) = ap (λ us. string_bytes f.0 ∷ us) (names_of-members_view fs)
+names_of-members_view (f ∷ fs) = ap (λ us. f.0 ∷ us) (names_of-members_view fs)
 
 pub items-List : (v : Vec Data Global) → items (view (ListData v)) ≡ map view v.items
 items-List v = ap items (view-List v) ∙ trees_of-items_of (map view v.items)
@@ -51,13 +56,16 @@ items-List v = ap items (view-List v) ∙ trees_of-items_of (map view v.items)
 pub items-Named : (parts : Parts) → items (view (Named parts)) ≡ map view parts.value.1.items
 items-Named parts = ap items (view-Named parts) ∙ trees_of-items_of (map view parts.value.1.items)
 
+pub items-Values : (v : Vec Data Global) → items (view (Values v)) ≡ map view v.items
+items-Values v = ap items (view-Values v) ∙ trees_of-items_of (map view v.items)
+
 pub items-Fields
-    : (v : Vec (String Global × Data) Global) → items (view (Fields v)) ≡ map (λ (f : Field). view f.1) v.items
+    : (v : Vec (List ℕ × Data) Global) → items (view (Fields v)) ≡ map (λ (f : Field). view f.1) v.items
 items-Fields v = ap items (view-Fields v) ∙ values_of-members_view v.items
 
 pub keys-Fields
-    : (v : Vec (String Global × Data) Global)
-    → keys (view (Fields v)) ≡ map (λ (f : Field). string_bytes f.0) v.items
+    : (v : Vec (List ℕ × Data) Global)
+    → keys (view (Fields v)) ≡ map (λ (f : Field). f.0) v.items
 keys-Fields v = ap keys (view-Fields v) ∙ names_of-members_view v.items
 
 view-copied : (r : Option (Bor Data))

@@ -1,2 +1,3 @@
 pub mod Tokens
 pub mod OneProof
+pub mod Compact

@@ -6,6 +6,7 @@
 #![tactic(auto)]
 
 // Texts and steps.
+pub mod compact_text;
 pub mod digits;
 pub mod plain_text;
 pub mod step;

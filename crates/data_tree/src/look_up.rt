@@ -6,13 +6,14 @@ ghost use Rattle.data_tree.specs.Parts.{names_of};
 ghost use Rattle.data_tree.specs.LookUp.{at, after, nth, under};
 ghost use Rattle.data_tree.specs.WellFormed.{IsAscending, IsWellFormed};
 
+use crate::compact_text::CompactText;
 use crate::data::Data;
 use crate::parts::item_at;
 use crate::step::Step;
 use itoa::Buffer;
 
 // The most fields that are looked at one after the other: a name of another length isn't compared any further.
-const FEW: usize = 8;
+const FEW: usize = 16;
 
 impl Data {
     /// What the steps find, taken from the left; `None` is Nothing, as is a `Data::Nothing` that is found.
@@ -44,13 +45,14 @@ fn after<'v>(value: &'v Data, step: &Step) -> Option<&'v Data>
         Step::Index(index) => match value {
             Data::List(items) => item_at(items.as_slice(), *index as usize),
             Data::Named(parts) => item_at(parts.1.as_slice(), *index as usize),
+            Data::Values(items) => item_at(items.as_slice(), *index as usize),
             Data::Fields(fields) => under(fields.as_slice(), Buffer::new().format(*index)),
             _ => None,
         },
     }
 }
 
-fn under<'v>(fields: &'v [(String, Data)], name: &str) -> Option<&'v Data>
+fn under<'v>(fields: &'v [(CompactText, Data)], name: &str) -> Option<&'v Data>
     requires { IsAscending (names_of (members_view fields.now)) }
     ensures { option_map_or (λ found. view found.now) result nothing ≡ under name.now (members_view fields.now) }
 {
@@ -63,7 +65,7 @@ fn under<'v>(fields: &'v [(String, Data)], name: &str) -> Option<&'v Data>
     }
 }
 
-fn among_few<'v>(fields: &'v [(String, Data)], name: &str) -> Option<&'v Data>
+fn among_few<'v>(fields: &'v [(CompactText, Data)], name: &str) -> Option<&'v Data>
     ensures { option_map_or (λ found. view found.now) result nothing ≡ under name.now (members_view fields.now) }
 {
     let mut rest = fields;

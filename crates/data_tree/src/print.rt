@@ -4,8 +4,10 @@ ghost use Rattle.json.specs.Print.{quoted};
 ghost use Rattle.data_tree.specs.Json.{json, comma_if};
 ghost use Rattle.data_tree.specs.Tree.{view, list, fields, items_view, members_view};
 
+use crate::compact_text::CompactText;
 use crate::data::Data;
 use crate::draft::Draft;
+use crate::parts::first_text;
 use crate::plain::is_plain;
 use json::Writer;
 use std::alloc::{AllocError, Global};
@@ -35,6 +37,7 @@ impl Data {
             }
             Data::Text(text) => out.push_str(text.as_str()),
             Data::Named(parts) => out.push_str(parts.0.as_str()),
+            Data::Values(items) => out.push_str(first_text(items.as_slice())),
             Data::List(_) | Data::Fields(_) => self.json_into(alloc, out),
         }
     }
@@ -86,6 +89,13 @@ fn write_value(value: &Data, alloc: Global, out: &mut Draft) -> Result<(), Alloc
             write_text(text.as_str(), alloc, out)?;
             out.push("}")
         }
+        Data::Values(items) => {
+            out.push("{\"fields\":{},\"items\":")?;
+            write_items(items, alloc, out)?;
+            out.push(",\"text\":")?;
+            write_text(first_text(items.as_slice()), alloc, out)?;
+            out.push("}")
+        }
     }
 }
 
@@ -106,7 +116,7 @@ fn write_items(items: &Vec<Data>, alloc: Global, out: &mut Draft) -> Result<(), 
 
 #[cycle(write)]
 fn write_members(
-    members: &Vec<(String, Data)>,
+    members: &Vec<(CompactText, Data)>,
     alloc: Global,
     out: &mut Draft,
 ) -> Result<(), AllocError>

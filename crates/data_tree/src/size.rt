@@ -5,7 +5,9 @@ ghost use Rattle.data_tree.specs.Tree.{view, items_view, members_view};
 ghost use Rattle.data_tree.specs.Json.{json, size, items_json, members_json};
 ghost use Rattle.data_tree.specs.Capped.{capped};
 
+use crate::compact_text::CompactText;
 use crate::data::Data;
+use crate::parts::first_text;
 use crate::plain::is_plain;
 use itoa::Buffer;
 
@@ -39,6 +41,12 @@ fn json_len(value: &Data) -> u64
                 // `{"fields":`, `,"items":`, `,"text":` and `}`.
                 .saturating_add(28)
         }
+        Data::Values(items) => {
+            bracketed_len(items.len(), items_len(items))
+                .saturating_add(quoted_len(first_text(items.as_slice())))
+                // `{"fields":{},"items":`, `,"text":` and `}`.
+                .saturating_add(30)
+        }
     }
 }
 
@@ -63,7 +71,7 @@ fn items_len(items: &Vec<Data>) -> u64
 
 // Each member with a comma before it.
 #[cycle(json_len)]
-fn members_len(members: &Vec<(String, Data)>) -> u64
+fn members_len(members: &Vec<(CompactText, Data)>) -> u64
     ensures { result ≡ capped (length (members_json true (members_view members.now.items))) }
 {
     let mut len = 0u64;

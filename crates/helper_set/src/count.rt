@@ -29,7 +29,7 @@ fn count_in(value: &Data) -> usize
         Data::Truth(false) => characters("false"),
         Data::Number(number) => characters(Buffer::new().format(*number)),
         Data::Text(text) => characters(text.as_str()),
-        Data::List(_) | Data::Fields(_) | Data::Named(_) => value.items_len(),
+        Data::List(_) | Data::Fields(_) | Data::Named(_) | Data::Values(_) => value.items_len(),
     }
 }
 

@@ -22,9 +22,7 @@ use crate::course::Course;
 use crate::forwarding::Forwarding;
 use crate::gathering::Gathering;
 use crate::patience::Patience;
-use crate::refusal::{
-    awaits_leave, has_other_coding, late, out_of_memory, refusal, unknown_coding,
-};
+use crate::refusal::{awaits_leave, late, out_of_memory, refusal, unknown_coding};
 use crate::seat_slot::SeatSlot;
 use bytes::{Bytes, BytesMut};
 use futures::task::{Context, Poll};
@@ -32,6 +30,7 @@ use futures::{Future, ready};
 use http::{Request, Response, StatusCode};
 use http_body::Body;
 use http_messages::error::ServiceError;
+use http_messages::transfer_coding::has_other_coding;
 use hyper::body::Incoming;
 use hyper::service::Service;
 use mock_request::snapshot::BODY_LIMIT;
@@ -141,9 +140,9 @@ where
             self.slot.begin(&self.rt, self.rt.alloc(), &message)
         };
         match begun {
-            // `return`, here and in other hot arms, since what a `match` gives is moved once more, and an answer is large.
+            // `return`, here and in other such arms, since what a `match` gives is moved once more.
             Ok(Begun::Answered(response)) => return Answering::Made(Some(Ok(response))),
-            Ok(Begun::Forwarding(exchange)) => match self.forwarding(exchange) {
+            Ok(Begun::Forwarding(exchange)) => match forwarding(self.rt, &self.slot, exchange) {
                 Ok(forwarding) => Answering::Forwarding(forwarding),
                 Err(AllocError) => Answering::Made(Some(Err(ServiceError::OutOfMemory))),
             },
@@ -152,13 +151,6 @@ where
             }
             Err(error) => Answering::Made(Some(Err(error))),
         }
-    }
-
-    fn forwarding(&self, exchange: Box<A::Exchange>) -> Result<Forwarding<R, A>, AllocError>
-        ensures exchange { IfOk result (λ forwarding. forwarding.exchange ≡ exchange) }
-        ensures giver { IfOk result (λ forwarding. giver_of forwarding.slot ≡ giver_of self.now.slot) }
-    {
-        Ok(Forwarding::new(self.rt, Arc::try_clone(&self.slot)?, exchange))
     }
 
     // The answer to a request whose content is still to come. A client that waits for leave to send what is too long is
@@ -269,7 +261,7 @@ where
                 Poll::Ready(Err(error)) => Poll::Ready(Err(error)),
                 Poll::Ready(Ok(Begun::Answered(response))) => Poll::Ready(Ok(response)),
                 Poll::Ready(Ok(Begun::Forwarding(exchange))) => {
-                    let mut forwarding = match waiting.forwarding(exchange) {
+                    let mut forwarding = match forwarding(waiting.rt, &waiting.slot, exchange) {
                         Ok(forwarding) => forwarding,
                         Err(AllocError) => return Poll::Ready(Err(ServiceError::OutOfMemory)),
                     };
@@ -343,13 +335,18 @@ where
             begun => begun,
         }
     }
+}
 
-    fn forwarding(&self, exchange: Box<A::Exchange>) -> Result<Forwarding<R, A>, AllocError>
-        ensures exchange { IfOk result (λ forwarding. forwarding.exchange ≡ exchange) }
-        ensures giver { IfOk result (λ forwarding. giver_of forwarding.slot ≡ giver_of self.now.slot) }
-    {
-        Ok(Forwarding::new(self.rt, Arc::try_clone(&self.slot)?, exchange))
-    }
+// What forwards a request by the exchange.
+fn forwarding<R: Drop, A: Answers>(
+    rt: R,
+    slot: &Arc<SeatSlot<A>>,
+    exchange: Box<A::Exchange>,
+) -> Result<Forwarding<R, A>, AllocError>
+    ensures exchange { IfOk result (λ forwarding. forwarding.exchange ≡ exchange) }
+    ensures giver { IfOk result (λ forwarding. giver_of forwarding.slot ≡ giver_of slot.now) }
+{
+    Ok(Forwarding::new(rt, Arc::try_clone(slot)?, exchange))
 }
 
 fn is_empty<I: Drop>(body: &Incoming<I>) -> bool

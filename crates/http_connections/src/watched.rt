@@ -90,6 +90,12 @@ impl<I: AsyncWrite> AsyncWrite for Watched<I> {
 
     ghost writes = { λ old bytes new. Costs I.writes old.io bytes new.io };
 
+    ghost is_flushed = { λ w. ⟦<Counted<I> as AsyncWrite>⟧.is_flushed w.io };
+
+    ghost is_shut_down = { λ w. ⟦<Counted<I> as AsyncWrite>⟧.is_shut_down w.io };
+
+    ghost is_full = { λ w. ⟦<Counted<I> as AsyncWrite>⟧.is_full w.io };
+
     ghost writes_nothing = { λ w. costs_nothing I.writes I.writes_nothing w.io };
 
     ghost writes_in_order = { λ a xs b ys c. costs_in_order I.writes I.writes_in_order a.io xs b.io ys c.io };

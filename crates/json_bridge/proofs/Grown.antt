@@ -1,6 +1,6 @@
 -- Lists and objects that grow at their end, an item or a member at a time.
-use Rattle.std.proofs.Common.{◌≡◌, ℕ, List, [], ◌∷◌, ◌++◌, Option, Some, None, option_map, String}
-use Rattle.std.proofs.Common.{Global, string_bytes, length, refl, sym, ap, ◌∙◌, arith}
+use Rattle.std.proofs.Common.{◌≡◌, ℕ, List, [], ◌∷◌, ◌++◌, Option, Some, None, option_map}
+use Rattle.std.proofs.Common.{length, refl, sym, ap, ◌∙◌, arith}
 use Rattle.data_tree.specs.declared.data.Data.{Data}
 use Rattle.data_tree.specs.Tree.{Tree, Items, no_items, item, Members, no_members, member, view, items_view}
 use Rattle.data_tree.specs.Tree.{members_view}
@@ -60,23 +60,23 @@ no_item_left (x ∷ xs) none = absurd (omega (arith, none))
 -- ---- the same of members
 
 abbrev pub Member : Type 0
-Member = String Global × Data
+Member = List ℕ × Data
 
 abbrev pub members_before : List Member → Members → Members
 members_before [] rest = rest
-members_before (m ∷ ms) rest = member (string_bytes m.0) (view m.1) (members_before ms rest)
+members_before (m ∷ ms) rest = member m.0 (view m.1) (members_before ms rest)
 
 members_before-last : (found : List Member) (m : Member) (rest : Members)
-    → members_before (found ++ m ∷ []) rest ≡ members_before found (member (string_bytes m.0) (view m.1) rest)
+    → members_before (found ++ m ∷ []) rest ≡ members_before found (member m.0 (view m.1) rest)
 members_before-last [] m rest = refl
-members_before-last (x ∷ found) m rest = ap (member (string_bytes x.0) (view x.1)) (members_before-last found m rest)
+members_before-last (x ∷ found) m rest = ap (member x.0 (view x.1)) (members_before-last found m rest)
 
 pub members_before-none : (found : List Member) → members_before found no_members ≡ members_view found
 members_before-none [] = refl
-members_before-none (m ∷ found) = ap (member (string_bytes m.0) (view m.1)) (members_before-none found)
+members_before-none (m ∷ found) = ap (member m.0 (view m.1)) (members_before-none found)
 
 pub one_more_member : (found : List Member) (m : Member) (o : Option Members)
-    → option_map (members_before found) (option_map (member (string_bytes m.0) (view m.1)) o) ≡ option_map
+    → option_map (members_before found) (option_map (member m.0 (view m.1)) o) ≡ option_map
     (members_before (found ++ m ∷ [])) o
 one_more_member found m None = refl
 one_more_member found m (Some rest) = ap Some (sym (members_before-last found m rest))
@@ -91,7 +91,7 @@ member_refused k d ms e = rw (sym e) refl
 
 pub member_read
     : (found pushed : List Member) (m : Member) (k : List ℕ) (x : value.Data) (xs : value.Members)
-    → Some (view m.1) ≡ tree_of_value x → k ≡ string_bytes m.0 → pushed ≡ found ++ m ∷ []
+    → Some (view m.1) ≡ tree_of_value x → k ≡ m.0 → pushed ≡ found ++ m ∷ []
     → option_map (members_before found) (members_of (value.member k x xs))
     ≡ option_map (members_before pushed) (members_of xs)
 member_read found pushed m k x xs taken named is =

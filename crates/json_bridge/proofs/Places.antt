@@ -1,6 +1,6 @@
 -- Where a name is among members whose names ascend.
-use Rattle.std.proofs.Common.{◌≡◌, ◌<◌, ◌+◌, ℕ, zero, suc, List, [], ◌∷◌, length, String, Global}
-use Rattle.std.proofs.Common.{string_bytes, Greater, Less, Equal, nat_cmp, refl, ap, arith, slice_index_or, slice_set}
+use Rattle.std.proofs.Common.{◌≡◌, ◌<◌, ◌+◌, ℕ, zero, suc, List, [], ◌∷◌, length}
+use Rattle.std.proofs.Common.{Greater, Less, Equal, nat_cmp, refl, ap, arith, slice_index_or, slice_set}
 use Rattle.std.specs.Cmp.Lexicographic.{slice_cmp}
 use Rattle.std.specs.List.{insert}
 use Rattle.data_tree.specs.Tree.{no_members, member, view, members_view}
@@ -12,11 +12,11 @@ use Rattle.json_bridge.specs.Inner.Direct.{put, ArePassed, IsFoundAt, BelongsAt,
 use Rattle.json_bridge.proofs.TreeSteps.{greater_of}
 
 abbrev pub Field : Type 0
-Field = String Global × Data
+Field = List ℕ × Data
 
 pub passed_more
     : (k : List ℕ) (n : ℕ) (ms : List Field) (m : Field) → ArePassed k n ms → n < length ms
-    → slice_cmp nat_cmp k (string_bytes (slice_index_or ms n m).0) ≡ Greater → ArePassed k (suc n) ms
+    → slice_cmp nat_cmp k (slice_index_or ms n m).0 ≡ Greater → ArePassed k (suc n) ms
 passed_more k n [] m passed within is = absurd (omega (arith, within))
 passed_more k zero (e ∷ ms) m passed within is = (is, tt)
 passed_more k (suc n) (e ∷ ms) m passed within is =
@@ -24,7 +24,7 @@ passed_more k (suc n) (e ∷ ms) m passed within is =
 
 pub found_after
     : (k : List ℕ) (n : ℕ) (ms : List Field) (m : Field) → ArePassed k n ms → n < length ms
-    → slice_cmp nat_cmp k (string_bytes (slice_index_or ms n m).0) ≡ Equal → IsFoundAt k n ms
+    → slice_cmp nat_cmp k (slice_index_or ms n m).0 ≡ Equal → IsFoundAt k n ms
 found_after k n [] m passed within is = absurd (omega (arith, within))
 found_after k zero (e ∷ ms) m passed within is = is
 found_after k (suc n) (e ∷ ms) m passed within is =
@@ -32,7 +32,7 @@ found_after k (suc n) (e ∷ ms) m passed within is =
 
 pub belongs_after
     : (k : List ℕ) (n : ℕ) (ms : List Field) (m : Field) → ArePassed k n ms → n < length ms
-    → slice_cmp nat_cmp k (string_bytes (slice_index_or ms n m).0) ≡ Less → BelongsAt k n ms
+    → slice_cmp nat_cmp k (slice_index_or ms n m).0 ≡ Less → BelongsAt k n ms
 belongs_after k n [] m passed within is = absurd (omega (arith, within))
 belongs_after k zero (e ∷ ms) m passed within is = is
 belongs_after k (suc n) (e ∷ ms) m passed within is =
@@ -45,13 +45,13 @@ belongs_last k zero (e ∷ ms) passed all = absurd (omega (arith, all))
 belongs_last k (suc n) (e ∷ ms) passed all = (passed.0, belongs_last k n ms passed.1 (omega (arith, all)))
 
 pub put_inserted
-    : (name : String Global) (d : Data) (n : ℕ) (ms : List Field) → BelongsAt (string_bytes name) n ms
-    → members_view (insert ms n (name, d)) ≡ put (string_bytes name) (view d) (members_view ms)
+    : (name : List ℕ) (d : Data) (n : ℕ) (ms : List Field) → BelongsAt name n ms
+    → members_view (insert ms n (name, d)) ≡ put name (view d) (members_view ms)
 put_inserted name d zero [] at = refl
 put_inserted name d zero (e ∷ ms) at = rw at refl
 put_inserted name d (suc n) [] at = absurd at
 put_inserted name d (suc n) (e ∷ ms) at =
-    rw at.0 (ap (member (string_bytes e.0) (view e.1)) (put_inserted name d n ms at.1))
+    rw at.0 (ap (member e.0 (view e.1)) (put_inserted name d n ms at.1))
 
 pub put_changed
     : (k : List ℕ) (d : Data) (n : ℕ) (ms : List Field) (m : Field) → IsFoundAt k n ms
@@ -63,7 +63,7 @@ put_changed k d n [] m at = by n at
     by (suc n) at = absurd at
 put_changed k d zero (e ∷ ms) m at = rw at refl
 put_changed k d (suc n) (e ∷ ms) m at =
-    rw at.0 (ap (member (string_bytes e.0) (view e.1)) (put_changed k d n ms m at.1))
+    rw at.0 (ap (member e.0 (view e.1)) (put_changed k d n ms m at.1))
 
 pub found_within : (k : List ℕ) (n : ℕ) (ms : List Field) → IsFoundAt k n ms → n < length ms
 found_within k zero [] at = absurd at
@@ -80,22 +80,22 @@ belongs_within k (suc n) (e ∷ ms) at = omega (arith, belongs_within k n ms at.
 -- ---- after all others
 
 below : (k : List ℕ) (m : Field) (ms : List Field) → IsAscending (names_of (members_view (m ∷ ms)))
-    → EndBefore (m ∷ ms) k → slice_cmp nat_cmp (string_bytes m.0) k ≡ Less
+    → EndBefore (m ∷ ms) k → slice_cmp nat_cmp m.0 k ≡ Less
 below k m [] up ends = ends
 below k m (n ∷ ms) up ends =
-    nat_list_cmp_total.trans (string_bytes m.0) (string_bytes n.0) k up.0 (below k n ms up.1 ends)
+    nat_list_cmp_total.trans m.0 n.0 k up.0 (below k n ms up.1 ends)
 
 pub belongs_at_end : (k : List ℕ) (ms : List Field) → IsAscending (names_of (members_view ms)) → EndBefore ms k
     → BelongsAt k (length ms) ms
 belongs_at_end k [] up ends = tt
-belongs_at_end k (m ∷ []) up ends = (greater_of (string_bytes m.0) k ends, tt)
+belongs_at_end k (m ∷ []) up ends = (greater_of m.0 k ends, tt)
 belongs_at_end k (m ∷ n ∷ ms) up ends = (
-  greater_of (string_bytes m.0) k (below k m (n ∷ ms) up ends),
+  greater_of m.0 k (below k m (n ∷ ms) up ends),
   belongs_at_end k (n ∷ ms) up.1 ends,
 )
 
 pub end_before : (ms : List Field) (n : ℕ) (any : Field) (k : List ℕ) → n + 1 ≡ length ms
-    → slice_cmp nat_cmp (string_bytes (slice_index_or ms n any).0) k ≡ Less → EndBefore ms k
+    → slice_cmp nat_cmp (slice_index_or ms n any).0 k ≡ Less → EndBefore ms k
 end_before [] n any k last less = tt
 end_before (m ∷ []) zero any k last less = less
 end_before (m ∷ []) (suc n) any k last less = absurd (omega (arith, last))

@@ -1,6 +1,6 @@
 -- The grammar's loops, a turn at a time, as trees are made straight of what they spell; and what that tree is.
 use Rattle.std.proofs.Common.{◌≡◌, ℕ, ◌-◌, ◌<◌, ◌≤◌, List, [], ◌∷◌, ◌++◌, length, Option, Some, None, option_map}
-use Rattle.std.proofs.Common.{option_and_then, String, Global, string_bytes, string_cmp, Ordering, Less, Equal}
+use Rattle.std.proofs.Common.{option_and_then, Ordering, Less, Equal}
 use Rattle.std.proofs.Common.{Greater, nat_cmp}
 use Rattle.std.proofs.Common.{Bool, true, false, cond, ◌==◌, refl, sym, ap, ◌∙◌, arith}
 use Rattle.std.proofs.lemmas.Cmp.{nat_list_cmp_total}
@@ -131,12 +131,12 @@ none_before None = refl
 none_before (Some p) = refl
 
 abbrev Field : Type 0
-Field = String Global × Data
+Field = List ℕ × Data
 
 pub put_all_last : (es : List Field) (e : Field) (ms : Members)
-    → put_all (es ++ e ∷ []) ms ≡ put (string_bytes e.0) (view e.1) (put_all es ms)
+    → put_all (es ++ e ∷ []) ms ≡ put e.0 (view e.1) (put_all es ms)
 put_all_last [] e ms = refl
-put_all_last (x ∷ es) e ms = put_all_last es e (put (string_bytes x.0) (view x.1) ms)
+put_all_last (x ∷ es) e ms = put_all_last es e (put x.0 (view x.1) ms)
 
 -- ---- members whose names ascend stay as they are
 
@@ -151,7 +151,7 @@ IsAbove name (member k t ms) = (slice_cmp nat_cmp name k ≡ Greater) × IsAbove
 
 abbrev AreAbove : List Field → Members → Type 0
 AreAbove [] found = ⊤
-AreAbove (e ∷ es) found = IsAbove (string_bytes e.0) found × AreAbove es found
+AreAbove (e ∷ es) found = IsAbove e.0 found × AreAbove es found
 
 put_above : (k : List ℕ) (t : Tree) (found : Members) → IsAbove k found
     → put k t found ≡ join found (member k t no_members)
@@ -176,8 +176,8 @@ above_first : (k : List ℕ) (t : Tree) (found : Members) (es : List Field)
     → AreAbove es (join found (member k t no_members))
 above_first k t found [] h above = tt
 above_first k t found (e ∷ es) h above = (
-  above_join (string_bytes e.0) k t found above.0 (greater_of k (string_bytes e.0) h.0),
-  above_first k t found es (without_next k (string_bytes e.0) (names_of (members_view es)) h) above.1,
+  above_join e.0 k t found above.0 (greater_of k e.0 h.0),
+  above_first k t found es (without_next k e.0 (names_of (members_view es)) h) above.1,
 )
 
 none_above : (es : List Field) → AreAbove es no_members
@@ -201,7 +201,7 @@ all_above : (es : List Field) (found : Members) → IsAscending (names_of (membe
     → put_all es found ≡ join found (members_view es)
 all_above [] found h above = sym (join_none found)
 all_above (e ∷ es) found h above =
-    let k = string_bytes e.0 in
+    let k = e.0 in
     let t = view e.1 in
     ap (put_all es) (put_above k t found above.0)
     ∙ all_above es (join found (member k t no_members)) (ascending_tail k (names_of (members_view es)) h)
@@ -220,10 +220,10 @@ members_view-match_ordering Less a b c = refl
 members_view-match_ordering Equal a b c = refl
 members_view-match_ordering Greater a b c = refl
 
-pub put_entry : (es : List Field) (k : String Global) (d : Data)
-    → members_view (insert_entry string_cmp es k d) ≡ put (string_bytes k) (view d) (members_view es)
+pub put_entry : (es : List Field) (k : List ℕ) (d : Data)
+    → members_view (insert_entry (slice_cmp nat_cmp) es k d) ≡ put k (view d) (members_view es)
 put_entry [] k d = refl
-put_entry (e ∷ es) k d = members_view-match_ordering (string_cmp k e.0) _ _ _ ∙ rw (put_entry es k d)
+put_entry (e ∷ es) k d = members_view-match_ordering (slice_cmp nat_cmp k e.0) _ _ _ ∙ rw (put_entry es k d)
 
 -- ---- the tree is that of the value that `serde_json` reads
 
@@ -359,6 +359,6 @@ put_none [] ms none = refl
 put_none (e ∷ es) ms none = absurd (omega (arith, none))
 
 pub members_before-last : (es : List Field) (e : Field) (rest : Members)
-    → members_before (es ++ e ∷ []) rest ≡ members_before es (member (string_bytes e.0) (view e.1) rest)
+    → members_before (es ++ e ∷ []) rest ≡ members_before es (member e.0 (view e.1) rest)
 members_before-last [] e rest = refl
-members_before-last (x ∷ es) e rest = ap (member (string_bytes x.0) (view x.1)) (members_before-last es e rest)
+members_before-last (x ∷ es) e rest = ap (member x.0 (view x.1)) (members_before-last es e rest)

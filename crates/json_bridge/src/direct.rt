@@ -1,5 +1,5 @@
 // From a JSON text straight to its value, where each number in it is whole.
-ghost use Rattle.std.specs.Prelude.{◌≡◌, ◌<◌, length, Some, None, Err, IfOk, OnOk, IfSome, IsErrOf, IsTrue, option_map, string_bytes};
+ghost use Rattle.std.specs.Prelude.{◌≡◌, ◌<◌, length, Some, None, Err, IfOk, OnOk, IfSome, IsErrOf, IsTrue, option_map};
 ghost use Rattle.std.specs.Prelude.{MatchResult, option_and_then, true, false};
 ghost use Rattle.std.specs.Bool.{OnTrue};
 ghost use Rattle.json.specs.Json.{value, items, members, read_key};
@@ -13,6 +13,7 @@ ghost use Rattle.json_bridge.specs.Inner.Direct.{IsFoundAt, BelongsAt, EndBefore
 
 use crate::error::JsonError;
 use crate::next_step::after_byte;
+use data_tree::compact_text::CompactText;
 use data_tree::data::Data;
 use fast_float::Numeral;
 use json::{Reader, Scratch, Token};
@@ -53,7 +54,7 @@ pub(crate) fn read(alloc: Global, reader: &mut Reader<'_>, depth: usize) -> Resu
 {
     let token = reader.next().ok_or(JsonError::NotJson)?;
     match token {
-        Token::String(text) => Ok(Data::Text(String::from_str(alloc, text)?)),
+        Token::String(text) => Ok(Data::Text(CompactText::from_str(alloc, text)?)),
         Token::Number(text) => match whole_of(text) {
             Some(number) => Ok(Data::Number(number)),
             None => Err(JsonError::NumberNotWhole),
@@ -102,7 +103,7 @@ fn read_members(
     alloc: Global,
     reader: &mut Reader<'_>,
     depth: usize,
-) -> Result<Vec<(String, Data)>, JsonError>
+) -> Result<Vec<(CompactText, Data)>, JsonError>
     ensures ok { IfOk result
         (λ found. converted (λ ms. members_of_json ms no_members)
         (members (value depth) (length reader.old) reader.old)
@@ -113,7 +114,7 @@ fn read_members(
 {
     let mut found = Vec::new(alloc);
     'members: while let Some(name) = next_name(reader)? {
-        let key = String::from_str(alloc, name)?;
+        let key = CompactText::from_str(alloc, name)?;
         let member = read(alloc, reader, depth)?;
         add(&mut found, key, member)?;
     }
@@ -164,10 +165,14 @@ fn from_zero(numeral: &Numeral<'_>) -> Option<i128>
 }
 
 // One more member. A few are put where their names belong; the others are put in order when all are there.
-fn add(found: &mut Vec<(String, Data)>, name: String, member: Data) -> Result<(), AllocError>
+fn add(
+    found: &mut Vec<(CompactText, Data)>,
+    name: CompactText,
+    member: Data,
+) -> Result<(), AllocError>
     requires { AreFewInOrder found.old.items }
     ensures put { OnOk result (put_all found.new.items no_members
-        ≡ put (string_bytes name) (view member) (put_all found.old.items no_members)) }
+        ≡ put name (view member) (put_all found.old.items no_members)) }
     ensures in_order { OnOk result (AreFewInOrder found.new.items) }
 {
     if found.len() < FEW {
@@ -179,7 +184,10 @@ fn add(found: &mut Vec<(String, Data)>, name: String, member: Data) -> Result<()
 }
 
 // The members that were added, in the order of their names.
-fn finished(alloc: Global, found: Vec<(String, Data)>) -> Result<Vec<(String, Data)>, AllocError>
+fn finished(
+    alloc: Global,
+    found: Vec<(CompactText, Data)>,
+) -> Result<Vec<(CompactText, Data)>, AllocError>
     requires { AreFewInOrder found.items }
     ensures { IfOk result (λ made. members_view made.items ≡ put_all found.items no_members) }
 {
@@ -192,8 +200,8 @@ fn finished(alloc: Global, found: Vec<(String, Data)>) -> Result<Vec<(String, Da
 // The members in the order of their names, each name once, with its last value.
 pub(crate) fn in_order(
     alloc: Global,
-    found: Vec<(String, Data)>,
-) -> Result<Vec<(String, Data)>, AllocError>
+    found: Vec<(CompactText, Data)>,
+) -> Result<Vec<(CompactText, Data)>, AllocError>
     ensures { IfOk result (λ made. members_view made.items ≡ put_all found.items no_members) }
 {
     if is_ascending(&found) {
@@ -203,7 +211,7 @@ pub(crate) fn in_order(
 }
 
 // Whether each name is before the next.
-fn is_ascending(members: &[(String, Data)]) -> bool
+fn is_ascending(members: &[(CompactText, Data)]) -> bool
     ensures { OnTrue result (IsAscending (names_of (members_view members.now))) }
 {
     let mut rest = members;
@@ -218,7 +226,10 @@ fn is_ascending(members: &[(String, Data)]) -> bool
     true
 }
 
-fn sorted(alloc: Global, found: Vec<(String, Data)>) -> Result<Vec<(String, Data)>, AllocError>
+fn sorted(
+    alloc: Global,
+    found: Vec<(CompactText, Data)>,
+) -> Result<Vec<(CompactText, Data)>, AllocError>
     ensures { IfOk result (λ made. members_view made.items ≡ put_all found.items no_members) }
 {
     if found.len() <= FEW {
@@ -229,7 +240,10 @@ fn sorted(alloc: Global, found: Vec<(String, Data)>) -> Result<Vec<(String, Data
 }
 
 // Each is put where its name belongs.
-fn put_each(alloc: Global, found: Vec<(String, Data)>) -> Result<Vec<(String, Data)>, AllocError>
+fn put_each(
+    alloc: Global,
+    found: Vec<(CompactText, Data)>,
+) -> Result<Vec<(CompactText, Data)>, AllocError>
     ensures { IfOk result (λ made. members_view made.items ≡ put_all found.items no_members) }
 {
     let mut made = Vec::with_capacity(alloc, found.len())?;
@@ -239,10 +253,14 @@ fn put_each(alloc: Global, found: Vec<(String, Data)>) -> Result<Vec<(String, Da
     Ok(made)
 }
 
-fn put(made: &mut Vec<(String, Data)>, name: String, member: Data) -> Result<(), AllocError>
+fn put(
+    made: &mut Vec<(CompactText, Data)>,
+    name: CompactText,
+    member: Data,
+) -> Result<(), AllocError>
     requires { IsAscending (names_of (members_view made.old.items)) }
     ensures { OnOk result (members_view made.new.items
-        ≡ put (string_bytes name) (view member) (members_view made.old.items)) }
+        ≡ put name (view member) (members_view made.old.items)) }
 {
     match place_of(made.as_slice(), name.as_str()) {
         Ok(index) => made[index].1 = member,
@@ -252,7 +270,7 @@ fn put(made: &mut Vec<(String, Data)>, name: String, member: Data) -> Result<(),
 }
 
 // Where the name is, or else where it belongs. Mostly it is after all others.
-fn place_of(members: &[(String, Data)], name: &str) -> Result<usize, usize>
+fn place_of(members: &[(CompactText, Data)], name: &str) -> Result<usize, usize>
     requires { IsAscending (names_of (members_view members.now)) }
     ensures { MatchResult result
         (λ index. IsFoundAt name.now index members.now) (λ index. BelongsAt name.now index members.now) }
@@ -272,7 +290,7 @@ fn place_of(members: &[(String, Data)], name: &str) -> Result<usize, usize>
 }
 
 // Whether the last of the members, if there is one, is before the name.
-fn end_before(members: &[(String, Data)], name: &str) -> bool
+fn end_before(members: &[(CompactText, Data)], name: &str) -> bool
     ensures { IsTrue result → EndBefore members.now name.now }
 {
     let count = members.len();
@@ -283,10 +301,13 @@ fn end_before(members: &[(String, Data)], name: &str) -> bool
 }
 
 // Each name with its last value.
-fn by_name(alloc: Global, found: Vec<(String, Data)>) -> Result<BTreeMap<String, Data>, AllocError>
+fn by_name(
+    alloc: Global,
+    found: Vec<(CompactText, Data)>,
+) -> Result<BTreeMap<CompactText, Data>, AllocError>
     ensures { IfOk result (λ made. members_view made.entries ≡ put_all found.items no_members) }
 {
-    let mut members: BTreeMap<String, Data> = BTreeMap::new(alloc);
+    let mut members: BTreeMap<CompactText, Data> = BTreeMap::new(alloc);
     for (name, member) in found {
         drop(members.insert(name, member)?);
     }
@@ -295,8 +316,8 @@ fn by_name(alloc: Global, found: Vec<(String, Data)>) -> Result<BTreeMap<String,
 
 fn in_list(
     alloc: Global,
-    members: BTreeMap<String, Data>,
-) -> Result<Vec<(String, Data)>, AllocError>
+    members: BTreeMap<CompactText, Data>,
+) -> Result<Vec<(CompactText, Data)>, AllocError>
     ensures { IfOk result (λ made. members_view made.items ≡ members_view members.entries) }
 {
     let mut made = Vec::with_capacity(alloc, members.len())?;

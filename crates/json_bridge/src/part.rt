@@ -15,6 +15,7 @@ use crate::direct::{MAX_DEPTH, in_order, next_name, read, whole_of};
 use crate::error::JsonError;
 use crate::judged::{judge, judge_items};
 use crate::read::data_of_json;
+use data_tree::compact_text::CompactText;
 use data_tree::data::Data;
 use json::{Reader, Scratch, Token};
 use std::alloc::{AllocError, Global};
@@ -64,7 +65,7 @@ fn read_parts(alloc: Global, reader: &mut Reader<'_>, names: &[&str]) -> Result<
 {
     let token = reader.next().ok_or(JsonError::NotJson)?;
     match token {
-        Token::String(text) => Ok(Data::Text(String::from_str(alloc, text)?)),
+        Token::String(text) => Ok(Data::Text(CompactText::from_str(alloc, text)?)),
         Token::Number(text) => match whole_of(text) {
             Some(number) => Ok(Data::Number(number)),
             None => Err(JsonError::NumberNotWhole),
@@ -86,7 +87,7 @@ fn read_kept(
     alloc: Global,
     reader: &mut Reader<'_>,
     names: &[&str],
-) -> Result<Vec<(String, Data)>, JsonError>
+) -> Result<Vec<(CompactText, Data)>, JsonError>
     ensures ok { IfOk result (λ found. (ms : Members)
         × HasMembers (members (value (MAX_DEPTH - 1)) (length reader.old) reader.old) ms reader.new
         × (tree.members_view found.items ≡ kept (is_kept (map (λ name. name.now) names.now)) ms)) }
@@ -96,7 +97,7 @@ fn read_kept(
     let mut found = Vec::new(alloc);
     'members: while let Some(name) = next_name(reader)? {
         if is_kept(names, name) {
-            let key = String::from_str(alloc, name)?;
+            let key = CompactText::from_str(alloc, name)?;
             let member = read(alloc, reader, MAX_DEPTH - 1)?;
             let Ok(()) = found.push((key, member)) else {
                 return Err(JsonError::OutOfMemory);
@@ -133,9 +134,9 @@ fn part_of(alloc: Global, value: Data, names: &[&str]) -> Result<Data, AllocErro
 
 fn kept_of(
     alloc: Global,
-    members: Vec<(String, Data)>,
+    members: Vec<(CompactText, Data)>,
     names: &[&str],
-) -> Result<Vec<(String, Data)>, AllocError>
+) -> Result<Vec<(CompactText, Data)>, AllocError>
     ensures { IfOk result (λ found. tree.members_view found.items
         ≡ kept (is_kept (map (λ name. name.now) names.now)) (tree.members_view members.items)) }
 {

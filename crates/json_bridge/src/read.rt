@@ -7,6 +7,7 @@ ghost use Rattle.json_bridge.specs.Reading.{IsJson, whole_number, tree_of_value,
 
 use crate::direct::read_direct;
 use crate::error::JsonError;
+use data_tree::compact_text::CompactText;
 use data_tree::data::Data;
 use serde_json::{Map, Number, Value};
 use std::alloc::{AllocError, Global};
@@ -80,7 +81,7 @@ fn data_of(alloc: Global, value: Value) -> Result<Option<Data>, AllocError>
         Value::Null => Ok(Some(Data::Nothing)),
         Value::Bool(truth) => Ok(Some(Data::Truth(truth))),
         Value::Number(number) => Ok(whole_number(&number).map(Data::Number)),
-        Value::String(text) => Ok(Some(Data::Text(text))),
+        Value::String(text) => Ok(Some(Data::Text(CompactText::new(text)))),
         Value::Array(items) => Ok(list_of(alloc, items)?.map(Data::List)),
         Value::Object(members) => Ok(fields_of(alloc, members)?.map(Data::Fields)),
     }
@@ -105,14 +106,14 @@ fn list_of(alloc: Global, items: Vec<Value>) -> Result<Option<Vec<Data>>, AllocE
 fn fields_of(
     alloc: Global,
     members: Map<String, Value>,
-) -> Result<Option<Vec<(String, Data)>>, AllocError>
+) -> Result<Option<Vec<(CompactText, Data)>>, AllocError>
     ensures { IfOk result (λ found. option_map (λ v. tree.members_view v.items) found
         ≡ members_of (members_view members.entries)) }
 {
     let mut found = Vec::with_capacity(alloc, members.len())?;
     for (name, member) in members {
         match data_of(alloc, member)? {
-            Some(data) => found.push((name, data))?,
+            Some(data) => found.push((CompactText::new(name), data))?,
             None => return Ok(None),
         }
     }

@@ -1,6 +1,6 @@
 -- Lists of values, item by item.
 use Rattle.std.proofs.Common.{◌≡◌, ℕ, suc, ◌≤◌, ◌&&◌, ◌||◌, ◌⊎◌, inl, inr, not, Bool, true}
-use Rattle.std.proofs.Common.{false, nat_eq, List, [], ◌∷◌, length, drop, None, Some, String, Global, refl, sym}
+use Rattle.std.proofs.Common.{false, nat_eq, List, [], ◌∷◌, length, drop, None, Some, refl, sym}
 use Rattle.std.proofs.Common.{ap, ◌∙◌, arith, IfOk, Result, Ok, Err}
 use Rattle.std.specs.declared.alloc.AllocError.{AllocError}
 use Rattle.std.proofs.lemmas.Bool.{eq-eqb}
@@ -114,17 +114,17 @@ pub something_list : (n : ℕ) (xs : List Data) → n ≡ length xs
 something_list n [] e = rw e refl
 something_list n (x ∷ xs) e = rw e (ap not (suc_is_not_zero (length xs)))
 
-pub something_fields : (n : ℕ) (xs : List (String Global × Data)) → n ≡ length xs
+pub something_fields : (n : ℕ) (xs : List (List ℕ × Data)) → n ≡ length xs
     → not (nat_eq n 0) ≡ is_something (fields (members_view xs))
 something_fields n [] e = rw e refl
 something_fields n (x ∷ xs) e = rw e (ap not (suc_is_not_zero (length xs)))
 
 -- where all expected members are found and no more are allowed, none is left
-pub none_is_left : (f : Flags) (es rest : List (String Global × Data)) (n : ℕ) → length es ≤ n
+pub none_is_left : (f : Flags) (es rest : List (List ℕ × Data)) (n : ℕ) → length es ≤ n
     → f.ignore_extra_elements ≡ false
     → nat_eq (length rest) 0 ≡ have_equal f (members_view (drop n es)) (members_view rest)
 none_is_left f es rest n le none = rw (drop_all n es le, none) (empty rest)
   where
-    empty : (xs : List (String Global × Data)) → nat_eq (length xs) 0 ≡ is_empty (members_view xs)
+    empty : (xs : List (List ℕ × Data)) → nat_eq (length xs) 0 ≡ is_empty (members_view xs)
     empty [] = refl
     empty (x ∷ xs) = suc_is_not_zero (length xs)

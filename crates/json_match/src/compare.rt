@@ -8,6 +8,7 @@ ghost use Rattle.json_match.specs.Inner.Walk.{have_equal};
 
 use crate::counts::{are_scalars, each_takes_same};
 use crate::find::member_at;
+use data_tree::compact_text::CompactText;
 use data_tree::data::Data;
 use std::alloc::AllocError;
 
@@ -124,8 +125,8 @@ fn first_left(
 #[cycle(is_equal)]
 fn have_equal(
     flags: Flags,
-    expected: &Vec<(String, Data)>,
-    actual: &Vec<(String, Data)>,
+    expected: &Vec<(CompactText, Data)>,
+    actual: &Vec<(CompactText, Data)>,
 ) -> Result<bool, AllocError>
     ensures { IfOk result (λ yes. yes
         ≡ have_equal flags (members_view expected.now.items) (members_view actual.now.items)) }

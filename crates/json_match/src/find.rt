@@ -5,14 +5,15 @@ ghost use Rattle.data_tree.specs.Tree.{view, nothing, members_view};
 ghost use Rattle.json_match.specs.Inner.Walk.{member_at, found_view};
 ghost use Rattle.json_match.specs.Matching.{is_something};
 
+use data_tree::compact_text::CompactText;
 use data_tree::data::Data;
 
 /// The value of the member of that name, which is the first unless `more` may be before it, and the members after it.
 pub(crate) fn member_at<'a>(
     more: bool,
     name: &str,
-    members: &'a [(String, Data)],
-) -> Option<(&'a Data, &'a [(String, Data)])>
+    members: &'a [(CompactText, Data)],
+) -> Option<(&'a Data, &'a [(CompactText, Data)])>
     ensures { found_view result ≡ member_at more name.now (members_view members.now) }
 {
     let mut rest = members;

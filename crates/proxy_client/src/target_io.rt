@@ -84,6 +84,12 @@ impl<I: AsyncWrite> AsyncWrite for TargetIo<I> {
 
     ghost writes = { λ old bytes new. Costs I.writes old.io bytes new.io };
 
+    ghost is_flushed = { λ t. ⟦<Counted<I> as AsyncWrite>⟧.is_flushed t.io };
+
+    ghost is_shut_down = { λ t. ⟦<Counted<I> as AsyncWrite>⟧.is_shut_down t.io };
+
+    ghost is_full = { λ t. ⟦<Counted<I> as AsyncWrite>⟧.is_full t.io };
+
     ghost writes_nothing = { λ t. costs_nothing I.writes I.writes_nothing t.io };
 
     ghost writes_in_order = { λ a xs b ys c. costs_in_order I.writes I.writes_in_order a.io xs b.io ys c.io };

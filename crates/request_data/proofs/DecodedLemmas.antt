@@ -1,8 +1,11 @@
 -- Encoded texts in which no byte is escaped.
 use Rattle.std.proofs.Common.{◌≡◌, ◌≢◌, ◌==◌, ◌≤◌, ◌<◌, ℕ, zero, suc, Bool, true, false, if◌then◌else◌, List, [], ◌∷◌}
-use Rattle.std.proofs.Common.{map, length, slice_index_or, slice_set, All, refl, ap, ◌∙◌, arith}
-use Rattle.std.proofs.lemmas.List.Elements.{All-head, All-tail}
-use Rattle.std.specs.Str.{IsAscii}
+use Rattle.std.proofs.Common.{map, take, length, slice_index_or, slice_set, All, refl, sym, ap, subst, ◌∙◌, arith}
+use Rattle.std.proofs.lemmas.List.{take-map}
+use Rattle.std.proofs.lemmas.List.Elements.{All-head, All-tail, All-take}
+use Rattle.std.proofs.lemmas.Str.{utf8_lossy-IsUtf8, IsUtf8-from_ascii}
+use Rattle.std.specs.Str.{IsAscii, IsUtf8}
+use Rattle.std.specs.Str.Lossy.{utf8_lossy}
 use Rattle.percent_encoding.proofs.PercentLemmas.{percent_decode-nil, percent_decode_not_percent}
 use Rattle.percent_encoding.specs.Percent.{percent_sign}
 use Rattle.form_urlencoded.specs.Form.{decode, plus_to_space, plus_sign, space}
@@ -34,6 +37,25 @@ pub ascii_spaces : (bs : List ℕ) → All IsPlain bs → IsAscii (map plus_to_s
 ascii_spaces [] plain i = omega arith
 ascii_spaces (b ∷ bs) plain zero = ascii b (All-head IsPlain b bs plain).0
 ascii_spaces (b ∷ bs) plain (suc i) = ascii_spaces bs (All-tail IsPlain b bs plain) i
+
+pub spaces_utf8 : (bs : List ℕ) → All IsPlain bs → IsUtf8 (map plus_to_space bs)
+spaces_utf8 bs plain = IsUtf8-from_ascii (map plus_to_space bs) (ascii_spaces bs plain)
+
+-- what they stand for
+pub text_plain : (bs : List ℕ) → All IsPlain bs → map plus_to_space bs ≡ utf8_lossy (decode bs)
+text_plain bs plain =
+    sym (utf8_lossy-IsUtf8 (map plus_to_space bs) (spaces_utf8 bs plain))
+    ∙ ap utf8_lossy (sym (decode_plain bs plain))
+
+-- the bytes with which an array begins, in which a space was put for each `+`
+pub begun_plain : (bs room : List ℕ) → take (length bs) room ≡ bs → All IsPlain room → All IsPlain bs
+begun_plain bs room begins plain = subst (All IsPlain) begins (All-take IsPlain (length bs) room plain)
+
+pub begun_spaced
+    : (bs room spaces : List ℕ) → take (length bs) room ≡ bs → spaces ≡ map plus_to_space room
+    → take (length bs) spaces ≡ map plus_to_space bs
+begun_spaced bs room spaces begins is =
+    ap (take (length bs)) is ∙ take-map plus_to_space (length bs) room ∙ ap (map plus_to_space) begins
 
 -- that many bytes with a space for each `+`, and the others
 abbrev pub spaced : ℕ → List ℕ → List ℕ

@@ -7,19 +7,18 @@ use Rattle.std.specs.Cmp.Lexicographic.{slice_cmp}
 use Rattle.std.specs.List.{filter, list_any, AllByRecursion}
 use Rattle.std.specs.List.Sorted.{IsStrictlySortedBy}
 use Rattle.std.specs.Map.{lookup, keys_of}
-use Rattle.std.specs.Option.{option_map_or}
+use Rattle.std.specs.Option.{unwrap_or}
 use Rattle.std.specs.Ordering.{nat_cmp, is_eq, match_ordering, ordering_reverse}
 use Rattle.std.specs.declared.cmp.Ordering.TheVariants.{Less, Equal, Greater}
 use Rattle.std.specs.Str.{bytes_eq}
-use Rattle.std.specs.String.{string_cmp}
 use Rattle.std.proofs.lemmas.Bool.{false≢true}
 use Rattle.std.proofs.lemmas.Cmp.{nat_list_cmp_total}
 use Rattle.std.proofs.lemmas.Map.Text.{is_eq-slice_cmp}
 use Rattle.std.proofs.lemmas.Slice.Eq.{bytes_eq-Decides}
-use Rattle.data_tree.specs.Tree.{Tree, text, item, items_of, members_of}
+use Rattle.data_tree.specs.Tree.{Tree, text, item, items_of, members_of, first_text as first_item_text}
 use Rattle.data_tree.specs.Parts.{names_of}
 use Rattle.data_tree.specs.WellFormed.{IsAscending, IsWellFormed, AreWellFormed, HaveWellFormedValues}
-use Rattle.mock_request.specs.Values.{values_of}
+use Rattle.mock_request.specs.Values.{first_of, values_of}
 use Rattle.request_data.specs.Grouped.{texts, with_name, names_in, members_under, values_tree, grouped, first_text}
 use Rattle.request_data.specs.Grouped.{firsts}
 use Rattle.mock_request.specs.Values.{pairs_of}
@@ -184,33 +183,39 @@ pub any_of_pairs
 any_of_pairs name [] = refl
 any_of_pairs name (pair ∷ pairs) = ap (λ b. bytes_eq name (string_bytes pair.0) || b) (any_of_pairs name pairs)
 
-pub texts_from_values
-    : (values : List (String Global))
-    → items_of (map (λ value. text (string_bytes value)) values) ≡ texts (map string_bytes values)
+pub texts_from_values : (values : List (List ℕ)) → items_of (map text values) ≡ texts values
 texts_from_values [] = refl
-texts_from_values (value ∷ values) = ap (item (text (string_bytes value))) (texts_from_values values)
+texts_from_values (value ∷ values) = ap (item (text value)) (texts_from_values values)
+
+pub text_of_first : (values : List (List ℕ)) → first_item_text (texts values) ≡ first_of values
+text_of_first [] = refl
+text_of_first (value ∷ values) = refl
 
 -- ---- a map's entries
 
-module _ {X : Type 0} (tree_of : List (List ℕ) → Tree) (values : X → List (List ℕ)) where
-  abbrev pub name_of : String Global × X → List ℕ
-  name_of entry = string_bytes entry.0
+module _ {K : Type 0} (bytes_of : K → List ℕ) (tree_of : List (List ℕ) → Tree) where
+  -- a key and its values
+  abbrev pub Entry : Type 0
+  Entry = K × List (List ℕ)
 
-  abbrev pub found : List ℕ → List (String Global × X) → Option X
-  found name entries = lookup (is_at (λ k. slice_cmp nat_cmp name (string_bytes k))) entries
+  abbrev pub name_of : Entry → List ℕ
+  name_of entry = bytes_of entry.0
 
-  abbrev pub entry_tree : String Global × X → String Global × Tree
-  entry_tree entry = (entry.0, tree_of (values entry.1))
+  abbrev pub found : List ℕ → List Entry → Option (List (List ℕ))
+  found name entries = lookup (is_at (λ k. slice_cmp nat_cmp name (bytes_of k))) entries
+
+  abbrev pub entry_tree : Entry → List ℕ × Tree
+  entry_tree entry = (name_of entry, tree_of entry.1)
 
   above_all
-      : (key : String Global) (entries : List (String Global × X))
-      → AllByRecursion (λ k. string_cmp key k ≡ Less) (keys_of entries)
-      → AllByRecursion (λ n. byte_order (string_bytes key) n ≡ Less) (map name_of entries)
+      : (key : K) (entries : List Entry)
+      → AllByRecursion (λ k. byte_order (bytes_of key) (bytes_of k) ≡ Less) (keys_of entries)
+      → AllByRecursion (λ n. byte_order (bytes_of key) n ≡ Less) (map name_of entries)
   above_all key [] all = tt
   above_all key (entry ∷ entries) all = (all.0, above_all key entries all.1)
 
   sorted_entries
-      : (entries : List (String Global × X)) → IsStrictlySortedBy string_cmp (keys_of entries)
+      : (entries : List Entry) → IsStrictlySortedBy (λ k l. byte_order (bytes_of k) (bytes_of l)) (keys_of entries)
       → IsStrictlySortedBy byte_order (map name_of entries)
   unfolding IsStrictlySortedBy
   sorted_entries [] sorted = tt
@@ -218,7 +223,7 @@ module _ {X : Type 0} (tree_of : List (List ℕ) → Tree) (values : X → List 
 
   -- an entry is found exactly where its name is among the names
   has_found
-      : (name : List ℕ) (entries : List (String Global × X))
+      : (name : List ℕ) (entries : List Entry)
       → is_some (found name entries) ≡ has name (map name_of entries)
   has_found name [] = refl
   has_found name (entry ∷ entries) = by (bytes_eq name (name_of entry)) refl (has_found name entries)
@@ -231,20 +236,20 @@ module _ {X : Type 0} (tree_of : List (List ℕ) → Tree) (values : X → List 
       by false e later = rw (is_eq-slice_cmp name (name_of entry), e) later
 
   -- what each entry that is found has
-  abbrev pub HasValues : List (List ℕ × List ℕ) → List (String Global × X) → Type 0
+  abbrev pub HasValues : List (List ℕ × List ℕ) → List Entry → Type 0
   HasValues pairs entries =
-      (name : List ℕ) → has name (map name_of entries) ≡ true → option_map_or values (found name entries) [] ≡
+      (name : List ℕ) → has name (map name_of entries) ≡ true → unwrap_or (found name entries) [] ≡
       values_of name pairs
 
   fields_of_entries
-      : (pairs : List (List ℕ × List ℕ)) (entries : List (String Global × X))
+      : (pairs : List (List ℕ × List ℕ)) (entries : List Entry)
       → IsStrictlySortedBy byte_order (map name_of entries) → HasValues pairs entries
       → members_of (map entry_tree entries) ≡ members_under tree_of (map name_of entries) pairs
   unfolding IsStrictlySortedBy
   fields_of_entries pairs [] sorted each = refl
   fields_of_entries pairs (entry ∷ entries) sorted each =
       let name = name_of entry in
-      let first : values entry.1 ≡ values_of name pairs =
+      let first : entry.1 ≡ values_of name pairs =
       rw (is_eq-slice_cmp name name, same name) at (each name (has_first name (map name_of entries))) in
       rw (first, fields_of_entries pairs entries sorted.1 others) refl
     where
@@ -253,7 +258,7 @@ module _ {X : Type 0} (tree_of : List (List ℕ) → Tree) (values : X → List 
         where
           by
               : (b : Bool) → bytes_eq name (name_of entry) ≡ b
-              → option_map_or values (found name entries) [] ≡ values_of name pairs
+              → unwrap_or (found name entries) [] ≡ values_of name pairs
           by true e =
               let at : name ≡ name_of entry = (bytes_eq-Decides name (name_of entry)).0 e in
               absurd (false≢true (sym (not_among (name_of entry) (map name_of entries) sorted.0)
@@ -264,9 +269,9 @@ module _ {X : Type 0} (tree_of : List (List ℕ) → Tree) (values : X → List 
 
   -- a map in byte order that has the values of each name of the pairs, and no other name
   pub grouped_entries
-      : (pairs : List (List ℕ × List ℕ)) (entries : List (String Global × X))
-      → IsStrictlySortedBy string_cmp (keys_of entries)
-      → ((name : List ℕ) → option_map_or values (found name entries) [] ≡ values_of name pairs)
+      : (pairs : List (List ℕ × List ℕ)) (entries : List Entry)
+      → IsStrictlySortedBy (λ k l. byte_order (bytes_of k) (bytes_of l)) (keys_of entries)
+      → ((name : List ℕ) → unwrap_or (found name entries) [] ≡ values_of name pairs)
       → ((name : List ℕ) → is_some (found name entries) ≡ list_any (λ pair. bytes_eq name pair.0) pairs)
       → members_of (map entry_tree entries) ≡ members_under tree_of (names_in pairs) pairs
   grouped_entries pairs entries sorted each among =

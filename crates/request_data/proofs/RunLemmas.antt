@@ -1,14 +1,14 @@
 -- Names whose values follow each other, as pairs.
-use Rattle.std.proofs.Common.{◌≡◌, ℕ, Bool, true, false, ◌||◌, cond, List, [], ◌∷◌, ◌++◌, map, String, Global}
-use Rattle.std.proofs.Common.{string_bytes, refl, ap, sym, ◌∙◌, append-nil, append_assoc, ◌<◌, length, arith}
+use Rattle.std.proofs.Common.{◌≡◌, ℕ, Bool, true, false, ◌||◌, cond, List, [], ◌∷◌, ◌++◌, map}
+use Rattle.std.proofs.Common.{refl, ap, sym, ◌∙◌, append-nil, append_assoc, ◌<◌, length, arith}
 use Rattle.std.proofs.Common.{is_some}
-use Rattle.std.specs.Option.{option_map_or}
-use Rattle.std.specs.Ordering.{is_eq}
+use Rattle.std.specs.Option.{unwrap_or}
+use Rattle.std.specs.Cmp.Lexicographic.{slice_cmp}
+use Rattle.std.specs.Ordering.{is_eq, nat_cmp}
 use Rattle.std.specs.declared.cmp.Ordering.TheVariants.{Less}
 use Rattle.std.specs.List.{AllByRecursion}
 use Rattle.std.specs.List.Sorted.{IsStrictlySortedBy}
 use Rattle.std.specs.Map.{keys_of}
-use Rattle.std.specs.String.{string_cmp}
 use Rattle.std.proofs.lemmas.Cmp.{nat_list_cmp_total}
 use Rattle.std.proofs.lemmas.Map.Text.{is_eq-slice_cmp}
 use Rattle.std.proofs.lemmas.Slice.Eq.{bytes_eq-Decides}
@@ -25,7 +25,7 @@ use Rattle.std.specs.Str.Lossy.{utf8_lossy}
 use Rattle.form_urlencoded.specs.Form.{decode}
 use Rattle.mock_request.specs.Values.{values_of}
 use Rattle.mock_request.proofs.QueryLemmas.{texts_left}
-use Rattle.request_data.specs.Inner.Runs.{Run, Values, pairs_under, run_pairs, pairs_of_runs, IsBefore, AreInOrder}
+use Rattle.request_data.specs.Inner.Runs.{Run, pairs_under, run_pairs, pairs_of_runs, IsBefore, AreInOrder}
 
 -- the name of a pair is that name
 abbrev pub is_named : List ℕ → List ℕ × List ℕ → Bool
@@ -37,20 +37,20 @@ runs_more runs run =
     flat_map-append run_pairs runs (run ∷ []) ∙ ap (λ ps. pairs_of_runs runs ++ ps) (append-nil (run_pairs run))
 
 values_under
-    : (name other : List ℕ) (values : List (String Global))
-    → values_of name (pairs_under other values) ≡ cond (bytes_eq name other) (map string_bytes values) []
+    : (name other : List ℕ) (values : List (List ℕ))
+    → values_of name (pairs_under other values) ≡ cond (bytes_eq name other) values []
 values_under name other values = by (bytes_eq name other) refl values
   where
     by
-        : (b : Bool) → bytes_eq name other ≡ b → (values : List (String Global))
-        → values_of name (pairs_under other values) ≡ cond b (map string_bytes values) []
+        : (b : Bool) → bytes_eq name other ≡ b → (values : List (List ℕ))
+        → values_of name (pairs_under other values) ≡ cond b values []
     by true e [] = refl
     by false e [] = refl
-    by true e (value ∷ values) = rw e (ap (λ vs. string_bytes value ∷ vs) (by true e values))
+    by true e (value ∷ values) = rw e (ap (λ vs. value ∷ vs) (by true e values))
     by false e (value ∷ values) = rw e (by false e values)
 
 any_under
-    : (name other : List ℕ) (value : String Global) (values : List (String Global))
+    : (name other : List ℕ) (value : List ℕ) (values : List (List ℕ))
     → list_any (is_named name) (pairs_under other (value ∷ values)) ≡ bytes_eq name other
 any_under name other value [] = or_false (bytes_eq name other)
   where
@@ -67,37 +67,37 @@ any_under name other value (next ∷ values) =
 pub values_of_run
     : (name : List ℕ) (runs : List Run) (run : Run)
     → values_of name (pairs_of_runs (runs ++ run ∷ []))
-    ≡ values_of name (pairs_of_runs runs) ++ cond (bytes_eq name (string_bytes run.0)) (map string_bytes run.1.items) []
+    ≡ values_of name (pairs_of_runs runs) ++ cond (bytes_eq name run.0) run.1 []
 values_of_run name runs run =
     let before = pairs_of_runs runs in
     let here = run_pairs run in
     ap (values_of name) (runs_more runs run)
     ∙ ap (map (λ pair. pair.1)) (filter-append (is_named name) before here)
     ∙ map-append (λ pair. pair.1) (filter (is_named name) before) (filter (is_named name) here)
-    ∙ ap (λ vs. values_of name before ++ vs) (values_under name (string_bytes run.0) run.1.items)
+    ∙ ap (λ vs. values_of name before ++ vs) (values_under name run.0 run.1)
 
 pub any_of_run
-    : (name : List ℕ) (runs : List Run) (run : Run) → 0 < length run.1.items
+    : (name : List ℕ) (runs : List Run) (run : Run) → 0 < length run.1
     → list_any (is_named name) (pairs_of_runs (runs ++ run ∷ []))
-    ≡ (list_any (is_named name) (pairs_of_runs runs) || bytes_eq name (string_bytes run.0))
+    ≡ (list_any (is_named name) (pairs_of_runs runs) || bytes_eq name run.0)
 any_of_run name runs run some =
     ap (list_any (is_named name)) (runs_more runs run)
     ∙ list_any-append (is_named name) (pairs_of_runs runs) (run_pairs run)
-    ∙ by run.1.items some
+    ∙ by run.1 some
   where
     by
-        : (values : List (String Global)) → 0 < length values
+        : (values : List (List ℕ)) → 0 < length values
         → (list_any (is_named name) (pairs_of_runs runs)
-        || list_any (is_named name) (pairs_under (string_bytes run.0) values))
-        ≡ (list_any (is_named name) (pairs_of_runs runs) || bytes_eq name (string_bytes run.0))
+        || list_any (is_named name) (pairs_under run.0 values))
+        ≡ (list_any (is_named name) (pairs_of_runs runs) || bytes_eq name run.0)
     by [] none = absurd (omega (arith, none))
     by (value ∷ values) more =
-        ap (λ b. list_any (is_named name) (pairs_of_runs runs) || b) (any_under name (string_bytes run.0) value values)
+        ap (λ b. list_any (is_named name) (pairs_of_runs runs) || b) (any_under name run.0 value values)
 
 -- a run without values has no pairs
-pub empty_run : (runs : List Run) (run : Run) → run.1.items ≡ [] → pairs_of_runs (runs ++ run ∷ []) ≡ pairs_of_runs runs
+pub empty_run : (runs : List Run) (run : Run) → run.1 ≡ [] → pairs_of_runs (runs ++ run ∷ []) ≡ pairs_of_runs runs
 empty_run runs run none =
-    runs_more runs run ∙ ap (λ vs. pairs_of_runs runs ++ pairs_under (string_bytes run.0) vs) none
+    runs_more runs run ∙ ap (λ vs. pairs_of_runs runs ++ pairs_under run.0 vs) none
     ∙ append-nil (pairs_of_runs runs)
 
 -- ---- a form whose names and values are read one after the other
@@ -106,7 +106,7 @@ abbrev pub text_of : List ℕ → List ℕ
 text_of encoded = utf8_lossy (decode encoded)
 
 -- what has been read, with what is left
-abbrev pub HasRead : List (List ℕ × List ℕ) → List ℕ → List (String Global) → List (List ℕ × List ℕ)
+abbrev pub HasRead : List (List ℕ × List ℕ) → List ℕ → List (List ℕ) → List (List ℕ × List ℕ)
     → List (List ℕ × List ℕ) → Type 0
 HasRead done name values left whole = (done ++ pairs_under (text_of name) values) ++ texts_left left ≡ whole
 
@@ -118,7 +118,7 @@ shifted done here pair later =
 
 -- a name that is pushed with its values leaves room for another name
 pub another_name
-    : (done new : List (List ℕ × List ℕ)) (last name : List ℕ) (values none : List (String Global))
+    : (done new : List (List ℕ × List ℕ)) (last name : List ℕ) (values none : List (List ℕ))
     (left whole : List (List ℕ × List ℕ))
     → HasRead done last values left whole → new ≡ done ++ pairs_under (text_of last) values → none ≡ []
     → HasRead new name none left whole
@@ -128,23 +128,23 @@ another_name done new last name values none left whole so_far pushed empty =
 
 -- one more value of the same name
 pub value_more
-    : (done : List (List ℕ × List ℕ)) (last : List ℕ) (values new : List (String Global)) (text : String Global)
+    : (done : List (List ℕ × List ℕ)) (last : List ℕ) (values new : List (List ℕ)) (text : List ℕ)
     (name value : List ℕ) (left rest whole : List (List ℕ × List ℕ))
     → HasRead done last values left whole → left ≡ (name, value) ∷ rest → name ≡ last
-    → string_bytes text ≡ text_of value → new ≡ values ++ text ∷ [] → HasRead done last new rest whole
+    → text ≡ text_of value → new ≡ values ++ text ∷ [] → HasRead done last new rest whole
 value_more done last values new text name value left rest whole so_far next same is pushed =
     let here = pairs_under (text_of last) values in
-    let pair : (text_of last, string_bytes text) ≡ (text_of name, text_of value) =
-    ap (λ n. (text_of n, string_bytes text)) (sym same) ∙ ap (λ v. (text_of name, v)) is in
+    let pair : (text_of last, text) ≡ (text_of name, text_of value) =
+    ap (λ n. (text_of n, text)) (sym same) ∙ ap (λ v. (text_of name, v)) is in
     ap (λ vs. (done ++ pairs_under (text_of last) vs) ++ texts_left rest) pushed
-    ∙ ap (λ ps. (done ++ ps) ++ texts_left rest) (map-append (λ v. (text_of last, string_bytes v)) values (text ∷ []))
-    ∙ shifted done here (text_of last, string_bytes text) (texts_left rest)
+    ∙ ap (λ ps. (done ++ ps) ++ texts_left rest) (map-append (λ v. (text_of last, v)) values (text ∷ []))
+    ∙ shifted done here (text_of last, text) (texts_left rest)
     ∙ ap (λ p. (done ++ here) ++ p ∷ texts_left rest) pair
     ∙ ap (λ raw. (done ++ here) ++ texts_left raw) (sym next)
     ∙ so_far
 
 pub none_left
-    : (done new : List (List ℕ × List ℕ)) (last : List ℕ) (values : List (String Global))
+    : (done new : List (List ℕ × List ℕ)) (last : List ℕ) (values : List (List ℕ))
     (left whole : List (List ℕ × List ℕ))
     → HasRead done last values left whole → left ≡ [] → new ≡ done ++ pairs_under (text_of last) values
     → new ≡ whole
@@ -154,25 +154,22 @@ none_left done new last values left whole so_far none pushed =
 
 -- ---- runs in order
 
-abbrev pub texts_in : Values → List (List ℕ)
-texts_in values = map string_bytes values.items
-
 above
-    : (name : String Global) (runs : List Run) → IsBefore (string_bytes name) runs → AreInOrder runs
-    → AllByRecursion (λ k. string_cmp name k ≡ Less) (keys_of runs)
+    : (name : List ℕ) (runs : List Run) → IsBefore name runs → AreInOrder runs
+    → AllByRecursion (λ k. slice_cmp nat_cmp name k ≡ Less) (keys_of runs)
 above name [] before order = tt
 above name (run ∷ runs) before order = (before, later runs (above run.0 runs order.1 order.2))
   where
     later
-        : (rest : List Run) → AllByRecursion (λ k. string_cmp run.0 k ≡ Less) (keys_of rest)
-        → AllByRecursion (λ k. string_cmp name k ≡ Less) (keys_of rest)
+        : (rest : List Run) → AllByRecursion (λ k. slice_cmp nat_cmp run.0 k ≡ Less) (keys_of rest)
+        → AllByRecursion (λ k. slice_cmp nat_cmp name k ≡ Less) (keys_of rest)
     later [] all = tt
     later (next ∷ rest) all = (
-      nat_list_cmp_total.trans (string_bytes name) (string_bytes run.0) (string_bytes next.0) before all.0,
+      nat_list_cmp_total.trans name run.0 next.0 before all.0,
       later rest all.1,
     )
 
-sorted_runs : (runs : List Run) → AreInOrder runs → IsStrictlySortedBy string_cmp (keys_of runs)
+sorted_runs : (runs : List Run) → AreInOrder runs → IsStrictlySortedBy (slice_cmp nat_cmp) (keys_of runs)
 unfolding IsStrictlySortedBy
 sorted_runs [] order = tt
 sorted_runs (run ∷ runs) order = (above run.0 runs order.1 order.2, sorted_runs runs order.2)
@@ -180,73 +177,73 @@ sorted_runs (run ∷ runs) order = (above run.0 runs order.1 order.2, sorted_run
 values_before
     : (name : List ℕ) (run : Run) (runs : List Run)
     → values_of name (pairs_of_runs (run ∷ runs))
-    ≡ cond (bytes_eq name (string_bytes run.0)) (texts_in run.1) [] ++ values_of name (pairs_of_runs runs)
+    ≡ cond (bytes_eq name run.0) run.1 [] ++ values_of name (pairs_of_runs runs)
 values_before name run runs =
     ap (map (λ pair. pair.1)) (filter-append (is_named name) (run_pairs run) (pairs_of_runs runs))
     ∙ map-append (λ pair. pair.1) (filter (is_named name) (run_pairs run)) (filter (is_named name) (pairs_of_runs runs))
-    ∙ ap (λ vs. vs ++ values_of name (pairs_of_runs runs)) (values_under name (string_bytes run.0) run.1.items)
+    ∙ ap (λ vs. vs ++ values_of name (pairs_of_runs runs)) (values_under name run.0 run.1)
 
 -- a name that is before all others has no values there
 none_above
-    : (name : String Global) (runs : List Run) → AllByRecursion (λ k. string_cmp name k ≡ Less) (keys_of runs)
-    → values_of (string_bytes name) (pairs_of_runs runs) ≡ []
+    : (name : List ℕ) (runs : List Run) → AllByRecursion (λ k. slice_cmp nat_cmp name k ≡ Less) (keys_of runs)
+    → values_of name (pairs_of_runs runs) ≡ []
 none_above name [] all = refl
 none_above name (run ∷ runs) all =
-    let apart : bytes_eq (string_bytes name) (string_bytes run.0) ≡ false =
-    sym (is_eq-slice_cmp (string_bytes name) (string_bytes run.0)) ∙ ap is_eq all.0 in
-    values_before (string_bytes name) run runs ∙ rw apart (none_above name runs all.1)
+    let apart : bytes_eq name run.0 ≡ false =
+    sym (is_eq-slice_cmp name run.0) ∙ ap is_eq all.0 in
+    values_before name run runs ∙ rw apart (none_above name runs all.1)
 
 -- what is found under a name are its values
 found_values
     : (runs : List Run) → AreInOrder runs → (name : List ℕ)
-    → option_map_or texts_in (found values_tree texts_in name runs) [] ≡ values_of name (pairs_of_runs runs)
+    → unwrap_or (found (λ key. key) values_tree name runs) [] ≡ values_of name (pairs_of_runs runs)
 found_values [] order name = refl
 found_values (run ∷ runs) order name =
-    by (bytes_eq name (string_bytes run.0)) refl (found_values runs order.2 name) ∙ sym (values_before name run runs)
+    by (bytes_eq name run.0) refl (found_values runs order.2 name) ∙ sym (values_before name run runs)
   where
     by
-        : (b : Bool) → bytes_eq name (string_bytes run.0) ≡ b
-        → option_map_or texts_in (found values_tree texts_in name runs) [] ≡ values_of name (pairs_of_runs runs)
-        → option_map_or texts_in (found values_tree texts_in name (run ∷ runs)) []
-        ≡ cond (bytes_eq name (string_bytes run.0)) (texts_in run.1) [] ++ values_of name (pairs_of_runs runs)
+        : (b : Bool) → bytes_eq name run.0 ≡ b
+        → unwrap_or (found (λ key. key) values_tree name runs) [] ≡ values_of name (pairs_of_runs runs)
+        → unwrap_or (found (λ key. key) values_tree name (run ∷ runs)) []
+        ≡ cond (bytes_eq name run.0) run.1 [] ++ values_of name (pairs_of_runs runs)
     by true e later =
-        let same : name ≡ string_bytes run.0 = (bytes_eq-Decides name (string_bytes run.0)).0 e in
+        let same : name ≡ run.0 = (bytes_eq-Decides name run.0).0 e in
         let none : values_of name (pairs_of_runs runs) ≡ [] =
         ap (λ n. values_of n (pairs_of_runs runs)) same ∙ none_above run.0 runs (above run.0 runs order.1 order.2) in
-        rw (is_eq-slice_cmp name (string_bytes run.0), e, none) (sym (append-nil (texts_in run.1)))
-    by false e later = rw (is_eq-slice_cmp name (string_bytes run.0), e) later
+        rw (is_eq-slice_cmp name run.0, e, none) (sym (append-nil run.1))
+    by false e later = rw (is_eq-slice_cmp name run.0, e) later
 
 -- a name is found where a pair has it
 found_among
     : (runs : List Run) → AreInOrder runs → (name : List ℕ)
-    → is_some (found values_tree texts_in name runs) ≡ list_any (is_named name) (pairs_of_runs runs)
+    → is_some (found (λ key. key) values_tree name runs) ≡ list_any (is_named name) (pairs_of_runs runs)
 found_among [] order name = refl
 found_among (run ∷ runs) order name =
-    by (bytes_eq name (string_bytes run.0)) refl (found_among runs order.2 name)
-    ∙ sym (any_before run.1.items order.0)
+    by (bytes_eq name run.0) refl (found_among runs order.2 name)
+    ∙ sym (any_before run.1 order.0)
   where
     any_before
-        : (values : List (String Global)) → 0 < length values
-        → list_any (is_named name) (pairs_under (string_bytes run.0) values ++ pairs_of_runs runs)
-        ≡ (bytes_eq name (string_bytes run.0) || list_any (is_named name) (pairs_of_runs runs))
+        : (values : List (List ℕ)) → 0 < length values
+        → list_any (is_named name) (pairs_under run.0 values ++ pairs_of_runs runs)
+        ≡ (bytes_eq name run.0 || list_any (is_named name) (pairs_of_runs runs))
     any_before [] none = absurd (omega (arith, none))
     any_before (value ∷ values) some =
-        list_any-append (is_named name) (pairs_under (string_bytes run.0) (value ∷ values)) (pairs_of_runs runs)
-        ∙ ap (λ b. b || list_any (is_named name) (pairs_of_runs runs)) (any_under name (string_bytes run.0) value values)
+        list_any-append (is_named name) (pairs_under run.0 (value ∷ values)) (pairs_of_runs runs)
+        ∙ ap (λ b. b || list_any (is_named name) (pairs_of_runs runs)) (any_under name run.0 value values)
 
     by
-        : (b : Bool) → bytes_eq name (string_bytes run.0) ≡ b
-        → is_some (found values_tree texts_in name runs) ≡ list_any (is_named name) (pairs_of_runs runs)
-        → is_some (found values_tree texts_in name (run ∷ runs))
-        ≡ (bytes_eq name (string_bytes run.0) || list_any (is_named name) (pairs_of_runs runs))
-    by true e later = rw (is_eq-slice_cmp name (string_bytes run.0), e) refl
-    by false e later = rw (is_eq-slice_cmp name (string_bytes run.0), e) later
+        : (b : Bool) → bytes_eq name run.0 ≡ b
+        → is_some (found (λ key. key) values_tree name runs) ≡ list_any (is_named name) (pairs_of_runs runs)
+        → is_some (found (λ key. key) values_tree name (run ∷ runs))
+        ≡ (bytes_eq name run.0 || list_any (is_named name) (pairs_of_runs runs))
+    by true e later = rw (is_eq-slice_cmp name run.0, e) refl
+    by false e later = rw (is_eq-slice_cmp name run.0, e) later
 
 -- runs in order are what the definition groups
 pub grouped_in_order
     : (runs : List Run) → AreInOrder runs
-    → members_of (map (entry_tree values_tree texts_in) runs)
+    → members_of (map (entry_tree (λ key. key) values_tree) runs)
     ≡ members_under values_tree (names_in (pairs_of_runs runs)) (pairs_of_runs runs)
 grouped_in_order runs order =
-    grouped_entries values_tree texts_in (pairs_of_runs runs) runs (sorted_runs runs order) (found_values runs order)
+    grouped_entries (λ key. key) values_tree (pairs_of_runs runs) runs (sorted_runs runs order) (found_values runs order)
     (found_among runs order)

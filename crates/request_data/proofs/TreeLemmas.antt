@@ -1,8 +1,7 @@
 -- What a request's tree keeps.
-use Rattle.std.proofs.Common.{◌≡◌, ℕ, List, [], ◌∷◌, ◌++◌, String, string_bytes, Option, None, Some}
+use Rattle.std.proofs.Common.{◌≡◌, ℕ, List, [], ◌∷◌, ◌++◌, Option, None, Some}
 use Rattle.std.proofs.Common.{refl, ap, ◌∙◌, rules}
 use Rattle.std.specs.Option.{option_map_or}
-use Rattle.std.specs.declared.alloc.Global.{Global}
 use Rattle.data_tree.specs.declared.data.Data.{Data, Nothing, the_lemmas}
 use Rattle.mock_request.specs.Request.{Request}
 use Rattle.request_data.specs.RequestTree.{bound_in, path_tree, request_fields}
@@ -57,9 +56,9 @@ abbrev pub members_from : List (List ℕ × Tree) → Members
 members_from [] = no_members
 members_from (entry ∷ entries) = member entry.0 entry.1 (members_from entries)
 
-pub members_of_entries : (made : List (String Global × Data)) → members_view made ≡ members_from (entries_of made)
+pub members_of_entries : (made : List (List ℕ × Data)) → members_view made ≡ members_from (entries_of made)
 members_of_entries [] = refl
-members_of_entries (field ∷ others) = ap (member (string_bytes field.0) (view field.1)) (members_of_entries others)
+members_of_entries (field ∷ others) = ap (member field.0 (view field.1)) (members_of_entries others)
 
 -- one more field, whose value has that tree
 pub entry_more

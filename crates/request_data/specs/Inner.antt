@@ -2,3 +2,4 @@ pub mod Views
 pub mod Lengths
 pub mod Runs
 pub mod Plain
+pub mod Values

@@ -18,6 +18,7 @@ use crate::grouped::grouped;
 use crate::object::Object;
 use crate::path_data::{bindings, path_data};
 use crate::query_data::query_data;
+use data_tree::compact_text::CompactText;
 use data_tree::data::Data;
 use mock_request::authority::host_and_port;
 use mock_request::body::body_text;
@@ -43,7 +44,7 @@ pub(crate) fn push_base_url(
     }
     let mut url = String::from_str(alloc, "http://")?;
     url.push_str(authority(alloc, snapshot)?.as_str())?;
-    made.push("baseUrl", Data::Text(url))
+    made.push("baseUrl", Data::Text(CompactText::new(url)))
 }
 
 /// The body's text, which may be at hand.
@@ -65,7 +66,7 @@ pub(crate) fn push_body(
         Some(text) => text,
         None => body_text(alloc, snapshot)?,
     };
-    made.push("body", Data::Text(text))
+    made.push("body", Data::Text(CompactText::new(text)))
 }
 
 pub(crate) fn push_cookies(

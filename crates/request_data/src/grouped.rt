@@ -1,15 +1,17 @@
 // Names and values, grouped by name.
-ghost use Rattle.std.specs.Prelude.{◌≡◌, ◌++◌, ℕ, List, [], map, is_some, IfOk, OnOk, string_bytes};
+ghost use Rattle.std.specs.Prelude.{◌≡◌, ℕ, List, [], is_some, IfOk};
 ghost use Rattle.std.specs.Bool.{OnTrue};
 ghost use Rattle.std.specs.BTreeMap.{get_by_text};
 ghost use Rattle.std.specs.List.{list_any};
-ghost use Rattle.std.specs.Option.{option_map_or};
+ghost use Rattle.std.specs.Option.{unwrap_or};
 ghost use Rattle.std.specs.Str.{bytes_eq};
 ghost use Rattle.data_tree.specs.Tree.{members_view, view};
-ghost use Rattle.mock_request.specs.Values.{first_of, pairs_of, values_of};
-ghost use Rattle.request_data.specs.Grouped.{firsts, grouped, values_tree};
+ghost use Rattle.mock_request.specs.Values.{pairs_of, values_of};
+ghost use Rattle.request_data.specs.Grouped.{firsts, grouped};
 ghost use Rattle.request_data.specs.Inner.Runs.{pairs_of_runs, AreInOrder};
 
+use crate::values::Values;
+use data_tree::compact_text::CompactText;
 use data_tree::data::Data;
 use std::alloc::{AllocError, Global};
 use std::cmp::Ordering;
@@ -26,7 +28,7 @@ pub(crate) fn grouped(alloc: Global, pairs: Vec<(String, String)>) -> Result<Dat
 /// The same of names that come with several values. No map is made of names that are in byte order.
 pub(crate) fn grouped_runs(
     alloc: Global,
-    runs: Vec<(String, Vec<String>)>,
+    runs: Vec<(CompactText, Values)>,
 ) -> Result<Data, AllocError>
     ensures { IfOk result (λ made. view made ≡ grouped (pairs_of_runs runs.items)) }
 {
@@ -38,7 +40,7 @@ pub(crate) fn grouped_runs(
 }
 
 // Whether each name is before the next, and each has a value.
-fn are_in_order(runs: &[(String, Vec<String>)]) -> bool
+fn are_in_order(runs: &[(CompactText, Values)]) -> bool
     ensures { OnTrue result (AreInOrder runs.now) }
 {
     let mut rest = runs;
@@ -56,28 +58,27 @@ fn are_in_order(runs: &[(String, Vec<String>)]) -> bool
     true
 }
 
-fn fields_of_runs(alloc: Global, runs: Vec<(String, Vec<String>)>) -> Result<Data, AllocError>
+fn fields_of_runs(alloc: Global, runs: Vec<(CompactText, Values)>) -> Result<Data, AllocError>
     requires { AreInOrder runs.items }
     ensures { IfOk result (λ made. view made ≡ grouped (pairs_of_runs runs.items)) }
 {
     let mut fields = Vec::with_capacity(alloc, runs.len())?;
     for (name, values) in runs {
-        fields.push((name, values_data(alloc, values)?))?;
+        fields.push((name, values.into_data()))?;
     }
     Ok(Data::Fields(fields))
 }
 
 // The first value and all values of each name.
-fn fields_of(alloc: Global, groups: BTreeMap<String, Vec<String>>) -> Result<Data, AllocError>
+fn fields_of(alloc: Global, groups: BTreeMap<String, Values>) -> Result<Data, AllocError>
     ensures { IfOk result (λ made. (pairs : List (List ℕ × List ℕ))
-        → ((name : List ℕ) → option_map_or (λ values. map string_bytes values.items) (get_by_text groups name) []
-        ≡ values_of name pairs)
+        → ((name : List ℕ) → unwrap_or (get_by_text groups name) [] ≡ values_of name pairs)
         → ((name : List ℕ) → is_some (get_by_text groups name) ≡ list_any (λ pair. bytes_eq name pair.0) pairs)
         → view made ≡ grouped pairs) }
 {
     let mut fields = Vec::with_capacity(alloc, groups.len())?;
     for (name, values) in groups {
-        fields.push((name, values_data(alloc, values)?))?;
+        fields.push((CompactText::new(name), values.into_data()))?;
     }
     Ok(Data::Fields(fields))
 }
@@ -86,12 +87,13 @@ fn fields_of(alloc: Global, groups: BTreeMap<String, Vec<String>>) -> Result<Dat
 pub(crate) fn firsts(
     alloc: Global,
     pairs: Vec<(String, String)>,
-) -> Result<Vec<(String, Data)>, AllocError>
+) -> Result<Vec<(CompactText, Data)>, AllocError>
     ensures { IfOk result (λ made. members_view made.items ≡ firsts (pairs_of pairs.items)) }
 {
     let mut fields = Vec::new(alloc);
     for (name, values) in by_name(alloc, pairs)? {
-        fields.push((name, Data::Text(first(alloc, &values)?)))?;
+        let first = CompactText::from_str(alloc, values.first())?;
+        fields.push((CompactText::new(name), Data::Text(first)))?;
     }
     Ok(fields)
 }
@@ -100,17 +102,19 @@ pub(crate) fn firsts(
 fn by_name(
     alloc: Global,
     pairs: Vec<(String, String)>,
-) -> Result<BTreeMap<String, Vec<String>>, AllocError>
+) -> Result<BTreeMap<String, Values>, AllocError>
     ensures values { IfOk result (λ groups. (name : List ℕ) →
-        option_map_or (λ values. map string_bytes values.items) (get_by_text groups name) []
-        ≡ values_of name (pairs_of pairs.items)) }
+        unwrap_or (get_by_text groups name) [] ≡ values_of name (pairs_of pairs.items)) }
     ensures names { IfOk result (λ groups. (name : List ℕ) →
         is_some (get_by_text groups name)
         ≡ list_any (λ pair. bytes_eq name pair.0) (pairs_of pairs.items)) }
 {
-    let mut groups: BTreeMap<String, Vec<String>> = BTreeMap::new(alloc);
+    let mut groups: BTreeMap<String, Values> = BTreeMap::new(alloc);
     for (name, value) in pairs {
-        groups.entry(name)?.or_default().push(value)?;
+        groups
+            .entry(name)?
+            .or_insert(Values::new(alloc))
+            .push(CompactText::new(value))?;
     }
     Ok(groups)
 }
@@ -118,51 +122,22 @@ fn by_name(
 // The same of runs.
 fn runs_by_name(
     alloc: Global,
-    runs: Vec<(String, Vec<String>)>,
-) -> Result<BTreeMap<String, Vec<String>>, AllocError>
+    runs: Vec<(CompactText, Values)>,
+) -> Result<BTreeMap<String, Values>, AllocError>
     ensures values { IfOk result (λ groups. (name : List ℕ) →
-        option_map_or (λ values. map string_bytes values.items) (get_by_text groups name) []
-        ≡ values_of name (pairs_of_runs runs.items)) }
+        unwrap_or (get_by_text groups name) [] ≡ values_of name (pairs_of_runs runs.items)) }
     ensures names { IfOk result (λ groups. (name : List ℕ) →
         is_some (get_by_text groups name)
         ≡ list_any (λ pair. bytes_eq name pair.0) (pairs_of_runs runs.items)) }
 {
-    let mut groups: BTreeMap<String, Vec<String>> = BTreeMap::new(alloc);
+    let mut groups: BTreeMap<String, Values> = BTreeMap::new(alloc);
     for (name, values) in runs {
         if !values.is_empty() {
-            append(groups.entry(name)?.or_default(), values)?;
+            groups
+                .entry(name.into_string(alloc)?)?
+                .or_insert(Values::new(alloc))
+                .append(values)?;
         }
     }
     Ok(groups)
-}
-
-fn append(to: &mut Vec<String>, mut values: Vec<String>) -> Result<(), AllocError>
-    ensures { OnOk result (to.new.items ≡ to.old.items ++ values.items) }
-{
-    if to.is_empty() {
-        *to = values;
-        return Ok(());
-    }
-    to.append(&mut values)
-}
-
-// The first value and all values.
-fn values_data(alloc: Global, values: Vec<String>) -> Result<Data, AllocError>
-    ensures { IfOk result (λ made. view made ≡ values_tree (map string_bytes values.items)) }
-{
-    let text = first(alloc, &values)?;
-    let mut items = Vec::with_capacity(alloc, values.len())?;
-    for value in values {
-        items.push(Data::Text(value))?;
-    }
-    Data::named(alloc, text, items, Vec::new(alloc))
-}
-
-fn first(alloc: Global, values: &[String]) -> Result<String, AllocError>
-    ensures { IfOk result (λ made. string_bytes made ≡ first_of (map string_bytes values.now)) }
-{
-    match values.first() {
-        Some(first) => first.clone(),
-        None => Ok(String::new(alloc)),
-    }
 }

@@ -15,3 +15,4 @@ mod grouped;
 mod object;
 mod path_data;
 mod query_data;
+mod values;

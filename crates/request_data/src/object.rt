@@ -3,6 +3,7 @@ ghost use Rattle.std.specs.Prelude.{◌≡◌, [], ◌∷◌, ◌++◌, IfOk, On
 ghost use Rattle.data_tree.specs.Tree.{fields, text, view, members_view};
 ghost use Rattle.request_data.specs.Inner.Views.{entries_of};
 
+use data_tree::compact_text::CompactText;
 use data_tree::data::Data;
 use std::alloc::{AllocError, Global};
 
@@ -10,7 +11,7 @@ use std::alloc::{AllocError, Global};
 #[derive(Drop)]
 pub(crate) struct Object {
     alloc: Global,
-    fields: Vec<(String, Data)>,
+    fields: Vec<(CompactText, Data)>,
 }
 
 impl Object {
@@ -29,7 +30,7 @@ impl Object {
             ≡ entries_of self.old.fields.items ++ (name.now, view value) ∷ []) }
     {
         self.fields
-            .push((String::from_str(self.alloc, name)?, value))?;
+            .push((CompactText::from_str(self.alloc, name)?, value))?;
         Ok(())
     }
 
@@ -37,7 +38,7 @@ impl Object {
         ensures { OnOk result (entries_of self.new.fields.items
             ≡ entries_of self.old.fields.items ++ (name.now, text content.now) ∷ []) }
     {
-        let value = Data::Text(String::from_str(self.alloc, content)?);
+        let value = Data::Text(CompactText::from_str(self.alloc, content)?);
         self.push(name, value)
     }
 

@@ -25,7 +25,7 @@ use path_template::path_template::PathTemplate;
 use std::alloc::{AllocError, Global};
 
 // Templates seldom look at more fields of a request. Room for more is made as they come.
-const USUAL_FIELDS: usize = 2;
+const USUAL_FIELDS: usize = 4;
 
 /// The part of a request's data that is needed, where the whole is within `RequestData`'s limit. What isn't needed
 /// isn't made. A path template that the path matches names segments of it, in the fields of `request.path`.

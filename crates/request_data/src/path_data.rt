@@ -8,6 +8,7 @@ ghost use Rattle.request_data.specs.Grouped.{texts};
 ghost use Rattle.request_data.specs.RequestTree.{bound_in, path_tree};
 
 use crate::grouped::firsts;
+use data_tree::compact_text::CompactText;
 use data_tree::data::Data;
 use path_template::path_template::PathTemplate;
 use std::alloc::{AllocError, Global};
@@ -17,7 +18,7 @@ pub(crate) fn bindings(
     alloc: Global,
     template: Option<&PathTemplate>,
     path: &str,
-) -> Result<Vec<(String, Data)>, AllocError>
+) -> Result<Vec<(CompactText, Data)>, AllocError>
     ensures { IfOk result (λ made. members_view made.items ≡ bound_in path.now (option_copied template.entry)) }
 {
     let Some(template) = template else {
@@ -33,12 +34,12 @@ pub(crate) fn bindings(
 pub(crate) fn path_data(
     alloc: Global,
     path: &str,
-    bindings: Vec<(String, Data)>,
+    bindings: Vec<(CompactText, Data)>,
 ) -> Result<Data, AllocError>
     requires { IsRooted path.now }
     ensures { IfOk result (λ made. view made ≡ path_tree path.now (members_view bindings.items)) }
 {
-    let text = String::from_str(alloc, path)?;
+    let text = CompactText::from_str(alloc, path)?;
     Data::named(alloc, text, segments(alloc, path)?, bindings)
 }
 
@@ -74,5 +75,5 @@ fn pieces(alloc: Global, rest: &str) -> Result<Vec<Data>, AllocError>
 fn text(alloc: Global, content: &str) -> Result<Data, AllocError>
     ensures { IfOk result (λ made. view made ≡ text content.now) }
 {
-    Ok(Data::Text(String::from_str(alloc, content)?))
+    Ok(Data::Text(CompactText::from_str(alloc, content)?))
 }

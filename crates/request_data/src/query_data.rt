@@ -1,5 +1,5 @@
 // A query's names and values as templates see them.
-ghost use Rattle.std.specs.Prelude.{◌≡◌, ◌++◌, map, All, IfOk, OnOk, IsTrue, string_bytes};
+ghost use Rattle.std.specs.Prelude.{◌≡◌, ◌≤◌, ◌++◌, length, map, take, All, IfOk, IfSome, OnOk, IsTrue, string_bytes};
 ghost use Rattle.std.specs.Str.Lossy.{utf8_lossy};
 ghost use Rattle.data_tree.specs.Tree.{view};
 ghost use Rattle.form_urlencoded.specs.Form.{decode, parse, plus_to_space};
@@ -9,12 +9,21 @@ ghost use Rattle.request_data.specs.Inner.Plain.{IsPlain};
 ghost use Rattle.request_data.specs.Inner.Runs.{pairs_of_runs, pairs_under};
 
 use crate::grouped::grouped_runs;
+use crate::values::Values;
+use data_tree::compact_text::CompactText;
 use data_tree::data::Data;
 use mock_request::snapshot::Snapshot;
 use std::alloc::{AllocError, Global};
+use std::str;
 
 // Few queries have more names. Room for more is made as they come.
 const USUAL_NAMES: usize = 16;
+
+// A text of up to this number of bytes lies within its value.
+const SHORT_BYTES: usize = 30;
+
+// Room for such a text in two loads of 16 bytes.
+const ARRAY_BYTES: usize = 32;
 
 /// The decoded names in byte order, each with its first value and all its values. None where the URL has no query.
 pub(crate) fn query_data(alloc: Global, snapshot: &Snapshot) -> Result<Data, AllocError>
@@ -28,17 +37,17 @@ pub(crate) fn query_data(alloc: Global, snapshot: &Snapshot) -> Result<Data, All
 
 // The decoded names and values of a form. A query mostly gives the values of one name one after the other, and then the
 // name is decoded once.
-fn form_runs(alloc: Global, form: &str) -> Result<Vec<(String, Vec<String>)>, AllocError>
+fn form_runs(alloc: Global, form: &str) -> Result<Vec<(CompactText, Values)>, AllocError>
     ensures { IfOk result (λ runs. pairs_of_runs runs.items ≡ map text_pair (parse form.now)) }
 {
     let mut runs = Vec::with_capacity(alloc, USUAL_NAMES)?;
     let mut last: &[u8] = &[];
-    let mut values = Vec::new(alloc);
+    let mut values = Values::new(alloc);
     for (name, value) in form_urlencoded::raw_pairs(form.as_bytes()) {
         if name != last {
             push_run(alloc, &mut runs, last, values)?;
             last = name;
-            values = Vec::new(alloc);
+            values = Values::new(alloc);
         }
         values.push(decoded(alloc, value)?)?;
     }
@@ -48,12 +57,12 @@ fn form_runs(alloc: Global, form: &str) -> Result<Vec<(String, Vec<String>)>, Al
 
 fn push_run(
     alloc: Global,
-    runs: &mut Vec<(String, Vec<String>)>,
+    runs: &mut Vec<(CompactText, Values)>,
     name: &[u8],
-    values: Vec<String>,
+    values: Values,
 ) -> Result<(), AllocError>
     ensures { OnOk result (pairs_of_runs runs.new.items
-        ≡ pairs_of_runs runs.old.items ++ pairs_under (utf8_lossy (decode name.now)) values.items) }
+        ≡ pairs_of_runs runs.old.items ++ pairs_under (utf8_lossy (decode name.now)) values) }
 {
     if !values.is_empty() {
         runs.push((decoded(alloc, name)?, values))?;
@@ -61,13 +70,47 @@ fn push_run(
     Ok(())
 }
 
-// The text of a name or a value. Most are ASCII, with no byte escaped.
-fn decoded(alloc: Global, encoded: &[u8]) -> Result<String, AllocError>
+// The text of a name or a value. Most are short.
+fn decoded(alloc: Global, encoded: &[u8]) -> Result<CompactText, AllocError>
+    ensures { IfOk result (λ text. text ≡ utf8_lossy (decode encoded.now)) }
+{
+    if encoded.len() <= SHORT_BYTES {
+        if let Some(text) = short_text(alloc, encoded)? {
+            return Ok(text);
+        }
+    }
+    Ok(CompactText::new(decoded_string(alloc, encoded)?))
+}
+
+// The text of a few bytes, if they are ASCII, with no byte escaped. It is made in an array, over whose bytes LLVM goes
+// many at a time, and takes no memory.
+fn short_text(alloc: Global, encoded: &[u8]) -> Result<Option<CompactText>, AllocError>
+    requires { length encoded.now ≤ 32 }
+    ensures { IfOk result (λ made. IfSome made (λ text. text ≡ utf8_lossy (decode encoded.now))) }
+{
+    let mut room = begun_by(encoded);
+    if !is_plain(&room) {
+        return Ok(None);
+    }
+    put_spaces(&mut room);
+    // SAFETY: it is proved that the bytes are ASCII.
+    let text = unsafe { str::from_utf8_unchecked(&room[..encoded.len()]) };
+    Ok(Some(CompactText::from_str(alloc, text)?))
+}
+
+// An array that begins with these bytes.
+fn begun_by(bytes: &[u8]) -> [u8; ARRAY_BYTES]
+    requires { length bytes.now ≤ 32 }
+    ensures { take (length bytes.now) result ≡ bytes.now }
+{
+    let mut room = [0; ARRAY_BYTES];
+    room[..bytes.len()].copy_from_slice(bytes);
+    room
+}
+
+fn decoded_string(alloc: Global, encoded: &[u8]) -> Result<String, AllocError>
     ensures { IfOk result (λ text. string_bytes text ≡ utf8_lossy (decode encoded.now)) }
 {
-    if encoded.is_empty() {
-        return Ok(String::new(alloc));
-    }
     if is_plain(encoded) {
         let bytes = with_spaces(alloc, encoded)?;
         // SAFETY: it is proved that the bytes are ASCII.
@@ -76,10 +119,15 @@ fn decoded(alloc: Global, encoded: &[u8]) -> Result<String, AllocError>
     form_urlencoded::decode(alloc, encoded)?.into_owned(alloc)
 }
 
+// Whether each byte is ASCII, and none begins an escape. It looks at all bytes, many at a time.
 fn is_plain(encoded: &[u8]) -> bool
     ensures { IsTrue result → All IsPlain encoded.now }
 {
-    encoded.iter().all(|&byte| byte < 128 && byte != b'%')
+    let mut plain = true;
+    for &byte in encoded {
+        plain = plain & (byte < 128 && byte != b'%');
+    }
+    plain
 }
 
 // The bytes, with a space for each `+`.

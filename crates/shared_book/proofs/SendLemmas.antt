@@ -6,14 +6,11 @@ use denote.RattleType.{RattleType}
 use denote.Param.Send.{IsSend, IsSync, sendable}
 use denote.Param.SendFields.{as_row_send, declared_send, declared_sync, variants_send}
 use denote.Struct.Field.{row_field}
-use denote.Struct.Tuple.{Tuple, TupleAt, tuple_type, type_at}
-use Rattle.std.proofs.Crossing.{crosses, frees, send, Box-send, Vec-send}
-use Rattle.std.proofs.alloc.Global.TheSendSync as global
-use Rattle.std.proofs.vec.Vec.TheSendSync as vec
+use denote.Struct.Tuple.{TupleAt, type_at}
+use Rattle.std.proofs.Crossing.{crosses}
 use Rattle.std.proofs.sync.ledger.Book.TheSendSync as entries
 use Rattle.std.specs.declared.sync.ledger.Ledger as ledger
-use Rattle.std.proofs.string.String.TheSendSync as string
-use Rattle.data_tree.specs.contracts.data.Data as tree
+use Rattle.data_tree.proofs.compact_text.CompactText.TheSendSync as compact_text
 use Rattle.data_tree.proofs.data.Data.TheLaws.TheKnot.{send-Data}
 use Rattle.json_match.proofs.json_spec.JsonSpec.TheSendSync as json_spec
 use Rattle.json_bridge.proofs.json_path.JsonPath.TheSendSync as json_path
@@ -67,33 +64,11 @@ use Rattle.shared_book.specs.contracts.shared_book.SharedBook as shared_book
 use Rattle.shared_book.specs.contracts.script.Call as call
 use Rattle.shared_book.specs.contracts.script.Script as script
 
--- ---- JSON values
-pair_send : (A B : RattleType) → IsSend A → IsSend B → IsSend (Tuple (A ∷ B ∷ []))
-pair_send A B a b =
-    declared_send (tuple_type (A ∷ B ∷ [])) (as_row_send (row_field A) a, (as_row_send (row_field B) b, tt))
-
-three_send : (A B C : RattleType) → IsSend A → IsSend B → IsSend C → IsSend (Tuple (A ∷ B ∷ C ∷ []))
-three_send A B C a b c =
-    declared_send (tuple_type (A ∷ B ∷ C ∷ [])) (
-      as_row_send (row_field A) a,
-      (as_row_send (row_field B) b, (as_row_send (row_field C) c, tt)),
-    )
-
--- a value has values in lists, with names, and in the box of a text that has both
-data_send : IsSend (tree.the_field).row
-data_send =
-    send-Data (search sendable depth 20) (search sendable depth 20)
-    (search (frees, global.the_send, vec.the_send, sendable) depth 60)
-    (λ V v. Vec-send V v)
-    (λ V v. Vec-send _ (pair_send _ V (string.the_send _ _ send frees) v))
-    (λ V v. Box-send _ (
-    three_send _ _ _ (string.the_send _ _ send frees) (Vec-send V v)
-    (Vec-send _ (pair_send _ V (string.the_send _ _ send frees) v))
-    ))
-
 -- ---- matchers
 test_send : IsSend test.the_row
-test_send = search (tt, data_send, json_path.the_send, sendable) depth 60
+test_send =
+    variants_send test.enum
+    (search (tt, crosses, compact_text.the_send, send-Data, json_path.the_send, sendable) depth 60)
 
 json_matcher_inside_send : IsSend json_matcher_inside.the_row
 json_matcher_inside_send = declared_send json_matcher_inside.the_type (json_spec.the_send, (test_send, tt))

@@ -1,6 +1,7 @@
 //! Helpers: what they take, and what they give.
 
 use crate::values::{cell_of, value};
+use data_tree::compact_text::CompactText;
 use data_tree::data::Data;
 use helper_set::apply::apply;
 use helper_set::helper::Helper;
@@ -78,8 +79,10 @@ fn cell(alloc: Global, made: MadeValue<'_>) -> Result<String, AllocError> {
 
 fn data_of(alloc: Global, made: MadeValue<'_>) -> Result<Data, AllocError> {
     match made {
-        MadeValue::Text(CowStr::Owned(text)) => Ok(Data::Text(text)),
-        MadeValue::Text(CowStr::Borrowed(text)) => Ok(Data::Text(String::from_str(alloc, text)?)),
+        MadeValue::Text(CowStr::Owned(text)) => Ok(Data::Text(CompactText::new(text))),
+        MadeValue::Text(CowStr::Borrowed(text)) => Ok(Data::Text(CompactText::from_str(
+            alloc, text,
+        )?)),
         MadeValue::Number(number) => Ok(Data::Number(i128::from(number))),
         MadeValue::Truth(truth) => Ok(Data::Truth(truth)),
     }

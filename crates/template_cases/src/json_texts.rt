@@ -1,6 +1,7 @@
 //! JSON texts and paths.
 
 use crate::values::cell_of;
+use data_tree::compact_text::CompactText;
 use data_tree::data::Data;
 use data_tree::step::Step;
 use json_bridge::error::JsonPathError;
@@ -35,7 +36,10 @@ fn list_of(alloc: Global, steps: &[Step]) -> Result<Data, AllocError> {
     let mut items = Vec::new(alloc);
     for step in steps {
         match step {
-            Step::Name(name) => items.push(Data::Text(name.try_clone()?.into_string()))?,
+            Step::Name(name) => items.push(Data::Text(CompactText::from_str(
+                alloc,
+                name.as_str(),
+            )?))?,
             Step::Index(index) => items.push(Data::Number(i128::from(*index)))?,
         }
     }

@@ -7,6 +7,7 @@ ghost use Rattle.data_tree.specs.WellFormed.{IsWellFormed};
 
 use crate::numbers;
 use case_table::cells::Cells;
+use data_tree::compact_text::CompactText;
 use data_tree::data::Data;
 use data_tree::plain_text::PlainText;
 use data_tree::request_data::{DataError, RequestData};
@@ -61,7 +62,7 @@ fn read(alloc: Global, text: &str) -> Result<Data, AllocError>
 }
 
 // The text, the items and the fields of an object of these three members, in byte order.
-fn parts_of_named(value: &Data) -> Option<(&String, &Data, &Data)> {
+fn parts_of_named(value: &Data) -> Option<(&str, &Data, &Data)> {
     let Data::Fields(members) = value else {
         return None;
     };
@@ -72,9 +73,9 @@ fn parts_of_named(value: &Data) -> Option<(&String, &Data, &Data)> {
 }
 
 // The text of a member `text`.
-fn text_of(member: &(String, Data)) -> Option<&String> {
+fn text_of(member: &(CompactText, Data)) -> Option<&str> {
     match &member.1 {
-        Data::Text(text) if member.0.as_str() == "text" => Some(text),
+        Data::Text(text) if member.0.as_str() == "text" => Some(text.as_str()),
         _ => None,
     }
 }
@@ -85,18 +86,18 @@ fn copied(alloc: Global, value: &Data) -> Result<Data, AllocError>
     read(alloc, json_of(alloc, value)?.as_str())
 }
 
-fn named_text(alloc: Global, text: &String, items: &Data, fields: &Data) -> Result<Data, AllocError>
+fn named_text(alloc: Global, text: &str, items: &Data, fields: &Data) -> Result<Data, AllocError>
     ensures { IfOk result (λ value. IsWellFormed (view value)) }
 {
     named(
         alloc,
-        text.clone()?,
+        CompactText::from_str(alloc, text)?,
         copied(alloc, items)?,
         copied(alloc, fields)?,
     )
 }
 
-fn named(alloc: Global, text: String, items: Data, fields: Data) -> Result<Data, AllocError>
+fn named(alloc: Global, text: CompactText, items: Data, fields: Data) -> Result<Data, AllocError>
     requires items { IsWellFormed (view items) }
     requires fields { IsWellFormed (view fields) }
     ensures { IfOk result (λ value. IsWellFormed (view value)) }
@@ -129,7 +130,7 @@ fn json_or_none(alloc: Global, item: Option<&Data>) -> Result<String, AllocError
 
 /// The size of a root that is this text, or of what is handed back, after the error's number.
 pub fn root_size(alloc: Global, text: &str) -> Result<String, AllocError> {
-    let (error, size) = measured(RequestData::new(Data::Text(String::from_str(alloc, text)?)));
+    let (error, size) = measured(RequestData::new(Data::Text(CompactText::from_str(alloc, text)?)));
     format!(in alloc; "\t{error}\t{size}")
 }
 
@@ -171,18 +172,18 @@ pub fn path(alloc: Global, steps: &str) -> Result<Path, AllocError> {
     let mut path = Vec::new(alloc);
     if let Data::List(items) = read(alloc, steps)? {
         for item in items {
-            path.push(step(item))?;
+            path.push(step(alloc, item)?)?;
         }
     }
     Path::new(path).try_clone()
 }
 
 // A number that is no index is the greatest one, which finds nothing in the tables.
-fn step(item: Data) -> Step {
+fn step(alloc: Global, item: Data) -> Result<Step, AllocError> {
     match item {
-        Data::Text(name) => Step::Name(PlainText::new(name)),
-        Data::Number(index) => Step::Index(u32::try_from(index).unwrap_or(u32::MAX)),
-        _ => Step::Index(u32::MAX),
+        Data::Text(name) => Ok(Step::Name(PlainText::new(String::from_str(alloc, name.as_str())?))),
+        Data::Number(index) => Ok(Step::Index(u32::try_from(index).unwrap_or(u32::MAX))),
+        _ => Ok(Step::Index(u32::MAX)),
     }
 }
 
@@ -217,11 +218,14 @@ fn each(alloc: Global, items: &Vec<Data>) -> Result<Vec<Data>, AllocError> {
 #[cycle(with_names)]
 fn each_member(
     alloc: Global,
-    members: &Vec<(String, Data)>,
-) -> Result<Vec<(String, Data)>, AllocError> {
+    members: &Vec<(CompactText, Data)>,
+) -> Result<Vec<(CompactText, Data)>, AllocError> {
     let mut made = Vec::new(alloc);
     for (name, member) in members {
-        made.push((name.clone()?, with_names(alloc, member)?))?;
+        made.push((
+            CompactText::from_str(alloc, name.as_str())?,
+            with_names(alloc, member)?,
+        ))?;
     }
     Ok(made)
 }

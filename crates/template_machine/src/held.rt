@@ -9,7 +9,6 @@ ghost use Rattle.template_machine.specs.Inner.Slots.{value_view, text_view, slot
 
 use crate::slot::{Slot, Text};
 use crate::value::Value;
-use data_tree::data::Data;
 use helper_set::value::Value as Argument;
 use std::alloc::{AllocError, Global};
 use std::borrow::CowStr;
@@ -57,11 +56,10 @@ fn lower_case<'a>(alloc: Global, text: &'a str) -> Result<Held<'a>, AllocError>
 pub fn printed<'a>(alloc: Global, value: Value<'a>) -> Result<CowStr<'a, Global>, AllocError>
     ensures { IfOk result (λ text. cow_str_bytes text ≡ text_of (value_view value.entry)) }
 {
-    if let Value::Datum(Some(Data::Text(text))) = value {
-        return Ok(CowStr::Borrowed(text.as_str()));
-    }
-    if let Value::Datum(Some(Data::Named(parts))) = value {
-        return Ok(CowStr::Borrowed(parts.0.as_str()));
+    if let Value::Datum(Some(found)) = value {
+        if let Some(text) = found.as_text() {
+            return Ok(CowStr::Borrowed(text));
+        }
     }
     let mut text = String::new(alloc);
     value.print_into(alloc, &mut text)?;

@@ -7,6 +7,7 @@ ghost use Rattle.template_machine.specs.Inner.Slots.{found_view};
 
 use crate::append::push_ascii;
 use data_tree::data::Data;
+use data_tree::parts::first_text;
 use std::alloc::{AllocError, Global};
 
 /// A value that isn't a text.
@@ -28,7 +29,7 @@ impl<'a> Value<'a> {
         ensures { result ≡ truth_of (value_view self.entry) }
     {
         match self {
-            Value::Datum(Some(Data::Text(text))) => !text.is_empty(),
+            Value::Datum(Some(Data::Text(text))) => !text.as_str().is_empty(),
             Value::Datum(Some(found)) => found.is_true(),
             Value::Datum(None) => false,
             Value::Number(number) => number != 0,
@@ -102,8 +103,9 @@ fn data_prints(found: &Data) -> bool
 {
     match found {
         Data::Nothing => false,
-        Data::Text(text) => !text.is_empty(),
-        Data::Named(parts) => !parts.0.is_empty(),
+        Data::Text(text) => !text.as_str().is_empty(),
+        Data::Named(parts) => !parts.0.as_str().is_empty(),
+        Data::Values(items) => !first_text(items.as_slice()).is_empty(),
         Data::Number(number) => decimal_prints(*number),
         Data::Truth(_) | Data::List(_) | Data::Fields(_) => true,
     }

@@ -1,10 +1,9 @@
 -- For private clauses: the tree of a JSON value, made straight from what its tokens spell. Each number in it is whole,
 -- also in values that a repeated name gives up.
-use Rattle.std.specs.Prelude.{◌≡◌, ◌≤◌, length, ℕ, zero, suc, ℤ, List, [], ◌∷◌, Option, Some, option_map, option_and_then, String, string_bytes}
+use Rattle.std.specs.Prelude.{◌≡◌, ◌≤◌, length, ℕ, zero, suc, ℤ, List, [], ◌∷◌, Option, Some, option_map, option_and_then}
 use Rattle.std.specs.Cmp.Lexicographic.{slice_cmp}
 use Rattle.std.specs.Ordering.{nat_cmp, match_ordering}
 use Rattle.std.specs.declared.cmp.Ordering.TheVariants.{Less, Equal, Greater}
-use Rattle.std.specs.declared.alloc.Global.{Global}
 use Rattle.json.specs.Json as json
 use Rattle.json.specs.Token.{Token}
 use Rattle.serde_json.specs.Read.{number_of, converted}
@@ -27,9 +26,9 @@ put k t (member l u ms) =
     match_ordering (slice_cmp nat_cmp k l) (member k t (member l u ms)) (member l t ms) (member l u (put k t ms))
 
 -- the same of each of these, one after the other
-abbrev pub put_all : List (String Global × Data) → Members → Members
+abbrev pub put_all : List (List ℕ × Data) → Members → Members
 put_all [] ms = ms
-put_all (m ∷ more) ms = put_all more (put (string_bytes m.0) (view m.1) ms)
+put_all (m ∷ more) ms = put_all more (put m.0 (view m.1) ms)
 
 abbrev mutual
   pub tree_of_json : json.Json → Option Tree
@@ -61,31 +60,31 @@ abbrev pub HasMembers : Option (json.Members × List Token) → Members → List
 HasMembers read ms rest = converted (λ found. members_of_json found no_members) read ≡ Some (ms, rest)
 
 -- the names of that many members are before k
-abbrev pub ArePassed : List ℕ → ℕ → List (String Global × Data) → Type 0
+abbrev pub ArePassed : List ℕ → ℕ → List (List ℕ × Data) → Type 0
 ArePassed k zero ms = Unit {0}
 ArePassed k (suc n) [] = ⊥
-ArePassed k (suc n) (m ∷ ms) = (slice_cmp nat_cmp k (string_bytes m.0) ≡ Greater) × ArePassed k n ms
+ArePassed k (suc n) (m ∷ ms) = (slice_cmp nat_cmp k m.0 ≡ Greater) × ArePassed k n ms
 
 -- k is the name of the member after these
-abbrev pub IsFoundAt : List ℕ → ℕ → List (String Global × Data) → Type 0
+abbrev pub IsFoundAt : List ℕ → ℕ → List (List ℕ × Data) → Type 0
 IsFoundAt k zero [] = ⊥
-IsFoundAt k zero (m ∷ ms) = slice_cmp nat_cmp k (string_bytes m.0) ≡ Equal
+IsFoundAt k zero (m ∷ ms) = slice_cmp nat_cmp k m.0 ≡ Equal
 IsFoundAt k (suc n) [] = ⊥
-IsFoundAt k (suc n) (m ∷ ms) = (slice_cmp nat_cmp k (string_bytes m.0) ≡ Greater) × IsFoundAt k n ms
+IsFoundAt k (suc n) (m ∷ ms) = (slice_cmp nat_cmp k m.0 ≡ Greater) × IsFoundAt k n ms
 
 -- k is before all others
-abbrev pub BelongsAt : List ℕ → ℕ → List (String Global × Data) → Type 0
+abbrev pub BelongsAt : List ℕ → ℕ → List (List ℕ × Data) → Type 0
 BelongsAt k zero [] = Unit {0}
-BelongsAt k zero (m ∷ ms) = slice_cmp nat_cmp k (string_bytes m.0) ≡ Less
+BelongsAt k zero (m ∷ ms) = slice_cmp nat_cmp k m.0 ≡ Less
 BelongsAt k (suc n) [] = ⊥
-BelongsAt k (suc n) (m ∷ ms) = (slice_cmp nat_cmp k (string_bytes m.0) ≡ Greater) × BelongsAt k n ms
+BelongsAt k (suc n) (m ∷ ms) = (slice_cmp nat_cmp k m.0 ≡ Greater) × BelongsAt k n ms
 
 -- the last of the members, if there is one, is before k
-abbrev pub EndBefore : List (String Global × Data) → List ℕ → Type 0
+abbrev pub EndBefore : List (List ℕ × Data) → List ℕ → Type 0
 EndBefore [] k = Unit {0}
-EndBefore (m ∷ []) k = slice_cmp nat_cmp (string_bytes m.0) k ≡ Less
+EndBefore (m ∷ []) k = slice_cmp nat_cmp m.0 k ≡ Less
 EndBefore (m ∷ n ∷ ms) k = EndBefore (n ∷ ms) k
 
 -- where they are few, they are in the order of their names
-abbrev pub AreFewInOrder : List (String Global × Data) → Type 0
+abbrev pub AreFewInOrder : List (List ℕ × Data) → Type 0
 AreFewInOrder ms = length ms ≤ FEW → IsAscending (names_of (members_view ms))

@@ -1,9 +1,8 @@
 -- For private clauses: the comparison as the code makes it, which goes once over the members of two objects. On well
 -- formed trees it is `is_equal`.
-use Rattle.std.specs.Prelude.{ℕ, Bool, true, false, ◌&&◌, ◌||◌, List, Option, Some, None, option_map, String}
+use Rattle.std.specs.Prelude.{ℕ, Bool, true, false, ◌&&◌, ◌||◌, List, Option, Some, None, option_map}
 use Rattle.std.specs.Prelude.{if◌then◌else◌}
 use denote.Ref.{Bor}
-use Rattle.std.specs.declared.alloc.Global.{Global}
 use Rattle.std.specs.Option.{option_map_or}
 use Rattle.std.specs.Ordering.{int_eq}
 use Rattle.std.specs.Str.{bytes_eq}
@@ -56,5 +55,5 @@ abbrev pub are_equal_in_any_order : Flags → Items → Items → Bool
 are_equal_in_any_order f es ts = (f.ignore_extra_elements || have_one_length es ts) && each_takes_one f es ts
 
 -- what is found, as trees
-abbrev pub found_view : Option (Bor Data × Bor (List (String Global × Data))) → Option (Tree × Members)
+abbrev pub found_view : Option (Bor Data × Bor (List (List ℕ × Data))) → Option (Tree × Members)
 found_view = option_map (λ p. (tree.view p.0.now, tree.members_view p.1.now))

@@ -1,7 +1,7 @@
 use Rattle.std.proofs.Common.{refl, sym, ap, ◌∙◌}
 use Rattle.data_tree.specs.LookUp.{after}
 use Rattle.data_tree.specs.declared.step.Step.TheVariants.{Name, Index}
-use Rattle.data_tree.proofs.Views.{view-List, view-Fields, view-Named, nth_of_element}
+use Rattle.data_tree.proofs.Views.{view-List, view-Fields, view-Named, view-Values, nth_of_element}
 use Rattle.data_tree.proofs.look_up.after.Goals as goal
 
 pub returns-in-Fields : goal.returns-in-Fields
@@ -32,3 +32,12 @@ returns-in-Named-value c =
     (c.item_at-in-Named-value.ensures
     ∙ rw (c.as_slice-in-Named-value.ensures.value, c.deref-in-Named-value.ensures) refl)
     ∙ sym (ap (after (Index k)) (view-Named parts)))
+
+pub returns-in-Values : goal.returns-in-Values
+returns-in-Values c =
+    let k = c.in-Index.index in
+    let items = c.in-Values.items in
+    rw (c.in-Index.is, c.in-Values.is)
+    (nth_of_element c.item_at-in-Values.result items.items k
+    (c.item_at-in-Values.ensures ∙ rw c.as_slice-in-Values.ensures.value refl)
+    ∙ sym (ap (after (Index k)) (view-Values items)))

@@ -1,4 +1,4 @@
-use Rattle.std.proofs.Common.{◌≡◌, ℕ, List, ◌++◌, ap, sym, ◌∙◌, append_assoc, codes, string_bytes}
+use Rattle.std.proofs.Common.{◌≡◌, ℕ, List, ◌++◌, ap, sym, ◌∙◌, append_assoc, codes}
 use Rattle.std.proofs.Common.{false}
 use Rattle.std.proofs.lemmas.Result.{on_ok_weaker}
 use Rattle.json.specs.Print.{quoted}
@@ -20,16 +20,16 @@ pub write_value-returns-in_ok-write_text-in-Named-clause-ok
 write_value-returns-in_ok-write_text-in-Named-clause-ok t c =
     let parts = c.deref.result.now in
     let seen : view c.args.value.now
-    ≡ named (string_bytes parts.0) (items_view parts.1.items) (members_view parts.2.items) =
+    ≡ named (parts.0) (items_view parts.1.items) (members_view parts.2.items) =
     ap view c.in-Named.is ∙ view-Named c.in-Named.parts
-    ∙ ap (λ p. named (string_bytes p.0) (items_view p.1.items) (members_view p.2.items)) (sym c.deref.ensures) in
+    ∙ ap (λ p. named (p.0) (items_view p.1.items) (members_view p.2.items)) (sym c.deref.ensures) in
     on_ok_weaker c.push-in-Named-4.result (λ w.
     pieces _ _ _ _ _ _ _ _ (codes "{\"fields\":")
     (members_json false (members_view parts.2.items)) (codes ",\"items\":")
-    (items_json false (items_view parts.1.items)) (codes ",\"text\":") (quoted (string_bytes parts.0)) (codes "}")
+    (items_json false (items_view parts.1.items)) (codes ",\"text\":") (quoted (parts.0)) (codes "}")
     (codes "{") (codes "}") (codes "[") (codes "]")
     c.in_ok-push-in-Named.ensures.ok c.in_ok-write_members-in-Named.ensures.ok c.in_ok-push-in-Named-2.ensures.ok
     c.in_ok-write_items-in-Named.ensures.ok c.in_ok-push-in-Named-3.ensures.ok
     (c.in_ok-write_text-in-Named.ensures.ok
-    ∙ ap (λ s. c.push-in-Named-3.new.self.1 ++ quoted s) c.as_str-in-Named.ensures.value)
+    ∙ ap (λ s. c.push-in-Named-3.new.self.1 ++ quoted s) c.as_str-in-Named.ensures)
     w ∙ ap (λ v. c.args.out.now.1 ++ json v) (sym seen)) c.push-in-Named-4.ensures.ok

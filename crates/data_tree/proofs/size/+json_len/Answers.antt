@@ -1,9 +1,9 @@
-use Rattle.std.proofs.Common.{◌≡◌, length, string_bytes, ap, sym, ◌∙◌, rules}
+use Rattle.std.proofs.Common.{◌≡◌, length, ap, sym, ◌∙◌, rules}
 use Rattle.data_tree.specs.Tree.{view, items_view, members_view, fields, list, named}
 use Rattle.data_tree.specs.Json.{json}
 use Rattle.data_tree.specs.Capped.{capped}
-use Rattle.data_tree.proofs.Views.{view-List, view-Fields, view-Named}
-use Rattle.data_tree.proofs.Lengths.{list_length, fields_length, named_length}
+use Rattle.data_tree.proofs.Views.{view-List, view-Fields, view-Named, view-Values}
+use Rattle.data_tree.proofs.Lengths.{list_length, fields_length, named_length, values_length}
 use Rattle.data_tree.proofs.size.+json_len.Goals as goal
 
 pub json_len-returns-in-List : goal.json_len-returns-in-List
@@ -21,9 +21,9 @@ pub json_len-returns-in-Named : goal.json_len-returns-in-Named
 json_len-returns-in-Named t c =
     let parts = c.deref.result.now in
     let seen : view c.args.value.now
-    ≡ named (string_bytes parts.0) (items_view parts.1.items) (members_view parts.2.items) =
+    ≡ named (parts.0) (items_view parts.1.items) (members_view parts.2.items) =
     ap view c.in-Named.is ∙ view-Named c.in-Named.parts
-    ∙ ap (λ p. named (string_bytes p.0) (items_view p.1.items) (members_view p.2.items)) (sym c.deref.ensures) in
+    ∙ ap (λ p. named (p.0) (items_view p.1.items) (members_view p.2.items)) (sym c.deref.ensures) in
     let ms = members_view parts.2.items in
     let ts = items_view parts.1.items in
     let f : c.bracketed_len-in-Named.result ≡ capped (length (json (fields ms))) =
@@ -34,4 +34,15 @@ json_len-returns-in-Named t c =
     (list_length parts.1.items _ (search rules)) in
     rw seen
     (rw (c.saturating_add-in-Named-2.ensures, c.saturating_add-in-Named.ensures, c.saturating_add.ensures)
-    (rw (f, i, c.quoted_len-in-Named.ensures, c.as_str-in-Named.ensures.value) (named_length _ ts ms)))
+    (rw (f, i, c.quoted_len-in-Named.ensures, c.as_str-in-Named.ensures) (named_length _ ts ms)))
+
+pub json_len-returns-in-Values : goal.json_len-returns-in-Values
+json_len-returns-in-Values t c =
+    let items = c.in-Values.items in
+    let ts = items_view items.items in
+    let i : c.bracketed_len-in-Values.result ≡ capped (length (json (list ts))) =
+    c.bracketed_len-in-Values.ensures ∙ rw (c.len-in-Values.ensures, c.items_len-in-Values.ensures)
+    (list_length items.items _ (search rules)) in
+    rw (c.in-Values.is, view-Values items)
+    (rw (c.saturating_add-in-Values-2.ensures, c.saturating_add-in-Values.ensures)
+    (rw (i, c.quoted_len-in-Values.ensures, c.first_text.ensures, c.as_slice.ensures.value) (values_length _ ts)))

@@ -1,4 +1,4 @@
-use Rattle.std.proofs.Common.{◌≡◌, ◌-◌, ◌<◌, [], ◌∷◌, length, Some, None, string_bytes, sym, subst, ap, ap₂, ◌∙◌, arith, rules}
+use Rattle.std.proofs.Common.{◌≡◌, ◌-◌, ◌<◌, [], ◌∷◌, length, Some, None, sym, subst, ap, ap₂, ◌∙◌, arith, rules}
 use Rattle.std.proofs.Common.{to_z, of_z, to_z-of_z}
 use Rattle.std.specs.Int.{w128}
 use Rattle.json.specs.Token.{Token}
@@ -204,7 +204,7 @@ read_members-members-preserved t c =
     let r = c.read.new.reader in
     let less = read_key-shorter l.reader (Some k) s named in
     let lesser = done.shorter in
-    let copied : string_bytes c.in_ok-key.key ≡ k = search rules in
+    let copied : c.in_ok-key.key ≡ k = search rules in
     let pushed : put_all c.add.new.found.items no_members ≡ put k (view d) old =
     c.in_ok-add.ensures.put ∙ ap (λ name. put name (view d) old) copied in
     let turn = member_read p old n k l.reader s r (view d) (omega (arith, l.invariant.1)) named done.ok in (

@@ -1,4 +1,4 @@
-use Rattle.std.proofs.Common.{[], ◌∷◌, length, string_bytes, arith, sym, ap, subst, ◌∙◌, length-append}
+use Rattle.std.proofs.Common.{[], ◌∷◌, length, arith, sym, ap, subst, ◌∙◌, length-append}
 use Rattle.data_tree.specs.Parts.{names_of}
 use Rattle.data_tree.specs.Tree.{members_view, no_members, view}
 use Rattle.data_tree.specs.WellFormed.{IsAscending}
@@ -13,7 +13,7 @@ put-requires c = c.requires (omega arith)
 pub returns-then-len-lt-FEW-clause-put : goal.returns-then-len-lt-FEW-clause-put
 returns-then-len-lt-FEW-clause-put c =
     let old = c.args.found.now.items in
-    let k = string_bytes c.args.name in
+    let k = c.args.name in
     let t = view c.args.member in
     let up : IsAscending (names_of (members_view old)) = c.requires (omega arith) in
     let later : IsAscending (names_of (members_view c.put.new.made.items)) =
@@ -26,7 +26,7 @@ returns-then-len-lt-FEW-clause-in_order c = λ _.
     let old = c.args.found.now.items in
     let up : IsAscending (names_of (members_view old)) = c.requires (omega arith) in
     subst (λ ms. IsAscending (names_of ms)) (sym c.in_ok-put.ensures)
-    (ascends_put (string_bytes c.args.name) (view c.args.member) (members_view old) up)
+    (ascends_put c.args.name (view c.args.member) (members_view old) up)
 
 pub returns-clause-put : goal.returns-clause-put
 returns-clause-put c =

@@ -1,4 +1,4 @@
-use Rattle.std.proofs.Common.{◌≡◌, ◌<◌, ◌+◌, suc, length, slice_index_or, string_bytes, Less, Equal, Greater, nat_cmp, rules, arith, subst}
+use Rattle.std.proofs.Common.{◌≡◌, ◌<◌, ◌+◌, suc, length, slice_index_or, Less, Equal, Greater, nat_cmp, rules, arith, subst}
 use Rattle.std.specs.Cmp.Lexicographic.{slice_cmp}
 use Rattle.json_bridge.specs.Inner.Direct.{ArePassed}
 use Rattle.json_bridge.proofs.Places.{passed_more, found_after, belongs_after, belongs_last, belongs_at_end}
@@ -10,7 +10,7 @@ returns-in-Less c =
     let ms = c.args.members.now in
     let m = c.index-members-index.result in
     let within : i < length ms = search rules in
-    let is : slice_cmp nat_cmp c.args.name.now (string_bytes (slice_index_or ms i m).0) ≡ Less = search rules in
+    let is : slice_cmp nat_cmp c.args.name.now (slice_index_or ms i m).0 ≡ Less = search rules in
     belongs_after c.args.name.now i ms m c.loop-index.invariant.passed within is
 
 pub returns-in-Equal : goal.returns-in-Equal
@@ -19,7 +19,7 @@ returns-in-Equal c =
     let ms = c.args.members.now in
     let m = c.index-members-index.result in
     let within : i < length ms = search rules in
-    let is : slice_cmp nat_cmp c.args.name.now (string_bytes (slice_index_or ms i m).0) ≡ Equal = search rules in
+    let is : slice_cmp nat_cmp c.args.name.now (slice_index_or ms i m).0 ≡ Equal = search rules in
     found_after c.args.name.now i ms m c.loop-index.invariant.passed within is
 
 pub loop-index-preserved : goal.loop-index-preserved
@@ -28,7 +28,7 @@ loop-index-preserved c =
     let ms = c.args.members.now in
     let m = c.index-members-index.result in
     let within : i < length ms = search rules in
-    let is : slice_cmp nat_cmp c.args.name.now (string_bytes (slice_index_or ms i m).0) ≡ Greater = search rules in
+    let is : slice_cmp nat_cmp c.args.name.now (slice_index_or ms i m).0 ≡ Greater = search rules in
     let next : suc i ≡ i + 1 = omega arith in
     record {
       within = omega (arith, within);

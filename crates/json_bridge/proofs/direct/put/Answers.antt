@@ -1,4 +1,4 @@
-use Rattle.std.proofs.Common.{◌≡◌, slice_index_or, slice_set, string_bytes, rules, arith, subst, ap, ◌∙◌}
+use Rattle.std.proofs.Common.{◌≡◌, slice_index_or, slice_set, rules, arith, subst, ap, ◌∙◌}
 use Rattle.data_tree.specs.Tree.{members_view}
 use Rattle.json_bridge.specs.Inner.Direct.{IsFoundAt, BelongsAt}
 use Rattle.json_bridge.proofs.Places.{put_changed, put_inserted, found_within, belongs_within}
@@ -16,10 +16,10 @@ pub returns-in-Ok : goal.returns-in-Ok
 returns-in-Ok c =
     let i = c.in-Ok.index in
     let items = c.args.made.now.items in
-    let k = string_bytes c.args.name in
+    let k = c.args.name in
     let at : IsFoundAt k i items =
     subst (λ ms. IsFoundAt k i ms) c.as_slice.ensures.value
-    (subst (λ name. IsFoundAt name i c.as_slice.result.now) c.as_str.ensures.value c.in-Ok.ensures) in
+    (subst (λ name. IsFoundAt name i c.as_slice.result.now) c.as_str.ensures c.in-Ok.ensures) in
     let same : c.index_mut.result.now ≡ slice_index_or items i c.index_mut.result.now = search rules in
     ap (λ m. members_view (slice_set items i (m.0, c.args.member))) same
     ∙ put_changed k c.args.member i items c.index_mut.result.now at
@@ -28,9 +28,9 @@ pub returns-in_ok-insert-in-Err : goal.returns-in_ok-insert-in-Err
 returns-in_ok-insert-in-Err c =
     let i = c.in-Err.index in
     let items = c.args.made.now.items in
-    let k = string_bytes c.args.name in
+    let k = c.args.name in
     let at : BelongsAt k i items =
     subst (λ ms. BelongsAt k i ms) c.as_slice.ensures.value
-    (subst (λ name. BelongsAt name i c.as_slice.result.now) c.as_str.ensures.value c.in-Err.ensures) in
+    (subst (λ name. BelongsAt name i c.as_slice.result.now) c.as_str.ensures c.in-Err.ensures) in
     ap members_view c.in_ok-insert-in-Err.ensures.items
     ∙ put_inserted c.args.name c.args.member i items at

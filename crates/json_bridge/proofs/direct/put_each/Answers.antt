@@ -1,4 +1,4 @@
-use Rattle.std.proofs.Common.{ap, sym, subst, ◌∙◌, length, string_bytes, arith}
+use Rattle.std.proofs.Common.{ap, sym, subst, ◌∙◌, length, arith}
 use Rattle.std.specs.Vec.Iter.{into_iter_items}
 use Rattle.data_tree.specs.Parts.{names_of}
 use Rattle.data_tree.specs.Tree.{members_view, view}
@@ -15,7 +15,7 @@ loop-name-preserved c =
     let steps = c.in-Some.ensures.steps in
     record {
       up = subst (λ ms. IsAscending (names_of ms)) (sym c.in_ok-put.ensures)
-          (ascends_put (string_bytes c.in-Some.name) (view c.in-Some.member) (members_view l.made.items) l.invariant.up);
+          (ascends_put c.in-Some.name (view c.in-Some.member) (members_view l.made.items) l.invariant.up);
       counted = omega (arith, l.invariant.counted, steps.1, ap length steps.0);
       whole = l.invariant.whole ∙ ap (λ es. put_all es (members_view l.made.items)) steps.0
           ∙ ap (put_all rest) (sym c.in_ok-put.ensures);

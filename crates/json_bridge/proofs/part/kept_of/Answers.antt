@@ -1,4 +1,4 @@
-use Rattle.std.proofs.Common.{◌≡◌, true, false, cond, length, map, string_bytes, ap, sym, ◌∙◌, arith}
+use Rattle.std.proofs.Common.{◌≡◌, true, false, cond, length, map, ap, sym, ◌∙◌, arith}
 use Rattle.std.proofs.lemmas.List.{nil_from_length}
 use Rattle.std.specs.Vec.Iter.{into_iter_items}
 use Rattle.data_tree.specs.Tree.{member, members_view, view}
@@ -13,12 +13,12 @@ loop-name-preserved-in-Continue-1 c =
     let l = c.loop-name in
     let names = map (λ name. name.now) c.args.names.now in
     let found = l.found.items in
-    let k = string_bytes c.in-Some.name in
+    let k = c.in-Some.name in
     let d = view c.in-Some.member in
     let rest = kept (is_kept names) (members_view (into_iter_items c.next.new.self)) in
     let steps = c.in-Some.ensures.steps in
     let asked : is_kept names k ≡ true =
-    ap (is_kept names) (sym c.as_str.ensures.value) ∙ sym (kept_name c.as_str.result.now c.args.names.now)
+    ap (is_kept names) (sym c.as_str.ensures) ∙ sym (kept_name c.as_str.result.now c.args.names.now)
     ∙ sym c.is_kept.ensures ∙ c.if-is_kept.true in
     record {
       counted = omega (arith, l.invariant.counted, steps.1, ap length steps.0);
@@ -33,12 +33,12 @@ loop-name-preserved c =
     let l = c.loop-name in
     let names = map (λ name. name.now) c.args.names.now in
     let found = l.found.items in
-    let k = string_bytes c.in-Some.name in
+    let k = c.in-Some.name in
     let d = view c.in-Some.member in
     let rest = kept (is_kept names) (members_view (into_iter_items c.next.new.self)) in
     let steps = c.in-Some.ensures.steps in
     let other : is_kept names k ≡ false =
-    ap (is_kept names) (sym c.as_str.ensures.value) ∙ sym (kept_name c.as_str.result.now c.args.names.now)
+    ap (is_kept names) (sym c.as_str.ensures) ∙ sym (kept_name c.as_str.result.now c.args.names.now)
     ∙ sym c.is_kept.ensures ∙ c.if-is_kept.false in
     record {
       counted = omega (arith, l.invariant.counted, steps.1, ap length steps.0);

@@ -1,4 +1,4 @@
-use Rattle.std.proofs.Common.{◌≡◌, ◌-◌, true, false, length, map, Some, string_bytes, sym, ap, refl, ◌∙◌}
+use Rattle.std.proofs.Common.{◌≡◌, ◌-◌, true, false, length, map, Some, sym, ap, refl, ◌∙◌}
 use Rattle.std.proofs.Common.{arith, rules}
 use Rattle.json.specs.Json.{read_key, value}
 use Rattle.json.proofs.Grammar.{read_key-shorter, members_no_key, members_fail}
@@ -56,7 +56,7 @@ members-preserved-in-Ok-1 c =
     let r = c.read.new.reader in
     let less = read_key-shorter l.reader (Some k) s named in
     let lesser = done.shorter in
-    let copied : string_bytes c.in_ok-key.key ≡ k = search rules in
+    let copied : c.in_ok-key.key ≡ k = search rules in
     let pushed : put_all c.push.new.self.items no_members ≡ kept (is_kept names) (put k (view d) passed) =
     ap (λ es. put_all es no_members) c.in-Ok.ensures.items ∙ put_all_last l.found.items (c.in_ok-key.key, d) no_members
     ∙ ap (λ name. put name (view d) (put_all l.found.items no_members)) copied

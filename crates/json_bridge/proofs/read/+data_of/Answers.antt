@@ -1,4 +1,4 @@
-use Rattle.std.proofs.Common.{Some, option_map, String, Global, length, refl, sym, ap, ◌∙◌, arith}
+use Rattle.std.proofs.Common.{Some, option_map, ℕ, List, length, sym, ap, ◌∙◌, arith}
 use Rattle.std.specs.Vec.Iter.{into_iter_items}
 use Rattle.data_tree.specs.declared.data.Data.{Data}
 use Rattle.serde_json.specs.View as seen
@@ -36,14 +36,14 @@ fields_of-loop-name-preserved t c =
     let l = c.loop-name in
     let x = c.in-Some.member in
     let d = c.in-Some-2.data in
-    let m : String Global × Data = (c.in-Some.name, d) in
+    let m : List ℕ × Data = (c.new.result, d) in
     let rest = seen.members_view c.next.new.self in
     let taken = found_tree c.in_ok-data.field-0 d (tree_of_value (seen.view x)) c.in-Some-2.is c.in_ok-data.ensures in
     l.invariant
     ∙ ap (λ es. option_map (members_before l.found.items)
     (members_of (seen.members_view es))) c.in-Some.ensures.steps
     ∙ member_read l.found.items c.push.new.self.items m _ (seen.view x) rest taken
-    refl c.in_ok-push-in-Some-2.ensures.items
+    (sym c.new.ensures) c.in_ok-push-in-Some-2.ensures.items
 
 pub fields_of-returns : goal.fields_of-returns
 fields_of-returns t c =

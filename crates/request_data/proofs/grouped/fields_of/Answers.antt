@@ -19,7 +19,7 @@ returns c =
     view-Fields c.loop-name.fields
     ∙ ap (λ ms. fields (members_of ms)) c.loop-name.invariant
     ∙ ap (λ es. fields (members_of
-    (map (entry_tree values_tree (λ values. map string_bytes values.items)) es))) whole
+    (map (entry_tree string_bytes values_tree) es))) whole
     ∙ ap fields (
-    grouped_entries values_tree (λ values. map string_bytes values.items) pairs entries same.5 each among
+    grouped_entries string_bytes values_tree pairs entries same.5 each among
     )

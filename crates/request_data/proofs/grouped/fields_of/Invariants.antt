@@ -7,4 +7,4 @@ use Rattle.request_data.proofs.grouped.fields_of.Given as goal
 abbrev pub invariant-loop-name : goal.invariant-loop-name
 invariant-loop-name l =
     map (λ field. (field.0, view field.1)) l.fields.items ≡ map
-    (entry_tree values_tree (λ values. map string_bytes values.items)) l.yielded
+    (entry_tree string_bytes values_tree) l.yielded

@@ -6,7 +6,7 @@ use Rattle.data_tree.proofs.Views.{view-Fields}
 use Rattle.data_tree.specs.Tree.{fields, members_of}
 use Rattle.request_data.specs.Grouped.{values_tree}
 use Rattle.request_data.proofs.GroupLemmas.{entry_tree}
-use Rattle.request_data.proofs.RunLemmas.{texts_in, grouped_in_order}
+use Rattle.request_data.proofs.RunLemmas.{grouped_in_order}
 use Rattle.request_data.proofs.grouped.fields_of_runs.Goals as goal
 
 pub returns : goal.returns
@@ -20,5 +20,5 @@ returns c =
     let whole : c.loop-name.yielded ≡ runs = sym (map-id c.loop-name.yielded) ∙ end.0 in
     view-Fields c.loop-name.fields
     ∙ ap (λ ms. fields (members_of ms)) c.loop-name.invariant
-    ∙ ap (λ es. fields (members_of (map (entry_tree values_tree texts_in) es))) whole
+    ∙ ap (λ es. fields (members_of (map (entry_tree (λ key. key) values_tree) es))) whole
     ∙ ap fields (grouped_in_order runs c.requires)

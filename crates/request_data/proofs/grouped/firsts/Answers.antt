@@ -16,7 +16,7 @@ returns c =
     c.in-None.is c.next.ensures.steps in
     let whole : c.loop-name.yielded ≡ entries = sym (map-id c.loop-name.yielded) ∙ end.0 in
     ap members_of c.loop-name.invariant
-    ∙ ap (λ es. members_of (map (entry_tree first_text (λ values. map string_bytes values.items)) es)) whole
-    ∙ grouped_entries first_text (λ values. map string_bytes values.items)
+    ∙ ap (λ es. members_of (map (entry_tree string_bytes first_text) es)) whole
+    ∙ grouped_entries string_bytes first_text
     (pairs_of c.args.pairs.items) entries same.5
     c.in_ok-items.ensures.values c.in_ok-items.ensures.names

@@ -7,4 +7,4 @@ use Rattle.request_data.proofs.grouped.firsts.Given as goal
 abbrev pub invariant-loop-name : goal.invariant-loop-name
 invariant-loop-name l =
     map (λ field. (field.0, view field.1)) l.fields.items
-    ≡ map (entry_tree first_text (λ values. map string_bytes values.items)) l.yielded
+    ≡ map (entry_tree string_bytes first_text) l.yielded

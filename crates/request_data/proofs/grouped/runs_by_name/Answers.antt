@@ -8,7 +8,7 @@ pub loop-name-preserved-in_ok-append : goal.loop-name-preserved-in_ok-append
 loop-name-preserved-in_ok-append c =
     let so_far = c.loop-name.yielded in
     let run : Run = (c.in-Some.name, c.in-Some.values) in
-    let some : 0 < length c.in-Some.values.items = grind arith in (
+    let some : 0 < length c.in-Some.values = grind arith in (
       λ name.
           let was = c.loop-name.invariant.0 name in
           rw (values_of_run name so_far run) (grind (arith, text_groups, was)),

@@ -1,7 +1,7 @@
 use Rattle.std.proofs.Common.{option_map, refl, ap, ◌∙◌, sym}
 use Rattle.std.proofs.lemmas.Option.{slice_get-map}
 use Rattle.data_tree.specs.Tree.{view}
-use Rattle.data_tree.proofs.Views.{Field, items-List, items-Named, items-Fields, view_of_element}
+use Rattle.data_tree.proofs.Views.{Field, items-List, items-Named, items-Values, items-Fields, view_of_element}
 use Rattle.data_tree.proofs.Formed.{formed_item, formed_element}
 use Rattle.data_tree.proofs.data.Data.item.Goals as goal
 
@@ -16,6 +16,12 @@ returns-in-Named-clause-found c =
     rw (c.in-Named.is, items-Named c.in-Named.parts)
     (view_of_element c.item_at-in-Named.result c.in-Named.parts.value.1.items c.args.index
     (c.item_at-in-Named.ensures ∙ rw (c.as_slice-in-Named.ensures.value, c.deref.ensures) refl))
+
+pub returns-in-Values-clause-found : goal.returns-in-Values-clause-found
+returns-in-Values-clause-found c =
+    rw (c.in-Values.is, items-Values c.in-Values.items)
+    (view_of_element c.item_at-in-Values.result c.in-Values.items.items c.args.index
+    (c.item_at-in-Values.ensures ∙ rw c.as_slice-in-Values.ensures.value))
 
 pub returns-in_ok-_name-in-Fields-clause-found : goal.returns-in_ok-_name-in-Fields-clause-found
 returns-in_ok-_name-in-Fields-clause-found c =
@@ -36,6 +42,9 @@ returns-in-List-clause-well_formed c = formed_element _ _ _ (returns-in-List-cla
 
 pub returns-in-Named-clause-well_formed : goal.returns-in-Named-clause-well_formed
 returns-in-Named-clause-well_formed c = formed_element _ _ _ (returns-in-Named-clause-found c)
+
+pub returns-in-Values-clause-well_formed : goal.returns-in-Values-clause-well_formed
+returns-in-Values-clause-well_formed c = formed_element _ _ _ (returns-in-Values-clause-found c)
 
 pub returns-in_ok-_name-in-Fields-clause-well_formed : goal.returns-in_ok-_name-in-Fields-clause-well_formed
 returns-in_ok-_name-in-Fields-clause-well_formed c =

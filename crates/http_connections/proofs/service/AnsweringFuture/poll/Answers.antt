@@ -27,7 +27,7 @@ returns-in-Ok-clause-value g c =
     let may = rw (sym c.in-Ok.ensures.exchange) at begun.2.0.2 in
     let by = giver_of c.in-Waiting.waiting.value.slot in
     let kept = ap giver_of (rw c.deref_mut.ensures.value at c.poll.ensures.slot) in
-    let same : giver_of c.in-Ok.forwarding.slot ≡ by = (rw c.deref.ensures at c.in-Ok.ensures.giver) ∙ kept in
+    let same : giver_of c.in-Ok.forwarding.slot ≡ by = (rw c.deref-in-Ready-Ok-Forwarding.ensures at c.in-Ok.ensures.giver) ∙ kept in
     rw c.in-Waiting.is
     (given_at_once g.A.Content.Default.is_default (IsGivenBy g.A.Answers.number_of g.A.Answers.gives by)
     (IsForwardedBy g.A.Answers.number_of g.A.Answers.forwards by) g.A.Exchange.Future.gives
@@ -44,7 +44,7 @@ returns-in-Ok-clause-same g c =
     let may = rw (sym c.in-Ok.ensures.exchange) at begun.2.0.2 in
     let by = giver_of c.in-Waiting.waiting.value.slot in
     let kept = ap giver_of (rw c.deref_mut.ensures.value at c.poll.ensures.slot) in
-    let same : giver_of c.in-Ok.forwarding.slot ≡ by = (rw c.deref.ensures at c.in-Ok.ensures.giver) ∙ kept in
+    let same : giver_of c.in-Ok.forwarding.slot ≡ by = (rw c.deref-in-Ready-Ok-Forwarding.ensures at c.in-Ok.ensures.giver) ∙ kept in
     rw c.in-Waiting.is
     (given_later g.A.Content.Default.is_default (IsGivenBy g.A.Answers.number_of g.A.Answers.gives by)
     (IsForwardedBy g.A.Answers.number_of g.A.Answers.forwards by) g.A.Exchange.Future.gives

@@ -1,5 +1,5 @@
 use Rattle.std.proofs.Common.{◌∙◌, ap, inl, sym}
-use Rattle.http.specs.Request.{head_of}
+use Rattle.http.specs.Request.{body_of, head_of}
 use Rattle.http_connections.proofs.BegunLemmas.{message_of}
 use Rattle.http_connections.proofs.service.MessageService.at_once.Goals as goal
 
@@ -7,7 +7,8 @@ pub returns-in-Ok-Answered-clause-called : goal.returns-in-Ok-Answered-clause-ca
 returns-in-Ok-Answered-clause-called g c = λ at_once.
     let begun = c.in-Ok-Answered in
     let same = message_of c.from_parts-message.result (head_of c.args.request) c.args.content
-    (c.from_parts-message.ensures.head ∙ ap (λ parts. parts.0) c.into_parts-head.ensures)
+    (c.from_parts-message.ensures.head
+    ∙ ap (λ parts. parts.0) {y = (head_of c.args.request, body_of c.args.request)} c.into_parts-head.ensures)
     c.from_parts-message.ensures.body in
     let sent = rw (begun.field-0-is, c.deref-2.ensures, same) at begun.ensures-1 in
     inl (c.args.content, at_once, sent)
@@ -16,7 +17,8 @@ pub returns-in-Ok-clause-called : goal.returns-in-Ok-clause-called
 returns-in-Ok-clause-called g c = λ at_once.
     let begun = c.in-Ok-Forwarding in
     let same = message_of c.from_parts-message.result (head_of c.args.request) c.args.content
-    (c.from_parts-message.ensures.head ∙ ap (λ parts. parts.0) c.into_parts-head.ensures)
+    (c.from_parts-message.ensures.head
+    ∙ ap (λ parts. parts.0) {y = (head_of c.args.request, body_of c.args.request)} c.into_parts-head.ensures)
     c.from_parts-message.ensures.body in
     let may = rw (begun.field-0-is, c.deref-2.ensures, same) at begun.ensures-1 in
     ((c.args.content, at_once, rw (sym c.in-Ok.ensures.exchange) at may.0), c.in-Ok.ensures.giver)

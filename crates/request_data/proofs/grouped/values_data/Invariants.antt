@@ -1,6 +1,0 @@
-use Rattle.std.proofs.Common.{◌≡◌, map, string_bytes}
-use Rattle.data_tree.specs.Tree.{text, view}
-use Rattle.request_data.proofs.grouped.values_data.Given as goal
-
-abbrev pub invariant-loop-value : goal.invariant-loop-value
-invariant-loop-value l = map view l.items.items ≡ map (λ value. text (string_bytes value)) l.yielded
