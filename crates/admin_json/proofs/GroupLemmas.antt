@@ -1,11 +1,14 @@
 -- The entries of a map in byte order are the groups that the definition makes.
-use Rattle.std.proofs.Common.{◌≡◌, ℕ, List, [], ◌∷◌, map, is_some, String, Vec, string_bytes, refl, sym}
-use Rattle.std.proofs.Common.{ap, ◌∙◌}
+use Rattle.std.proofs.Common.{◌≡◌, ℕ, Bool, true, false, cond, List, [], ◌∷◌, map, Option, Some, None, option_map}
+use Rattle.std.proofs.Common.{is_some, String, Vec, string_bytes, refl, sym, ap, ◌∙◌}
 use Rattle.std.specs.declared.alloc.Global.{Global}
+use Rattle.std.specs.BTreeMap.{is_at}
+use Rattle.std.specs.Cmp.Lexicographic.{slice_cmp}
 use Rattle.std.specs.List.{list_any}
 use Rattle.std.specs.List.Sorted.{IsStrictlySortedBy}
-use Rattle.std.specs.Map.{keys_of}
-use Rattle.std.specs.Option.{option_map_or}
+use Rattle.std.specs.Map.{keys_of, lookup}
+use Rattle.std.specs.Option.{option_map_or, unwrap_or}
+use Rattle.std.specs.Ordering.{nat_cmp}
 use Rattle.std.specs.Str.{bytes_eq}
 use Rattle.std.specs.String.{string_cmp}
 use Rattle.admin_json.specs.Inner.Groups.{Group, groups_of, group_of, groups_in, with_groups, group_json}
@@ -58,14 +61,52 @@ Entry = String Global × Vec (List ℕ) Global
 abbrev values_at : Vec (List ℕ) Global → List (List ℕ)
 values_at values = values.items
 
+-- an entry with its values as a list
+abbrev seen : Entry → String Global × List (List ℕ)
+seen entry = (entry.0, values_at entry.1)
+
 entry_groups
     : (entries : List Entry)
-    → groups_under (members_of (map (entry_tree tree_of values_at) entries)) ≡ groups_in entries
+    → groups_under (members_of (map (entry_tree string_bytes tree_of) (map seen entries))) ≡ groups_in entries
 entry_groups [] = refl
 entry_groups (entry ∷ entries) =
-    ap (λ vs. (string_bytes entry.0, vs) ∷ groups_under (members_of (map (entry_tree tree_of values_at) entries)))
+    ap
+    (λ vs. (string_bytes entry.0, vs)
+      ∷ groups_under (members_of (map (entry_tree string_bytes tree_of) (map seen entries))))
     (same_texts entry.1.items)
     ∙ ap (λ gs. group_of entry ∷ gs) (entry_groups entries)
+
+same_keys : (entries : List Entry) → keys_of (map seen entries) ≡ keys_of entries
+same_keys [] = refl
+same_keys (entry ∷ entries) = ap (λ ks. entry.0 ∷ ks) (same_keys entries)
+
+-- what a map has under a name
+abbrev held : List ℕ → List Entry → Option (Vec (List ℕ) Global)
+held name entries = lookup (is_at (λ k. slice_cmp nat_cmp name (string_bytes k))) entries
+
+seen_found
+    : (name : List ℕ) (entries : List Entry)
+    → found string_bytes tree_of name (map seen entries) ≡ option_map values_at (held name entries)
+seen_found name [] = refl
+seen_found name (entry ∷ entries) =
+    by (is_at (λ k. slice_cmp nat_cmp name (string_bytes k)) entry.0) (seen_found name entries)
+  where
+    by
+        : (b : Bool) → found string_bytes tree_of name (map seen entries) ≡ option_map values_at (held name entries)
+        → cond b (Some (values_at entry.1)) (found string_bytes tree_of name (map seen entries))
+        ≡ option_map values_at (cond b (Some entry.1) (held name entries))
+    by true later = refl
+    by false later = later
+
+values_of_seen
+    : (values : Option (Vec (List ℕ) Global))
+    → unwrap_or (option_map values_at values) [] ≡ option_map_or values_at values []
+values_of_seen None = refl
+values_of_seen (Some values) = refl
+
+some_of_seen : (values : Option (Vec (List ℕ) Global)) → is_some (option_map values_at values) ≡ is_some values
+some_of_seen None = refl
+some_of_seen (Some values) = refl
 
 abbrev group_at : List (List ℕ × List ℕ) → List ℕ → Group
 group_at pairs name = (name, values_of name pairs)
@@ -81,14 +122,15 @@ name_groups (name ∷ names) pairs =
 -- a map in byte order that has the values of each name of the pairs, and no other name
 pub groups_of_entries
     : (pairs : List (List ℕ × List ℕ)) (entries : List Entry) → IsStrictlySortedBy string_cmp (keys_of entries)
-    → ((name : List ℕ) → option_map_or values_at (found tree_of values_at name entries) []
-    ≡ values_of name pairs)
-    → ((name : List ℕ)
-    → is_some (found tree_of values_at name entries) ≡ list_any (λ pair. bytes_eq name pair.0) pairs)
+    → ((name : List ℕ) → option_map_or values_at (held name entries) [] ≡ values_of name pairs)
+    → ((name : List ℕ) → is_some (held name entries) ≡ list_any (λ pair. bytes_eq name pair.0) pairs)
     → groups_in entries ≡ groups_of pairs
 groups_of_entries pairs entries sorted each among =
     sym (entry_groups entries)
-    ∙ ap groups_under (grouped_entries tree_of values_at pairs entries sorted each among)
+    ∙ ap groups_under (
+    grouped_entries string_bytes tree_of pairs (map seen entries) (rw (same_keys entries) sorted)
+    (λ name. ap (λ o. unwrap_or o []) (seen_found name entries) ∙ values_of_seen (held name entries) ∙ each name)
+    (λ name. ap is_some (seen_found name entries) ∙ some_of_seen (held name entries) ∙ among name))
     ∙ name_groups (names_in pairs) pairs
 
 -- ---- groups as members
