@@ -72,7 +72,7 @@ entry_groups [] = refl
 entry_groups (entry ∷ entries) =
     ap
     (λ vs. (string_bytes entry.0, vs)
-      ∷ groups_under (members_of (map (entry_tree string_bytes tree_of) (map seen entries))))
+    ∷ groups_under (members_of (map (entry_tree string_bytes tree_of) (map seen entries))))
     (same_texts entry.1.items)
     ∙ ap (λ gs. group_of entry ∷ gs) (entry_groups entries)
 
