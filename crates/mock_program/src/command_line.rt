@@ -1,5 +1,5 @@
 //! The command line: the command that the arguments name, help, and what is reported of invalid arguments.
-ghost use Rattle.std.specs.Prelude.{◌≡◌, ◌≢◌, ◌⊎◌, false, map, string_bytes};
+ghost use Rattle.std.specs.Prelude.{◌≡◌, ◌≢◌, ◌⊎◌, false, map, string_bytes, true};
 ghost use Rattle.clap.specs.Words.{kind_of};
 ghost use Rattle.clap.specs.declared.error.kind.ErrorKind.{ErrorKind};
 ghost use Rattle.mapping_commands.specs.declared.explain.Form.TheVariants.{Json};
@@ -126,51 +126,27 @@ fn run_call<F: FileReader, O: Write, E: Write>(
             target,
         } => render_to(alloc, template, method, target, out, err, settings.escape),
         CommandCall::Check { file } => check_file(alloc, files, file, out, err, settings.escape),
-        CommandCall::Answer(asked) => run_answer(alloc, files, asked, settings, out, err),
-        CommandCall::Explain(asked) => run_explain(alloc, files, asked, settings, out, err),
+        CommandCall::Answer(asked) => run_asked(alloc, files, asked, false, settings, out, err),
+        CommandCall::Explain(asked) => run_asked(alloc, files, asked, true, settings, out, err),
     }
 }
 
-fn run_answer<F: FileReader, O: Write, E: Write>(
+// `explain`, or else `answer`: what the options mean, and the request that is sent, are the same of both.
+fn run_asked<F: FileReader, O: Write, E: Write>(
     alloc: Global,
     files: &F,
     asked: RequestArguments<'_, '_, '_>,
+    is_explain: bool,
     settings: Settings<'_, '_>,
     out: &mut O,
     err: &mut E,
 ) -> u8
-    ensures { Does O.contents E.contents (F.listed files.now) (F.content files.now) settings.entry.escape
+    ensures answered { is_explain ≡ false
+        → Does O.contents E.contents (F.listed files.now) (F.content files.now) settings.entry.escape
         (answer asked.entry.file.now asked.entry.method.now asked.entry.target.now)
         (map given_of settings.entry.options.now) out.old out.new err.old err.new result }
-{
-    let RequestArguments {
-        file,
-        method,
-        target,
-    } = asked;
-    match request_options(alloc, files, settings.options, false) {
-        Ok(given) => {
-            let sent = SentRequest {
-                method,
-                target,
-                headers: given.headers.as_slice(),
-                body: given.body.as_slice(),
-            };
-            answer_file(alloc, files, file, sent, out, err, settings.escape)
-        }
-        Err(error) => error.report(alloc, err),
-    }
-}
-
-fn run_explain<F: FileReader, O: Write, E: Write>(
-    alloc: Global,
-    files: &F,
-    asked: RequestArguments<'_, '_, '_>,
-    settings: Settings<'_, '_>,
-    out: &mut O,
-    err: &mut E,
-) -> u8
-    ensures { Does O.contents E.contents (F.listed files.now) (F.content files.now) settings.entry.escape
+    ensures explained { is_explain ≡ true
+        → Does O.contents E.contents (F.listed files.now) (F.content files.now) settings.entry.escape
         (explain asked.entry.file.now asked.entry.method.now asked.entry.target.now)
         (map given_of settings.entry.options.now) out.old out.new err.old err.new result }
 {
@@ -179,19 +155,24 @@ fn run_explain<F: FileReader, O: Write, E: Write>(
         method,
         target,
     } = asked;
-    match request_options(alloc, files, settings.options, true) {
+    match request_options(alloc, files, settings.options, is_explain) {
         Ok(given) => {
-            let question = Question {
-                request: SentRequest {
-                    method,
-                    target,
-                    headers: given.headers.as_slice(),
-                    body: given.body.as_slice(),
-                },
-                states: given.states.as_slice(),
-                form: form_of(given.is_json, settings.is_coloured),
+            let request = SentRequest {
+                method,
+                target,
+                headers: given.headers.as_slice(),
+                body: given.body.as_slice(),
             };
-            explain_file(alloc, files, file, question, out, err, settings.escape)
+            if is_explain {
+                let question = Question {
+                    request,
+                    states: given.states.as_slice(),
+                    form: form_of(given.is_json, settings.is_coloured),
+                };
+                explain_file(alloc, files, file, question, out, err, settings.escape)
+            } else {
+                answer_file(alloc, files, file, request, out, err, settings.escape)
+            }
         }
         Err(error) => error.report(alloc, err),
     }
