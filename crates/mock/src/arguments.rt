@@ -1,7 +1,4 @@
 //! The arguments of `mock serve`, `mock record` and `mock save`.
-ghost use Rattle.std.specs.Prelude.{◌≡◌, IfOk, option_map};
-ghost use Rattle.clap.specs.Words.{first_of, found_of, rows_of};
-
 use clap::{Arg, ArgAction, ArgMatches, Command, Error, value_parser};
 use std::alloc::{AllocError, Global};
 use std::net::{IpAddr, Ipv4Addr};
