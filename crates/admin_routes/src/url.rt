@@ -29,7 +29,7 @@ fn is_admin_path(path: &str) -> bool
 }
 
 /// The path of the URL, without its query.
-pub(crate) fn path_of(url: &str) -> &str
+pub fn path_of(url: &str) -> &str
     ensures { result.now ≡ path_of url.now }
 {
     match url.split_once('?') {

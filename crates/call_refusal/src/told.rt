@@ -4,6 +4,7 @@ use crate::reason::Reason;
 use crate::refusal::Refusal;
 use admin_routes::error::AdminError;
 use admin_routes::router::AdminRoutes;
+use admin_routes::url::path_of;
 use error_code::error_code::ErrorCode;
 use itoa::Buffer;
 use mapping_diagnosis::notes::Notes;
@@ -56,20 +57,12 @@ pub fn told_of(
     })
 }
 
-/// The method and the path, as they are told.
-pub fn call_of(alloc: Global, method: &str, path: &str) -> Result<String, AllocError> {
+// The method and the path, as they are told.
+fn call_of(alloc: Global, method: &str, path: &str) -> Result<String, AllocError> {
     let mut call = cut(alloc, method, SHOWN)?;
     call.push_str(" ")?;
     call.push_str(cut(alloc, path, SHOWN)?.as_str())?;
     Ok(call)
-}
-
-/// The URL before its query.
-pub fn path_of(url: &str) -> &str {
-    match url.split_once('?') {
-        Some((path, _query)) => path,
-        None => url,
-    }
 }
 
 // As `error 12: unsupported field`.

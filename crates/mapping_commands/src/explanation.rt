@@ -1,15 +1,12 @@
 // Which mapping answers a request, and what each other one wants.
-ghost use Rattle.std.specs.Prelude.{◌≡◌, IfOk, OnOk, map};
+ghost use Rattle.std.specs.Prelude.{IfOk, OnOk, map};
 ghost use Rattle.mapping_commands.specs.Answering.{sent_of};
 ghost use Rattle.mapping_commands.specs.Explaining.{AreSet, IsAnswer, IsSetTo, given_of};
-ghost use Rattle.request_journal.specs.Choice.{IsChoice};
-ghost use Rattle.request_journal.specs.Past.{opened};
 
-use crate::fresh::mappings_of;
+use crate::fresh::{answer_of, book_with, mappings_of};
 use crate::sent::{SentRequest, snapshot_of};
 use command_output::error::CommandError;
 use command_output::files::Documents;
-use error_code::error_code::ErrorCode;
 use mapping_model::mapping_id::MappingId;
 use match_difference::difference::{Difference, differences};
 use mock_request::snapshot::Snapshot;
@@ -92,7 +89,7 @@ pub(crate) fn explanation_of(
 {
     let mappings = mappings_of(alloc, documents.texts.as_slice(), escape)?;
     let ids = ids_of(alloc, mappings.as_slice())?;
-    let mut book = opened(alloc, mappings)?;
+    let mut book = book_with(alloc, mappings, 0)?;
     set_states(alloc, &mut book, states)?;
     let request = snapshot_of(alloc, sent)?;
     let mut listed = each_explained(alloc, &book, ids.as_slice(), &request)?;
@@ -106,24 +103,6 @@ pub(crate) fn explanation_of(
         number,
         status,
     })
-}
-
-fn answer_of(book: &mut Book, request: &Snapshot) -> Result<ServeAnswer, CommandError>
-    ensures { IfOk result (IsChoice book.old request.now) }
-{
-    match book.serve(request.try_clone()?) {
-        Ok(answer) => Ok(answer),
-        Err(error) => Err(CommandError::from(error.code)),
-    }
-}
-
-fn opened(alloc: Global, mappings: Vec<ReadyMapping>) -> Result<Book, CommandError>
-    ensures { IfOk result (λ book. book ≡ opened 0 mappings.items) }
-{
-    match Book::new(alloc, mappings, 0) {
-        Ok(book) => Ok(book),
-        Err(error) => Err(CommandError::from(error.code)),
-    }
 }
 
 /// The id that the book knows each mapping by.

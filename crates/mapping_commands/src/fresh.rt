@@ -1,12 +1,14 @@
 // A book that was just opened with the mappings of a document, and what it answers a request with.
-ghost use Rattle.std.specs.Prelude.{◌≡◌, ◌⊎◌, ◌<◌, ◌≤◌, IfErr, IfOk, OnOk, length, map};
+ghost use Rattle.std.specs.Prelude.{◌≡◌, ◌⊎◌, ◌≤◌, IfErr, IfOk, None, OnOk, length, map};
 ghost use Rattle.command_output.specs.Lines.{out_of_memory};
 ghost use Rattle.mapping_commands.specs.Answering.{HasBook, IsReplyBy, RefusesBook, RefusesDocument, SpellDocuments};
 ghost use Rattle.mapping_commands.specs.Fresh.{IsFresh};
 ghost use Rattle.mapping_commands.specs.Inner.Own.{IsOwn};
 ghost use Rattle.request_journal.specs.Choice.{IsChoice};
+ghost use Rattle.request_journal.specs.Live.{live};
 ghost use Rattle.request_journal.specs.Past.{opened};
-ghost use Rattle.stub_book.specs.Refusals.{IsFull};
+ghost use Rattle.request_journal.specs.declared.limits.TheConstants.{LIVE_LIMIT};
+ghost use Rattle.stub_book.specs.Refusals.{IsFull, IsOpenRefusal};
 
 use command_output::error::CommandError;
 use command_output::files::Documents;
@@ -37,7 +39,21 @@ pub fn fresh_book(
         ⊎ (error ≡ out_of_memory)) }
 {
     let mappings = mappings_of(alloc, documents.texts.as_slice(), escape)?;
-    match Book::new(alloc, mappings, 0) {
+    book_with(alloc, mappings, 0)
+}
+
+/// A book that was just opened with the mappings. `opening` is the number before that of its first event.
+pub fn book_with(
+    alloc: Global,
+    mappings: Vec<ReadyMapping>,
+    opening: u64,
+) -> Result<Book, CommandError>
+    ensures is { IfOk result (λ book. book ≡ opened opening mappings.items) }
+    ensures few { IfOk result (λ book. length (live book) ≤ LIVE_LIMIT) }
+    ensures refusal { IfErr result
+        (λ error. IsOpenRefusal opening mappings.items error.code × (error.at ≡ None)) }
+{
+    match Book::new(alloc, mappings, opening) {
         Ok(book) => {
             // For its clause: no more mappings are live than may be.
             let _number = book.event_count();
@@ -68,11 +84,10 @@ pub fn mappings_of(
     Ok(mappings)
 }
 
-/// What the book answers the request with.
+/// What the book answers the request with. Only a full book refuses it while there is memory.
 pub(crate) fn answer_of(book: &mut Book, request: &Snapshot) -> Result<ServeAnswer, CommandError>
-    requires { ¬ (IsFull book.old) }
     ensures ok { IfOk result (IsChoice book.old request.now) }
-    ensures refusal { IfErr result (λ error. error ≡ out_of_memory) }
+    ensures refusal { ¬ (IsFull book.old) → IfErr result (λ error. error ≡ out_of_memory) }
 {
     match book.serve(request.try_clone()?) {
         Ok(answer) => Ok(answer),

@@ -1,8 +1,6 @@
 // The book that is served.
-ghost use Rattle.std.specs.Prelude.{◌≡◌, ◌≤◌, [], IfOk, IfSome, Some, length, map, option_copied};
-ghost use Rattle.request_journal.specs.Live.{live};
+ghost use Rattle.std.specs.Prelude.{◌≡◌, [], IfOk, IfSome, Some, map, option_copied};
 ghost use Rattle.request_journal.specs.Past.{opened};
-ghost use Rattle.request_journal.specs.declared.limits.TheConstants.{LIVE_LIMIT};
 ghost use Rattle.mapping_files.specs.Served.{IsOpened, IsServedBook};
 
 use crate::accepted::{Skipped, accepted_of};
@@ -10,10 +8,9 @@ use command_output::error::CommandError;
 use command_output::files::{Documents, FileReader, read_documents};
 use command_output::output::put_notes;
 use mapping_commands::check::check_documents;
-use mapping_commands::fresh::mappings_of;
+use mapping_commands::fresh::{book_with, mappings_of};
 use mapping_commands::notes::notes_of;
 use mapping_diagnosis::notes::Notes;
-use request_match::ready_mapping::ReadyMapping;
 use std::alloc::Global;
 use std::io::Write;
 use stub_book::book::Book;
@@ -53,10 +50,10 @@ pub fn book_of<F: FileReader, E: Write>(
 fn empty_book<E: Write>(alloc: Global, opening: u64, err: &mut E) -> Option<Book>
     ensures { IfSome result (λ book. book ≡ opened opening []) }
 {
-    match Book::new(alloc, Vec::new(alloc), opening) {
+    match book_with(alloc, Vec::new(alloc), opening) {
         Ok(book) => Some(book),
         Err(error) => {
-            CommandError::from(error.code).report(err);
+            error.report(err);
             None
         }
     }
@@ -116,24 +113,10 @@ fn opened(
     if given.skips_refused {
         let accepted = accepted_of(alloc, documents.texts.as_slice(), given.escape)?;
         let skipped = accepted.skipped;
-        Ok((book_from(alloc, accepted.mappings, given.opening)?, skipped))
+        Ok((book_with(alloc, accepted.mappings, given.opening)?, skipped))
     } else {
         let mappings = mappings_of(alloc, documents.texts.as_slice(), given.escape)?;
-        Ok((book_from(alloc, mappings, given.opening)?, Skipped::none()))
-    }
-}
-
-fn book_from(alloc: Global, mappings: Vec<ReadyMapping>, opening: u64) -> Result<Book, CommandError>
-    ensures is { IfOk result (λ book. book ≡ opened opening mappings.items) }
-    ensures few { IfOk result (λ book. length (live book) ≤ LIVE_LIMIT) }
-{
-    match Book::new(alloc, mappings, opening) {
-        Ok(book) => {
-            // For its clause: no more mappings are live than may be.
-            let _number = book.event_count();
-            Ok(book)
-        }
-        Err(error) => Err(CommandError::from(error.code)),
+        Ok((book_with(alloc, mappings, given.opening)?, Skipped::none()))
     }
 }
 

@@ -16,9 +16,9 @@ returns c =
           c.as_slice.ensures.value c.in_ok-mappings.ensures.ok;
       past = c.set_states.new.book;
       set =
-          subst (λ (past : Past). AreSet states past c.set_states.new.book) c.in_ok-book.ensures
+          subst (λ (past : Past). AreSet states past c.set_states.new.book) c.in_ok-book.ensures.is
           c.in_ok-set_states.ensures;
       request = c.in_ok-request.request;
       asked = c.in_ok-request.ensures.ok;
-      chosen = c.in_ok-answer.ensures;
+      chosen = c.in_ok-answer.ensures.ok;
     }
