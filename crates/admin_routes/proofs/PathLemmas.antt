@@ -1,6 +1,6 @@
 -- Which paths are those of admin calls.
-use Rattle.std.proofs.Common.{◌≡◌, ℕ, List, [], ◌∷◌, Bool, true, false, ◌&&◌, codes, IsTrue, ◌↔◌, true≢false}
-use Rattle.std.proofs.Common.{refl, sym, ap, subst, ◌∙◌, ◌++◌, drop, take-append-drop}
+use Rattle.std.proofs.Common.{◌≡◌, ℕ, List, [], ◌∷◌, Bool, true, false, codes, IsTrue, ◌↔◌, true≢false}
+use Rattle.std.proofs.Common.{refl, sym, ap, ◌∙◌, ◌++◌, drop, take-append-drop}
 use Rattle.std.specs.List.{join_with_byte, position_or_len, slice_split}
 use Rattle.std.specs.Str.{bytes_eq}
 use Rattle.std.proofs.lemmas.Bool.{and_parts}

@@ -4,7 +4,6 @@ use Rattle.std.proofs.Common.{Option, Some, None, codes, IfSome, IsNone, true≢
 use Rattle.std.proofs.Common.{nat_eq, ◌==◌, arith, length-append}
 use Rattle.std.proofs.Math.Seq.{take-append_seam}
 use Rattle.std.specs.List.{starts_with}
-use Rattle.std.specs.Option.{option_map_or}
 use Rattle.std.specs.Str.{bytes_eq}
 use Rattle.std.proofs.lemmas.Bool.{and_parts}
 use Rattle.std.proofs.lemmas.Slice.Eq.{bytes_eq-Decides}

@@ -1,9 +1,9 @@
 -- The rows of the router, and the paths that fit them.
-use Rattle.std.proofs.Common.{◌≡◌, ◌⊎◌, inl, inr, ℕ, List, [], ◌∷◌, ◌++◌, true, Option, Some, None, codes, map}
+use Rattle.std.proofs.Common.{◌≡◌, inl, inr, ℕ, List, [], ◌∷◌, ◌++◌, true, Some, None, codes, map}
 use Rattle.std.proofs.Common.{refl, sym, ap, ◌∙◌, subst, append-nil}
 use Rattle.std.specs.Str.{IsUtf8}
 use Rattle.matchit.specs.Level.{IsText}
-use Rattle.matchit.specs.Params.{walk, Shows}
+use Rattle.matchit.specs.Params.{walk}
 use Rattle.matchit.specs.Router.{RouteOf}
 use Rattle.matchit.specs.Rows.{param_token}
 use Rattle.matchit.specs.Seek.{first}
@@ -11,11 +11,11 @@ use Rattle.admin_routes.specs.Inner.Table.{ShowsFirst, pattern_at, text_at, name
 use Rattle.admin_routes.specs.Places.{path_at, HasParameter, IsPath}
 use Rattle.admin_routes.specs.declared.place.Place.{Place}
 use Rattle.admin_routes.specs.declared.place.Place.TheVariants as place
-use Rattle.route_search.proofs.Literals.{are_bytes, are_whole, all_are_bytes, all_are_whole, only_bytes, bytes_fit, fits_after}
+use Rattle.route_search.proofs.Literals.{are_bytes, all_are_bytes, all_are_whole, only_bytes, bytes_fit, fits_after}
 use Rattle.route_search.proofs.Parameters.{IsAround, around, around_takes}
 use Rattle.route_search.proofs.Search.{Hit, found_fits, fitting_is_found}
 use Rattle.route_search.proofs.Texts.{is_text}
-use Rattle.route_search.specs.Fits.{slash, AllWhole, EndsSegment, Fits, Has, IsSegment}
+use Rattle.route_search.specs.Fits.{slash, AllWhole, Fits, Has, IsSegment}
 
 rows_are_whole : AllWhole rows
 rows_are_whole = all_are_whole rows refl

@@ -15,7 +15,7 @@ use Rattle.std.proofs.lemmas.Slice.Eq.{bytes_eq-Decides}
 use Rattle.data_tree.specs.Tree.{members_of}
 use Rattle.request_data.specs.Grouped.{members_under, names_in, values_tree}
 use Rattle.request_data.proofs.GroupLemmas.{entry_tree, found, grouped_entries}
-use Rattle.std.specs.List.{filter, list_any, flat_map}
+use Rattle.std.specs.List.{filter, list_any}
 use Rattle.std.specs.Str.{bytes_eq}
 use Rattle.std.proofs.lemmas.Grind.{flat_map-append}
 use Rattle.std.proofs.lemmas.List.{map-append}

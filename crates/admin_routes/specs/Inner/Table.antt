@@ -1,5 +1,5 @@
 -- The rows of the router of admin paths, and how it is filled.
-use Rattle.std.specs.Prelude.{◌++◌, ℕ, List, [], ◌∷◌, Bool, true, false, ◌&&◌, Result, Ok, Err, Option, Some, None, codes, map, is_none}
+use Rattle.std.specs.Prelude.{◌++◌, ℕ, List, [], ◌∷◌, Bool, true, false, ◌&&◌, Result, Ok, Err, codes, map, is_none}
 use Rattle.std.specs.Borrow.{Bor}
 use Rattle.matchit.specs.Order.{placed}
 use Rattle.matchit.specs.Params.{Shows}

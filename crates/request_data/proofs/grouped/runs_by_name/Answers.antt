@@ -1,4 +1,4 @@
-use Rattle.std.proofs.Common.{◌∷◌, ◌++◌, ◌<◌, [], length, arith}
+use Rattle.std.proofs.Common.{◌<◌, length, arith}
 use Rattle.std.proofs.lemmas.Grind.{text_groups}
 use Rattle.request_data.specs.Inner.Runs.{Run}
 use Rattle.request_data.proofs.RunLemmas.{any_of_run, values_of_run}

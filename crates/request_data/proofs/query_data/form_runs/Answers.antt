@@ -1,9 +1,9 @@
-use Rattle.std.proofs.Common.{◌≡◌, ◌∷◌, ◌++◌, [], rules, sym, ◌∙◌}
+use Rattle.std.proofs.Common.{◌≡◌, ◌∷◌, rules, sym, ◌∙◌}
 use Rattle.form_urlencoded.specs.Form.{raw_pairs}
 use Rattle.form_urlencoded.specs.Parse.{raw_pairs_left}
 use Rattle.mock_request.proofs.QueryLemmas.{texts_left, texts_of_form}
-use Rattle.request_data.specs.Inner.Runs.{pairs_of_runs, pairs_under}
-use Rattle.request_data.proofs.RunLemmas.{HasRead, another_name, value_more, none_left, text_of}
+use Rattle.request_data.specs.Inner.Runs.{pairs_of_runs}
+use Rattle.request_data.proofs.RunLemmas.{HasRead, another_name, value_more, none_left}
 use Rattle.request_data.proofs.query_data.form_runs.Goals as goal
 use Rattle.request_data.proofs.query_data.form_runs.Goals.{then-ne+in_ok-push_run, else-ne}
 

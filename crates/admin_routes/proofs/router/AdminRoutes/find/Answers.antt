@@ -1,8 +1,4 @@
-use Rattle.std.proofs.Common.{◌≡◌, None, subst, sym}
-use Rattle.matchit.specs.Params.{walk}
-use Rattle.matchit.specs.Seek.{first}
 use Rattle.admin_routes.proofs.RowLemmas.{found_is_path, none_is_path}
-use Rattle.admin_routes.specs.Inner.Table.{ShowsFirst, rows}
 use Rattle.admin_routes.proofs.router.AdminRoutes.find.Goals as goal
 
 pub returns-in-Ok-clause-found : goal.returns-in-Ok-clause-found
