@@ -1,5 +1,5 @@
 // A reason that fits a header.
-ghost use Rattle.std.specs.Prelude.{◌≡◌, ◌↔◌, ◌≤◌, IfOk, IsTrue, length};
+ghost use Rattle.std.specs.Prelude.{◌≡◌, ◌≤◌, IfOk, length};
 ghost use Rattle.call_refusal.specs.Reason.{AreVisible, IsReason, IsVisible};
 
 use plain_text::octets::Octets;
