@@ -70,7 +70,7 @@ fn book_at<F: FileReader, E: Write>(
         (Some path.now) (F.listed files.now) (F.content files.now)) }
 {
     match read_documents(alloc, files, path) {
-        Ok(documents) => book_with(alloc, &documents, given, err),
+        Ok(documents) => book_of_documents(alloc, &documents, given, err),
         Err(error) => {
             error.report(alloc, path, err);
             None
@@ -79,7 +79,7 @@ fn book_at<F: FileReader, E: Write>(
 }
 
 // The book of the documents' mappings, and what is said of them.
-fn book_with<E: Write>(
+fn book_of_documents<E: Write>(
     alloc: Global,
     documents: &Documents,
     given: BookArguments<'_>,
