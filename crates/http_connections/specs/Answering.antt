@@ -3,12 +3,13 @@ use Rattle.std.specs.Prelude.{◌≡◌, ℕ, List, IfOk, IfSome}
 use Rattle.http.specs.Request.{body_of, head_of}
 use Rattle.http.specs.declared.request.Request.{Request}
 use Rattle.http.specs.declared.response.Response.{Response}
-use Rattle.http_connections.specs.Content.{HasOtherCoding, IsAnsweredAtOnce, IsContentAtOnce, IsNewFor}
+use Rattle.http_connections.specs.Content.{IsAnsweredAtOnce, IsContentAtOnce, IsNewFor}
 use Rattle.http_connections.specs.Sent.{Giver}
 use Rattle.http_connections.specs.Site.{giver_of}
 use Rattle.http_connections.specs.declared.gathering.Gathering.{Gathering}
 use Rattle.http_connections.specs.declared.service.Answering.{Answering}
 use Rattle.http_connections.specs.declared.service.Answering.TheVariants.{Forwarding, Made, Waiting}
+use Rattle.http_messages.specs.TransferCoding.{HasOtherCoding}
 use Rattle.hyper.specs.declared.body.incoming.Incoming.{Incoming}
 
 module _ {R A Seat Reply Exchange Content I : Type 0} (IsEmpty : Content → Type 0)

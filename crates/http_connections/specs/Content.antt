@@ -1,7 +1,6 @@
 -- The content of a request: what is gathered of it, and what is answered then.
 use Rattle.std.specs.Prelude.{◌≡◌, ◌<◌, ◌⊎◌, ℕ, Bool, true, false, List, [], ◌++◌, None, Some, Ok}
-use Rattle.std.specs.Prelude.{Err, Result, length, map, codes, Any, ⊤}
-use Rattle.std.specs.Char.{to_ascii_lowercase}
+use Rattle.std.specs.Prelude.{Err, Result, length, map, ⊤}
 use Rattle.futures.specs.Runs.{Runs}
 use Rattle.http.specs.Request as request
 use Rattle.http.specs.Response as response
@@ -10,10 +9,9 @@ use Rattle.http.specs.declared.request.Parts.{Parts}
 use Rattle.http.specs.declared.response.Response.{Response}
 use Rattle.http_body.specs.Frame.{bytes_in, joined_data}
 use Rattle.http_body.specs.declared.frame.Frame.{Frame}
-use Rattle.http_header.specs.FieldValue.{FieldValue}
-use Rattle.http_header.specs.HeaderMap.{Entries, get_all}
 use Rattle.hyper.specs.Incoming.{size_left}
 use Rattle.hyper.specs.declared.body.incoming.Incoming.{Incoming}
+use Rattle.http_messages.specs.TransferCoding.{HasOtherCoding}
 use Rattle.http_connections.specs.Sent.{IsSentFor}
 use Rattle.http_connections.specs.declared.content_error.ContentError.{ContentError}
 use Rattle.http_connections.specs.declared.content_error.ContentError.TheVariants.{Late, Malformed, OutOfMemory}
@@ -68,14 +66,6 @@ module _ {I : Type 0} (body : Incoming I) where
   abbrev pub IsContentAtOnce : List ℕ → Type 0
   IsContentAtOnce content =
       ((size_left body.kind ≡ Some 0) × (content ≡ [])) ⊎ (IsTooLong × (BODY_LIMIT < length content))
-
--- a value of `Transfer-Encoding` that is `chunked` alone (RFC 9112, section 6.1)
-abbrev pub IsChunked : FieldValue → Type 0
-IsChunked value = map to_ascii_lowercase value.bytes ≡ codes "chunked"
-
--- the content is in another coding than `chunked`, too
-abbrev pub HasOtherCoding : Entries FieldValue → Type 0
-HasOtherCoding headers = Any (λ value. ¬ (IsChunked value)) (get_all headers (codes "transfer-encoding"))
 
 -- The content that a request is answered with, after this came of gathering it: what is too long stands for
 -- all that is.

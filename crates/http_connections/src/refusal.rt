@@ -1,6 +1,5 @@
 // The connection's own answers.
-ghost use Rattle.std.specs.Prelude.{◌↔◌, IsTrue};
-ghost use Rattle.http_connections.specs.Content.{HasOtherCoding, IsChunked, IsRefusal};
+ghost use Rattle.http_connections.specs.Content.{IsRefusal};
 
 use http::response::Parts;
 use http::{HeaderMap, HeaderValue, Response, StatusCode, header};
@@ -47,22 +46,6 @@ fn last_refusal<C: Default>(alloc: Global, status: StatusCode) -> Response<C>
         .headers
         .append(header::CONNECTION, HeaderValue::from_static("close"));
     Response::from_parts(head, C::default())
-}
-
-/// Whether the content is in another coding than `chunked`, too.
-pub(crate) fn has_other_coding(headers: &HeaderMap) -> bool
-    ensures { IsTrue result ↔ HasOtherCoding headers.now }
-{
-    headers
-        .get_all(header::TRANSFER_ENCODING)
-        .iter()
-        .any(|value| !is_chunked(value))
-}
-
-fn is_chunked(value: &HeaderValue) -> bool
-    ensures { IsTrue result ↔ IsChunked value.now }
-{
-    value.as_bytes().eq_ignore_ascii_case(b"chunked")
 }
 
 /// Whether the client waits for `100 Continue` before it sends the content (RFC 9110, section 10.1.1).

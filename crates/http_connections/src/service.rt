@@ -22,9 +22,7 @@ use crate::course::Course;
 use crate::forwarding::Forwarding;
 use crate::gathering::Gathering;
 use crate::patience::Patience;
-use crate::refusal::{
-    awaits_leave, has_other_coding, late, out_of_memory, refusal, unknown_coding,
-};
+use crate::refusal::{awaits_leave, late, out_of_memory, refusal, unknown_coding};
 use crate::seat_slot::SeatSlot;
 use bytes::{Bytes, BytesMut};
 use futures::task::{Context, Poll};
@@ -32,6 +30,7 @@ use futures::{Future, ready};
 use http::{Request, Response, StatusCode};
 use http_body::Body;
 use http_messages::error::ServiceError;
+use http_messages::transfer_coding::has_other_coding;
 use hyper::body::Incoming;
 use hyper::service::Service;
 use mock_request::snapshot::BODY_LIMIT;

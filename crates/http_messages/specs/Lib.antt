@@ -1,3 +1,4 @@
 pub mod Inner
 pub mod Received
+pub mod TransferCoding
 pub mod Wire

@@ -12,7 +12,7 @@ use bytes::Bytes;
 use futures::task::{Context, Poll};
 use futures::{Future, ready};
 use http::response::Parts;
-use http::{HeaderMap, header};
+use http_messages::transfer_coding::has_other_coding;
 use hyper::body::Incoming;
 use hyper::client::conn::http1::ResponseFuture;
 use mapping_model::reply::Reply;
@@ -80,12 +80,4 @@ impl<I: Drop> Received<I> {
     {
         Ok(reply_of(self.alloc, &self.head, content)?)
     }
-}
-
-// Whether the content is in another transfer coding than `chunked`, too (RFC 9112, section 6.1).
-fn has_other_coding(headers: &HeaderMap) -> bool {
-    headers
-        .get_all(header::TRANSFER_ENCODING)
-        .iter()
-        .any(|value| !value.as_bytes().eq_ignore_ascii_case(b"chunked"))
 }
