@@ -1,8 +1,8 @@
 // The body of a response.
-ghost use Rattle.std.specs.Prelude.{◌≡◌, [], IfNone, IfOk, IfSome, string_bytes, ⊤};
+ghost use Rattle.std.specs.Prelude.{◌≡◌, [], IfNone, IfOk, IfSome, string_bytes};
 ghost use Rattle.answering.specs.Content.{Yields};
 ghost use Rattle.futures.specs.Poll.{IfReady, OnPending};
-ghost use Rattle.futures.specs.Runs.{After, Within};
+ghost use Rattle.futures.specs.Runs.{After};
 ghost use Rattle.futures.specs.Task.{IsArmed, Keeps};
 ghost use Rattle.http_body.specs.Frame.{data_frame};
 
