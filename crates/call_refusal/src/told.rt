@@ -57,8 +57,8 @@ pub fn told_of(
     })
 }
 
-// The method and the path, as they are told.
-fn call_of(alloc: Global, method: &str, path: &str) -> Result<String, AllocError> {
+/// The method and the path, as they are told.
+pub fn call_of(alloc: Global, method: &str, path: &str) -> Result<String, AllocError> {
     let mut call = cut(alloc, method, SHOWN)?;
     call.push_str(" ")?;
     call.push_str(cut(alloc, path, SHOWN)?.as_str())?;
