@@ -1,5 +1,5 @@
 // A text that grows piece by piece, and that can be taken back to what it was.
-ghost use Rattle.std.specs.Prelude.{◌≡◌, [], ◌++◌, OnOk, OnErr, string_bytes};
+ghost use Rattle.std.specs.Prelude.{◌≡◌, [], ◌++◌, OnOk, string_bytes};
 
 use std::alloc::AllocError;
 use std::marker::Model;

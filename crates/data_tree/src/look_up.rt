@@ -1,9 +1,9 @@
 // What a path finds.
 ghost use Rattle.std.specs.Prelude.{◌≡◌, IfSome};
 ghost use Rattle.std.specs.Option.{option_map_or};
-ghost use Rattle.data_tree.specs.Tree.{view, nothing, items_view, members_view};
+ghost use Rattle.data_tree.specs.Tree.{view, nothing, members_view};
 ghost use Rattle.data_tree.specs.Parts.{names_of};
-ghost use Rattle.data_tree.specs.LookUp.{at, after, nth, under};
+ghost use Rattle.data_tree.specs.LookUp.{at, after, under};
 ghost use Rattle.data_tree.specs.WellFormed.{IsAscending, IsWellFormed};
 
 use crate::data::Data;

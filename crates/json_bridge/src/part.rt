@@ -1,5 +1,5 @@
 // From a JSON text to the part of its value that is looked at.
-ghost use Rattle.std.specs.Prelude.{◌≡◌, ◌-◌, ◌<◌, length, map, None, Err, IfOk, IfSome, OnOk, IsErrOf, option_map};
+ghost use Rattle.std.specs.Prelude.{◌≡◌, ◌-◌, ◌<◌, length, map, None, Err, IfOk, IfSome, IsErrOf, option_map};
 ghost use Rattle.std.specs.List.{list_any};
 ghost use Rattle.std.specs.Str.{bytes_eq};
 ghost use Rattle.json.specs.Json.{value, members};

@@ -12,7 +12,7 @@ ghost use Rattle.json_bridge.specs.Path.{SpellsPath};
 ghost use Rattle.template_code.specs.Machine.{result_of, found_by};
 ghost use Rattle.data_tree.specs.RootPaths.{json_path};
 ghost use Rattle.template_machine.specs.Inner.Changes.{changes_text};
-ghost use Rattle.template_machine.specs.Inner.Slots.{slot_view, found_view, held_view};
+ghost use Rattle.template_machine.specs.Inner.Slots.{slot_view, found_view};
 
 use crate::held::{Held, hold};
 use crate::slot::{Slot, Text, changes_text};

@@ -5,7 +5,7 @@ ghost use Rattle.std.specs.Char.{to_ascii_uppercase, to_ascii_lowercase};
 ghost use Rattle.std.specs.Cow.{cow_str_bytes};
 ghost use Rattle.helper_set.specs.Values.{a_text, text_of};
 ghost use Rattle.helper_set.specs.Views as helpers;
-ghost use Rattle.template_machine.specs.Inner.Slots.{value_view, text_view, slot_view, held_view};
+ghost use Rattle.template_machine.specs.Inner.Slots.{value_view, slot_view, held_view};
 
 use crate::slot::{Slot, Text};
 use crate::value::Value;
