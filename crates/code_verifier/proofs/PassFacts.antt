@@ -28,7 +28,8 @@ use Rattle.code_rules.proofs.MachineFacts.{Keeps, keeps}
 use Rattle.code_rules.proofs.RegionFacts.{bounds_at-next}
 use Rattle.code_rules.proofs.TableFacts.{entry_at-next, IsTable-entry_at, verdict-same}
 use Rattle.code_rules.proofs.ViolationFacts.{violation_or_accepted}
-use Rattle.code_verifier.specs.Inner.Marks.{innermost, mark_of, agrees, is_marked, mark_at, with_target}
+use Rattle.code_verifier.specs.Inner.Marks.{innermost, agrees, is_marked, mark_at, with_target}
+use Rattle.code_verifier.proofs.MarkFacts.{mark_of}
 use Rattle.code_verifier.specs.Inner.Pass.{nest_of, broken_parts, broken_seen, takes_part, loops_after, cost_after}
 use Rattle.code_verifier.specs.Inner.Pass.{own_cost, all_fits, judged}
 use Rattle.code_verifier.specs.Inner.Slots.{kinds_of, bounds_of}

@@ -21,8 +21,12 @@ use Rattle.template_compile.specs.Compiled.{stack_code}
 use Rattle.template_compile.specs.Kinds.{expression_kind, conversion}
 use Rattle.template_compile.specs.Inner.Length.{datum_length, argument_length, expression_length, length_for}
 use Rattle.template_compile.specs.Inner.Length.{print_length}
-use Rattle.template_compile.specs.Inner.Length.{test_length, node_length, nodes_length, code_length}
+use Rattle.template_compile.specs.Inner.Length.{test_length, node_length, nodes_length}
 use Rattle.template_compile.proofs.HasCode.{after_part}
+
+-- with the `Halt` that ends it
+abbrev pub code_length : Nodes → ℕ
+code_length nodes = nodes_length nodes + 1
 
 -- the part has that many instructions, wherever it begins
 abbrev pub HasLength : Gen → ℕ → Type 0

@@ -15,9 +15,9 @@ use Rattle.template_tags.specs.Inner.CallReads.{beside, error_if, error_in, erro
 use Rattle.template_tags.specs.Inner.CallReads.{call_of, call_read, helper_read}
 use Rattle.template_tags.specs.Expression.{Expression}
 use Rattle.template_tags.specs.Inner.Pieces.{Piece, Parts, word_piece, group_piece, capped, piece_of, pieces_of}
-use Rattle.template_tags.specs.Inner.Pieces.{stack_pieces, tag_parts, word_pieces, greatest, piece_height}
+use Rattle.template_tags.specs.Inner.Pieces.{tag_parts, word_pieces, greatest, piece_height}
 use Rattle.template_tags.specs.Inner.Pieces.{piece_argument, piece_arguments, piece_helper, piece_call}
-use Rattle.template_tags.specs.Inner.Pieces.{grouped_pieces, group_of_height, piece_before, pieces_before}
+use Rattle.template_tags.specs.Inner.Pieces.{grouped_pieces, group_of_height, piece_before}
 use Rattle.template_tags.specs.Inner.Pieces.{has_piece, extra_parts_error, all_parts_error, block_parts, value_pieces}
 use Rattle.template_tags.specs.Inner.Pieces.{print_parts}
 use Rattle.template_tags.specs.Items.{Item, word, left_parenthesis, right_parenthesis}
@@ -27,6 +27,13 @@ use Rattle.template_tags.specs.Terms.{grouped_before, grouped, only_list, terms_
 use Rattle.template_tags.specs.Terms.{is_matched}
 use Rattle.template_tags.specs.declared.expression.TheConstants.{CALL_LIMIT}
 use Rattle.template_tags.specs.declared.level.Level.{Level}
+
+abbrev pub stack_pieces : List Level → Option (List Terms) → Option (List (List Piece))
+stack_pieces levels stack = option_map (map (pieces_of levels)) stack
+
+abbrev pub pieces_before : List Level → List Item → Option (List (List Piece)) → Option (List (List Piece))
+pieces_before levels [] stack = stack
+pieces_before levels (item ∷ items) stack = piece_before levels item (pieces_before levels items stack)
 
 -- ---- terms as pieces
 

@@ -4,7 +4,8 @@ use Rattle.std.proofs.lemmas.Option.{none-some, same_Some}
 use Rattle.clap.specs.Words.{HasKind, kind_of}
 use Rattle.mock_program.specs.CommandLine.{Asked}
 use Rattle.mock_program.specs.Commands.{Does}
-use Rattle.mock_program.specs.Inner.Arguments.{arguments_of, escape_asked, parser_arguments}
+use Rattle.mock_program.specs.Inner.Arguments.{escape_asked, parser_arguments}
+use Rattle.mock_program.proofs.CommandArguments.{arguments_of}
 use Rattle.mock_program.specs.Inner.Parser.{IsHelp, answers_to, asked_by, asked_of, is_taken}
 use Rattle.mock_program.specs.Options.{given_of}
 use Rattle.command_output.specs.Lines.{error_line}
