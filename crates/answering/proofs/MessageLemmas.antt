@@ -10,7 +10,7 @@ use Rattle.http_header.specs.FieldName.{IsHeaderName}
 use Rattle.http_messages.specs.Received.{IsReceived, target_of}
 use Rattle.answering.specs.Answering.{Begins, IsNotBegun, IsNotRead, IsReply, IsRequestAnswered, IsUnread, refusal}
 use Rattle.answering.specs.Forwarding.{IsToForward, serve_receipt}
-use Rattle.answering.specs.Inner.Sent.{HasBegun, IsBegunOf}
+use Rattle.answering.specs.Inner.Sent.{HasBegun, IsBegunOf, IsServedToForward, IsServedToRender}
 use Rattle.answering.specs.Rendering.{IsToRender, rendering_receipt}
 use Rattle.answering.specs.Served.{GainsServe}
 use Rattle.answering.specs.declared.begun.Begun.{Begun}
@@ -29,8 +29,6 @@ use Rattle.shared_book.specs.Held.{Held}
 use Rattle.stub_response.specs.ErrorReply.{error_reply}
 use Rattle.stub_response.specs.declared.limits.Limits.{Limits}
 use Rattle.template_tree.specs.declared.escape.Escape.{Escape}
-use Rattle.answering.specs.Inner.Sent.{IsServedToForward}
-use Rattle.answering.specs.Inner.Sent.{IsServedToRender}
 
 -- it is no admin call
 abbrev pub IsRequestToRender : Past → Book → Limits → Held → Held → Request → Rendering → Type 0

@@ -1,7 +1,6 @@
 -- Two values with one JSON print alike: what a value prints as is read back from its JSON.
-use Rattle.std.proofs.Common.{◌≡◌, ℕ, zero, suc, ◌/◌, ◌%◌, ◌<◌, ◌≤◌, ℤ, pos, negsuc, Bool}
-use Rattle.std.proofs.Common.{true, false, if◌then◌else◌, ◌==◌, List, [], ◌∷◌, refl, sym, ap, ◌∙◌}
-use Rattle.std.proofs.Common.{arith, decimal}
+use Rattle.std.proofs.Common.{◌≡◌, ℕ, zero, suc, ◌/◌, ◌%◌, ◌<◌, ◌≤◌, ℤ, pos, negsuc, Bool, true, false, if◌then◌else◌}
+use Rattle.std.proofs.Common.{◌==◌, List, [], ◌∷◌, refl, sym, ap, ◌∙◌, arith, decimal}
 use Rattle.std.specs.Fmt.{digit_glyph, digits_onto, digits, signed_decimal}
 use Rattle.std.proofs.lemmas.Bool.{ne_eqb}
 use Rattle.std.specs.Option.{unwrap_or}

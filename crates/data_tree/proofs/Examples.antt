@@ -1,6 +1,5 @@
 -- Values, texts and paths that the definitions compute as the standards and the documents say.
-use Rattle.std.proofs.Common.{◌≡◌, ◌-◌, ◌^◌, pos, negsuc, false, [], ◌∷◌, length, refl, codes}
-use Rattle.std.proofs.Common.{sum_by}
+use Rattle.std.proofs.Common.{◌≡◌, ◌-◌, ◌^◌, pos, negsuc, false, [], ◌∷◌, length, refl, codes, sum_by}
 use Rattle.json.specs.Print.{escape_byte, quoted}
 use Rattle.std.specs.Fmt.{digits}
 use Rattle.std.specs.Int.Signed.{le_z_yes, lt_z_yes, clash_ℤ}

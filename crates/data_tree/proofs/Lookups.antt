@@ -1,8 +1,7 @@
 -- What a path finds: nothing, or a part that is no larger; and how paths go together.
-use Rattle.std.proofs.Common.{◌≡◌, ℕ, zero, suc, ◌+◌, ◌≤◌, Bool, true, false, IsTrue}
-use Rattle.std.proofs.Common.{if◌then◌else◌, List, [], ◌∷◌, ◌++◌, length, ap, ◌∙◌, refl, inl, inr}
-use Rattle.std.proofs.Common.{arith, length-append, codes, decimal, bytes_eq, ◌<◌, max, sum_by, slice_get, get_or}
-use Rattle.std.proofs.Common.{drop, Some, sym}
+use Rattle.std.proofs.Common.{◌≡◌, ℕ, zero, suc, ◌+◌, ◌≤◌, Bool, true, false, IsTrue, if◌then◌else◌, List, [], ◌∷◌}
+use Rattle.std.proofs.Common.{◌++◌, length, ap, ◌∙◌, refl, inl, inr, arith, length-append, codes, decimal, bytes_eq}
+use Rattle.std.proofs.Common.{◌<◌, max, sum_by, slice_get, get_or, drop, Some, sym}
 use Rattle.std.proofs.lemmas.List.{at_drop_more}
 use Rattle.json.specs.Print.{quoted}
 use Rattle.data_tree.specs.Tree.{Tree, nothing, truth, number, text, list, fields, named, Items, no_items, item}

@@ -1,7 +1,6 @@
 -- A value, level by level, beside its tree and its parts.
-use Rattle.std.proofs.Common.{◌≡◌, ℕ, zero, suc, List, [], ◌∷◌, length, map, Vec}
-use Rattle.std.proofs.Common.{String, Global, Box, string_bytes, Option, None, Some, option_map, Bor, not, nat_eq, false}
-use Rattle.std.proofs.Common.{arith, refl, sym, ap, ◌∙◌, rules}
+use Rattle.std.proofs.Common.{◌≡◌, ℕ, zero, suc, List, [], ◌∷◌, length, map, Vec, String, Global, Box, string_bytes}
+use Rattle.std.proofs.Common.{Option, None, Some, option_map, Bor, not, nat_eq, false, arith, refl, sym, ap, ◌∙◌, rules}
 use Rattle.std.specs.Option.{option_copied, option_map_or}
 use Rattle.std.specs.List.{slice_get}
 use Rattle.std.proofs.lemmas.Option.{slice_get-map}

@@ -1,9 +1,7 @@
 -- What a path of steps finds in a value.
-use Rattle.std.specs.Prelude.{ℕ, zero, suc, Bool, true, false, IsTrue, List, [], ◌∷◌, decimal}
-use Rattle.std.specs.Prelude.{if◌then◌else◌}
+use Rattle.std.specs.Prelude.{ℕ, zero, suc, Bool, true, false, IsTrue, List, [], ◌∷◌, decimal, if◌then◌else◌}
 use Rattle.std.specs.Str.{bytes_eq}
-use Rattle.data_tree.specs.Tree.{Tree, nothing, list, fields, named, Items, no_items, item, Members, no_members}
-use Rattle.data_tree.specs.Tree.{member}
+use Rattle.data_tree.specs.Tree.{Tree, nothing, list, fields, named, Items, no_items, item, Members, no_members, member}
 use Rattle.data_tree.specs.declared.step.Step.{Step}
 use Rattle.data_tree.specs.declared.step.Step.TheVariants.{Name, Index}
 

@@ -1,7 +1,6 @@
 // What holds of every value: the budgets of templates rest on these laws. They are laws over the definitions that
 // the calls of this crate cite, so the functions do nothing.
-ghost use Rattle.std.specs.Prelude.{◌≡◌, ◌≤◌, ℕ, List, [], ◌∷◌, ◌++◌, length, Some, slice_get};
-ghost use Rattle.std.specs.Prelude.{sum_by};
+ghost use Rattle.std.specs.Prelude.{◌≡◌, ◌≤◌, ℕ, List, [], ◌∷◌, ◌++◌, length, Some, slice_get, sum_by};
 ghost use Rattle.data_tree.specs.Tree.{Tree, nothing};
 ghost use Rattle.data_tree.specs.Json.{json, size};
 ghost use Rattle.data_tree.specs.Print.{print};

@@ -1,7 +1,6 @@
 -- Results print as texts of bounded length.
-use Rattle.std.proofs.Common.{◌≡◌, ℕ, pos, min, ◌+◌, ◌*◌, ◌<◌, ◌≤◌, ◌^◌, Bool, true}
-use Rattle.std.proofs.Common.{false, if◌then◌else◌, List, [], ◌∷◌, length, Some, refl, arith, length-append}
-use Rattle.std.proofs.Common.{length-take, length-drop, zero-add}
+use Rattle.std.proofs.Common.{◌≡◌, ℕ, pos, min, ◌+◌, ◌*◌, ◌<◌, ◌≤◌, ◌^◌, Bool, true, false, if◌then◌else◌, List, []}
+use Rattle.std.proofs.Common.{◌∷◌, length, Some, refl, arith, length-append, length-take, length-drop, zero-add}
 use Rattle.std.proofs.lemmas.List.{length-map, length-replicate}
 use Rattle.std.proofs.lemmas.Fmt.{length_signed_le}
 use Rattle.base64.specs.Engines.{standard}

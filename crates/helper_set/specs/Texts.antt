@@ -1,6 +1,5 @@
 -- What helpers make of texts. A text is its bytes.
-use Rattle.std.specs.Prelude.{ℕ, ◌-◌, ◌==◌, nat_eq, Bool, ◌||◌, if◌then◌else◌, List, [], ◌∷◌}
-use Rattle.std.specs.Prelude.{length, take, drop}
+use Rattle.std.specs.Prelude.{ℕ, ◌-◌, ◌==◌, nat_eq, Bool, ◌||◌, if◌then◌else◌, List, [], ◌∷◌, length, take, drop}
 use Rattle.std.specs.Char.{is_ascii_alphanumeric, is_ascii_whitespace}
 use Rattle.std.specs.List.{flat_map, prefix_len, suffix_len, starts_with}
 use Rattle.percent_encoding.specs.Percent.{percent_encode_byte}

@@ -1,7 +1,6 @@
 //! What holds of all results. These are laws over the definitions that the calls of this crate cite, so the functions
 //! do nothing.
-ghost use Rattle.std.specs.Prelude.{◌≡◌, ◌≤◌, ℕ, List, length, Some, true, false, map, is_some, IsTrue};
-ghost use Rattle.std.specs.Prelude.{◌↔◌};
+ghost use Rattle.std.specs.Prelude.{◌≡◌, ◌≤◌, ℕ, List, length, Some, true, false, map, is_some, IsTrue, ◌↔◌};
 ghost use Rattle.std.specs.Str.Iter.{HasSubslice};
 ghost use Rattle.helper_set.specs.Values.{Value, kind_of, text_of};
 ghost use Rattle.helper_set.specs.Texts.{contains};

@@ -2,8 +2,7 @@
 ghost use Rattle.std.specs.Prelude.{◌≡◌};
 ghost use Rattle.std.specs.List.{list_any};
 ghost use Rattle.helper_set.specs.Values.{same_kind};
-ghost use Rattle.helper_set.specs.Helpers.{parameter_kinds, signature_of};
-ghost use Rattle.helper_set.specs.Helpers.{one_to, two_to};
+ghost use Rattle.helper_set.specs.Helpers.{parameter_kinds, signature_of, one_to, two_to};
 
 use crate::helper::Helper;
 use crate::kind::Kind;

@@ -11,8 +11,7 @@ use Rattle.http.specs.declared.response.Response.{Response}
 use Rattle.http_connections.specs.Sent.{IsBegun as IsBegunBy}
 use Rattle.http_connections.specs.declared.begun.Begun.{Begun}
 use Rattle.http_connections.specs.declared.begun.Begun.TheVariants.{Answered, Forwarding}
-use Rattle.hyper_service.specs.Given.{IsGiven, IsKept, IsLeft, IsPassedTo, IsUnanswered, SiteRules}
-use Rattle.hyper_service.specs.Given.{IsRenderedBy}
+use Rattle.hyper_service.specs.Given.{IsGiven, IsKept, IsLeft, IsPassedTo, IsUnanswered, SiteRules, IsRenderedBy}
 use Rattle.hyper_service.specs.Inner.Begins.{Begins, IsForwardBegun, IsForwardingBy, IsRenderBegun, IsRenderingBy}
 use Rattle.hyper_service.specs.Inner.Exchange.{CanPoll, Gives}
 use Rattle.hyper_service.specs.declared.render_exchange.RenderExchange.{RenderExchange}

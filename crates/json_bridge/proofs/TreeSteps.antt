@@ -1,8 +1,7 @@
 -- The grammar's loops, a turn at a time, as trees are made straight of what they spell; and what that tree is.
 use Rattle.std.proofs.Common.{◌≡◌, ℕ, ◌-◌, ◌<◌, ◌≤◌, List, [], ◌∷◌, ◌++◌, length, Option, Some, None, option_map}
-use Rattle.std.proofs.Common.{option_and_then, String, Global, string_bytes, string_cmp, Ordering, Less, Equal}
-use Rattle.std.proofs.Common.{Greater, nat_cmp}
-use Rattle.std.proofs.Common.{Bool, true, false, cond, ◌==◌, refl, sym, ap, ◌∙◌, arith}
+use Rattle.std.proofs.Common.{option_and_then, String, Global, string_bytes, string_cmp, Ordering, Less, Equal, Greater}
+use Rattle.std.proofs.Common.{nat_cmp, Bool, true, false, cond, ◌==◌, refl, sym, ap, ◌∙◌, arith}
 use Rattle.std.proofs.lemmas.Cmp.{nat_list_cmp_total}
 use Rattle.std.specs.BTreeMap.{insert_entry}
 use Rattle.std.specs.Cmp.Lexicographic.{slice_cmp}

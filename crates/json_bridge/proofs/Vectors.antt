@@ -1,7 +1,6 @@
 -- The examples, computed.
-use Rattle.std.proofs.Common.{◌≡◌, ℕ, zero, suc, List, [], ◌∷◌, get_or, length, Option, Some, None}
-use Rattle.std.proofs.Common.{option_map, option_and_then, Bool, true, false, codes, refl, sym, ap, subst, ◌∙◌}
-use Rattle.std.proofs.Common.{arith}
+use Rattle.std.proofs.Common.{◌≡◌, ℕ, zero, suc, List, [], ◌∷◌, get_or, length, Option, Some, None, option_map}
+use Rattle.std.proofs.Common.{option_and_then, Bool, true, false, codes, refl, sym, ap, subst, ◌∙◌, arith}
 use Rattle.std.proofs.lemmas.Bool.{false≢true}
 use Rattle.std.specs.Option.{option_map_or}
 use Rattle.data_tree.specs.declared.step.Step.{Step}

@@ -1,6 +1,5 @@
 -- JSON texts with their trees, and texts with the paths that they spell.
-use Rattle.std.specs.Prelude.{◌≡◌, ℕ, ◌-◌, ◌^◌, pos, negsuc, true, List, [], ◌∷◌, Some, None}
-use Rattle.std.specs.Prelude.{codes}
+use Rattle.std.specs.Prelude.{◌≡◌, ℕ, ◌-◌, ◌^◌, pos, negsuc, true, List, [], ◌∷◌, Some, None, codes}
 use Rattle.data_tree.specs.Tree.{nothing, truth, number, text, list, fields, no_items, item, no_members, member}
 use Rattle.data_tree.specs.declared.step.Step.{Step}
 use Rattle.data_tree.specs.declared.step.Step.TheVariants.{Name, Index}

@@ -1,6 +1,5 @@
 -- The steps of the path that a text spells, as a function of the text: a law says that it is what `SpellsPath` says.
-use Rattle.std.specs.Prelude.{ℕ, zero, suc, List, [], ◌∷◌, length, Option, Some, None, option_map}
-use Rattle.std.specs.Prelude.{option_and_then}
+use Rattle.std.specs.Prelude.{ℕ, zero, suc, List, [], ◌∷◌, length, Option, Some, None, option_map, option_and_then}
 use Rattle.data_tree.specs.declared.step.Step.{Step}
 use Rattle.json_bridge.specs.Path.{dollar}
 use Rattle.json_bridge.specs.Inner.NextStep.{next_step, after_byte}

@@ -1,7 +1,6 @@
 -- The tree of a JSON text (RFC 8259): of the value that `serde_json` reads it as, nested 127 deep at most, where
 -- each of its numbers is one that `as_i64` or `as_u64` gives.
-use Rattle.std.specs.Prelude.{ℕ, ℤ, pos, List, Option, Some, IsSome, option_map}
-use Rattle.std.specs.Prelude.{option_and_then}
+use Rattle.std.specs.Prelude.{ℕ, ℤ, pos, List, Option, Some, IsSome, option_map, option_and_then}
 use Rattle.std.specs.Option.{option_or}
 use Rattle.serde_json.specs.Data as value
 use Rattle.serde_json.specs.Find.{as_i64, as_u64}

@@ -13,8 +13,7 @@ use Rattle.std.specs.Cmp.Lexicographic.{slice_cmp}
 use Rattle.std.specs.Map.{update}
 use Rattle.std.specs.Str.{bytes_eq}
 use Rattle.data_tree.specs.Tree.{Tree, nothing, truth, number, text, list, fields, named, Items, no_items, item}
-use Rattle.json_match.specs.Inner.Counts.{is_scalar, are_scalars, same, each_takes_same, once, times, counted}
-use Rattle.json_match.specs.Inner.Counts.{of_text}
+use Rattle.json_match.specs.Inner.Counts.{is_scalar, are_scalars, same, each_takes_same, once, times, counted, of_text}
 use Rattle.json_match.specs.Inner.Walk.{is_equal, each_takes_one}
 use Rattle.json_match.specs.Matching.{without_first, truth_eq}
 use Rattle.json_match.specs.declared.compare.Flags.{Flags}

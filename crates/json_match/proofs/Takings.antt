@@ -1,7 +1,6 @@
 -- The first item that passes a test, among those that aren't taken.
-use Rattle.std.proofs.Common.{◌≡◌, ℕ, zero, suc, ◌+◌, ◌<◌, Bool, true, false, List, [], ◌∷◌}
-use Rattle.std.proofs.Common.{length, set, Option, Some, None, option_map, MatchOption, replicate, if◌then◌else◌}
-use Rattle.std.proofs.Common.{refl, sym, ap, subst, ◌∙◌, arith}
+use Rattle.std.proofs.Common.{◌≡◌, ℕ, zero, suc, ◌+◌, ◌<◌, Bool, true, false, List, [], ◌∷◌, length, set, Option, Some}
+use Rattle.std.proofs.Common.{None, option_map, MatchOption, replicate, if◌then◌else◌, refl, sym, ap, subst, ◌∙◌, arith}
 use Rattle.data_tree.specs.Parts.{trees_of}
 use Rattle.data_tree.specs.Tree.{Tree, Items, no_items, item}
 use Rattle.json_match.specs.Inner.Taken.{first_left}

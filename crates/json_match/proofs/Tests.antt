@@ -1,6 +1,5 @@
 -- What a matcher's test answers is what the matcher means.
-use Rattle.std.proofs.Common.{◌≡◌, ◌↔◌, Bool, List, IfOk, IsSomeAnd, IsTrue, Result, Ok, Err, sym, ap}
-use Rattle.std.proofs.Common.{subst, ◌∙◌}
+use Rattle.std.proofs.Common.{◌≡◌, ◌↔◌, Bool, List, IfOk, IsSomeAnd, IsTrue, Result, Ok, Err, sym, ap, subst, ◌∙◌}
 use Rattle.std.specs.declared.alloc.AllocError.{AllocError}
 use Rattle.data_tree.specs.LookUp.{at}
 use Rattle.data_tree.specs.Tree.{Tree, view}

@@ -1,7 +1,6 @@
 -- Going once over the members of two well formed objects compares them as `is_equal` does.
-use Rattle.std.proofs.Common.{◌≡◌, ◌&&◌, ◌||◌, Bool, true, false, List, ◌∷◌, ℕ, Option, Some}
-use Rattle.std.proofs.Common.{None, option_map, IfSome, if◌then◌else◌, refl, sym, ap, subst, ◌∙◌, nat_cmp}
-use Rattle.std.proofs.Common.{Less, Equal, Greater, Ordering}
+use Rattle.std.proofs.Common.{◌≡◌, ◌&&◌, ◌||◌, Bool, true, false, List, ◌∷◌, ℕ, Option, Some, None, option_map, IfSome}
+use Rattle.std.proofs.Common.{if◌then◌else◌, refl, sym, ap, subst, ◌∙◌, nat_cmp, Less, Equal, Greater, Ordering}
 use Rattle.std.proofs.Math.Bool.{and-false, and_assoc}
 use Rattle.std.proofs.lemmas.Cmp.{nat_list_cmp_total}
 use Rattle.std.proofs.lemmas.Map.Text.{is_eq-slice_cmp}

@@ -3,8 +3,7 @@
 ghost use Rattle.std.specs.Prelude.{◌≡◌, IfOk, vec_len};
 ghost use Rattle.data_tree.specs.Tree.{view, items_view, members_view};
 ghost use Rattle.json_match.specs.Inner.Taken.{first_left};
-ghost use Rattle.json_match.specs.Inner.Walk.{is_equal, are_equal, each_takes_one, are_equal_in_any_order};
-ghost use Rattle.json_match.specs.Inner.Walk.{have_equal};
+ghost use Rattle.json_match.specs.Inner.Walk.{is_equal, are_equal, each_takes_one, are_equal_in_any_order, have_equal};
 
 use crate::counts::{are_scalars, each_takes_same};
 use crate::find::member_at;

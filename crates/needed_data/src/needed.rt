@@ -4,9 +4,8 @@ ghost use Rattle.std.specs.List.{list_any};
 ghost use Rattle.std.specs.Str.{bytes_eq};
 ghost use Rattle.data_tree.specs.declared.step.Step.TheVariants.{Name};
 ghost use Rattle.needed_data.specs.Needed.{is_json_needed, is_json_field_needed, is_needed, nothing};
-ghost use Rattle.data_tree.specs.RootPaths.{json_path};
+ghost use Rattle.data_tree.specs.RootPaths.{json_path, field_path};
 ghost use Rattle.needed_data.specs.Needed.{json_field_path, Includes, Covers};
-ghost use Rattle.data_tree.specs.RootPaths.{field_path};
 
 use arrayvec::ArrayVec;
 use data_tree::step::Step;

@@ -19,10 +19,9 @@ use Rattle.std.proofs.lemmas.Slice.Eq.{bytes_eq-Decides}
 use Rattle.data_tree.specs.Tree.{Tree, text, item, items_of, members_of}
 use Rattle.data_tree.specs.Parts.{names_of}
 use Rattle.data_tree.specs.WellFormed.{IsAscending, IsWellFormed, AreWellFormed, HaveWellFormedValues}
-use Rattle.mock_request.specs.Values.{values_of}
+use Rattle.mock_request.specs.Values.{values_of, pairs_of}
 use Rattle.request_data.specs.Grouped.{texts, with_name, names_in, members_under, values_tree, grouped, first_text}
 use Rattle.request_data.specs.Grouped.{firsts}
-use Rattle.mock_request.specs.Values.{pairs_of}
 
 abbrev pub byte_order : List ℕ → List ℕ → Ordering
 byte_order = slice_cmp nat_cmp

@@ -22,8 +22,7 @@ use Rattle.mock_request.specs.Request.{Request}
 use Rattle.json_bridge.specs.Part.{is_kept, part}
 use Rattle.json_bridge.proofs.KeptSteps.{part_finds, part_no_longer}
 use Rattle.needed_data.specs.Needed.{NeededData, AreAlike, is_json_needed, is_needed, json_field_path}
-use Rattle.data_tree.specs.RootPaths.{json_path}
-use Rattle.data_tree.specs.RootPaths.{field_path}
+use Rattle.data_tree.specs.RootPaths.{json_path, field_path}
 use Rattle.request_data.specs.Part.{is_some, is_json_part_needed, json_part, kept, request_part, part_tree}
 use Rattle.request_data.specs.Inner.Views.{kept_of}
 use Rattle.request_data.specs.RequestTree.{json_tree, request_fields, request_tree}

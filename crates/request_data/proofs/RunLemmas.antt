@@ -1,11 +1,10 @@
 -- Names whose values follow each other, as pairs.
 use Rattle.std.proofs.Common.{◌≡◌, ℕ, Bool, true, false, ◌||◌, cond, List, [], ◌∷◌, ◌++◌, map, String, Global}
-use Rattle.std.proofs.Common.{string_bytes, refl, ap, sym, ◌∙◌, append-nil, append_assoc, ◌<◌, length, arith}
-use Rattle.std.proofs.Common.{is_some}
+use Rattle.std.proofs.Common.{string_bytes, refl, ap, sym, ◌∙◌, append-nil, append_assoc, ◌<◌, length, arith, is_some}
 use Rattle.std.specs.Option.{option_map_or}
 use Rattle.std.specs.Ordering.{is_eq}
 use Rattle.std.specs.declared.cmp.Ordering.TheVariants.{Less}
-use Rattle.std.specs.List.{AllByRecursion}
+use Rattle.std.specs.List.{AllByRecursion, filter, list_any}
 use Rattle.std.specs.List.Sorted.{IsStrictlySortedBy}
 use Rattle.std.specs.Map.{keys_of}
 use Rattle.std.specs.String.{string_cmp}
@@ -15,7 +14,6 @@ use Rattle.std.proofs.lemmas.Slice.Eq.{bytes_eq-Decides}
 use Rattle.data_tree.specs.Tree.{members_of}
 use Rattle.request_data.specs.Grouped.{members_under, names_in, values_tree}
 use Rattle.request_data.proofs.GroupLemmas.{entry_tree, found, grouped_entries}
-use Rattle.std.specs.List.{filter, list_any}
 use Rattle.std.specs.Str.{bytes_eq}
 use Rattle.std.proofs.lemmas.Grind.{flat_map-append}
 use Rattle.std.proofs.lemmas.List.{map-append}

@@ -1,7 +1,6 @@
 -- How large the data of a request is at most.
-use Rattle.std.proofs.Common.{◌≡◌, ℕ, ◌+◌, ◌-◌, ◌*◌, ◌≤◌, Bool, true, false, List, []}
-use Rattle.std.proofs.Common.{◌∷◌, ◌++◌, length, refl, arith, Option, None, Some, pos, drop}
-use Rattle.std.proofs.Common.{not, codes}
+use Rattle.std.proofs.Common.{◌≡◌, ℕ, ◌+◌, ◌-◌, ◌*◌, ◌≤◌, Bool, true, false, List, [], ◌∷◌, ◌++◌, length, refl, arith}
+use Rattle.std.proofs.Common.{Option, None, Some, pos, drop, not, codes}
 use Rattle.std.specs.Prelude.{unwrap_or}
 use Rattle.std.specs.List.{sum_by, list_any, position_or_len, suffix_len, before_last}
 use Rattle.std.specs.Str.{bytes_eq}
@@ -29,8 +28,7 @@ use Rattle.request_data.specs.Grouped.{grouped}
 use Rattle.request_data.specs.Inner.Lengths.{header_weight, template_len}
 use Rattle.request_data.specs.RequestTree.{bound_in, json_tree, path_tree, request_fields, request_tree}
 use Rattle.request_data.proofs.TreeLemmas.{members_from}
-use Rattle.request_data.proofs.TextBounds.{quoted_most, first_member, member_most, lossy_most}
-use Rattle.request_data.proofs.TextBounds.{quoted_len}
+use Rattle.request_data.proofs.TextBounds.{quoted_most, first_member, member_most, lossy_most, quoted_len}
 use Rattle.request_data.proofs.GroupBounds.{pair_cost, grouped_most}
 use Rattle.request_data.proofs.CookieBounds.{cookie_len, cookies_most}
 use Rattle.std.proofs.lemmas.Cmp.{nat_list_eq_equiv}

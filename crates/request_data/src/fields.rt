@@ -1,6 +1,5 @@
 // The fields of a request's data. Each is made only where its name is needed.
-ghost use Rattle.std.specs.Prelude.{◌≡◌, [], ◌∷◌, ◌++◌, OnOk, IfSome, pos, codes, string_bytes};
-ghost use Rattle.std.specs.Prelude.{option_copied};
+ghost use Rattle.std.specs.Prelude.{◌≡◌, [], ◌∷◌, ◌++◌, OnOk, IfSome, pos, codes, string_bytes, option_copied};
 ghost use Rattle.std.specs.Str.Lossy.{utf8_lossy};
 ghost use Rattle.data_tree.specs.Tree.{number, text, no_members};
 ghost use Rattle.mock_request.specs.Cookies.{cookie_pairs};

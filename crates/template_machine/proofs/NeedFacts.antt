@@ -1,6 +1,6 @@
 -- What is added instruction by instruction is all that the code finds.
-use Rattle.std.proofs.Common.{◌≡◌, ℕ, ◌+◌, ◌<◌, ◌≤◌, ◌⊎◌, inl, inr, List, ◌∷◌, length, ap, sym}
-use Rattle.std.proofs.Common.{◌∙◌, subst, arith, get_or}
+use Rattle.std.proofs.Common.{◌≡◌, ℕ, ◌+◌, ◌<◌, ◌≤◌, ◌⊎◌, inl, inr, List, ◌∷◌, length, ap, sym, ◌∙◌, subst, arith}
+use Rattle.std.proofs.Common.{get_or, Some}
 use Rattle.std.specs.Prelude.{slice_get, codes}
 use Rattle.std.specs.Option.{option_map_or}
 use Rattle.std.proofs.lemmas.Bool.{cases_lt}
@@ -20,7 +20,6 @@ use Rattle.template_code.specs.Machine.{found_by}
 use Rattle.template_code.specs.declared.instr.Instr.{Instr}
 use Rattle.template_code.specs.declared.instr.Instr.TheVariants.{Emit, Call}
 use Rattle.template_machine.specs.Inner.Needs.{CoversInstr, CoversCode}
-use Rattle.std.proofs.Common.{Some}
 
 -- in what that many instructions at the start find
 abbrev pub CoversFirst : ℕ → NeededData → StackCode → Type 0

@@ -18,12 +18,10 @@ use Rattle.template_words.specs.declared.error.TagError.TheVariants.{BadPath, Un
 use Rattle.template_words.specs.declared.reference.Reference.{Reference}
 use Rattle.template_words.specs.Bytes.{dot, open_bracket, close_bracket}
 use Rattle.template_words.specs.Marks.{begins, offset_of}
-use Rattle.template_words.specs.Paths.{is_name_byte, is_name, step_of_index, step_named}
-use Rattle.template_words.specs.Inner.PathReads.{bracketed_step}
-use Rattle.template_words.specs.Paths.{onto_first, next_in_bracket, is_separator, dotted_parts}
-use Rattle.template_words.specs.Inner.PathReads.{step_of, all_steps}
-use Rattle.template_words.specs.Paths.{is_reserved, reference_at, unreserved}
-use Rattle.template_words.specs.Inner.PathReads.{reference_below, reference_from, reference_of}
+use Rattle.template_words.specs.Paths.{is_name_byte, is_name, step_of_index, step_named, onto_first, next_in_bracket}
+use Rattle.template_words.specs.Paths.{is_separator, dotted_parts, is_reserved, reference_at, unreserved}
+use Rattle.template_words.specs.Inner.PathReads.{bracketed_step, step_of, all_steps, reference_below, reference_from}
+use Rattle.template_words.specs.Inner.PathReads.{reference_of}
 use Rattle.template_words.specs.Reading.{◌>>=◌}
 use Rattle.template_words.specs.Words.{enclosed, closed_at_end}
 use Rattle.template_words.specs.Spelled.{IsWritten, SpellsStep, SpellsSteps, climbs, SpellsPath, IsReadOf}

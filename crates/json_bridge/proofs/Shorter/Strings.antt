@@ -1,8 +1,7 @@
 -- A string between quotes, as it is written, is no longer than the text that it was read from.
 use Rattle.std.proofs.Common.{◌≡◌, ℕ, ◌+◌, ◌/◌, ◌%◌, ◌≤◌, Bool, true, false, cond, ◌&&◌, ◌||◌, ◌==◌, nat_lt, List, []}
-use Rattle.std.proofs.Common.{◌∷◌, ◌++◌, inl, inr}
-use Rattle.std.proofs.Common.{length, Option, Some, None, option_and_then, refl, sym, ap, ◌∙◌, subst, arith}
-use Rattle.std.proofs.Common.{length-append}
+use Rattle.std.proofs.Common.{◌∷◌, ◌++◌, inl, inr, length, Option, Some, None, option_and_then, refl, sym, ap, ◌∙◌}
+use Rattle.std.proofs.Common.{subst, arith, length-append}
 use Rattle.std.proofs.lemmas.Bool.{false≢true, eqb-true, eqb-false, ltb-false, and_parts, or_cases}
 use Rattle.std.specs.Prelude.{⊤}
 use Rattle.std.specs.Char.{is_digit, encode_utf8}

@@ -7,8 +7,7 @@ use Rattle.json.specs.Lex.{Place, fresh, after_value, after_comma, after_key, be
 use Rattle.json.specs.Align.{is_good}
 use Rattle.json.specs.Print.{quoted, token_text, ends, separator}
 use Rattle.json.specs.Json.{Json, null, boolean, number, string, array, object, Items, no_items, item, Members}
-use Rattle.json.specs.Json.{no_members}
-use Rattle.json.specs.Json.{member, value}
+use Rattle.json.specs.Json.{no_members, member, value}
 use Rattle.json.specs.Tree.{json_tokens, items_tokens, members_tokens}
 use Rattle.json.proofs.Unique.Spelling.{value-json_tokens_back}
 use Rattle.json_bridge.proofs.Shorter.Lexemes.{spent, lexed_is_no_longer}

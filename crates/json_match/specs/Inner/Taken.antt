@@ -1,6 +1,5 @@
 -- For private clauses: items of which some are taken.
-use Rattle.std.specs.Prelude.{ℕ, ◌+◌, Bool, true, false, List, [], ◌∷◌, Option, Some, None}
-use Rattle.std.specs.Prelude.{if◌then◌else◌}
+use Rattle.std.specs.Prelude.{ℕ, ◌+◌, Bool, true, false, List, [], ◌∷◌, Option, Some, None, if◌then◌else◌}
 use Rattle.data_tree.specs.Tree.{Tree, Items, no_items, item}
 
 -- the index of the first that isn't taken and passes the test, where the first of all has that index

@@ -1,6 +1,5 @@
 -- The arguments that the parser is given for those of the command line, for private contracts.
-use Rattle.std.specs.Prelude.{ℕ, Bool, false, not, ◌||◌, if◌then◌else◌, List, [], ◌∷◌, ◌++◌}
-use Rattle.std.specs.Prelude.{codes}
+use Rattle.std.specs.Prelude.{ℕ, Bool, false, not, ◌||◌, if◌then◌else◌, List, [], ◌∷◌, ◌++◌, codes}
 use Rattle.std.specs.Str.{bytes_eq}
 use Rattle.template_tree.specs.declared.escape.Escape.{Escape}
 use Rattle.template_tree.specs.declared.escape.Escape.TheVariants.{Off, Html}

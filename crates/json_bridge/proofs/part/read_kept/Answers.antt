@@ -1,5 +1,4 @@
-use Rattle.std.proofs.Common.{◌≡◌, ◌-◌, true, false, length, map, Some, string_bytes, sym, ap, refl, ◌∙◌}
-use Rattle.std.proofs.Common.{arith, rules}
+use Rattle.std.proofs.Common.{◌≡◌, ◌-◌, true, false, length, map, Some, string_bytes, sym, ap, refl, ◌∙◌, arith, rules}
 use Rattle.json.specs.Json.{read_key, value}
 use Rattle.json.proofs.Grammar.{read_key-shorter, members_no_key, members_fail}
 use Rattle.data_tree.specs.Tree.{no_members, view}

@@ -1,5 +1,4 @@
-use Rattle.std.proofs.Common.{◌≡◌, [], ◌∷◌, length, ap, refl, ◌∙◌, arith, rules}
-use Rattle.std.proofs.Common.{to_z, of_z, to_z-of_z}
+use Rattle.std.proofs.Common.{◌≡◌, [], ◌∷◌, length, ap, refl, ◌∙◌, arith, rules, to_z, of_z, to_z-of_z}
 use Rattle.std.specs.Int.{w128}
 use Rattle.json.specs.Token.{Token}
 use Rattle.json.specs.Json.{parse_map, array, object, items, members, value}

@@ -1,5 +1,4 @@
-use Rattle.std.proofs.Common.{◌≡◌, ◌<◌, [], IfOk, length, string_bytes, ◌∙◌, sym, subst, ap, codes}
-use Rattle.std.proofs.Common.{arith, refl}
+use Rattle.std.proofs.Common.{◌≡◌, ◌<◌, [], IfOk, length, string_bytes, ◌∙◌, sym, subst, ap, codes, arith, refl}
 use Rattle.std.proofs.lemmas.List.{take_all}
 use Rattle.std.proofs.lemmas.Option.{slice_get-get_or}
 use Rattle.mock_request.specs.Request.{Header}

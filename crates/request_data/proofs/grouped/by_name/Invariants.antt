@@ -3,8 +3,7 @@ use Rattle.std.specs.BTreeMap.{get_by_text}
 use Rattle.std.specs.List.{list_any}
 use Rattle.std.specs.Option.{option_map_or}
 use Rattle.std.specs.Str.{bytes_eq}
-use Rattle.mock_request.specs.Values.{values_of}
-use Rattle.mock_request.specs.Values.{pairs_of}
+use Rattle.mock_request.specs.Values.{values_of, pairs_of}
 use Rattle.request_data.proofs.grouped.by_name.Given as goal
 
 abbrev pub invariant-loop-name : goal.invariant-loop-name
