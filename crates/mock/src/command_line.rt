@@ -12,7 +12,7 @@ ghost use Rattle.mock.specs.Inner.Arguments.{ask_for_own, ask_to_help};
 use crate::arguments::{ServeArguments, ServerCall, call_of};
 use crate::page::page_in;
 use crate::record::record as record_until;
-use crate::serve::{Plan, serve};
+use crate::serve::{Plan, out_of_memory, serve};
 use crate::system::System;
 use crate::watch::Watch;
 use clap::Error;
@@ -188,7 +188,7 @@ where
 {
     match words_of(rt.alloc(), arguments) {
         Ok(words) => run_words(rt, words.as_slice(), out, err, log, input),
-        Err(_error) => report_memory(err),
+        Err(_error) => out_of_memory(err),
     }
 }
 
@@ -259,13 +259,6 @@ where
         }
         Err(status) => status,
     }
-}
-
-fn report_memory<E: Write>(err: &mut E) -> u8
-    ensures { result ≤ 2 }
-{
-    CommandError::from(ErrorCode::OutOfMemory).report(err);
-    FAILURE
 }
 
 // As `clap` says it of other values.

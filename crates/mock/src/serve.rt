@@ -397,7 +397,8 @@ where
     Ok(SiteAnswers::new(site, forwarder, renderer, log, journal))
 }
 
-fn out_of_memory<E: Write>(err: &mut E) -> u8
+/// Reports it, and gives the exit status.
+pub(crate) fn out_of_memory<E: Write>(err: &mut E) -> u8
     ensures { result ≡ FAILURE }
 {
     CommandError::from(ErrorCode::OutOfMemory).report(err);
