@@ -247,7 +247,12 @@ fn save_command<'a>(alloc: Global) -> Result<Command<'a>, AllocError> {
     Command::new(alloc, "save")
         .about("Writes the mappings of a running server to a file")
         .after_help(SAVE_HELP)
-        .arg(required(alloc, "server", "SERVER", "Where the server listens, as 127.0.0.1:8080"))?
+        .arg(required(
+            alloc,
+            "server",
+            "SERVER",
+            "Where the server listens, as 127.0.0.1:8080",
+        ))?
         .arg(required(alloc, "file", "FILE", "The file to write"))
 }
 
@@ -318,9 +323,14 @@ fn captured_header<'a>(alloc: Global) -> Arg<'a> {
 }
 
 fn port<'a>(alloc: Global) -> Arg<'a> {
-    option(alloc, "port", "PORT", "The port to listen on; 0 for a free one")
-        .required(true)
-        .value_parser(value_parser!(u16))
+    option(
+        alloc,
+        "port",
+        "PORT",
+        "The port to listen on; 0 for a free one",
+    )
+    .required(true)
+    .value_parser(value_parser!(u16))
 }
 
 fn max_connections<'a>(alloc: Global) -> Arg<'a> {
@@ -354,7 +364,11 @@ fn skip_refused<'a>(alloc: Global) -> Arg<'a> {
 }
 
 fn verbose<'a>(alloc: Global) -> Arg<'a> {
-    flag(alloc, "verbose", "Writes a line to standard error for each request")
+    flag(
+        alloc,
+        "verbose",
+        "Writes a line to standard error for each request",
+    )
 }
 
 fn connections<'a>(alloc: Global) -> Arg<'a> {
@@ -363,15 +377,24 @@ fn connections<'a>(alloc: Global) -> Arg<'a> {
 
 // An argument that has to be given, in its place.
 fn required<'a>(alloc: Global, id: &'a str, value: &'a str, help: &'a str) -> Arg<'a> {
-    Arg::new(alloc, id).value_name(value).help(help).required(true)
+    Arg::new(alloc, id)
+        .value_name(value)
+        .help(help)
+        .required(true)
 }
 
 // An option with a value.
 fn option<'a>(alloc: Global, name: &'a str, value: &'a str, help: &'a str) -> Arg<'a> {
-    Arg::new(alloc, name).long(name).value_name(value).help(help)
+    Arg::new(alloc, name)
+        .long(name)
+        .value_name(value)
+        .help(help)
 }
 
 // An option without one.
 fn flag<'a>(alloc: Global, name: &'a str, help: &'a str) -> Arg<'a> {
-    Arg::new(alloc, name).long(name).help(help).action(ArgAction::SetTrue)
+    Arg::new(alloc, name)
+        .long(name)
+        .help(help)
+        .action(ArgAction::SetTrue)
 }
