@@ -244,15 +244,11 @@ fn command<'a>(alloc: Global) -> Result<Command<'a>, AllocError> {
 }
 
 fn save_command<'a>(alloc: Global) -> Result<Command<'a>, AllocError> {
+    let server = "Where the server listens, as 127.0.0.1:8080";
     Command::new(alloc, "save")
         .about("Writes the mappings of a running server to a file")
         .after_help(SAVE_HELP)
-        .arg(required(
-            alloc,
-            "server",
-            "SERVER",
-            "Where the server listens, as 127.0.0.1:8080",
-        ))?
+        .arg(required(alloc, "server", "SERVER", server))?
         .arg(required(alloc, "file", "FILE", "The file to write"))
 }
 
@@ -323,14 +319,10 @@ fn captured_header<'a>(alloc: Global) -> Arg<'a> {
 }
 
 fn port<'a>(alloc: Global) -> Arg<'a> {
-    option(
-        alloc,
-        "port",
-        "PORT",
-        "The port to listen on; 0 for a free one",
-    )
-    .required(true)
-    .value_parser(value_parser!(u16))
+    let help = "The port to listen on; 0 for a free one";
+    option(alloc, "port", "PORT", help)
+        .required(true)
+        .value_parser(value_parser!(u16))
 }
 
 fn max_connections<'a>(alloc: Global) -> Arg<'a> {
@@ -364,11 +356,8 @@ fn skip_refused<'a>(alloc: Global) -> Arg<'a> {
 }
 
 fn verbose<'a>(alloc: Global) -> Arg<'a> {
-    flag(
-        alloc,
-        "verbose",
-        "Writes a line to standard error for each request",
-    )
+    let help = "Writes a line to standard error for each request";
+    flag(alloc, "verbose", help)
 }
 
 fn connections<'a>(alloc: Global) -> Arg<'a> {
