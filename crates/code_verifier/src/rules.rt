@@ -1,7 +1,6 @@
 //! The rules up to V12, judged at one instruction from what is known of its stack, of the loops round it and of the
 //! jumps before it.
-ghost use Rattle.std.specs.Prelude.{◌≡◌, suc, ◌<◌, nat_eq, nat_lt, not, ◌&&◌, false, [], ◌∷◌};
-ghost use Rattle.std.specs.Prelude.{length, drop};
+ghost use Rattle.std.specs.Prelude.{◌≡◌, suc, ◌<◌, nat_eq, nat_lt, not, ◌&&◌, false, [], ◌∷◌, length, drop};
 ghost use Rattle.helper_set.specs.Helpers.{parameter_kinds};
 ghost use Rattle.template_code.specs.Instructions.{flow, target_of, is_misplaced, loop_named, pops, pushes};
 ghost use Rattle.template_code.specs.Instructions.{slots_after};

@@ -12,6 +12,7 @@ mod serve;
 mod server_log;
 mod serving_threads;
 mod streams;
+mod system;
 mod watch;
 
 use command_line::run;

@@ -52,9 +52,7 @@ impl<L: Origin> ServerLog<L> {
             _ => None,
         }
     }
-}
 
-impl<L: Origin> ServerLog<L> {
     // What there is to tell of a recording, if the event has stopped one.
     fn tell_stopped<R: Wait>(
         &self,

@@ -1,7 +1,6 @@
 // Connections that don't come back to the server that makes them.
 ghost use Rattle.std.specs.Prelude.{◌≡◌, true, false};
 ghost use Rattle.std.specs.declared.net.socket_addr.SocketAddr.{SocketAddr};
-ghost use Rattle.futures.specs.Poll.{IfReady, OnPending};
 ghost use Rattle.proxy_client.specs.Own.{AreOwnEnds, AreOtherEnds};
 
 use futures::task::{Context, Poll};

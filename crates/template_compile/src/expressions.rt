@@ -1,8 +1,7 @@
 //! From a tree to code: the values that are pushed.
 ghost use Rattle.std.specs.Prelude.{◌≡◌, IfOk, OnOk};
-ghost use Rattle.template_compile.specs.Compiled.{instructions, nothing_path, datum_code, expression_code};
+ghost use Rattle.template_compile.specs.Compiled.{instructions, nothing_path, datum_code, expression_code, code_for};
 ghost use Rattle.data_tree.specs.RootPaths.{body_path};
-ghost use Rattle.template_compile.specs.Compiled.{code_for};
 ghost use Rattle.template_compile.specs.Inner.Drafts.{extended_by};
 ghost use Rattle.template_compile.specs.Kinds.{conversion};
 ghost use Rattle.template_tags.specs.Expression.{expression_view};

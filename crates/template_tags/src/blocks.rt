@@ -1,14 +1,11 @@
 // What the tags of blocks say.
 ghost use Rattle.std.specs.Prelude.{◌≡◌, ◌<◌, ◌^◌, not, is_some, length, map, reverse, IfOk};
 ghost use Rattle.template_tags.specs.Blocks.{parameter_in, loop_items, is_word, are_last_names, are_names, has_names};
-ghost use Rattle.template_tags.specs.Blocks.{has_parameters};
+ghost use Rattle.template_tags.specs.Blocks.{has_parameters, is_reserved_name, is_innermost};
 ghost use Rattle.template_tags.specs.Inner.BlockReads.{only_one, block_argument, block_error, loop_error, test_said};
-ghost use Rattle.template_tags.specs.Inner.BlockReads.{data_only};
-ghost use Rattle.template_tags.specs.Blocks.{is_reserved_name};
-ghost use Rattle.template_tags.specs.Inner.BlockReads.{if_read, each_read, loop_said, each_said, opening_said};
-ghost use Rattle.template_tags.specs.Inner.BlockReads.{first_else, extra_error, else_said};
-ghost use Rattle.template_tags.specs.Blocks.{is_innermost};
-ghost use Rattle.template_tags.specs.Inner.BlockReads.{all_errors, closing_said};
+ghost use Rattle.template_tags.specs.Inner.BlockReads.{data_only, if_read, each_read, loop_said, each_said};
+ghost use Rattle.template_tags.specs.Inner.BlockReads.{opening_said, first_else, extra_error, else_said, all_errors};
+ghost use Rattle.template_tags.specs.Inner.BlockReads.{closing_said};
 ghost use Rattle.template_tags.specs.Inner.CallReads.{error_if};
 ghost use Rattle.template_tags.specs.Inner.Pieces.{block_parts, extra_parts_error, all_parts_error};
 ghost use Rattle.template_tags.specs.Inner.Scan.{item_view, item_is, with_items, loop_view};

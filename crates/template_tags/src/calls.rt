@@ -2,11 +2,9 @@
 ghost use Rattle.std.specs.Prelude.{◌≡◌, ◌<◌, ◌^◌, Ok, is_some, length, map, reverse, IfOk};
 ghost use Rattle.json_bridge.specs.PathFound.{path_of};
 ghost use Rattle.template_tags.specs.Inner.CallReads.{beside, error_if, error_in, errors_in, one_value, pair_call};
-ghost use Rattle.template_tags.specs.Inner.CallReads.{two_values};
+ghost use Rattle.template_tags.specs.Inner.CallReads.{two_values, is_body, literal_in, body_call, json_path_call};
+ghost use Rattle.template_tags.specs.Inner.CallReads.{called, call_of, head_word, limited};
 ghost use Rattle.template_tags.specs.Calls.{is_body_path};
-ghost use Rattle.template_tags.specs.Inner.CallReads.{is_body};
-ghost use Rattle.template_tags.specs.Inner.CallReads.{literal_in, body_call, json_path_call, called, call_of};
-ghost use Rattle.template_tags.specs.Inner.CallReads.{head_word, limited};
 ghost use Rattle.template_tags.specs.Expression.{datum};
 ghost use Rattle.template_tags.specs.Inner.Pieces.{piece_argument, piece_arguments, piece_helper, piece_call};
 ghost use Rattle.template_tags.specs.Inner.Views.{read_view, word_view, piece_view, pieces_view};

@@ -4,10 +4,8 @@ ghost use Rattle.template_tags.specs.Inner.Pieces.{lone_piece, value_pieces, pri
 ghost use Rattle.template_tags.specs.Inner.Scan.{item_view};
 ghost use Rattle.template_tags.specs.Inner.Views.{read_view, piece_view, pieces_view, parts_view, said_view};
 ghost use Rattle.template_tags.specs.Items.{word};
-ghost use Rattle.template_tags.specs.Said.{has_foreign_mark};
-ghost use Rattle.template_tags.specs.Inner.TagReads.{print_read, print_said, is_marked, word_said};
-ghost use Rattle.template_tags.specs.Inner.TagReads.{tag_read};
-ghost use Rattle.template_tags.specs.Said.{tag_said};
+ghost use Rattle.template_tags.specs.Said.{has_foreign_mark, tag_said};
+ghost use Rattle.template_tags.specs.Inner.TagReads.{print_read, print_said, is_marked, word_said, tag_read};
 ghost use Rattle.template_tags.specs.Inner.TagReads.{items_said, space_error};
 ghost use Rattle.template_tags.specs.Tags.{tag_view};
 ghost use Rattle.template_words.specs.Reading.{Gives};

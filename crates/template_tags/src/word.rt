@@ -2,8 +2,7 @@
 ghost use Rattle.std.specs.Prelude.{◌≡◌, ◌<◌, ◌^◌, length, reverse, option_map, IfOk};
 ghost use Rattle.template_tags.specs.Words.{loop_word_of, helper_named, literal_of, known_word, other_word, word_of};
 ghost use Rattle.template_tags.specs.Words.{steps_in, found_datum, datum_of, loop_value};
-ghost use Rattle.template_tags.specs.Inner.WordReads.{word_value, argument_word};
-ghost use Rattle.template_tags.specs.Inner.WordReads.{lone_value};
+ghost use Rattle.template_tags.specs.Inner.WordReads.{word_value, argument_word, lone_value};
 ghost use Rattle.template_tags.specs.Expression.{expression_view};
 ghost use Rattle.template_tags.specs.Inner.Views.{word_view, read_view};
 ghost use Rattle.template_words.specs.Paths.{rest_of_steps};

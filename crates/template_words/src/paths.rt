@@ -4,13 +4,9 @@ ghost use Rattle.std.specs.Prelude.{slice_index, MatchOption, IfSome, IfNone};
 ghost use Rattle.std.specs.List.{list_all};
 ghost use Rattle.template_words.specs.Bytes.{dot};
 ghost use Rattle.template_words.specs.Paths.{is_name_byte, is_name, step_named, next_in_bracket, is_separator};
-ghost use Rattle.template_words.specs.Inner.PathReads.{step_of};
-ghost use Rattle.template_words.specs.Paths.{dotted_parts, is_step, begins_with_step};
-ghost use Rattle.template_words.specs.Inner.PathReads.{all_steps};
-ghost use Rattle.template_words.specs.Paths.{rest_of_steps, is_reserved};
-ghost use Rattle.template_words.specs.Paths.{in_lower_case, names_header, header_in_lower_case};
-ghost use Rattle.template_words.specs.Paths.{reference_at};
-ghost use Rattle.template_words.specs.Inner.PathReads.{reference_below, reference_of};
+ghost use Rattle.template_words.specs.Paths.{dotted_parts, is_step, begins_with_step, rest_of_steps, is_reserved};
+ghost use Rattle.template_words.specs.Paths.{in_lower_case, names_header, header_in_lower_case, reference_at};
+ghost use Rattle.template_words.specs.Inner.PathReads.{step_of, all_steps, reference_below, reference_of};
 ghost use Rattle.template_words.specs.Reading.{Gives};
 
 use crate::error::{ReadError, TagError};
