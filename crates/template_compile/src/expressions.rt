@@ -8,7 +8,6 @@ ghost use Rattle.template_tags.specs.Expression.{expression_view};
 
 use crate::draft::Draft;
 use crate::kinds::{conversion, expression_kind, second_parameter};
-use data_tree::plain_text::PlainText;
 use data_tree::step::{Path, Step};
 use helper_set::helper::Helper;
 use helper_set::kind::Kind;
@@ -99,15 +98,14 @@ pub fn add_datum(draft: &mut Draft, alloc: Global, datum: Datum) -> Result<(), A
 fn nothing_path(alloc: Global) -> Result<Path, AllocError>
     ensures { IfOk result (λ path. path ≡ nothing_path) }
 {
-    let name = Step::Name(PlainText::new(String::new(alloc)));
-    Ok(Path::new(vec![in alloc; name]?))
+    Ok(Path::new(vec![in alloc; Step::named(alloc, "")?]?))
 }
 
 // `request.body`, the first argument of `jsonPath`.
 fn body_path(alloc: Global) -> Result<Path, AllocError>
     ensures { IfOk result (λ path. path ≡ body_path) }
 {
-    let request = Step::Name(PlainText::new(String::from_str(alloc, "request")?));
-    let body = Step::Name(PlainText::new(String::from_str(alloc, "body")?));
+    let request = Step::named(alloc, "request")?;
+    let body = Step::named(alloc, "body")?;
     Ok(Path::new(vec![in alloc; request, body]?))
 }

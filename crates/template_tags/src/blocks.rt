@@ -21,7 +21,7 @@ use crate::items::Item;
 use crate::level::{BLOCK_LIMIT, Block, LOOP_LIMIT, Level, loops_open};
 use crate::nest::{Parts, tag_parts};
 use crate::tag::Tag;
-use data_tree::plain_text::PlainText;
+use plain_text::text::Text;
 use std::alloc::{AllocError, Global};
 use template_words::error::{TagError, joined};
 use template_words::names::{is_name_after_bar, name_before_bar, name_in_bars};
@@ -260,16 +260,16 @@ fn is_reserved_name(parameter: Option<&str>) -> bool
 }
 
 // A copy of the name.
-fn copied(alloc: Global, name: Option<&str>) -> Result<Option<PlainText>, AllocError>
+fn copied(alloc: Global, name: Option<&str>) -> Result<Option<Text>, AllocError>
     ensures { IfOk result (λ copy. copy ≡ part_view name.entry) }
 {
     match name {
-        Some(name) => Ok(Some(PlainText::new(String::from_str(alloc, name)?))),
+        Some(name) => Ok(Some(Text::from(String::from_str(alloc, name)?))),
         None => Ok(None),
     }
 }
 
-fn each_read(parameter: Option<PlainText>, read: Result<Datum, TagError>) -> Result<Tag, TagError>
+fn each_read(parameter: Option<Text>, read: Result<Datum, TagError>) -> Result<Tag, TagError>
     ensures { said_view result ≡ each_read parameter read }
 {
     match read {

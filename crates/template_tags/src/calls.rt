@@ -14,11 +14,11 @@ use crate::expression::{CALL_LIMIT, Datum, Expression};
 use crate::level::Level;
 use crate::nest::Piece;
 use crate::word::{Word, argument_word, word_of};
-use data_tree::plain_text::PlainText;
 use data_tree::step::Step;
 use helper_set::helper::Helper;
 use helper_set::signature::signature;
 use json_bridge::json_path::is_json_path;
+use plain_text::text::Text;
 use std::alloc::{AllocError, Global};
 use template_words::error::{TagError, joined};
 use template_words::paths::is_step;
@@ -214,7 +214,7 @@ fn body_call(
     if !fits {
         return Ok(Err(TagError::WrongArguments));
     }
-    let path = PlainText::new(String::from_str(alloc, text)?);
+    let path = Text::from(String::from_str(alloc, text)?);
     Ok(Ok(Expression::Datum(Datum::BodyPath(path))))
 }
 

@@ -17,7 +17,7 @@ use crate::items::{Item, items_of, lacks_space};
 use crate::level::{Block, Level};
 use crate::nest::{Parts, Piece, tag_parts};
 use crate::word::{lone_value, read_value};
-use data_tree::plain_text::PlainText;
+use plain_text::text::Text;
 use std::alloc::{AllocError, Global};
 use template_words::error::{ReadError, TagError};
 use template_words::marks::after_mark;
@@ -44,7 +44,7 @@ pub enum Tag {
     /// Opens a loop over the items of a value, which `parameter` names.
     Each {
         over: Datum,
-        parameter: Option<PlainText>,
+        parameter: Option<Text>,
     },
     /// Begins the else part of the innermost open block.
     Else,

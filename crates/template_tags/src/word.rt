@@ -10,9 +10,9 @@ ghost use Rattle.template_words.specs.Paths.{rest_of_steps};
 use crate::expression::{Datum, Expression};
 use crate::level::{Level, loop_with_parameter, loops_open};
 use crate::word_text::WordText;
-use data_tree::plain_text::PlainText;
 use data_tree::step::{Path, Step};
 use helper_set::helper::Helper;
+use plain_text::text::Text;
 use std::alloc::{AllocError, Global};
 use template_words::error::{ReadError, TagError};
 use template_words::literal::{text_literal, truth_literal, whole_number};
@@ -213,9 +213,7 @@ fn word_value(
         (λ read. read_view read ≡ word_value (reverse levels.now) text.now (word_view word.entry)) }
 {
     Ok(match word {
-        Word::Text(literal) => Ok(Expression::Text(PlainText::new(String::from_str(
-            alloc, literal,
-        )?))),
+        Word::Text(literal) => Ok(Expression::Text(Text::from(String::from_str(alloc, literal)?))),
         Word::Number(number) => Ok(Expression::Number(number)),
         Word::Truth(truth) => Ok(Expression::Truth(truth)),
         Word::Loop(word) => Ok(loop_value(loops_open(levels), word)),

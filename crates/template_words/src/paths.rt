@@ -14,8 +14,8 @@ use crate::marks::after_mark;
 use crate::reference::Reference;
 use crate::words::enclosed;
 use data_tree::digits::index_of;
-use data_tree::plain_text::PlainText;
 use data_tree::step::{Path, Step};
+use plain_text::text::Text;
 use std::alloc::Global;
 use std::mem;
 
@@ -44,7 +44,7 @@ fn step_named(alloc: Global, text: &str) -> Result<Step, ReadError>
 {
     match index_of(text) {
         Some(index) => Ok(Step::Index(index)),
-        None => Ok(Step::Name(PlainText::new(String::from_str(alloc, text)?))),
+        None => Ok(Step::named(alloc, text)?),
     }
 }
 
@@ -158,7 +158,7 @@ fn in_lower_case(step: Step) -> Step
         Step::Name(text) => {
             let mut text = text.into_string();
             text.make_ascii_lowercase();
-            Step::Name(PlainText::new(text))
+            Step::Name(Text::from(text))
         }
         Step::Index(index) => Step::Index(index),
     }
