@@ -92,10 +92,7 @@ where
 fn ask_for_own(arguments: &[String]) -> bool
     ensures { result ≡ ask_for_own (map string_bytes arguments.now) }
 {
-    match arguments {
-        [_program, command, ..] => is_own(command.as_str()),
-        _ => false,
-    }
+    matches!(arguments, [_program, command, ..] if is_own(command.as_str()))
 }
 
 fn is_own(command: &str) -> bool
@@ -107,10 +104,7 @@ fn is_own(command: &str) -> bool
 fn ask_to_help(arguments: &[String]) -> bool
     ensures { result ≡ ask_to_help (map string_bytes arguments.now) }
 {
-    match arguments {
-        [_program, command] | [_program, command, _] => command.as_str() == "help",
-        _ => false,
-    }
+    matches!(arguments, [_program, command] | [_program, command, _] if command.as_str() == "help")
 }
 
 // The help of the program, or of the command that is named: what its flag for help writes.

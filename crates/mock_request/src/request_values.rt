@@ -169,8 +169,5 @@ fn header_is_text(snapshot: &Snapshot, index: usize) -> bool
     ensures { IsTrue result
         → MatchOption (slice_get snapshot.now.headers index) ⊥ (λ header. IsUtf8 header.value) }
 {
-    match snapshot.header(index) {
-        Some((_name, value)) => str::from_utf8(value).is_ok(),
-        None => false,
-    }
+    matches!(snapshot.header(index), Some((_name, value)) if str::from_utf8(value).is_ok())
 }

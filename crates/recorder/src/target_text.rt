@@ -80,10 +80,7 @@ fn is_ipv6(text: &str) -> bool
 fn is_bracketed(host: &str) -> bool
     ensures { IsTrue result ↔ IsBracketed host.now }
 {
-    match in_brackets(host) {
-        Some(inner) => is_ipv6(inner),
-        None => false,
-    }
+    matches!(in_brackets(host), Some(inner) if is_ipv6(inner))
 }
 
 fn in_brackets(host: &str) -> Option<&str>

@@ -53,37 +53,25 @@ fn loop_items<'a, 'b>(items: &'b [Item<'a>]) -> (&'b [Item<'a>], Option<&'a str>
 fn is_word(text: &str, item: Item<'_>) -> bool
     ensures { result ≡ is_word text.now (item_view item.entry) }
 {
-    match item.text() {
-        Some(word) => word == text,
-        None => false,
-    }
+    matches!(item.text(), Some(word) if word == text)
 }
 
 fn is_name_item(item: Item<'_>) -> bool
     ensures { result ≡ item_is is_name (item_view item.entry) }
 {
-    match item.text() {
-        Some(word) => is_name(word),
-        None => false,
-    }
+    matches!(item.text(), Some(word) if is_name(word))
 }
 
 fn is_last_name(item: Item<'_>) -> bool
     ensures { result ≡ item_is (λ w. is_some (name_before_bar w)) (item_view item.entry) }
 {
-    match item.text() {
-        Some(word) => name_before_bar(word).is_some(),
-        None => false,
-    }
+    matches!(item.text(), Some(word) if name_before_bar(word).is_some())
 }
 
 fn is_first_name(item: Item<'_>) -> bool
     ensures { result ≡ item_is is_name_after_bar (item_view item.entry) }
 {
-    match item.text() {
-        Some(word) => is_name_after_bar(word),
-        None => false,
-    }
+    matches!(item.text(), Some(word) if is_name_after_bar(word))
 }
 
 // Whether the items are names, of which the last has a bar after it.
@@ -253,10 +241,7 @@ fn data_only(read: Result<Expression, TagError>) -> Result<Datum, TagError>
 fn is_reserved_name(parameter: Option<&str>) -> bool
     ensures { result ≡ is_reserved_name (part_view parameter.entry) }
 {
-    match parameter {
-        Some(name) => name == "request" || name == "this",
-        None => false,
-    }
+    matches!(parameter, Some(name) if name == "request" || name == "this")
 }
 
 // A copy of the name.

@@ -75,10 +75,7 @@ impl Level {
     fn is_named(&self, name: &str) -> bool
         ensures { result ≡ is_parameter name.now self.now.parameter }
     {
-        match &self.parameter {
-            Some(parameter) => name == parameter.as_str(),
-            None => false,
-        }
+        matches!(&self.parameter, Some(parameter) if name == parameter.as_str())
     }
 }
 

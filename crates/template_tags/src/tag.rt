@@ -153,10 +153,7 @@ fn is_marked(text: &str) -> bool
     if has_foreign_mark(text.as_bytes()) {
         return true;
     }
-    match after_mark(text, "#") {
-        Some(name) => Block::from_name(name).is_none(),
-        None => false,
-    }
+    matches!(after_mark(text, "#"), Some(name) if Block::from_name(name).is_none())
 }
 
 // What a tag says that begins with that word, which is the first of the items.

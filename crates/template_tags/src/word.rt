@@ -72,10 +72,7 @@ fn literal_of(text: &str) -> Option<Word<'_>>
     if let Some(number) = whole_number(text) {
         return Some(Word::Number(number));
     }
-    match truth_literal(text) {
-        Some(truth) => Some(Word::Truth(truth)),
-        None => None,
-    }
+    Some(Word::Truth(truth_literal(text)?))
 }
 
 fn known_word(text: &str) -> Option<Word<'_>>
@@ -87,10 +84,7 @@ fn known_word(text: &str) -> Option<Word<'_>>
     if let Some(word) = loop_word_of(text) {
         return Some(Word::Loop(word));
     }
-    match helper_named(text) {
-        Some(helper) => Some(Word::Helper(helper)),
-        None => None,
-    }
+    Some(Word::Helper(helper_named(text)?))
 }
 
 // A word that is no literal, no word of loops and no helper.
