@@ -88,6 +88,13 @@ impl<'a> OpenLoop<'a> {
         self.turn as i64
     }
 
+    /// The number of turns that are done, which is the index of the item.
+    pub fn turn(self) -> usize
+        ensures { result ≡ self.entry.turn }
+    {
+        self.turn
+    }
+
     pub fn is_first(self) -> bool
         ensures { result ≡ nat_eq self.entry.turn 0 }
     {

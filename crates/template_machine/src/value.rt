@@ -1,5 +1,5 @@
 //! The values of the machine's stack that aren't texts. They borrow from the request's data.
-ghost use Rattle.std.specs.Prelude.{◌≡◌, ◌++◌, OnOk, string_bytes};
+ghost use Rattle.std.specs.Prelude.{◌≡◌, ◌++◌, OnOk, pos, string_bytes};
 ghost use Rattle.std.specs.Fmt.{signed_decimal};
 ghost use Rattle.data_tree.specs.Print.{print, is_not_empty};
 ghost use Rattle.data_tree.specs.Tree.{view};
@@ -74,6 +74,19 @@ fn print_number(number: i64, out: &mut String) -> Result<(), AllocError>
         return push_ascii(48 + number as u8, out);
     }
     print_digits(number, out)
+}
+
+/// Appends an index. Apart, as a number.
+#[inline(never)]
+#[tactic(auto, using(std::proofs::lemmas::Fmt::decimal_digit))]
+pub fn print_index(index: usize, out: &mut String) -> Result<(), AllocError>
+    ensures { OnOk result (string_bytes out.new ≡ string_bytes out.old ++ signed_decimal (pos index)) }
+{
+    if index < 10 {
+        return push_ascii(48 + index as u8, out);
+    }
+    let mut buffer = itoa::Buffer::new();
+    out.push_str(buffer.format(index))
 }
 
 // Appends a number of any length.
