@@ -10,7 +10,8 @@ use Rattle.matchit.specs.Level.{IsText}
 use Rattle.matchit.specs.Params.{walk, wild_from, wild_stop, part_of}
 use Rattle.matchit.specs.Rows.{param_token}
 use Rattle.matchit.specs.Seek.{segment, has_slash}
-use Rattle.route_search.specs.Fits.{slash, IsSegment, Fits, EndsSegment}
+use Rattle.route_search.specs.Segment.{slash, IsSegment}
+use Rattle.route_search.proofs.Fits.{Fits, EndsSegment}
 use Rattle.route_search.proofs.Literals.{Follows, follows}
 use Rattle.route_search.proofs.Segments.{has_no_slash, cut_at}
 
