@@ -290,7 +290,8 @@ impl Notes {
 fn recording_sought(alloc: Global, answer: &[u8]) -> Option<Sought> {
     let answer = Value::from_slice(alloc, answer).ok()?;
     let error = answer.get("errors")?.as_array()?.first()?;
-    Sought::of_recording(error.get("code")?.as_u64()?)
+    let number = error.get("code")?.as_u64()?;
+    Sought::of_recording(number)
 }
 
 fn error_at(error: Option<MappingsError>, index: usize) -> Option<MappingError> {

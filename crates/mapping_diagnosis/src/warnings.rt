@@ -227,7 +227,11 @@ impl Warnings {
         let Some(body) = response.get("jsonBody") else {
             return Ok(());
         };
-        if !is_templated(response) || !body.to_string(self.alloc)?.as_str().contains("{{") {
+        if !is_templated(response) {
+            return Ok(());
+        }
+        let text = body.to_string(self.alloc)?;
+        if !text.as_str().contains("{{") {
             return Ok(());
         }
         let warning =
