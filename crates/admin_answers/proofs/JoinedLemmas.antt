@@ -1,12 +1,10 @@
 -- Texts of entries that are joined are the compact text of the list.
-use Rattle.std.proofs.Common.{◌≡◌, ◌≢◌, ℕ, zero, suc, List, [], ◌∷◌, ◌++◌, Bool, true}
-use Rattle.std.proofs.Common.{false, Some, length, map, drop, refl, sym, ap, ◌∙◌, slice_get, codes, decimal}
-use Rattle.std.proofs.Common.{append_assoc}
+use Rattle.std.proofs.Common.{◌≡◌, ◌≢◌, ℕ, zero, suc, List, [], ◌∷◌, ◌++◌, Bool, true, false, Some, length, map, drop}
+use Rattle.std.proofs.Common.{refl, sym, ap, ◌∙◌, slice_get, codes, decimal, append_assoc}
 use Rattle.std.specs.Prelude.{unwrap_or}
 use Rattle.admin_json.specs.Mappings.{json_of_held, json_of_mappings}
 use Rattle.admin_json.specs.Recordings.{json_of_recorded}
-use Rattle.admin_json.specs.Requests.{json_of_entry, json_of_found, json_of_number}
-use Rattle.admin_json.specs.Requests.{json_of_requests}
+use Rattle.admin_json.specs.Requests.{json_of_entry, json_of_found, json_of_number, json_of_requests}
 use Rattle.admin_answers.specs.Inner.Joined.{end_of, end_of_mappings, end_of_recorded, joined, text_of}
 use Rattle.admin_answers.specs.declared.entries.Entries.{Entries}
 use Rattle.admin_answers.specs.declared.entries.Entries.TheVariants.{Requests, Found, Count, Mappings, Exchanges}

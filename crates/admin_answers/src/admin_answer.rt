@@ -1,5 +1,5 @@
 // The answer to an admin call.
-ghost use Rattle.std.specs.Prelude.{◌≡◌, ◌++◌, IfOk, OnOk, string_bytes};
+ghost use Rattle.std.specs.Prelude.{◌≡◌, IfOk, string_bytes};
 ghost use Rattle.admin_answers.specs.Replies.{reply_of};
 
 use crate::listing::Listing;

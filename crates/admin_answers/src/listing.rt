@@ -1,7 +1,6 @@
 // The text of a list, written piece by piece.
-ghost use Rattle.std.specs.Prelude.{◌≡◌, ◌≢◌, ◌↔◌, ◌+◌, ◌^◌, ◌<◌, ◌≤◌, ◌++◌, ℕ, List};
-ghost use Rattle.std.specs.Prelude.{[], false, Some, codes, length, string_bytes, IfOk, IfSome, OnOk, OnErr, IsErrOf};
-ghost use Rattle.std.specs.Prelude.{MatchOption};
+ghost use Rattle.std.specs.Prelude.{◌≡◌, ◌≢◌, ◌↔◌, ◌+◌, ◌^◌, ◌<◌, ◌≤◌, ◌++◌, ℕ, List, [], false, Some, codes, length};
+ghost use Rattle.std.specs.Prelude.{string_bytes, IfOk, OnOk, OnErr, IsErrOf, MatchOption};
 ghost use Rattle.std.specs.List.{AllByRecursion};
 ghost use Rattle.admin_json.specs.Mappings.{json_of_mappings};
 ghost use Rattle.admin_json.specs.Recordings.{json_of_recorded};

@@ -11,7 +11,7 @@ use Rattle.std.specs.Option.{option_map_or, unwrap_or}
 use Rattle.std.specs.Ordering.{nat_cmp}
 use Rattle.std.specs.Str.{bytes_eq}
 use Rattle.std.specs.String.{string_cmp}
-use Rattle.admin_json.specs.Inner.Groups.{Group, groups_of, group_of, groups_in, with_groups, group_json}
+use Rattle.admin_json.proofs.Groups.{Group, groups_of, group_of, groups_in, with_groups, group_json}
 use Rattle.admin_json.specs.Pairs.{with_values}
 use Rattle.admin_json.specs.Scenarios.{json_of_scenario}
 use Rattle.admin_json.specs.Written.{json_of_texts}

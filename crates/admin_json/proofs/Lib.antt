@@ -1,3 +1,4 @@
+pub mod Groups
 pub mod NameLemmas
 pub mod GroupLemmas
 pub mod Regular

@@ -1,7 +1,6 @@
 -- The JSON of a mapping has its names in order, and the numbers of its `jsonBody`, its status and its priority.
-use Rattle.std.proofs.Common.{◌≡◌, ◌<◌, ◌^◌, ℕ, ℤ, pos, negsuc, nat_abs, List, [], ◌∷◌, length}
-use Rattle.std.proofs.Common.{Bool, true, false, cond, Option, Some, None, IfSome, option_map, codes, bytes_eq}
-use Rattle.std.proofs.Common.{map, arith}
+use Rattle.std.proofs.Common.{◌≡◌, ◌<◌, ◌^◌, ℕ, ℤ, pos, negsuc, nat_abs, List, [], ◌∷◌, length, Bool, true, false, cond}
+use Rattle.std.proofs.Common.{Option, Some, None, IfSome, option_map, codes, bytes_eq, map, arith}
 use Rattle.std.specs.List.{AllByRecursion}
 use Rattle.base64.specs.Engines.{standard}
 use Rattle.base64.specs.GeneralPurpose.{encode_of}

@@ -1,7 +1,6 @@
 -- Values whose objects have their names in order: their text has no float where no number is one, and reads back.
-use Rattle.std.proofs.Common.{◌≡◌, ℕ, pos, negsuc, ◌≤◌, ◌<◌, ◌^◌, List, []}
-use Rattle.std.proofs.Common.{false, Some, Ordering, Less, Equal, Greater, nat_cmp, refl, sym, ap}
-use Rattle.std.proofs.Common.{◌∙◌, subst, append-nil}
+use Rattle.std.proofs.Common.{◌≡◌, ℕ, pos, negsuc, ◌≤◌, ◌<◌, ◌^◌, List, [], false, Some, Ordering, Less, Equal, Greater}
+use Rattle.std.proofs.Common.{nat_cmp, refl, sym, ap, ◌∙◌, subst, append-nil}
 use Rattle.std.specs.Prelude.{⊤, option_map, option_and_then}
 use Rattle.std.specs.Cmp.Lexicographic.{slice_cmp}
 use Rattle.std.specs.Ordering.{match_ordering, ordering_reverse}

@@ -3,8 +3,7 @@ use Rattle.std.proofs.Common.{ℕ, List, [], ◌∷◌, length, map, codes}
 use Rattle.std.specs.List.{AllByRecursion}
 use Rattle.std.specs.Str.Lossy.{utf8_lossy}
 use Rattle.admin_json.specs.Pairs.{json_of_pairs, with_values}
-use Rattle.admin_json.specs.Requests.{json_of_received, json_of_entry, json_of_entries, json_of_requests}
-use Rattle.admin_json.specs.Requests.{json_of_found}
+use Rattle.admin_json.specs.Requests.{json_of_received, json_of_entry, json_of_entries, json_of_requests, json_of_found}
 use Rattle.admin_json.specs.Written.{json_of_count, json_of_meta, json_of_texts}
 use Rattle.mock_request.specs.HeaderFields.{header_pairs}
 use Rattle.mock_request.specs.Request.{Request}

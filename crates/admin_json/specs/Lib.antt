@@ -10,5 +10,4 @@ pub mod Bodies
 pub mod State
 pub mod Start
 pub mod Errors
-pub mod Inner
 pub mod WholeNumbers

@@ -1,8 +1,7 @@
 -- Small values that answers are made of.
-use Rattle.std.specs.Prelude.{ℕ, List, codes}
+use Rattle.std.specs.Prelude.{ℕ, List, codes, map}
 use Rattle.serde_json.specs.Data.{Data, number, unsigned, string, array, object, no_members, put}
 use Rattle.serde_json.specs.View.{items_of}
-use Rattle.std.specs.Prelude.{map}
 
 abbrev pub json_of_count : ℕ → Data
 json_of_count n = number (unsigned n)

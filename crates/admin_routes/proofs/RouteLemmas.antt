@@ -16,7 +16,7 @@ use Rattle.admin_routes.specs.declared.place.Place.{Place}
 use Rattle.admin_routes.specs.declared.place.Place.TheVariants as place
 use Rattle.admin_routes.specs.declared.route.Route.{Route}
 use Rattle.admin_routes.specs.declared.route.Route.TheVariants as route
-use Rattle.route_search.specs.Fits.{slash, IsSegment}
+use Rattle.route_search.specs.Segment.{slash, IsSegment}
 
 is_text : {x y : List ℕ} → bytes_eq x y ≡ true → x ≡ y
 is_text {x} {y} e = (bytes_eq-Decides x y).0 e

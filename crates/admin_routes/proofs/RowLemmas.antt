@@ -15,7 +15,8 @@ use Rattle.route_search.proofs.Literals.{are_bytes, all_are_bytes, all_are_whole
 use Rattle.route_search.proofs.Parameters.{IsAround, around, around_takes}
 use Rattle.route_search.proofs.Search.{Hit, found_fits, fitting_is_found}
 use Rattle.route_search.proofs.Texts.{is_text}
-use Rattle.route_search.specs.Fits.{slash, AllWhole, Fits, Has, IsSegment}
+use Rattle.route_search.specs.Segment.{slash, IsSegment}
+use Rattle.route_search.proofs.Fits.{AllWhole, Fits, Has}
 
 rows_are_whole : AllWhole rows
 rows_are_whole = all_are_whole rows refl

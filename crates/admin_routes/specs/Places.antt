@@ -2,7 +2,7 @@
 use Rattle.std.specs.Prelude.{◌≡◌, ◌++◌, ℕ, List, codes}
 use Rattle.admin_routes.specs.declared.place.Place.{Place}
 use Rattle.admin_routes.specs.declared.place.Place.TheVariants as place
-use Rattle.route_search.specs.Fits.{IsSegment}
+use Rattle.route_search.specs.Segment.{IsSegment}
 
 -- the path of the place with this parameter, as it is sent: escapes aren't decoded
 abbrev pub path_at : Place → List ℕ → List ℕ

@@ -5,14 +5,12 @@ use Rattle.admin_routes.specs.Places.{IsPath}
 use Rattle.admin_routes.specs.declared.place.Place.{Place}
 use Rattle.admin_routes.specs.declared.place.Place.TheVariants as place
 use Rattle.admin_routes.specs.declared.route.Route.{Route}
-use Rattle.admin_routes.specs.declared.route.Route.TheVariants.{ListMappings, AddMapping, DeleteMappings}
-use Rattle.admin_routes.specs.declared.route.Route.TheVariants.{ReadMapping, EditMapping, DeleteMapping}
-use Rattle.admin_routes.specs.declared.route.Route.TheVariants.{ResetMappings, ResetAll, ResetScenarios}
-use Rattle.admin_routes.specs.declared.route.Route.TheVariants.{ListRequests, ClearRequests, ListUnmatched}
-use Rattle.admin_routes.specs.declared.route.Route.TheVariants.{FindRequests, CountRequests}
-use Rattle.admin_routes.specs.declared.route.Route.TheVariants.{ListScenarios, SetScenario}
-use Rattle.admin_routes.specs.declared.route.Route.TheVariants.{StartRecording, StopRecording}
-use Rattle.admin_routes.specs.declared.route.Route.TheVariants.{ReadRecordingStatus, ReadRecordingHar}
+use Rattle.admin_routes.specs.declared.route.Route.TheVariants.{ListMappings, AddMapping, DeleteMappings, ReadMapping}
+use Rattle.admin_routes.specs.declared.route.Route.TheVariants.{EditMapping, DeleteMapping, ResetMappings, ResetAll}
+use Rattle.admin_routes.specs.declared.route.Route.TheVariants.{ResetScenarios, ListRequests, ClearRequests}
+use Rattle.admin_routes.specs.declared.route.Route.TheVariants.{ListUnmatched, FindRequests, CountRequests}
+use Rattle.admin_routes.specs.declared.route.Route.TheVariants.{ListScenarios, SetScenario, StartRecording}
+use Rattle.admin_routes.specs.declared.route.Route.TheVariants.{StopRecording, ReadRecordingStatus, ReadRecordingHar}
 use Rattle.mock_request.specs.Url.{is_slash, path_of}
 
 abbrev pub method_of : Route → List ℕ

@@ -9,7 +9,6 @@ use Rattle.answering.specs.Reply.{IsResponseOf}
 use Rattle.answering.specs.declared.forward.Forward.{Forward}
 use Rattle.logbook.specs.Pages.{Book}
 use Rattle.mapping_model.specs.declared.reply.Reply.{Reply}
-use Rattle.proxy_client.specs.declared.error.ProxyError.{ProxyError}
 use Rattle.request_journal.specs.Past.{Past}
 use Rattle.request_journal.specs.declared.input.BookInput.{BookInput}
 use Rattle.shared_book.specs.Held.{Held}

@@ -9,7 +9,7 @@ use Rattle.http_header.specs.FieldName.{IsHeaderName}
 use Rattle.http_messages.specs.Received.{IsReceived, target_of}
 use Rattle.answering.specs.Answering.{Begins, IsNotBegun, IsNotRead, IsReply, IsRequestAnswered, IsUnread, refusal}
 use Rattle.answering.specs.Forwarding.{IsToForward, serve_receipt}
-use Rattle.answering.specs.Inner.Sent.{HasBegun, IsBegunOf, IsRequestToForward, IsRequestToRender}
+use Rattle.answering.specs.Inner.Sent.{HasBegun, IsBegunOf, IsServedToForward, IsServedToRender}
 use Rattle.answering.specs.Rendering.{IsToRender, rendering_receipt}
 use Rattle.answering.specs.Served.{GainsServe}
 use Rattle.answering.specs.declared.begun.Begun.{Begun}
@@ -28,6 +28,16 @@ use Rattle.shared_book.specs.Held.{Held}
 use Rattle.stub_response.specs.ErrorReply.{error_reply}
 use Rattle.stub_response.specs.declared.limits.Limits.{Limits}
 use Rattle.template_tree.specs.declared.escape.Escape.{Escape}
+
+-- it is no admin call
+abbrev pub IsRequestToRender : Past → Book → Limits → Held → Held → Request → Rendering → Type 0
+IsRequestToRender origin name limits old new request rendering =
+    ¬ (IsAdmin request.url) × IsServedToRender origin name limits old new request rendering
+
+-- it is no admin call
+abbrev pub IsRequestToForward : Past → Book → Held → Held → Request → Forward → Type 0
+IsRequestToForward origin name old new request forward =
+    ¬ (IsAdmin request.url) × IsServedToForward origin name old new request forward
 
 -- why a message isn't read
 pub is_unread : {T : Type 0} (message : Message (List ℕ)) (error : SnapshotError) (result : Result T SnapshotError)

@@ -1,6 +1,6 @@
 -- A response that is rendered after its serve is one that may be given at once.
-use Rattle.std.proofs.Common.{◌≡◌, ℕ, List, Ok, Err, refl, subst, sym, inl, inr}
-use Rattle.std.specs.Prelude.{Option, Result, IfErr, IfOk}
+use Rattle.std.proofs.Common.{ℕ, List, Ok, Err, refl, subst, inl, inr}
+use Rattle.std.specs.Prelude.{Option, Result, IfOk}
 use Rattle.std.specs.declared.alloc.AllocError.{AllocError}
 use Rattle.error_code.specs.declared.error_code.ErrorCode.TheVariants.{OutOfMemory}
 use Rattle.http.specs.declared.request.Request.{Request as Message}

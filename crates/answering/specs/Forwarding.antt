@@ -1,7 +1,6 @@
 -- How a request is answered that is forwarded to the target of a recording: with the reply of the target,
 -- which is recorded.
-use Rattle.std.specs.Prelude.{◌≡◌, ◌⊎◌, ◌≤◌, ℕ, Bool, List, Ok, Err, Result, false}
-use Rattle.std.specs.Prelude.{if◌then◌else◌, length, true, All}
+use Rattle.std.specs.Prelude.{◌≡◌, ◌⊎◌, ◌≤◌, ℕ, Bool, List, Ok, Err, Result, false, if◌then◌else◌, length, true, All}
 use Rattle.admin_answers.specs.Answers.{Gains}
 use Rattle.admin_routes.specs.Routes.{IsAdmin}
 use Rattle.answering.specs.Reply.{IsResponseOf}

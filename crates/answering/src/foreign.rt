@@ -21,10 +21,7 @@ fn is_other_origin(request: &Snapshot, index: usize) -> bool
     ensures { MatchOption (slice_get request.now.headers index) ⊥
         (λ header. IsTrue result ↔ IsOtherOrigin request.now.headers header) }
 {
-    match request.header(index) {
-        Some((name, value)) => name == "origin" && !has_host(request, value),
-        None => false,
-    }
+    matches!(request.header(index), Some((name, value)) if name == "origin" && !has_host(request, value))
 }
 
 // Whether a `host` header names the site of the origin.
@@ -43,10 +40,7 @@ fn is_host(request: &Snapshot, index: usize, origin: &[u8]) -> bool
     requires { index < length request.now.headers }
     ensures { MatchOption (slice_get request.now.headers index) ⊥ (λ header. IsTrue result ↔ IsHost origin.now header) }
 {
-    match request.header(index) {
-        Some((name, value)) => name == "host" && is_of(value, origin),
-        None => false,
-    }
+    matches!(request.header(index), Some((name, value)) if name == "host" && is_of(value, origin))
 }
 
 // Whether it is the origin of a site with this authority.

@@ -85,10 +85,7 @@ fn handles_again(content: &Content) -> bool {
             return true;
         }
     }
-    match body {
-        Body::Text(template) => is_handling_again(template),
-        _ => false,
-    }
+    matches!(body, Body::Text(template) if is_handling_again(template))
 }
 
 // Whether it has in loops both a value that isn't a part of the innermost loop's item, and a helper that handles all of

@@ -1,7 +1,6 @@
 -- The event of a number, by its index.
-use Rattle.std.proofs.Common.{◌≡◌, ℕ, ◌+◌, ◌-◌, ◌<◌, ◌≤◌, zero, suc, Bool, true, false}
-use Rattle.std.proofs.Common.{◌==◌, cond, List, [], ◌∷◌, Option, None, Some, option_map, length, refl, sym}
-use Rattle.std.proofs.Common.{ap, ◌∙◌, arith, find}
+use Rattle.std.proofs.Common.{◌≡◌, ℕ, ◌+◌, ◌-◌, ◌<◌, ◌≤◌, zero, suc, Bool, true, false, ◌==◌, cond, List, [], ◌∷◌}
+use Rattle.std.proofs.Common.{Option, None, Some, option_map, length, refl, sym, ap, ◌∙◌, arith, find}
 use Rattle.std.proofs.lemmas.Bool.Decides.{nat_tests}
 use Rattle.std.proofs.lemmas.Option.{slice_get_past, slice_get_read}
 use Rattle.std.specs.Borrow.{Bor}

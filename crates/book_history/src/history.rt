@@ -1,6 +1,5 @@
 // The events of a book.
-ghost use Rattle.std.specs.Prelude.{◌≡◌, ◌+◌, ◌<◌, ◌≤◌, ◌↔◌, [], length, option_copied, IfOk};
-ghost use Rattle.std.specs.Prelude.{OnOk, OnErr, IsTrue, IsErrOf};
+ghost use Rattle.std.specs.Prelude.{◌≡◌, ◌<◌, ◌≤◌, ◌↔◌, [], length, option_copied, IfOk, OnOk, OnErr, IsTrue, IsErrOf};
 ghost use Rattle.request_match.specs.Matching.{MeetsRequest};
 ghost use Rattle.request_journal.specs.Journal.{requests, unmatched, event_at, Picks, IsCount};
 ghost use Rattle.request_journal.specs.Legal.{IsCheckpoint};

@@ -165,9 +165,6 @@ fn on_one_line(alloc: Global, lines: &str, call: &str) -> Result<String, AllocEr
 fn without_marks(rest: &str) -> &str {
     match rest.strip_prefix(": ") {
         Some(rest) => rest,
-        None => match rest.strip_prefix(", ") {
-            Some(rest) => rest,
-            None => rest.trim_start(),
-        },
+        None => rest.strip_prefix(", ").unwrap_or(rest.trim_start()),
     }
 }

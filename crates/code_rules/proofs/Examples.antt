@@ -1,6 +1,5 @@
 -- Worked examples of code without loops, which the checker computes.
-use Rattle.std.specs.Prelude.{◌≡◌, ℕ, zero, suc, List, [], ◌∷◌, ◌++◌, replicate, Option, Some, None}
-use Rattle.std.specs.Prelude.{codes, pos}
+use Rattle.std.specs.Prelude.{◌≡◌, ℕ, zero, suc, List, [], ◌∷◌, ◌++◌, replicate, Option, Some, None, codes, pos}
 use Rattle.std.proofs.Common.{refl, sym, ap, length, ◌^◌, ◌-◌, Bool, true, false, true≢false}
 use Rattle.data_tree.specs.Tree.{Tree, text, nothing}
 use Rattle.helper_set.specs.Values.{a_datum}
@@ -8,10 +7,8 @@ use Rattle.helper_set.specs.declared.helper.Helper.TheVariants.{Not}
 use Rattle.template_code.specs.Code.{StackCode}
 use Rattle.template_code.specs.Machine.{advance, first, IsTrap, State, Runs}
 use Rattle.template_code.specs.declared.instr.Instr.{Instr}
-use Rattle.template_code.specs.declared.instr.Instr.TheVariants.{Emit, Root, Text}
-use Rattle.template_code.specs.declared.instr.Instr.TheVariants.{Number}
-use Rattle.template_code.specs.declared.instr.Instr.TheVariants.{Truth, Show, Test, Call, Print, Jump, Branch}
-use Rattle.template_code.specs.declared.instr.Instr.TheVariants.{Halt}
+use Rattle.template_code.specs.declared.instr.Instr.TheVariants.{Emit, Root, Text, Number, Truth, Show, Test, Call}
+use Rattle.template_code.specs.declared.instr.Instr.TheVariants.{Print, Jump, Branch, Halt}
 use Rattle.template_code.specs.declared.limits.TheConstants.{MAX_INSTRUCTIONS}
 use Rattle.code_rules.specs.Polynomial.{as_printed}
 use Rattle.code_rules.specs.Table.{Entry, entry_at}

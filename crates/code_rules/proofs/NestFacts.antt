@@ -1,6 +1,5 @@
 -- Code as a course of places with loops round them; so the nests of its table are those of a course.
-use Rattle.std.proofs.Common.{◌≡◌, ℕ, zero, suc, List, ◌∷◌, length, Option, Some, None, refl, sym, ap}
-use Rattle.std.proofs.Common.{◌∙◌}
+use Rattle.std.proofs.Common.{◌≡◌, ℕ, zero, suc, List, ◌∷◌, length, Option, Some, None, refl, sym, ap, ◌∙◌}
 use Rattle.std.specs.Prelude.{slice_get, Bool}
 use Rattle.code_rules.specs.Inner.Course.{Cost, Bracket, level, opens_over_part, opens_over_data, ends, Course, nothing}
 use Rattle.code_rules.specs.Inner.Course.{nest}

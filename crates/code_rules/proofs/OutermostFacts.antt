@@ -1,7 +1,6 @@
 -- Outside of the loops of well-formed code no bound and no cost depends on an item.
-use Rattle.std.proofs.Common.{◌≡◌, ℕ, zero, suc, ◌≤◌, Bool, true, false, true≢false, List, []}
-use Rattle.std.proofs.Common.{◌∷◌, ◌++◌, length, take, drop, Option, Some, None, refl, sym, ap, ◌∙◌}
-use Rattle.std.proofs.Common.{subst, ⊎_elim, arith, length-append}
+use Rattle.std.proofs.Common.{◌≡◌, ℕ, zero, suc, ◌≤◌, Bool, true, false, true≢false, List, [], ◌∷◌, ◌++◌, length, take}
+use Rattle.std.proofs.Common.{drop, Option, Some, None, refl, sym, ap, ◌∙◌, subst, ⊎_elim, arith, length-append}
 use Rattle.std.specs.Prelude.{slice_get, not}
 use Rattle.std.specs.Option.{option_map_or}
 use Rattle.std.proofs.lemmas.Option.{slice_get_cases}
@@ -16,9 +15,8 @@ use Rattle.template_code.specs.Instructions.{requires_empty_stack}
 use Rattle.template_code.specs.declared.flow.Flow.{Flow}
 use Rattle.template_code.specs.declared.instr.Instr.{Instr}
 use Rattle.template_code.specs.declared.instr.Instr.TheVariants.{Emit, Root, Item, Index, Key, First, Last, Text}
-use Rattle.template_code.specs.declared.instr.Instr.TheVariants.{Number}
-use Rattle.template_code.specs.declared.instr.Instr.TheVariants.{Truth, Show, Test, Call, Escape, Print, Jump, Branch}
-use Rattle.template_code.specs.declared.instr.Instr.TheVariants.{Each, Next, Halt}
+use Rattle.template_code.specs.declared.instr.Instr.TheVariants.{Number, Truth, Show, Test, Call, Escape, Print, Jump}
+use Rattle.template_code.specs.declared.instr.Instr.TheVariants.{Branch, Each, Next, Halt}
 use Rattle.code_rules.specs.Polynomial.{times}
 use Rattle.code_rules.specs.Bounds.{Bound, plus_bound, times_bound, sum_of, at_most, of_turns}
 use Rattle.code_rules.specs.Costs.{is_empty, top, bound_by, pushed_bounds, bounds_after, bounds_at, written_bound}

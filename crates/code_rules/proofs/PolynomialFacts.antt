@@ -1,6 +1,5 @@
 -- Sums of polynomials, and their values.
-use Rattle.std.proofs.Common.{◌≡◌, ℕ, zero, suc, ◌+◌, ◌*◌, [], ◌∷◌, refl, sym, ap, ◌∙◌}
-use Rattle.std.proofs.Common.{arith}
+use Rattle.std.proofs.Common.{◌≡◌, ℕ, zero, suc, ◌+◌, ◌*◌, [], ◌∷◌, refl, sym, ap, ◌∙◌, arith}
 use Rattle.code_rules.specs.Polynomial.{Polynomial, constant, plus, times_size, value}
 
 pub value-constant : (c n : ℕ) → value (constant c) n ≡ c

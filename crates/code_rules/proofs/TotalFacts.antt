@@ -1,7 +1,6 @@
 -- The total of a bound, the sum of all its coefficients. A sum adds totals and the turns of a loop keep them, so that
 -- of a region is at most that of its instructions together.
-use Rattle.std.proofs.Common.{◌≡◌, ℕ, zero, suc, ◌+◌, ◌*◌, ◌≤◌, Bool, true, false, List, []}
-use Rattle.std.proofs.Common.{◌∷◌, length, refl, arith}
+use Rattle.std.proofs.Common.{◌≡◌, ℕ, zero, suc, ◌+◌, ◌*◌, ◌≤◌, Bool, true, false, List, [], ◌∷◌, length, refl, arith}
 use Rattle.std.specs.Prelude.{if◌then◌else◌, nat_le}
 use Rattle.std.proofs.lemmas.Bool.{le-leb, and_from}
 use Rattle.template_code.specs.Code.{StackCode}

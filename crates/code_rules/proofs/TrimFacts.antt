@@ -1,7 +1,6 @@
 -- No list of a budget ends in a zero.
-use Rattle.std.proofs.Common.{◌≡◌, ℕ, zero, suc, ◌+◌, Bool, true, false, List, [], ◌∷◌, length, take}
-use Rattle.std.proofs.Common.{drop, Option, Some}
-use Rattle.std.proofs.Common.{None, nat_eq, refl, arith}
+use Rattle.std.proofs.Common.{◌≡◌, ℕ, zero, suc, ◌+◌, Bool, true, false, List, [], ◌∷◌, length, take, drop, Option}
+use Rattle.std.proofs.Common.{Some, None, nat_eq, refl, arith}
 use Rattle.std.specs.Prelude.{slice_get, unwrap_or, if◌then◌else◌}
 use Rattle.std.specs.Option.{option_map_or}
 use Rattle.helper_set.specs.Helpers.{argument_kinds, result_kind, signature_of}
@@ -11,9 +10,8 @@ use Rattle.template_code.specs.Code.{StackCode}
 use Rattle.template_code.specs.Instructions.{pops}
 use Rattle.template_code.specs.declared.instr.Instr.{Instr}
 use Rattle.template_code.specs.declared.instr.Instr.TheVariants.{Emit, Root, Item, Index, Key, First, Last, Text}
-use Rattle.template_code.specs.declared.instr.Instr.TheVariants.{Number}
-use Rattle.template_code.specs.declared.instr.Instr.TheVariants.{Truth, Show, Test, Call, Escape, Print, Jump, Branch}
-use Rattle.template_code.specs.declared.instr.Instr.TheVariants.{Each, Next, Halt}
+use Rattle.template_code.specs.declared.instr.Instr.TheVariants.{Number, Truth, Show, Test, Call, Escape, Print, Jump}
+use Rattle.template_code.specs.declared.instr.Instr.TheVariants.{Branch, Each, Next, Halt}
 use Rattle.code_rules.specs.Polynomial.{Polynomial, ends_in_zero, constant, plus, times, times_size}
 use Rattle.code_rules.specs.Bounds.{Bound, at_most, plus_bound, times_bound, sum_of, of_turns}
 use Rattle.code_rules.specs.Costs.{top, bound_by, bounds_after, bounds_along, bounds_at, written_bound, goes_over_part}

@@ -1,7 +1,6 @@
 -- The lengths of what the slots print as, at most, and the cost of each instruction: the steps that it takes and the
 -- bytes that it writes, at most.
-use Rattle.std.specs.Prelude.{ℕ, zero, suc, Bool, not, ◌&&◌, List, [], ◌∷◌, length, slice_get, unwrap_or}
-use Rattle.std.specs.Prelude.{take}
+use Rattle.std.specs.Prelude.{ℕ, zero, suc, Bool, not, ◌&&◌, List, [], ◌∷◌, length, slice_get, unwrap_or, take}
 use Rattle.std.specs.Option.{option_map_or}
 use Rattle.helper_set.specs.Helpers.{argument_kinds, result_kind, signature_of}
 use Rattle.helper_set.specs.declared.helper.Helper.{Helper}
@@ -12,8 +11,7 @@ use Rattle.template_code.specs.Code.{StackCode}
 use Rattle.template_code.specs.Instructions.{slots_after}
 use Rattle.template_code.specs.declared.instr.Instr.{Instr}
 use Rattle.template_code.specs.declared.instr.Instr.TheVariants.{Emit, Root, Item, Index, Key, First, Last, Text}
-use Rattle.template_code.specs.declared.instr.Instr.TheVariants.{Number}
-use Rattle.template_code.specs.declared.instr.Instr.TheVariants.{Truth, Show, Test, Call, Escape, Print}
+use Rattle.template_code.specs.declared.instr.Instr.TheVariants.{Number, Truth, Show, Test, Call, Escape, Print}
 use Rattle.template_code.specs.declared.limits.TheConstants.{MAX_ESCAPE_GROWTH}
 use Rattle.code_rules.specs.Bounds.{Bound, at_most, all_data, item_data, plus_bound, times_bound, sum_of, bound_fits}
 use Rattle.code_rules.specs.Bounds.{of_turns}

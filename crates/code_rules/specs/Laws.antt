@@ -1,7 +1,6 @@
 -- What holds of all code.
-use Rattle.std.specs.Prelude.{◌≡◌, ℕ, zero, suc, ◌<◌, ◌≤◌, false, not, ◌&&◌, ◌⊎◌, List, []}
-use Rattle.std.specs.Prelude.{◌∷◌, ◌++◌, map, length, drop}
-use Rattle.std.specs.Prelude.{Some, is_some, slice_get}
+use Rattle.std.specs.Prelude.{◌≡◌, ℕ, zero, suc, ◌<◌, ◌≤◌, false, not, ◌&&◌, ◌⊎◌, List, [], ◌∷◌, ◌++◌, map, length}
+use Rattle.std.specs.Prelude.{drop, Some, is_some, slice_get}
 use Rattle.data_tree.specs.Tree.{Tree}
 use Rattle.helper_set.specs.Values.{Value, kind_of}
 use Rattle.template_code.specs.Code.{StackCode}

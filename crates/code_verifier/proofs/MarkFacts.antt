@@ -12,10 +12,14 @@ use Rattle.code_rules.specs.Costs.{is_empty}
 use Rattle.code_rules.specs.Rules.{is_target, jumps_among, same_nest}
 use Rattle.code_rules.specs.Table.{entry_at}
 use Rattle.code_rules.proofs.NestFacts.{opener-nest}
-use Rattle.code_verifier.specs.Inner.Marks.{innermost, same_loop, with_jump, mark_of, agrees, is_marked, mark_at}
-use Rattle.code_verifier.specs.Inner.Marks.{with_target}
+use Rattle.code_verifier.specs.Inner.Marks.{innermost, same_loop, with_jump, agrees, is_marked, mark_at, with_target}
 use Rattle.code_verifier.specs.declared.targets.Mark.{Mark}
 use Rattle.code_verifier.specs.declared.targets.Mark.TheVariants.{Unmarked, From, Mixed}
+
+-- the mark of jumps from these nests
+abbrev pub mark_of : List (List ℕ) → Mark
+mark_of [] = Unmarked
+mark_of (nest ∷ nests) = with_jump (innermost nest) (mark_of nests)
 
 same_index : (n : ℕ) → nat_eq n n ≡ true
 same_index n = grind arith

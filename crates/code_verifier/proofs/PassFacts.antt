@@ -1,7 +1,6 @@
 -- What the pass knows before an instruction, and what it knows after it.
-use Rattle.std.proofs.Common.{◌≡◌, ℕ, zero, suc, ◌<◌, ◌≤◌, Bool, true, false, true≢false, nat_eq}
-use Rattle.std.proofs.Common.{List, [], ◌∷◌, length, map, Option, Some, None, refl, sym, ap, ◌∙◌, subst}
-use Rattle.std.proofs.Common.{⊎_elim, arith}
+use Rattle.std.proofs.Common.{◌≡◌, ℕ, zero, suc, ◌<◌, ◌≤◌, Bool, true, false, true≢false, nat_eq, List, [], ◌∷◌, length}
+use Rattle.std.proofs.Common.{map, Option, Some, None, refl, sym, ap, ◌∙◌, subst, ⊎_elim, arith}
 use Rattle.std.specs.Prelude.{min, replicate, slice_get, not, ◌&&◌, if◌then◌else◌}
 use Rattle.std.specs.List.{list_all}
 use Rattle.std.proofs.Math.Nat.{eq-or-lt_of_le}
@@ -28,7 +27,9 @@ use Rattle.code_rules.proofs.MachineFacts.{Keeps, keeps}
 use Rattle.code_rules.proofs.RegionFacts.{bounds_at-next}
 use Rattle.code_rules.proofs.TableFacts.{entry_at-next, IsTable-entry_at, verdict-same}
 use Rattle.code_rules.proofs.ViolationFacts.{violation_or_accepted}
-use Rattle.code_verifier.specs.Inner.Marks.{innermost, mark_of, agrees, is_marked, mark_at, with_target}
+use Rattle.code_verifier.specs.Inner.Marks.{innermost, agrees, is_marked, mark_at, with_target}
+use Rattle.code_verifier.proofs.MarkFacts.{mark_of, agrees-all, marked-some, mark_at-replicate, mark-next}
+use Rattle.code_verifier.proofs.MarkFacts.{length-with_target}
 use Rattle.code_verifier.specs.Inner.Pass.{nest_of, broken_parts, broken_seen, takes_part, loops_after, cost_after}
 use Rattle.code_verifier.specs.Inner.Pass.{own_cost, all_fits, judged}
 use Rattle.code_verifier.specs.Inner.Slots.{kinds_of, bounds_of}
@@ -39,8 +40,6 @@ use Rattle.code_verifier.specs.declared.targets.Mark.{Mark}
 use Rattle.code_verifier.specs.declared.targets.Mark.TheVariants.{Unmarked}
 use Rattle.code_verifier.proofs.BoundFacts.{fits-top}
 use Rattle.code_verifier.proofs.LoopFacts.{AreOpen, open-nest, own-is, loops-next, cost-after, fits-after}
-use Rattle.code_verifier.proofs.MarkFacts.{agrees-all, marked-some, mark_at-replicate, mark-next}
-use Rattle.code_verifier.proofs.MarkFacts.{length-with_target}
 
 abbrev mark_among : StackCode → ℕ → ℕ → Mark
 mark_among code index target = mark_of (map (λ source. (entry_at code source).nest) (jumps_among code index target))

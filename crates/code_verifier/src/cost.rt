@@ -2,7 +2,6 @@
 ghost use Rattle.std.specs.Prelude.{◌≡◌, IfOk};
 ghost use Rattle.code_rules.specs.Bounds.{at_most};
 ghost use Rattle.code_rules.specs.Costs.{no_cost, plus_cost, cost_of_turns};
-ghost use Rattle.code_rules.specs.Regions.{without_item};
 ghost use Rattle.code_verifier.specs.Inner.Limited.{cost_within};
 
 use crate::bound::Bound;

@@ -1,6 +1,5 @@
 //! What an instruction pushes and writes, and what it does to what is known of the stack.
-ghost use Rattle.std.specs.Prelude.{◌≡◌, if◌then◌else◌, List, [], length, take, drop, slice_get, unwrap_or};
-ghost use Rattle.std.specs.Prelude.{IfOk, OnOk};
+ghost use Rattle.std.specs.Prelude.{◌≡◌, if◌then◌else◌, [], length, take, drop, slice_get, unwrap_or, IfOk, OnOk};
 ghost use Rattle.code_rules.specs.Bounds.{at_most, plus_bound, times_bound, sum_of};
 ghost use Rattle.code_rules.specs.Costs.{top, text_bound, helper_bound, pushed_bounds};
 ghost use Rattle.template_code.specs.Instructions.{pushes, slots_after};

@@ -2,7 +2,7 @@
 ghost use Rattle.std.specs.Prelude.{◌≡◌, ◌+◌, ◌*◌, ◌≤◌, ◌^◌, ◌↔◌, if◌then◌else◌};
 ghost use Rattle.std.specs.Prelude.{nat_le, [], ◌∷◌, Some, None, slice_index, IfOk, IfSome, IsNone};
 ghost use Rattle.std.specs.Option.{option_map};
-ghost use Rattle.code_rules.specs.Polynomial.{constant, plus, times, times_size, fits, value, as_printed};
+ghost use Rattle.code_rules.specs.Polynomial.{constant, plus, times, times_size, value, as_printed};
 ghost use Rattle.code_rules.specs.Costs.{is_empty};
 ghost use Rattle.template_code.specs.declared.limits.TheConstants.{MAX_COEFFICIENT};
 ghost use Rattle.code_verifier.specs.Inner.Limited.{within};

@@ -1,7 +1,6 @@
 //! The rules up to V12, judged at one instruction from what is known of its stack, of the loops round it and of the
 //! jumps before it.
-ghost use Rattle.std.specs.Prelude.{◌≡◌, suc, ◌<◌, nat_eq, nat_lt, not, ◌&&◌, false, [], ◌∷◌};
-ghost use Rattle.std.specs.Prelude.{length, drop};
+ghost use Rattle.std.specs.Prelude.{◌≡◌, suc, ◌<◌, nat_eq, nat_lt, not, ◌&&◌, false, [], ◌∷◌, length, drop};
 ghost use Rattle.helper_set.specs.Helpers.{parameter_kinds};
 ghost use Rattle.template_code.specs.Instructions.{flow, target_of, is_misplaced, loop_named, pops, pushes};
 ghost use Rattle.template_code.specs.Instructions.{slots_after};
@@ -69,10 +68,7 @@ pub fn broken_rule(
 fn has_invalid_target(code: &Code, index: usize, instr: Instr) -> bool
     ensures { result ≡ has_invalid_target code.now index (target_of (flow instr)) }
 {
-    match instr.flow().target() {
-        None => false,
-        Some(target) => target <= index || target >= code.instrs().len(),
-    }
+    matches!(instr.flow().target(), Some(target) if target <= index || target >= code.instrs().len())
 }
 
 fn lacks_slots(instr: Instr, stack: &Stack) -> bool
@@ -159,10 +155,7 @@ fn closes_wrongly(instr: Instr, loops: &Loops) -> bool
 fn lacks_loop(instr: Instr, loops: &Loops) -> bool
     ensures { result ≡ lacks_loop (loop_named instr) (length (nest_of loops.now)) }
 {
-    match instr.loop_named() {
-        None => false,
-        Some(depth) => depth >= loops.depth(),
-    }
+    matches!(instr.loop_named(), Some(depth) if depth >= loops.depth())
 }
 
 fn is_misplaced(code: &Code, index: usize, instr: Instr) -> bool

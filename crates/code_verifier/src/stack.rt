@@ -78,10 +78,7 @@ impl Stack {
     pub fn takes_part(&self) -> bool
         ensures { result ≡ takes_part self.now }
     {
-        match self.top() {
-            None => false,
-            Some(slot) => slot.bound.depends_on_item(),
-        }
+        matches!(self.top(), Some(slot) if slot.bound.depends_on_item())
     }
 
     /// Takes that many slots from the top, or all if there are fewer.

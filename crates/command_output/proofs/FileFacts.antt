@@ -1,6 +1,5 @@
 -- What the first bytes of a file say of all of them.
-use Rattle.std.proofs.Common.{◌≡◌, ◌∙◌, ◌+◌, ◌<◌, ◌≤◌, ℕ, List, Option, Some, None, take}
-use Rattle.std.proofs.Common.{length, ap, arith}
+use Rattle.std.proofs.Common.{◌≡◌, ◌∙◌, ◌+◌, ◌<◌, ◌≤◌, ℕ, List, Option, Some, None, take, length, ap, arith}
 use Rattle.std.specs.Prelude.{IfSome, min}
 use Rattle.std.proofs.lemmas.List.{take_all, length-take}
 

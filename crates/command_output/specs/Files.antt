@@ -1,7 +1,6 @@
 -- What a command knows of a file: its bytes, or nothing, where it isn't known what the file has; and which files there
 -- are at a path. And the line of an error in reading them.
-use Rattle.std.specs.Prelude.{◌≡◌, ◌⊎◌, ◌<◌, ◌≤◌, ℕ, List, length, Option, IfSome, ⊤}
-use Rattle.std.specs.Prelude.{Contains}
+use Rattle.std.specs.Prelude.{◌≡◌, ◌⊎◌, ◌<◌, ◌≤◌, ℕ, List, length, Option, IfSome, ⊤, Contains}
 use Rattle.std.specs.List.{AllZip}
 use Rattle.command_output.specs.Lines.{error_line, out_of_memory, unreadable_line}
 use Rattle.command_output.specs.declared.files.FileError.{FileError}

@@ -1,3 +1,4 @@
+pub mod Tokens
 pub mod Indexes
 pub mod Views
 pub mod Lengths

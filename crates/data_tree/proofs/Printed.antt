@@ -6,7 +6,7 @@ use Rattle.json.specs.Print.{print, print_from, quoted, escape_byte}
 use Rattle.data_tree.specs.Tree.{Tree, nothing, truth, number, text, list, fields, named, Items, no_items, item}
 use Rattle.data_tree.specs.Tree.{Members, no_members, member}
 use Rattle.data_tree.specs.Json.{json, items_json, members_json, comma_if}
-use Rattle.data_tree.specs.Inner.Tokens.{tree_tokens, items_tokens, members_tokens}
+use Rattle.data_tree.proofs.Tokens.{tree_tokens, items_tokens, members_tokens}
 
 -- ---- the same pieces, bracketed to the left
 

@@ -8,7 +8,6 @@
 // Texts and steps.
 pub mod compact_text;
 pub mod digits;
-pub mod plain_text;
 pub mod step;
 
 // The value, and what is asked of it.

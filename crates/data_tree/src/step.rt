@@ -1,20 +1,29 @@
 // A step into a value, and a path of steps.
 ghost use Rattle.std.specs.Prelude.{◌≡◌, IfOk};
 
-use crate::plain_text::PlainText;
-use std::alloc::AllocError;
+use plain_text::text::Text;
+use std::alloc::{AllocError, Global};
 use std::marker::Model;
 
 /// One step into a value.
 #[derive(Debug, Drop)]
 pub enum Step {
     /// To the field of that name.
-    Name(PlainText),
+    Name(Text),
     /// To the item of that index, from 0; in `Fields` to the value named by the number in decimal.
     Index(u32),
 }
 
 impl Step {
+    ghost use Rattle.data_tree.specs.declared.step.Step.{Step};
+
+    /// The step to the field of that name.
+    pub fn named(alloc: Global, name: &str) -> Result<Step, AllocError>
+        ensures { IfOk result (λ step. step ≡ Step.Name name.now) }
+    {
+        Ok(Step::Name(Text::from(String::from_str(alloc, name)?)))
+    }
+
     /// A copy.
     pub fn try_clone(&self) -> Result<Step, AllocError>
         ensures { IfOk result (λ copy. copy ≡ self.now) }

@@ -1,12 +1,11 @@
 -- Each code of an error that users see, with its number, its title and the HTTP status of an answer that reports it.
 use Rattle.std.specs.Prelude.{ℕ, List, Option, Some, None, codes}
 use Rattle.error_code.specs.declared.error_code.ErrorCode.{ErrorCode}
-use Rattle.error_code.specs.declared.error_code.ErrorCode.TheVariants.{BadDocument, NumberNotWhole}
-use Rattle.error_code.specs.declared.error_code.ErrorCode.TheVariants.{UnsupportedField, BadPattern, BadUrl}
-use Rattle.error_code.specs.declared.error_code.ErrorCode.TheVariants.{UnclosedTag, UnexpectedClose, UnknownHelper}
-use Rattle.error_code.specs.declared.error_code.ErrorCode.TheVariants.{WrongArguments, TooDeep, TooLong, BadPath}
-use Rattle.error_code.specs.declared.error_code.ErrorCode.TheVariants.{UnsupportedTag, CodeRefused, UnknownMapping}
-use Rattle.error_code.specs.declared.error_code.ErrorCode.TheVariants.{UnknownScenario, UnknownState}
+use Rattle.error_code.specs.declared.error_code.ErrorCode.TheVariants.{BadDocument, NumberNotWhole, UnsupportedField}
+use Rattle.error_code.specs.declared.error_code.ErrorCode.TheVariants.{BadPattern, BadUrl, UnclosedTag, UnexpectedClose}
+use Rattle.error_code.specs.declared.error_code.ErrorCode.TheVariants.{UnknownHelper, WrongArguments, TooDeep, TooLong}
+use Rattle.error_code.specs.declared.error_code.ErrorCode.TheVariants.{BadPath, UnsupportedTag, CodeRefused}
+use Rattle.error_code.specs.declared.error_code.ErrorCode.TheVariants.{UnknownMapping, UnknownScenario, UnknownState}
 use Rattle.error_code.specs.declared.error_code.ErrorCode.TheVariants.{AlreadyRecording, NotRecording, BadTarget}
 use Rattle.error_code.specs.declared.error_code.ErrorCode.TheVariants.{RecordingFull, HistoryFull, TooManyMappings}
 use Rattle.error_code.specs.declared.error_code.ErrorCode.TheVariants.{UnknownAdminCall, OutOfMemory, TooLarge}

@@ -1,6 +1,5 @@
 -- Exchanges with their moments are the entries of a document.
-use Rattle.std.proofs.Common.{◌≡◌, ℕ, zero, suc, ◌<◌, arith, List, [], ◌∷◌, length, map, Some, refl}
-use Rattle.std.proofs.Common.{ap, slice_get}
+use Rattle.std.proofs.Common.{◌≡◌, ℕ, List, [], ◌∷◌, map, refl, ap}
 use Rattle.har_export.specs.Document.{AreEntries, json_of_entry, texts_of}
 use Rattle.har_export.specs.Inner.Timed.{text_of, texts_of_timed}
 use Rattle.har_export.specs.Moment.{moment_text}

@@ -1,6 +1,5 @@
 -- The request and the reply of an exchange as HAR writes them (HAR 1.2, `request` and `response`).
-use Rattle.std.specs.Prelude.{ℕ, nat_le, ◌&&◌, if◌then◌else◌, List, [], length, pos, neg_ℤ, unwrap_or}
-use Rattle.std.specs.Prelude.{codes}
+use Rattle.std.specs.Prelude.{ℕ, nat_le, ◌&&◌, if◌then◌else◌, List, [], length, pos, neg_ℤ, unwrap_or, codes}
 use Rattle.http.specs.StatusCode.{reason_phrase}
 use Rattle.mapping_model.specs.declared.reply.Reply.{Reply}
 use Rattle.mock_request.specs.Cookies.{cookie_pairs}

@@ -4,7 +4,7 @@ ghost use Rattle.std.specs.Str.{is_utf8};
 ghost use Rattle.har_export.specs.Content.{content_text, with_encoding, mime_type, json_of_post_data, with_post_data};
 ghost use Rattle.har_export.specs.Content.{json_of_content};
 ghost use Rattle.mock_request.specs.Values.{pairs_of};
-ghost use Rattle.serde_json.specs.Data.{put, string};
+ghost use Rattle.serde_json.specs.Data.{put};
 ghost use Rattle.serde_json.specs.View.{view, members_view};
 
 use crate::pairs::first_named;

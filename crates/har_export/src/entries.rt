@@ -1,6 +1,5 @@
 // The entries of a document, each of which is written by itself.
-ghost use Rattle.std.specs.Prelude.{◌≡◌, ◌↔◌, ◌<◌, Some, length, map, IfOk, IsErrOf, slice_get};
-ghost use Rattle.std.specs.Prelude.{string_bytes};
+ghost use Rattle.std.specs.Prelude.{◌≡◌, ◌↔◌, ◌<◌, Some, length, map, IfOk, IsErrOf, slice_get, string_bytes};
 ghost use Rattle.har_export.specs.Document.{AreEntries, AreInRange, texts_of};
 ghost use Rattle.har_export.specs.Inner.Timed.{text_of, texts_of_timed};
 ghost use Rattle.har_export.specs.Moment.{IsInRange};

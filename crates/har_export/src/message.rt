@@ -121,8 +121,5 @@ fn status_phrase(status: u16) -> &'static str
 fn reason_phrase(status: StatusCode) -> &'static str
     ensures { result.now ≡ unwrap_or (reason_phrase status) [] }
 {
-    match status.canonical_reason() {
-        Some(phrase) => phrase,
-        None => "",
-    }
+    status.canonical_reason().unwrap_or("")
 }

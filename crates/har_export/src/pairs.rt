@@ -1,5 +1,5 @@
 // Names with values.
-ghost use Rattle.std.specs.Prelude.{◌≡◌, ◌∷◌, [], ◌++◌, map, option_map, string_bytes, IfOk, OnOk};
+ghost use Rattle.std.specs.Prelude.{◌≡◌, ◌∷◌, [], ◌++◌, option_map, IfOk, OnOk};
 ghost use Rattle.har_export.specs.Pairs.{json_of_pair, json_of_pairs, first_named, reply_pairs, cookie_set};
 ghost use Rattle.har_export.specs.Pairs.{cookies_set};
 ghost use Rattle.mock_request.specs.Cookies.{is_semicolon};

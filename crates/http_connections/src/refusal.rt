@@ -50,8 +50,5 @@ fn last_refusal<C: Default>(alloc: Global, status: StatusCode) -> Response<C>
 
 /// Whether the client waits for `100 Continue` before it sends the content (RFC 9110, section 10.1.1).
 pub(crate) fn awaits_leave(headers: &HeaderMap) -> bool {
-    match headers.get(header::EXPECT) {
-        Some(value) => value.as_bytes().eq_ignore_ascii_case(b"100-continue"),
-        None => false,
-    }
+    matches!(headers.get(header::EXPECT), Some(value) if value.as_bytes().eq_ignore_ascii_case(b"100-continue"))
 }

@@ -1,6 +1,4 @@
 // Which connection makes room where another waits.
-ghost use Rattle.std.specs.Prelude.{◌≡◌};
-
 use crate::course::Course;
 use crate::hour::Hour;
 use std::alloc::{AllocError, Global};

@@ -358,10 +358,7 @@ fn is_empty<I: Drop>(body: &Incoming<I>) -> bool
 fn is_too_long<I: Drop>(body: &Incoming<I>) -> bool
     ensures { IsTrue result → IsTooLong body.now }
 {
-    match body.size_hint().exact() {
-        Some(len) => len > BODY_LIMIT as u64,
-        None => false,
-    }
+    matches!(body.size_hint().exact(), Some(len) if len > BODY_LIMIT as u64)
 }
 
 // Content that is too long, in the place of that which wasn't gathered.

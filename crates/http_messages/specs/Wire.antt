@@ -1,6 +1,5 @@
 -- What is sent of a response.
-use Rattle.std.specs.Prelude.{◌≡◌, ℕ, Bool, ◌==◌, ◌||◌, List, [], ◌∷◌, fold, reverse}
-use Rattle.std.specs.Prelude.{IsFalse, IsTrue, if◌then◌else◌}
+use Rattle.std.specs.Prelude.{◌≡◌, ℕ, Bool, ◌==◌, ◌||◌, List, [], ◌∷◌, fold, reverse, IsFalse, IsTrue, if◌then◌else◌}
 use Rattle.mock_request.specs.ConnectionNames.{is_connection_name}
 use Rattle.http.specs.Response.{head_of, body_of}
 use Rattle.http.specs.declared.response.Response.{Response}

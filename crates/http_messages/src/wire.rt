@@ -1,6 +1,5 @@
 // What is sent of a response.
 ghost use Rattle.std.specs.Prelude.{◌≡◌, All, IfOk, IsTrue, OnOk};
-ghost use Rattle.http_header.specs.FieldValue.{IsFieldValue};
 ghost use Rattle.http_header.specs.HeaderMap.{pairs};
 ghost use Rattle.http_messages.specs.Inner.AsSent.{IsAsSent};
 ghost use Rattle.http_messages.specs.Wire.{IsSent, has_no_content, is_blank, sent_headers, with_sent};

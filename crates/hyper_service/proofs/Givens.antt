@@ -1,5 +1,5 @@
 -- What is given to a message, once the journal's limit is kept, and once an exchange has given what came of it.
-use Rattle.std.proofs.Common.{◌≡◌, ◌⊎◌, ◌∙◌, ℕ, List, Some, IsSome, Result, Ok, Err, IfErr, IfOk, inl, inr, refl, sym, subst}
+use Rattle.std.proofs.Common.{◌≡◌, ◌⊎◌, ◌∙◌, ℕ, List, Some, Result, Ok, Err, IfErr, IfOk, inl, inr, refl, sym, subst}
 use Rattle.std.specs.declared.alloc.AllocError.{AllocError}
 use Rattle.answering.proofs.RenderedLemmas.{is_begun, is_not_begun}
 use Rattle.answering.specs.Forwarding.{IsFinished, IsToForward}
@@ -11,15 +11,12 @@ use Rattle.http.specs.declared.response.Response.{Response}
 use Rattle.http_connections.specs.Sent.{IsBegun as IsBegunBy}
 use Rattle.http_connections.specs.declared.begun.Begun.{Begun}
 use Rattle.http_connections.specs.declared.begun.Begun.TheVariants.{Answered, Forwarding}
-use Rattle.hyper_service.specs.Given.{IsForwardedBy, IsGiven, IsKept, IsLeft, IsPassedTo, IsUnanswered, SiteRules}
-use Rattle.hyper_service.specs.Given.{IsRenderedBy}
+use Rattle.hyper_service.specs.Given.{IsGiven, IsKept, IsLeft, IsPassedTo, IsUnanswered, SiteRules, IsRenderedBy}
 use Rattle.hyper_service.specs.Inner.Begins.{Begins, IsForwardBegun, IsForwardingBy, IsRenderBegun, IsRenderingBy}
 use Rattle.hyper_service.specs.Inner.Exchange.{CanPoll, Gives}
-use Rattle.hyper_service.specs.declared.forward_exchange.ForwardExchange.{ForwardExchange}
 use Rattle.hyper_service.specs.declared.render_exchange.RenderExchange.{RenderExchange}
 use Rattle.hyper_service.specs.declared.site_exchange.SiteExchange.{SiteExchange}
 use Rattle.hyper_service.specs.declared.site_exchange.SiteExchange.TheVariants as kind
-use Rattle.hyper_service.specs.declared.site_exchange.SiteReply.{SiteReply}
 use Rattle.hyper_service.specs.declared.site_exchange.SiteReply.TheVariants as came
 use Rattle.logbook.specs.Pages.{Book}
 use Rattle.mapping_model.specs.declared.reply.Reply.{Reply}

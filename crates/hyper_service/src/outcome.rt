@@ -18,10 +18,7 @@ pub struct Outcome<'a> {
 pub(crate) fn last_number<L: Origin>(seat: &Seat<L>) -> Option<u64>
     ensures { IsLastNumber seat.now.own.held result }
 {
-    match seat.receipts().last() {
-        Some(receipt) => Some(receipt.number),
-        None => None,
-    }
+    Some(seat.receipts().last()?.number)
 }
 
 /// What the seat's last call has made, where before it the last receipt had this number: nothing where it has it still.

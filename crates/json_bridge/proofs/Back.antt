@@ -24,7 +24,7 @@ use Rattle.data_tree.proofs.Numerals.{IsNumber-signed_decimal_wide}
 use Rattle.data_tree.proofs.Printed.{print-tree_tokens}
 use Rattle.data_tree.specs.Json as text
 use Rattle.data_tree.specs.Parts.{names_of}
-use Rattle.data_tree.specs.Inner.Tokens as tokens
+use Rattle.data_tree.proofs.Tokens as tokens
 use Rattle.data_tree.specs.Tree as tree
 use Rattle.data_tree.specs.Tree.{Tree}
 use Rattle.data_tree.specs.WellFormed.{IsAscending, IsWellFormed, AreWellFormed, HaveWellFormedValues}

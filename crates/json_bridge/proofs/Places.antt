@@ -8,8 +8,14 @@ use Rattle.data_tree.specs.declared.data.Data.{Data}
 use Rattle.std.proofs.lemmas.Cmp.{nat_list_cmp_total}
 use Rattle.data_tree.specs.Parts.{names_of}
 use Rattle.data_tree.specs.WellFormed.{IsAscending}
-use Rattle.json_bridge.specs.Inner.Direct.{put, ArePassed, IsFoundAt, BelongsAt, EndBefore}
+use Rattle.json_bridge.specs.Inner.Direct.{put, IsFoundAt, BelongsAt, EndBefore}
 use Rattle.json_bridge.proofs.TreeSteps.{greater_of}
+
+-- the names of that many members are before k
+abbrev pub ArePassed : List ℕ → ℕ → List (List ℕ × Data) → Type 0
+ArePassed k zero ms = Unit {0}
+ArePassed k (suc n) [] = ⊥
+ArePassed k (suc n) (m ∷ ms) = (slice_cmp nat_cmp k m.0 ≡ Greater) × ArePassed k n ms
 
 abbrev pub Field : Type 0
 Field = List ℕ × Data

@@ -158,10 +158,7 @@ fn from_zero(numeral: &Numeral<'_>) -> Option<i128>
     ensures { IfSome result
         (λ number. option_and_then whole_number (number_from false numeral.now) ≡ Some number) }
 {
-    match numeral.to_u64() {
-        Some(number) => Some(i128::from(number)),
-        None => None,
-    }
+    Some(i128::from(numeral.to_u64()?))
 }
 
 // One more member. A few are put where their names belong; the others are put in order when all are there.

@@ -5,7 +5,6 @@ ghost use Rattle.json_bridge.specs.Inner.NextStep.{name_at, cut_at, after_byte, 
 ghost use Rattle.json_bridge.specs.Inner.NextStep.{dotted, quoted, indexed, bracketed, next_step, found_view};
 
 use data_tree::digits::index_of;
-use data_tree::plain_text::PlainText;
 use data_tree::step::Step;
 use std::alloc::{AllocError, Global};
 
@@ -22,7 +21,7 @@ impl StepText<'_> {
         ensures { IfOk result (λ step. step ≡ step_view self.now) }
     {
         match self {
-            StepText::Name(name) => Ok(Step::Name(PlainText::new(String::from_str(alloc, name)?))),
+            StepText::Name(name) => Step::named(alloc, name),
             StepText::Index(index) => Ok(Step::Index(*index)),
         }
     }

@@ -4,8 +4,15 @@ use Rattle.std.proofs.Common.{length, set, Option, Some, None, option_map, Match
 use Rattle.std.proofs.Common.{refl, sym, ap, subst, ◌∙◌, arith}
 use Rattle.data_tree.specs.Parts.{trees_of}
 use Rattle.data_tree.specs.Tree.{Tree, Items, no_items, item}
-use Rattle.json_match.specs.Inner.Taken.{left_of, first_left}
+use Rattle.json_match.specs.Inner.Taken.{first_left}
 use Rattle.json_match.specs.Matching.{without_first}
+
+-- those that aren't taken
+abbrev pub left_of : List Bool → Items → Items
+left_of [] ts = ts
+left_of (b ∷ taken) no_items = no_items
+left_of (true ∷ taken) (item t ts) = left_of taken ts
+left_of (false ∷ taken) (item t ts) = item t (left_of taken ts)
 
 -- an item that is taken or doesn't pass is gone past
 pub gone_past : (passes : Tree → Bool) (i : ℕ) (b : Bool) (t : Tree) (taken : List Bool) (ts : Items)

@@ -33,10 +33,7 @@ pub(crate) fn member_at<'a>(
 pub(crate) fn finds_something(found: Option<&Data>) -> bool
     ensures { result ≡ is_something (option_map_or (λ value. view value.now) found.entry nothing) }
 {
-    match found {
-        Some(value) => is_something(value),
-        None => false,
-    }
+    matches!(found, Some(value) if is_something(value))
 }
 
 fn is_something(value: &Data) -> bool

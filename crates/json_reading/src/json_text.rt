@@ -1,5 +1,5 @@
 // The compact text of a JSON value of whole numbers.
-ghost use Rattle.std.specs.Prelude.{◌≡◌, ◌↔◌, IsTrue};
+ghost use Rattle.std.specs.Prelude.{◌≡◌};
 ghost use Rattle.json_reading.specs.Numbers.{IsWholeJson};
 
 use plain_text::plain::Same;

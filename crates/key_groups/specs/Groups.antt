@@ -1,6 +1,5 @@
 -- Equal keys of a list as groups: which of its group a key is, of how many, and which of the larger groups that is.
-use Rattle.std.specs.Prelude.{ℕ, ◌+◌, Bool, ◌&&◌, ◌==◌, nat_lt, if◌then◌else◌, List, [], ◌∷◌}
-use Rattle.std.specs.Prelude.{◌++◌, Option, count_by}
+use Rattle.std.specs.Prelude.{ℕ, ◌+◌, Bool, ◌&&◌, ◌==◌, nat_lt, if◌then◌else◌, List, [], ◌∷◌, ◌++◌, Option, count_by}
 use Rattle.std.specs.List.{position_from}
 use Rattle.key_groups.specs.declared.place.Place.{Place}
 

@@ -1,6 +1,5 @@
 -- Documents that are read one after the other.
-use Rattle.std.proofs.Common.{◌≡◌, ◌+◌, ◌∷◌, ◌++◌, ◌∙◌, [], ℕ, List}
-use Rattle.std.proofs.Common.{ap, append_assoc, drop, map, refl, sym, take}
+use Rattle.std.proofs.Common.{◌≡◌, ◌+◌, ◌∷◌, ◌++◌, ◌∙◌, [], ℕ, List, ap, append_assoc, drop, map, refl, sym, take}
 use Rattle.std.proofs.Common.{take-append-drop}
 use Rattle.std.proofs.lemmas.List.{append-nil, map-append}
 use Rattle.mapping_commands.specs.Answering.{SpellDocuments}

@@ -1,8 +1,7 @@
 -- What `mock answer` prints for documents and a request: the reply of a book that was just opened with the
 -- documents' mappings. And which errors it reports, and how it ends.
-use Rattle.std.specs.Prelude.{◌≡◌, ◌⊎◌, ◌<◌, ◌≤◌, ℕ, List, [], ◌∷◌, ◌++◌}
-use Rattle.std.specs.Prelude.{length, codes, decimal}
-use Rattle.std.specs.Prelude.{flat_map, Option, None}
+use Rattle.std.specs.Prelude.{◌≡◌, ◌⊎◌, ◌<◌, ◌≤◌, ℕ, List, [], ◌∷◌, ◌++◌, length, codes, decimal, flat_map, Option}
+use Rattle.std.specs.Prelude.{None}
 use Rattle.std.specs.Io.KnownBytes.{Appends}
 use Rattle.command_output.specs.Files.{AreDocuments, IsDocumentsError, file_error_line}
 use Rattle.command_output.specs.Lines.{error_line, out_of_memory}

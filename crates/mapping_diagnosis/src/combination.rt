@@ -1,5 +1,5 @@
 // Objects whose members are right one by one, but not together.
-use crate::fault::Fault;
+use crate::fault::{Fault, Found};
 use crate::part::{BODY_WORDS, Part, VALUE_WORDS};
 use crate::shown::{joined, quoted};
 use crate::sought::Sought;
@@ -10,12 +10,7 @@ use serde_json::{Map, Value};
 use std::alloc::{AllocError, Global};
 
 /// What is wrong in the sought way with an object as a whole.
-pub(crate) fn combination_fault(
-    alloc: Global,
-    part: Part,
-    value: &Value,
-    sought: Sought,
-) -> Result<Option<Fault>, AllocError> {
+pub(crate) fn combination_fault(alloc: Global, part: Part, value: &Value, sought: Sought) -> Found {
     match (part, sought) {
         (Part::Request, Sought::Shape) => lonely(alloc, value, "pathParameters", "urlPathTemplate"),
         (Part::Request, Sought::Urls) => several_of(alloc, value, URLS, URL_FIELDS.as_slice()),
@@ -70,12 +65,7 @@ const BODY_MATCHERS: [&str; 9] = [
     "matchesJsonPath",
 ];
 
-fn several_of(
-    alloc: Global,
-    value: &Value,
-    wanted: &str,
-    names: &[&str],
-) -> Result<Option<Fault>, AllocError> {
+fn several_of(alloc: Global, value: &Value, wanted: &str, names: &[&str]) -> Found {
     if count_of(names, value) < 2 {
         return Ok(None);
     }
@@ -94,12 +84,7 @@ fn count_of(names: &[&str], value: &Value) -> usize {
 }
 
 /// A matcher has one of its words, and `caseInsensitive` only beside `equalTo`.
-fn words_fault(
-    alloc: Global,
-    value: &Value,
-    words: &str,
-    names: &[&str],
-) -> Result<Option<Fault>, AllocError> {
+fn words_fault(alloc: Global, value: &Value, words: &str, names: &[&str]) -> Found {
     let found = lonely(alloc, value, "caseInsensitive", "equalTo")?;
     if found.is_some() || count_of(names, value) == 1 {
         return Ok(found);
@@ -108,7 +93,7 @@ fn words_fault(
     Ok(Some(Fault::of(alloc, wanted.as_str(), value)?))
 }
 
-fn body_fault(alloc: Global, value: &Value) -> Result<Option<Fault>, AllocError> {
+fn body_fault(alloc: Global, value: &Value) -> Found {
     let found = lonely(alloc, value, "ignoreArrayOrder", "equalToJson")?;
     if found.is_some() {
         return Ok(found);
@@ -120,7 +105,7 @@ fn body_fault(alloc: Global, value: &Value) -> Result<Option<Fault>, AllocError>
     words_fault(alloc, value, BODY_WORDS, BODY_MATCHERS.as_slice())
 }
 
-fn path_fault(alloc: Global, value: &Value) -> Result<Option<Fault>, AllocError> {
+fn path_fault(alloc: Global, value: &Value) -> Found {
     if value.get("expression").is_none() {
         return Ok(Some(Fault::of(alloc, "a JSON path as `expression`", value)?));
     }
@@ -128,7 +113,7 @@ fn path_fault(alloc: Global, value: &Value) -> Result<Option<Fault>, AllocError>
 }
 
 /// A field that has to be there.
-fn lacking(alloc: Global, value: &Value, name: &str) -> Result<Option<Fault>, AllocError> {
+fn lacking(alloc: Global, value: &Value, name: &str) -> Found {
     if value.get(name).is_some() {
         return Ok(None);
     }
@@ -137,12 +122,7 @@ fn lacking(alloc: Global, value: &Value, name: &str) -> Result<Option<Fault>, Al
 }
 
 /// A field that has no meaning without another.
-fn lonely(
-    alloc: Global,
-    value: &Value,
-    name: &str,
-    other: &str,
-) -> Result<Option<Fault>, AllocError> {
+fn lonely(alloc: Global, value: &Value, name: &str, other: &str) -> Found {
     let Some(member) = value.get(name) else {
         return Ok(None);
     };
@@ -156,7 +136,7 @@ fn lonely(
 
 // ---- headers
 
-fn headers_fault(alloc: Global, value: &Value) -> Result<Option<Fault>, AllocError> {
+fn headers_fault(alloc: Global, value: &Value) -> Found {
     let Some(members) = value.as_object() else {
         return Ok(None);
     };
@@ -168,7 +148,7 @@ fn headers_fault(alloc: Global, value: &Value) -> Result<Option<Fault>, AllocErr
 }
 
 /// The first name that is none.
-fn name_fault(alloc: Global, members: &Map<String, Value>) -> Result<Option<Fault>, AllocError> {
+fn name_fault(alloc: Global, members: &Map<String, Value>) -> Found {
     for (name, _member) in members.iter() {
         if !is_header_name(alloc, name.as_str())? {
             return Ok(Some(bad_name(alloc, name.as_str())?));

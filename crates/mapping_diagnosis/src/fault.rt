@@ -11,6 +11,9 @@ pub(crate) struct Fault {
     pub(crate) said: String,
 }
 
+/// The first fault of a value, if it has one.
+pub(crate) type Found = Result<Option<Fault>, AllocError>;
+
 impl Fault {
     /// The value itself isn't what was wanted.
     pub(crate) fn of(alloc: Global, wanted: &str, found: &Value) -> Result<Fault, AllocError> {

@@ -114,10 +114,7 @@ impl KnownIds {
 fn id_text(value: &Value) -> Option<&str> {
     match value.get("id") {
         Some(id) => id.as_str(),
-        None => match value.get("uuid") {
-            Some(id) => id.as_str(),
-            None => None,
-        },
+        None => value.get("uuid")?.as_str(),
     }
 }
 

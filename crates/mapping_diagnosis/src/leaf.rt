@@ -1,5 +1,5 @@
 // The values of single fields.
-use crate::fault::Fault;
+use crate::fault::{Fault, Found};
 use crate::numbers::number_fault;
 use crate::reasons::{json_reason, pattern_reason, template_reason};
 use crate::shown::{joined, quoted};
@@ -43,12 +43,7 @@ pub(crate) enum Leaf {
 }
 
 /// What is wrong in the sought way with the value of a field.
-pub(crate) fn leaf_fault(
-    alloc: Global,
-    leaf: Leaf,
-    value: &Value,
-    sought: Sought,
-) -> Result<Option<Fault>, AllocError> {
+pub(crate) fn leaf_fault(alloc: Global, leaf: Leaf, value: &Value, sought: Sought) -> Found {
     let is_right = match sought {
         Sought::Shape => has_shape(alloc, leaf, value)?,
         Sought::Field => is_supported(leaf, value),
@@ -101,40 +96,23 @@ fn wanted(leaf: Leaf, sought: Sought) -> &'static str {
 }
 
 fn is_priority(value: &Value) -> bool {
-    match value.as_i64() {
-        Some(number) => -2_147_483_648 <= number && number <= 2_147_483_647,
-        None => false,
-    }
+    matches!(value.as_i64(), Some(number) if i32::try_from(number).is_ok())
 }
 
 fn is_uuid(value: &Value) -> bool {
-    match value.as_str() {
-        Some(text) => MappingId::parse(text).is_some(),
-        None => false,
-    }
+    matches!(value.as_str(), Some(text) if MappingId::parse(text).is_some())
 }
 
 fn is_empty_list(value: &Value) -> bool {
-    match value.as_array() {
-        Some(items) => items.is_empty(),
-        None => false,
-    }
+    matches!(value.as_array(), Some(items) if items.is_empty())
 }
 
 fn has_members(value: &Value) -> bool {
-    match value.as_object() {
-        Some(members) => !members.is_empty(),
-        None => false,
-    }
+    matches!(value.as_object(), Some(members) if !members.is_empty())
 }
 
 /// What is wrong with a text that has the shape of a text.
-fn text_fault(
-    alloc: Global,
-    leaf: Leaf,
-    value: &Value,
-    sought: Sought,
-) -> Result<Option<Fault>, AllocError> {
+fn text_fault(alloc: Global, leaf: Leaf, value: &Value, sought: Sought) -> Found {
     let Some(text) = value.as_str() else {
         return Ok(None);
     };
@@ -163,12 +141,7 @@ const TARGET: &str =
 const EXPECTED: &str = "JSON or the text of JSON";
 
 /// The fault of a text, if there is a reason why it isn't what is wanted.
-fn reasoned(
-    alloc: Global,
-    wanted: &str,
-    text: &str,
-    reason: Option<String>,
-) -> Result<Option<Fault>, AllocError> {
+fn reasoned(alloc: Global, wanted: &str, text: &str, reason: Option<String>) -> Found {
     let Some(reason) = reason else {
         return Ok(None);
     };
@@ -184,11 +157,7 @@ fn reasoned(
     Ok(Some(Fault::saying(alloc, joined(alloc, texts.as_slice())?)))
 }
 
-fn path_template_fault(
-    alloc: Global,
-    text: &str,
-    value: &Value,
-) -> Result<Option<Fault>, AllocError> {
+fn path_template_fault(alloc: Global, text: &str, value: &Value) -> Found {
     match PathTemplate::parse(alloc, text) {
         Ok(_template) => Ok(None),
         Err(PathTemplateError::OutOfMemory) => Err(AllocError),
@@ -198,7 +167,7 @@ fn path_template_fault(
 
 const PATH_TEMPLATE: &str = "a path that begins with / and has no ?, each {name} once";
 
-fn path_fault(alloc: Global, text: &str, value: &Value) -> Result<Option<Fault>, AllocError> {
+fn path_fault(alloc: Global, text: &str, value: &Value) -> Found {
     match JsonPath::parse(alloc, text) {
         Ok(_path) => Ok(None),
         Err(JsonPathError::OutOfMemory) => Err(AllocError),
@@ -208,7 +177,7 @@ fn path_fault(alloc: Global, text: &str, value: &Value) -> Result<Option<Fault>,
 
 const JSON_PATH: &str = "a JSON path: $ and steps .name, ['text'] or [0]";
 
-fn expected_number_fault(alloc: Global, text: &str) -> Result<Option<Fault>, AllocError> {
+fn expected_number_fault(alloc: Global, text: &str) -> Found {
     let Ok(value) = Value::from_str(alloc, text) else {
         return Ok(None);
     };
@@ -225,7 +194,7 @@ fn expected_number_fault(alloc: Global, text: &str) -> Result<Option<Fault>, All
     Ok(Some(Fault::saying(alloc, joined(alloc, texts.as_slice())?)))
 }
 
-fn source_fault(alloc: Global, text: &str) -> Result<Option<Fault>, AllocError> {
+fn source_fault(alloc: Global, text: &str) -> Found {
     match template_reason(alloc, text)? {
         Some(reason) => {
             let said = joined(alloc, ["wanted a template: ", reason.as_str()].as_slice())?;

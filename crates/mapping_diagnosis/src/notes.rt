@@ -6,7 +6,7 @@ use crate::reasons::json_reason;
 use crate::search::{mapping_fault, part_fault};
 use crate::shown::{joined, quoted, shown};
 use crate::sought::Sought;
-use crate::warnings::warnings_of;
+use crate::warnings::{text_at, warnings_of};
 use itoa::Buffer;
 use mapping_json::error::{MappingError, MappingsError};
 use mapping_json::read::mapping_values;
@@ -226,16 +226,8 @@ impl Notes {
         bytes: &[u8],
         error: Option<RequestDocumentError>,
     ) -> Result<(), AllocError> {
-        let Ok(value) = Value::from_slice(alloc, bytes) else {
-            return self.add_document(alloc, call, bytes);
-        };
-        match Sought::of_matcher(error) {
-            Some(sought) => {
-                let found = part_fault(alloc, Part::Request, &value, sought)?;
-                self.add_found(alloc, call, found)
-            }
-            None => Ok(()),
-        }
+        let sought = Sought::of_matcher(error);
+        self.add_part(alloc, call, bytes, Part::Request, sought.as_slice())
     }
 
     /// Where a document that was to start a recording is wrong: the body of the answer has the code of its error.
@@ -246,43 +238,38 @@ impl Notes {
         bytes: &[u8],
         answer: &[u8],
     ) -> Result<(), AllocError> {
-        let Ok(value) = Value::from_slice(alloc, bytes) else {
-            return self.add_document(alloc, call, bytes);
-        };
-        match recording_sought(alloc, answer) {
-            Some(sought) => {
-                let found = part_fault(alloc, Part::Recording, &value, sought)?;
-                self.add_found(alloc, call, found)
-            }
-            None => Ok(()),
-        }
+        let sought = recording_sought(alloc, answer);
+        self.add_part(alloc, call, bytes, Part::Recording, sought.as_slice())
     }
 
-    /// Where a document that was to set the state of a scenario is wrong, if it is.
+    /// Where a document that was to set the state of a scenario is wrong, if it is: each fault of it has the same code.
     pub fn add_state(&mut self, alloc: Global, call: &str, bytes: &[u8]) -> Result<(), AllocError> {
         if bytes.is_empty() {
             return Ok(());
         }
-        let Ok(value) = Value::from_slice(alloc, bytes) else {
-            return self.add_document(alloc, call, bytes);
-        };
-        let found = state_fault(alloc, &value)?;
-        self.add_found(alloc, call, found)
+        let sought = [Sought::Field, Sought::Shape];
+        self.add_part(alloc, call, bytes, Part::ScenarioState, sought.as_slice())
     }
 
-    fn add_found(
+    /// Where a document that was posted is wrong in one of these ways, the first of which counts.
+    fn add_part(
         &mut self,
         alloc: Global,
         call: &str,
-        found: Option<Fault>,
+        bytes: &[u8],
+        part: Part,
+        ways: &[Sought],
     ) -> Result<(), AllocError> {
-        match found {
-            Some(fault) => {
+        let Ok(value) = Value::from_slice(alloc, bytes) else {
+            return self.add_document(alloc, call, bytes);
+        };
+        for sought in ways {
+            if let Some(fault) = part_fault(alloc, part, &value, *sought)? {
                 let said = said_at(alloc, fault)?;
-                self.add_line(["  ", call, said.as_str(), "\n"].as_slice())
+                return self.add_line(["  ", call, said.as_str(), "\n"].as_slice());
             }
-            None => Ok(()),
         }
+        Ok(())
     }
 
     fn add_line(&mut self, texts: &[&str]) -> Result<(), AllocError> {
@@ -301,27 +288,10 @@ impl Notes {
 }
 
 fn recording_sought(alloc: Global, answer: &[u8]) -> Option<Sought> {
-    let Ok(answer) = Value::from_slice(alloc, answer) else {
-        return None;
-    };
-    let (number, _title) = first_error(&answer)?;
-    Sought::of_recording(number)
-}
-
-fn first_error(answer: &Value) -> Option<(u64, &str)> {
+    let answer = Value::from_slice(alloc, answer).ok()?;
     let error = answer.get("errors")?.as_array()?.first()?;
-    let code = error.get("code")?.as_u64()?;
-    let title = error.get("title")?.as_str()?;
-    Some((code, title))
-}
-
-/// Each fault of it has the same code.
-fn state_fault(alloc: Global, value: &Value) -> Result<Option<Fault>, AllocError> {
-    let found = part_fault(alloc, Part::ScenarioState, value, Sought::Field)?;
-    if found.is_some() {
-        return Ok(found);
-    }
-    part_fault(alloc, Part::ScenarioState, value, Sought::Shape)
+    let number = error.get("code")?.as_u64()?;
+    Sought::of_recording(number)
 }
 
 fn error_at(error: Option<MappingsError>, index: usize) -> Option<MappingError> {
@@ -379,13 +349,6 @@ fn push_name(alloc: Global, text: &mut String, front: &str, name: &str) -> Resul
     text.push_str(front)?;
     text.push_str(name.as_str())?;
     text.push_str(")")
-}
-
-fn text_at<'a>(value: &'a Value, name: &str) -> Option<&'a str> {
-    match value.get(name) {
-        Some(text) => text.as_str(),
-        None => None,
-    }
 }
 
 /// Where the mapping is wrong, and why. Where no value explains the error, the error's own words.

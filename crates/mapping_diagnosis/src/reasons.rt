@@ -180,10 +180,7 @@ fn has_named_argument(content: &str) -> bool {
 /// The tag at the start of the text.
 fn tag_of(text: &str) -> &str {
     match text.find("}}") {
-        Some(at) => match text.get(..at.saturating_add(2)) {
-            Some(tag) => tag,
-            None => text,
-        },
+        Some(at) => text.get(..at.saturating_add(2)).unwrap_or(text),
         None => text,
     }
 }

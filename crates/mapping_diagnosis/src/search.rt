@@ -1,20 +1,16 @@
 // The search for what is wrong.
 use crate::combination::combination_fault;
-use crate::fault::Fault;
+use crate::fault::{Fault, Found};
 use crate::leaf::{Leaf, leaf_fault};
 use crate::numbers::number_fault;
 use crate::part::{Field, Part, field_of};
 use crate::shown::joined;
 use crate::sought::Sought;
 use serde_json::{Map, Value};
-use std::alloc::{AllocError, Global};
+use std::alloc::Global;
 
 /// The first value of a mapping that is wrong in the sought way.
-pub(crate) fn mapping_fault(
-    alloc: Global,
-    value: &Value,
-    sought: Sought,
-) -> Result<Option<Fault>, AllocError> {
+pub(crate) fn mapping_fault(alloc: Global, value: &Value, sought: Sought) -> Found {
     if sought == Sought::Template {
         template_fault(alloc, value)
     } else {
@@ -24,12 +20,7 @@ pub(crate) fn mapping_fault(
 
 /// The first value that is wrong in the sought way. The recursion is as deep as the part nests.
 #[cycle(part_fault)]
-pub(crate) fn part_fault(
-    alloc: Global,
-    part: Part,
-    value: &Value,
-    sought: Sought,
-) -> Result<Option<Fault>, AllocError> {
+pub(crate) fn part_fault(alloc: Global, part: Part, value: &Value, sought: Sought) -> Found {
     match value {
         Value::Object(members) if part.has_members() => {
             let found = member_fault(alloc, part, members, sought)?;
@@ -48,12 +39,7 @@ pub(crate) fn part_fault(
 }
 
 #[cycle(part_fault)]
-fn member_fault(
-    alloc: Global,
-    part: Part,
-    members: &Map<String, Value>,
-    sought: Sought,
-) -> Result<Option<Fault>, AllocError> {
+fn member_fault(alloc: Global, part: Part, members: &Map<String, Value>, sought: Sought) -> Found {
     for (name, member) in members.iter() {
         let field = field_of(part, name.as_str(), members);
         let found = match field.part(sought) {
@@ -68,12 +54,7 @@ fn member_fault(
 }
 
 #[cycle(part_fault)]
-fn item_fault(
-    alloc: Global,
-    part: Part,
-    items: &Vec<Value>,
-    sought: Sought,
-) -> Result<Option<Fault>, AllocError> {
+fn item_fault(alloc: Global, part: Part, items: &Vec<Value>, sought: Sought) -> Found {
     for (index, item) in items.iter().enumerate() {
         if let Some(fault) = part_fault(alloc, part, item, sought)? {
             return Ok(Some(fault.under_index(alloc, index)?));
@@ -83,12 +64,7 @@ fn item_fault(
 }
 
 /// What is wrong with a member that isn't searched as a part.
-fn field_fault(
-    alloc: Global,
-    field: Field,
-    member: &Value,
-    sought: Sought,
-) -> Result<Option<Fault>, AllocError> {
+fn field_fault(alloc: Global, field: Field, member: &Value, sought: Sought) -> Found {
     match (field, sought) {
         (Field::Ignored, _) => Ok(None),
         (_, Sought::Number) => number_fault(alloc, member),
@@ -104,12 +80,7 @@ fn field_fault(
 }
 
 /// What is wrong with a value that isn't searched itself.
-fn single_fault(
-    alloc: Global,
-    part: Part,
-    value: &Value,
-    sought: Sought,
-) -> Result<Option<Fault>, AllocError> {
+fn single_fault(alloc: Global, part: Part, value: &Value, sought: Sought) -> Found {
     if sought == Sought::Number {
         return number_fault(alloc, value);
     }
@@ -124,7 +95,7 @@ fn single_fault(
 }
 
 /// The first template that isn't one: those of the headers by their names, then the body.
-fn template_fault(alloc: Global, mapping: &Value) -> Result<Option<Fault>, AllocError> {
+fn template_fault(alloc: Global, mapping: &Value) -> Found {
     let Some(response) = mapping.get("response") else {
         return Ok(None);
     };
@@ -138,12 +109,7 @@ fn template_fault(alloc: Global, mapping: &Value) -> Result<Option<Fault>, Alloc
     }
 }
 
-fn fault_at(
-    alloc: Global,
-    response: &Value,
-    name: &str,
-    part: Part,
-) -> Result<Option<Fault>, AllocError> {
+fn fault_at(alloc: Global, response: &Value, name: &str, part: Part) -> Found {
     let Some(value) = response.get(name) else {
         return Ok(None);
     };

@@ -10,45 +10,234 @@ use std::alloc::{AllocError, Global};
 
 /// The warnings of a mapping, each a sentence.
 pub(crate) fn warnings_of(alloc: Global, value: &Value) -> Result<Vec<String>, AllocError> {
-    let mut warnings = Vec::new(alloc);
-    add_ignored(alloc, value, &mut warnings)?;
-    add_lonely(alloc, value, "requiredScenarioState", &mut warnings)?;
-    add_lonely(alloc, value, "newScenarioState", &mut warnings)?;
+    let mut warnings = Warnings {
+        alloc,
+        sentences: Vec::new(alloc),
+    };
+    warnings.add_ignored(value)?;
+    warnings.add_lonely(value, "requiredScenarioState")?;
+    warnings.add_lonely(value, "newScenarioState")?;
     if let Some(request) = value.get("request") {
-        add_method(alloc, request, &mut warnings)?;
-        add_url(alloc, request, &mut warnings)?;
-        add_path_template(alloc, request, &mut warnings)?;
-        add_negative(alloc, request, "headers", "header", &mut warnings)?;
-        add_negative(
-            alloc,
-            request,
-            "queryParameters",
-            "query parameter",
-            &mut warnings,
-        )?;
-        add_negative(alloc, request, "cookies", "cookie", &mut warnings)?;
-        add_placeholder(alloc, request, &mut warnings)?;
+        warnings.add_method(request)?;
+        warnings.add_url(request)?;
+        warnings.add_path_template(request)?;
+        warnings.add_negative(request, "headers", "header")?;
+        warnings.add_negative(request, "queryParameters", "query parameter")?;
+        warnings.add_negative(request, "cookies", "cookie")?;
+        warnings.add_placeholder(request)?;
     }
     if let Some(response) = value.get("response") {
-        add_status_message(alloc, response, &mut warnings)?;
-        add_body(alloc, response, &mut warnings)?;
-        add_json_body(alloc, response, &mut warnings)?;
-        add_templates(alloc, response, &mut warnings)?;
+        warnings.add_status_message(response)?;
+        warnings.add_body(response)?;
+        warnings.add_json_body(response)?;
+        warnings.add_templates(response)?;
     }
-    Ok(warnings)
+    let Warnings {
+        alloc: _alloc,
+        sentences,
+    } = warnings;
+    Ok(sentences)
 }
 
-/// Fields at the top that are ignored, and that WireMock doesn't write: they are probably misspelt.
-fn add_ignored(alloc: Global, value: &Value, warnings: &mut Vec<String>) -> Result<(), AllocError> {
-    let Some(members) = value.as_object() else {
-        return Ok(());
-    };
-    for (name, _member) in members.iter() {
-        if !is_known(name.as_str(), members) {
-            warnings.push(ignored(alloc, name.as_str(), members)?)?;
-        }
+#[derive(Drop)]
+struct Warnings {
+    alloc: Global,
+    sentences: Vec<String>,
+}
+
+impl Warnings {
+    /// A sentence of these texts.
+    fn add(&mut self, texts: &[&str]) -> Result<(), AllocError> {
+        self.sentences.push(joined(self.alloc, texts)?)?;
+        Ok(())
     }
-    Ok(())
+
+    /// Fields at the top that are ignored, and that WireMock doesn't write: they are probably misspelt.
+    fn add_ignored(&mut self, value: &Value) -> Result<(), AllocError> {
+        let Some(members) = value.as_object() else {
+            return Ok(());
+        };
+        for (name, _member) in members.iter() {
+            if !is_known(name.as_str(), members) {
+                let quoted = quoted(self.alloc, name.as_str())?;
+                let texts = [
+                    "the field ",
+                    quoted.as_str(),
+                    " is ignored: ",
+                    belonging(name.as_str(), members),
+                    effect_of(members),
+                ];
+                self.add(texts.as_slice())?;
+            }
+        }
+        Ok(())
+    }
+
+    /// A state of no scenario.
+    fn add_lonely(&mut self, value: &Value, name: &str) -> Result<(), AllocError> {
+        if value.get(name).is_none() || value.get("scenarioName").is_some() {
+            return Ok(());
+        }
+        let effect = "` has no effect without `scenarioName`";
+        self.add(["the field `", name, effect].as_slice())
+    }
+
+    /// A method with a small letter: clients send methods in capitals, and they are compared as they stand.
+    fn add_method(&mut self, request: &Value) -> Result<(), AllocError> {
+        let Some(method) = text_at(request, "method") else {
+            return Ok(());
+        };
+        if !method
+            .as_bytes()
+            .iter()
+            .any(|byte| byte.is_ascii_lowercase())
+        {
+            return Ok(());
+        }
+        let method = quoted(self.alloc, method)?;
+        let reason = " is compared as it stands, and clients send methods in capitals";
+        self.add(["the `method` ", method.as_str(), reason].as_slice())
+    }
+
+    /// URLs that no request has: that of a request begins with a slash, and its path has no question mark.
+    fn add_url(&mut self, request: &Value) -> Result<(), AllocError> {
+        let no_slash = "it doesn't begin with a slash";
+        if let Some(url) = text_at(request, "url") {
+            if !url.starts_with("/") {
+                self.add_unmatched("url", url, no_slash)?;
+            }
+        }
+        if let Some(path) = text_at(request, "urlPath") {
+            if !path.starts_with("/") {
+                self.add_unmatched("urlPath", path, no_slash)?;
+            } else if path.contains("?") {
+                let reason = "a path has no query; use `url`, or `queryParameters`";
+                self.add_unmatched("urlPath", path, reason)?;
+            }
+        }
+        Ok(())
+    }
+
+    fn add_unmatched(&mut self, name: &str, text: &str, reason: &str) -> Result<(), AllocError> {
+        let text = quoted(self.alloc, text)?;
+        let texts = [
+            "no request matches the `",
+            name,
+            "` ",
+            text.as_str(),
+            ": ",
+            reason,
+        ];
+        self.add(texts.as_slice())
+    }
+
+    /// Segments of a path template that look like more than a text, and are none but a text.
+    fn add_path_template(&mut self, request: &Value) -> Result<(), AllocError> {
+        let Some(template) = text_at(request, "urlPathTemplate") else {
+            return Ok(());
+        };
+        // It is refused.
+        if template.contains('?') {
+            return Ok(());
+        }
+        for segment in template.split('/') {
+            if looks_bound(segment) && !is_bound(self.alloc, segment)? {
+                let segment = quoted(self.alloc, segment)?;
+                let reason =
+                    " of `urlPathTemplate` is compared as it stands: only a whole segment {name} takes any text";
+                self.add(["the segment ", segment.as_str(), reason].as_slice())?;
+            }
+        }
+        Ok(())
+    }
+
+    /// Matchers that a request without such a value doesn't meet, and that WireMock takes as met by one.
+    fn add_negative(&mut self, request: &Value, field: &str, what: &str) -> Result<(), AllocError> {
+        let Some(members) = object_at(request, field) else {
+            return Ok(());
+        };
+        for (name, matcher) in members.iter() {
+            if let Some(word) = negative_word(matcher) {
+                let name = quoted(self.alloc, name.as_str())?;
+                let texts = [
+                    "a request without the ",
+                    what,
+                    " ",
+                    name.as_str(),
+                    " doesn't meet its `",
+                    word,
+                    "`",
+                ];
+                self.add(texts.as_slice())?;
+            }
+        }
+        Ok(())
+    }
+
+    /// What JsonUnit has in place of a value, and is compared as a text.
+    fn add_placeholder(&mut self, request: &Value) -> Result<(), AllocError> {
+        let Some(items) = list_at(request, "bodyPatterns") else {
+            return Ok(());
+        };
+        for item in items {
+            if has_placeholder(self.alloc, item)? {
+                let warning =
+                    "`${json-unit..}` in `equalToJson` is compared as it stands: it is no placeholder";
+                self.add([warning].as_slice())?;
+            }
+        }
+        Ok(())
+    }
+
+    /// The reason phrase of a response is that of its status.
+    fn add_status_message(&mut self, response: &Value) -> Result<(), AllocError> {
+        if response.get("statusMessage").is_none() {
+            return Ok(());
+        }
+        self.add(["`statusMessage` is ignored: the reason phrase is that of the status"].as_slice())
+    }
+
+    /// Templates with names that find nothing, or that may take too much for every request.
+    fn add_templates(&mut self, response: &Value) -> Result<(), AllocError> {
+        if !is_templated(response) {
+            return Ok(());
+        }
+        add_unknown_names(self.alloc, response, &mut self.sentences)?;
+        if let Some(warning) = always_over(self.alloc, response)? {
+            self.sentences.push(warning)?;
+        }
+        Ok(())
+    }
+
+    /// A text with tags that is no template.
+    fn add_body(&mut self, response: &Value) -> Result<(), AllocError> {
+        let Some(body) = text_at(response, "body") else {
+            return Ok(());
+        };
+        if is_templated(response) || !body.contains("{{") {
+            return Ok(());
+        }
+        let warning =
+            "`body` is no template, its {{ is sent as it is: it is one where `transformers` names `response-template`";
+        self.add([warning].as_slice())
+    }
+
+    /// A JSON body is sent as it is, also beside `response-template`.
+    fn add_json_body(&mut self, response: &Value) -> Result<(), AllocError> {
+        let Some(body) = response.get("jsonBody") else {
+            return Ok(());
+        };
+        if !is_templated(response) {
+            return Ok(());
+        }
+        let text = body.to_string(self.alloc)?;
+        if !text.as_str().contains("{{") {
+            return Ok(());
+        }
+        let warning =
+            "`jsonBody` is no template, its {{ is sent as it is: write the JSON as the text of `body`";
+        self.add([warning].as_slice())
+    }
 }
 
 /// Whether the field is read, or written by WireMock.
@@ -66,23 +255,15 @@ fn is_written_by_wiremock(name: &str) -> bool {
     )
 }
 
-fn ignored(alloc: Global, name: &str, members: &Map<String, Value>) -> Result<String, AllocError> {
-    let quoted = quoted(alloc, name)?;
-    let effect = if !members.contains_key("request") {
+/// What comes of a field that is ignored.
+fn effect_of(members: &Map<String, Value>) -> &'static str {
+    if !members.contains_key("request") {
         "without `request` the mapping answers every request"
     } else if !members.contains_key("response") {
         "without `response` it answers 200 with no body"
     } else {
         "it has no effect"
-    };
-    let texts = [
-        "the field ",
-        quoted.as_str(),
-        " is ignored: ",
-        belonging(name, members),
-        effect,
-    ];
-    joined(alloc, texts.as_slice())
+    }
 }
 
 /// Where a field belongs that is meant for another object.
@@ -100,119 +281,19 @@ fn belonging(name: &str, members: &Map<String, Value>) -> &'static str {
 }
 
 fn is_field(part: Part, name: &str, members: &Map<String, Value>) -> bool {
-    match field_of(part, name, members) {
-        Field::Unsupported(_) => false,
-        _ => true,
-    }
+    !matches!(field_of(part, name, members), Field::Unsupported(_))
 }
 
-/// A state of no scenario.
-fn add_lonely(
-    alloc: Global,
-    value: &Value,
-    name: &str,
-    warnings: &mut Vec<String>,
-) -> Result<(), AllocError> {
-    if value.get(name).is_none() || value.get("scenarioName").is_some() {
-        return Ok(());
-    }
-    let texts = [
-        "the field `",
-        name,
-        "` has no effect without `scenarioName`",
-    ];
-    warnings.push(joined(alloc, texts.as_slice())?)?;
-    Ok(())
+pub(crate) fn text_at<'a>(value: &'a Value, name: &str) -> Option<&'a str> {
+    value.get(name)?.as_str()
 }
 
-/// A method with a small letter: clients send methods in capitals, and they are compared as they stand.
-fn add_method(
-    alloc: Global,
-    request: &Value,
-    warnings: &mut Vec<String>,
-) -> Result<(), AllocError> {
-    let Some(method) = text_at(request, "method") else {
-        return Ok(());
-    };
-    if method
-        .as_bytes()
-        .iter()
-        .any(|byte| byte.is_ascii_lowercase())
-    {
-        let method = quoted(alloc, method)?;
-        let texts = [
-            "the `method` ",
-            method.as_str(),
-            " is compared as it stands, and clients send methods in capitals",
-        ];
-        warnings.push(joined(alloc, texts.as_slice())?)?;
-    }
-    Ok(())
+fn object_at<'a>(value: &'a Value, name: &str) -> Option<&'a Map<String, Value>> {
+    value.get(name)?.as_object()
 }
 
-/// URLs that no request has: that of a request begins with a slash, and its path has no question mark.
-fn add_url(alloc: Global, request: &Value, warnings: &mut Vec<String>) -> Result<(), AllocError> {
-    if let Some(url) = text_at(request, "url") {
-        if !url.starts_with("/") {
-            warnings.push(unmatched(alloc, "url", url, "it doesn't begin with a slash")?)?;
-        }
-    }
-    if let Some(path) = text_at(request, "urlPath") {
-        if !path.starts_with("/") {
-            warnings.push(unmatched(alloc, "urlPath", path, "it doesn't begin with a slash")?)?;
-        } else if path.contains("?") {
-            let reason = "a path has no query; use `url`, or `queryParameters`";
-            warnings.push(unmatched(alloc, "urlPath", path, reason)?)?;
-        }
-    }
-    Ok(())
-}
-
-fn text_at<'a>(value: &'a Value, name: &str) -> Option<&'a str> {
-    match value.get(name) {
-        Some(text) => text.as_str(),
-        None => None,
-    }
-}
-
-fn unmatched(alloc: Global, name: &str, text: &str, reason: &str) -> Result<String, AllocError> {
-    let text = quoted(alloc, text)?;
-    let texts = [
-        "no request matches the `",
-        name,
-        "` ",
-        text.as_str(),
-        ": ",
-        reason,
-    ];
-    joined(alloc, texts.as_slice())
-}
-
-/// Segments of a path template that look like more than a text, and are none but a text.
-fn add_path_template(
-    alloc: Global,
-    request: &Value,
-    warnings: &mut Vec<String>,
-) -> Result<(), AllocError> {
-    let Some(template) = text_at(request, "urlPathTemplate") else {
-        return Ok(());
-    };
-    // It is refused.
-    if template.contains('?') {
-        return Ok(());
-    }
-    for segment in template.split('/') {
-        if looks_bound(segment) && !is_bound(alloc, segment)? {
-            let segment = quoted(alloc, segment)?;
-            let texts = [
-                "the segment ",
-                segment.as_str(),
-                " of `urlPathTemplate` is compared as it stands: only a whole segment {name} takes any text",
-            ];
-            warnings.push(joined(alloc, texts.as_slice())?)?;
-        }
-    }
-    Ok(())
+fn list_at<'a>(value: &'a Value, name: &str) -> Option<&'a Vec<Value>> {
+    value.get(name)?.as_array()
 }
 
 fn looks_bound(segment: &str) -> bool {
@@ -229,42 +310,6 @@ fn is_bound(alloc: Global, segment: &str) -> Result<bool, AllocError> {
     }
 }
 
-/// Matchers that a request without such a value doesn't meet, and that WireMock takes as met by one.
-fn add_negative(
-    alloc: Global,
-    request: &Value,
-    field: &str,
-    what: &str,
-    warnings: &mut Vec<String>,
-) -> Result<(), AllocError> {
-    let Some(matchers) = request.get(field) else {
-        return Ok(());
-    };
-    let Some(members) = matchers.as_object() else {
-        return Ok(());
-    };
-    for (name, matcher) in members.iter() {
-        if let Some(word) = negative_word(matcher) {
-            warnings.push(not_met(alloc, what, name.as_str(), word)?)?;
-        }
-    }
-    Ok(())
-}
-
-fn not_met(alloc: Global, what: &str, name: &str, word: &str) -> Result<String, AllocError> {
-    let name = quoted(alloc, name)?;
-    let texts = [
-        "a request without the ",
-        what,
-        " ",
-        name.as_str(),
-        " doesn't meet its `",
-        word,
-        "`",
-    ];
-    joined(alloc, texts.as_slice())
-}
-
 fn negative_word(matcher: &Value) -> Option<&'static str> {
     if matcher.get("doesNotContain").is_some() {
         Some("doesNotContain")
@@ -275,28 +320,6 @@ fn negative_word(matcher: &Value) -> Option<&'static str> {
     }
 }
 
-/// What JsonUnit has in place of a value, and is compared as a text.
-fn add_placeholder(
-    alloc: Global,
-    request: &Value,
-    warnings: &mut Vec<String>,
-) -> Result<(), AllocError> {
-    let Some(patterns) = request.get("bodyPatterns") else {
-        return Ok(());
-    };
-    let Some(items) = patterns.as_array() else {
-        return Ok(());
-    };
-    for item in items {
-        if has_placeholder(alloc, item)? {
-            let warning =
-                "`${json-unit..}` in `equalToJson` is compared as it stands: it is no placeholder";
-            warnings.push(String::from_str(alloc, warning)?)?;
-        }
-    }
-    Ok(())
-}
-
 fn has_placeholder(alloc: Global, pattern: &Value) -> Result<bool, AllocError> {
     let Some(expected) = pattern.get("equalToJson") else {
         return Ok(false);
@@ -305,81 +328,6 @@ fn has_placeholder(alloc: Global, pattern: &Value) -> Result<bool, AllocError> {
     Ok(text.as_str().contains("${json-unit."))
 }
 
-/// The reason phrase of a response is that of its status.
-fn add_status_message(
-    alloc: Global,
-    response: &Value,
-    warnings: &mut Vec<String>,
-) -> Result<(), AllocError> {
-    if response.get("statusMessage").is_none() {
-        return Ok(());
-    }
-    let warning = "`statusMessage` is ignored: the reason phrase is that of the status";
-    warnings.push(String::from_str(alloc, warning)?)?;
-    Ok(())
-}
-
-/// Templates with names that find nothing, or that may take too much for every request.
-fn add_templates(
-    alloc: Global,
-    response: &Value,
-    warnings: &mut Vec<String>,
-) -> Result<(), AllocError> {
-    if !is_templated(response) {
-        return Ok(());
-    }
-    add_unknown_names(alloc, response, warnings)?;
-    if let Some(warning) = always_over(alloc, response)? {
-        warnings.push(warning)?;
-    }
-    Ok(())
-}
-
-/// A text with tags that is no template.
-fn add_body(alloc: Global, response: &Value, warnings: &mut Vec<String>) -> Result<(), AllocError> {
-    let Some(body) = text_at(response, "body") else {
-        return Ok(());
-    };
-    if is_templated(response) || !body.contains("{{") {
-        return Ok(());
-    }
-    let warning =
-        "`body` is no template, its {{ is sent as it is: it is one where `transformers` names `response-template`";
-    warnings.push(String::from_str(alloc, warning)?)?;
-    Ok(())
-}
-
-/// A JSON body is sent as it is, also beside `response-template`.
-fn add_json_body(
-    alloc: Global,
-    response: &Value,
-    warnings: &mut Vec<String>,
-) -> Result<(), AllocError> {
-    let Some(body) = response.get("jsonBody") else {
-        return Ok(());
-    };
-    if !is_templated(response) {
-        return Ok(());
-    }
-    let text = body.to_string(alloc)?;
-    if text.as_str().contains("{{") {
-        let warning =
-            "`jsonBody` is no template, its {{ is sent as it is: write the JSON as the text of `body`";
-        warnings.push(String::from_str(alloc, warning)?)?;
-    }
-    Ok(())
-}
-
 fn is_templated(response: &Value) -> bool {
-    match response.get("transformers") {
-        Some(transformers) => has_items(transformers),
-        None => false,
-    }
-}
-
-fn has_items(value: &Value) -> bool {
-    match value.as_array() {
-        Some(items) => !items.is_empty(),
-        None => false,
-    }
+    matches!(list_at(response, "transformers"), Some(items) if !items.is_empty())
 }

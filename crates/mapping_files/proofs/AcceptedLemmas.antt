@@ -1,6 +1,5 @@
 -- Documents that are read one after the other, where refused mappings are left out.
-use Rattle.std.proofs.Common.{◌≡◌, ◌∷◌, ◌++◌, ◌∙◌, [], ℕ, List}
-use Rattle.std.proofs.Common.{ap, append_assoc, refl, sym}
+use Rattle.std.proofs.Common.{◌∷◌, ◌++◌, ◌∙◌, [], ℕ, List, ap, append_assoc, refl, sym}
 use Rattle.std.proofs.lemmas.List.{append-nil}
 use Rattle.mapping_model.specs.declared.mapping_spec.MappingSpec.{MappingSpec}
 use Rattle.mapping_files.specs.Served.{AreAccepted, SpellAccepted}

@@ -1,5 +1,5 @@
 // The text of a file of mappings.
-ghost use Rattle.std.specs.Prelude.{◌≡◌, ◌↔◌, ◌++◌, IfOk, IsErrOf, List, OnOk, flat_map, length, map, string_bytes, ℕ};
+ghost use Rattle.std.specs.Prelude.{◌≡◌, ◌++◌, IfOk, List, OnOk, flat_map, length, map, string_bytes, ℕ};
 ghost use Rattle.std.specs.List.{AllZip};
 ghost use Rattle.mapping_files.specs.Saved.{IsFileText, IsTextOf, file_text, in_order, next_text};
 ghost use Rattle.serde_json.specs.View.{view};

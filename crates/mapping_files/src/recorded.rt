@@ -1,6 +1,6 @@
 //! What `mock record` writes when it ends: the mappings that its server has recorded, and the exchanges as a HAR
 //! document.
-ghost use Rattle.std.specs.Prelude.{◌≡◌, IfOk, List, OnOk, ℕ};
+ghost use Rattle.std.specs.Prelude.{IfOk, List, OnOk, ℕ};
 ghost use Rattle.mapping_files.specs.Saved.{IsFileText};
 ghost use Rattle.mapping_files.specs.declared.file_text.Listed.TheVariants.{OldestFirst};
 

@@ -1,5 +1,5 @@
 //! `mock save`: the mappings of a running server.
-ghost use Rattle.std.specs.Prelude.{◌≡◌, ◌≤◌, List, OnOk, ℕ};
+ghost use Rattle.std.specs.Prelude.{◌≡◌, ◌≤◌, List, ℕ};
 ghost use Rattle.std.specs.Io.KnownBytes.{Appends};
 ghost use Rattle.mapping_files.specs.Saved.{IsFileText, saved_line};
 ghost use Rattle.mapping_files.specs.declared.file_text.Listed.TheVariants.{NewestFirst};

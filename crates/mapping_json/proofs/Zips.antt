@@ -1,6 +1,5 @@
 -- Lists of values beside what is read of them.
-use Rattle.std.proofs.Common.{◌≡◌, suc, List, [], ◌∷◌, ◌++◌, length, map, refl, ap}
-use Rattle.std.proofs.Common.{Result, Ok, Err}
+use Rattle.std.proofs.Common.{◌≡◌, suc, List, [], ◌∷◌, ◌++◌, length, map, refl, ap, Result, Ok, Err}
 use Rattle.std.specs.List.{AllZip}
 use Rattle.mapping_json.specs.Documents.{list_of, IsOwnError, IsResultOf}
 use Rattle.mapping_json.specs.Spelling.{SpellsMapping}

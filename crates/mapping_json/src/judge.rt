@@ -157,19 +157,13 @@ fn wrong_scenario(value: &Value) -> Option<Kind>
 fn wrong_priority(value: &Value) -> Option<Kind>
     ensures { result ≡ wrong_field priority_of (get (codes "priority") (view value.now)) }
 {
-    match value.get("priority") {
-        Some(priority) => wrong_of(&priority_of(priority)),
-        None => None,
-    }
+    wrong_of(&priority_of(value.get("priority")?))
 }
 
 fn wrong_id(value: &Value) -> Option<Kind>
     ensures { result ≡ wrong_field id_of (id_field (view value.now)) }
 {
-    match id_field(value) {
-        Some(id) => wrong_of(&id_of(id)),
-        None => None,
-    }
+    wrong_of(&id_of(id_field(value)?))
 }
 
 fn wrong_text(name: &str, value: &Value) -> Option<Kind>

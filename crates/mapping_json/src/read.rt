@@ -80,10 +80,7 @@ pub fn mapping_values(document: &Value) -> Option<&[Value]>
         return None;
     }
     match document.get("mappings") {
-        Some(mappings) => match mappings.as_array() {
-            Some(values) => Some(values.as_slice()),
-            None => None,
-        },
+        Some(mappings) => Some(mappings.as_array()?.as_slice()),
         None => Some(slice::from_ref(document)),
     }
 }

@@ -270,10 +270,7 @@ pub(crate) fn response_in(
 pub(crate) fn is_empty_list(value: &Value) -> bool
     ensures { result ≡ is_empty_list (view value.now) }
 {
-    match value.as_array() {
-        Some(items) => has_no_items(items),
-        None => false,
-    }
+    matches!(value.as_array(), Some(items) if has_no_items(items))
 }
 
 fn has_no_items(items: &Vec<Value>) -> bool

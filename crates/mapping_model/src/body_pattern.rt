@@ -1,5 +1,4 @@
 // What the body of a request has to meet.
-ghost use Rattle.std.specs.Prelude.{◌≡◌};
 
 use json_match::json_spec::JsonSpec;
 use plain_text::octets::Octets;

@@ -1,5 +1,4 @@
 // A matcher of the values of a name.
-ghost use Rattle.std.specs.Prelude.{◌≡◌};
 
 use plain_text::plain::{Same, TryClone};
 use plain_text::text::Text;

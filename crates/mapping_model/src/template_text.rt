@@ -1,5 +1,5 @@
 // A template of a response.
-ghost use Rattle.std.specs.Prelude.{◌≡◌, ◌↔◌, ℕ, IfOk, IfErr, OnOk, IsErrOf, IsTrue};
+ghost use Rattle.std.specs.Prelude.{◌≡◌, ℕ, IfOk, IfErr, OnOk, IsErrOf};
 ghost use Rattle.code_rules.specs.declared.rule.Rule.{Rule};
 ghost use Rattle.template_tree.specs.Source.{with_escape};
 ghost use Rattle.template_machine.specs.Errors.{IsErrorOf};

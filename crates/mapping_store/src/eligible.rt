@@ -1,6 +1,5 @@
 // Which entries are eligible for a request.
-ghost use Rattle.std.specs.Prelude.{◌≡◌, ◌↔◌, ◌<◌, ◌≤◌, ⊤, false, length, true, AllPairs, IfOk};
-ghost use Rattle.std.specs.Prelude.{IfSome, IsTrue};
+ghost use Rattle.std.specs.Prelude.{◌≡◌, ◌↔◌, ◌<◌, ◌≤◌, ⊤, false, length, true, AllPairs, IfOk, IfSome, IsTrue};
 ghost use Rattle.std.specs.List.{AllWithin};
 ghost use Rattle.std.specs.Ordering.{is_lt};
 ghost use Rattle.request_journal.specs.Choice.{IsEligible, IsReady};

@@ -1,9 +1,7 @@
 // The entries of a store.
-ghost use Rattle.std.specs.Prelude.{◌≡◌, ◌≢◌, ◌+◌, ◌<◌, ◌≤◌, [], ◌∷◌, ◌++◌};
-ghost use Rattle.std.specs.Prelude.{length, All, IsTrue};
-ghost use Rattle.std.specs.Prelude.{AllPairs, MatchOption, IsPermutation, slice_index_or};
+ghost use Rattle.std.specs.Prelude.{◌≡◌, ◌≢◌, ◌+◌, ◌<◌, ◌≤◌, [], ◌∷◌, ◌++◌, length, All, IsTrue, AllPairs, MatchOption};
+ghost use Rattle.std.specs.Prelude.{IsPermutation, slice_index_or, vec_len};
 ghost use Rattle.std.specs.List.{IsDistinct};
-ghost use Rattle.std.specs.Prelude.{vec_len};
 ghost use Rattle.std.specs.Vec.{vec_capacity};
 ghost use Rattle.mapping_store.specs.Kept.{IsBefore, have_one_id, without};
 ghost use Rattle.mapping_store.specs.declared.entry.Entry.{Entry};

@@ -1,7 +1,6 @@
 // The live mappings of a book.
-ghost use Rattle.std.specs.Prelude.{◌≡◌, ◌↔◌, ◌<◌, ◌≤◌, ◌+◌, ◌∷◌, [], ◌++◌, ℕ};
-ghost use Rattle.std.specs.Prelude.{Any, IfOk, IfSome, IsSome, IsTrue, IsPermutation, MatchOption, OnErr, OnOk, length};
-ghost use Rattle.std.specs.Prelude.{vec_len};
+ghost use Rattle.std.specs.Prelude.{◌≡◌, ◌↔◌, ◌<◌, ◌≤◌, ◌+◌, ◌∷◌, [], ◌++◌, ℕ, Any, IfOk, IfSome, IsSome, IsTrue};
+ghost use Rattle.std.specs.Prelude.{IsPermutation, MatchOption, OnOk, length, vec_len};
 ghost use Rattle.request_journal.specs.Choice.{IsChosen, IsMissed};
 ghost use Rattle.request_journal.specs.Live.{left_by};
 ghost use Rattle.request_journal.specs.Past.{defaults_from, placed_from};

@@ -48,10 +48,7 @@ pub(crate) fn names(
 fn is_in(name: &str, scenario: &Option<ScenarioSpec>) -> bool
     ensures { IsTrue result ↔ IsIn name.now scenario.now }
 {
-    match scenario {
-        Some(scenario) => scenario.name.as_str() == name,
-        None => false,
-    }
+    matches!(scenario, Some(scenario) if scenario.name.as_str() == name)
 }
 
 fn names_state(name: &str, state: &str, scenario: &Option<ScenarioSpec>) -> bool
@@ -69,8 +66,5 @@ fn names_state(name: &str, state: &str, scenario: &Option<ScenarioSpec>) -> bool
 fn is_text(text: &Option<Text>, wanted: &str) -> bool
     ensures { IsTrue result ↔ (text.now ≡ Some wanted.now) }
 {
-    match text {
-        Some(text) => text.as_str() == wanted,
-        None => false,
-    }
+    matches!(text, Some(text) if text.as_str() == wanted)
 }

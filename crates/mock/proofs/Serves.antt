@@ -1,5 +1,5 @@
 -- What `mock serve` writes.
-use Rattle.std.proofs.Common.{◌≡◌, ℕ, List, Option, inl, inr}
+use Rattle.std.proofs.Common.{ℕ, List, Option, inl, inr}
 use Rattle.mock.specs.Served.{ServesBook}
 use Rattle.request_journal.specs.Past.{Past}
 

@@ -1,7 +1,4 @@
 //! The arguments of `mock serve`, `mock record` and `mock save`.
-ghost use Rattle.std.specs.Prelude.{◌≡◌, IfOk, option_map};
-ghost use Rattle.clap.specs.Words.{first_of, found_of, rows_of};
-
 use clap::{Arg, ArgAction, ArgMatches, Command, Error, value_parser};
 use std::alloc::{AllocError, Global};
 use std::net::{IpAddr, Ipv4Addr};
@@ -247,21 +244,12 @@ fn command<'a>(alloc: Global) -> Result<Command<'a>, AllocError> {
 }
 
 fn save_command<'a>(alloc: Global) -> Result<Command<'a>, AllocError> {
+    let server = "Where the server listens, as 127.0.0.1:8080";
     Command::new(alloc, "save")
         .about("Writes the mappings of a running server to a file")
         .after_help(SAVE_HELP)
-        .arg(
-            Arg::new(alloc, "server")
-                .value_name("SERVER")
-                .help("Where the server listens, as 127.0.0.1:8080")
-                .required(true),
-        )?
-        .arg(
-            Arg::new(alloc, "file")
-                .value_name("FILE")
-                .help("The file to write")
-                .required(true),
-        )
+        .arg(required(alloc, "server", "SERVER", server))?
+        .arg(required(alloc, "file", "FILE", "The file to write"))
 }
 
 fn serve_command<'a>(alloc: Global) -> Result<Command<'a>, AllocError> {
@@ -275,7 +263,7 @@ fn serve_command<'a>(alloc: Global) -> Result<Command<'a>, AllocError> {
         .arg(journal_limit(alloc))?
         .arg(page(alloc))?
         .arg(skip_refused(alloc))?
-        .arg(end_with_stdin(alloc))?
+        .arg(flag(alloc, "end-with-stdin", "Ends when standard input does"))?
         .arg(verbose(alloc))
 }
 
@@ -283,33 +271,21 @@ fn record_command<'a>(alloc: Global) -> Result<Command<'a>, AllocError> {
     let command = Command::new(alloc, "record")
         .about("Serves, forwards to another server, and writes its replies as mappings to a file")
         .after_help(RECORD_HELP)
-        .arg(
-            Arg::new(alloc, "target")
-                .value_name("TARGET")
-                .help("The server to record, as http://127.0.0.1:9000")
-                .required(true),
-        )?
-        .arg(
-            Arg::new(alloc, "file")
-                .value_name("FILE")
-                .help("The file to write")
-                .required(true),
-        )?;
+        .arg(required(
+            alloc,
+            "target",
+            "TARGET",
+            "The server to record, as http://127.0.0.1:9000",
+        ))?
+        .arg(required(alloc, "file", "FILE", "The file to write"))?;
     with_common(alloc, command)?
-        .arg(
-            Arg::new(alloc, "capture-header")
-                .long("capture-header")
-                .value_name("NAME")
-                .help(
-                    "A header of requests that recorded mappings match, too; may be given several times",
-                )
-                .action(ArgAction::Append),
-        )?
-        .arg(
-            Arg::new(alloc, "har").long("har").value_name("FILE").help(
-                "Also writes the exchanges, as a HAR document, to this file",
-            ),
-        )?
+        .arg(captured_header(alloc))?
+        .arg(option(
+            alloc,
+            "har",
+            "FILE",
+            "Also writes the exchanges, as a HAR document, to this file",
+        ))?
         .arg(verbose(alloc))
 }
 
@@ -317,103 +293,97 @@ fn record_command<'a>(alloc: Global) -> Result<Command<'a>, AllocError> {
 fn with_common<'a>(alloc: Global, command: Command<'a>) -> Result<Command<'a>, AllocError> {
     command
         .arg(port(alloc))?
-        .arg(
-            Arg::new(alloc, "mappings")
-                .long("mappings")
-                .value_name("FILE")
-                .help(
-                    "A JSON file: one mapping, or an object with a list `mappings`; or a folder of them",
-                ),
-        )?
-        .arg(
-            Arg::new(alloc, "html-escape")
-                .long("html-escape")
-                .help(
-                    "Escapes what {{x}} prints in templates for HTML, but not what {{{x}}} prints",
-                )
-                .action(ArgAction::SetTrue),
-        )?
-        .arg(
-            Arg::new(alloc, "bind-address")
-                .long("bind-address")
-                .value_name("ADDRESS")
-                .help("The IP address to listen on [default: 127.0.0.1]"),
-        )?
+        .arg(option(
+            alloc,
+            "mappings",
+            "FILE",
+            "A JSON file: one mapping, or an object with a list `mappings`; or a folder of them",
+        ))?
+        .arg(flag(
+            alloc,
+            "html-escape",
+            "Escapes what {{x}} prints in templates for HTML, but not what {{{x}}} prints",
+        ))?
+        .arg(option(
+            alloc,
+            "bind-address",
+            "ADDRESS",
+            "The IP address to listen on [default: 127.0.0.1]",
+        ))?
         .arg(first_event(alloc))
 }
 
+fn captured_header<'a>(alloc: Global) -> Arg<'a> {
+    let help = "A header of requests that recorded mappings match, too; may be given several times";
+    option(alloc, "capture-header", "NAME", help).action(ArgAction::Append)
+}
+
 fn port<'a>(alloc: Global) -> Arg<'a> {
-    Arg::new(alloc, "port")
-        .long("port")
-        .value_name("PORT")
-        .help("The port to listen on; 0 for a free one")
+    let help = "The port to listen on; 0 for a free one";
+    option(alloc, "port", "PORT", help)
         .required(true)
         .value_parser(value_parser!(u16))
 }
 
 fn max_connections<'a>(alloc: Global) -> Arg<'a> {
-    Arg::new(alloc, "max-connections")
-        .long("max-connections")
-        .value_name("N")
-        .help("How many connections are open at once, while others wait [default: 900]")
-        .value_parser(value_parser!(u64).range(1..))
+    let help = "How many connections are open at once, while others wait [default: 900]";
+    option(alloc, "max-connections", "N", help).value_parser(value_parser!(u64).range(1..))
 }
 
 fn threads<'a>(alloc: Global) -> Arg<'a> {
-    Arg::new(alloc, "threads")
-        .long("threads")
-        .value_name("N")
-        .help("How many threads serve, from 1 to 64 [default: 1]")
-        .value_parser(value_parser!(u64).range(1..=64))
+    let help = "How many threads serve, from 1 to 64 [default: 1]";
+    option(alloc, "threads", "N", help).value_parser(value_parser!(u64).range(1..=64))
 }
 
 fn journal_limit<'a>(alloc: Global) -> Arg<'a> {
-    Arg::new(alloc, "journal-limit")
-        .long("journal-limit")
-        .value_name("N")
-        .help("Clears the journal of requests whenever it shows N of them")
-        .value_parser(value_parser!(u64))
+    let help = "Clears the journal of requests whenever it shows N of them";
+    option(alloc, "journal-limit", "N", help).value_parser(value_parser!(u64))
 }
 
 fn page<'a>(alloc: Global) -> Arg<'a> {
-    Arg::new(alloc, "page").long("page").value_name("FILE").help(
-        "An HTML file that is the answer to GET /__admin/page, as dist/page.html is one",
-    )
+    let help = "An HTML file that is the answer to GET /__admin/page, as dist/page.html is one";
+    option(alloc, "page", "FILE", help)
 }
 
 fn first_event<'a>(alloc: Global) -> Arg<'a> {
-    Arg::new(alloc, "first-event")
-        .long("first-event")
-        .value_name("N")
-        .help("The number of the first event, from which ids and names are made [default: 1]")
-        .value_parser(value_parser!(u64).range(1..))
+    let help = "The number of the first event, from which ids and names are made [default: 1]";
+    option(alloc, "first-event", "N", help).value_parser(value_parser!(u64).range(1..))
 }
 
 fn skip_refused<'a>(alloc: Global) -> Arg<'a> {
-    Arg::new(alloc, "skip-refused")
-        .long("skip-refused")
-        .help("Serves the mappings that are accepted, where others are refused")
-        .action(ArgAction::SetTrue)
-}
-
-fn end_with_stdin<'a>(alloc: Global) -> Arg<'a> {
-    Arg::new(alloc, "end-with-stdin")
-        .long("end-with-stdin")
-        .help("Ends when standard input does")
-        .action(ArgAction::SetTrue)
+    let help = "Serves the mappings that are accepted, where others are refused";
+    flag(alloc, "skip-refused", help)
 }
 
 fn verbose<'a>(alloc: Global) -> Arg<'a> {
-    Arg::new(alloc, "verbose")
-        .long("verbose")
-        .help("Writes a line to standard error for each request")
-        .action(ArgAction::SetTrue)
+    let help = "Writes a line to standard error for each request";
+    flag(alloc, "verbose", help)
 }
 
 fn connections<'a>(alloc: Global) -> Arg<'a> {
-    Arg::new(alloc, "connections")
-        .long("connections")
-        .value_name("N")
-        .help("Ends after N connections")
-        .value_parser(value_parser!(u64))
+    option(alloc, "connections", "N", "Ends after N connections").value_parser(value_parser!(u64))
+}
+
+// An argument that has to be given, in its place.
+fn required<'a>(alloc: Global, id: &'a str, value: &'a str, help: &'a str) -> Arg<'a> {
+    Arg::new(alloc, id)
+        .value_name(value)
+        .help(help)
+        .required(true)
+}
+
+// An option with a value.
+fn option<'a>(alloc: Global, name: &'a str, value: &'a str, help: &'a str) -> Arg<'a> {
+    Arg::new(alloc, name)
+        .long(name)
+        .value_name(value)
+        .help(help)
+}
+
+// An option without one.
+fn flag<'a>(alloc: Global, name: &'a str, help: &'a str) -> Arg<'a> {
+    Arg::new(alloc, name)
+        .long(name)
+        .help(help)
+        .action(ArgAction::SetTrue)
 }

@@ -12,7 +12,8 @@ ghost use Rattle.mock.specs.Inner.Arguments.{ask_for_own, ask_to_help};
 use crate::arguments::{ServeArguments, ServerCall, call_of};
 use crate::page::page_in;
 use crate::record::record as record_until;
-use crate::serve::{Plan, serve};
+use crate::serve::{Plan, out_of_memory, serve};
+use crate::system::System;
 use crate::watch::Watch;
 use clap::Error;
 use command_output::error::CommandError;
@@ -91,10 +92,7 @@ where
 fn ask_for_own(arguments: &[String]) -> bool
     ensures { result ≡ ask_for_own (map string_bytes arguments.now) }
 {
-    match arguments {
-        [_program, command, ..] => is_own(command.as_str()),
-        _ => false,
-    }
+    matches!(arguments, [_program, command, ..] if is_own(command.as_str()))
 }
 
 fn is_own(command: &str) -> bool
@@ -106,19 +104,17 @@ fn is_own(command: &str) -> bool
 fn ask_to_help(arguments: &[String]) -> bool
     ensures { result ≡ ask_to_help (map string_bytes arguments.now) }
 {
-    match arguments {
-        [_program, command] | [_program, command, _] => command.as_str() == "help",
-        _ => false,
-    }
+    matches!(arguments, [_program, command] | [_program, command, _] if command.as_str() == "help")
 }
 
 // The help of the program, or of the command that is named: what its flag for help writes.
 #[tactic(auto, using(command_output::proofs::PartsWritten::alone))]
-fn run_help<R, O, E>(rt: R, arguments: &[String], out: &mut O, err: &mut E) -> u8
-where
-    R: Wait + Net + Clock + RandomSource + AllocGlobal + FileReader + Copy + Drop,
-    O: Write,
-    E: Write,
+fn run_help<R: System, O: Write, E: Write>(
+    rt: R,
+    arguments: &[String],
+    out: &mut O,
+    err: &mut E,
+) -> u8
     ensures range { result ≤ 2 }
     ensures streams { Followed E.contents (λ e. WritesOneStream out.old out.new err.old e result) err.new }
 {
@@ -177,19 +173,7 @@ fn run_own<R, O, E, W, I>(
     input: I,
 ) -> u8
 where
-    R: Threads
-        + Wait
-        + Net<Listener = TcpListener, Stream = TcpStream>
-        + Clock
-        + RandomSource
-        + AllocGlobal
-        + FileReader
-        + FileWriter
-        + Copy
-        + Drop
-        + Send
-        + Sync
-        + 'static,
+    R: System,
     O: Write,
     E: Write,
     W: Write + Drop + Send + 'static,
@@ -198,25 +182,13 @@ where
 {
     match words_of(rt.alloc(), arguments) {
         Ok(words) => run_words(rt, words.as_slice(), out, err, log, input),
-        Err(_error) => report_memory(err),
+        Err(_error) => out_of_memory(err),
     }
 }
 
 fn run_words<R, O, E, W, I>(rt: R, words: &[&str], out: &mut O, err: &mut E, log: W, input: I) -> u8
 where
-    R: Threads
-        + Wait
-        + Net<Listener = TcpListener, Stream = TcpStream>
-        + Clock
-        + RandomSource
-        + AllocGlobal
-        + FileReader
-        + FileWriter
-        + Copy
-        + Drop
-        + Send
-        + Sync
-        + 'static,
+    R: System,
     O: Write,
     E: Write,
     W: Write + Drop + Send + 'static,
@@ -239,19 +211,7 @@ fn run_call<R, O, E, W, I>(
     input: I,
 ) -> u8
 where
-    R: Threads
-        + Wait
-        + Net<Listener = TcpListener, Stream = TcpStream>
-        + Clock
-        + RandomSource
-        + AllocGlobal
-        + FileReader
-        + FileWriter
-        + Copy
-        + Drop
-        + Send
-        + Sync
-        + 'static,
+    R: System,
     O: Write,
     E: Write,
     W: Write + Drop + Send + 'static,
@@ -275,19 +235,7 @@ fn serve_until<R, O, E, W, I>(
     input: I,
 ) -> u8
 where
-    R: Threads
-        + Wait
-        + Net<Listener = TcpListener, Stream = TcpStream>
-        + Clock
-        + RandomSource
-        + AllocGlobal
-        + FileReader
-        + FileWriter
-        + Copy
-        + Drop
-        + Send
-        + Sync
-        + 'static,
+    R: System,
     O: Write,
     E: Write,
     W: Write + Drop + Send + 'static,
@@ -305,13 +253,6 @@ where
         }
         Err(status) => status,
     }
-}
-
-fn report_memory<E: Write>(err: &mut E) -> u8
-    ensures { result ≤ 2 }
-{
-    CommandError::from(ErrorCode::OutOfMemory).report(err);
-    FAILURE
 }
 
 // As `clap` says it of other values.

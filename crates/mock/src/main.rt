@@ -12,6 +12,7 @@ mod serve;
 mod server_log;
 mod serving_threads;
 mod streams;
+mod system;
 mod watch;
 
 use command_line::run;
@@ -50,10 +51,7 @@ fn report_output<E: Write>(error: io::Error, err: &mut E) {
 
 // A terminal does, unless the environment asks for none (https://no-color.org).
 fn takes_colours(rt: &HostRuntime) -> bool {
-    match env::var(rt, "NO_COLOR") {
-        Err(VarError::NotPresent) => rt.stdout().is_terminal(),
-        _ => false,
-    }
+    matches!(env::var(rt, "NO_COLOR"), Err(VarError::NotPresent) if rt.stdout().is_terminal())
 }
 
 fn process_arguments(rt: &HostRuntime) -> io::Result<Vec<String>> {

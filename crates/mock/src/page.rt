@@ -1,5 +1,5 @@
 // The page of a server.
-ghost use Rattle.std.specs.Prelude.{◌≡◌, IfErr, IfOk, IfSome};
+ghost use Rattle.std.specs.Prelude.{◌≡◌, IfErr, IfOk};
 ghost use Rattle.mock.specs.Page.{IsPage};
 
 use bytes::Bytes;

@@ -3,24 +3,19 @@ ghost use Rattle.std.specs.Prelude.{◌≤◌};
 
 use crate::arguments::{RecordArguments, ServeArguments};
 use crate::serve::{Plan, serve};
+use crate::system::System;
 use crate::watch::{Outcome, RecordedFiles, Watch};
 use admin_json::error::BodyError;
 use command_output::error::CommandError;
-use command_output::files::FileReader;
 use command_output::output::{put_all, put_notes};
 use command_output::status::FAILURE;
 use error_code::error_code::ErrorCode;
 use itoa::Buffer;
-use mapping_files::file_writer::FileWriter;
 use mapping_files::recorded::{RecordError, Recorded};
 use mapping_files::start::recording_start;
-use std::alloc::{AllocError, AllocGlobal, Global};
+use std::alloc::{AllocError, Global};
 use std::io::{Read, Write};
-use std::net::{Net, TcpListener, TcpStream};
-use std::random::RandomSource;
-use std::sync::{Arc, Wait};
-use std::thread::Threads;
-use std::time::Clock;
+use std::sync::Arc;
 
 /// Serves, records from the start on, and ends when `input` does. Says how many mappings it has written, and of how many
 /// exchanges none could be made. Gives the exit status.
@@ -34,19 +29,7 @@ pub(crate) fn record<R, O, E, W, I>(
     input: I,
 ) -> u8
 where
-    R: Threads
-        + Wait
-        + Net<Listener = TcpListener, Stream = TcpStream>
-        + Clock
-        + RandomSource
-        + AllocGlobal
-        + FileReader
-        + FileWriter
-        + Copy
-        + Drop
-        + Send
-        + Sync
-        + 'static,
+    R: System,
     O: Write,
     E: Write,
     W: Write + Drop + Send + 'static,

@@ -11,13 +11,14 @@ use crate::arguments::ServeArguments;
 use crate::descriptors::open_connections;
 use crate::server_log::ServerLog;
 use crate::serving_threads::{MockAnswers, serve_on_threads};
+use crate::system::System;
 use crate::watch::Watch;
 use admin_routes::router::AdminRoutes;
 use answering::clock::SystemClock;
 use answering::site::Site;
 use bytes::Bytes;
 use command_output::error::CommandError;
-use command_output::files::{FileReader, reason_line};
+use command_output::files::reason_line;
 use command_output::output::{put, put_notes};
 use command_output::status::FAILURE;
 use counted_io::counted::TURN_LIMIT;
@@ -29,7 +30,6 @@ use hyper_service::renderer::Renderer;
 use hyper_service::serving::{begin_serving, end_serving};
 use hyper_service::site_answers::SiteAnswers;
 use mapping_files::book::{BookArguments, book_of};
-use mapping_files::file_writer::FileWriter;
 use proxy_client::client::{Client, SILENCE_SECONDS};
 use proxy_client::forwarder::Forwarder;
 use request_journal::input::BookInput;
@@ -41,16 +41,14 @@ use shared_book::history::OpenedHistory;
 use shared_book::origin::Origin;
 use shared_book::seat::Seat;
 use shared_book::shared_book::{SharedBook, open_history};
-use std::alloc::{AllocError, AllocGlobal, Global};
+use std::alloc::{AllocError, Global};
 use std::io;
 use std::io::{ErrorKind, Read, Write};
 use std::marker::Brand;
-use std::net::{IpAddr, Net, SocketAddr, TcpListener, TcpStream};
-use std::random::RandomSource;
+use std::net::{IpAddr, SocketAddr, TcpListener};
 use std::sync::ledger::Blank;
 use std::sync::{Arc, Wait};
-use std::thread::Threads;
-use std::time::{Clock, Duration};
+use std::time::Duration;
 use stub_book::book::Book;
 use stub_response::limits::Limits;
 use tokio::runtime::LocalRuntime;
@@ -86,19 +84,7 @@ pub(crate) fn serve<R, O, E, W, I>(
     log: W,
 ) -> u8
 where
-    R: Threads
-        + Wait
-        + Net<Listener = TcpListener, Stream = TcpStream>
-        + Clock
-        + RandomSource
-        + AllocGlobal
-        + FileReader
-        + FileWriter
-        + Copy
-        + Drop
-        + Send
-        + Sync
-        + 'static,
+    R: System,
     O: Write,
     E: Write,
     W: Write + Drop + Send + 'static,
@@ -148,7 +134,7 @@ fn log_to<R, W>(
     out: W,
 ) -> Result<(Arc<Lines>, RequestLog), AllocError>
 where
-    R: Threads + Wait + AllocGlobal + Copy + Drop + Send + 'static,
+    R: System,
     W: Write + Drop + Send + 'static,
 {
     let lines = start(rt, out)?;
@@ -171,18 +157,7 @@ fn serve_book<L, R, O, E, I>(
 ) -> u8
 where
     L: Origin + Send + Sync,
-    R: Threads
-        + Wait
-        + Net<Listener = TcpListener, Stream = TcpStream>
-        + Clock
-        + RandomSource
-        + AllocGlobal
-        + FileWriter
-        + Copy
-        + Drop
-        + Send
-        + Sync
-        + 'static,
+    R: System,
     O: Write,
     E: Write,
     I: Read + Drop + Send + 'static,
@@ -215,18 +190,7 @@ fn serve_shared<L, R, O, E, I>(
 ) -> u8
 where
     L: Origin + Send + Sync,
-    R: Threads
-        + Wait
-        + Net<Listener = TcpListener, Stream = TcpStream>
-        + Clock
-        + RandomSource
-        + AllocGlobal
-        + FileWriter
-        + Copy
-        + Drop
-        + Send
-        + Sync
-        + 'static,
+    R: System,
     O: Write,
     E: Write,
     I: Read + Drop + Send + 'static,
@@ -267,18 +231,7 @@ fn serve_listening<L, R, O, E, I>(
 ) -> u8
 where
     L: Origin + Send + Sync,
-    R: Threads
-        + Wait
-        + Net<Listener = TcpListener, Stream = TcpStream>
-        + Clock
-        + RandomSource
-        + AllocGlobal
-        + FileWriter
-        + Copy
-        + Drop
-        + Send
-        + Sync
-        + 'static,
+    R: System,
     O: Write,
     E: Write,
     I: Read + Drop + Send + 'static,
@@ -338,16 +291,7 @@ fn serve_answers<L, R, O, E>(
 ) -> u8
 where
     L: Origin + Send + Sync,
-    R: Threads
-        + Wait
-        + Net<Listener = TcpListener, Stream = TcpStream>
-        + Clock
-        + RandomSource
-        + AllocGlobal
-        + Copy
-        + Drop
-        + Send
-        + Sync,
+    R: System,
     O: Write,
     E: Write,
     ensures written { ReportsServed O.contents E.contents L.origin L.parts L.book
@@ -374,17 +318,7 @@ fn start_watch<R, I>(
     ender: &Arc<Ender>,
 ) -> io::Result<()>
 where
-    R: Threads
-        + Wait
-        + Net<Listener = TcpListener, Stream = TcpStream>
-        + Clock
-        + RandomSource
-        + AllocGlobal
-        + FileWriter
-        + Copy
-        + Drop
-        + Send
-        + 'static,
+    R: System,
     I: Read + Drop + Send + 'static,
 {
     watch.start(rt, listener.local_addr()?, Arc::try_clone(ender)?)
@@ -437,12 +371,7 @@ fn answers_of<L, R>(
 ) -> Result<MockAnswers<L, R>, AllocError>
 where
     L: Origin,
-    R: Threads
-        + Clock
-        + Net<Listener = TcpListener, Stream = TcpStream>
-        + AllocGlobal
-        + Copy
-        + Drop,
+    R: System,
     ensures { IfOk result (λ answers. rules_of L.origin L.book answers ≡ record {
       origin = L.origin;
       history = L.book;
@@ -468,7 +397,8 @@ where
     Ok(SiteAnswers::new(site, forwarder, renderer, log, journal))
 }
 
-fn out_of_memory<E: Write>(err: &mut E) -> u8
+/// Reports it, and gives the exit status.
+pub(crate) fn out_of_memory<E: Write>(err: &mut E) -> u8
     ensures { result ≡ FAILURE }
 {
     CommandError::from(ErrorCode::OutOfMemory).report(err);
@@ -483,15 +413,7 @@ struct Listening<R> {
     forwarder: Forwarder<R>,
 }
 
-fn listen<R>(rt: R, address: IpAddr, port: u16) -> io::Result<Listening<R>>
-where
-    R: Net<Listener = TcpListener, Stream = TcpStream>
-        + Clock
-        + RandomSource
-        + AllocGlobal
-        + Copy
-        + Drop,
-{
+fn listen<R: System>(rt: R, address: IpAddr, port: u16) -> io::Result<Listening<R>> {
     let runtime = LocalRuntime::new(&rt)?;
     let address = SocketAddr::from((address, port));
     // By `mio`, whose sockets let as many connections wait as the system allows.

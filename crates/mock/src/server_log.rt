@@ -52,9 +52,7 @@ impl<L: Origin> ServerLog<L> {
             _ => None,
         }
     }
-}
 
-impl<L: Origin> ServerLog<L> {
     // What there is to tell of a recording, if the event has stopped one.
     fn tell_stopped<R: Wait>(
         &self,
@@ -167,8 +165,6 @@ impl<L: Origin> Log for ServerLog<L> {
 
 // The event that a message made, with its number.
 fn event_of(outcome: Option<Outcome<'_>>) -> Option<(u64, &Event)> {
-    match outcome {
-        Some(outcome) => Some((outcome.receipt.number, outcome.receipt.event.event())),
-        None => None,
-    }
+    let receipt = outcome?.receipt;
+    Some((receipt.number, receipt.event.event()))
 }

@@ -1,14 +1,11 @@
 // The thread that waits for the end of standard input, ends the recording then, and the server.
+use crate::system::System;
 use http_connections::ender::Ender;
-use mapping_files::file_writer::FileWriter;
 use mapping_files::recorded::{RecordError, Recorded, end_recording};
-use std::alloc::{AllocError, AllocGlobal, Global};
+use std::alloc::{AllocError, Global};
 use std::io::{ErrorKind, Read};
-use std::net::{IpAddr, Ipv4Addr, Ipv6Addr, Net, SocketAddr, TcpListener, TcpStream};
-use std::random::RandomSource;
+use std::net::{IpAddr, Ipv4Addr, Ipv6Addr, SocketAddr};
 use std::sync::{Arc, Mutex, Wait};
-use std::thread::Threads;
-use std::time::Clock;
 use std::{io, thread};
 
 /// What is done when standard input ends.
@@ -67,17 +64,7 @@ impl RecordedFiles {
         })
     }
 
-    fn write<R>(&self, rt: &R, address: &str)
-    where
-        R: Wait
-            + Net<Listener = TcpListener, Stream = TcpStream>
-            + Clock
-            + RandomSource
-            + AllocGlobal
-            + FileWriter
-            + Copy
-            + Drop,
-    {
+    fn write<R: System>(&self, rt: &R, address: &str) {
         let har = match &self.har {
             Some(path) => Some(path.as_str()),
             None => None,
@@ -105,20 +92,12 @@ impl<I: Read + Drop + Send + 'static> Watch<I> {
     }
 
     /// Starts the thread, if there is something to do. The server listens at the address.
-    pub(crate) fn start<R>(self, rt: R, address: SocketAddr, ender: Arc<Ender>) -> io::Result<()>
-    where
-        R: Threads
-            + Wait
-            + Net<Listener = TcpListener, Stream = TcpStream>
-            + Clock
-            + RandomSource
-            + AllocGlobal
-            + FileWriter
-            + Copy
-            + Drop
-            + Send
-            + 'static,
-    {
+    pub(crate) fn start<R: System>(
+        self,
+        rt: R,
+        address: SocketAddr,
+        ender: Arc<Ender>,
+    ) -> io::Result<()> {
         let Watch { input, recording } = self;
         let Some(input) = input else {
             return Ok(());
@@ -131,24 +110,13 @@ impl<I: Read + Drop + Send + 'static> Watch<I> {
 }
 
 // What the thread does.
-fn end_with<R, I>(
+fn end_with<R: System, I: Read + Drop>(
     rt: R,
     input: I,
     recording: Option<RecordedFiles>,
     address: String,
     ender: Arc<Ender>,
-)
-where
-    R: Wait
-        + Net<Listener = TcpListener, Stream = TcpStream>
-        + Clock
-        + RandomSource
-        + AllocGlobal
-        + FileWriter
-        + Copy
-        + Drop,
-    I: Read + Drop,
-{
+) {
     wait_for_end(&rt, input);
     if let Some(files) = &recording {
         files.write(&rt, address.as_str());

@@ -1,13 +1,17 @@
 -- Arguments that ask for a command, and what the parser is given for them.
-use Rattle.std.proofs.Common.{◌≡◌, ℕ, Bool, true, false, List, [], ◌∷◌, ◌++◌, codes, refl, ap}
-use Rattle.std.proofs.Common.{◌∙◌, inl, inr}
+use Rattle.std.proofs.Common.{◌≡◌, ℕ, Bool, true, false, List, [], ◌∷◌, ◌++◌, codes, refl, ap, ◌∙◌, inl, inr}
 use Rattle.std.specs.Str.{bytes_eq}
 use Rattle.std.proofs.lemmas.Slice.Eq.{bytes_eq-Decides}
 use Rattle.mock_program.specs.CommandLine.{Asked, render, check, answer, explain, AsksFor, Gives, IsPlainArgument}
 use Rattle.mock_program.specs.Inner.Arguments.{is_flag, delimiter, unflagged, escape_before, escape_asked}
-use Rattle.mock_program.specs.Inner.Arguments.{arguments_of, parser_arguments}
+use Rattle.mock_program.specs.Inner.Arguments.{parser_arguments}
 use Rattle.template_tree.specs.declared.escape.Escape.{Escape}
 use Rattle.template_tree.specs.declared.escape.Escape.TheVariants.{Off, Html}
+use Rattle.mock_program.specs.CommandLine.{name_of, given_to}
+
+-- those of a command that is asked for
+abbrev pub arguments_of : Asked → List (List ℕ)
+arguments_of asked = codes "mock" ∷ name_of asked ∷ codes "--" ∷ given_to asked
 
 pub differs : (argument other : List ℕ) → ¬ (argument ≡ other) → bytes_eq argument other ≡ false
 differs argument other h = go (bytes_eq argument other) refl

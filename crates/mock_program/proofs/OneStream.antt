@@ -1,6 +1,5 @@
 -- A command leaves one of both writers as it was, but for lines that follow on standard error.
-use Rattle.std.proofs.Common.{◌≡◌, ◌⊎◌, ℕ, List, Option, inl, inr, arith, Bool, true, false, refl}
-use Rattle.std.proofs.Common.{if◌then◌else◌}
+use Rattle.std.proofs.Common.{◌≡◌, ◌⊎◌, ℕ, List, Option, inl, inr, arith, Bool, true, false, refl, if◌then◌else◌}
 use Rattle.mapping_commands.specs.Answering.{Answers, AnswersFiles, Sent}
 use Rattle.mapping_commands.specs.Checking.{Checks, ChecksFiles}
 use Rattle.mapping_commands.specs.Explaining.{Ends, Explains, ExplainsFiles, is_answered}

@@ -9,7 +9,7 @@ use Rattle.clap.specs.declared.parser.matches.ArgMatches.TheViews.{out-ArgMatche
 use Rattle.clap.specs.declared.parser.matches.SubCommand.{SubCommand}
 use Rattle.clap.proofs.OnLiterals.{clap_on_literals}
 use Rattle.mock_program.specs.CommandLine.{Asked, render, check, answer, explain}
-use Rattle.mock_program.specs.Inner.Arguments.{arguments_of}
+use Rattle.mock_program.proofs.CommandArguments.{arguments_of}
 use Rattle.mock_program.specs.Inner.Parser.{asked_by, asked_in, is_taken, mock_app}
 
 pub asked_is_taken : (asked : Asked) → is_taken (arguments_of asked) ≡ true

@@ -3,8 +3,7 @@ use Rattle.std.proofs.Common.{◌≡◌, ℕ, ◌⊎◌, List, None, inl, inr, r
 use Rattle.data_tree.specs.RequestData as data_error
 use Rattle.data_tree.specs.Tree.{Tree}
 use Rattle.data_tree.specs.declared.request_data.DataError.{DataError}
-use Rattle.data_tree.specs.declared.request_data.DataError.TheVariants.{TooLarge}
-use Rattle.data_tree.specs.declared.request_data.DataError.TheVariants.{OutOfMemory as DataOutOfMemory}
+use Rattle.data_tree.specs.declared.request_data.DataError.TheVariants.{TooLarge, OutOfMemory as DataOutOfMemory}
 use Rattle.request_data.specs.RequestTree as request_data
 use Rattle.mock_request.specs.SnapshotError as snapshot_error
 use Rattle.mock_request.specs.Target.{HasUrl}

@@ -1,6 +1,5 @@
 -- The parts of a block with the method, the URL and the body of a request.
-use Rattle.std.proofs.Common.{◌≡◌, ℕ, ◌+◌, ◌-◌, ◌∙◌, ap, sym, arith}
-use Rattle.std.proofs.Common.{List, ◌++◌, length, take, drop}
+use Rattle.std.proofs.Common.{◌≡◌, ℕ, ◌+◌, ◌-◌, ◌∙◌, ap, sym, arith, List, ◌++◌, length, take, drop}
 use Rattle.std.proofs.Math.Seq.{take-append_seam, drop-append_seam}
 use Rattle.std.proofs.lemmas.List.{drop-drop}
 use Rattle.mock_request.specs.Inner.Bare.{bare_in}

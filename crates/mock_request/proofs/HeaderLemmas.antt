@@ -3,15 +3,13 @@ use Rattle.std.proofs.Common.{◌≡◌, ℕ, ◌+◌, ◌<◌, length, take, Bo
 use Rattle.std.proofs.Common.{[], ◌∷◌, ◌++◌, map, append-nil, sym, refl, ap, subst, ◌∙◌, codes}
 use Rattle.std.specs.List.{filter, flat_map, slice_get}
 use Rattle.std.specs.Prelude.{Some, All, MatchOption}
-use Rattle.std.specs.Str.{bytes_eq}
+use Rattle.std.specs.Str.{bytes_eq, IsUtf8}
 use Rattle.std.specs.Str.Lossy.{utf8_lossy}
 use Rattle.std.proofs.lemmas.Cmp.{nat_list_eq_equiv}
 use Rattle.std.proofs.lemmas.List.{map-append, take_more}
-use Rattle.std.specs.Str.{IsUtf8}
 use Rattle.std.proofs.lemmas.Option.{get_or_from_slice_get, slice_get-get_or, slice_get_within}
-use Rattle.std.proofs.lemmas.List.Elements.{All-more}
+use Rattle.std.proofs.lemmas.List.Elements.{All-more, filter-append}
 use Rattle.std.proofs.lemmas.List.Concat.{flat_map-append}
-use Rattle.std.proofs.lemmas.List.Elements.{filter-append}
 use Rattle.mock_request.specs.Request.{Header}
 use Rattle.mock_request.specs.Values.{values_of}
 use Rattle.mock_request.specs.HeaderFields.{header_pair, header_pairs, texts_of}

@@ -13,9 +13,8 @@ use Rattle.std.proofs.Math.Utf8.{encode}
 use Rattle.std.proofs.Math.Dec.{eqb}
 use Rattle.std.specs.Str.{NoCharPasses, IsCharBoundary}
 use Rattle.std.specs.Str.Pattern.{FindsBy}
-use Rattle.mock_request.specs.Target.{slash, question_mark, IsRooted, IsAuthorityByte, IsAuthority}
-use Rattle.mock_request.specs.Target.{MayFollowAuthority, IsRootedForm, IsOriginForm, IsAbsoluteForm, IsTarget}
-use Rattle.mock_request.specs.Target.{HasUrl}
+use Rattle.mock_request.specs.Target.{slash, question_mark, IsRooted, IsAuthorityByte, IsAuthority, MayFollowAuthority}
+use Rattle.mock_request.specs.Target.{IsRootedForm, IsOriginForm, IsAbsoluteForm, IsTarget, HasUrl}
 
 -- ---- a target has one URL
 

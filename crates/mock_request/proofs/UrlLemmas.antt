@@ -1,7 +1,6 @@
 -- What follows from the definition of a URL's parts.
-use Rattle.std.proofs.Common.{◌≡◌, ℕ, ◌+◌, ◌<◌, Bool, true, false, not, ◌||◌, cond}
-use Rattle.std.proofs.Common.{if◌then◌else◌, ◌++◌, List, [], ◌∷◌, MatchOption, length, get_or, None}
-use Rattle.std.proofs.Common.{Some, All, eqb, sym, refl, ap, ◌∙◌, arith}
+use Rattle.std.proofs.Common.{◌≡◌, ℕ, ◌+◌, ◌<◌, Bool, true, false, not, ◌||◌, cond, if◌then◌else◌, ◌++◌, List, [], ◌∷◌}
+use Rattle.std.proofs.Common.{MatchOption, length, get_or, None, Some, All, eqb, sym, refl, ap, ◌∙◌, arith}
 use Rattle.std.proofs.lemmas.Bool.{eqb-true, false≢true}
 use Rattle.std.proofs.lemmas.Bool.Decides.{nat_tests}
 use Rattle.std.proofs.lemmas.List.{get_or_default, take_all}

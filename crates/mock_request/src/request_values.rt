@@ -1,6 +1,5 @@
 // What matchers need of a request.
-ghost use Rattle.std.specs.Prelude.{◌≡◌, ◌<◌, length, slice_get, string_bytes, All, IsTrue, MatchOption};
-ghost use Rattle.std.specs.Prelude.{IfOk};
+ghost use Rattle.std.specs.Prelude.{◌≡◌, ◌<◌, length, slice_get, string_bytes, All, IsTrue, MatchOption, IfOk};
 ghost use Rattle.std.specs.Option.{option_map};
 ghost use Rattle.std.specs.Str.{IsUtf8};
 ghost use Rattle.std.specs.Str.Lossy.{utf8_lossy};
@@ -170,8 +169,5 @@ fn header_is_text(snapshot: &Snapshot, index: usize) -> bool
     ensures { IsTrue result
         → MatchOption (slice_get snapshot.now.headers index) ⊥ (λ header. IsUtf8 header.value) }
 {
-    match snapshot.header(index) {
-        Some((_name, value)) => str::from_utf8(value).is_ok(),
-        None => false,
-    }
+    matches!(snapshot.header(index), Some((_name, value)) if str::from_utf8(value).is_ok())
 }

@@ -1,5 +1,5 @@
 // A request as it was received.
-ghost use Rattle.std.specs.Prelude.{ℕ, List, ◌≡◌, ◌++◌, ◌≤◌, ◌<◌, ◌↔◌, length, slice_get};
+ghost use Rattle.std.specs.Prelude.{ℕ, List, ◌≡◌, ◌≤◌, ◌<◌, ◌↔◌, length, slice_get};
 ghost use Rattle.std.specs.Prelude.{All, IfSome, IfOk, IsTrue, OnOk, IsErrOf};
 ghost use Rattle.std.specs.Option.{option_copied, option_map};
 ghost use Rattle.http_header.specs.FieldName.{IsHeaderName};

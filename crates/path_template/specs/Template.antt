@@ -1,7 +1,6 @@
 -- Path templates (WireMock's documentation, "Request Matching", path templates): paths with names in braces.
-use Rattle.std.specs.Prelude.{◌≢◌, ℕ, Bool, true, false, List, [], ◌∷◌, ◌++◌, ◌||◌, ◌&&◌}
-use Rattle.std.specs.Prelude.{Option, None, Some, ◌==◌, if◌then◌else◌, map, take, drop, length, ◌-◌}
-use Rattle.std.specs.Prelude.{Contains, AllPairs}
+use Rattle.std.specs.Prelude.{◌≢◌, ℕ, Bool, true, false, List, [], ◌∷◌, ◌++◌, ◌||◌, ◌&&◌, Option, None, Some, ◌==◌}
+use Rattle.std.specs.Prelude.{if◌then◌else◌, map, take, drop, length, ◌-◌, Contains, AllPairs}
 use Rattle.std.specs.Char.{is_ascii_alphanumeric}
 use Rattle.std.specs.List.{list_all}
 use Rattle.std.specs.Option.{option_map_or}

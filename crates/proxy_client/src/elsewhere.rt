@@ -1,7 +1,6 @@
 // Connections that don't come back to the server that makes them.
 ghost use Rattle.std.specs.Prelude.{◌≡◌, true, false};
 ghost use Rattle.std.specs.declared.net.socket_addr.SocketAddr.{SocketAddr};
-ghost use Rattle.futures.specs.Poll.{IfReady, OnPending};
 ghost use Rattle.proxy_client.specs.Own.{AreOwnEnds, AreOtherEnds};
 
 use futures::task::{Context, Poll};
@@ -45,10 +44,7 @@ impl Future for Elsewhere {
 
 // Where the system doesn't say which addresses the ends have, there is nothing to go by.
 fn comes_back(stream: &TcpStream, own: SocketAddr) -> bool {
-    match (stream.local_addr(), stream.peer_addr()) {
-        (Ok(local), Ok(peer)) => are_own_ends(local, peer, own),
-        _ => false,
-    }
+    matches!((stream.local_addr(), stream.peer_addr()), (Ok(local), Ok(peer)) if are_own_ends(local, peer, own))
 }
 
 // Whether these are the ends of a connection that the server has with itself.

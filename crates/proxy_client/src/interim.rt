@@ -1,6 +1,4 @@
 //! Interim replies, which a target may send before the reply itself (RFC 9110, section 15.2).
-ghost use Rattle.std.specs.Prelude.{ℕ, ◌≡◌, ◌≤◌, IsTrue, ◌↔◌, ◌<◌};
-
 /// The most interim replies of an exchange.
 pub const INTERIM_LIMIT: u64 = 64;
 

@@ -1,7 +1,5 @@
 // An exchange with a target, from connecting to the reply.
 ghost use Rattle.std.specs.Prelude.{IfOk, IfSome, ⊤};
-ghost use Rattle.futures.specs.Poll.{IfReady, OnPending};
-ghost use Rattle.futures.specs.Task.{IsArmed, Keeps};
 ghost use Rattle.hyper.specs.ClientDispatch.{Runs};
 ghost use Rattle.proxy_client.specs.Messages.{IsSomeReply};
 ghost use Rattle.proxy_client.specs.declared.stage.Stage.TheVariants.{Connecting, Talking};

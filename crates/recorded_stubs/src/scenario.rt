@@ -1,6 +1,5 @@
 // The part of a recorded mapping in the scenario of its group.
-ghost use Rattle.std.specs.Prelude.{◌≡◌, ◌<◌, ◌+◌, ◌^◌, decimal, nat_lt, if◌then◌else◌, IfOk};
-ghost use Rattle.std.specs.Prelude.{Some, None};
+ghost use Rattle.std.specs.Prelude.{◌≡◌, ◌<◌, ◌+◌, decimal, nat_lt, if◌then◌else◌, IfOk, Some, None};
 ghost use Rattle.recorder.specs.Stubs.{scenario_name, scenario_of, state_name};
 
 use itoa::Buffer;

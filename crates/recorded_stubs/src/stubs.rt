@@ -1,7 +1,6 @@
 // The mappings of a list of exchanges.
 ghost use Rattle.std.specs.Prelude.{◌≡◌, true, ◌++◌, length, IfOk, OnOk};
-ghost use Rattle.recorder.specs.Stubs.{is_kept, keys_of, mapping_of, mappings_of, numbered};
-ghost use Rattle.recorder.specs.Stubs.{part_of, skipped_of};
+ghost use Rattle.recorder.specs.Stubs.{is_kept, keys_of, mapping_of, mappings_of, numbered, part_of, skipped_of};
 ghost use Rattle.recorded_stubs.specs.Inner.Lent.{lent};
 
 use crate::kept::kept_of;

@@ -1,7 +1,6 @@
 -- What one more header adds to a map, and what a sort by name leaves.
-use Rattle.std.proofs.Common.{◌≡◌, ℕ, ◌+◌, ◌<◌, List, [], ◌∷◌, ◌++◌, Bor, Some, take, length}
-use Rattle.std.proofs.Common.{map, Bool, append_assoc, append-nil, refl, sym, ap, ◌∙◌, inl, inr, All}
-use Rattle.std.proofs.Common.{IsPermutation, subst, if◌then◌else◌}
+use Rattle.std.proofs.Common.{◌≡◌, ℕ, ◌+◌, ◌<◌, List, [], ◌∷◌, ◌++◌, Bor, Some, take, length, map, Bool, append_assoc}
+use Rattle.std.proofs.Common.{append-nil, refl, sym, ap, ◌∙◌, inl, inr, All, IsPermutation, subst, if◌then◌else◌}
 use Rattle.std.specs.Cmp.{IsStrictWeakOrder}
 use Rattle.std.specs.Cmp.Lexicographic.{slice_cmp}
 use Rattle.std.specs.Fn.{Called, ComparesAs}

@@ -1,7 +1,6 @@
 -- How the code's cuts of a target meet its definition.
-use Rattle.std.proofs.Common.{◌≡◌, ◌≢◌, ◌↔◌, ℕ, true, false, List, [], ◌∷◌}
-use Rattle.std.proofs.Common.{◌++◌, ◌⊎◌, Bor, Option, None, Some, Result, Ok, Err}
-use Rattle.std.proofs.Common.{MatchOption, IsTrue, codes, inl, inr, refl, ap, ◌∙◌}
+use Rattle.std.proofs.Common.{◌≡◌, ◌≢◌, ◌↔◌, ℕ, true, false, List, [], ◌∷◌, ◌++◌, ◌⊎◌, Bor, Option, None, Some, Result}
+use Rattle.std.proofs.Common.{Ok, Err, MatchOption, IsTrue, codes, inl, inr, refl, ap, ◌∙◌}
 use Rattle.std.proofs.Math.Dec.{eqb}
 use Rattle.std.proofs.lemmas.Bool.Decides.{eqb_tells}
 use Rattle.std.specs.Net.Grammar.{Parses}

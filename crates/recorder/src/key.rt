@@ -1,5 +1,5 @@
 // By what requests are grouped.
-ghost use Rattle.std.specs.Prelude.{◌≡◌, ◌++◌, List, map, fold, IfOk, OnOk};
+ghost use Rattle.std.specs.Prelude.{◌≡◌, ◌++◌, fold, IfOk, OnOk};
 ghost use Rattle.std.specs.Cmp.{partial_equiv_from_equiv};
 ghost use Rattle.std.specs.Cmp.Lexicographic.{pointwise};
 ghost use Rattle.std.specs.Hash.{slice as slice_writes};

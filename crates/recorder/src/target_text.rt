@@ -1,13 +1,11 @@
 // The parts of a target's text.
-ghost use Rattle.std.specs.Prelude.{◌≡◌, ◌≢◌, ◌↔◌, ℕ, List, ◌++◌};
-ghost use Rattle.std.specs.Prelude.{codes, IsTrue, MatchOption};
+ghost use Rattle.std.specs.Prelude.{◌≡◌, ◌≢◌, ◌↔◌, ℕ, List, ◌++◌, codes, IsTrue, MatchOption};
 ghost use Rattle.std.specs.List.{list_all};
 ghost use Rattle.std.specs.Net.Grammar.{IsIpv4Text, IsIpv6Text};
 ghost use Rattle.std.specs.declared.net.ipv4_addr.Ipv4Addr.{Ipv4Addr};
 ghost use Rattle.std.specs.declared.net.ipv6_addr.Ipv6Addr.{Ipv6Addr};
-ghost use Rattle.recorder.specs.Target.{scheme, after_scheme, authority_of, prefix_of};
-ghost use Rattle.recorder.specs.Target.{path_of};
-ghost use Rattle.recorder.specs.Target.{IsBracketed, IsHost, is_prefix_byte, IsTarget, without_last_slash};
+ghost use Rattle.recorder.specs.Target.{scheme, after_scheme, authority_of, prefix_of, path_of, IsBracketed, IsHost};
+ghost use Rattle.recorder.specs.Target.{is_prefix_byte, IsTarget, without_last_slash};
 
 use mock_request::authority::host_and_port;
 use std::net::{Ipv4Addr, Ipv6Addr};
@@ -82,10 +80,7 @@ fn is_ipv6(text: &str) -> bool
 fn is_bracketed(host: &str) -> bool
     ensures { IsTrue result ↔ IsBracketed host.now }
 {
-    match in_brackets(host) {
-        Some(inner) => is_ipv6(inner),
-        None => false,
-    }
+    matches!(in_brackets(host), Some(inner) if is_ipv6(inner))
 }
 
 fn in_brackets(host: &str) -> Option<&str>

@@ -1,7 +1,6 @@
 -- Small pasts that the definitions read as they should: ids are short texts, and the mappings are any.
-use Rattle.std.proofs.Common.{◌≡◌, inl, inr, ℕ, zero, suc, ◌+◌, ◌<◌, ◌≤◌, ◌==◌, true, List}
-use Rattle.std.proofs.Common.{[], ◌∷◌, ◌++◌, Contains, Some, None, option_map, refl, sym, ap, subst}
-use Rattle.std.proofs.Common.{◌∙◌, codes, arith}
+use Rattle.std.proofs.Common.{◌≡◌, inl, inr, ℕ, zero, suc, ◌+◌, ◌<◌, ◌≤◌, ◌==◌, true, List, [], ◌∷◌, ◌++◌, Contains}
+use Rattle.std.proofs.Common.{Some, None, option_map, refl, sym, ap, subst, ◌∙◌, codes, arith}
 use Rattle.std.specs.Prelude.{◌<ℤ◌, find}
 use Rattle.std.proofs.lemmas.Int.{ints}
 use Rattle.mapping_model.specs.Priority.{priority_of}

@@ -1,6 +1,5 @@
 -- What events add has places of these events alone. So no event of another number gives the same place.
-use Rattle.std.proofs.Common.{ℕ, ◌+◌, ◌-◌, ◌≤◌, true, false, not, cond, List, [], ◌∷◌, ◌++◌}
-use Rattle.std.proofs.Common.{length, map, arith}
+use Rattle.std.proofs.Common.{ℕ, ◌+◌, ◌-◌, ◌≤◌, true, false, not, cond, List, [], ◌∷◌, ◌++◌, length, map, arith}
 use Rattle.std.specs.List.{filter}
 use Rattle.request_journal.specs.Live.{live, adds, added_by, added_mappings, edited, is_removed, left_by}
 use Rattle.request_journal.specs.Past.{Past, Placed, has_id, placed_from, last_number}

@@ -1,8 +1,7 @@
 -- Which mapping is chosen for a request (WireMock's documentation, "Stubbing", on priority, and "Stateful
 -- Behaviour"): of the eligible live ones that of the least priority number, and of these the newest. It is said of any
 -- list of live mappings and any states of scenarios, and then of those of a past.
-use Rattle.std.specs.Prelude.{◌≡◌, ◌⊎◌, ◌<◌, ◌<ℤ◌, ℕ, List, Contains, Option, Some, None}
-use Rattle.std.specs.Prelude.{IfSome}
+use Rattle.std.specs.Prelude.{◌≡◌, ◌⊎◌, ◌<◌, ◌<ℤ◌, ℕ, List, Contains, Option, Some, None, IfSome}
 use Rattle.mapping_model.specs.Priority.{priority_of}
 use Rattle.mapping_model.specs.declared.scenario_spec.ScenarioSpec.{ScenarioSpec}
 use Rattle.mock_request.specs.Request.{Request}

@@ -1,6 +1,5 @@
 -- Which recording there is: the last that was started, with the exchanges that were recorded since, up to its stop.
-use Rattle.std.specs.Prelude.{ℕ, Bool, true, false, List, [], ◌++◌, filter_map, Option, Some, None, unwrap_or}
-use Rattle.std.specs.Prelude.{cond}
+use Rattle.std.specs.Prelude.{ℕ, Bool, true, false, List, [], ◌++◌, filter_map, Option, Some, None, unwrap_or, cond}
 use Rattle.std.specs.List.{before_first, list_any}
 use Rattle.recorder.specs.declared.exchange.Exchange.{Exchange}
 use Rattle.recorder.specs.declared.recording.Recording.{Recording}

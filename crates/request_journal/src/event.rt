@@ -254,10 +254,7 @@ impl Event {
                 } => request.same(other_request) && answer.same(other_answer),
                 _ => false,
             },
-            Event::Add(mapping) => match other {
-                Event::Add(other) => mapping.same(other),
-                _ => false,
-            },
+            Event::Add(mapping) => matches!(other, Event::Add(other) if mapping.same(other)),
             Event::Edit { id, spec } => match other {
                 Event::Edit {
                     id: other_id,
@@ -265,10 +262,7 @@ impl Event {
                 } => id.same(*other_id) && spec.same(other_spec),
                 _ => false,
             },
-            Event::Delete(id) => match other {
-                Event::Delete(other) => id.same(*other),
-                _ => false,
-            },
+            Event::Delete(id) => matches!(other, Event::Delete(other) if id.same(*other)),
             Event::DeleteAll => matches!(other, Event::DeleteAll),
             Event::ResetMappings => matches!(other, Event::ResetMappings),
             Event::ResetAll => matches!(other, Event::ResetAll),

@@ -1,5 +1,4 @@
 // A mapping of the book.
-ghost use Rattle.std.specs.Prelude.{◌≡◌, ◌↔◌, IfOk, IsTrue};
 
 use mapping_model::mapping_id::MappingId;
 use plain_text::plain::{Same, TryClone};

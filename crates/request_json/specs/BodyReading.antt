@@ -1,7 +1,6 @@
 -- Which body matcher an object spells (WireMock, "Request Matching"): a value matcher on the body's text, or one of
 -- bytes or of JSON.
-use Rattle.std.specs.Prelude.{ℕ, List, [], ◌∷◌, ◌++◌, Bool, false, Option, Some, None, option_map}
-use Rattle.std.specs.Prelude.{unwrap_or, codes}
+use Rattle.std.specs.Prelude.{ℕ, List, [], ◌∷◌, ◌++◌, Bool, false, Option, Some, None, option_map, unwrap_or, codes}
 use Rattle.json_match.specs.declared.json_spec.JsonSpec.TheVariants as json
 use Rattle.json_reading.specs.Fields.{only, optional, text_field, bool_field, bytes_of}
 use Rattle.json_reading.specs.Numbers.{json_text_of}

@@ -1,5 +1,5 @@
 // Why the templates of a response were not run: what they may take, and what is too much.
-ghost use Rattle.std.specs.Prelude.{◌≡◌, IfSome};
+ghost use Rattle.std.specs.Prelude.{IfSome};
 ghost use Rattle.request_log.specs.Taken.{MayTake, MayTakeMore};
 ghost use Rattle.stub_response.specs.Response.{templates_of};
 

@@ -51,17 +51,11 @@ fn has_name(names: &[&Text], name: &Text) -> bool {
 }
 
 fn name_of(mapping: &Mapping) -> Option<&Text> {
-    match &mapping.spec.spec().scenario {
-        Some(scenario) => Some(&scenario.name),
-        None => None,
-    }
+    Some(&mapping.spec.spec().scenario.as_ref()?.name)
 }
 
 fn is_of(mapping: &Mapping, name: &Text) -> bool {
-    match name_of(mapping) {
-        Some(other) => other.same(name),
-        None => false,
-    }
+    matches!(name_of(mapping), Some(other) if other.same(name))
 }
 
 fn count_of(mappings: &[Mapping], name: &Text) -> usize {

@@ -1,6 +1,5 @@
 -- The first error of body matchers: what one more adds, and what it says of the whole matcher.
-use Rattle.std.proofs.Common.{◌≡◌, ℕ, ◌≤◌, List, ◌++◌, All, Any, Option, None, Some, arith, length}
-use Rattle.std.proofs.Common.{sym, subst, take}
+use Rattle.std.proofs.Common.{◌≡◌, ℕ, ◌≤◌, List, ◌++◌, All, Any, Option, None, Some, arith, length, sym, subst, take}
 use Rattle.std.proofs.lemmas.List.{take_all}
 use Rattle.std.specs.List.{filter_map}
 use Rattle.std.proofs.lemmas.List.Elements.{All-append, filter_map-append}

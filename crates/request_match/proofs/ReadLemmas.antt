@@ -1,6 +1,5 @@
 -- The values of a request and the JSON of its body as they are kept, and what a path finds in it.
-use Rattle.std.proofs.Common.{◌≡◌, ◌↔◌, ℕ, Bool, List, Option, None, Some, Result, IfOk, IfSome, IsTrue}
-use Rattle.std.proofs.Common.{subst}
+use Rattle.std.proofs.Common.{◌≡◌, ◌↔◌, ℕ, Bool, List, Option, None, Some, Result, IfOk, IfSome, IsTrue, subst}
 use Rattle.std.specs.Global.{Box}
 use Rattle.std.specs.Option.{IsSomeAnd, option_map}
 use Rattle.std.specs.Str.Lossy.{utf8_lossy}

@@ -1,6 +1,5 @@
 // Does the body of a request meet a body matcher?
-ghost use Rattle.std.specs.Prelude.{◌≡◌, ◌↔◌, ◌++◌, ◌∷◌, [], List, None, Some, IfOk, IfErr};
-ghost use Rattle.std.specs.Prelude.{IsTrue, OnOk, All};
+ghost use Rattle.std.specs.Prelude.{◌≡◌, ◌↔◌, ◌++◌, ◌∷◌, [], List, None, Some, IfOk, IfErr, IsTrue, OnOk, All};
 ghost use Rattle.std.specs.Option.{option_map_or};
 ghost use Rattle.data_tree.specs.Tree.{view, nothing};
 ghost use Rattle.request_match.specs.Parts.Matching.{MeetsBody, MeetsText, found_text};

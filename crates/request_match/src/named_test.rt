@@ -1,6 +1,5 @@
 // Do the values of a name meet a matcher?
-ghost use Rattle.std.specs.Prelude.{◌≡◌, ◌↔◌, ◌++◌, ◌∷◌, [], map, IfOk, IsTrue, IsErrOf, OnOk};
-ghost use Rattle.std.specs.Prelude.{All, Any};
+ghost use Rattle.std.specs.Prelude.{◌≡◌, ◌↔◌, ◌++◌, ◌∷◌, [], map, IfOk, IsTrue, IsErrOf, OnOk, All, Any};
 ghost use Rattle.std.specs.Char.{to_ascii_lowercase};
 ghost use Rattle.std.specs.Str.{bytes_eq};
 ghost use Rattle.mock_request.specs.HeaderFields.{texts_of};

@@ -1,7 +1,6 @@
 -- The first error of a list of templates.
-use Rattle.std.proofs.Common.{◌≡◌, inl, inr, ℕ, List, [], ◌∷◌, ◌++◌, All, append_assoc, refl, sym, ap}
-use Rattle.std.proofs.Common.{subst, ◌∙◌, take, drop, set, get_or, suc, ◌<◌, ◌+◌, length, Result, Ok, Err}
-use Rattle.std.proofs.Common.{IsErrAnd, IfErr}
+use Rattle.std.proofs.Common.{◌≡◌, inl, inr, ℕ, List, [], ◌∷◌, ◌++◌, All, append_assoc, refl, sym, ap, subst, ◌∙◌, take}
+use Rattle.std.proofs.Common.{drop, set, get_or, suc, ◌<◌, ◌+◌, length, Result, Ok, Err, IsErrAnd, IfErr}
 use Rattle.std.proofs.lemmas.List.{take_more, map-append, set_split, set-get_or}
 use Rattle.std.proofs.lemmas.List.Elements.{All-append, All-cons, All-nil}
 use Rattle.mapping_model.specs.declared.header_lines.HeaderLine.{HeaderLine}

@@ -1,7 +1,6 @@
 -- Header lines read one member after the other.
-use Rattle.std.proofs.Common.{◌≡◌, ℕ, List, [], ◌∷◌, ◌++◌, append_assoc, refl, sym, ap, ◌∙◌}
-use Rattle.std.proofs.Common.{Bool, true, false, Option, Some, None, IsSome, IfSome, ◌↔◌, true≢false, arith}
-use Rattle.std.proofs.Common.{if◌then◌else◌}
+use Rattle.std.proofs.Common.{◌≡◌, ℕ, List, [], ◌∷◌, ◌++◌, append_assoc, refl, sym, ap, ◌∙◌, Bool, true, false, Option}
+use Rattle.std.proofs.Common.{Some, None, IsSome, IfSome, ◌↔◌, true≢false, arith, if◌then◌else◌}
 use Rattle.std.proofs.lemmas.List.Sums.{AllPass-from_list_all, list_all-from_AllPass}
 use Rattle.http_header.specs.Token.{IsToken, is_token_byte}
 use Rattle.json_reading.specs.declared.reading.Reading.{Reading}

@@ -3,7 +3,7 @@ ghost use Rattle.std.specs.Prelude.{◌≡◌, IfOk, OnOk, codes, map};
 ghost use Rattle.base64.specs.Engines.{standard};
 ghost use Rattle.base64.specs.GeneralPurpose.{encode_of};
 ghost use Rattle.json_reading.specs.Written.{with_field};
-ghost use Rattle.response_json.specs.Writing.{json_of_response, with_content, with_parts, with_body, with_lines};
+ghost use Rattle.response_json.specs.Writing.{json_of_response, with_content, with_body, with_lines};
 ghost use Rattle.response_json.specs.Writing.{with_text, json_of_headers, json_of_texts, json_of_text, texts_of};
 ghost use Rattle.response_json.specs.Writing.{template_transformers, text_line, text_body};
 ghost use Rattle.serde_json.specs.Data.{put, string, object, no_members};

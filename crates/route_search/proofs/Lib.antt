@@ -1,3 +1,4 @@
+pub mod Fits
 pub mod Literals
 pub mod Segments
 pub mod Suffixes

@@ -4,7 +4,8 @@ use Rattle.std.proofs.Common.{refl, ap, ◌∙◌, arith}
 use Rattle.std.proofs.lemmas.Bool.{and_parts, or_cases, ltb-true, eqb-true}
 use Rattle.matchit.specs.Level.{IsText}
 use Rattle.matchit.specs.Rows.{RowsOf, param_token}
-use Rattle.route_search.specs.Fits.{slash, Fits, EndsSegment, IsWhole, AllWhole}
+use Rattle.route_search.specs.Segment.{slash}
+use Rattle.route_search.proofs.Fits.{Fits, EndsSegment, IsWhole, AllWhole}
 
 -- ---- tests
 

@@ -4,14 +4,14 @@ use Rattle.std.proofs.Common.{drop, take, Bool, true, false, cond, ◌==◌, ltb
 use Rattle.std.proofs.Common.{length-append, append-nil, append_assoc}
 use Rattle.std.proofs.Math.Seq.{get_or-append_seam, take-append_seam}
 use Rattle.std.proofs.lemmas.Bool.Decides.{nat_tests}
-use Rattle.std.proofs.lemmas.Str.{IsUtf8-drop, IsCharBoundary-after_ascii, IsCharBoundary-before_ascii}
-use Rattle.std.proofs.lemmas.Str.{IsUtf8-take}
+use Rattle.std.proofs.lemmas.Str.{IsUtf8-drop, IsCharBoundary-after_ascii, IsCharBoundary-before_ascii, IsUtf8-take}
 use Rattle.std.specs.Str.{IsUtf8}
 use Rattle.matchit.specs.Level.{IsText}
 use Rattle.matchit.specs.Params.{walk, wild_from, wild_stop, part_of}
 use Rattle.matchit.specs.Rows.{param_token}
 use Rattle.matchit.specs.Seek.{segment, has_slash}
-use Rattle.route_search.specs.Fits.{slash, IsSegment, Fits, EndsSegment}
+use Rattle.route_search.specs.Segment.{slash, IsSegment}
+use Rattle.route_search.proofs.Fits.{Fits, EndsSegment}
 use Rattle.route_search.proofs.Literals.{Follows, follows}
 use Rattle.route_search.proofs.Segments.{has_no_slash, cut_at}
 

@@ -5,7 +5,8 @@ use Rattle.std.proofs.lemmas.Bool.Decides.{nat_tests}
 use Rattle.matchit.specs.Level.{IsText}
 use Rattle.matchit.specs.Rows.{RowsOf, param_token, catch_all_token}
 use Rattle.matchit.specs.Seek.{own, step, or_else, seek, param_step, has_slash}
-use Rattle.route_search.specs.Fits.{slash, IsSegment, Begins, Fits, EndsSegment, IsWhole, AllWhole, Has}
+use Rattle.route_search.specs.Segment.{slash, IsSegment}
+use Rattle.route_search.proofs.Fits.{Begins, Fits, EndsSegment, IsWhole, AllWhole, Has}
 use Rattle.route_search.proofs.Segments.{is_cons, all_no_slash, has_no_slash}
 use Rattle.route_search.proofs.Suffixes.{AllEnd, IsTaken, Takes, param_takes, IsStep, step_at_end, step_at_slash}
 

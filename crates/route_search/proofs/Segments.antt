@@ -3,7 +3,7 @@ use Rattle.std.proofs.Common.{◌≡◌, ◌≢◌, ◌⊎◌, inl, inr, ℕ, ze
 use Rattle.std.proofs.Common.{Bool, true, false, cond, ◌==◌, refl, ap, arith}
 use Rattle.std.proofs.lemmas.Bool.Decides.{nat_tests}
 use Rattle.matchit.specs.Seek.{segment, has_slash}
-use Rattle.route_search.specs.Fits.{slash}
+use Rattle.route_search.specs.Segment.{slash}
 
 pub is_cons : (b : ℕ) (bs : List ℕ) → b ∷ bs ≢ []
 is_cons b bs e = cc

@@ -7,7 +7,8 @@ use Rattle.std.specs.List.{ends_with}
 use Rattle.matchit.specs.Rows.{RowsOf}
 use Rattle.matchit.specs.Seek.{segment, has_slash, cuts, longest_from, longest_suffix, with_suffix, param_step, same_text}
 use Rattle.matchit.proofs.ParamLemmas.{same_text-self}
-use Rattle.route_search.specs.Fits.{slash, EndsSegment, Has}
+use Rattle.route_search.specs.Segment.{slash}
+use Rattle.route_search.proofs.Fits.{EndsSegment, Has}
 use Rattle.route_search.proofs.Segments.{IsCut, cut_at, uncut, first_cut}
 
 abbrev pub end : List ℕ

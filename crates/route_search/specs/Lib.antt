@@ -1,1 +1,1 @@
-pub mod Fits
+pub mod Segment

@@ -5,7 +5,7 @@ use Rattle.std.proofs.Common.{◌≡◌, ℕ, zero, suc, Bool, true, false, List
 use Rattle.std.proofs.Common.{Option, Some, None, refl, sym, ap, ◌∙◌}
 use Rattle.std.specs.Prelude.{slice_get, if◌then◌else◌}
 use Rattle.code_rules.specs.Inner.Course as course
-use Rattle.code_rules.specs.Inner.Course.{Course, Bracket}
+use Rattle.code_rules.specs.Inner.Course.{Course}
 use Rattle.template_code.specs.Code.{StackCode}
 use Rattle.template_code.specs.Instructions.{flow}
 use Rattle.template_code.specs.declared.flow.Flow.{Flow}

@@ -6,7 +6,6 @@ use Rattle.std.proofs.Common.{◌∷◌, ◌++◌, length, drop, map, Some, refl
 use Rattle.std.specs.Prelude.{slice_get, if◌then◌else◌}
 use Rattle.std.proofs.lemmas.Option.{none-some}
 use Rattle.code_rules.specs.Inner.Course as course
-use Rattle.code_rules.specs.Inner.Course.{Course}
 use Rattle.code_rules.proofs.Courses.Nests.{first-place}
 use Rattle.data_tree.specs.Tree.{Tree}
 use Rattle.helper_set.specs.Values.{Value, kind_of}

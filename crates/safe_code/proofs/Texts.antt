@@ -12,13 +12,11 @@ use Rattle.helper_set.specs.Helpers.{argument_kinds}
 use Rattle.template_code.specs.Code.{StackCode, IsTyped}
 use Rattle.helper_set.specs.Escape.{html_escaped}
 use Rattle.template_code.specs.Instructions.{pops}
-use Rattle.template_code.specs.Machine.{Loop, item_of, key_of, has_next, Effect, with_stack, writes, of_loop}
-use Rattle.template_code.specs.Machine.{effect}
+use Rattle.template_code.specs.Machine.{Loop, item_of, key_of, has_next, Effect, with_stack, writes, of_loop, effect}
 use Rattle.template_code.specs.declared.instr.Instr.{Instr}
 use Rattle.template_code.specs.declared.instr.Instr.TheVariants.{Emit, Root, Item, Index, Key, First, Last, Text}
-use Rattle.template_code.specs.declared.instr.Instr.TheVariants.{Number}
-use Rattle.template_code.specs.declared.instr.Instr.TheVariants.{Truth, Show, Test, Call, Escape, Print, Jump, Branch}
-use Rattle.template_code.specs.declared.instr.Instr.TheVariants.{Each, Next, Halt}
+use Rattle.template_code.specs.declared.instr.Instr.TheVariants.{Number, Truth, Show, Test, Call, Escape, Print, Jump}
+use Rattle.template_code.specs.declared.instr.Instr.TheVariants.{Branch, Each, Next, Halt}
 use Rattle.template_code.proofs.EscapeFacts.{escaped-length}
 use Rattle.code_rules.specs.Bounds.{Bound, at_most, all_data, item_data, times_bound, bound_value}
 use Rattle.code_rules.specs.Costs.{written_bound, pushed_bounds, helper_bound, text_bound}
@@ -26,8 +24,7 @@ use Rattle.code_rules.proofs.CallFacts.{call-given, pops-length}
 use Rattle.safe_code.proofs.Bounds.{bound-all, bound-item, bound-times, text-within, number-within, index-within}
 use Rattle.safe_code.proofs.Bounds.{truth-within}
 use Rattle.safe_code.proofs.Effects.{some-holds, map-holds, then-holds}
-use Rattle.safe_code.proofs.Loops.{AreOpen, each-open, item-size, key-length, turn-small}
-use Rattle.safe_code.proofs.Loops.{innermost, innermost-at}
+use Rattle.safe_code.proofs.Loops.{AreOpen, each-open, item-size, key-length, turn-small, innermost, innermost-at}
 use Rattle.safe_code.proofs.Calls.{AllTexts, texts-below, result-within}
 
 -- the slots print within these bounds, and what is written is within that one

@@ -1,7 +1,6 @@
 -- What a binary search finds among the entries.
-use Rattle.std.proofs.Common.{◌≡◌, ℕ, suc, ◌<◌, ◌≤◌, List, [], ◌∷◌, length, get_or, set, take}
-use Rattle.std.proofs.Common.{drop, ap₂, ◌++◌, Result, Ok, Err, IfOk, IfErr, refl, sym, ap, ◌∙◌, add-one}
-use Rattle.std.proofs.Common.{arith, string_bytes}
+use Rattle.std.proofs.Common.{◌≡◌, ℕ, suc, ◌<◌, ◌≤◌, List, [], ◌∷◌, length, get_or, set, take, drop, ap₂, ◌++◌, Result}
+use Rattle.std.proofs.Common.{Ok, Err, IfOk, IfErr, refl, sym, ap, ◌∙◌, add-one, arith, string_bytes}
 use Rattle.std.specs.declared.cmp.Ordering.TheVariants.{Equal}
 use Rattle.std.specs.Cmp.Lexicographic.{slice_cmp, nat_list_cmp_total}
 use Rattle.std.specs.FinMap.{slice_cmp-IsAntisymmetric, nat_cmp-IsAntisymmetric}

@@ -1,5 +1,5 @@
 // What is kept of the scenarios, and the search among it.
-ghost use Rattle.std.specs.Prelude.{◌≡◌, IfOk, IfErr};
+ghost use Rattle.std.specs.Prelude.{IfOk, IfErr};
 ghost use Rattle.scenario_core.specs.Inner.Entries.{pairs_of, AreInOrder, IsAt, IsGapFor};
 
 /// A scenario that isn't in the state in which it began.

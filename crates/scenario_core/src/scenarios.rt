@@ -1,5 +1,5 @@
 // The state of each scenario.
-ghost use Rattle.std.specs.Prelude.{◌≡◌, ◌↔◌, IfOk, IfErr, OnOk, OnErr, IsTrue, IsErr, IsErrOf};
+ghost use Rattle.std.specs.Prelude.{◌≡◌, ◌↔◌, IfOk, OnOk, OnErr, IsErr, IsErrOf};
 ghost use Rattle.std.specs.FinMap as fin_map;
 ghost use Rattle.scenario_core.specs.Scenarios.{started, state_of, MovesTo, AreAllStarted};
 ghost use Rattle.scenario_core.specs.Known.{IsKnown, HasState};

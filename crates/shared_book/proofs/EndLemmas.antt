@@ -1,5 +1,5 @@
 -- Seats that leave a history, until it has ended.
-use Rattle.std.proofs.Common.{◌≡◌, ℕ, [], ◌∷◌, List, refl, sym, ◌∙◌, subst}
+use Rattle.std.proofs.Common.{ℕ, [], ◌∷◌, List, refl, sym, ◌∙◌, subst}
 use Rattle.std.proofs.lemmas.List.Elements.{All-weaker}
 use mathlib.Core.List.{IsPrefix}
 use Rattle.logbook.specs.Pages.{Book}
@@ -7,11 +7,11 @@ use Rattle.request_journal.specs.Past.{Past}
 use Rattle.request_journal.specs.declared.event.Event.{Event}
 use Rattle.shared_book.proofs.KeptLemmas.{lawful_more}
 use Rattle.shared_book.proofs.ReachedLemmas.{calls_left, lead_count}
-use Rattle.shared_book.specs.Held.{Held, all_lists}
+use Rattle.shared_book.specs.Held.{Held}
 use Rattle.shared_book.specs.Inner.Ends.{Ends, HasSameCalls, HaveAgreed}
 use Rattle.shared_book.specs.Inner.Kept.{IsKept}
 use Rattle.shared_book.specs.Reached.{IsLawful, IsPastOf, Lead, Log, MayFollow}
-use Rattle.shared_book.specs.Settled.{AreSettled, HaveSeen, IsSettled}
+use Rattle.shared_book.specs.Settled.{AreSettled}
 use Rattle.shared_book.specs.declared.settled.Settled.{Settled}
 use Rattle.shared_history.proofs.Prefixes.{prefix_self, prefix_trans}
 use Rattle.shared_history.specs.Entries.{entry}

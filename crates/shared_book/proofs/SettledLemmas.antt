@@ -1,6 +1,5 @@
 -- Seats whose receipts were compared with the history, of which each has seen a beginning.
-use Rattle.std.proofs.Common.{◌≡◌, ◌≢◌, ◌∙◌}
-use Rattle.std.proofs.Common.{sym, subst, ℕ, Bool, true, false, List, Ok, Err, IfOk, IfErr, IsTrue, ◌↔◌}
+use Rattle.std.proofs.Common.{◌≡◌, ◌≢◌, ◌∙◌, sym, subst, ℕ, Bool, true, false, List, Ok, Err, IfOk, IfErr, IsTrue, ◌↔◌}
 use Rattle.std.specs.Prelude.{Result}
 use mathlib.Core.Bool.{true≢false}
 use Rattle.logbook.specs.Pages.{Book}

@@ -1,5 +1,5 @@
 // What one list of receipts shows by itself.
-ghost use Rattle.std.specs.Prelude.{◌≡◌, ◌<◌, ◌≤◌, All, Any, Contains, MatchOption};
+ghost use Rattle.std.specs.Prelude.{◌<◌, ◌≤◌, All, Any, Contains, MatchOption};
 ghost use Rattle.shared_book.specs.Held.{all_lists, lists};
 ghost use Rattle.shared_book.specs.Inner.Misplaced.{IsMisplaced, IsWellPlaced};
 ghost use Rattle.shared_book.specs.Inner.Seat.{line_of, lines_in, lines_of};

@@ -1,6 +1,6 @@
 // Lists of receipts that are put together.
-ghost use Rattle.std.specs.Prelude.{◌≡◌, ◌≤◌, ◌+◌, ◌<◌, ◌∷◌, ◌++◌, [], IfErr, IfOk, map, vec_capacity, vec_len};
-ghost use Rattle.shared_book.specs.Inner.Seat.{line_of, lines_in, lines_of, single};
+ghost use Rattle.std.specs.Prelude.{◌≡◌, ◌≤◌, ◌+◌, ◌<◌, ◌++◌, IfErr, IfOk, map, vec_capacity, vec_len};
+ghost use Rattle.shared_book.specs.Inner.Seat.{lines_in, lines_of, single};
 
 use crate::receipt_list::ReceiptList;
 

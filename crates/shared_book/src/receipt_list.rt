@@ -1,5 +1,5 @@
 // Receipts in the order of their calls, which let go of their events.
-ghost use Rattle.std.specs.Prelude.{◌≡◌, ◌+◌, ◌<◌, ◌≤◌, ◌∷◌, ◌++◌, ◌↔◌, [], IsTrue, All, IfErr, IfOk, OnErr, OnOk};
+ghost use Rattle.std.specs.Prelude.{◌≡◌, ◌+◌, ◌<◌, ◌≤◌, ◌∷◌, ◌++◌, [], All, IfErr, IfOk, OnErr, OnOk};
 ghost use Rattle.std.specs.Prelude.{drop, length, map, slice_index, take, vec_capacity, vec_len};
 ghost use Rattle.shared_book.specs.Held.{LetsGo};
 ghost use Rattle.shared_book.specs.Inner.Seat.{line_of, single};

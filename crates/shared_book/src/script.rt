@@ -1,6 +1,5 @@
 // Two scripts of calls on a shared book, each in a thread of its own.
-ghost use Rattle.std.specs.Prelude.{◌≡◌, ◌⊎◌, ◌<◌, ◌≤◌, ◌∷◌, ◌++◌, [], IfErr, IfOk};
-ghost use Rattle.std.specs.Prelude.{vec_capacity, vec_len};
+ghost use Rattle.std.specs.Prelude.{◌≡◌, ◌⊎◌, ◌<◌, ◌≤◌, ◌∷◌, ◌++◌, [], IfErr, IfOk, vec_capacity, vec_len};
 ghost use Rattle.shared_book.specs.Script.{IsPlayed, IsStopped, IsUnplayed, Plays};
 
 use crate::gate::Gate;

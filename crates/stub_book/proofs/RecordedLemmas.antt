@@ -1,7 +1,6 @@
 -- A recorded mapping has nothing that can be refused: its URL is plain, no matcher of it has a pattern, and it expects
 -- no JSON. So only memory can be lacking where it is built.
-use Rattle.std.proofs.Common.{◌≡◌, ℕ, suc, Bool, true, false, List, [], ◌∷◌, ◌++◌, All, Any, Option}
-use Rattle.std.proofs.Common.{refl, ⊎_elim}
+use Rattle.std.proofs.Common.{◌≡◌, ℕ, suc, Bool, true, false, List, [], ◌∷◌, ◌++◌, All, Any, Option, refl, ⊎_elim}
 use Rattle.std.specs.Prelude.{if◌then◌else◌}
 use Rattle.std.specs.List.{filter_map}
 use Rattle.std.specs.Str.{is_utf8}

@@ -11,9 +11,8 @@ use Rattle.mapping_model.specs.declared.reply.ReplyHeader.{ReplyHeader}
 use Rattle.mapping_model.specs.declared.response_spec.Body.{Body}
 use Rattle.mapping_model.specs.declared.response_spec.Body.TheVariants.{Empty, Text, Json, Base64}
 use Rattle.mock_request.specs.Request.{Request}
-use Rattle.needed_data.specs.Needed.{NeededData, AreAlike, Includes, json_field_path}
+use Rattle.needed_data.specs.Needed.{NeededData, AreAlike, Includes, json_field_path, nothing}
 use Rattle.data_tree.specs.RootPaths.{json_path, field_path}
-use Rattle.needed_data.specs.Needed.{nothing}
 use Rattle.request_data.specs.RequestTree.{request_tree}
 use Rattle.template_machine.proofs.Programs.{renders_alike}
 use Rattle.template_machine.specs.Program.{FindsSame, IsMeant}

@@ -1,6 +1,5 @@
 -- The response of a mapping for a request (WireMock's documentation, "Response Templating", for templates).
-use Rattle.std.specs.Prelude.{◌≡◌, ◌≤◌, ◌⊎◌, ℕ, List, [], ◌∷◌, ◌++◌, map, Option, None}
-use Rattle.std.specs.Prelude.{Some}
+use Rattle.std.specs.Prelude.{◌≡◌, ◌≤◌, ◌⊎◌, ℕ, List, [], ◌∷◌, ◌++◌, map, Option, None, Some}
 use Rattle.std.specs.List.{AllZip}
 use Rattle.data_tree.specs.Json.{size}
 use Rattle.data_tree.specs.Tree.{Tree}

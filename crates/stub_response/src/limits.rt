@@ -1,6 +1,5 @@
 // What the templates of one response may take.
-ghost use Rattle.std.specs.Prelude.{◌≡◌, ◌↔◌, ◌+◌, ◌<◌, ◌∷◌, List, IfNone, IfSome, IsNone};
-ghost use Rattle.std.specs.Prelude.{IsTrue};
+ghost use Rattle.std.specs.Prelude.{◌≡◌, ◌↔◌, ◌+◌, ◌<◌, ◌∷◌, List, IfNone, IfSome, IsNone, IsTrue};
 ghost use Rattle.stub_response.specs.Limits.{KeepTo};
 ghost use Rattle.template_tree.specs.Source.{Source};
 ghost use Rattle.stub_response.specs.Response.{templates_of};

@@ -11,7 +11,6 @@ use case_table::words::parts;
 use code_verifier::error::VerifyError;
 use code_verifier::verified::Verified;
 use code_verifier::verify::verify;
-use data_tree::plain_text::PlainText;
 use data_tree::request_data::RequestData;
 use data_tree::step::{Path, Step};
 use helper_set::helper::Helper;
@@ -184,6 +183,5 @@ fn read_step(alloc: Global, word: &str) -> Result<Step, AllocError> {
     if let Some(index) = number(word) {
         return Ok(Step::Index(u32::try_from(index).unwrap_or(u32::MAX)));
     }
-    let name = word.trim_matches('\'');
-    Ok(Step::Name(PlainText::new(String::from_str(alloc, name)?)))
+    Step::named(alloc, word.trim_matches('\''))
 }

@@ -9,7 +9,6 @@ use crate::numbers;
 use case_table::cells::Cells;
 use data_tree::compact_text::CompactText;
 use data_tree::data::Data;
-use data_tree::plain_text::PlainText;
 use data_tree::request_data::{DataError, RequestData};
 use data_tree::step::{Path, Step};
 use json_bridge::read::data_of_json;
@@ -181,7 +180,7 @@ pub fn path(alloc: Global, steps: &str) -> Result<Path, AllocError> {
 // A number that is no index is the greatest one, which finds nothing in the tables.
 fn step(alloc: Global, item: Data) -> Result<Step, AllocError> {
     match item {
-        Data::Text(name) => Ok(Step::Name(PlainText::new(String::from_str(alloc, name.as_str())?))),
+        Data::Text(name) => Step::named(alloc, name.as_str()),
         Data::Number(index) => Ok(Step::Index(u32::try_from(index).unwrap_or(u32::MAX))),
         _ => Ok(Step::Index(u32::MAX)),
     }

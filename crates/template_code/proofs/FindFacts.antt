@@ -22,9 +22,8 @@ use Rattle.template_code.specs.Machine.{next_state, act, step, advance, Runs, fi
 use Rattle.template_code.specs.declared.flow.Flow.{Flow}
 use Rattle.template_code.specs.declared.instr.Instr.{Instr}
 use Rattle.template_code.specs.declared.instr.Instr.TheVariants.{Emit, Root, Item, Index, Key, First, Last, Text}
-use Rattle.template_code.specs.declared.instr.Instr.TheVariants.{Number}
-use Rattle.template_code.specs.declared.instr.Instr.TheVariants.{Truth, Show, Test, Call, Escape, Print, Jump, Branch}
-use Rattle.template_code.specs.declared.instr.Instr.TheVariants.{Each, Next, Halt}
+use Rattle.template_code.specs.declared.instr.Instr.TheVariants.{Number, Truth, Show, Test, Call, Escape, Print, Jump}
+use Rattle.template_code.specs.declared.instr.Instr.TheVariants.{Branch, Each, Next, Halt}
 
 -- two functions that give the same of what is there
 same_and_then : {A B : Type 0} (f g : A → Option B) (o : Option A) → ((x : A) → o ≡ Some x → f x ≡ g x)

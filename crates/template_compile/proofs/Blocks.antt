@@ -17,8 +17,7 @@ use Rattle.template_compile.specs.Compiled.{Offsets, Gen, ◌▸◌, jump_over, 
 use Rattle.template_compile.proofs.Goes.{index-join}
 use Rattle.template_compile.proofs.HasCode.{HasPart, after_part, has_part-front, has_part-back}
 use Rattle.template_compile.proofs.Lengths.{HasLength}
-use Rattle.template_compile.proofs.Stretch.{Slot, slot, Weigh, Stands, heaviest, LaidTo, Lays, laid-to}
-use Rattle.template_compile.proofs.Stretch.{laid-join}
+use Rattle.template_compile.proofs.Stretch.{Slot, slot, Weigh, Stands, heaviest, LaidTo, Lays, laid-to, laid-join}
 use Rattle.template_compile.proofs.Stretch.{stands-at, stands-one, laid-one}
 
 module _ (code : StackCode) where

@@ -6,8 +6,7 @@ use Rattle.std.specs.Prelude.{max}
 use Rattle.helper_set.specs.Helpers.{signature_of, result_kind}
 use Rattle.helper_set.specs.declared.helper.Helper.{Helper}
 use Rattle.helper_set.specs.declared.helper.Helper.TheVariants.{Upper, Lower, Trim, Size, Eq, Neq, Contains, Not}
-use Rattle.helper_set.specs.declared.helper.Helper.TheVariants.{Base64}
-use Rattle.helper_set.specs.declared.helper.Helper.TheVariants.{UrlEncode, DefaultIfEmpty, JsonPath}
+use Rattle.helper_set.specs.declared.helper.Helper.TheVariants.{Base64, UrlEncode, DefaultIfEmpty, JsonPath}
 use Rattle.helper_set.specs.declared.kind.Kind.{Kind}
 use Rattle.helper_set.specs.declared.signature.Parameter.{Parameter}
 use Rattle.helper_set.specs.declared.signature.Parameter.TheVariants.{Any, NoText, DataOrText, Of}
@@ -24,8 +23,7 @@ use Rattle.template_compile.specs.Kinds.{conversion}
 use Rattle.template_compile.specs.Compiled.{instructions}
 use Rattle.template_tags.specs.Sound.{takes_one, takes_two}
 use Rattle.template_compile.proofs.Heights.{cap, cap-nine, cap-one, cap-two}
-use Rattle.template_compile.proofs.Stretch.{Slot, slot, kinds_of, Weigh, heaviest, Lays, lays-nothing}
-use Rattle.template_compile.proofs.Stretch.{lays-straight}
+use Rattle.template_compile.proofs.Stretch.{Slot, slot, kinds_of, Weigh, heaviest, Lays, lays-nothing, lays-straight}
 
 -- the kind of a value once it is converted
 abbrev pub kind_for : Parameter → Kind → Kind

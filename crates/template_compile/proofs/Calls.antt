@@ -6,8 +6,7 @@ use Rattle.helper_set.specs.Helpers.{signature_of, result_kind}
 use Rattle.helper_set.specs.Values.{Value, a_datum, a_text, a_number, a_truth, kind_of}
 use Rattle.helper_set.specs.declared.helper.Helper.{Helper}
 use Rattle.helper_set.specs.declared.helper.Helper.TheVariants.{Upper, Lower, Trim, Size, Eq, Neq, Contains, Not}
-use Rattle.helper_set.specs.declared.helper.Helper.TheVariants.{Base64}
-use Rattle.helper_set.specs.declared.helper.Helper.TheVariants.{UrlEncode, DefaultIfEmpty, JsonPath}
+use Rattle.helper_set.specs.declared.helper.Helper.TheVariants.{Base64, UrlEncode, DefaultIfEmpty, JsonPath}
 use Rattle.template_code.specs.Code.{StackCode}
 use Rattle.template_code.specs.Machine.{Loop, with_stack, effect}
 use Rattle.template_code.specs.declared.instr.Instr.TheVariants.{Call}

@@ -11,8 +11,7 @@ use Rattle.template_tags.specs.Expression.{Expression, call_two}
 use Rattle.template_tree.specs.Meaning.{second_parameter}
 use Rattle.template_tree.specs.Tree.{Node, Nodes, first_node, if_then, if_else, each, each_else}
 use Rattle.template_compile.specs.Compiled.{Gen, ◌▸◌, instructions, branch_over, jump_over, each_over, again, size}
-use Rattle.template_compile.specs.Compiled.{datum_code}
-use Rattle.template_compile.specs.Compiled.{expression_code, code_for, test_code, node_code, nodes_code}
+use Rattle.template_compile.specs.Compiled.{datum_code, expression_code, code_for, test_code, node_code, nodes_code}
 use Rattle.template_compile.specs.Inner.Drafts.{extended_by}
 use Rattle.template_compile.specs.Kinds.{conversion, expression_kind}
 use Rattle.template_compile.proofs.HasCode.{extended_by-join}

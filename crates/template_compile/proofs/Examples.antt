@@ -6,8 +6,7 @@ use Rattle.data_tree.specs.declared.step.Step.{Step}
 use Rattle.data_tree.specs.declared.step.Step.TheVariants.{Name, Index}
 use Rattle.helper_set.specs.declared.helper.Helper.TheVariants as helpers
 use Rattle.template_code.specs.declared.instr.Instr.TheVariants.{Emit, Root, Item, Index as AtIndex, Last, Show, Test}
-use Rattle.template_code.specs.declared.instr.Instr.TheVariants.{Call}
-use Rattle.template_code.specs.declared.instr.Instr.TheVariants.{Escape, Print, Jump, Branch, Each, Next, Halt}
+use Rattle.template_code.specs.declared.instr.Instr.TheVariants.{Call, Escape, Print, Jump, Branch, Each, Next, Halt}
 use Rattle.template_tags.specs.declared.expression.Datum.TheVariants as datums
 use Rattle.template_tags.specs.Expression as expressions
 use Rattle.template_tags.specs.Expression.{datum}

@@ -1,6 +1,5 @@
 -- The code of an expression keeps the rules and pushes one slot, of the expression's kind.
-use Rattle.std.proofs.Common.{◌≡◌, ℕ, suc, ◌+◌, ◌≤◌, List, [], ◌∷◌, length, refl}
-use Rattle.std.proofs.Common.{arith}
+use Rattle.std.proofs.Common.{◌≡◌, ℕ, suc, ◌+◌, ◌≤◌, List, [], ◌∷◌, length, refl, arith}
 use Rattle.std.specs.Prelude.{max}
 use Rattle.helper_set.specs.Helpers.{signature_of, result_kind}
 use Rattle.helper_set.specs.declared.helper.Helper.TheVariants.{JsonPath}
@@ -8,13 +7,11 @@ use Rattle.helper_set.specs.declared.kind.Kind.{Kind}
 use Rattle.helper_set.specs.declared.signature.Parameter.{Parameter}
 use Rattle.template_code.specs.Code.{StackCode}
 use Rattle.template_code.specs.declared.instr.Instr.{Instr}
-use Rattle.template_code.specs.declared.instr.Instr.TheVariants.{Index, Key, First, Last, Number, Truth}
-use Rattle.template_code.specs.declared.instr.Instr.TheVariants.{Call}
+use Rattle.template_code.specs.declared.instr.Instr.TheVariants.{Index, Key, First, Last, Number, Truth, Call}
 use Rattle.template_code.specs.declared.limits.TheConstants.{MAX_SLOTS, MAX_LOOPS}
 use Rattle.code_rules.specs.Bounds.{at_most, all_data}
 use Rattle.template_tags.specs.Expression.{Expression, datum, index, key, first, last, text_literal, number, truth}
-use Rattle.template_tags.specs.Expression.{call}
-use Rattle.template_tags.specs.Expression.{call_two}
+use Rattle.template_tags.specs.Expression.{call, call_two}
 use Rattle.template_tags.specs.declared.expression.Datum.{Datum}
 use Rattle.template_tags.specs.declared.expression.Datum.TheVariants as data_variants
 use Rattle.template_tree.specs.Meaning.{second_parameter}

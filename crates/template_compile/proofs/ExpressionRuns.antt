@@ -18,8 +18,7 @@ use Rattle.template_code.specs.Machine.{Loop, with_stack, effect}
 use Rattle.template_code.specs.declared.instr.Instr.TheVariants.{Index, Key, First, Last, Number, Truth, Show, Test}
 use Rattle.template_code.specs.declared.instr.Instr.TheVariants.{Call}
 use Rattle.template_tags.specs.Expression.{Expression, datum, index, key, first, last, text_literal, number, truth}
-use Rattle.template_tags.specs.Expression.{call}
-use Rattle.template_tags.specs.Expression.{call_two}
+use Rattle.template_tags.specs.Expression.{call, call_two}
 use Rattle.template_tags.specs.declared.expression.Datum.{Datum}
 use Rattle.template_tags.specs.declared.expression.Datum.TheVariants as data_variants
 use Rattle.template_tree.specs.Meaning.{Turn, item_at, body_data, datum_at, converted, second_parameter, value_of}

@@ -1,14 +1,12 @@
 -- How heavy the values of expressions are, by how deep their calls are nested.
 use Rattle.std.specs.Bool.{IsTrue}
-use Rattle.std.proofs.Common.{true≢false}
-use Rattle.std.proofs.Common.{◌≡◌, ℕ, zero, suc, ◌+◌, ◌*◌, ◌-◌, ◌≤◌, List, ◌∷◌, length}
-use Rattle.std.proofs.Common.{take, sym, subst, arith}
+use Rattle.std.proofs.Common.{true≢false, ◌≡◌, ℕ, zero, suc, ◌+◌, ◌*◌, ◌-◌, ◌≤◌, List, ◌∷◌, length, take, sym, subst}
+use Rattle.std.proofs.Common.{arith}
 use Rattle.std.specs.Prelude.{max}
 use Rattle.helper_set.specs.Helpers.{argument_kinds}
 use Rattle.helper_set.specs.declared.helper.Helper.{Helper}
 use Rattle.helper_set.specs.declared.helper.Helper.TheVariants.{Upper, Lower, Trim, Size, Eq, Neq, Contains, Not}
-use Rattle.helper_set.specs.declared.helper.Helper.TheVariants.{Base64}
-use Rattle.helper_set.specs.declared.helper.Helper.TheVariants.{UrlEncode, DefaultIfEmpty, JsonPath}
+use Rattle.helper_set.specs.declared.helper.Helper.TheVariants.{Base64, UrlEncode, DefaultIfEmpty, JsonPath}
 use Rattle.code_rules.specs.Bounds.{Bound}
 use Rattle.code_rules.specs.Costs.{helper_bound}
 use Rattle.code_rules.proofs.LightFacts.{light-call}

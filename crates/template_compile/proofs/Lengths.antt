@@ -1,6 +1,5 @@
 -- The code of each part has as many instructions as the part's length.
-use Rattle.std.proofs.Common.{◌≡◌, ℕ, ◌+◌, Bool, true, false, [], ◌∷◌, length, refl, sym, ap, ◌∙◌, arith}
-use Rattle.std.proofs.Common.{length-append}
+use Rattle.std.proofs.Common.{◌≡◌, ℕ, ◌+◌, Bool, true, false, [], ◌∷◌, length, refl, sym, ap, ◌∙◌, arith, length-append}
 use Rattle.helper_set.specs.Helpers.{signature_of}
 use Rattle.helper_set.specs.declared.kind.Kind.{Kind}
 use Rattle.helper_set.specs.declared.signature.Parameter.{Parameter}
@@ -20,9 +19,12 @@ use Rattle.template_compile.specs.Compiled.{code_for, print_instrs, negation, te
 use Rattle.template_compile.specs.Compiled.{stack_code}
 use Rattle.template_compile.specs.Kinds.{expression_kind, conversion}
 use Rattle.template_compile.specs.Inner.Length.{datum_length, argument_length, expression_length, length_for}
-use Rattle.template_compile.specs.Inner.Length.{print_length}
-use Rattle.template_compile.specs.Inner.Length.{test_length, node_length, nodes_length, code_length}
+use Rattle.template_compile.specs.Inner.Length.{print_length, test_length, node_length, nodes_length}
 use Rattle.template_compile.proofs.HasCode.{after_part}
+
+-- with the `Halt` that ends it
+abbrev pub code_length : Nodes → ℕ
+code_length nodes = nodes_length nodes + 1
 
 -- the part has that many instructions, wherever it begins
 abbrev pub HasLength : Gen → ℕ → Type 0

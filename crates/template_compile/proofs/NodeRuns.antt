@@ -1,6 +1,5 @@
 -- Each run of a template's code writes the template's text.
-use Rattle.std.proofs.Common.{◌≡◌, ℕ, suc, ◌+◌, List, [], ◌∷◌, ◌++◌, length, refl, Bool, true}
-use Rattle.std.proofs.Common.{false, subst, arith}
+use Rattle.std.proofs.Common.{◌≡◌, ℕ, suc, ◌+◌, List, [], ◌∷◌, ◌++◌, length, refl, Bool, true, false, subst, arith}
 use Rattle.std.specs.List.{flat_map}
 use Rattle.std.specs.Prelude.{not}
 use Rattle.data_tree.specs.Tree.{Tree}
@@ -23,8 +22,7 @@ use Rattle.template_tree.specs.Tree.{Node, piece, print, if_then, if_else, each,
 use Rattle.template_tree.specs.Meaning.{Turn, turns_of, datum_at, value_of, escaped, is_taken, node_text, template_text}
 use Rattle.template_compile.specs.Compiled.{◌▸◌, start_offsets, instructions, branch_over, jump_over, each_over, size}
 use Rattle.template_compile.specs.Compiled.{again, datum_code, code_for, print_instrs, negation, test_code, node_code}
-use Rattle.template_compile.specs.Compiled.{nodes_code}
-use Rattle.template_compile.specs.Compiled.{stack_code}
+use Rattle.template_compile.specs.Compiled.{nodes_code, stack_code}
 use Rattle.template_compile.specs.Correct.{WritesTextOf}
 use Rattle.template_tree.specs.Sound.{SoundExpression, SoundNode, SoundNodes}
 use Rattle.template_compile.proofs.ExpressionRuns.{goes-datum, goes-code_for}

@@ -17,8 +17,7 @@ use Rattle.code_rules.specs.Costs.{pushed_bounds, written_bound}
 use Rattle.code_rules.specs.Rules.{lacks_loop}
 use Rattle.code_rules.proofs.TotalFacts.{total, total-at_most}
 use Rattle.template_compile.specs.Compiled.{instructions, text_code, root_code, item_code}
-use Rattle.template_compile.proofs.Stretch.{Slot, slot, heaviest, Lays, Straight}
-use Rattle.template_compile.proofs.Stretch.{lays-straight}
+use Rattle.template_compile.proofs.Stretch.{Slot, slot, heaviest, Lays, Straight, lays-straight}
 
 -- an instruction that pops nothing and pushes a slot like that
 pub record Pushes (code : StackCode) (i : Instr) (nest : List ℕ) (s : Slot) : Type 0 where

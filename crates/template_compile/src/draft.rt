@@ -2,8 +2,8 @@
 ghost use Rattle.std.specs.Prelude.{◌≡◌, ◌≤◌, OnOk};
 ghost use Rattle.template_code.specs.declared.limits.TheConstants.{MAX_INSTRUCTIONS};
 
-use data_tree::plain_text::PlainText;
 use data_tree::step::Path;
+use plain_text::text::Text;
 use std::alloc::{AllocError, Global};
 use std::marker::Model;
 use template_code::code::Code;
@@ -45,7 +45,7 @@ impl Draft {
     }
 
     /// Writes a text, which becomes a new entry.
-    pub fn emit(&mut self, text: PlainText) -> Result<(), AllocError>
+    pub fn emit(&mut self, text: Text) -> Result<(), AllocError>
         ensures { OnOk result (self.new ≡ extended_by self.old (emit_code text)) }
     {
         self.instrs.push(Instr::Emit(self.texts.len()))?;
@@ -74,7 +74,7 @@ impl Draft {
     }
 
     /// Pushes a text, which becomes a new entry.
-    pub fn text(&mut self, text: PlainText) -> Result<(), AllocError>
+    pub fn text(&mut self, text: Text) -> Result<(), AllocError>
         ensures { OnOk result (self.new ≡ extended_by self.old (text_code text)) }
     {
         self.instrs.push(Instr::Text(self.texts.len()))?;
@@ -83,7 +83,7 @@ impl Draft {
     }
 
     /// The same of a text that is looked up as a JSON path, which is read here, once for all runs.
-    pub fn path_text(&mut self, alloc: Global, text: PlainText) -> Result<(), AllocError>
+    pub fn path_text(&mut self, alloc: Global, text: Text) -> Result<(), AllocError>
         ensures { OnOk result (self.new ≡ extended_by self.old (text_code text)) }
     {
         self.instrs.push(Instr::Text(self.texts.len()))?;

@@ -1,15 +1,13 @@
 //! From a tree to code: the values that are pushed.
 ghost use Rattle.std.specs.Prelude.{◌≡◌, IfOk, OnOk};
-ghost use Rattle.template_compile.specs.Compiled.{instructions, nothing_path, datum_code, expression_code};
+ghost use Rattle.template_compile.specs.Compiled.{instructions, nothing_path, datum_code, expression_code, code_for};
 ghost use Rattle.data_tree.specs.RootPaths.{body_path};
-ghost use Rattle.template_compile.specs.Compiled.{code_for};
 ghost use Rattle.template_compile.specs.Inner.Drafts.{extended_by};
 ghost use Rattle.template_compile.specs.Kinds.{conversion};
 ghost use Rattle.template_tags.specs.Expression.{expression_view};
 
 use crate::draft::Draft;
 use crate::kinds::{conversion, expression_kind, second_parameter};
-use data_tree::plain_text::PlainText;
 use data_tree::step::{Path, Step};
 use helper_set::helper::Helper;
 use helper_set::kind::Kind;
@@ -100,15 +98,14 @@ pub fn add_datum(draft: &mut Draft, alloc: Global, datum: Datum) -> Result<(), A
 fn nothing_path(alloc: Global) -> Result<Path, AllocError>
     ensures { IfOk result (λ path. path ≡ nothing_path) }
 {
-    let name = Step::Name(PlainText::new(String::new(alloc)));
-    Ok(Path::new(vec![in alloc; name]?))
+    Ok(Path::new(vec![in alloc; Step::named(alloc, "")?]?))
 }
 
 // `request.body`, the first argument of `jsonPath`.
 fn body_path(alloc: Global) -> Result<Path, AllocError>
     ensures { IfOk result (λ path. path ≡ body_path) }
 {
-    let request = Step::Name(PlainText::new(String::from_str(alloc, "request")?));
-    let body = Step::Name(PlainText::new(String::from_str(alloc, "body")?));
+    let request = Step::named(alloc, "request")?;
+    let body = Step::named(alloc, "body")?;
     Ok(Path::new(vec![in alloc; request, body]?))
 }

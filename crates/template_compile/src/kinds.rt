@@ -29,10 +29,7 @@ pub fn expression_kind(expression: &Expression) -> Kind
 pub fn second_parameter(helper: Helper) -> Parameter
     ensures { result ≡ second_parameter helper }
 {
-    match signature(helper).second {
-        Some(parameter) => parameter,
-        None => Parameter::Any,
-    }
+    signature(helper).second.unwrap_or(Parameter::Any)
 }
 
 /// The instruction, if one is needed, that makes of a value of that kind what the parameter wants.

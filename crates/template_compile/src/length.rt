@@ -6,8 +6,7 @@ ghost use Rattle.template_compile.specs.Compiled.{size, nodes_code, stack_code};
 ghost use Rattle.template_compile.specs.Inner.Room.{TakesRoom};
 ghost use Rattle.template_compile.specs.Kinds.{conversion};
 ghost use Rattle.template_compile.specs.Inner.Length.{datum_length, expression_length, length_for, print_length};
-ghost use Rattle.template_compile.specs.Inner.Length.{test_length};
-ghost use Rattle.template_compile.specs.Inner.Length.{node_length, nodes_length};
+ghost use Rattle.template_compile.specs.Inner.Length.{test_length, node_length, nodes_length};
 ghost use Rattle.template_tags.specs.Expression.{expression_view};
 ghost use Rattle.template_tree.specs.Tree.{node_view, nodes_view};
 

@@ -1,6 +1,6 @@
 -- What is added instruction by instruction is all that the code finds.
 use Rattle.std.proofs.Common.{◌≡◌, ℕ, ◌+◌, ◌<◌, ◌≤◌, ◌⊎◌, inl, inr, List, ◌∷◌, length, ap, sym}
-use Rattle.std.proofs.Common.{◌∙◌, subst, arith, get_or}
+use Rattle.std.proofs.Common.{◌∙◌, Some, subst, arith, get_or}
 use Rattle.std.specs.Prelude.{slice_get, codes}
 use Rattle.std.specs.Option.{option_map_or}
 use Rattle.std.proofs.lemmas.Bool.{cases_lt}
@@ -19,7 +19,12 @@ use Rattle.template_code.specs.Finds.{IsPushedBefore}
 use Rattle.template_code.specs.Machine.{found_by}
 use Rattle.template_code.specs.declared.instr.Instr.{Instr}
 use Rattle.template_code.specs.declared.instr.Instr.TheVariants.{Emit, Call}
-use Rattle.template_machine.specs.Inner.Needs.{CoversInstr, CoversFirst, CoversCode}
+use Rattle.template_machine.specs.Inner.Needs.{CoversInstr, CoversCode}
+
+-- in what that many instructions at the start find
+abbrev pub CoversFirst : ℕ → NeededData → StackCode → Type 0
+CoversFirst count needed code =
+    (index : ℕ) (i : Instr) → index < count → slice_get code.instrs index ≡ Some i → CoversInstr needed code index i
 
 pub covers_next : (count : ℕ) (old new : NeededData) (code : StackCode) (instrs : List Instr)
     → instrs ≡ code.instrs

@@ -18,7 +18,6 @@ use crate::held::{Held, hold};
 use crate::slot::{Slot, Text, changes_text};
 use crate::value::Value;
 use data_tree::data::Data;
-use data_tree::plain_text::PlainText;
 use data_tree::step::Step;
 use helper_set::apply::apply;
 use helper_set::helper::Helper;
@@ -183,8 +182,7 @@ fn json_of<'a>(alloc: Global, root: &'a Data) -> Result<Option<&'a Data>, AllocE
     ensures found { IfOk result (λ json. found_view json ≡ at json_path (view root.now)) }
     ensures well_formed { IfOk result (λ json. IfSome json (λ d. IsWellFormed (view d.now))) }
 {
-    let name = PlainText::new(String::from_str(alloc, "json")?);
-    let steps = [Step::Name(name)];
+    let steps = [Step::named(alloc, "json")?];
     Ok(root.at(&steps))
 }
 

@@ -67,10 +67,7 @@ impl<'a> OpenLoop<'a> {
         ensures well_formed { IsWellFormed (found_view self.entry.over)
             → IfSome result (λ found. IsWellFormed (view found.now)) }
     {
-        match self.over {
-            Some(over) => over.item(self.turn),
-            None => None,
-        }
+        self.over?.item(self.turn)
     }
 
     /// The name of the item, or the empty text if it has none.
@@ -132,8 +129,5 @@ impl<'a> OpenLoop<'a> {
 fn key_at<'a>(over: &'a Data, turn: usize) -> &'a str
     ensures { result.now ≡ key_of (record { over = view over.now; turn = turn }) }
 {
-    match over.key(turn) {
-        Some(key) => key,
-        None => "",
-    }
+    over.key(turn).unwrap_or("")
 }

@@ -1,6 +1,5 @@
 -- The words of a tag are what is between breaks.
-use Rattle.std.proofs.Common.{◌≡◌, ℕ, Bool, true, false, ◌&&◌, ◌||◌, List, [], ◌∷◌, ◌++◌}
-use Rattle.std.proofs.Common.{refl, ap, ◌∙◌}
+use Rattle.std.proofs.Common.{◌≡◌, ℕ, Bool, true, false, ◌&&◌, ◌||◌, List, [], ◌∷◌, ◌++◌, refl, ap, ◌∙◌}
 use Rattle.std.proofs.lemmas.Bool.{true≢false}
 use Rattle.template_words.specs.Modes.{mode_after, mode_after_bytes, mode_of_byte, is_outside}
 use Rattle.template_words.specs.Words.{is_break, has_break}

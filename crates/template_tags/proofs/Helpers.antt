@@ -8,8 +8,7 @@ use Rattle.std.proofs.lemmas.Slice.Eq.{bytes_eq-Decides}
 use Rattle.helper_set.specs.Helpers.{name_of}
 use Rattle.helper_set.specs.declared.helper.Helper.{Helper}
 use Rattle.helper_set.specs.declared.helper.Helper.TheVariants.{Upper, Lower, Trim, Size, Eq, Neq, Contains, Not}
-use Rattle.helper_set.specs.declared.helper.Helper.TheVariants.{Base64}
-use Rattle.helper_set.specs.declared.helper.Helper.TheVariants.{UrlEncode, DefaultIfEmpty, JsonPath}
+use Rattle.helper_set.specs.declared.helper.Helper.TheVariants.{Base64, UrlEncode, DefaultIfEmpty, JsonPath}
 use Rattle.json_bridge.proofs.Found.{path_found_is_spelled}
 use Rattle.json_bridge.specs.Path.{IsPath}
 use Rattle.json_bridge.specs.PathFound.{path_of}

@@ -1,7 +1,6 @@
 -- The pass over a tag's items reads what their parentheses group.
-use Rattle.std.proofs.Common.{◌≡◌, ℕ, suc, min, max, nat_lt, Bool, true, false}
-use Rattle.std.proofs.Common.{List, [], ◌∷◌, ◌++◌, length, map, Option, Some, None, option_map, Result, Ok, Err}
-use Rattle.std.proofs.Common.{inl, inr, refl, sym, ap, ◌∙◌, arith}
+use Rattle.std.proofs.Common.{◌≡◌, ℕ, suc, min, max, nat_lt, Bool, true, false, List, [], ◌∷◌, ◌++◌, length, map}
+use Rattle.std.proofs.Common.{Option, Some, None, option_map, Result, Ok, Err, inl, inr, refl, sym, ap, ◌∙◌, arith}
 use Rattle.std.specs.Prelude.{not, is_some, unwrap_or}
 use Rattle.std.proofs.Math.Dec.{eqb-suc-zero}
 use Rattle.std.proofs.lemmas.Option.{none-some, same_Some}
@@ -15,11 +14,10 @@ use Rattle.template_tags.specs.Inner.CallReads.{beside, error_if, error_in, erro
 use Rattle.template_tags.specs.Inner.CallReads.{call_of, call_read, helper_read}
 use Rattle.template_tags.specs.Expression.{Expression}
 use Rattle.template_tags.specs.Inner.Pieces.{Piece, Parts, word_piece, group_piece, capped, piece_of, pieces_of}
-use Rattle.template_tags.specs.Inner.Pieces.{stack_pieces, tag_parts, word_pieces, greatest, piece_height}
-use Rattle.template_tags.specs.Inner.Pieces.{piece_argument, piece_arguments, piece_helper, piece_call}
-use Rattle.template_tags.specs.Inner.Pieces.{grouped_pieces, group_of_height, piece_before, pieces_before}
-use Rattle.template_tags.specs.Inner.Pieces.{has_piece, extra_parts_error, all_parts_error, block_parts, value_pieces}
-use Rattle.template_tags.specs.Inner.Pieces.{print_parts}
+use Rattle.template_tags.specs.Inner.Pieces.{tag_parts, word_pieces, greatest, piece_height, piece_argument}
+use Rattle.template_tags.specs.Inner.Pieces.{piece_arguments, piece_helper, piece_call, grouped_pieces, group_of_height}
+use Rattle.template_tags.specs.Inner.Pieces.{piece_before, has_piece, extra_parts_error, all_parts_error, block_parts}
+use Rattle.template_tags.specs.Inner.Pieces.{value_pieces, print_parts}
 use Rattle.template_tags.specs.Items.{Item, word, left_parenthesis, right_parenthesis}
 use Rattle.template_tags.specs.Inner.TagReads.{value_said, print_read, print_said}
 use Rattle.template_tags.specs.Terms.{Term, single, group, Terms, no_terms, first_term, height, greatest_height}
@@ -27,6 +25,13 @@ use Rattle.template_tags.specs.Terms.{grouped_before, grouped, only_list, terms_
 use Rattle.template_tags.specs.Terms.{is_matched}
 use Rattle.template_tags.specs.declared.expression.TheConstants.{CALL_LIMIT}
 use Rattle.template_tags.specs.declared.level.Level.{Level}
+
+abbrev pub stack_pieces : List Level → Option (List Terms) → Option (List (List Piece))
+stack_pieces levels stack = option_map (map (pieces_of levels)) stack
+
+abbrev pub pieces_before : List Level → List Item → Option (List (List Piece)) → Option (List (List Piece))
+pieces_before levels [] stack = stack
+pieces_before levels (item ∷ items) stack = piece_before levels item (pieces_before levels items stack)
 
 -- ---- terms as pieces
 

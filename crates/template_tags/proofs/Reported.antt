@@ -1,7 +1,6 @@
 -- What is read of a tag part by part is what the tag's value and the list of its errors give.
-use Rattle.std.proofs.Common.{◌≡◌, ℕ, suc, nat_lt, nat_le, ◌||◌, ◌&&◌, Bool, true, false, List, [], ◌∷◌, ◌++◌}
-use Rattle.std.proofs.Common.{length, drop, Option, Some, None, Result, Ok, Err, refl, sym, ap, ◌∙◌, append-nil}
-use Rattle.std.proofs.Common.{append_assoc}
+use Rattle.std.proofs.Common.{◌≡◌, ℕ, suc, nat_lt, nat_le, ◌||◌, ◌&&◌, Bool, true, false, List, [], ◌∷◌, ◌++◌, length}
+use Rattle.std.proofs.Common.{drop, Option, Some, None, Result, Ok, Err, refl, sym, ap, ◌∙◌, append-nil, append_assoc}
 use Rattle.std.specs.Prelude.{not, is_some, codes, if◌then◌else◌}
 use Rattle.std.specs.Str.{bytes_eq}
 use Rattle.helper_set.specs.declared.helper.Helper.{Helper}
@@ -21,12 +20,10 @@ use Rattle.template_tags.specs.Blocks.{argument_errors, one_errors, first_value,
 use Rattle.template_tags.specs.Blocks.{datum_in, over_errors, loop_errors, each_errors, awaits_else, extra_errors}
 use Rattle.template_tags.specs.Blocks.{else_errors, is_innermost, close_errors}
 use Rattle.template_tags.specs.Calls.{literal_in, body_value, pair_value, called, helper_in, helper_of, value, values}
-use Rattle.template_tags.specs.Calls.{call_value}
-use Rattle.template_tags.specs.Calls.{is_body, path_errors, form_errors, head_word_errors, errors, all_errors}
-use Rattle.template_tags.specs.Calls.{call_errors, head_errors}
+use Rattle.template_tags.specs.Calls.{call_value, is_body, path_errors, form_errors, head_word_errors, errors}
+use Rattle.template_tags.specs.Calls.{all_errors, call_errors, head_errors}
 use Rattle.template_tags.specs.Expression.{Expression, datum, index, key, first, last, text_literal, number, truth}
-use Rattle.template_tags.specs.Expression.{call}
-use Rattle.template_tags.specs.Expression.{call_two}
+use Rattle.template_tags.specs.Expression.{call, call_two}
 use Rattle.template_tags.specs.Inner.CallReads as reads
 use Rattle.template_tags.specs.Inner.CallReads.{beside, error_if, error_in, errors_in, arguments, argument, call_read}
 use Rattle.template_tags.specs.Inner.CallReads.{helper_read, limited, body_call}

@@ -1,15 +1,12 @@
 -- What arguments and calls name is sound.
-use Rattle.std.proofs.Common.{◌≡◌, ℕ, zero, suc, ◌<◌, ◌≤◌, nat_lt}
-use Rattle.std.proofs.Common.{Bool, true, false, List, [], ◌∷◌, length, Option, Some, None, IfSome, Result, Ok}
-use Rattle.std.proofs.Common.{Err}
-use Rattle.std.proofs.Common.{IfOk, option_map, w64, refl, arith}
+use Rattle.std.proofs.Common.{◌≡◌, ℕ, zero, suc, ◌<◌, ◌≤◌, nat_lt, Bool, true, false, List, [], ◌∷◌, length, Option}
+use Rattle.std.proofs.Common.{Some, None, IfSome, Result, Ok, Err, IfOk, option_map, w64, refl, arith}
 use Rattle.std.specs.Prelude.{is_some, FitsSigned, codes}
 use Rattle.std.specs.Option.{option_or, unwrap_or}
 use Rattle.std.proofs.lemmas.Bool.{cond_both, ltb-true, ltb-false}
 use Rattle.helper_set.specs.declared.helper.Helper.{Helper}
 use Rattle.helper_set.specs.declared.helper.Helper.TheVariants.{Upper, Lower, Trim, Size, Eq, Neq, Contains, Not}
-use Rattle.helper_set.specs.declared.helper.Helper.TheVariants.{Base64}
-use Rattle.helper_set.specs.declared.helper.Helper.TheVariants.{UrlEncode, DefaultIfEmpty, JsonPath}
+use Rattle.helper_set.specs.declared.helper.Helper.TheVariants.{Base64, UrlEncode, DefaultIfEmpty, JsonPath}
 use Rattle.json_bridge.specs.PathFound.{path_of}
 use Rattle.template_words.specs.Literals.{text_literal, whole_number, truth_literal}
 use Rattle.template_words.specs.Marks.{begins}
@@ -25,21 +22,16 @@ use Rattle.template_words.proofs.Numbers.{number_fits}
 use Rattle.template_words.proofs.Literals.{literal_short}
 use Rattle.template_tags.specs.Inner.CallReads.{beside, error_if, errors_in, one_value, two_values, literal_in, is_body}
 use Rattle.template_tags.specs.Inner.CallReads.{body_call, json_path_call, called, call_of, limited, argument}
-use Rattle.template_tags.specs.Inner.CallReads.{arguments}
-use Rattle.template_tags.specs.Inner.CallReads.{call_read}
-use Rattle.template_tags.specs.Inner.CallReads.{helper_read}
+use Rattle.template_tags.specs.Inner.CallReads.{arguments, call_read, helper_read}
 use Rattle.template_tags.specs.Expression.{Expression, datum, index, key, first, last, number, truth, call, call_two}
 use Rattle.template_tags.specs.Expression as expressions
 use Rattle.template_tags.specs.Levels.{is_loop, is_parameter, count_loop, loops_open, loop_at, loop_with_parameter}
-use Rattle.template_tags.specs.Sound.{IsSoundDatum, IsSoundExpression, takes_one, takes_two}
-use Rattle.template_tags.specs.Sound.{depth_of}
+use Rattle.template_tags.specs.Sound.{IsSoundDatum, IsSoundExpression, takes_one, takes_two, depth_of}
 use Rattle.template_tags.specs.Terms.{Term, single, group, Terms, no_terms, first_term, height, greatest_height}
 use Rattle.template_tags.specs.Words.{Word, text_word, number_word, truth_word, loop_word, helper_word, foreign_word}
 use Rattle.template_tags.specs.Words.{path_word, wrong_word, helper_named, loop_word_of, path_read, other_word}
-use Rattle.template_tags.specs.Words.{literal_of}
-use Rattle.template_tags.specs.Words.{known_word, word_of, found_datum, named_datum, loop_value}
-use Rattle.template_tags.specs.Inner.WordReads.{word_value}
-use Rattle.template_tags.specs.Inner.WordReads.{argument_word, lone_value}
+use Rattle.template_tags.specs.Words.{literal_of, known_word, word_of, found_datum, named_datum, loop_value}
+use Rattle.template_tags.specs.Inner.WordReads.{word_value, argument_word, lone_value}
 use Rattle.template_tags.specs.declared.expression.TheConstants.{CALL_LIMIT}
 use Rattle.template_tags.specs.declared.level.Level.{Level}
 use Rattle.template_tags.specs.declared.word.LoopWord.{LoopWord}

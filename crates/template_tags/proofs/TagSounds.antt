@@ -1,8 +1,6 @@
 -- What a tag says is sound.
-use Rattle.std.proofs.Common.{◌≡◌, ℕ, suc, ◌<◌, nat_le, ◌||◌}
-use Rattle.std.proofs.Common.{Bool, true, false, List, [], ◌∷◌, length, drop, Option, Some, None, Result, Ok}
-use Rattle.std.proofs.Common.{Err}
-use Rattle.std.proofs.Common.{IfOk, refl, subst, ◌∙◌, arith}
+use Rattle.std.proofs.Common.{◌≡◌, ℕ, suc, ◌<◌, nat_le, ◌||◌, Bool, true, false, List, [], ◌∷◌, length, drop, Option}
+use Rattle.std.proofs.Common.{Some, None, Result, Ok, Err, IfOk, refl, subst, ◌∙◌, arith}
 use Rattle.std.specs.Prelude.{codes}
 use Rattle.std.specs.Str.{bytes_eq}
 use Rattle.std.proofs.lemmas.Bool.{cond_both, leb-false, true≢false}
@@ -11,13 +9,10 @@ use Rattle.template_words.specs.declared.error.TagError.{TagError}
 use Rattle.template_words.specs.declared.error.TagError.TheVariants.{UnsupportedTag, WrongArguments, TooDeep}
 use Rattle.template_words.specs.declared.error.TagError.TheVariants.{UnexpectedClose}
 use Rattle.template_tags.specs.Inner.BlockReads.{block_argument, only_one, data_only, test_said, loop_said}
-use Rattle.template_tags.specs.Blocks.{is_innermost}
+use Rattle.template_tags.specs.Blocks.{is_innermost, LoopItems, loop_items, has_names, has_parameters, is_reserved_name}
 use Rattle.template_tags.specs.Inner.BlockReads.{each_said, opening_said, first_else, extra_error, else_said}
-use Rattle.template_tags.specs.Blocks.{LoopItems, loop_items}
 use Rattle.template_tags.specs.Inner.BlockReads.{closing_said, all_errors, match_error}
-use Rattle.template_tags.specs.Blocks.{has_names, has_parameters, is_reserved_name}
-use Rattle.template_tags.specs.Inner.CallReads.{beside, error_if, errors_in}
-use Rattle.template_tags.specs.Inner.CallReads.{arguments}
+use Rattle.template_tags.specs.Inner.CallReads.{beside, error_if, errors_in, arguments}
 use Rattle.template_tags.specs.Expression.{Expression, datum, index, key, first, last, number, truth, call, call_two}
 use Rattle.template_tags.specs.Expression as expressions
 use Rattle.template_tags.specs.Levels.{loops_open, block_named}
@@ -38,11 +33,9 @@ use Rattle.template_tags.specs.declared.level.Level.{Level}
 use Rattle.template_tags.specs.declared.tag.Opening.{Opening}
 use Rattle.template_tags.specs.declared.tag.Opening.TheVariants.{Double, Triple}
 use Rattle.template_tags.proofs.Reported.{tag_is}
-use Rattle.template_tags.proofs.Shorts.{ShortTerms, ShortItems, short_terms, short_loop_items}
-use Rattle.template_tags.proofs.Shorts.{short_items_of}
+use Rattle.template_tags.proofs.Shorts.{ShortTerms, ShortItems, short_terms, short_loop_items, short_items_of}
 use Rattle.template_tags.proofs.Sounds.{beside_ok, beside_none, bind_ok, word_fits, Sound, SoundRead, SoundReads}
-use Rattle.template_tags.proofs.Sounds.{higher, value_sound, lone_sound, arguments_sound}
-use Rattle.template_tags.proofs.Sounds.{own_call_sound}
+use Rattle.template_tags.proofs.Sounds.{higher, value_sound, lone_sound, arguments_sound, own_call_sound}
 
 module _ (limit : ℕ) (levels : List Level) where
   abbrev Said : Result Tag TagError → Type 0

@@ -1,6 +1,5 @@
 -- Contents of tags, with the blocks that are open, and what they say or which error they have.
-use Rattle.std.specs.Prelude.{◌≡◌, ℕ, pos, neg_ℤ, true, false, List, [], ◌∷◌, Some, None, Ok, Err}
-use Rattle.std.specs.Prelude.{codes}
+use Rattle.std.specs.Prelude.{◌≡◌, ℕ, pos, neg_ℤ, true, false, List, [], ◌∷◌, Some, None, Ok, Err, codes}
 use Rattle.data_tree.specs.declared.step.Step.{Step}
 use Rattle.data_tree.specs.declared.step.Step.TheVariants.{Name, Index}
 use Rattle.helper_set.specs.declared.helper.Helper.TheVariants.{Upper, Lower, Eq, Not}

@@ -1,6 +1,5 @@
 -- The words and the parentheses of a tag (Handlebars' tokens).
-use Rattle.std.specs.Prelude.{ℕ, ◌==◌, Bool, true, false, ◌&&◌, ◌||◌, not, List, [], ◌∷◌}
-use Rattle.std.specs.Prelude.{if◌then◌else◌}
+use Rattle.std.specs.Prelude.{ℕ, ◌==◌, Bool, true, false, ◌&&◌, ◌||◌, not, List, [], ◌∷◌, if◌then◌else◌}
 use Rattle.template_words.specs.Bytes.{open_parenthesis, close_parenthesis}
 use Rattle.template_words.specs.Modes.{mode_after, is_outside}
 use Rattle.template_words.specs.Words.{is_break}

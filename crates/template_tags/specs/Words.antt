@@ -1,15 +1,13 @@
 -- What a word of a tag is, and the value that it names.
 use Rattle.std.specs.Prelude.{ℕ, zero, suc, ℤ, nat_lt, Bool, true, false, List, [], ◌∷◌, Option, Some, None, option_map}
-use Rattle.std.specs.Prelude.{Result, Ok, Err}
-use Rattle.std.specs.Prelude.{if◌then◌else◌, codes}
+use Rattle.std.specs.Prelude.{Result, Ok, Err, if◌then◌else◌, codes}
 use Rattle.std.specs.Option.{option_or, unwrap_or}
 use Rattle.std.specs.Str.{bytes_eq}
 use Rattle.data_tree.specs.declared.step.Step.{Step}
 use Rattle.helper_set.specs.Helpers.{name_of}
 use Rattle.helper_set.specs.declared.helper.Helper.{Helper}
 use Rattle.helper_set.specs.declared.helper.Helper.TheVariants.{Upper, Lower, Trim, Size, Eq, Neq, Contains, Not}
-use Rattle.helper_set.specs.declared.helper.Helper.TheVariants.{Base64}
-use Rattle.helper_set.specs.declared.helper.Helper.TheVariants.{UrlEncode, DefaultIfEmpty, JsonPath}
+use Rattle.helper_set.specs.declared.helper.Helper.TheVariants.{Base64, UrlEncode, DefaultIfEmpty, JsonPath}
 use Rattle.template_words.specs.Literals.{text_literal, whole_number, truth_literal}
 use Rattle.template_words.specs.Marks.{begins}
 use Rattle.template_words.specs.Names.{is_hash_argument, first_part}

@@ -1,14 +1,11 @@
 // What the tags of blocks say.
 ghost use Rattle.std.specs.Prelude.{◌≡◌, ◌<◌, ◌^◌, not, is_some, length, map, reverse, IfOk};
 ghost use Rattle.template_tags.specs.Blocks.{parameter_in, loop_items, is_word, are_last_names, are_names, has_names};
-ghost use Rattle.template_tags.specs.Blocks.{has_parameters};
+ghost use Rattle.template_tags.specs.Blocks.{has_parameters, is_reserved_name, is_innermost};
 ghost use Rattle.template_tags.specs.Inner.BlockReads.{only_one, block_argument, block_error, loop_error, test_said};
-ghost use Rattle.template_tags.specs.Inner.BlockReads.{data_only};
-ghost use Rattle.template_tags.specs.Blocks.{is_reserved_name};
-ghost use Rattle.template_tags.specs.Inner.BlockReads.{if_read, each_read, loop_said, each_said, opening_said};
-ghost use Rattle.template_tags.specs.Inner.BlockReads.{first_else, extra_error, else_said};
-ghost use Rattle.template_tags.specs.Blocks.{is_innermost};
-ghost use Rattle.template_tags.specs.Inner.BlockReads.{all_errors, closing_said};
+ghost use Rattle.template_tags.specs.Inner.BlockReads.{data_only, if_read, each_read, loop_said, each_said};
+ghost use Rattle.template_tags.specs.Inner.BlockReads.{opening_said, first_else, extra_error, else_said, all_errors};
+ghost use Rattle.template_tags.specs.Inner.BlockReads.{closing_said};
 ghost use Rattle.template_tags.specs.Inner.CallReads.{error_if};
 ghost use Rattle.template_tags.specs.Inner.Pieces.{block_parts, extra_parts_error, all_parts_error};
 ghost use Rattle.template_tags.specs.Inner.Scan.{item_view, item_is, with_items, loop_view};
@@ -24,7 +21,7 @@ use crate::items::Item;
 use crate::level::{BLOCK_LIMIT, Block, LOOP_LIMIT, Level, loops_open};
 use crate::nest::{Parts, tag_parts};
 use crate::tag::Tag;
-use data_tree::plain_text::PlainText;
+use plain_text::text::Text;
 use std::alloc::{AllocError, Global};
 use template_words::error::{TagError, joined};
 use template_words::names::{is_name_after_bar, name_before_bar, name_in_bars};
@@ -56,37 +53,25 @@ fn loop_items<'a, 'b>(items: &'b [Item<'a>]) -> (&'b [Item<'a>], Option<&'a str>
 fn is_word(text: &str, item: Item<'_>) -> bool
     ensures { result ≡ is_word text.now (item_view item.entry) }
 {
-    match item.text() {
-        Some(word) => word == text,
-        None => false,
-    }
+    matches!(item.text(), Some(word) if word == text)
 }
 
 fn is_name_item(item: Item<'_>) -> bool
     ensures { result ≡ item_is is_name (item_view item.entry) }
 {
-    match item.text() {
-        Some(word) => is_name(word),
-        None => false,
-    }
+    matches!(item.text(), Some(word) if is_name(word))
 }
 
 fn is_last_name(item: Item<'_>) -> bool
     ensures { result ≡ item_is (λ w. is_some (name_before_bar w)) (item_view item.entry) }
 {
-    match item.text() {
-        Some(word) => name_before_bar(word).is_some(),
-        None => false,
-    }
+    matches!(item.text(), Some(word) if name_before_bar(word).is_some())
 }
 
 fn is_first_name(item: Item<'_>) -> bool
     ensures { result ≡ item_is is_name_after_bar (item_view item.entry) }
 {
-    match item.text() {
-        Some(word) => is_name_after_bar(word),
-        None => false,
-    }
+    matches!(item.text(), Some(word) if is_name_after_bar(word))
 }
 
 // Whether the items are names, of which the last has a bar after it.
@@ -256,23 +241,20 @@ fn data_only(read: Result<Expression, TagError>) -> Result<Datum, TagError>
 fn is_reserved_name(parameter: Option<&str>) -> bool
     ensures { result ≡ is_reserved_name (part_view parameter.entry) }
 {
-    match parameter {
-        Some(name) => name == "request" || name == "this",
-        None => false,
-    }
+    matches!(parameter, Some(name) if name == "request" || name == "this")
 }
 
 // A copy of the name.
-fn copied(alloc: Global, name: Option<&str>) -> Result<Option<PlainText>, AllocError>
+fn copied(alloc: Global, name: Option<&str>) -> Result<Option<Text>, AllocError>
     ensures { IfOk result (λ copy. copy ≡ part_view name.entry) }
 {
     match name {
-        Some(name) => Ok(Some(PlainText::new(String::from_str(alloc, name)?))),
+        Some(name) => Ok(Some(Text::from(String::from_str(alloc, name)?))),
         None => Ok(None),
     }
 }
 
-fn each_read(parameter: Option<PlainText>, read: Result<Datum, TagError>) -> Result<Tag, TagError>
+fn each_read(parameter: Option<Text>, read: Result<Datum, TagError>) -> Result<Tag, TagError>
     ensures { said_view result ≡ each_read parameter read }
 {
     match read {

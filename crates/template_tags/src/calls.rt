@@ -2,11 +2,9 @@
 ghost use Rattle.std.specs.Prelude.{◌≡◌, ◌<◌, ◌^◌, Ok, is_some, length, map, reverse, IfOk};
 ghost use Rattle.json_bridge.specs.PathFound.{path_of};
 ghost use Rattle.template_tags.specs.Inner.CallReads.{beside, error_if, error_in, errors_in, one_value, pair_call};
-ghost use Rattle.template_tags.specs.Inner.CallReads.{two_values};
+ghost use Rattle.template_tags.specs.Inner.CallReads.{two_values, is_body, literal_in, body_call, json_path_call};
+ghost use Rattle.template_tags.specs.Inner.CallReads.{called, call_of, head_word, limited};
 ghost use Rattle.template_tags.specs.Calls.{is_body_path};
-ghost use Rattle.template_tags.specs.Inner.CallReads.{is_body};
-ghost use Rattle.template_tags.specs.Inner.CallReads.{literal_in, body_call, json_path_call, called, call_of};
-ghost use Rattle.template_tags.specs.Inner.CallReads.{head_word, limited};
 ghost use Rattle.template_tags.specs.Expression.{datum};
 ghost use Rattle.template_tags.specs.Inner.Pieces.{piece_argument, piece_arguments, piece_helper, piece_call};
 ghost use Rattle.template_tags.specs.Inner.Views.{read_view, word_view, piece_view, pieces_view};
@@ -16,11 +14,11 @@ use crate::expression::{CALL_LIMIT, Datum, Expression};
 use crate::level::Level;
 use crate::nest::Piece;
 use crate::word::{Word, argument_word, word_of};
-use data_tree::plain_text::PlainText;
 use data_tree::step::Step;
 use helper_set::helper::Helper;
 use helper_set::signature::signature;
 use json_bridge::json_path::is_json_path;
+use plain_text::text::Text;
 use std::alloc::{AllocError, Global};
 use template_words::error::{TagError, joined};
 use template_words::paths::is_step;
@@ -216,7 +214,7 @@ fn body_call(
     if !fits {
         return Ok(Err(TagError::WrongArguments));
     }
-    let path = PlainText::new(String::from_str(alloc, text)?);
+    let path = Text::from(String::from_str(alloc, text)?);
     Ok(Ok(Expression::Datum(Datum::BodyPath(path))))
 }
 

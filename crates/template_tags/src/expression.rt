@@ -1,8 +1,8 @@
 // What a tag names: values of the request's data, literals, and what helpers make of them.
 
-use data_tree::plain_text::PlainText;
 use data_tree::step::Path;
 use helper_set::helper::Helper;
+use plain_text::text::Text;
 
 /// The most calls in parentheses that may nest.
 pub const CALL_LIMIT: usize = 8;
@@ -17,7 +17,7 @@ pub enum Datum {
     /// From the item of the `up`-th enclosing loop, 0 being the innermost.
     Item { up: u32, steps: Path },
     /// What a JSON path, spelled by this text, finds in the body.
-    BodyPath(PlainText),
+    BodyPath(Text),
 }
 
 /// A value that a tag names. Contracts see `expression_view` of it.
@@ -32,7 +32,7 @@ pub enum Expression {
     First,
     /// Whether the innermost loop's item is its last.
     Last,
-    Text(PlainText),
+    Text(Text),
     Number(i64),
     Truth(bool),
     /// What a helper makes of one value.

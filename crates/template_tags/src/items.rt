@@ -1,6 +1,5 @@
 // The words and the parentheses of a tag.
-ghost use Rattle.std.specs.Prelude.{◌≡◌, ◌<◌, ◌≤◌, ◌^◌, [], ◌++◌, false, length, map, IfOk};
-ghost use Rattle.std.specs.Prelude.{IfSome};
+ghost use Rattle.std.specs.Prelude.{◌≡◌, ◌<◌, ◌≤◌, ◌^◌, [], ◌++◌, false, length, map, IfOk, IfSome};
 ghost use Rattle.template_tags.specs.Items.{is_start, touches, lacks_space, break_before, word_before, items_of};
 ghost use Rattle.template_tags.specs.Inner.Scan.{item_view, text_of, break_at, around_break, around_view};
 ghost use Rattle.template_words.specs.Views.{part_view};

@@ -1,6 +1,5 @@
 // Laws over the definitions of tags, each on a function that does nothing.
-ghost use Rattle.std.specs.Prelude.{◌≡◌, ◌≤◌, ◌↔◌, ℕ, true, false, List, [], ◌∷◌, ◌++◌};
-ghost use Rattle.std.specs.Prelude.{Some, Ok, length};
+ghost use Rattle.std.specs.Prelude.{◌≡◌, ◌≤◌, ◌↔◌, ℕ, true, false, List, [], ◌∷◌, ◌++◌, Some, Ok, length};
 ghost use Rattle.template_tags.specs.Examples.{ArePrints, AreBlocks, AreErrors, AreUnmatched};
 ghost use Rattle.template_tags.specs.Items.{Item, break_before, word_before, items_after};
 ghost use Rattle.template_tags.specs.Said.{tag_said};

@@ -2,7 +2,7 @@
 ghost use Rattle.std.specs.Prelude.{◌≡◌, ◌<◌, ◌^◌, length, reverse};
 ghost use Rattle.template_tags.specs.Levels.{block_name, block_named, is_each, loops_open, loop_with_parameter};
 
-use data_tree::plain_text::PlainText;
+use plain_text::text::Text;
 
 /// The most blocks that may be open.
 pub const BLOCK_LIMIT: usize = 64;
@@ -56,7 +56,7 @@ pub struct Level {
     pub left: usize,
     pub block: Block,
     /// The name of its items, the `x` of `as |x|`.
-    pub parameter: Option<PlainText>,
+    pub parameter: Option<Text>,
     /// Whether its else has come.
     pub in_else: bool,
 }
@@ -75,10 +75,7 @@ impl Level {
     fn is_named(&self, name: &str) -> bool
         ensures { result ≡ is_parameter name.now self.now.parameter }
     {
-        match &self.parameter {
-            Some(parameter) => name == parameter.as_str(),
-            None => false,
-        }
+        matches!(&self.parameter, Some(parameter) if name == parameter.as_str())
     }
 }
 

@@ -4,10 +4,8 @@ ghost use Rattle.template_tags.specs.Inner.Pieces.{lone_piece, value_pieces, pri
 ghost use Rattle.template_tags.specs.Inner.Scan.{item_view};
 ghost use Rattle.template_tags.specs.Inner.Views.{read_view, piece_view, pieces_view, parts_view, said_view};
 ghost use Rattle.template_tags.specs.Items.{word};
-ghost use Rattle.template_tags.specs.Said.{has_foreign_mark};
-ghost use Rattle.template_tags.specs.Inner.TagReads.{print_read, print_said, is_marked, word_said};
-ghost use Rattle.template_tags.specs.Inner.TagReads.{tag_read};
-ghost use Rattle.template_tags.specs.Said.{tag_said};
+ghost use Rattle.template_tags.specs.Said.{has_foreign_mark, tag_said};
+ghost use Rattle.template_tags.specs.Inner.TagReads.{print_read, print_said, is_marked, word_said, tag_read};
 ghost use Rattle.template_tags.specs.Inner.TagReads.{items_said, space_error};
 ghost use Rattle.template_tags.specs.Tags.{tag_view};
 ghost use Rattle.template_words.specs.Reading.{Gives};
@@ -19,7 +17,7 @@ use crate::items::{Item, items_of, lacks_space};
 use crate::level::{Block, Level};
 use crate::nest::{Parts, Piece, tag_parts};
 use crate::word::{lone_value, read_value};
-use data_tree::plain_text::PlainText;
+use plain_text::text::Text;
 use std::alloc::{AllocError, Global};
 use template_words::error::{ReadError, TagError};
 use template_words::marks::after_mark;
@@ -46,7 +44,7 @@ pub enum Tag {
     /// Opens a loop over the items of a value, which `parameter` names.
     Each {
         over: Datum,
-        parameter: Option<PlainText>,
+        parameter: Option<Text>,
     },
     /// Begins the else part of the innermost open block.
     Else,
@@ -155,10 +153,7 @@ fn is_marked(text: &str) -> bool
     if has_foreign_mark(text.as_bytes()) {
         return true;
     }
-    match after_mark(text, "#") {
-        Some(name) => Block::from_name(name).is_none(),
-        None => false,
-    }
+    matches!(after_mark(text, "#"), Some(name) if Block::from_name(name).is_none())
 }
 
 // What a tag says that begins with that word, which is the first of the items.

@@ -2,8 +2,7 @@
 ghost use Rattle.std.specs.Prelude.{◌≡◌, ◌<◌, ◌^◌, length, reverse, option_map, IfOk};
 ghost use Rattle.template_tags.specs.Words.{loop_word_of, helper_named, literal_of, known_word, other_word, word_of};
 ghost use Rattle.template_tags.specs.Words.{steps_in, found_datum, datum_of, loop_value};
-ghost use Rattle.template_tags.specs.Inner.WordReads.{word_value, argument_word};
-ghost use Rattle.template_tags.specs.Inner.WordReads.{lone_value};
+ghost use Rattle.template_tags.specs.Inner.WordReads.{word_value, argument_word, lone_value};
 ghost use Rattle.template_tags.specs.Expression.{expression_view};
 ghost use Rattle.template_tags.specs.Inner.Views.{word_view, read_view};
 ghost use Rattle.template_words.specs.Paths.{rest_of_steps};
@@ -11,9 +10,9 @@ ghost use Rattle.template_words.specs.Paths.{rest_of_steps};
 use crate::expression::{Datum, Expression};
 use crate::level::{Level, loop_with_parameter, loops_open};
 use crate::word_text::WordText;
-use data_tree::plain_text::PlainText;
 use data_tree::step::{Path, Step};
 use helper_set::helper::Helper;
+use plain_text::text::Text;
 use std::alloc::{AllocError, Global};
 use template_words::error::{ReadError, TagError};
 use template_words::literal::{text_literal, truth_literal, whole_number};
@@ -73,10 +72,7 @@ fn literal_of(text: &str) -> Option<Word<'_>>
     if let Some(number) = whole_number(text) {
         return Some(Word::Number(number));
     }
-    match truth_literal(text) {
-        Some(truth) => Some(Word::Truth(truth)),
-        None => None,
-    }
+    Some(Word::Truth(truth_literal(text)?))
 }
 
 fn known_word(text: &str) -> Option<Word<'_>>
@@ -88,10 +84,7 @@ fn known_word(text: &str) -> Option<Word<'_>>
     if let Some(word) = loop_word_of(text) {
         return Some(Word::Loop(word));
     }
-    match helper_named(text) {
-        Some(helper) => Some(Word::Helper(helper)),
-        None => None,
-    }
+    Some(Word::Helper(helper_named(text)?))
 }
 
 // A word that is no literal, no word of loops and no helper.
@@ -214,9 +207,7 @@ fn word_value(
         (λ read. read_view read ≡ word_value (reverse levels.now) text.now (word_view word.entry)) }
 {
     Ok(match word {
-        Word::Text(literal) => Ok(Expression::Text(PlainText::new(String::from_str(
-            alloc, literal,
-        )?))),
+        Word::Text(literal) => Ok(Expression::Text(Text::from(String::from_str(alloc, literal)?))),
         Word::Number(number) => Ok(Expression::Number(number)),
         Word::Truth(truth) => Ok(Expression::Truth(truth)),
         Word::Loop(word) => Ok(loop_value(loops_open(levels), word)),

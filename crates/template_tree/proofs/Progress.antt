@@ -1,6 +1,5 @@
 -- What was read of a source, token by token.
-use Rattle.std.proofs.Common.{◌≡◌, ℕ, ◌+◌, ◌≤◌, List, [], ◌∷◌, ◌++◌, length, inl, inr, refl}
-use Rattle.std.proofs.Common.{sym, ap, subst, ◌∙◌, arith}
+use Rattle.std.proofs.Common.{◌≡◌, ℕ, ◌+◌, ◌≤◌, List, [], ◌∷◌, ◌++◌, length, inl, inr, refl, sym, ap, subst, ◌∙◌, arith}
 use Rattle.template_words.specs.declared.error.TagError.TheVariants.{UnclosedTag}
 use Rattle.template_tags.specs.declared.level.Level.{Level}
 use Rattle.template_tree.specs.declared.error.ParseError.{ParseError}

@@ -13,9 +13,8 @@ use Rattle.template_tags.specs.Said.{tag_said}
 use Rattle.template_tags.specs.Tags as said
 use Rattle.template_tree.specs.Grammar.{Leads, token_levels}
 use Rattle.template_tree.specs.Tags.{TagText, comment, shown, tag_of}
-use Rattle.template_tree.specs.Tokens.{Token, text_token, Next, token, tag_error, ended}
-use Rattle.template_tree.specs.Tokens.{said_next, closed_next, tag_next, error_after_backslash, text_next}
-use Rattle.template_tree.specs.Tokens.{last_text_next, next_at, next_of}
+use Rattle.template_tree.specs.Tokens.{Token, text_token, Next, token, tag_error, ended, said_next, closed_next}
+use Rattle.template_tree.specs.Tokens.{tag_next, error_after_backslash, text_next, last_text_next, next_at, next_of}
 use Rattle.template_tree.proofs.Lengths.{TagWithin, tag_short}
 
 -- what comes of a token is shorter, an error's mark is in the text, and only the empty text is at its end

@@ -1,6 +1,5 @@
 -- Where a tag of a text ends, and of which kind it is (Handlebars' `{{ }}`, `{{{ }}}`, `{{! }}`, `{{!-- --}}`).
-use Rattle.std.specs.Prelude.{ℕ, List, drop, Option, Some, None}
-use Rattle.std.specs.Prelude.{if◌then◌else◌, codes}
+use Rattle.std.specs.Prelude.{ℕ, List, drop, Option, Some, None, if◌then◌else◌, codes}
 use Rattle.template_words.specs.declared.mode.Mode.TheVariants.{Start}
 use Rattle.template_tags.specs.declared.tag.Opening.{Opening}
 use Rattle.template_tags.specs.declared.tag.Opening.TheVariants.{Double, Triple}

@@ -15,9 +15,9 @@ impl Escape {
     pub fn same(self, other: Escape) -> bool
         ensures { IsTrue result ↔ (self ≡ other) }
     {
-        match (self, other) {
-            (Escape::Off, Escape::Off) | (Escape::Html, Escape::Html) => true,
-            _ => false,
-        }
+        matches!(
+            (self, other),
+            (Escape::Off, Escape::Off) | (Escape::Html, Escape::Html)
+        )
     }
 }

@@ -1,14 +1,14 @@
 // The parts of a template.
 
 use crate::escape::Escape;
-use data_tree::plain_text::PlainText;
+use plain_text::text::Text;
 use template_tags::expression::{Datum, Expression};
 
 /// A part of a template, in order with the others. An `if`, an `unless` or an `each` has the nodes of its parts.
 #[derive(Debug, Drop)]
 pub enum Node {
     /// Text, which is written as it is.
-    Piece(PlainText),
+    Piece(Text),
     /// The printed text of a value, escaped so.
     Print(Escape, Expression),
     /// An `if`, or an `unless`.

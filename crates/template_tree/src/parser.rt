@@ -1,6 +1,5 @@
 // Reading a text as a template.
-ghost use Rattle.std.specs.Prelude.{◌≡◌, ◌≤◌, ◌<◌, ◌^◌, ◌⊎◌, [], length, reverse};
-ghost use Rattle.std.specs.Prelude.{MatchResult, IfOk, IfErr, IsErrOf};
+ghost use Rattle.std.specs.Prelude.{◌≡◌, ◌≤◌, ◌<◌, ◌^◌, ◌⊎◌, [], length, reverse, MatchResult, IfOk, IfErr, IsErrOf};
 ghost use Rattle.template_tree.specs.Grammar.{Spells, IsTemplateError, IsParseError};
 ghost use Rattle.template_tree.specs.Inner.Frames.{nest_view, Read};
 ghost use Rattle.template_tree.specs.Inner.Views.{token_view, IsNextError};

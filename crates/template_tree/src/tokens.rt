@@ -6,7 +6,7 @@ ghost use Rattle.template_tree.specs.Tokens.{token, text_token, tag_next, error_
 ghost use Rattle.template_tree.specs.Inner.Views.{token_view, IsReadErrorOf};
 
 use crate::tags::{TagText, tag_at};
-use data_tree::plain_text::PlainText;
+use plain_text::text::Text;
 use std::alloc::{AllocError, Global};
 use template_tags::level::Level;
 use template_tags::tag::{Opening, Tag, read_tag};
@@ -15,7 +15,7 @@ use template_words::error::{ReadError, TagError};
 /// A token.
 #[derive(Debug, Drop)]
 pub enum Token {
-    Text(PlainText),
+    Text(Text),
     Comment,
     Tag(Opening, Tag),
 }
@@ -58,5 +58,5 @@ pub fn error_after_backslash(text: &str) -> TagError
 pub fn text_token(alloc: Global, text: &str) -> Result<Token, AllocError>
     ensures { IfOk result (λ t. token_view t ≡ text_token text.now) }
 {
-    Ok(Token::Text(PlainText::new(String::from_str(alloc, text)?)))
+    Ok(Token::Text(Text::from(String::from_str(alloc, text)?)))
 }

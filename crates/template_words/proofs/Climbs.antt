@@ -1,6 +1,5 @@
 -- The `../` at the front of a word, taken off one by one.
-use Rattle.std.proofs.Common.{◌≡◌, ℕ, ◌+◌, true, false, ◌&&◌, ◌==◌, List, [], ◌∷◌, drop, refl}
-use Rattle.std.proofs.Common.{codes}
+use Rattle.std.proofs.Common.{◌≡◌, ℕ, ◌+◌, true, false, ◌&&◌, ◌==◌, List, [], ◌∷◌, drop, refl, codes}
 use Rattle.std.proofs.lemmas.Bool.{and_parts, false≢true}
 use Rattle.template_words.specs.Bytes.{dot}
 use Rattle.template_words.specs.Marks.{begins}

@@ -1,6 +1,5 @@
 -- A text literal is no longer than its word.
-use Rattle.std.proofs.Common.{ℕ, ◌+◌, ◌≤◌, ◌==◌, List, length, take, drop, Option, Some, None, IfSome}
-use Rattle.std.proofs.Common.{codes, arith}
+use Rattle.std.proofs.Common.{ℕ, ◌+◌, ◌≤◌, ◌==◌, List, length, take, drop, Option, Some, None, IfSome, codes, arith}
 use Rattle.std.specs.Option.{option_or}
 use Rattle.std.proofs.lemmas.Bool.{cond_both}
 use Rattle.std.proofs.lemmas.List.{length-take, length-drop}

@@ -1,7 +1,6 @@
 -- Whole numbers of at most 18 digits fit into 64 bits.
-use Rattle.std.proofs.Common.{◌≡◌, ℕ, ℤ, zero, suc, pos, ◌<◌, ◌^◌, nat_lt, nat_le, ◌&&◌, true}
-use Rattle.std.proofs.Common.{List, length, drop, Option, Some, None, IfSome, option_map, Result, Ok, FitsSigned, w64}
-use Rattle.std.proofs.Common.{codes, refl, arith}
+use Rattle.std.proofs.Common.{◌≡◌, ℕ, ℤ, zero, suc, pos, ◌<◌, ◌^◌, nat_lt, nat_le, ◌&&◌, true, List, length, drop}
+use Rattle.std.proofs.Common.{Option, Some, None, IfSome, option_map, Result, Ok, FitsSigned, w64, codes, refl, arith}
 use Rattle.std.specs.Str.{all_ascii_digits}
 use Rattle.std.specs.Str.Parse.{digits_value, ParsesSigned}
 use Rattle.std.proofs.lemmas.Bool.{cond_both, and_parts, leb-true, ltb-true}

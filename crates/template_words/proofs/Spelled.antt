@@ -7,7 +7,6 @@ use Rattle.std.specs.Str.{bytes_eq}
 use Rattle.std.specs.Str.Parse.{digits_value}
 use Rattle.std.specs.List.{list_all}
 use Rattle.std.proofs.lemmas.Bool.{cases_Bool, and_parts, and_from, eqb-true, eqb-false, ne_eqb, eq-eqb, false≢true}
-use Rattle.std.proofs.lemmas.Bool.{true≢false}
 use Rattle.std.proofs.lemmas.Option.{none-some, same_Some}
 use Rattle.std.proofs.lemmas.Slice.Eq.{bytes_eq-Decides}
 use Rattle.data_tree.specs.Digits.{is_index, index_of}
@@ -17,15 +16,11 @@ use Rattle.data_tree.proofs.Indexes.{index_below, index_decimal, decimal_index, 
 use Rattle.template_words.specs.declared.error.TagError.{TagError}
 use Rattle.template_words.specs.declared.error.TagError.TheVariants.{BadPath, UnsupportedTag}
 use Rattle.template_words.specs.declared.reference.Reference.{Reference}
-use Rattle.template_words.specs.declared.reference.Reference.TheVariants.{Item}
 use Rattle.template_words.specs.Bytes.{dot, open_bracket, close_bracket}
 use Rattle.template_words.specs.Marks.{begins, offset_of}
-use Rattle.template_words.specs.Paths.{is_name_byte, is_name, step_of_index, step_named}
-use Rattle.template_words.specs.Inner.PathReads.{name_step, bracketed_step}
-use Rattle.template_words.specs.Paths.{onto_first, next_in_bracket, is_separator, dotted_parts}
-use Rattle.template_words.specs.Inner.PathReads.{step_of, all_steps}
-use Rattle.template_words.specs.Paths.{is_reserved, reference_at, unreserved}
-use Rattle.template_words.specs.Inner.PathReads.{reference_below, reference_from}
+use Rattle.template_words.specs.Paths.{is_name_byte, is_name, step_of_index, step_named, onto_first, next_in_bracket}
+use Rattle.template_words.specs.Paths.{is_separator, dotted_parts, is_reserved, reference_at, unreserved}
+use Rattle.template_words.specs.Inner.PathReads.{bracketed_step, step_of, all_steps, reference_below, reference_from}
 use Rattle.template_words.specs.Inner.PathReads.{reference_of}
 use Rattle.template_words.specs.Reading.{◌>>=◌}
 use Rattle.template_words.specs.Words.{enclosed, closed_at_end}

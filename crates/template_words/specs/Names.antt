@@ -1,6 +1,5 @@
 -- Words with names in them: hash arguments and block parameters (Handlebars), and the first part of a path.
-use Rattle.std.specs.Prelude.{ℕ, Bool, false, ◌&&◌, List, [], ◌∷◌, drop, Option, Some, None}
-use Rattle.std.specs.Prelude.{if◌then◌else◌, codes}
+use Rattle.std.specs.Prelude.{ℕ, Bool, false, ◌&&◌, List, [], ◌∷◌, drop, Option, Some, None, if◌then◌else◌, codes}
 use Rattle.template_words.specs.Marks.{begins, offset_of, around}
 use Rattle.template_words.specs.Paths.{is_name, dotted_parts}
 use Rattle.template_words.specs.Words.{enclosed, closed_at_end}

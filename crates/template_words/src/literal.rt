@@ -31,10 +31,7 @@ pub fn whole_number(text: &str) -> Option<i64>
     ensures { result ≡ whole_number text.now }
 {
     match after_mark(text, "-") {
-        Some(digits) => match short_number(digits) {
-            Some(number) => Some(-number),
-            None => None,
-        },
+        Some(digits) => Some(-short_number(digits)?),
         None => short_number(text),
     }
 }

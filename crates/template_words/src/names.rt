@@ -12,10 +12,7 @@ use crate::words::{closed_at_end, enclosed};
 pub fn is_hash_argument(text: &str) -> bool
     ensures { result ≡ is_hash_argument text.now }
 {
-    match around_mark(text, "=") {
-        Some((name, _)) => is_name(name),
-        None => false,
-    }
+    matches!(around_mark(text, "="), Some((name, _)) if is_name(name))
 }
 
 fn only_name(text: &str) -> Option<&str>
@@ -35,10 +32,7 @@ pub fn name_in_bars(text: &str) -> Option<&str>
 pub fn is_name_after_bar(text: &str) -> bool
     ensures { result ≡ is_name_after_bar text.now }
 {
-    match after_mark(text, "|") {
-        Some(name) => is_name(name),
-        None => false,
-    }
+    matches!(after_mark(text, "|"), Some(name) if is_name(name))
 }
 
 /// The name before a bar that ends the word.

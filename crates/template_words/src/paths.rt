@@ -4,13 +4,9 @@ ghost use Rattle.std.specs.Prelude.{slice_index, MatchOption, IfSome, IfNone};
 ghost use Rattle.std.specs.List.{list_all};
 ghost use Rattle.template_words.specs.Bytes.{dot};
 ghost use Rattle.template_words.specs.Paths.{is_name_byte, is_name, step_named, next_in_bracket, is_separator};
-ghost use Rattle.template_words.specs.Inner.PathReads.{step_of};
-ghost use Rattle.template_words.specs.Paths.{dotted_parts, is_step, begins_with_step};
-ghost use Rattle.template_words.specs.Inner.PathReads.{all_steps};
-ghost use Rattle.template_words.specs.Paths.{rest_of_steps, is_reserved};
-ghost use Rattle.template_words.specs.Paths.{in_lower_case, names_header, header_in_lower_case};
-ghost use Rattle.template_words.specs.Paths.{reference_at};
-ghost use Rattle.template_words.specs.Inner.PathReads.{reference_below, reference_of};
+ghost use Rattle.template_words.specs.Paths.{dotted_parts, is_step, begins_with_step, rest_of_steps, is_reserved};
+ghost use Rattle.template_words.specs.Paths.{in_lower_case, names_header, header_in_lower_case, reference_at};
+ghost use Rattle.template_words.specs.Inner.PathReads.{step_of, all_steps, reference_below, reference_of};
 ghost use Rattle.template_words.specs.Reading.{Gives};
 
 use crate::error::{ReadError, TagError};
@@ -18,8 +14,8 @@ use crate::marks::after_mark;
 use crate::reference::Reference;
 use crate::words::enclosed;
 use data_tree::digits::index_of;
-use data_tree::plain_text::PlainText;
 use data_tree::step::{Path, Step};
+use plain_text::text::Text;
 use std::alloc::Global;
 use std::mem;
 
@@ -48,7 +44,7 @@ fn step_named(alloc: Global, text: &str) -> Result<Step, ReadError>
 {
     match index_of(text) {
         Some(index) => Ok(Step::Index(index)),
-        None => Ok(Step::Name(PlainText::new(String::from_str(alloc, text)?))),
+        None => Ok(Step::named(alloc, text)?),
     }
 }
 
@@ -162,7 +158,7 @@ fn in_lower_case(step: Step) -> Step
         Step::Name(text) => {
             let mut text = text.into_string();
             text.make_ascii_lowercase();
-            Step::Name(PlainText::new(text))
+            Step::Name(Text::from(text))
         }
         Step::Index(index) => Step::Index(index),
     }

@@ -6,8 +6,7 @@ use Rattle.request_journal.specs.Choice.{IsChoice}
 use Rattle.request_journal.specs.Past.{Past}
 use Rattle.request_journal.specs.declared.event.Event.{Event}
 use Rattle.request_journal.specs.declared.event.ServeAnswer.{ServeAnswer}
-use Rattle.request_journal.proofs.OrderLemmas.{ArePlaced, one_choice, placed_after, placed_at_checkpoint}
-use Rattle.request_journal.proofs.OrderLemmas.{placed_opened}
+use Rattle.request_journal.proofs.OrderLemmas.{ArePlaced, one_choice, placed_after, placed_at_checkpoint, placed_opened}
 use Rattle.stub_book.specs.Growth.{Grows}
 use Rattle.world_core.specs.Laws.{IsOpened}
 use Rattle.world_core.specs.Schedule.{IsAct, IsRun, IsStep, Outcome, WorldState}

@@ -1,6 +1,6 @@
 -- The mappings of a recording that is stopped, or of a book that is opened, are the live ones.
 use Rattle.std.proofs.Common.{◌≡◌, ◌↔◌, ◌≤◌, ◌+◌, ℕ, zero, suc, Bool, true, false, cond, List, [], ◌∷◌, ◌++◌, length}
-use Rattle.std.proofs.Common.{map, Option, Some, None, All, refl, sym, ap, subst, ◌∙◌, inl, inr, arith, append-nil}
+use Rattle.std.proofs.Common.{map, Option, Some, None, refl, sym, ap, subst, ◌∙◌, inl, inr, arith, append-nil}
 use Rattle.std.specs.Cmp.Lexicographic.{slice_cmp}
 use Rattle.std.specs.FinMap as fin_map
 use Rattle.std.specs.FinMap.{get-empty}
@@ -14,10 +14,9 @@ use Rattle.recorder.specs.declared.exchange.Exchange.{Exchange}
 use Rattle.recorder.specs.declared.recording.Recording.TheVariants.{On}
 use Rattle.recorder.specs.declared.recording.Session.{Session}
 use Rattle.request_journal.specs.Legal.{identified}
-use Rattle.request_journal.specs.Live.{adds, left_by, live}
+use Rattle.request_journal.specs.Live.{left_by, live}
 use Rattle.request_journal.specs.Past.{Past, Placed, defaults_from, has_id, last_number, opened, placed_from}
 use Rattle.request_journal.specs.Past.{with_event}
-use Rattle.request_journal.specs.Recording.{recording}
 use Rattle.request_journal.specs.State.{state}
 use Rattle.request_journal.specs.declared.event.Event.{Event}
 use Rattle.request_journal.specs.declared.event.Event.TheVariants as event
@@ -25,7 +24,7 @@ use Rattle.request_journal.specs.declared.limits.TheConstants.{NUMBER_LIMIT}
 use Rattle.request_journal.specs.declared.mapping.Mapping.{Mapping}
 use Rattle.request_journal.proofs.LiveLemmas.{left_by_none, live_after, state_after}
 use Rattle.scenario_core.specs.Scenarios.{started, state_of}
-use Rattle.stub_book.specs.Growth.{Grows, repeated}
+use Rattle.stub_book.specs.Growth.{repeated}
 use Rattle.world_core.specs.Replay.{HasRecorded, IsStoppedAndReset}
 use Rattle.world_core.proofs.ListFacts.{IsItem, contains_item, item_of}
 

@@ -1,7 +1,6 @@
 -- Which requests meet the matcher of a recorded request: it itself, and only those with its key.
-use Rattle.std.proofs.Common.{◌≡◌, ◌≢◌, ◌≤◌, ℕ, zero, suc, true, cond, List, [], ◌∷◌}
-use Rattle.std.proofs.Common.{◌++◌, length, map, All, refl, sym, ap, ap₂, ◌∙◌, inl, inr, arith, codes}
-use Rattle.std.proofs.Common.{subst}
+use Rattle.std.proofs.Common.{◌≡◌, ◌≢◌, ◌≤◌, ℕ, zero, suc, true, cond, List, [], ◌∷◌, ◌++◌, length, map, All, refl, sym}
+use Rattle.std.proofs.Common.{ap, ap₂, ◌∙◌, inl, inr, arith, codes, subst}
 use Rattle.std.specs.Prelude.{◌&&◌, nat_le, bytes_eq}
 use Rattle.std.specs.Char.{to_ascii_lowercase}
 use Rattle.std.specs.Cmp.Lexicographic.{pointwise}

@@ -19,8 +19,7 @@ use Rattle.request_journal.specs.declared.event.ServeAnswer.TheVariants.{Proxy, 
 use Rattle.request_journal.specs.declared.limits.TheConstants.{LIVE_LIMIT, NUMBER_LIMIT}
 use Rattle.request_journal.proofs.CheckpointLemmas.{number_at_checkpoint}
 use Rattle.request_journal.proofs.LegalLemmas.{legal_after}
-use Rattle.request_journal.proofs.LiveLemmas.{live_after, live_at_checkpoint, state_after}
-use Rattle.request_journal.proofs.LiveLemmas.{state_at_checkpoint}
+use Rattle.request_journal.proofs.LiveLemmas.{live_after, live_at_checkpoint, state_after, state_at_checkpoint}
 use Rattle.request_journal.proofs.RecordingLemmas.{recording_after, recording_at_checkpoint, recording_by}
 use Rattle.request_journal.proofs.SameLemmas.{number_after}
 use Rattle.scenario_core.specs.Scenarios.{started}

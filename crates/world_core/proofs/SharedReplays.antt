@@ -1,18 +1,16 @@
 -- Recorded requests that are served in the one history of a shared book.
-use Rattle.std.proofs.Common.{◌≡◌, ℕ, true, List, [], ◌∷◌, ◌++◌, All, sym, ap, subst, ◌∙◌, arith}
+use Rattle.std.proofs.Common.{◌≡◌, ℕ, true, List, [], ◌∷◌, ◌++◌, All, sym, ap, subst, ◌∙◌}
 use Rattle.std.specs.List.{AllZip}
 use Rattle.std.specs.Prelude.{Any, Contains, ◌↔◌}
 use Rattle.mapping_model.specs.declared.mapping_spec.MappingSpec.{MappingSpec}
 use Rattle.mapping_model.specs.declared.reply.Reply.{Reply}
 use Rattle.recorder.specs.Stubs.{mappings_of}
 use Rattle.recorder.specs.declared.exchange.Exchange.{Exchange}
-use Rattle.request_journal.specs.Choice.{IsChoice}
 use Rattle.request_journal.specs.Live.{live}
 use Rattle.request_journal.specs.Past.{Past, Placed, with_event}
 use Rattle.request_journal.specs.declared.event.Captured.{Captured}
 use Rattle.request_journal.specs.declared.event.Event.{Event}
 use Rattle.request_journal.specs.declared.event.Event.TheVariants as event
-use Rattle.request_journal.specs.declared.event.ServeAnswer.{ServeAnswer}
 use Rattle.request_journal.specs.declared.event.ServeAnswer.TheVariants.{Stub}
 use Rattle.shared_book.specs.Reached.{IsPastOf, Lead, Log}
 use Rattle.shared_history.specs.Entries.{events}

@@ -1,6 +1,5 @@
 -- What the laws over every schedule say.
-use Rattle.std.specs.Prelude.{◌≡◌, ◌≢◌, ◌⊎◌, ℕ, List, [], ◌∷◌, ◌++◌, filter_map, Option, Some}
-use Rattle.std.specs.Prelude.{None, MatchOption}
+use Rattle.std.specs.Prelude.{◌≡◌, ◌≢◌, ◌⊎◌, ℕ, List, [], ◌∷◌, ◌++◌, filter_map, Option, Some, None, MatchOption}
 use Rattle.std.specs.List.{AllZip}
 use Rattle.mapping_model.specs.declared.reply.Reply.{Reply}
 use Rattle.mock_request.specs.Request.{Request}

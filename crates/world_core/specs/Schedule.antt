@@ -1,8 +1,7 @@
 -- Schedules: steps of actors over one book. An actor acts, which adds one event to the history or is refused; where a
 -- mapping was chosen for its request, it holds that version until it finishes, which gives the response.
-use Rattle.std.specs.Prelude.{◌≡◌, ◌≢◌, ℕ, ◌==◌, Bool, true, false, not, List, [], ◌∷◌}
-use Rattle.std.specs.Prelude.{◌++◌, Option, Some, None, MatchOption, find, ◌<◌, length, map, take}
-use Rattle.std.specs.Prelude.{if◌then◌else◌}
+use Rattle.std.specs.Prelude.{◌≡◌, ◌≢◌, ℕ, ◌==◌, Bool, true, false, not, List, [], ◌∷◌, ◌++◌, Option, Some, None}
+use Rattle.std.specs.Prelude.{MatchOption, find, ◌<◌, length, map, take, if◌then◌else◌}
 use Rattle.std.specs.List.{filter}
 use Rattle.error_code.specs.declared.error_code.ErrorCode.{ErrorCode}
 use Rattle.error_code.specs.declared.error_code.ErrorCode.TheVariants.{OutOfMemory}

@@ -1,6 +1,5 @@
 -- For private clauses: what a response is, of which no reply was made, and what is to be forwarded or rendered.
 use Rattle.std.specs.Prelude.{◌≡◌, ℕ, List}
-use Rattle.admin_routes.specs.Routes.{IsAdmin}
 use Rattle.http.specs.declared.response.Response.{Response}
 use Rattle.answering.specs.Forwarding.{serve_receipt}
 use Rattle.answering.specs.Rendering.{rendering_receipt}
@@ -46,11 +45,6 @@ abbrev pub IsServedToForward : Past → Book → Held → Held → Request → F
 IsServedToForward origin name old new request forward =
     (forward.request ≡ request) × GainsServe origin name old new forward.request (serve_receipt forward)
 
--- it is no admin call
-abbrev pub IsRequestToForward : Past → Book → Held → Held → Request → Forward → Type 0
-IsRequestToForward origin name old new request forward =
-    ¬ (IsAdmin request.url) × IsServedToForward origin name old new request forward
-
 -- it has the number and the event of the receipt, and keeps to these limits
 abbrev pub IsRenderingOf : Limits → ℕ → Event → Rendering → Type 0
 IsRenderingOf limits number event rendering =
@@ -62,8 +56,3 @@ abbrev pub IsServedToRender : Past → Book → Limits → Held → Held → Req
 IsServedToRender origin name limits old new request rendering =
     (rendering.request ≡ request) × (rendering.limits ≡ limits)
     × GainsServe origin name old new rendering.request (rendering_receipt rendering)
-
--- it is no admin call
-abbrev pub IsRequestToRender : Past → Book → Limits → Held → Held → Request → Rendering → Type 0
-IsRequestToRender origin name limits old new request rendering =
-    ¬ (IsAdmin request.url) × IsServedToRender origin name limits old new request rendering

@@ -1,9 +1,8 @@
 -- What is due in a state: what is left of the innermost region at its item, and for each open loop what its turns to
 -- come cost and what is left of the region round it at the item there. No move makes it fall by less than its place
 -- costs.
-use Rattle.std.proofs.Common.{◌≡◌, ℕ, zero, suc, ◌+◌, ◌-◌, ◌*◌, ◌<◌, ◌≤◌, Bool, true}
-use Rattle.std.proofs.Common.{false, true≢false, List, [], ◌∷◌, length, drop, refl, sym, ap, ◌∙◌, subst}
-use Rattle.std.proofs.Common.{⊎_elim, arith}
+use Rattle.std.proofs.Common.{◌≡◌, ℕ, zero, suc, ◌+◌, ◌-◌, ◌*◌, ◌<◌, ◌≤◌, Bool, true, false, true≢false, List, [], ◌∷◌}
+use Rattle.std.proofs.Common.{length, drop, refl, sym, ap, ◌∙◌, subst, ⊎_elim, arith}
 use Rattle.std.specs.Prelude.{if◌then◌else◌}
 use Rattle.code_rules.specs.Inner.Course.{Cost, nothing, plus, value, Bracket, level, opens_over_part, opens_over_data}
 use Rattle.code_rules.specs.Inner.Course.{ends, Course, nest_after, nest, of_turns, share, region, budget}

@@ -1,6 +1,5 @@
 -- Sums of costs over places.
-use Rattle.std.proofs.Common.{◌≡◌, ℕ, zero, suc, ◌+◌, ◌-◌, ◌*◌, ◌<◌, ◌≤◌, sym, ap, subst}
-use Rattle.std.proofs.Common.{⊎_elim, arith}
+use Rattle.std.proofs.Common.{◌≡◌, ℕ, zero, suc, ◌+◌, ◌-◌, ◌*◌, ◌<◌, ◌≤◌, sym, ap, subst, ⊎_elim, arith}
 use Rattle.std.proofs.lemmas.Bool.{cases_lt}
 use Rattle.code_rules.specs.Inner.Course.{Cost, nothing, plus, value, Bracket, level, opens_over_part, opens_over_data}
 use Rattle.code_rules.specs.Inner.Course.{ends, of_turns}

@@ -1,7 +1,6 @@
 -- Places with loops round them, what each place costs, and the budget of all of them. A cost is alone + per * m,
 -- where m is the size of the item that the innermost loop is at.
-use Rattle.std.specs.Prelude.{ℕ, zero, suc, ◌+◌, ◌*◌, nat_eq, Bool, if◌then◌else◌, List, [], ◌∷◌}
-use Rattle.std.specs.Prelude.{drop}
+use Rattle.std.specs.Prelude.{ℕ, zero, suc, ◌+◌, ◌*◌, nat_eq, Bool, if◌then◌else◌, List, [], ◌∷◌, drop}
 use lib.Pointwise.{pointwise}
 
 pub record Cost : Type 0 where

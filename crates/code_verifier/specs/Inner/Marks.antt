@@ -20,11 +20,6 @@ with_jump l Unmarked = From l
 with_jump l (From k) = if same_loop l k then From k else Mixed
 with_jump l Mixed = Mixed
 
--- the mark of jumps from these nests
-abbrev pub mark_of : List (List ℕ) → Mark
-mark_of [] = Unmarked
-mark_of (nest ∷ nests) = with_jump (innermost nest) (mark_of nests)
-
 -- all jumps come from that loop
 abbrev pub agrees : Option ℕ → Mark → Bool
 agrees l Unmarked = true

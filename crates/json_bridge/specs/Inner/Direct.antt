@@ -59,12 +59,6 @@ HaveTrees read rest = (ts : Items) × (converted items_of_json read ≡ Some (ts
 abbrev pub HasMembers : Option (json.Members × List Token) → Members → List Token → Type 0
 HasMembers read ms rest = converted (λ found. members_of_json found no_members) read ≡ Some (ms, rest)
 
--- the names of that many members are before k
-abbrev pub ArePassed : List ℕ → ℕ → List (List ℕ × Data) → Type 0
-ArePassed k zero ms = Unit {0}
-ArePassed k (suc n) [] = ⊥
-ArePassed k (suc n) (m ∷ ms) = (slice_cmp nat_cmp k m.0 ≡ Greater) × ArePassed k n ms
-
 -- k is the name of the member after these
 abbrev pub IsFoundAt : List ℕ → ℕ → List (List ℕ × Data) → Type 0
 IsFoundAt k zero [] = ⊥

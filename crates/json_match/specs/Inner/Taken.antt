@@ -3,13 +3,6 @@ use Rattle.std.specs.Prelude.{ℕ, ◌+◌, Bool, true, false, List, [], ◌∷�
 use Rattle.std.specs.Prelude.{if◌then◌else◌}
 use Rattle.data_tree.specs.Tree.{Tree, Items, no_items, item}
 
--- those that aren't taken
-abbrev pub left_of : List Bool → Items → Items
-left_of [] ts = ts
-left_of (b ∷ taken) no_items = no_items
-left_of (true ∷ taken) (item t ts) = left_of taken ts
-left_of (false ∷ taken) (item t ts) = item t (left_of taken ts)
-
 -- the index of the first that isn't taken and passes the test, where the first of all has that index
 abbrev pub first_left : (Tree → Bool) → ℕ → List Bool → Items → Option ℕ
 first_left passes i [] ts = None

@@ -1,6 +1,5 @@
 -- Which of some entries wins over the others.
-use Rattle.std.specs.Prelude.{◌≡◌, ◌⊎◌, ℕ, ◌<◌, List, length, MatchOption, Option, None, Some}
-use Rattle.std.specs.Prelude.{slice_index_or}
+use Rattle.std.specs.Prelude.{◌≡◌, ◌⊎◌, ℕ, ◌<◌, List, length, MatchOption, Option, None, Some, slice_index_or}
 use Rattle.std.specs.List.{HoldsAt}
 use Rattle.mapping_store.specs.Kept.{IsFirst}
 use Rattle.mapping_store.specs.declared.entry.Entry.{Entry}

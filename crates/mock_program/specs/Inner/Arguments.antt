@@ -1,8 +1,6 @@
 -- The arguments that the parser is given for those of the command line, for private contracts.
-use Rattle.std.specs.Prelude.{ℕ, Bool, false, not, ◌||◌, if◌then◌else◌, List, [], ◌∷◌, ◌++◌}
-use Rattle.std.specs.Prelude.{codes}
+use Rattle.std.specs.Prelude.{ℕ, Bool, false, not, ◌||◌, if◌then◌else◌, List, [], ◌∷◌, ◌++◌, codes}
 use Rattle.std.specs.Str.{bytes_eq}
-use Rattle.mock_program.specs.CommandLine.{Asked, name_of, given_to}
 use Rattle.template_tree.specs.declared.escape.Escape.{Escape}
 use Rattle.template_tree.specs.declared.escape.Escape.TheVariants.{Off, Html}
 
@@ -40,7 +38,3 @@ abbrev pub parser_arguments : List (List ℕ) → List (List ℕ)
 parser_arguments (program ∷ command ∷ rest) =
     codes "mock" ∷ command ∷ (delimiter (unflagged rest) ++ unflagged rest)
 parser_arguments _ = codes "mock" ∷ []
-
--- those of a command that is asked for
-abbrev pub arguments_of : Asked → List (List ℕ)
-arguments_of asked = codes "mock" ∷ name_of asked ∷ codes "--" ∷ given_to asked

@@ -1,6 +1,5 @@
 -- How the contracts of private functions see the segments that are left, and a step along a template and a path.
-use Rattle.std.specs.Prelude.{◌≡◌, ℕ, Bool, ◌<◌, List, [], ◌∷◌, Option, None, Some, map, option_map}
-use Rattle.std.specs.Prelude.{length}
+use Rattle.std.specs.Prelude.{◌≡◌, ℕ, Bool, ◌<◌, List, [], ◌∷◌, Option, None, Some, map, option_map, length}
 use Rattle.std.specs.Borrow.{Bor}
 use Rattle.std.specs.List.{slice_split}
 use Rattle.std.specs.Option.{option_map_or}

@@ -1,7 +1,6 @@
 -- When a part of a request meets its matcher (WireMock's documentation, "Request Matching"): the values of a name, the
 -- URL, the body. All texts are their bytes.
-use Rattle.std.specs.Prelude.{◌≡◌, ◌⊎◌, ℕ, List, [], ◌∷◌, All, Any, Option, None, Some, map}
-use Rattle.std.specs.Prelude.{IsSomeAnd}
+use Rattle.std.specs.Prelude.{◌≡◌, ◌⊎◌, ℕ, List, [], ◌∷◌, All, Any, Option, None, Some, map, IsSomeAnd}
 use Rattle.std.specs.Char.{to_ascii_lowercase}
 use Rattle.std.specs.Str.Lossy.{utf8_lossy}
 use Rattle.data_tree.specs.LookUp.{at}

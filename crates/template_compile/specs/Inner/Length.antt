@@ -68,7 +68,3 @@ abbrev mutual
   pub nodes_length : Nodes → ℕ
   nodes_length no_nodes = 0
   nodes_length (first_node node nodes) = node_length node + nodes_length nodes
-
--- with the `Halt` that ends it
-abbrev pub code_length : Nodes → ℕ
-code_length nodes = nodes_length nodes + 1

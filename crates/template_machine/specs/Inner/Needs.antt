@@ -1,5 +1,5 @@
 -- When roots that are alike in the needed data are so in all that code finds.
-use Rattle.std.specs.Prelude.{◌≡◌, ℕ, ◌<◌, Some, slice_get}
+use Rattle.std.specs.Prelude.{ℕ}
 use Rattle.data_tree.specs.Tree.{Tree}
 use Rattle.needed_data.specs.Needed.{NeededData, AreAlike}
 use Rattle.template_code.specs.Code.{StackCode}
@@ -14,10 +14,6 @@ CoversInstr needed code index i = (r r' : Tree) → AreAlike needed r r' → Fin
 abbrev pub CoversJump : NeededData → StackCode → ℕ → Type 0
 CoversJump needed code target = (r r' : Tree) → AreAlike needed r r' → JumpFindsSame code r r' target
 
--- in what that many instructions at the start find
-abbrev pub CoversFirst : ℕ → NeededData → StackCode → Type 0
-CoversFirst count needed code =
-    (index : ℕ) (i : Instr) → index < count → slice_get code.instrs index ≡ Some i → CoversInstr needed code index i
-
+-- in what all instructions find
 abbrev pub CoversCode : NeededData → StackCode → Type 0
 CoversCode needed code = (r r' : Tree) → AreAlike needed r r' → FindSame code r r'

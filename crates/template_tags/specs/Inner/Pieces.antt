@@ -1,6 +1,6 @@
 -- What a tag's parentheses group, as a pass over its items keeps it: groups as what they are read as.
 use Rattle.std.specs.Prelude.{ℕ, ◌==◌, suc, min, max, Bool, not, List, [], ◌∷◌, length, map, Option, Some, None}
-use Rattle.std.specs.Prelude.{option_map, Result, Err, if◌then◌else◌}
+use Rattle.std.specs.Prelude.{Result, Err, if◌then◌else◌}
 use Rattle.helper_set.specs.declared.helper.Helper.{Helper}
 use Rattle.template_words.specs.Errors.{joined}
 use Rattle.template_words.specs.declared.error.TagError.{TagError}
@@ -42,9 +42,6 @@ piece_of levels (group terms) = group_piece (argument levels (group terms)) (cap
 abbrev pub pieces_of : List Level → Terms → List Piece
 pieces_of levels no_terms = []
 pieces_of levels (first_term term terms) = piece_of levels term ∷ pieces_of levels terms
-
-abbrev pub stack_pieces : List Level → Option (List Terms) → Option (List (List Piece))
-stack_pieces levels stack = option_map (map (pieces_of levels)) stack
 
 abbrev pub tag_parts : List Level → List Item → Parts
 tag_parts levels items = record { pieces = pieces_of levels (terms_in items); matched = is_matched items }
@@ -92,10 +89,6 @@ piece_before levels right_parenthesis (Some later) = Some ([] ∷ later)
 piece_before levels left_parenthesis (Some (pieces ∷ outer ∷ later)) =
     Some ((grouped_pieces levels pieces ∷ outer) ∷ later)
 piece_before levels item stack = None
-
-abbrev pub pieces_before : List Level → List Item → Option (List (List Piece)) → Option (List (List Piece))
-pieces_before levels [] stack = stack
-pieces_before levels (item ∷ items) stack = piece_before levels item (pieces_before levels items stack)
 
 -- ---- what tags take of them
 

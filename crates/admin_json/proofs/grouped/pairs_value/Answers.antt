@@ -1,6 +1,6 @@
 use Rattle.std.proofs.Common.{◌≡◌, [], ap, sym, ◌∙◌}
 use Rattle.admin_json.proofs.GroupLemmas.{groups_of_entries, with_values_of}
-use Rattle.admin_json.specs.Inner.Groups.{groups_in, with_groups}
+use Rattle.admin_json.proofs.Groups.{groups_in, with_groups}
 use Rattle.mock_request.specs.Values.{pairs_of}
 use Rattle.request_data.specs.Grouped.{names_in}
 use Rattle.serde_json.proofs.Views.{view-Object}

@@ -1,5 +1,5 @@
 use Rattle.std.proofs.Common.{◌≡◌}
-use Rattle.admin_json.specs.Inner.Groups.{groups_in, with_groups}
+use Rattle.admin_json.proofs.Groups.{groups_in, with_groups}
 use Rattle.serde_json.specs.Data.{no_members}
 use Rattle.serde_json.specs.View.{members_view}
 use Rattle.admin_json.proofs.grouped.pairs_value.Given as goal

@@ -2,7 +2,7 @@ use Rattle.std.proofs.Common.{◌≡◌, ap, map, sym, ◌∙◌}
 use Rattle.std.proofs.lemmas.Iterator.Consumers.{YieldsList-from_rest, YieldsList-end}
 use Rattle.std.proofs.lemmas.List.{map-id}
 use Rattle.admin_json.proofs.GroupLemmas.{groups_of_entries, values_of_entries, values_of_names}
-use Rattle.admin_json.specs.Inner.Groups.{group_of, group_json}
+use Rattle.admin_json.proofs.Groups.{group_of, group_json}
 use Rattle.mock_request.specs.Values.{pairs_of}
 use Rattle.request_data.specs.Grouped.{names_in}
 use Rattle.serde_json.proofs.Views.{view-Array}

@@ -1,5 +1,5 @@
 use Rattle.std.proofs.Common.{◌≡◌, map}
-use Rattle.admin_json.specs.Inner.Groups.{group_of, group_json}
+use Rattle.admin_json.proofs.Groups.{group_of, group_json}
 use Rattle.serde_json.specs.View.{view}
 use Rattle.admin_json.proofs.scenarios.list_value.Given as goal
 

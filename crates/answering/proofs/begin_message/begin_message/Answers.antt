@@ -4,9 +4,9 @@ use Rattle.admin_routes.specs.Routes.{IsAdmin}
 use Rattle.answering.specs.Admin.{IsAdminAnswered}
 use Rattle.answering.specs.Answering.{IsReply, IsRequestAnswered, IsServeAnswered, refusal}
 use Rattle.answering.specs.Forwarding.{IsToForward}
-use Rattle.answering.specs.Inner.Sent.{IsRequestToForward, IsRequestToRender, IsServedToForward, IsServedToRender}
+use Rattle.answering.specs.Inner.Sent.{IsServedToForward, IsServedToRender}
+use Rattle.answering.proofs.MessageLemmas.{IsRequestToRender, IsRequestToForward, is_unread, of_request, refused}
 use Rattle.answering.specs.Rendering.{IsToRender}
-use Rattle.answering.proofs.MessageLemmas.{is_unread, of_request, refused}
 use Rattle.answering.proofs.ResultLemmas.{begun_of, begun_weaker}
 use Rattle.answering.proofs.begin_message.begin_message.Goals as goal
 

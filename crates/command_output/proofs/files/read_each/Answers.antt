@@ -1,5 +1,4 @@
-use Rattle.std.proofs.Common.{◌≡◌, ◌+◌, ◌∷◌, ◌++◌, [], inr, take, sym, ap, subst, arith, ◌∙◌}
-use Rattle.std.proofs.Common.{string_bytes, Vec, ℕ}
+use Rattle.std.proofs.Common.{◌≡◌, ◌+◌, ◌∷◌, ◌++◌, [], inr, take, sym, ap, subst, arith, ◌∙◌, string_bytes, Vec, ℕ}
 use Rattle.std.proofs.lemmas.List.{take_all, take_more}
 use Rattle.std.specs.List.{AllZip}
 use Rattle.command_output.specs.Files.{IsFile, IsFileError}

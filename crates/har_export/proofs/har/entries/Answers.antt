@@ -1,5 +1,4 @@
-use Rattle.std.proofs.Common.{◌<◌, ◌≡◌, ◌∙◌, ◌++◌, ◌∷◌, [], ap, length, map, subst, sym, take}
-use Rattle.std.proofs.Common.{arith}
+use Rattle.std.proofs.Common.{◌<◌, ◌≡◌, ◌∙◌, ◌++◌, ◌∷◌, [], ap, length, map, subst, sym, take, arith}
 use Rattle.std.proofs.lemmas.List.{map-append}
 use Rattle.har_export.specs.Document.{AreEntries, IsEntry}
 use Rattle.serde_json.specs.View.{items_of, items_view, view}

@@ -1,6 +1,6 @@
 use Rattle.std.proofs.Common.{◌≡◌, ◌<◌, ◌+◌, suc, length, slice_index_or, Less, Equal, Greater, nat_cmp, rules, arith, subst}
 use Rattle.std.specs.Cmp.Lexicographic.{slice_cmp}
-use Rattle.json_bridge.specs.Inner.Direct.{ArePassed}
+use Rattle.json_bridge.proofs.Places.{ArePassed}
 use Rattle.json_bridge.proofs.Places.{passed_more, found_after, belongs_after, belongs_last, belongs_at_end}
 use Rattle.json_bridge.proofs.direct.place_of.Goals as goal
 

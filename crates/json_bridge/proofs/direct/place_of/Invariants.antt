@@ -1,5 +1,5 @@
 use Rattle.std.proofs.Common.{length, ◌-◌, ◌≤◌}
-use Rattle.json_bridge.specs.Inner.Direct.{ArePassed}
+use Rattle.json_bridge.proofs.Places.{ArePassed}
 use Rattle.json_bridge.proofs.direct.place_of.Given as goal
 
 abbrev pub invariant-loop-index : goal.invariant-loop-index

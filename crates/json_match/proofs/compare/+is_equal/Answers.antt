@@ -5,7 +5,7 @@ use Rattle.data_tree.specs.Tree.{view, items_view}
 use Rattle.json_match.proofs.Lists.{unequal_lengths, other_lengths, if_they_take, no_partner, partner}
 use Rattle.json_match.proofs.Lists.{all_taken, none_is_left, length-items_view, not_true, not_false}
 use Rattle.json_match.proofs.Takings.{none_taken, no_first, the_first}
-use Rattle.json_match.specs.Inner.Taken.{left_of}
+use Rattle.json_match.proofs.Takings.{left_of}
 use Rattle.json_match.specs.Inner.Walk.{is_equal, each_takes_one}
 use Rattle.json_match.proofs.Counting.{if_scalars_take}
 use Rattle.json_match.proofs.compare.+is_equal.Goals as goal

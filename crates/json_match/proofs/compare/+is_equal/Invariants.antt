@@ -1,6 +1,7 @@
 use Rattle.std.proofs.Common.{◌≡◌, drop, vec_len}
 use Rattle.data_tree.specs.Tree.{view, items_view, members_view}
-use Rattle.json_match.specs.Inner.Taken.{left_of, first_left}
+use Rattle.json_match.specs.Inner.Taken.{first_left}
+use Rattle.json_match.proofs.Takings.{left_of}
 use Rattle.json_match.specs.Inner.Walk.{is_equal, are_equal, each_takes_one, have_equal}
 use Rattle.json_match.proofs.compare.+is_equal.Given as goal
 

@@ -1,6 +1,5 @@
-use Rattle.std.proofs.Common.{◌≡◌, ◌+◌, ◌∷◌, ◌++◌, [], ℕ}
-use Rattle.std.proofs.Common.{Vec, drop, inl, map, slice_index_or, take}
-use Rattle.std.proofs.Common.{sym, ap, subst, arith, ◌∙◌, refl}
+use Rattle.std.proofs.Common.{◌≡◌, ◌+◌, ◌∷◌, ◌++◌, [], ℕ, Vec, drop, inl, map, slice_index_or, take, sym, ap, subst}
+use Rattle.std.proofs.Common.{arith, ◌∙◌, refl}
 use Rattle.std.proofs.lemmas.List.{map-append, take_more}
 use Rattle.json_reading.specs.Document.{IsDocument}
 use Rattle.mapping_commands.proofs.LinesOf.{nothing, split_mapped, values_push}

@@ -1,4 +1,4 @@
-use Rattle.std.proofs.Common.{inl, inr, refl, string_bytes, sym, subst}
+use Rattle.std.proofs.Common.{inl, inr, refl, string_bytes, subst}
 use Rattle.mapping_commands.proofs.OneStream.{of_end, of_error, of_output}
 use Rattle.mapping_commands.specs.Explaining.{Ends}
 use Rattle.mapping_commands.proofs.explain.explain_to.Goals as goal

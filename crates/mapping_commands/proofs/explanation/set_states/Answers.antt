@@ -1,4 +1,4 @@
-use Rattle.std.proofs.Common.{◌+◌, List, drop, map, subst, sym, arith}
+use Rattle.std.proofs.Common.{List, map, subst, sym, arith}
 use Rattle.std.proofs.lemmas.List.{drop_more}
 use Rattle.mapping_commands.specs.Explaining.{AreSet, given_of}
 use Rattle.mapping_commands.specs.declared.explanation.GivenState.{GivenState}

@@ -1,5 +1,4 @@
-use Rattle.std.proofs.Common.{◌≡◌, ◌+◌, ◌∷◌, ◌++◌, ◌∙◌, [], ℕ}
-use Rattle.std.proofs.Common.{Vec, ap, arith, drop, inl, map, rules, subst, sym, take}
+use Rattle.std.proofs.Common.{◌≡◌, ◌+◌, ◌∷◌, ◌++◌, ◌∙◌, [], ℕ, Vec, ap, arith, drop, inl, map, rules, subst, sym, take}
 use Rattle.std.proofs.lemmas.List.{map-append, take_more}
 use Rattle.mapping_commands.proofs.DocumentLemmas.{spell_push, split_mapped}
 use Rattle.mapping_commands.specs.Answering.{SpellDocuments}

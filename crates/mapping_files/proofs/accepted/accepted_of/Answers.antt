@@ -1,5 +1,4 @@
-use Rattle.std.proofs.Common.{◌≡◌, ◌+◌, ◌∷◌, ◌++◌, ◌∙◌, [], ℕ}
-use Rattle.std.proofs.Common.{Vec, ap, arith, map, subst, sym, take}
+use Rattle.std.proofs.Common.{◌≡◌, ◌+◌, ◌∷◌, ◌++◌, ◌∙◌, [], ℕ, Vec, ap, arith, map, subst, sym, take}
 use Rattle.std.proofs.lemmas.List.{map-append, take_more}
 use Rattle.mapping_files.proofs.AcceptedLemmas.{accepted_push}
 use Rattle.mapping_files.specs.Served.{AreAccepted, SpellAccepted}

@@ -1,6 +1,5 @@
-use Rattle.std.proofs.Common.{◌≡◌, true, None, Option, is_some, sym, ap₂, ◌∙◌, rules}
+use Rattle.std.proofs.Common.{◌≡◌, true, None, is_some, sym, ap₂, ◌∙◌, rules}
 use Rattle.std.proofs.lemmas.Result.{IfErr-weaker, IfOk-weaker}
-use Rattle.json_reading.specs.declared.kind.Kind.{Kind}
 use Rattle.mapping_json.proofs.Wrongs.{not_built, object_right, object_wrong, spelled}
 use Rattle.mapping_json.specs.Inner.Wrongs.{joined, wrong_fields, wrong_of}
 use Rattle.serde_json.specs.Find.{as_object}

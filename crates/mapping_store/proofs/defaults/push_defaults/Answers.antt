@@ -1,5 +1,4 @@
-use Rattle.std.proofs.Common.{◌+◌, ◌<◌, false, List, ◌++◌, All, length, map, drop, get_or, sym, ap, subst}
-use Rattle.std.proofs.Common.{◌∙◌, arith}
+use Rattle.std.proofs.Common.{◌+◌, ◌<◌, false, List, ◌++◌, All, length, map, drop, get_or, sym, ap, subst, ◌∙◌, arith}
 use Rattle.request_journal.specs.Past.{placed_from}
 use Rattle.request_journal.specs.declared.mapping.Mapping.{Mapping}
 use Rattle.mapping_store.specs.Kept.{Fits, placed_of}

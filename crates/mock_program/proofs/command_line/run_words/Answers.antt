@@ -4,13 +4,13 @@ use Rattle.std.proofs.lemmas.Option.{none-some, same_Some}
 use Rattle.clap.specs.Words.{HasKind, kind_of}
 use Rattle.mock_program.specs.CommandLine.{Asked}
 use Rattle.mock_program.specs.Commands.{Does}
-use Rattle.mock_program.specs.Inner.Arguments.{arguments_of, escape_asked, parser_arguments}
+use Rattle.mock_program.specs.Inner.Arguments.{escape_asked, parser_arguments}
+use Rattle.mock_program.proofs.CommandArguments.{arguments_of, parser_arguments-asked, escape_asked-asked}
 use Rattle.mock_program.specs.Inner.Parser.{IsHelp, answers_to, asked_by, asked_of, is_taken}
 use Rattle.mock_program.specs.Options.{given_of}
 use Rattle.command_output.specs.Lines.{error_line}
 use Rattle.command_output.specs.Output.{AppendsFront}
 use Rattle.command_output.specs.declared.error.CommandError.{CommandError}
-use Rattle.mock_program.proofs.CommandArguments.{parser_arguments-asked, escape_asked-asked}
 use Rattle.template_tree.specs.declared.escape.Escape.{Escape}
 use Rattle.mock_program.proofs.OneStream.{nothing_written, of_command}
 use Rattle.mock_program.proofs.Refused.{without_memory}

@@ -1,5 +1,4 @@
-use Rattle.std.proofs.Common.{◌≡◌, ℕ, List, ◌++◌, refl, rules, ap, ap₂, ◌∙◌, codes, length}
-use Rattle.std.proofs.Common.{string_bytes}
+use Rattle.std.proofs.Common.{◌≡◌, ℕ, List, ◌++◌, refl, rules, ap, ap₂, ◌∙◌, codes, length, string_bytes}
 use Rattle.std.proofs.lemmas.Result.{IfOk-weaker}
 use Rattle.code_rules.specs.Polynomial.{as_printed}
 use Rattle.code_rules.specs.Regions.{budget}

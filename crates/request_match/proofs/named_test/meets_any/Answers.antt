@@ -1,5 +1,4 @@
-use Rattle.std.proofs.Common.{◌≡◌, ◌+◌, true, false, arith, ap, sym, refl, subst, ◌∙◌, ◌↔◌, drop}
-use Rattle.std.proofs.Common.{string_bytes}
+use Rattle.std.proofs.Common.{◌≡◌, ◌+◌, true, false, arith, ap, sym, refl, subst, ◌∙◌, ◌↔◌, drop, string_bytes}
 use Rattle.std.specs.Str.{bytes_eq}
 use Rattle.std.proofs.lemmas.List.{drop_all, length-map}
 use Rattle.mock_request.specs.Values.{pairs_of, pair_of, values_of}

@@ -1,5 +1,4 @@
-use Rattle.std.proofs.Common.{◌≡◌, ◌≤◌, ◌<◌, ◌+◌, ◌^◌, ◌⊎◌, inl, inr, ℕ, refl, ap}
-use Rattle.std.proofs.Common.{◌∙◌, arith}
+use Rattle.std.proofs.Common.{◌≡◌, ◌≤◌, ◌<◌, ◌+◌, ◌^◌, ◌⊎◌, inl, inr, ℕ, refl, ap, ◌∙◌, arith}
 use Rattle.code_rules.specs.Polynomial.{value}
 use Rattle.code_rules.specs.Regions.{Budget, budget}
 use Rattle.stub_response.proofs.LimitLemmas.{budget_of, keep_one_more, keep_rest, too_much, value-as_printed}

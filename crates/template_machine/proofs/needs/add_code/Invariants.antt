@@ -1,5 +1,5 @@
 use Rattle.needed_data.specs.Needed.{Includes}
-use Rattle.template_machine.specs.Inner.Needs.{CoversFirst}
+use Rattle.template_machine.proofs.NeedFacts.{CoversFirst}
 use Rattle.template_machine.proofs.needs.add_code.Given as goal
 
 abbrev pub invariant-loop-index : goal.invariant-loop-index

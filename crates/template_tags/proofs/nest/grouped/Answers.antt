@@ -2,8 +2,9 @@ use Rattle.std.proofs.Common.{◌≡◌, ◌-◌, ◌++◌, ◌∷◌, [], ◌�
 use Rattle.std.proofs.Common.{◌∙◌, arith}
 use Rattle.std.proofs.lemmas.List.{map-append, length-take}
 use Rattle.template_tags.proofs.Fronts.{last_split}
-use Rattle.template_tags.proofs.Nests.{nest_is, none_found, pieces_before-append, pieces_before_none}
-use Rattle.template_tags.specs.Inner.Pieces.{Piece, piece_before, pieces_before, stack_pieces}
+use Rattle.template_tags.proofs.Nests.{nest_is, none_found, pieces_before-append, pieces_before_none, stack_pieces}
+use Rattle.template_tags.proofs.Nests.{pieces_before}
+use Rattle.template_tags.specs.Inner.Pieces.{Piece, piece_before}
 use Rattle.template_tags.specs.Inner.Scan.{item_view}
 use Rattle.template_tags.specs.Items.{Item}
 use Rattle.template_tags.specs.Inner.Views.{stack_view, pieces_view, later_view}

@@ -1,5 +1,5 @@
 use Rattle.std.proofs.Common.{◌≡◌, ◌≤◌, length, map, reverse, Some}
-use Rattle.template_tags.specs.Inner.Pieces.{pieces_before, stack_pieces}
+use Rattle.template_tags.proofs.Nests.{stack_pieces, pieces_before}
 use Rattle.template_tags.specs.Inner.Scan.{item_view}
 use Rattle.template_tags.specs.Inner.Views.{stack_view}
 use Rattle.template_tags.specs.Terms.{grouped}

@@ -1,5 +1,4 @@
-use Rattle.std.proofs.Common.{◌≡◌, ◌<◌, ◌==◌, true, false, Some, codes, length, drop, reverse, sym, ap}
-use Rattle.std.proofs.Common.{◌∙◌}
+use Rattle.std.proofs.Common.{◌≡◌, ◌<◌, ◌==◌, true, false, Some, codes, length, drop, reverse, sym, ap, ◌∙◌}
 use Rattle.std.specs.List.{ends_with}
 use Rattle.std.proofs.lemmas.Str.Pattern.{ends_text}
 use Rattle.template_words.specs.Marks.{begins, offset_of}

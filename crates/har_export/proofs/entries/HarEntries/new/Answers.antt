@@ -1,4 +1,4 @@
-use Rattle.std.proofs.Common.{◌≡◌, ◌∙◌, ap, subst}
+use Rattle.std.proofs.Common.{◌∙◌, ap, subst}
 use Rattle.har_export.specs.Document.{AreEntries}
 use Rattle.har_export.specs.Inner.Timed.{texts_of_timed}
 use Rattle.har_export.proofs.TimedLemmas.{items_of_timed, timed_are, timed_texts}

@@ -1,7 +1,6 @@
-use Rattle.std.proofs.Common.{ap}
+use Rattle.std.proofs.Common.{ap, List}
 use Rattle.shared_book.specs.Inner.Seat.{line_of}
 use Rattle.shared_book.specs.declared.receipt.Receipt.{Receipt}
-use Rattle.std.proofs.Common.{List}
 use Rattle.shared_book.proofs.lines.Lines.keep.Goals as goal
 
 pub returns-clause-own : goal.returns-clause-own

@@ -1,6 +1,3 @@
-use Rattle.std.proofs.Common.{ℕ, subst}
-use Rattle.shared_history.specs.History.{HasEnded, IsWhole}
-use Rattle.shared_history.specs.Inner.Kept.{HasSeats}
 use Rattle.shared_history.specs.Inner.Lines.{entries_of}
 use Rattle.shared_history.specs.Seal.{seal}
 use Rattle.shared_history.proofs.Growing.{is_whole}

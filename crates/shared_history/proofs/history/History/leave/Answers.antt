@@ -1,7 +1,6 @@
-use Rattle.std.proofs.Common.{◌-◌, arith, sym, subst}
+use Rattle.std.proofs.Common.{◌-◌, arith}
 use Rattle.shared_history.specs.Entries.{entry}
 use Rattle.shared_history.specs.Inner.Drafts.{deed_of}
-use Rattle.shared_history.specs.Inner.Kept.{HasSeats}
 use Rattle.shared_history.specs.Inner.Lines.{entries_of}
 use Rattle.shared_history.specs.Seal.{seal}
 use Rattle.shared_history.specs.declared.entry.Deed.TheVariants.{Left}

@@ -1,5 +1,4 @@
-use Rattle.std.proofs.Common.{[], ◌∷◌, ◌++◌, List, Option, length, sym, ap, subst, ◌∙◌, arith, rules}
-use Rattle.std.proofs.Common.{append_assoc}
+use Rattle.std.proofs.Common.{[], ◌∷◌, ◌++◌, List, Option, length, sym, ap, subst, ◌∙◌, arith, rules, append_assoc}
 use Rattle.std.specs.Vec.Iter.{into_iter_items}
 use Rattle.mapping_model.specs.declared.reply.Reply.{Reply}
 use Rattle.world_core.specs.Schedule.{IsStopped, Runs}

@@ -1,14 +1,7 @@
 -- Which paths fit a route of the router `matchit`, whose pattern is a list of bytes and parameters.
-use Rattle.std.specs.Prelude.{◌≡◌, ◌≢◌, ◌<◌, ◌⊎◌, ℕ, List, [], ◌∷◌, ◌++◌, All}
+use Rattle.std.proofs.Common.{◌≡◌, ◌<◌, ◌⊎◌, ℕ, List, [], ◌∷◌, ◌++◌}
 use Rattle.matchit.specs.Rows.{RowsOf, param_token}
-
-abbrev pub slash : ℕ
-slash = 47
-
--- a segment of a path: it isn't empty and has no slash
-pub record IsSegment (text : List ℕ) : Type 0 where
-  pub some : text ≢ []
-  pub no_slash : All (λ b. b ≢ slash) text
+use Rattle.route_search.specs.Segment.{slash, IsSegment}
 
 -- the path begins with what the token stands for, a byte or a segment, and goes on with the rest
 abbrev pub Begins : ℕ → List ℕ → List ℕ → Type 0

@@ -1,4 +1,4 @@
--- For private clauses: the tokens that a tree's JSON text is written in, one after the other.
+-- The tokens that a tree's JSON text is written in, one after the other.
 use Rattle.std.specs.Prelude.{List, [], ◌∷◌, ◌++◌, codes}
 use Rattle.std.specs.Fmt.{signed_decimal}
 use Rattle.json.specs.Token.{Token}

@@ -1,2 +1,0 @@
--- Words of private clauses.
-pub mod Groups
