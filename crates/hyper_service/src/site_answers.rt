@@ -129,21 +129,9 @@ where
         let before = last_number(seat);
         let answered = answering::begin::begin(rt, alloc, &self.site, seat, request);
         let is_full = self.tell(rt, alloc, request, outcome_of(seat, before), &answered);
-        // Moved out of the place that was lent, from which no part can be taken.
-        let told = answered;
-        match told {
-            // As most are. An arm of its own that returns, since an answer is large: `pass_on` moves it twice more, and
-            // what a `match` gives is moved once more.
-            Ok(answering::begun::Begun::Answered(response)) => {
-                self.journal.keep(rt, &self.site.book, seat, is_full);
-                return Ok(Begun::Answered(response));
-            }
-            _ => {
-                let begun = self.pass_on(rt, alloc, handle, seat, told);
-                self.journal.keep(rt, &self.site.book, seat, is_full);
-                begun
-            }
-        }
+        let begun = self.pass_on(rt, alloc, handle, seat, answered);
+        self.journal.keep(rt, &self.site.book, seat, is_full);
+        begun
     }
 
     fn finish<R: Wait>(
