@@ -2,7 +2,6 @@ use Rattle.std.proofs.Common.{refl}
 use Rattle.hyper_service.proofs.Givens.{given_later, given_rendered}
 use Rattle.hyper_service.proofs.site_answers.SiteAnswersAnswers.finish.Goals as goal
 use Rattle.hyper_service.specs.Given.{rules_of}
-use Rattle.hyper_service.specs.Inner.Exchange.{Gives}
 
 pub returns-in-Forwarded-clause-ok : goal.returns-in-Forwarded-clause-ok
 returns-in-Forwarded-clause-ok g c = λ message first_old first_new exchange same by given.
