@@ -268,48 +268,30 @@ fn serve_command<'a>(alloc: Global) -> Result<Command<'a>, AllocError> {
 }
 
 fn record_command<'a>(alloc: Global) -> Result<Command<'a>, AllocError> {
+    let target = "The server to record, as http://127.0.0.1:9000";
+    let har = "Also writes the exchanges, as a HAR document, to this file";
     let command = Command::new(alloc, "record")
         .about("Serves, forwards to another server, and writes its replies as mappings to a file")
         .after_help(RECORD_HELP)
-        .arg(required(
-            alloc,
-            "target",
-            "TARGET",
-            "The server to record, as http://127.0.0.1:9000",
-        ))?
+        .arg(required(alloc, "target", "TARGET", target))?
         .arg(required(alloc, "file", "FILE", "The file to write"))?;
     with_common(alloc, command)?
         .arg(captured_header(alloc))?
-        .arg(option(
-            alloc,
-            "har",
-            "FILE",
-            "Also writes the exchanges, as a HAR document, to this file",
-        ))?
+        .arg(option(alloc, "har", "FILE", har))?
         .arg(verbose(alloc))
 }
 
 // The command with the options that `serve` and `record` have.
 fn with_common<'a>(alloc: Global, command: Command<'a>) -> Result<Command<'a>, AllocError> {
+    let mappings =
+        "A JSON file: one mapping, or an object with a list `mappings`; or a folder of them";
+    let html = "Escapes what {{x}} prints in templates for HTML, but not what {{{x}}} prints";
+    let address = "The IP address to listen on [default: 127.0.0.1]";
     command
         .arg(port(alloc))?
-        .arg(option(
-            alloc,
-            "mappings",
-            "FILE",
-            "A JSON file: one mapping, or an object with a list `mappings`; or a folder of them",
-        ))?
-        .arg(flag(
-            alloc,
-            "html-escape",
-            "Escapes what {{x}} prints in templates for HTML, but not what {{{x}}} prints",
-        ))?
-        .arg(option(
-            alloc,
-            "bind-address",
-            "ADDRESS",
-            "The IP address to listen on [default: 127.0.0.1]",
-        ))?
+        .arg(option(alloc, "mappings", "FILE", mappings))?
+        .arg(flag(alloc, "html-escape", html))?
+        .arg(option(alloc, "bind-address", "ADDRESS", address))?
         .arg(first_event(alloc))
 }
 
