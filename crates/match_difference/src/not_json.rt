@@ -1,4 +1,5 @@
 // Why a body isn't JSON for matchers.
+use crate::said::cut;
 use itoa::Buffer;
 use serde_json::{Map, Value};
 use std::alloc::{AllocError, Global};
@@ -34,7 +35,7 @@ impl NumberAt {
         said.push_str(self.number.as_str())?;
         if !self.pointer.is_empty() {
             said.push_str(" at ")?;
-            said.push_str(self.pointer.as_str())?;
+            said.push_str(cut(alloc, self.pointer.as_str())?.as_str())?;
         }
         Ok(said)
     }
@@ -57,8 +58,20 @@ fn push_token(pointer: &mut String, name: &str) -> Result<(), AllocError> {
         match character {
             '~' => pointer.push_str("~0")?,
             '/' => pointer.push_str("~1")?,
-            character => pointer.push(character)?,
+            character => if character.is_control() {
+                push_escaped(pointer, character)?;
+            } else {
+                pointer.push(character)?;
+            },
         }
+    }
+    Ok(())
+}
+
+// As `\n` or `\u{1b}`: by itself it would break the line.
+fn push_escaped(pointer: &mut String, control: char) -> Result<(), AllocError> {
+    for character in control.escape_debug() {
+        pointer.push(character)?;
     }
     Ok(())
 }

@@ -35,7 +35,8 @@ pub fn quoted(alloc: Global, text: &str) -> Result<String, AllocError> {
     Value::String(cut(alloc, text)?).to_string(alloc)
 }
 
-fn cut(alloc: Global, text: &str) -> Result<String, AllocError> {
+/// The text, or the beginning and the end of a long one.
+pub(crate) fn cut(alloc: Global, text: &str) -> Result<String, AllocError> {
     let count = text.chars().count();
     if count <= SHOWN {
         return String::from_str(alloc, text);
