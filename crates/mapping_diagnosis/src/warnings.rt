@@ -158,20 +158,24 @@ impl Warnings {
         };
         for (name, matcher) in members.iter() {
             if let Some(word) = negative_word(matcher) {
-                let name = quoted(self.alloc, name.as_str())?;
-                let texts = [
-                    "a request without the ",
-                    what,
-                    " ",
-                    name.as_str(),
-                    " doesn't meet its `",
-                    word,
-                    "`",
-                ];
-                self.add(texts.as_slice())?;
+                self.add_not_met(what, name.as_str(), word)?;
             }
         }
         Ok(())
+    }
+
+    fn add_not_met(&mut self, what: &str, name: &str, word: &str) -> Result<(), AllocError> {
+        let name = quoted(self.alloc, name)?;
+        let texts = [
+            "a request without the ",
+            what,
+            " ",
+            name.as_str(),
+            " doesn't meet its `",
+            word,
+            "`",
+        ];
+        self.add(texts.as_slice())
     }
 
     /// What JsonUnit has in place of a value, and is compared as a text.
