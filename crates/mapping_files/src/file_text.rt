@@ -44,13 +44,17 @@ impl From<AllocError> for NoText {
     }
 }
 
-/// The text of a file with the mappings of a document, the oldest first: each mapping is a line.
+/// The text of a file with the mappings of a document, the oldest first: each mapping is a line. An object without a list
+/// `mappings` is taken for one mapping where a file is read; a server's answer has the list.
 pub fn file_text_of(alloc: Global, document: &[u8], listed: Listed) -> Result<FileText, NoText>
     ensures { IfOk result (λ made. IsFileText listed document.now (string_bytes made.text) made.count) }
 {
     let Some(document) = document_of(alloc, document)? else {
         return Err(NoText::NoMappings);
     };
+    if document.get("mappings").is_none() {
+        return Err(NoText::NoMappings);
+    }
     match mapping_values(&document) {
         Some(values) => Ok(text_of(alloc, values, listed)?),
         None => Err(NoText::NoMappings),

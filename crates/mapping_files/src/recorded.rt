@@ -52,7 +52,8 @@ impl From<NoText> for RecordError {
 }
 
 /// Stops the recording of the server at the address, and writes its mappings to a file, the oldest first; and first the
-/// exchanges as a HAR document to another file, if it is asked for.
+/// exchanges as a HAR document to another file, if it is asked for. Where these can't be had or written, the mappings are
+/// written all the same.
 pub fn end_recording<R>(
     rt: &R,
     address: &str,
@@ -64,14 +65,26 @@ where
     ensures { IfOk result (λ recorded. (answer : List ℕ) × (text : List ℕ)
         × IsFileText OldestFirst answer text recorded.count × R.stored rt.now file.now text) }
 {
-    if let Some(path) = har {
-        let document = call(rt, address, "GET", "/__admin/recordings/har")?;
-        if let Err(error) = rt.store(rt.alloc(), path, document.as_slice()) {
-            return Err(RecordError::Har(error));
-        }
-    }
+    let exchanges = match har {
+        Some(path) => store_exchanges(rt, address, path),
+        None => Ok(()),
+    };
     let answer = call(rt, address, "POST", "/__admin/recordings/stop")?;
-    store_recorded(rt.alloc(), rt, answer.as_slice(), file)
+    let recorded = store_recorded(rt.alloc(), rt, answer.as_slice(), file)?;
+    exchanges?;
+    Ok(recorded)
+}
+
+// Writes the exchanges of the recording as a HAR document.
+fn store_exchanges<R>(rt: &R, address: &str, path: &str) -> Result<(), RecordError>
+where
+    R: Wait + Net + Clock + RandomSource + AllocGlobal + FileWriter + Copy + Drop,
+{
+    let document = call(rt, address, "GET", "/__admin/recordings/har")?;
+    match rt.store(rt.alloc(), path, document.as_slice()) {
+        Ok(()) => Ok(()),
+        Err(error) => Err(RecordError::Har(error)),
+    }
 }
 
 /// Writes the mappings of the answer to a call that has stopped a recording.
