@@ -5,8 +5,21 @@ use std::io::{Error, ErrorKind, Write};
 use std::random::RandomSource;
 use std::{fs, io};
 
-/// Writes the bytes to a new file beside the path, and then renames it to the path. At an error the new file is removed.
+/// Writes the bytes to a file. A link stays: the file that it leads to is written.
 pub(crate) fn store_over<R: Files + RandomSource>(
+    rt: &R,
+    alloc: Global,
+    path: &str,
+    bytes: &[u8],
+) -> io::Result<()> {
+    match rt.canonicalize(alloc, path) {
+        Ok(file) => store_at(rt, alloc, file.into_string().as_str(), bytes),
+        Err(_error) => store_at(rt, alloc, path, bytes),
+    }
+}
+
+// Writes the bytes to a new file beside the path, and then renames it to the path. At an error the new file is removed.
+fn store_at<R: Files + RandomSource>(
     rt: &R,
     alloc: Global,
     path: &str,
