@@ -53,7 +53,9 @@ abbrev pub IsHeldReply : Option Mapping → Reply → Type 0
 IsHeldReply None reply = ⊥
 IsHeldReply (Some mapping) reply = IsJsonReply 200 (json_of_held mapping) reply
 
--- what is answered in a past to who reads it: mappings and requests the newest first
+-- what is answered in a past to who reads it: mappings and requests the newest first. This is JSON, for who sends
+-- HTTP; `IsReadAnswer` of `shared_book` says the values, for who has a seat, and `replied_in` of
+-- `proofs/ReadLemmas.antt` leads from those to this.
 abbrev pub IsReadReply : BookRead → Reply → Past → Type 0
 IsReadReply read.Mappings reply past =
     (listed : List Mapping) × IsNewestFirst (live past) listed × IsJsonReply 200 (json_of_mappings listed) reply
