@@ -31,10 +31,11 @@ use Rattle.request_journal.specs.declared.read.BookRead.TheVariants as read
 use Rattle.request_match.specs.Matching.{MeetsRequest}
 use Rattle.scenario_core.specs.Scenarios.{States, state_of}
 use Rattle.serde_json.specs.Data.{object, no_members}
-use Rattle.shared_book.specs.Held.{Gained, Held}
+use Rattle.shared_book.specs.Held.{Held}
+use Rattle.shared_book.specs.Lent.{Gains}
 use Rattle.shared_book.specs.Reached.{InPastOf}
 use Rattle.shared_book.specs.Refused.{IsRefused}
-use Rattle.shared_book.specs.Seen.{Enters, HasCaughtUp}
+use Rattle.shared_book.specs.Seen.{HasCaughtUp}
 use Rattle.shared_book.specs.declared.receipt.Receipt.{Receipt}
 
 -- ---- replies
@@ -52,7 +53,9 @@ abbrev pub IsHeldReply : Option Mapping → Reply → Type 0
 IsHeldReply None reply = ⊥
 IsHeldReply (Some mapping) reply = IsJsonReply 200 (json_of_held mapping) reply
 
--- what is answered in a past to who reads it: mappings and requests the newest first
+-- what is answered in a past to who reads it: mappings and requests the newest first. This is JSON, for who sends
+-- HTTP; `IsReadAnswer` of `shared_book` says the values, for who has a seat, and `replied_in` of
+-- `proofs/ReadLemmas.antt` leads from those to this.
 abbrev pub IsReadReply : BookRead → Reply → Past → Type 0
 IsReadReply read.Mappings reply past =
     (listed : List Mapping) × IsNewestFirst (live past) listed × IsJsonReply 200 (json_of_mappings listed) reply
@@ -84,22 +87,16 @@ IsUnread other reason past = ⊥
 
 -- by a seat of a book that had the past `origin` when it was shared, in the history with this name
 module _ (origin : Past) (name : Book) where
-  -- what was asked for is the seat's next call in the one history, and the seat has gained its receipt
-  pub record Gains (old new : Held) (asked : BookInput) (receipt : Receipt) : Type 0 where
-    pub gained : Gained origin old receipt new
-    pub is_asked : IsAsked asked receipt.event
-    pub entered : Enters origin name old new receipt
-
   -- the change was made, and this is answered
   abbrev pub IsChanged : Held → Held → BookInput → Reply → Type 0
   IsChanged old new asked reply =
-      (receipt : Receipt) × Gains old new asked receipt × IsEventReply receipt.event reply
+      (receipt : Receipt) × Gains origin name old new (IsAsked asked) receipt × IsEventReply receipt.event reply
 
   -- the change was refused; or memory ran out while the answer was written, and the change stands
   abbrev pub IsNotChanged : Held → Held → BookInput → ErrorCode → Type 0
   IsNotChanged old new asked reason =
       IsRefused origin name old new asked reason
-      ⊎ ((reason ≡ code.OutOfMemory) × ((receipt : Receipt) × Gains old new asked receipt))
+      ⊎ ((reason ≡ code.OutOfMemory) × ((receipt : Receipt) × Gains origin name old new (IsAsked asked) receipt))
 
   -- the call was answered: what it changed is the seat's next call in the one history, and what it read is what the
   -- history says at the entry of the reading

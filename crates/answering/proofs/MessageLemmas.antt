@@ -11,7 +11,6 @@ use Rattle.answering.specs.Answering.{Begins, IsNotBegun, IsNotRead, IsReply, Is
 use Rattle.answering.specs.Forwarding.{IsToForward, serve_receipt}
 use Rattle.answering.specs.Inner.Sent.{HasBegun, IsBegunOf, IsServedToForward, IsServedToRender}
 use Rattle.answering.specs.Rendering.{IsToRender, rendering_receipt}
-use Rattle.answering.specs.Served.{GainsServe}
 use Rattle.answering.specs.declared.begun.Begun.{Begun}
 use Rattle.answering.specs.declared.begun.Begun.TheVariants.{Answered, Refused, ToForward, ToRender}
 use Rattle.answering.specs.declared.forward.Forward.{Forward}
@@ -25,6 +24,8 @@ use Rattle.mock_request.specs.declared.error.SnapshotError.TheVariants as unread
 use Rattle.mock_request.specs.declared.snapshot.TheConstants.{BODY_LIMIT}
 use Rattle.request_journal.specs.Past.{Past}
 use Rattle.shared_book.specs.Held.{Held}
+use Rattle.shared_book.specs.Lent.{Gains}
+use Rattle.stub_book.specs.Growth.{IsServed}
 use Rattle.stub_response.specs.ErrorReply.{error_reply}
 use Rattle.stub_response.specs.declared.limits.Limits.{Limits}
 use Rattle.template_tree.specs.declared.escape.Escape.{Escape}
@@ -60,7 +61,8 @@ to_forward origin name old middle new message request forward same received with
   received = subst (IsReceived message) (sym is.1.0) received;
   within = within;
   no_admin_call = subst (λ (r : Request). ¬ (IsAdmin r.url)) (sym is.1.0) is.0;
-  served = subst (λ held. GainsServe origin name held new forward.request (serve_receipt forward)) same is.1.1;
+  served =
+      subst (λ held. Gains origin name held new (IsServed forward.request) (serve_receipt forward)) same is.1.1;
   names = subst (λ (r : Request). All (λ (h : Header). IsHeaderName h.name) r.headers) (sym is.1.0) names;
 }
 
@@ -75,7 +77,8 @@ to_render origin name limits old middle new message request rendering same recei
   received = subst (IsReceived message) (sym is.1.0) received;
   within = within;
   no_admin_call = subst (λ (r : Request). ¬ (IsAdmin r.url)) (sym is.1.0) is.0;
-  served = subst (λ held. GainsServe origin name held new rendering.request (rendering_receipt rendering)) same is.1.2;
+  served = subst (λ held. Gains origin name held new (IsServed rendering.request) (rendering_receipt rendering)) same
+      is.1.2;
   kept_to = is.1.1;
 }
 

@@ -1,5 +1,5 @@
 -- How a message is answered.
-use Rattle.std.specs.Prelude.{◌≡◌, ◌⊎◌, ◌<◌, ◌≤◌, ℕ, List, IfOk, Option, Result, length}
+use Rattle.std.specs.Prelude.{◌≡◌, ◌⊎◌, ◌<◌, ◌≤◌, ℕ, List, Option, length}
 use Rattle.admin_routes.specs.Routes.{IsAdmin}
 use Rattle.error_code.specs.declared.error_code.ErrorCode.{ErrorCode}
 use Rattle.error_code.specs.declared.error_code.ErrorCode.TheVariants.{BadUrl, OutOfMemory, TooLarge}
@@ -7,12 +7,11 @@ use Rattle.http.specs.Request.{body_of}
 use Rattle.http.specs.declared.request.Request.{Request as Message}
 use Rattle.http.specs.declared.response.Response.{Response}
 use Rattle.http_messages.specs.Received.{IsReceived, target_of}
-use Rattle.answering.specs.Forwarding.{IsFinished, IsToForward}
+use Rattle.answering.specs.Forwarding.{IsToForward}
 use Rattle.answering.specs.Rendering.{IsToRender}
 use Rattle.answering.specs.Reply.{IsResponseOf}
 use Rattle.answering.specs.declared.begun.Begun.{Begun}
 use Rattle.answering.specs.declared.begun.Begun.TheVariants.{Answered, Refused, ToForward, ToRender}
-use Rattle.answering.specs.declared.forward.Forward.{Forward}
 use Rattle.logbook.specs.Pages.{Book}
 use Rattle.mapping_model.specs.declared.reply.Reply.{Reply}
 use Rattle.mock_request.specs.Request.{Request}
@@ -20,11 +19,8 @@ use Rattle.mock_request.specs.Target.{HasUrl}
 use Rattle.mock_request.specs.declared.error.SnapshotError.{SnapshotError}
 use Rattle.mock_request.specs.declared.error.SnapshotError.TheVariants as unread
 use Rattle.mock_request.specs.declared.snapshot.TheConstants.{BODY_LIMIT}
-use Rattle.proxy_client.specs.Messages.{IsSomeReply}
-use Rattle.proxy_client.specs.declared.error.ProxyError.{ProxyError}
 use Rattle.request_journal.specs.Past.{Past}
 use Rattle.shared_book.specs.Held.{Held}
-use Rattle.shared_book.specs.Seen.{HasMadeNoCall}
 use Rattle.answering.specs.Admin.{IsAdminAnswered}
 use Rattle.answering.specs.Served.{IsServedWith, IsNotServed}
 use Rattle.stub_response.specs.ErrorReply.{error_reply}
@@ -92,28 +88,3 @@ Begins origin name limits escape page old new message (ToForward forward) =
     IsToForward origin name old new message forward
 Begins origin name limits escape page old new message (ToRender rendering) =
     IsToRender origin name limits old new message rendering
-
--- the message was forwarded after the first of its events, and this is the response to what came of that
-pub record IsAnsweredLater (origin : Past) (name : Book) (old new : Held) (message : Message (List ℕ))
-    (response : Response (List ℕ)) : Type 0 where
-  pub middle : Held
-  pub forward : Forward
-  pub forwarded : Result Reply ProxyError
-  pub begun : IsToForward origin name old middle message forward
-  pub some_reply : IfOk forwarded IsSomeReply
-  pub finished : IsFinished origin name middle new forward forwarded response
-
--- the response to a message, and what the seat has gained by it
-abbrev pub IsAnswered : Past → Book → Limits → Escape → Option (List ℕ) → Held → Held → Message (List ℕ)
-    → Response (List ℕ) → Type 0
-IsAnswered origin name limits escape page old new message response =
-    IsBegun origin name limits escape page old new message response
-    ⊎ IsAnsweredLater origin name old new message response
-
--- there is none, and the seat is as a reply leaves it, or has made no call since the first event of what is to be
--- forwarded
-abbrev pub IsNotAnswered : Past → Book → Limits → Escape → Option (List ℕ) → Held → Held → Message (List ℕ) → Type 0
-IsNotAnswered origin name limits escape page old new message =
-    IsNotBegun origin name limits escape page old new message
-    ⊎ ((forward : Forward) × (middle : Held) × IsToForward origin name old middle message forward
-    × HasMadeNoCall origin name middle new)

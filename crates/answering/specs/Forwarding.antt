@@ -1,10 +1,8 @@
 -- How a request is answered that is forwarded to the target of a recording: with the reply of the target,
 -- which is recorded.
 use Rattle.std.specs.Prelude.{◌≡◌, ◌⊎◌, ◌≤◌, ℕ, Bool, List, Ok, Err, Result, false, if◌then◌else◌, length, true, All}
-use Rattle.admin_answers.specs.Answers.{Gains}
 use Rattle.admin_routes.specs.Routes.{IsAdmin}
 use Rattle.answering.specs.Reply.{IsResponseOf}
-use Rattle.answering.specs.Served.{GainsServe}
 use Rattle.answering.specs.declared.forward.Forward.{Forward}
 use Rattle.error_code.specs.declared.error_code.ErrorCode.{ErrorCode}
 use Rattle.error_code.specs.declared.error_code.ErrorCode.TheVariants as code
@@ -18,15 +16,18 @@ use Rattle.mapping_model.specs.declared.reply.Reply.{Reply}
 use Rattle.mock_request.specs.declared.snapshot.TheConstants.{BODY_LIMIT}
 use Rattle.proxy_client.specs.declared.error.ProxyError.{ProxyError}
 use Rattle.proxy_client.specs.declared.error.ProxyError.TheVariants.{UpstreamFailed, OutOfMemory}
+use Rattle.request_journal.specs.Input.{IsAsked}
 use Rattle.request_journal.specs.Past.{Past}
 use Rattle.request_journal.specs.declared.event.Event.TheVariants as event
 use Rattle.request_journal.specs.declared.event.ServeAnswer.TheVariants.{Proxy}
 use Rattle.request_journal.specs.declared.input.BookInput.{BookInput}
 use Rattle.request_journal.specs.declared.input.BookInput.TheVariants as input
 use Rattle.shared_book.specs.Held.{Held}
+use Rattle.shared_book.specs.Lent.{Gains}
 use Rattle.shared_book.specs.Refused.{IsRefused}
 use Rattle.shared_book.specs.Seen.{HasMadeNoCall}
 use Rattle.shared_book.specs.declared.receipt.Receipt.{Receipt}
+use Rattle.stub_book.specs.Growth.{IsServed}
 use Rattle.stub_response.specs.ErrorReply.{error_reply}
 
 -- the receipt of the serve of what is to be forwarded
@@ -41,7 +42,7 @@ pub record IsToForward (origin : Past) (name : Book) (old new : Held) (message :
   pub received : IsReceived message forward.request
   pub within : length (body_of message) ≤ BODY_LIMIT
   pub no_admin_call : ¬ (IsAdmin forward.request.url)
-  pub served : GainsServe origin name old new forward.request (serve_receipt forward)
+  pub served : Gains origin name old new (IsServed forward.request) (serve_receipt forward)
   -- as those of each received request
   pub names : All (λ header. IsHeaderName header.name) forward.request.headers
 
@@ -66,7 +67,7 @@ reply_unrecorded sent reason = if is_not_taken reason then sent else error_reply
 -- record; or memory ran out, and nothing is recorded
 abbrev pub IsRecordReply : Past → Book → Held → Held → BookInput → Reply → Reply → Type 0
 IsRecordReply origin name old new asked sent reply =
-    ((reply ≡ sent) × ((receipt : Receipt) × Gains origin name old new asked receipt))
+    ((reply ≡ sent) × ((receipt : Receipt) × Gains origin name old new (IsAsked asked) receipt))
     ⊎ (((reason : ErrorCode) × IsRefused origin name old new asked reason
     × (reply ≡ reply_unrecorded sent reason))
     ⊎ (HasMadeNoCall origin name old new × (reply ≡ error_reply 503 code.OutOfMemory)))

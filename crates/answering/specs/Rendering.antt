@@ -3,7 +3,6 @@ use Rattle.std.specs.Prelude.{◌≡◌, ◌⊎◌, ◌≤◌, ℕ, Err, List, O
 use Rattle.std.specs.declared.alloc.AllocError.{AllocError}
 use Rattle.admin_routes.specs.Routes.{IsAdmin}
 use Rattle.answering.specs.Reply.{IsResponseOf}
-use Rattle.answering.specs.Served.{GainsServe}
 use Rattle.answering.specs.declared.rendering.Rendering.{Rendering}
 use Rattle.error_code.specs.declared.error_code.ErrorCode.TheVariants.{OutOfMemory}
 use Rattle.http.specs.Request.{body_of}
@@ -17,7 +16,9 @@ use Rattle.request_journal.specs.Past.{Past}
 use Rattle.request_journal.specs.declared.event.Event.TheVariants as event
 use Rattle.request_journal.specs.declared.event.ServeAnswer.TheVariants.{Stub}
 use Rattle.shared_book.specs.Held.{Held}
+use Rattle.shared_book.specs.Lent.{Gains}
 use Rattle.shared_book.specs.declared.receipt.Receipt.{Receipt}
+use Rattle.stub_book.specs.Growth.{IsServed}
 use Rattle.stub_response.specs.ErrorReply.{error_reply}
 use Rattle.stub_response.specs.Response.{IsRendering}
 use Rattle.stub_response.specs.declared.limits.Limits.{Limits}
@@ -34,7 +35,7 @@ pub record IsToRender (origin : Past) (name : Book) (limits : Limits) (old new :
   pub received : IsReceived message rendering.request
   pub within : length (body_of message) ≤ BODY_LIMIT
   pub no_admin_call : ¬ (IsAdmin rendering.request.url)
-  pub served : GainsServe origin name old new rendering.request (rendering_receipt rendering)
+  pub served : Gains origin name old new (IsServed rendering.request) (rendering_receipt rendering)
   pub kept_to : rendering.limits ≡ limits
 
 -- the reply of that very version to that very request

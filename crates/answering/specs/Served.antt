@@ -10,9 +10,9 @@ use Rattle.request_journal.specs.declared.event.Event.{Event}
 use Rattle.request_journal.specs.declared.event.Event.TheVariants as event
 use Rattle.request_journal.specs.declared.event.ServeAnswer.{ServeAnswer}
 use Rattle.request_journal.specs.declared.event.ServeAnswer.TheVariants.{Stub, Proxy, Unmatched}
-use Rattle.shared_book.specs.Held.{Gained, Held}
+use Rattle.shared_book.specs.Held.{Held}
+use Rattle.shared_book.specs.Lent.{Gains}
 use Rattle.shared_book.specs.Refused.{IsServeRefused}
-use Rattle.shared_book.specs.Seen.{Enters}
 use Rattle.shared_book.specs.declared.receipt.Receipt.{Receipt}
 use Rattle.stub_book.specs.Growth.{IsServed}
 use Rattle.stub_response.specs.ErrorReply.{unmatched_reply}
@@ -30,20 +30,13 @@ abbrev pub IsEventReply : Limits → Event → Reply → Type 0
 IsEventReply limits (event.Serve request answer) reply = IsServeReply limits request answer reply
 IsEventReply limits other reply = ⊥
 
--- the serve of this request is the seat's next call in the one history, and the seat has gained its receipt
-pub record GainsServe (origin : Past) (name : Book) (old new : Held) (request : Request) (receipt : Receipt)
-    : Type 0 where
-  pub gained : Gained origin old receipt new
-  pub served : IsServed request receipt.event
-  pub entered : Enters origin name old new receipt
-
 -- the request was served, and this is the reply by the event in its receipt
 abbrev pub IsServedWith : Past → Book → Limits → Held → Held → Request → Reply → Type 0
 IsServedWith origin name limits old new request reply =
-    (receipt : Receipt) × GainsServe origin name old new request receipt × IsEventReply limits receipt.event reply
+    (receipt : Receipt) × Gains origin name old new (IsServed request) receipt × IsEventReply limits receipt.event reply
 
 -- the request wasn't served; or memory ran out while its reply was made, and the serve stands
 abbrev pub IsNotServed : Past → Book → Held → Held → Request → ErrorCode → Type 0
 IsNotServed origin name old new request reason =
     IsServeRefused origin name old new reason
-    ⊎ ((reason ≡ OutOfMemory) × ((receipt : Receipt) × GainsServe origin name old new request receipt))
+    ⊎ ((reason ≡ OutOfMemory) × ((receipt : Receipt) × Gains origin name old new (IsServed request) receipt))

@@ -8,7 +8,6 @@
 #![tactic(auto)]
 
 mod admin_answer;
-pub mod answer;
 pub mod begin;
 mod begin_event;
 mod begin_message;

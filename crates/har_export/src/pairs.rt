@@ -4,12 +4,12 @@ ghost use Rattle.har_export.specs.Pairs.{json_of_pair, json_of_pairs, first_name
 ghost use Rattle.har_export.specs.Pairs.{cookies_set};
 ghost use Rattle.mock_request.specs.Cookies.{is_semicolon};
 ghost use Rattle.std.specs.List.{before_first};
-ghost use Rattle.std.specs.Str.{str_eq_ignore_ascii_case};
 ghost use Rattle.mock_request.specs.Values.{pair_of, pairs_of};
 ghost use Rattle.serde_json.specs.View.{view};
 
 use mapping_model::reply::ReplyHeader;
 use mock_request::cookies::{cookie_in, without_spaces_around};
+use recorder::key::is_named;
 use serde_json::{Map, Value};
 use std::alloc::{AllocError, Global};
 
@@ -44,18 +44,11 @@ pub(crate) fn first_named<'a>(
     ensures { result.now ≡ first_named name.now default.now (pairs_of pairs.now) }
 {
     for (other, value) in pairs {
-        if is_named(name, other.as_str()) {
+        if is_named(other.as_str(), name) {
             return value.as_str();
         }
     }
     default
-}
-
-// Names of headers have no case.
-fn is_named(name: &str, other: &str) -> bool
-    ensures { result ≡ str_eq_ignore_ascii_case name.now other.now }
-{
-    name.eq_ignore_ascii_case(other)
 }
 
 /// The headers of a reply as names and texts.
@@ -109,7 +102,7 @@ fn push_cookie(
 fn cookie_set(pair: &(String, String)) -> Option<(&str, &str)>
     ensures { option_map (λ cookie. (cookie.0.now, cookie.1.now)) result ≡ cookie_set (pair_of pair.now) }
 {
-    if !is_named("set-cookie", pair.0.as_str()) {
+    if !is_named(pair.0.as_str(), "set-cookie") {
         return None;
     }
     cookie_in(without_spaces_around(before_semicolon(pair.1.as_str())))

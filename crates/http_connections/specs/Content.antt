@@ -20,7 +20,9 @@ use Rattle.http_connections.specs.declared.gathering.Gathering.{Gathering}
 use Rattle.mock_request.specs.declared.snapshot.TheConstants.{BODY_LIMIT}
 
 module _ {E : Type 0} (source : Runs (Result (Frame (List ℕ)) E)) (held : List ℕ) where
-  -- a body gave frames and no error up to its end, and this content is what was held, with their data after it
+  -- A body gave frames and no error up to its end, and this content is what was held, with their data after it.
+  -- (`Gathers` of `proxy_client` says this of a target's reply, whose data needn't be bytes, with the limit: one that
+  -- is too long ends its exchange.)
   pub record Gathers (content : List ℕ) : Type 0 where
     pub frames : List (Frame (List ℕ))
     pub came : source (map Ok frames) None

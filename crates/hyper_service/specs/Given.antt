@@ -3,7 +3,6 @@
 use Rattle.std.specs.Prelude.{◌≡◌, ◌⊎◌, ℕ, List, IfOk, IsErr, IsSome, Option, Result, Some}
 use Rattle.std.specs.Arc.{arc_value}
 use Rattle.std.specs.declared.alloc.AllocError.{AllocError}
-use Rattle.admin_answers.specs.Answers.{Gains}
 use Rattle.answering.specs.Answering.{IsBegun, IsNotBegun}
 use Rattle.answering.specs.Forwarding.{IsFinished, IsToForward}
 use Rattle.answering.specs.Rendering.{IsRenderedReply, IsToRender}
@@ -21,9 +20,11 @@ use Rattle.mapping_model.specs.declared.reply.Reply.{Reply}
 use Rattle.mock_request.specs.Request.{Request}
 use Rattle.proxy_client.specs.Messages.{IsSomeReply}
 use Rattle.proxy_client.specs.declared.error.ProxyError.{ProxyError}
+use Rattle.request_journal.specs.Input.{IsAsked}
 use Rattle.request_journal.specs.Past.{Past}
 use Rattle.request_journal.specs.declared.input.BookInput.TheVariants.{ClearJournal}
 use Rattle.shared_book.specs.Held.{Held}
+use Rattle.shared_book.specs.Lent.{Gains}
 use Rattle.shared_book.specs.Seen.{HasMadeNoCall}
 use Rattle.shared_book.specs.declared.receipt.Receipt.{Receipt}
 use Rattle.stub_response.specs.declared.limits.Limits.{Limits}
@@ -57,7 +58,7 @@ abbrev pub IsKept : Option ℕ → Past → Book → Held → Held → Type 0
 IsKept limit origin name old new =
     (new ≡ old)
     ⊎ (IsSome limit × (HasMadeNoCall origin name old new
-    ⊎ ((receipt : Receipt) × Gains origin name old new ClearJournal receipt)))
+    ⊎ ((receipt : Receipt) × Gains origin name old new (IsAsked ClearJournal) receipt)))
 
 module _ (rules : SiteRules) where
   -- the message was answered at once

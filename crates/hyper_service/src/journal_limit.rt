@@ -1,8 +1,9 @@
 // A journal that the server itself clears once it shows as many requests as it may.
 ghost use Rattle.std.specs.Prelude.{◌≡◌, IsFalse, IsSome, IsTrue};
-ghost use Rattle.admin_answers.specs.Answers.{Gains};
 ghost use Rattle.hyper_service.specs.Given.{IsKept};
+ghost use Rattle.request_journal.specs.Input.{IsAsked};
 ghost use Rattle.request_journal.specs.declared.input.BookInput.TheVariants.{ClearJournal as Cleared};
+ghost use Rattle.shared_book.specs.Lent.{Gains};
 ghost use Rattle.shared_book.specs.Seen.{HasMadeNoCall};
 
 use crate::outcome::Outcome;
@@ -66,7 +67,8 @@ impl JournalLimit {
 
 // Clears the journal, if that isn't refused.
 fn clear<L: Origin, R: Wait>(rt: &R, book: &SharedBook<L>, seat: &mut Seat<L>) -> bool
-    ensures cleared { IsTrue result → (receipt : _) × Gains L.origin L.book seat.old seat.new Cleared receipt }
+    ensures cleared { IsTrue result →
+        (receipt : _) × Gains L.origin L.book seat.old seat.new (IsAsked Cleared) receipt }
     ensures refused { IsFalse result → HasMadeNoCall L.origin L.book seat.old seat.new }
 {
     match seat.apply(rt, book, BookInput::ClearJournal) {

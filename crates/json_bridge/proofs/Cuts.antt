@@ -7,7 +7,7 @@ use Rattle.std.proofs.lemmas.Bool.Decides.{nat_tests}
 use Rattle.std.proofs.lemmas.Str.{IsCharBoundary-start, IsCharBoundary-after_ascii}
 use Rattle.std.specs.List.{list_all}
 use Rattle.json_bridge.specs.Inner.NextStep.{after_byte, cut_at, name_at, after_name}
-use Rattle.json_bridge.specs.Path.{is_name_byte}
+use Rattle.json_bridge.specs.Path.{is_step_byte}
 
 pub not_true : (t : Bool) → not t ≡ true → t ≡ false
 not_true true e = sym e
@@ -75,22 +75,22 @@ name_first false b bs name past e = refl
 
 pub name_at_split : (s : List ℕ) → s ≡ name_at s ++ after_name s
 name_at_split [] = refl
-name_at_split (b ∷ bs) = name_first (is_name_byte b) b bs (name_at bs) (after_name bs) (name_at_split bs)
+name_at_split (b ∷ bs) = name_first (is_step_byte b) b bs (name_at bs) (after_name bs) (name_at_split bs)
 
-all_first : (t : Bool) (b : ℕ) (name : List ℕ) → is_name_byte b ≡ t → list_all is_name_byte name ≡ true
-    → list_all is_name_byte (cond t (b ∷ name) []) ≡ true
-all_first true b name is h = and_from (is_name_byte b) (list_all is_name_byte name) is h
+all_first : (t : Bool) (b : ℕ) (name : List ℕ) → is_step_byte b ≡ t → list_all is_step_byte name ≡ true
+    → list_all is_step_byte (cond t (b ∷ name) []) ≡ true
+all_first true b name is h = and_from (is_step_byte b) (list_all is_step_byte name) is h
 all_first false b name is h = refl
 
-pub name_at_all : (s : List ℕ) → list_all is_name_byte (name_at s) ≡ true
+pub name_at_all : (s : List ℕ) → list_all is_step_byte (name_at s) ≡ true
 name_at_all [] = refl
-name_at_all (b ∷ bs) = all_first (is_name_byte b) b (name_at bs) refl (name_at_all bs)
+name_at_all (b ∷ bs) = all_first (is_step_byte b) b (name_at bs) refl (name_at_all bs)
 
-pub name_at-append : (name rest : List ℕ) → list_all is_name_byte name ≡ true → name_at rest ≡ []
+pub name_at-append : (name rest : List ℕ) → list_all is_step_byte name ≡ true → name_at rest ≡ []
     → name_at (name ++ rest) ≡ name
 name_at-append [] rest h stop = stop
 name_at-append (b ∷ name) rest h stop =
-    let p = and_parts (is_name_byte b) (list_all is_name_byte name) h in
+    let p = and_parts (is_step_byte b) (list_all is_step_byte name) h in
     rw p.0 (ap (λ x. b ∷ x) (name_at-append name rest p.1 stop))
 
 stops_here : (t : Bool) (b : ℕ) (bs : List ℕ) → cond t (b ∷ name_at bs) [] ≡ []
@@ -100,19 +100,19 @@ stops_here false b bs e = refl
 
 past_stop : (rest : List ℕ) → name_at rest ≡ [] → after_name rest ≡ rest
 past_stop [] e = refl
-past_stop (b ∷ bs) e = stops_here (is_name_byte b) b bs e
+past_stop (b ∷ bs) e = stops_here (is_step_byte b) b bs e
 
-pub after_name-append : (name rest : List ℕ) → list_all is_name_byte name ≡ true → name_at rest ≡ []
+pub after_name-append : (name rest : List ℕ) → list_all is_step_byte name ≡ true → name_at rest ≡ []
     → after_name (name ++ rest) ≡ rest
 after_name-append [] rest h stop = past_stop rest stop
 after_name-append (b ∷ name) rest h stop =
-    let p = and_parts (is_name_byte b) (list_all is_name_byte name) h in
+    let p = and_parts (is_step_byte b) (list_all is_step_byte name) h in
     rw p.0 (after_name-append name rest p.1 stop)
 
-pub name_byte_ascii : (b : ℕ) → is_name_byte b ≡ true → b < 128
+pub name_byte_ascii : (b : ℕ) → is_step_byte b ≡ true → b < 128
 name_byte_ascii b h = grind (arith, nat_tests)
 
-within_name : (t : Bool) (b : ℕ) (bs : List ℕ) (k : ℕ) → is_name_byte b ≡ t
+within_name : (t : Bool) (b : ℕ) (bs : List ℕ) (k : ℕ) → is_step_byte b ≡ t
     → ((i : ℕ) → i < length (name_at bs) → (i < length bs) × (get_or bs i 0 < 128))
     → k < length (cond t (b ∷ name_at bs) []) → (k < length (b ∷ bs)) × (get_or (b ∷ bs) k 0 < 128)
 within_name true b bs zero is more h = (omega arith, name_byte_ascii b is)
@@ -121,7 +121,7 @@ within_name false b bs k is more h = absurd (omega (arith, h))
 
 name_byte_at : (s : List ℕ) (k : ℕ) → k < length (name_at s) → (k < length s) × (get_or s k 0 < 128)
 name_byte_at [] k h = absurd (omega (arith, h))
-name_byte_at (b ∷ bs) k h = within_name (is_name_byte b) b bs k refl (name_byte_at bs) h
+name_byte_at (b ∷ bs) k h = within_name (is_step_byte b) b bs k refl (name_byte_at bs) h
 
 boundary_at : (s : List ℕ) (n : ℕ) → IsUtf8 s → n ≡ length (name_at s) → IsCharBoundary s n
 boundary_at s zero utf8 e = IsCharBoundary-start s utf8

@@ -14,7 +14,7 @@ use Rattle.data_tree.proofs.Indexes.{index_below, index_decimal, decimal_digits,
 use Rattle.data_tree.proofs.Indexes.{decimal_value}
 use Rattle.json_bridge.specs.Inner.NextStep.{name_at, after_name, cut_at, after_byte, dotted, quoted, index_before}
 use Rattle.json_bridge.specs.Inner.NextStep.{indexed, bracketed, next_step}
-use Rattle.json_bridge.specs.Path.{is_name_byte, SpellsStep, SpellsSteps}
+use Rattle.json_bridge.specs.Path.{is_step_byte, SpellsStep, SpellsSteps}
 use Rattle.json_bridge.proofs.Cuts.{lacks, cut_at_own, cut_at_split, after_byte_split, some_same, none_some}
 use Rattle.json_bridge.proofs.Cuts.{name_at_split, name_at_all, name_at-append, after_name-append}
 use Rattle.json_bridge.proofs.Indexes.{digits_lack, no_quote_first}
@@ -117,7 +117,7 @@ stops (Name name ∷ steps) s h = elim h.3 [
 ]
 stops (Index n ∷ steps) s h = ap name_at (h.2 ∙ ap (λ x. x ++ h.1) h.3.0)
 
-dotted_found : (name rest : List ℕ) → 0 < length name → list_all is_name_byte name ≡ true
+dotted_found : (name rest : List ℕ) → 0 < length name → list_all is_step_byte name ≡ true
     → name_at rest ≡ [] → dotted (name ++ rest) ≡ Some (Name name, rest)
 dotted_found name rest some all stop =
     rw (name_at-append name rest all stop, after_name-append name rest all stop, lt-ltb 0 (length name) some) refl

@@ -38,13 +38,13 @@ underscore = 95
 abbrev pub hyphen : ℕ
 hyphen = 45
 
--- an ASCII letter, a digit, `_` or `-`
-abbrev pub is_name_byte : ℕ → Bool
-is_name_byte b = is_ascii_alphanumeric b || (b == underscore) || (b == hyphen)
+-- what a step's name is made of after a `.`: an ASCII letter or digit, `_` or `-`
+abbrev pub is_step_byte : ℕ → Bool
+is_step_byte b = is_ascii_alphanumeric b || (b == underscore) || (b == hyphen)
 
 -- `.name`, with a name of at least one such byte
 abbrev pub IsDotted : List ℕ → List ℕ → Type 0
-IsDotted name s = (s ≡ dot ∷ name) × (0 < length name) × IsTrue (list_all is_name_byte name)
+IsDotted name s = (s ≡ dot ∷ name) × (0 < length name) × IsTrue (list_all is_step_byte name)
 
 -- `['text']`, with any text that has no `'`
 abbrev pub IsQuoted : List ℕ → List ℕ → Type 0

@@ -1,6 +1,6 @@
 // The step that a text begins with.
 ghost use Rattle.std.specs.Prelude.{◌≡◌, ◌<◌, length, IfOk};
-ghost use Rattle.json_bridge.specs.Path.{is_name_byte};
+ghost use Rattle.json_bridge.specs.Path.{is_step_byte};
 ghost use Rattle.json_bridge.specs.Inner.NextStep.{name_at, cut_at, after_byte, step_view, part_view, parts_view};
 ghost use Rattle.json_bridge.specs.Inner.NextStep.{dotted, quoted, indexed, bracketed, next_step, found_view};
 
@@ -43,8 +43,8 @@ fn cut_at(text: &str, mark: char) -> Option<(&str, &str)>
     text.split_once(mark)
 }
 
-fn is_name_byte(byte: u8) -> bool
-    ensures { result ≡ is_name_byte byte }
+fn is_step_byte(byte: u8) -> bool
+    ensures { result ≡ is_step_byte byte }
 {
     byte.is_ascii_alphanumeric() || byte == b'_' || byte == b'-'
 }
@@ -54,7 +54,7 @@ fn name_length(text: &[u8]) -> usize
 {
     let mut rest = text;
     while let [byte, after @ ..] = rest {
-        if !is_name_byte(*byte) {
+        if !is_step_byte(*byte) {
             return text.len() - rest.len();
         }
         rest = after;

@@ -76,7 +76,7 @@ fn total_with(alloc: Global, total: &Totals, program: &Program) -> Result<Totals
     })
 }
 
-/// The sum, coefficient by coefficient.
+/// The sum, coefficient by coefficient, which `sum` makes. That it grows is shown of that clause, apart from the loop.
 fn plus(alloc: Global, total: &[u128], list: &[u64]) -> Result<Vec<u128>, AllocError>
     requires { IsWithin HEADER_LIMIT total.now }
     ensures sum { IfOk result (λ sum. sum.items ≡ plus total.now list.now) }

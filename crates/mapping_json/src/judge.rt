@@ -1,4 +1,6 @@
-// Whether a value spells a mapping, where no more is wanted of it than its response: no mapping is made.
+// Whether a value spells a mapping, where no more is wanted of it than its response, as in `mock check`. `read_value`
+// makes a mapping of the same fields; here none is made, so no name or scenario is copied, and no matcher is built
+// where there is no `request`.
 ghost use Rattle.std.specs.Prelude.{◌≡◌, true, None, codes, is_some, IfOk, IfErr};
 ghost use Rattle.mapping_json.specs.Inner.Wrongs.{alone, joined, misshapen_kind, wrong_field, wrong_fields, wrong_list};
 ghost use Rattle.mapping_json.specs.Inner.Wrongs.{wrong_of, wrong_scenario, wrong_text};

@@ -21,9 +21,9 @@ opening_brace = 123
 abbrev pub closing_brace : ℕ
 closing_brace = 125
 
--- an ASCII letter or digit, `_` or `-`
-abbrev pub is_name_byte : ℕ → Bool
-is_name_byte b = is_ascii_alphanumeric b || ((b == 95) || (b == 45))
+-- what a parameter's name is made of: an ASCII letter or digit, `_` or `-`
+abbrev pub is_parameter_byte : ℕ → Bool
+is_parameter_byte b = is_ascii_alphanumeric b || ((b == 95) || (b == 45))
 
 abbrev pub is_not_empty : List ℕ → Bool
 is_not_empty [] = false
@@ -31,7 +31,7 @@ is_not_empty (b ∷ bs) = true
 
 -- not empty, and of such bytes alone
 abbrev pub is_name : List ℕ → Bool
-is_name text = is_not_empty text && list_all is_name_byte text
+is_name text = is_not_empty text && list_all is_parameter_byte text
 
 abbrev pub braced : List ℕ → List ℕ
 braced name = opening_brace ∷ (name ++ closing_brace ∷ [])

@@ -3,7 +3,7 @@ ghost use Rattle.std.specs.Prelude.{◌≡◌, ◌∷◌, [], MatchOption, optio
 ghost use Rattle.std.specs.List.{list_all};
 ghost use Rattle.mock_request.specs.Target.{IsRooted};
 ghost use Rattle.mock_request.specs.Url.{segments_of};
-ghost use Rattle.path_template.specs.Template.{name_in, is_name, is_name_byte};
+ghost use Rattle.path_template.specs.Template.{name_in, is_name, is_parameter_byte};
 ghost use Rattle.path_template.specs.Inner.Walks.{left_of};
 
 /// The segments of a path that are left.
@@ -57,13 +57,13 @@ fn is_name(text: &str) -> bool
 }
 
 fn has_name_bytes(text: &str) -> bool
-    ensures { result ≡ list_all is_name_byte text.now }
+    ensures { result ≡ list_all is_parameter_byte text.now }
 {
-    text.as_bytes().iter().all(|byte| is_name_byte(*byte))
+    text.as_bytes().iter().all(|byte| is_parameter_byte(*byte))
 }
 
-fn is_name_byte(byte: u8) -> bool
-    ensures { result ≡ is_name_byte byte }
+fn is_parameter_byte(byte: u8) -> bool
+    ensures { result ≡ is_parameter_byte byte }
 {
     byte.is_ascii_alphanumeric() || byte == b'_' || byte == b'-'
 }

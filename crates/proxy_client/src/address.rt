@@ -1,10 +1,10 @@
 // The address of a target.
-ghost use Rattle.std.specs.Prelude.{◌≡◌, ◌≢◌, ℕ, List, ◌++◌, codes, MatchOption};
+ghost use Rattle.std.specs.Prelude.{◌≡◌, ℕ, List, ◌++◌, codes, MatchOption};
 ghost use Rattle.std.specs.Net.Grammar.{IsIpv6Text};
 ghost use Rattle.recorder.specs.Target.{IsBracketed, IsHost};
 ghost use Rattle.proxy_client.specs.Address.{IsAddressOf, IsIpOf};
 
-use recorder::target::Target;
+use recorder::target::{Target, in_brackets};
 use std::net::{IpAddr, Ipv4Addr, Ipv6Addr, SocketAddr};
 
 /// The address of a target; each target has one.
@@ -42,11 +42,4 @@ fn bracketed_ip(host: &str) -> Option<Ipv6Addr>
         Ok(address) => Some(address),
         Err(_error) => None,
     }
-}
-
-fn in_brackets(host: &str) -> Option<&str>
-    ensures { MatchOption result ((inner : List ℕ) → host.now ≢ codes "[" ++ (inner ++ codes "]"))
-        (λ inner. host.now ≡ codes "[" ++ (inner.now ++ codes "]")) }
-{
-    host.strip_prefix('[')?.strip_suffix(']')
 }

@@ -4,6 +4,7 @@ ghost use Rattle.recorder.specs.Forwarding.{target_authority};
 ghost use Rattle.recorder.specs.Target.{IsTarget, after_scheme, target_host, target_port, target_prefix};
 
 use crate::error::RecordingError;
+pub use crate::target_text::in_brackets;
 use crate::target_text::{after_scheme, is_target, path, split_prefix, without_last_slash};
 use mock_request::authority::host_and_port;
 use plain_text::plain::{Same, TryClone};

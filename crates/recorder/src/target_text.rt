@@ -83,7 +83,8 @@ fn is_bracketed(host: &str) -> bool
     matches!(in_brackets(host), Some(inner) if is_ipv6(inner))
 }
 
-fn in_brackets(host: &str) -> Option<&str>
+/// What is between the brackets that the host is in, if it is.
+pub fn in_brackets(host: &str) -> Option<&str>
     ensures { MatchOption result ((inner : List ℕ) → host.now ≢ codes "[" ++ (inner ++ codes "]"))
         (λ inner. host.now ≡ codes "[" ++ (inner.now ++ codes "]")) }
 {

@@ -8,6 +8,7 @@ use mock_request::snapshot::Snapshot;
 use request_journal::mapping::Mapping;
 use request_match::error::RequestMatchError;
 use request_match::parsed_request::ParsedRequest;
+use request_match::request_matcher::meets_method;
 use request_match::url_test::UrlTest;
 use scenario_core::scenarios::Scenarios;
 use std::alloc::{AllocError, Global};
@@ -102,11 +103,7 @@ fn is_of_request(
     request: &ParsedRequest<'_>,
 ) -> Result<bool, RequestMatchError> {
     let wanted = &mapping.spec.spec().request;
-    let is_method = match &wanted.method {
-        Some(method) => method.as_str() == request.method() || method.as_str() == "ANY",
-        None => true,
-    };
-    if !is_method {
+    if !meets_method(&wanted.method, request.method()) {
         return Ok(false);
     }
     let mut url = UrlTest::build(alloc, &wanted.url)?;

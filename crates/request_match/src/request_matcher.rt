@@ -121,7 +121,8 @@ impl Drop for RequestMatcher {
     }
 }
 
-fn meets_method(wanted: &Option<Text>, method: &str) -> bool
+/// Whether the method is the wanted one. `ANY` stands for each.
+pub fn meets_method(wanted: &Option<Text>, method: &str) -> bool
     ensures { IsTrue result ↔ MeetsMethod wanted.now method.now }
 {
     match wanted {

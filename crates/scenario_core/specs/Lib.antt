@@ -1,4 +1,2 @@
 pub mod Scenarios
-pub mod Known
-pub mod Errors
 pub mod Inner

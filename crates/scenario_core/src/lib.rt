@@ -1,8 +1,6 @@
-// The states of scenarios: which state each is in, and the calls that move, set and reset them.
-// Its contracts cite `specs/Scenarios.antt` (a scenario's state) and `specs/Known.antt` (known scenarios and states).
+// The states of scenarios: which state each is in, and the calls that move and reset them.
+// Its contracts cite `specs/Scenarios.antt` (a scenario's state).
 #![tactic(auto)]
 
 mod entries;
-pub mod error;
-pub mod known;
 pub mod scenarios;

@@ -1,12 +1,9 @@
 // The state of each scenario.
-ghost use Rattle.std.specs.Prelude.{◌≡◌, ◌↔◌, IfOk, OnOk, OnErr, IsErr, IsErrOf};
+ghost use Rattle.std.specs.Prelude.{◌≡◌, IfOk, OnOk, OnErr};
 ghost use Rattle.std.specs.FinMap as fin_map;
 ghost use Rattle.scenario_core.specs.Scenarios.{started, state_of, MovesTo, AreAllStarted};
-ghost use Rattle.scenario_core.specs.Known.{IsKnown, HasState};
 
 use crate::entries::{Entry, search};
-use crate::error::ScenarioError;
-use crate::known::{KnownState, has_state, is_known};
 use std::alloc::{AllocError, Global};
 use std::marker::Model;
 
@@ -84,50 +81,6 @@ impl Scenarios {
                 Ok(self.entries.insert(at, Entry { name, state })?)
             }
         }
-    }
-
-    /// Sets a known scenario to one of its states.
-    pub fn set(
-        &mut self,
-        alloc: Global,
-        name: &str,
-        state: &str,
-        known: &[KnownState<'_>],
-    ) -> Result<(), ScenarioError>
-        ensures ok { OnOk result (MovesTo self.old self.new name.now state.now
-            × HasState known.now name.now state.now) }
-        ensures err { OnErr result (self.new ≡ self.old) }
-
-        // An unknown scenario is reported before an unknown state.
-        ensures unknown_scenario { IsErrOf result ScenarioError.UnknownScenario
-            ↔ ¬ (IsKnown known.now name.now) }
-        ensures unknown_state { IsErrOf result ScenarioError.UnknownState
-            ↔ (IsKnown known.now name.now × ¬ (HasState known.now name.now state.now)) }
-    {
-        if !is_known(known, name) {
-            return Err(ScenarioError::UnknownScenario);
-        }
-        if !has_state(known, name, state) {
-            return Err(ScenarioError::UnknownState);
-        }
-        self.move_to(alloc, name, state)?;
-        Ok(())
-    }
-
-    /// Sets a known scenario back to `STARTED`. Takes no memory.
-    pub fn reset_one(&mut self, name: &str, known: &[KnownState<'_>]) -> Result<(), ScenarioError>
-        ensures ok { OnOk result (MovesTo self.old self.new name.now started
-            × IsKnown known.now name.now) }
-        ensures err { OnErr result (self.new ≡ self.old) }
-        ensures unknown { IsErr result → IsErrOf result ScenarioError.UnknownScenario }
-        ensures unknown_scenario { IsErrOf result ScenarioError.UnknownScenario
-            ↔ ¬ (IsKnown known.now name.now) }
-    {
-        if !is_known(known, name) {
-            return Err(ScenarioError::UnknownScenario);
-        }
-        self.start(name);
-        Ok(())
     }
 
     /// Sets every scenario back to `STARTED`. Takes no memory.

@@ -6,7 +6,7 @@ use Rattle.std.proofs.lemmas.List.Concat.{flat_map-append}
 use Rattle.std.proofs.lemmas.List.Elements.{All-append, All-nil, All-weaker, filter-append}
 use Rattle.std.specs.List.{AllZip}
 use Rattle.shared_book.specs.Held.{Held, LetsGo, all_numbers, all_parts, filled, is_filled, receipts_of}
-use Rattle.shared_book.specs.Inner.Gains.{Keeps}
+use Rattle.shared_book.specs.Inner.Keeps.{Keeps}
 use Rattle.shared_book.specs.Inner.Seat.{line_of, lines_in, lines_of, single}
 use Rattle.shared_book.specs.Receipts.{Line, numbers, numbers_of}
 use Rattle.shared_book.specs.declared.receipt.Receipt.{Receipt}

@@ -9,7 +9,7 @@ use Rattle.logbook.specs.Pages.{Book}
 use Rattle.request_journal.specs.Past.{Past}
 use Rattle.request_journal.specs.declared.event.Event.{Event}
 use Rattle.shared_book.specs.Held.{Held, HoldReceipts, LetsGo, all_lists, filled, is_filled, lists, receipts_of}
-use Rattle.shared_book.specs.Inner.Gains.{Keeps}
+use Rattle.shared_book.specs.Inner.Keeps.{Keeps}
 use Rattle.shared_book.specs.Reached.{Log}
 use Rattle.shared_book.specs.Receipts.{IsReceipt, IsReceiptIn, Line, numbers_of}
 use Rattle.shared_book.specs.Seen.{IsEntered}

@@ -7,7 +7,7 @@ use Rattle.shared_book.proofs.HeldLemmas.{all_go_none, all_go_twice, all_go_weak
 use Rattle.shared_book.proofs.HeldLemmas.{lets_go_none, lets_go_twice, lets_go_weaker}
 use Rattle.shared_book.proofs.ReachedLemmas.{dropped_before, dropped_later}
 use Rattle.shared_book.specs.Held.{Gained, Held, HasLetGo, IsDropped, LetsGo, filled, lists, with_seat}
-use Rattle.shared_book.specs.Inner.Gains.{Keeps}
+use Rattle.shared_book.specs.Inner.Keeps.{Keeps}
 use Rattle.shared_book.specs.Reached.{Log}
 use Rattle.shared_book.specs.Receipts.{Line}
 use Rattle.shared_book.specs.Script.{with_receipts}

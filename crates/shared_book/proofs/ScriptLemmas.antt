@@ -155,15 +155,15 @@ pub plays_served : (origin : Past) (name : Book) (old new : Held) (request : Req
     (result : Result (Bor Receipt) BookError)
     → LendsServed origin name old new request result → Plays origin old new (Serve request ∷ [])
 plays_served origin name old new request (Ok lent) told =
-    plays_accepted origin old new (Serve request) lent.now told.0
-    (subst (IsAskedBy (Serve request)) (sym told.1.1) refl) told.2
+    plays_accepted origin old new (Serve request) lent.now told.gained
+    (subst (IsAskedBy (Serve request)) (sym told.asked_for.1) refl) told.entered
 plays_served origin name old new request (Err error) told = plays_refused origin old new (Serve request) told
 
 pub plays_applied : (origin : Past) (name : Book) (old new : Held) (asked : BookInput)
     (result : Result (Bor Receipt) BookError)
     → LendsApplied origin name old new asked result → Plays origin old new (Apply asked ∷ [])
 plays_applied origin name old new asked (Ok lent) told =
-    plays_accepted origin old new (Apply asked) lent.now told.0 told.1 told.2
+    plays_accepted origin old new (Apply asked) lent.now told.gained told.asked_for told.entered
 plays_applied origin name old new asked (Err error) told = plays_refused origin old new (Apply asked) told
 
 -- ---- two seats that had made no call before their scripts, beside one that made its calls before

@@ -14,7 +14,7 @@ use Rattle.shared_book.proofs.SeenLemmas.{entered_on, joined_on, left_on, sees_o
 use Rattle.error_code.specs.declared.error_code.ErrorCode.{ErrorCode}
 use Rattle.request_journal.specs.declared.input.BookInput.{BookInput}
 use Rattle.shared_book.specs.Held.{Held, HoldReceipts, IsDropped, LetsGo, all_numbers, filled, sight}
-use Rattle.shared_book.specs.Inner.Gains.{Keeps}
+use Rattle.shared_book.specs.Inner.Keeps.{Keeps}
 use Rattle.shared_book.specs.Inner.Seat.{IsSeat}
 use Rattle.shared_book.specs.Reached.{InPastOf, IsLawful, Log}
 use Rattle.shared_book.specs.Receipts.{Line}

@@ -7,9 +7,8 @@ use Rattle.request_journal.specs.Past.{Past}
 use Rattle.request_journal.specs.declared.event.Event.{Event}
 use Rattle.request_journal.specs.declared.input.BookInput.{BookInput}
 use Rattle.shared_book.specs.Held.{Gained, Held}
-use Rattle.shared_book.specs.Inner.Gains.{Gains}
+use Rattle.shared_book.specs.Lent.{Gains}
 use Rattle.shared_book.specs.Receipts.{IsLast}
-use Rattle.shared_book.specs.Seen.{Enters}
 use Rattle.shared_book.specs.declared.receipt.Receipt.{Receipt}
 use Rattle.stub_book.specs.Growth.{IsServed}
 
@@ -34,26 +33,22 @@ added_last origin old new added last gained is_last =
     (sym (ap (λ (h : Held). h.own.held) gained.added) ∙ is_last.1)
 
 lends : {name : Book} (origin : Past) (old new : Held) (asked : Event → Type 0) (last : Receipt)
-    → Gains origin name old new asked
+    → (receipt : Receipt) × Gains origin name old new asked receipt
     → IsLast last new.own.held
-    → Gained origin old last new × asked last.event × Enters origin name old new last
-lends {name} origin old new asked last made is_last =
-    let same : made.receipt ≡ last = added_last origin old new made.receipt last made.gained is_last in (
-      subst (λ (r : Receipt). Gained origin old r new) same made.gained,
-      subst (λ (r : Receipt). asked r.event) same made.asked_for,
-      subst (λ (r : Receipt). Enters origin name old new r) same made.entered,
-    )
+    → Gains origin name old new asked last
+lends {name} origin old new asked last (receipt, made) is_last =
+    subst (Gains origin name old new asked) (added_last origin old new receipt last made.gained is_last) made
 
 pub lends_served : {name : Book} (origin : Past) (old new : Held) (request : Request) (last : Receipt)
-    → Gains origin name old new (IsServed request)
+    → (receipt : Receipt) × Gains origin name old new (IsServed request) receipt
     → IsLast last new.own.held
-    → Gained origin old last new × IsServed request last.event × Enters origin name old new last
+    → Gains origin name old new (IsServed request) last
 lends_served {name} origin old new request = lends {name = name} origin old new (IsServed request)
 
 pub lends_applied : {name : Book} (origin : Past) (old new : Held) (asked : BookInput) (last : Receipt)
-    → Gains origin name old new (IsAsked asked)
+    → (receipt : Receipt) × Gains origin name old new (IsAsked asked) receipt
     → IsLast last new.own.held
-    → Gained origin old last new × IsAsked asked last.event × Enters origin name old new last
+    → Gains origin name old new (IsAsked asked) last
 lends_applied {name} origin old new asked = lends {name = name} origin old new (IsAsked asked)
 
 -- the seat's own line isn't empty then

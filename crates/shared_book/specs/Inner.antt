@@ -1,6 +1,6 @@
 pub mod Kept
 pub mod Seat
-pub mod Gains
+pub mod Keeps
 pub mod Refusal
 pub mod Misplaced
 pub mod Ends

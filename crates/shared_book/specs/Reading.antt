@@ -19,7 +19,8 @@ use Rattle.shared_book.specs.declared.book_read.Reading.{Reading}
 use Rattle.shared_history.specs.Seal.{IsSeen}
 
 -- the answer is what the past says: mappings and requests the newest first; where requests are to be matched, all
--- requests with the matcher
+-- requests with the matcher. These are values, for who has a seat; `IsReadReply` of `admin_answers` says what a client
+-- of the admin API is sent, as JSON, and `replied_in` of its `proofs/ReadLemmas.antt` leads from this to that.
 abbrev pub IsReadAnswer : Past → BookRead → ReadAnswer → Type 0
 IsReadAnswer past read.Mappings (answer.Mappings mappings) = IsNewestFirst (live past) mappings.items
 IsReadAnswer past (read.Mapping id) (answer.Mapping None) = ¬ (IsLive past id)

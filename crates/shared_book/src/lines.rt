@@ -2,7 +2,7 @@
 ghost use Rattle.std.specs.Prelude.{◌≡◌, ◌⊎◌, ◌+◌, ◌<◌, ◌≤◌, ◌∷◌, ◌++◌, [], vec_capacity, vec_len};
 ghost use Rattle.std.specs.List.{AllZip};
 ghost use Rattle.shared_book.specs.Held.{LetsGo, filled};
-ghost use Rattle.shared_book.specs.Inner.Gains.{Keeps};
+ghost use Rattle.shared_book.specs.Inner.Keeps.{Keeps};
 ghost use Rattle.shared_book.specs.Inner.Seat.{line_of, lines_in, lines_of};
 
 use crate::entered::Entered;

@@ -1,8 +1,7 @@
 // A seat, by which calls are made on a shared book.
 ghost use Rattle.std.specs.Prelude.{◌≡◌, ◌-◌, ◌^◌, ◌<◌, length, IfErr, IfOk, OnOk, ⊤};
 ghost use Rattle.shared_book.specs.Held.{HasLetGo, HoldReceipts, lists, new_seat, sight, with_seat};
-ghost use Rattle.shared_book.specs.Inner.Gains.{Gains};
-ghost use Rattle.shared_book.specs.Lent.{LendsServed, LendsApplied};
+ghost use Rattle.shared_book.specs.Lent.{Gains, LendsServed, LendsApplied};
 ghost use Rattle.request_journal.specs.Input.{IsAsked};
 ghost use Rattle.request_journal.specs.Past.{Past};
 ghost use Rattle.shared_book.specs.Reached.{IsLawful, IsPastOf, MayFollow};
@@ -317,7 +316,7 @@ impl<L: Origin> Seat<L> {
         shared: &SharedBook<L>,
         request: Snapshot,
     ) -> Result<(), BookError>
-        ensures ok { OnOk result (Gains L.origin L.book self.old self.new (IsServed request)) }
+        ensures ok { OnOk result ((receipt : _) × Gains L.origin L.book self.old self.new (IsServed request) receipt) }
         ensures why { IfErr result (λ error. IsServeRefused L.origin L.book self.old self.new error.code) }
     {
         self.lines.own.held.reserve(1)?;
@@ -346,7 +345,7 @@ impl<L: Origin> Seat<L> {
         shared: &SharedBook<L>,
         input: BookInput,
     ) -> Result<(), BookError>
-        ensures ok { OnOk result (Gains L.origin L.book self.old self.new (IsAsked input)) }
+        ensures ok { OnOk result ((receipt : _) × Gains L.origin L.book self.old self.new (IsAsked input) receipt) }
         ensures why { IfErr result (λ error. IsRefused L.origin L.book self.old self.new input error.code) }
     {
         self.lines.own.held.reserve(1)?;

@@ -4,7 +4,6 @@ use Rattle.http.specs.declared.response.Response.{Response}
 use Rattle.answering.specs.Forwarding.{serve_receipt}
 use Rattle.answering.specs.Rendering.{rendering_receipt}
 use Rattle.answering.specs.Reply.{IsResponseOf}
-use Rattle.answering.specs.Served.{GainsServe}
 use Rattle.answering.specs.declared.begun.Begun.{Begun}
 use Rattle.answering.specs.declared.begun.Begun.TheVariants.{Answered, Refused, ToForward, ToRender}
 use Rattle.answering.specs.declared.forward.Forward.{Forward}
@@ -15,6 +14,8 @@ use Rattle.mock_request.specs.Request.{Request}
 use Rattle.request_journal.specs.Past.{Past}
 use Rattle.request_journal.specs.declared.event.Event.{Event}
 use Rattle.shared_book.specs.Held.{Held}
+use Rattle.shared_book.specs.Lent.{Gains}
+use Rattle.stub_book.specs.Growth.{IsServed}
 use Rattle.stub_response.specs.declared.limits.Limits.{Limits}
 
 -- the response is that of a reply of which this holds
@@ -43,7 +44,7 @@ IsForwardOf number event forward =
 -- the request was served, and it is what is to be forwarded
 abbrev pub IsServedToForward : Past → Book → Held → Held → Request → Forward → Type 0
 IsServedToForward origin name old new request forward =
-    (forward.request ≡ request) × GainsServe origin name old new forward.request (serve_receipt forward)
+    (forward.request ≡ request) × Gains origin name old new (IsServed forward.request) (serve_receipt forward)
 
 -- it has the number and the event of the receipt, and keeps to these limits
 abbrev pub IsRenderingOf : Limits → ℕ → Event → Rendering → Type 0
@@ -55,4 +56,4 @@ IsRenderingOf limits number event rendering =
 abbrev pub IsServedToRender : Past → Book → Limits → Held → Held → Request → Rendering → Type 0
 IsServedToRender origin name limits old new request rendering =
     (rendering.request ≡ request) × (rendering.limits ≡ limits)
-    × GainsServe origin name old new rendering.request (rendering_receipt rendering)
+    × Gains origin name old new (IsServed rendering.request) (rendering_receipt rendering)

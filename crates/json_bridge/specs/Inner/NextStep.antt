@@ -8,16 +8,16 @@ use Rattle.data_tree.specs.declared.step.Step.{Step}
 use Rattle.data_tree.specs.declared.step.Step.TheVariants.{Name, Index}
 use Rattle.json_bridge.specs.declared.next_step.StepText.{StepText}
 use Rattle.json_bridge.specs.declared.next_step.StepText.TheVariants as texts
-use Rattle.json_bridge.specs.Path.{dot, open_bracket, close_bracket, quote, is_name_byte, SpellsSteps}
+use Rattle.json_bridge.specs.Path.{dot, open_bracket, close_bracket, quote, is_step_byte, SpellsSteps}
 
 -- the name bytes at the front, and what follows them
 abbrev pub name_at : List ℕ → List ℕ
 name_at [] = []
-name_at (b ∷ bs) = if is_name_byte b then b ∷ name_at bs else []
+name_at (b ∷ bs) = if is_step_byte b then b ∷ name_at bs else []
 
 abbrev pub after_name : List ℕ → List ℕ
 after_name [] = []
-after_name (b ∷ bs) = if is_name_byte b then after_name bs else b ∷ bs
+after_name (b ∷ bs) = if is_step_byte b then after_name bs else b ∷ bs
 
 -- what is before the first such byte, and what follows it
 abbrev pub cut_at : ℕ → List ℕ → Option (List ℕ × List ℕ)

@@ -18,7 +18,7 @@ returns-in-Ok g c =
     of_event g.L.Origin.origin g.L.Naming.book c.args.site.now.limits c.args.seat.now c.serve.follows.lender-at-none
     c.args.request
     c.in-Ok.receipt.now c.begin_event.result
-    (record { gained = lent.0; served = lent.1; entered = lent.2 })
+    lent
     (subst (λ event. IfOk c.begin_event.result
     (HasBegun (IsEventReply c.args.site.now.limits event) (IsForwardOf c.in-Ok.receipt.now.number event)
     (IsRenderingOf c.args.site.now.limits c.in-Ok.receipt.now.number event)))

@@ -2,7 +2,7 @@ use Rattle.std.proofs.Common.{ℕ, List, ap, subst, refl}
 use Rattle.shared_book.proofs.LetGoLemmas.{gains}
 use Rattle.shared_book.proofs.SeatLemmas.{caught_up, err_of, refused_change, seat_entered, seat_refused, told_on}
 use Rattle.shared_book.specs.Held.{Gained, Held}
-use Rattle.shared_book.specs.Inner.Gains.{Keeps}
+use Rattle.shared_book.specs.Inner.Keeps.{Keeps}
 use Rattle.shared_book.specs.Inner.Seat.{line_of, lines_in}
 use Rattle.shared_book.specs.Refused.{IsRefused}
 use Rattle.shared_book.specs.Seen.{Enters}
@@ -43,19 +43,20 @@ returns-clause-ok g c =
     let keeps : Keeps c.keep.new.self.told old.own new.own receipt =
     subst (λ (held : List Receipt). Keeps c.keep.new.self.told
     (record { let_go = c.self.inside.lines.own.let_go.items; held = held }) (line_of c.keep.new.self.own)
-    receipt) c.in_ok-reserve.ensures.items c.keep.ensures.own in
-    record {
-      receipt = receipt;
-      gained = subst (λ (s : Held). Gained g.L.Origin.origin s receipt new) c.self.view_is
-          (gains g.L.Origin.origin c.keep.new.self.told old new receipt
-          (told_on g.L.Origin.origin c.self.inside.place c.apply.new.place receipt c.self.inside.lines.told
-          c.in_ok-entered.entered.base c.keep.new.self.told c.in_ok-entered.ensures.ok.1
-          c.self.invariant.dropped c.in_ok-entered.ensures.base c.keep.ensures.told)
-          refl keeps c.keep.ensures.joined);
-      asked_for = c.in_ok-entered.ensures.ok.0;
-      entered = subst (λ (s : Held). Enters g.L.Origin.origin g.L.Naming.book s new receipt) c.self.view_is
-          c.in_ok-entered.ensures.ok.1;
-    }
+    receipt) c.in_ok-reserve.ensures.items c.keep.ensures.own in (
+      receipt,
+      record {
+        gained = subst (λ (s : Held). Gained g.L.Origin.origin s receipt new) c.self.view_is
+            (gains g.L.Origin.origin c.keep.new.self.told old new receipt
+            (told_on g.L.Origin.origin c.self.inside.place c.apply.new.place receipt c.self.inside.lines.told
+            c.in_ok-entered.entered.base c.keep.new.self.told c.in_ok-entered.ensures.ok.1
+            c.self.invariant.dropped c.in_ok-entered.ensures.base c.keep.ensures.told)
+            refl keeps c.keep.ensures.joined);
+        asked_for = c.in_ok-entered.ensures.ok.0;
+        entered = subst (λ (s : Held). Enters g.L.Origin.origin g.L.Naming.book s new receipt) c.self.view_is
+            c.in_ok-entered.ensures.ok.1;
+      },
+    )
 
 pub invariant_of-self-in_err-entered : goal.invariant_of-self-in_err-entered
 invariant_of-self-in_err-entered g c =
