@@ -1,6 +1,5 @@
-// A difference in words, on one line.
+// A condition that isn't met, and what there is in its place, in words and on one line.
 use crate::condition::{Condition, Source};
-use crate::difference::Difference;
 use crate::found::Found;
 use base64::engine::general_purpose::STANDARD;
 use itoa::Buffer;
@@ -22,11 +21,11 @@ const SHOWN_FIRST: usize = 40;
 const SHOWN_LAST: usize = 18;
 
 /// As `header "accept" equalTo "text/plain", found "text/html"`, without a line feed.
-pub fn line_of(alloc: Global, difference: &Difference) -> Result<String, AllocError> {
+pub fn line_of(alloc: Global, condition: &Condition, found: &Found) -> Result<String, AllocError> {
     let mut line = String::new(alloc);
-    push_condition(alloc, &mut line, &difference.condition)?;
+    push_condition(alloc, &mut line, condition)?;
     line.push_str(", found ")?;
-    push_found(alloc, &mut line, &difference.found)?;
+    push_found(alloc, &mut line, found)?;
     Ok(line)
 }
 
