@@ -20,6 +20,9 @@ const SHOWN_FIRST: usize = 40;
 
 const SHOWN_LAST: usize = 18;
 
+/// How many values of a name are shown.
+const VALUES_SHOWN: usize = 10;
+
 /// As `header "accept" equalTo "text/plain", found "text/html"`, without a line feed.
 pub fn line_of(alloc: Global, condition: &Condition, found: &Found) -> Result<String, AllocError> {
     let mut line = String::new(alloc);
@@ -206,9 +209,15 @@ fn push_found(alloc: Global, line: &mut String, found: &Found) -> Result<(), All
 
 fn push_values(alloc: Global, line: &mut String, values: &[String]) -> Result<(), AllocError> {
     let mut front = "";
-    for value in values {
+    for value in values.iter().take(VALUES_SHOWN) {
         push_quoted(alloc, line, front, value.as_str())?;
         front = ", ";
+    }
+    if values.len() > VALUES_SHOWN {
+        let mut digits = Buffer::new();
+        line.push_str(", and ")?;
+        line.push_str(digits.format(values.len().saturating_sub(VALUES_SHOWN)))?;
+        line.push_str(" more")?;
     }
     Ok(())
 }
