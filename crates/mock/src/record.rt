@@ -17,9 +17,9 @@ use std::alloc::{AllocError, Global};
 use std::io::{Read, Write};
 use std::sync::Arc;
 
-/// Serves, records from the start on, and ends when `input` does. Says how many mappings it has written, and of how many
-/// exchanges none could be made. Where a file can't be written, as far as that can be told before, it doesn't serve.
-/// Gives the exit status.
+/// Serves, records from the start on, and ends when `input` does, once what was recorded is written. Says how many
+/// mappings it has written, and of how many exchanges none could be made. Where a file can't be written, as far as that
+/// can be told before, it doesn't serve. Gives the exit status.
 pub(crate) fn record<R, O, E, W, I>(
     rt: R,
     served: ServeArguments<'_>,
@@ -44,8 +44,7 @@ where
         Ok((plan, outcome)) => {
             let status = serve(rt, served, plan, out, err, log);
             match outcome.get(&rt) {
-                Some(Ok(recorded)) => put_recorded(recorded, status, out),
-                Some(Err(error)) => report(rt.alloc(), given, error, err),
+                Some(recorded) => put_recorded(recorded, status, out),
                 None => status,
             }
         }
