@@ -3,7 +3,8 @@ ghost use Rattle.std.specs.Prelude.{◌≡◌, IfErr, IfOk, IsSome, IsTrue};
 ghost use Rattle.answering.specs.Forwarding.{IsFinished};
 ghost use Rattle.answering.specs.Rendering.{IsResponseOfRendered};
 ghost use Rattle.http_messages.specs.declared.error.ServiceError.TheVariants.{OutOfMemory as NoMemory};
-ghost use Rattle.hyper_service.specs.Given.{IsGiven, IsLeft, IsPassedTo, IsUnanswered, rules_of};
+ghost use Rattle.hyper_service.specs.Given.{IsGiven, IsLeft, IsPassedTo, IsUnanswered};
+ghost use Rattle.hyper_service.specs.Given.{rules_of};
 ghost use Rattle.hyper_service.specs.Inner.Begins.{Begins, HasNoAnswer, IsAnswering, IsForwardBegun};
 ghost use Rattle.hyper_service.specs.Inner.Begins.{IsForwardingBy, IsRenderBegun, IsRenderingBy};
 ghost use Rattle.hyper_service.specs.Inner.Failure.{IsFailure};
@@ -129,21 +130,9 @@ where
         let before = last_number(seat);
         let answered = answering::begin::begin(rt, alloc, &self.site, seat, request);
         let is_full = self.tell(rt, alloc, request, outcome_of(seat, before), &answered);
-        // Moved out of the place that was lent, from which no part can be taken.
-        let told = answered;
-        match told {
-            // As most are. An arm of its own that returns, since an answer is large: `pass_on` moves it twice more, and
-            // what a `match` gives is moved once more.
-            Ok(answering::begun::Begun::Answered(response)) => {
-                self.journal.keep(rt, &self.site.book, seat, is_full);
-                return Ok(Begun::Answered(response));
-            }
-            _ => {
-                let begun = self.pass_on(rt, alloc, handle, seat, told);
-                self.journal.keep(rt, &self.site.book, seat, is_full);
-                begun
-            }
-        }
+        let begun = self.pass_on(rt, alloc, handle, seat, answered);
+        self.journal.keep(rt, &self.site.book, seat, is_full);
+        begun
     }
 
     fn finish<R: Wait>(
