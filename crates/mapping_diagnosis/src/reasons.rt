@@ -77,12 +77,27 @@ fn front_within_depth(bytes: &[u8]) -> Option<&[u8]> {
     None
 }
 
-/// Why a text is no regular expression.
+/// Why a text is no regular expression, or none for whole values.
 pub(crate) fn pattern_reason(alloc: Global, text: &str) -> Result<Option<String>, AllocError> {
     match Regex::new(alloc, text) {
-        Ok(_regex) => Ok(None),
+        Ok(_regex) => whole_pattern_reason(alloc, text),
         Err(regex::Error::OutOfMemory) => Err(AllocError),
         Err(error) => Ok(Some(format!(in alloc; "{error}")?)),
+    }
+}
+
+/// Why the text is no regular expression between the marks of a value's beginning and end, where it is one by itself.
+fn whole_pattern_reason(alloc: Global, text: &str) -> Result<Option<String>, AllocError> {
+    let whole = joined(alloc, [r"\A(?:", text, r")\z"].as_slice())?;
+    match Regex::new(alloc, whole.as_str()) {
+        Ok(_regex) => Ok(None),
+        Err(regex::Error::OutOfMemory) => Err(AllocError),
+        Err(error) => {
+            let shown = quoted(alloc, whole.as_str())?;
+            let said = format!(in alloc; "{error}")?;
+            let texts = ["it is compared as ", shown.as_str(), ": ", said.as_str()];
+            Ok(Some(joined(alloc, texts.as_slice())?))
+        }
     }
 }
 
