@@ -13,10 +13,11 @@ IsPageCall request = (request.method ≡ codes "GET") × (path_of request.url �
 abbrev pub IsGivenPage : Option (List ℕ) → Request → List ℕ → Type 0
 IsGivenPage page request bytes = (page ≡ Some bytes) × IsPageCall request
 
--- it may run its own script, and may load from nowhere but this server (Content Security Policy Level 3)
+-- it may run its own script, may load from nowhere but this server, and no page may show it in a frame (Content Security
+-- Policy Level 3)
 abbrev pub page_policy : List ℕ
 page_policy =
-    codes "default-src 'none'; script-src 'unsafe-inline'; style-src 'unsafe-inline'; connect-src 'self'; img-src data:"
+    codes "default-src 'none'; script-src 'unsafe-inline'; style-src 'unsafe-inline'; connect-src 'self'; img-src data:; frame-ancestors 'none'"
 
 abbrev pub page_headers : List ReplyHeader
 page_headers =

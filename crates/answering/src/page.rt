@@ -12,9 +12,10 @@ use std::alloc::{AllocError, Global};
 /// The path below that of admin calls.
 const PATH: &str = "/__admin/page";
 
-/// Where its parts may come from (Content Security Policy Level 3): its own text, and this server.
+/// Where its parts may come from (Content Security Policy Level 3): its own text, and this server; and that no page may
+/// show it in a frame.
 const POLICY: &str =
-    "default-src 'none'; script-src 'unsafe-inline'; style-src 'unsafe-inline'; connect-src 'self'; img-src data:";
+    "default-src 'none'; script-src 'unsafe-inline'; style-src 'unsafe-inline'; connect-src 'self'; img-src data:; frame-ancestors 'none'";
 
 /// The page, if there is one and the request asks for it.
 pub(crate) fn page_in<'p>(page: &'p Option<Bytes>, request: &Snapshot) -> Option<&'p Bytes>

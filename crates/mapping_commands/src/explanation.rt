@@ -9,6 +9,7 @@ use command_output::error::CommandError;
 use command_output::files::Documents;
 use mapping_model::mapping_id::MappingId;
 use match_difference::difference::{Difference, differences};
+use match_difference::read_request::ReadRequest;
 use mock_request::snapshot::Snapshot;
 use plain_text::text::Text;
 use request_journal::event::ServeAnswer;
@@ -151,9 +152,11 @@ fn each_explained(
     request: &Snapshot,
 ) -> Result<Vec<Explained>, CommandError> {
     let mut parsed = ParsedRequest::new(alloc, request);
+    let mut read = ReadRequest::new(request);
     let mut listed = Vec::new(alloc);
     for mapping in book.mappings()? {
-        let found = match differences(alloc, &mapping, &mut parsed, book.scenarios()) {
+        let states = book.scenarios();
+        let found = match differences(alloc, &mapping, &mut parsed, &mut read, states) {
             Ok(found) => found,
             Err(error) => return Err(CommandError::from(error.error_code())),
         };

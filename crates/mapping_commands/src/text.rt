@@ -102,7 +102,8 @@ fn push_mapping(
     text.push_str(": ")?;
     push_verdict(text, explained, is_coloured)?;
     for difference in &explained.differences {
-        push_part(text, "\n  ", line_of(alloc, difference)?.as_str())?;
+        let line = line_of(alloc, &difference.condition, &difference.found)?;
+        push_part(text, "\n  ", line.as_str())?;
     }
     text.push_str("\n")
 }

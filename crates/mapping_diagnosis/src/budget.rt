@@ -11,9 +11,6 @@ use template_machine::program::Program;
 /// No request has data of a smaller size: that of `GET /` without headers has 248.
 const SMALLEST: u64 = 240;
 
-/// A text of fewer bytes, and without a loop, is never over the limits at that size.
-const LARGE: usize = 10_000;
-
 /// What templates may take together over data of that size.
 #[derive(Clone, Copy)]
 struct Taken {
@@ -35,9 +32,6 @@ pub(crate) fn always_over(alloc: Global, response: &Value) -> Result<Option<Stri
 }
 
 fn with_text(alloc: Global, taken: Taken, text: &str) -> Result<Taken, AllocError> {
-    if text.len() < LARGE && !text.contains("{{#each") {
-        return Ok(taken);
-    }
     match Program::from_text(alloc, text) {
         Ok(program) => Ok(with_program(taken, &program)),
         Err(ProgramError::OutOfMemory) => Err(AllocError),

@@ -51,18 +51,26 @@ impl Fault {
     }
 }
 
-/// A name as a pointer has it. A control character would break the line.
+/// A name as a pointer has it.
 fn push_token(pointer: &mut String, name: &str) -> Result<(), AllocError> {
     for character in name.chars() {
         match character {
             '~' => pointer.push_str("~0")?,
             '/' => pointer.push_str("~1")?,
             character => if character.is_control() {
-                pointer.push_str("\\u")?;
+                push_escaped(pointer, character)?;
             } else {
                 pointer.push(character)?;
             },
         }
+    }
+    Ok(())
+}
+
+// As `\n` or `\u{1b}`: by itself it would break the line.
+fn push_escaped(pointer: &mut String, control: char) -> Result<(), AllocError> {
+    for character in control.escape_debug() {
+        pointer.push(character)?;
     }
     Ok(())
 }

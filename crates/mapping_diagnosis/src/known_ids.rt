@@ -35,10 +35,7 @@ impl KnownIds {
         place: String,
     ) -> Result<Option<String>, AllocError> {
         let id = match id_text(value) {
-            Some(text) => {
-                self.has_given |= is_of_version_5(text);
-                MappingId::parse(text)
-            }
+            Some(text) => self.given_id(alloc, text)?,
             None => Some(MappingId::of_default(alloc, self.count)?),
         };
         self.count = self.count.saturating_add(1);
@@ -46,6 +43,15 @@ impl KnownIds {
             Some(id) => Ok(self.places.insert(id, place)?),
             None => Ok(None),
         }
+    }
+
+    /// The id that a mapping was given, in each form of a UUID's text.
+    fn given_id(&mut self, alloc: Global, text: &str) -> Result<Option<MappingId>, AllocError> {
+        let Some(id) = MappingId::parse(text) else {
+            return Ok(None);
+        };
+        self.has_given |= is_of_version_5(alloc, id)?;
+        Ok(Some(id))
     }
 
     /// A sentence on the first mapping that would be replaced by one that is posted without an id, or recorded, to a
@@ -60,7 +66,8 @@ impl KnownIds {
         }
         let mut found = None;
         let mut last = first;
-        for number in first..first.saturating_add(EVENTS) {
+        let end = first.saturating_add(EVENTS);
+        for number in first..end {
             if let Some(id) = self.given_at(alloc, number)? {
                 last = number;
                 if found.is_none() {
@@ -69,7 +76,7 @@ impl KnownIds {
             }
         }
         match found {
-            Some((number, id)) => Ok(Some(self.said(alloc, number, id, last)?)),
+            Some((number, id)) => Ok(Some(self.said(alloc, number, id, last, end)?)),
             None => Ok(None),
         }
     }
@@ -93,6 +100,7 @@ impl KnownIds {
         number: u64,
         id: MappingId,
         last: u64,
+        end: u64,
     ) -> Result<String, AllocError> {
         let mut text = String::new(alloc);
         if let Some(place) = self.places.get(&id) {
@@ -105,7 +113,9 @@ impl KnownIds {
             " would give its id to a mapping that is posted or recorded, which would replace it; with --first-event ",
         )?;
         text.push_str(digits.format(last.saturating_add(1)))?;
-        text.push_str(" no event gives an id of these files")?;
+        text.push_str(" no event up to ")?;
+        text.push_str(digits.format(end.saturating_sub(1)))?;
+        text.push_str(" gives an id of these files")?;
         Ok(text)
     }
 }
@@ -118,7 +128,7 @@ fn id_text(value: &Value) -> Option<&str> {
     }
 }
 
-/// Of the hyphenated form, which is the one that is answered.
-fn is_of_version_5(text: &str) -> bool {
-    text.as_bytes().get(14) == Some(&b'5')
+fn is_of_version_5(alloc: Global, id: MappingId) -> Result<bool, AllocError> {
+    let text = id.hyphenated(alloc)?;
+    Ok(text.as_bytes().get(14) == Some(&b'5'))
 }

@@ -77,12 +77,27 @@ fn front_within_depth(bytes: &[u8]) -> Option<&[u8]> {
     None
 }
 
-/// Why a text is no regular expression.
+/// Why a text is no regular expression, or none for whole values.
 pub(crate) fn pattern_reason(alloc: Global, text: &str) -> Result<Option<String>, AllocError> {
     match Regex::new(alloc, text) {
-        Ok(_regex) => Ok(None),
+        Ok(_regex) => whole_pattern_reason(alloc, text),
         Err(regex::Error::OutOfMemory) => Err(AllocError),
         Err(error) => Ok(Some(format!(in alloc; "{error}")?)),
+    }
+}
+
+/// Why the text is no regular expression between the marks of a value's beginning and end, where it is one by itself.
+fn whole_pattern_reason(alloc: Global, text: &str) -> Result<Option<String>, AllocError> {
+    let whole = joined(alloc, [r"\A(?:", text, r")\z"].as_slice())?;
+    match Regex::new(alloc, whole.as_str()) {
+        Ok(_regex) => Ok(None),
+        Err(regex::Error::OutOfMemory) => Err(AllocError),
+        Err(error) => {
+            let shown = quoted(alloc, whole.as_str())?;
+            let said = format!(in alloc; "{error}")?;
+            let texts = ["it is compared as ", shown.as_str(), ": ", said.as_str()];
+            Ok(Some(joined(alloc, texts.as_slice())?))
+        }
     }
 }
 
@@ -107,18 +122,12 @@ fn placed(alloc: Global, text: &str, error: &ProgramError) -> Result<String, All
     match text.get(at..) {
         Some(rest) => {
             let tag = tag_of(rest);
+            let before = text.get(..at).unwrap_or("");
+            let cause = cause_of(alloc, code, before, tag)?;
             let shown = quoted(alloc, tag)?;
             joined(
                 alloc,
-                [
-                    title,
-                    cause_of(code, tag),
-                    ", at byte ",
-                    offset,
-                    ", in ",
-                    shown.as_str(),
-                ]
-                .as_slice(),
+                [title, cause, ", at byte ", offset, ", in ", shown.as_str()].as_slice(),
             )
         }
         None => joined(alloc, [title, ", at byte ", offset].as_slice()),
@@ -126,13 +135,23 @@ fn placed(alloc: Global, text: &str, error: &ProgramError) -> Result<String, All
 }
 
 /// The cause of a tag's error in brackets, where it can be told, and what to write in its place.
-fn cause_of(code: ErrorCode, tag: &str) -> &'static str {
+fn cause_of(
+    alloc: Global,
+    code: ErrorCode,
+    before: &str,
+    tag: &str,
+) -> Result<&'static str, AllocError> {
     match code {
-        ErrorCode::UnclosedTag => {
-            " (there is no }}, or a quotation mark, or the {{/..}} of a block is missing)"
-        }
-        ErrorCode::UnsupportedTag => unsupported_cause(content_of(tag)),
-        _ => "",
+        ErrorCode::UnclosedTag => Ok(
+            " (there is no }}, or a quotation mark, or the {{/..}} of a block is missing)",
+        ),
+        ErrorCode::UnsupportedTag => if before.ends_with("\\") {
+            Ok(" (a tag can't be escaped: no \\ may stand before it)")
+        } else {
+            let words = tag_words(alloc, content_of(tag))?;
+            Ok(unsupported_cause(words.as_slice()))
+        },
+        _ => Ok(""),
     }
 }
 
@@ -142,39 +161,157 @@ fn content_of(tag: &str) -> &str {
         .strip_prefix("{{{")
         .or_else(|| tag.strip_prefix("{{"))
         .unwrap_or(tag);
-    inner.trim_start()
+    inner.strip_suffix("}}").unwrap_or(inner)
 }
 
-fn unsupported_cause(content: &str) -> &'static str {
-    if content.starts_with("else") {
-        " (an else takes no words: write {{else}}{{#if ..}} .. {{/if}})"
-    } else if content.starts_with("#with") {
-        " (there is no with: write each path in full)"
-    } else if content.starts_with("#") {
-        " (blocks are if, unless and each: a helper's value is tested by {{#if (helper ..)}})"
-    } else if content.starts_with("^") {
-        " (write {{else}} or {{#unless ..}})"
-    } else if content.starts_with("&") {
-        " (write {{{..}}})"
-    } else if content.starts_with(">") {
-        " (there are no partials)"
-    } else if content.starts_with("~") {
-        " (white space is never removed: leave ~ out)"
-    } else if has_named_argument(content) {
-        " (named arguments aren't taken)"
-    } else {
-        ""
-    }
-}
-
-/// Whether a word has a `=`, and is no text between quotation marks.
-fn has_named_argument(content: &str) -> bool {
-    for word in content.split(' ') {
-        if word.contains('=') && !word.starts_with("\"") && !word.starts_with("'") {
-            return true;
+/// The words of a tag. Between them are white space and parentheses, outside of texts in quotation marks and of brackets.
+fn tag_words(alloc: Global, content: &str) -> Result<Vec<&str>, AllocError> {
+    let mut words = Vec::new(alloc);
+    let mut start = 0usize;
+    let mut closing: Option<u8> = None;
+    for (at, byte) in content.as_bytes().iter().enumerate() {
+        if closing.is_some() {
+            if closing == Some(*byte) {
+                closing = None;
+            }
+        } else if is_between_words(*byte) {
+            add_word(content.get(start..at), &mut words)?;
+            start = at.saturating_add(1);
+        } else {
+            closing = closing_of(*byte, at == start);
         }
     }
-    false
+    add_word(content.get(start..), &mut words)?;
+    Ok(words)
+}
+
+fn add_word<'a>(word: Option<&'a str>, words: &mut Vec<&'a str>) -> Result<(), AllocError> {
+    match word {
+        Some(word) if !word.is_empty() => {
+            words.push(word)?;
+            Ok(())
+        }
+        _ => Ok(()),
+    }
+}
+
+fn is_between_words(byte: u8) -> bool {
+    matches!(byte, b' ' | b'\t' | b'\n' | b'\r' | b'(' | b')')
+}
+
+/// What closes a text in quotation marks, or brackets, that the byte opens.
+fn closing_of(byte: u8, is_first: bool) -> Option<u8> {
+    match byte {
+        b'[' => Some(b']'),
+        b'"' | b'\'' => if is_first { Some(byte) } else { None },
+        _ => None,
+    }
+}
+
+fn unsupported_cause(words: &[&str]) -> &'static str {
+    match words.first() {
+        Some(first) => cause_after(*first, words),
+        None => "",
+    }
+}
+
+/// By the first of the words.
+fn cause_after(first: &str, words: &[&str]) -> &'static str {
+    match first.strip_prefix("#") {
+        Some(name) => block_cause(name, words),
+        None => if first == "else" {
+            " (an else takes no words: write {{else}}{{#if ..}} .. {{/if}})"
+        } else {
+            other_cause(first, words)
+        },
+    }
+}
+
+fn block_cause(name: &str, words: &[&str]) -> &'static str {
+    match name {
+        "if" | "unless" => opening_cause(
+            words,
+            " (only an each names its items: leave as |..| out)",
+        ),
+        "each" => opening_cause(
+            words,
+            " (a loop has one parameter, which isn't request or this: write as |item|)",
+        ),
+        "with" => " (there is no with: write each path in full)",
+        _ => {
+            " (blocks are if, unless and each: a helper's value is tested by {{#if (helper ..)}})"
+        }
+    }
+}
+
+/// Of a block that there is: a word, or else its parameters.
+fn opening_cause(words: &[&str], of_parameters: &'static str) -> &'static str {
+    let cause = word_cause(words);
+    if cause.is_empty() && words.contains(&"as") {
+        of_parameters
+    } else {
+        cause
+    }
+}
+
+fn other_cause(first: &str, words: &[&str]) -> &'static str {
+    if first.starts_with("/") {
+        " (a close takes no words)"
+    } else if first.starts_with("^") {
+        " (write {{else}} or {{#unless ..}})"
+    } else if first.starts_with("&") {
+        " (write {{{..}}})"
+    } else if first.starts_with(">") {
+        " (there are no partials)"
+    } else if first.starts_with("~") {
+        " (white space is never removed: leave ~ out)"
+    } else {
+        word_cause(words)
+    }
+}
+
+/// The cause, where it is a word.
+fn word_cause(words: &[&str]) -> &'static str {
+    for word in words {
+        if is_named_argument(*word) {
+            return " (named arguments aren't taken)";
+        }
+        if is_reserved(*word) {
+            return " (request.id, request.clientIp and paths that begin with parameters are reserved)";
+        }
+    }
+    ""
+}
+
+/// Whether the word is a name, a `=`, and what follows.
+fn is_named_argument(word: &str) -> bool {
+    match word.split_once('=') {
+        Some((name, _value)) => !name.is_empty() && is_outside_marks(name),
+        None => false,
+    }
+}
+
+/// Whether the text is no part of a path or of a text in quotation marks.
+fn is_outside_marks(text: &str) -> bool {
+    !text
+        .as_bytes()
+        .iter()
+        .any(|byte| matches!(*byte, b'.' | b'[' | b'"' | b'\''))
+}
+
+/// Whether the word is a path that templates reserve.
+fn is_reserved(word: &str) -> bool {
+    begins_with_path(word, "request.id")
+        || begins_with_path(word, "request.clientIp")
+        || begins_with_path(word, "parameters")
+}
+
+/// Whether the path is this one, or goes on from it.
+fn begins_with_path(path: &str, front: &str) -> bool {
+    match path.strip_prefix(front) {
+        Some(rest) => rest.is_empty() || rest.starts_with("."),
+        None => false,
+    }
 }
 
 /// The tag at the start of the text.

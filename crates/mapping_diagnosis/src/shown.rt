@@ -5,6 +5,11 @@ use std::alloc::{AllocError, Global};
 /// How many characters of a value are shown.
 const SHOWN: usize = 60;
 
+/// How many of the first characters of a longer pointer are shown, and how many of its last ones.
+const SHOWN_FIRST: usize = 40;
+
+const SHOWN_LAST: usize = 18;
+
 /// The compact text of a value.
 pub(crate) fn shown(alloc: Global, value: &Value) -> Result<String, AllocError> {
     let text = value.to_string(alloc)?;
@@ -25,6 +30,23 @@ pub fn cut(alloc: Global, text: &str, characters: usize) -> Result<String, Alloc
         front.push_str("..")?;
     }
     Ok(front)
+}
+
+/// The pointer, or the beginning and the end of a long one.
+pub(crate) fn shown_pointer(alloc: Global, pointer: &str) -> Result<String, AllocError> {
+    let count = pointer.chars().count();
+    if count <= SHOWN {
+        return String::from_str(alloc, pointer);
+    }
+    let mut short = String::new(alloc);
+    for character in pointer.chars().take(SHOWN_FIRST) {
+        short.push(character)?;
+    }
+    short.push_str("..")?;
+    for character in pointer.chars().skip(count.saturating_sub(SHOWN_LAST)) {
+        short.push(character)?;
+    }
+    Ok(short)
 }
 
 fn front_of(alloc: Global, text: &str, characters: usize) -> Result<String, AllocError> {

@@ -1,5 +1,5 @@
 // Where files are written.
-use crate::store::store_over;
+use crate::store::{check_over, store_over};
 use std::alloc::Global;
 use std::io;
 
@@ -14,10 +14,17 @@ pub trait FileWriter {
     /// meanwhile, the file is the old one or the new one as a whole.
     fn store(&self, alloc: Global, path: &str, bytes: &[u8]) -> io::Result<()>
         ensures { OnOk result (stored self.now path.now bytes.now) };
+
+    /// Whether a file can be written at the path, as far as that can be told before. What is there stays as it is.
+    fn check(&self, alloc: Global, path: &str) -> io::Result<()>;
 }
 
 impl FileWriter for HostRuntime {
     fn store(&self, alloc: Global, path: &str, bytes: &[u8]) -> io::Result<()> {
         store_over(self, alloc, path, bytes)
+    }
+
+    fn check(&self, alloc: Global, path: &str) -> io::Result<()> {
+        check_over(self, alloc, path)
     }
 }

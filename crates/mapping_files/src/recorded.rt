@@ -51,6 +51,25 @@ impl From<NoText> for RecordError {
     }
 }
 
+/// Whether the files of a recording can be written, as far as that can be told before.
+pub fn check_files<F: FileWriter>(
+    alloc: Global,
+    files: &F,
+    file: &str,
+    har: Option<&str>,
+) -> Result<(), RecordError> {
+    if let Err(error) = files.check(alloc, file) {
+        return Err(RecordError::File(error));
+    }
+    let Some(path) = har else {
+        return Ok(());
+    };
+    match files.check(alloc, path) {
+        Ok(()) => Ok(()),
+        Err(error) => Err(RecordError::Har(error)),
+    }
+}
+
 /// Stops the recording of the server at the address, and writes its mappings to a file, the oldest first; and first the
 /// exchanges as a HAR document to another file, if it is asked for. Where these can't be had or written, the mappings are
 /// written all the same.

@@ -26,7 +26,7 @@ fn store_at<R: Files + RandomSource>(
     bytes: &[u8],
 ) -> io::Result<()> {
     if is_no_file(rt, path) {
-        return Err(Error::new(ErrorKind::InvalidInput, "it is no regular file"));
+        return Err(no_file());
     }
     let new = new_path(rt, alloc, path)?;
     let stored = write_new(rt, new.as_str(), path, bytes);
@@ -37,6 +37,33 @@ fn store_at<R: Files + RandomSource>(
     }
     sync_folder(rt, path);
     Ok(())
+}
+
+/// Whether a new file can be made beside the path, or beside the file that a link leads to, and take its place. It is
+/// removed at once.
+pub(crate) fn check_over<R: Files + RandomSource>(
+    rt: &R,
+    alloc: Global,
+    path: &str,
+) -> io::Result<()> {
+    match rt.canonicalize(alloc, path) {
+        Ok(file) => check_at(rt, alloc, file.into_string().as_str()),
+        Err(_error) => check_at(rt, alloc, path),
+    }
+}
+
+fn check_at<R: Files + RandomSource>(rt: &R, alloc: Global, path: &str) -> io::Result<()> {
+    if is_no_file(rt, path) {
+        return Err(no_file());
+    }
+    let new = new_path(rt, alloc, path)?;
+    let file = File::create_new(rt, new.as_str())?;
+    drop(file);
+    fs::remove_file(rt, new.as_str())
+}
+
+fn no_file() -> Error {
+    Error::new(ErrorKind::InvalidInput, "it is no regular file")
 }
 
 // Something is there, as a folder or a device, that a file can't take the place of.

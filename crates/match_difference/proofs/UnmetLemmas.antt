@@ -1,6 +1,6 @@
 -- The filter of conditions by "isn't met": none is left exactly where all are met.
-use Rattle.std.proofs.Common.{◌≡◌, ◌↔◌, ℕ, List, [], ◌∷◌, ◌++◌, All, ap, append_assoc, inl, inr, map, refl}
-use Rattle.std.proofs.Common.{◌∙◌, subst, sym}
+use Rattle.std.proofs.Common.{◌≡◌, ◌↔◌, ℕ, List, [], ◌∷◌, ◌++◌, All, ap, append_assoc, arith, inl, inr, length, map}
+use Rattle.std.proofs.Common.{◌∙◌, refl, subst, sym}
 use Rattle.std.proofs.lemmas.List.Elements.{All-cons, All-head, All-nil, All-tail}
 use Rattle.match_difference.proofs.EligibleLemmas.{eligible_where_all_are_met}
 use Rattle.match_difference.specs.Conditions.{IsMet, conditions_of}
@@ -11,8 +11,18 @@ use Rattle.mock_request.specs.Request.{Request}
 use Rattle.request_journal.specs.Choice.{IsEligible}
 use Rattle.request_journal.specs.declared.mapping.Mapping.{Mapping}
 
-no_first : (c : Condition) (cs : List Condition) → ¬ ([] ≡ c ∷ cs)
+no_first : {X : Type 0} (c : X) (cs : List X) → ¬ ([] ≡ c ∷ cs)
 no_first c cs e = cc
+
+pub none_left : {X : Type 0} (xs : List X) → length xs ≡ 0 → xs ≡ []
+none_left [] e = refl
+none_left (x ∷ xs) e = absurd (omega (arith, e))
+
+-- there are none exactly where there are none with something beside
+pub none_with : {X : Type 0} (f : X → Condition) (xs : List X) (cs : List Condition) (E : Type 0)
+    → map f xs ≡ cs → (cs ≡ []) ↔ E → (xs ≡ []) ↔ E
+none_with f [] cs E e h = (λ none. h.0 (sym e), λ is. refl)
+none_with f (x ∷ xs) cs E e h = (λ none. absurd (no_first x xs (sym none)), λ is. absurd (no_first (f x) (map f xs) (sym (e ∙ h.1 is))))
 
 module _ (state_of : List ℕ → List ℕ) (request : Request) where
   abbrev Met : Condition → Type 0
@@ -33,19 +43,14 @@ module _ (state_of : List ℕ → List ℕ) (request : Request) where
   none_where_all_met cs found h =
       (λ e. all_met cs (subst (AreUnmet state_of request cs) e h), none_found cs found h)
 
-  map_none : {X : Type 0} (f : X → Condition) (xs : List X) → (xs ≡ []) ↔ (map f xs ≡ [])
-  map_none f [] = (λ e. refl, λ e. refl)
-  map_none f (x ∷ xs) = (λ e. cc, λ e. cc)
-
-  pub eligible_by : {X : Type 0} (f : X → Condition) (xs : List X) (mapping : Mapping) (cs : List Condition)
-      → cs ≡ conditions_of mapping.spec → AreUnmet state_of request cs (map f xs)
-      → (xs ≡ []) ↔ IsEligible state_of request mapping
-  eligible_by f xs mapping cs e h =
-      let none = map_none f xs in
-      let met = none_where_all_met cs (map f xs) h in
+  pub eligible_by : (found : List Condition) (mapping : Mapping) (cs : List Condition)
+      → cs ≡ conditions_of mapping.spec → AreUnmet state_of request cs found
+      → (found ≡ []) ↔ IsEligible state_of request mapping
+  eligible_by found mapping cs e h =
+      let met = none_where_all_met cs found h in
       let eligible = eligible_where_all_are_met state_of request mapping in (
-        λ is. eligible.0 (subst (All Met) e (met.0 (none.0 is))),
-        λ may. none.1 (met.1 (subst (All Met) (sym e) (eligible.1 may))),
+        λ is. eligible.0 (subst (All Met) e (met.0 is)),
+        λ may. met.1 (subst (All Met) (sym e) (eligible.1 may)),
       )
 
   -- what is found of the conditions so far, and what will be found of the rest

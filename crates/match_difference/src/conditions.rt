@@ -149,7 +149,7 @@ fn push_scenario(
     }
 }
 
-fn push(list: &mut Vec<Condition>, condition: Condition) -> Result<(), AllocError>
+pub(crate) fn push(list: &mut Vec<Condition>, condition: Condition) -> Result<(), AllocError>
     ensures { OnOk result (list.new.items ≡ list.old.items ++ condition ∷ []) }
 {
     list.push(condition)?;

@@ -1,10 +1,9 @@
 // What a request has in place of what a condition asks for.
 use crate::condition::{Condition, Source};
 use crate::found::Found;
-use crate::not_json::not_json_reason;
+use crate::read_request::{ReadBody, ReadRequest};
 use data_tree::data::Data;
 use json_bridge::json_path::JsonPath;
-use json_bridge::read::data_of_json;
 use json_match::json_spec::JsonSpec;
 use mapping_model::body_pattern::BodyPattern;
 use mapping_model::url_spec::UrlSpec;
@@ -14,20 +13,23 @@ use path_template::path_template::PathTemplate;
 use scenario_core::scenarios::Scenarios;
 use std::alloc::{AllocError, Global};
 
-pub(crate) fn found_of(
+/// What the request, or the state of the scenario, has there.
+pub fn found_of(
     alloc: Global,
     condition: &Condition,
-    request: &Snapshot,
+    request: &mut ReadRequest<'_>,
     scenarios: &Scenarios,
 ) -> Result<Found, AllocError> {
     match condition {
-        Condition::Method(_) => one_value(alloc, request.method()),
-        Condition::Url(wanted) => one_value(alloc, compared(wanted, request)),
+        Condition::Method(_) => one_value(alloc, request.snapshot().method()),
+        Condition::Url(wanted) => one_value(alloc, compared(wanted, request.snapshot())),
         Condition::Value { source, matcher } => {
-            values_found(alloc, *source, matcher.name.as_str(), request)
+            let values = request.values(alloc)?;
+            values_found(alloc, *source, matcher.name.as_str(), values)
         }
         Condition::PathParameter { template, matcher } => {
-            segment_found(alloc, template.as_str(), matcher.name.as_str(), request)
+            let name = matcher.name.as_str();
+            segment_found(alloc, template.as_str(), name, request.snapshot())
         }
         Condition::Body(pattern) => body_found(alloc, pattern, request),
         Condition::Scenario(scenario) => {
@@ -54,9 +56,8 @@ fn values_found(
     alloc: Global,
     source: Source,
     name: &str,
-    request: &Snapshot,
+    read: &RequestValues<'_>,
 ) -> Result<Found, AllocError> {
-    let read = RequestValues::read(alloc, request)?;
     let mut values = Vec::new(alloc);
     match source {
         Source::Header => for index in 0..read.header_count() {
@@ -113,35 +114,37 @@ fn segment_found(
 fn body_found(
     alloc: Global,
     pattern: &BodyPattern,
-    request: &Snapshot,
+    request: &mut ReadRequest<'_>,
 ) -> Result<Found, AllocError> {
-    if let BodyPattern::BinaryEqualTo(_) = pattern {
-        return Ok(Found::Bytes(request.body().len()));
-    }
-    let read = RequestValues::read(alloc, request)?;
-    let text = read.body_text();
     match pattern {
-        BodyPattern::Json(matcher) => json_found(alloc, matcher, text),
-        BodyPattern::JsonPath { expression, .. } => path_found(alloc, expression.as_str(), text),
-        _ => one_value(alloc, text),
+        BodyPattern::Value(_) => one_value(alloc, request.values(alloc)?.body_text()),
+        BodyPattern::BinaryEqualTo(_) => Ok(Found::Bytes(request.snapshot().body().len())),
+        BodyPattern::Json(JsonSpec::EqualTo { .. }) => json_found(alloc, request),
+        BodyPattern::Json(JsonSpec::Path(expression)) => {
+            path_found(alloc, expression.as_str(), request.body(alloc)?)
+        }
+        BodyPattern::JsonPath { expression, .. } => {
+            path_found(alloc, expression.as_str(), request.body(alloc)?)
+        }
     }
 }
 
-fn json_found(alloc: Global, matcher: &JsonSpec, text: &str) -> Result<Found, AllocError> {
-    match matcher {
-        JsonSpec::Path(expression) => path_found(alloc, expression.as_str(), text),
-        JsonSpec::EqualTo { .. } => match data_of_json(alloc, text)? {
-            Some(_data) => one_value(alloc, text),
-            None => not_json(alloc, text),
-        },
+fn json_found(alloc: Global, request: &mut ReadRequest<'_>) -> Result<Found, AllocError> {
+    if let ReadBody::NotJson(reason) = request.body(alloc)? {
+        return not_json(alloc, reason.as_str());
     }
+    one_value(alloc, request.values(alloc)?.body_text())
 }
 
 /// What a path finds in the body, as it is printed.
-fn path_found(alloc: Global, expression: &str, text: &str) -> Result<Found, AllocError> {
-    let Some(data) = data_of_json(alloc, text)? else {
-        return not_json(alloc, text);
-    };
+fn path_found(alloc: Global, expression: &str, body: &ReadBody) -> Result<Found, AllocError> {
+    match body {
+        ReadBody::Json(data) => found_at(alloc, expression, data),
+        ReadBody::NotJson(reason) => not_json(alloc, reason.as_str()),
+    }
+}
+
+fn found_at(alloc: Global, expression: &str, data: &Data) -> Result<Found, AllocError> {
     let Ok(path) = JsonPath::parse(alloc, expression) else {
         return Ok(Found::NoSuchPath);
     };
@@ -155,6 +158,6 @@ fn path_found(alloc: Global, expression: &str, text: &str) -> Result<Found, Allo
     }
 }
 
-fn not_json(alloc: Global, text: &str) -> Result<Found, AllocError> {
-    Ok(Found::NotJson(not_json_reason(alloc, text)?))
+fn not_json(alloc: Global, reason: &str) -> Result<Found, AllocError> {
+    Ok(Found::NotJson(String::from_str(alloc, reason)?))
 }

@@ -1,6 +1,5 @@
-// A difference in words, on one line.
+// A condition that isn't met, and what there is in its place, in words and on one line.
 use crate::condition::{Condition, Source};
-use crate::difference::Difference;
 use crate::found::Found;
 use base64::engine::general_purpose::STANDARD;
 use itoa::Buffer;
@@ -21,12 +20,15 @@ const SHOWN_FIRST: usize = 40;
 
 const SHOWN_LAST: usize = 18;
 
+/// How many values of a name are shown.
+const VALUES_SHOWN: usize = 10;
+
 /// As `header "accept" equalTo "text/plain", found "text/html"`, without a line feed.
-pub fn line_of(alloc: Global, difference: &Difference) -> Result<String, AllocError> {
+pub fn line_of(alloc: Global, condition: &Condition, found: &Found) -> Result<String, AllocError> {
     let mut line = String::new(alloc);
-    push_condition(alloc, &mut line, &difference.condition)?;
+    push_condition(alloc, &mut line, condition)?;
     line.push_str(", found ")?;
-    push_found(alloc, &mut line, &difference.found)?;
+    push_found(alloc, &mut line, found)?;
     Ok(line)
 }
 
@@ -207,9 +209,15 @@ fn push_found(alloc: Global, line: &mut String, found: &Found) -> Result<(), All
 
 fn push_values(alloc: Global, line: &mut String, values: &[String]) -> Result<(), AllocError> {
     let mut front = "";
-    for value in values {
+    for value in values.iter().take(VALUES_SHOWN) {
         push_quoted(alloc, line, front, value.as_str())?;
         front = ", ";
+    }
+    if values.len() > VALUES_SHOWN {
+        let mut digits = Buffer::new();
+        line.push_str(", and ")?;
+        line.push_str(digits.format(values.len().saturating_sub(VALUES_SHOWN)))?;
+        line.push_str(" more")?;
     }
     Ok(())
 }

@@ -11,14 +11,15 @@ use command_output::output::{put_all, put_notes};
 use command_output::status::FAILURE;
 use error_code::error_code::ErrorCode;
 use itoa::Buffer;
-use mapping_files::recorded::{RecordError, Recorded};
+use mapping_files::recorded::{RecordError, Recorded, check_files};
 use mapping_files::start::recording_start;
 use std::alloc::{AllocError, Global};
 use std::io::{Read, Write};
 use std::sync::Arc;
 
-/// Serves, records from the start on, and ends when `input` does. Says how many mappings it has written, and of how many
-/// exchanges none could be made. Gives the exit status.
+/// Serves, records from the start on, and ends when `input` does, once what was recorded is written. Says how many
+/// mappings it has written, and of how many exchanges none could be made. Where a file can't be written, as far as that
+/// can be told before, it doesn't serve. Gives the exit status.
 pub(crate) fn record<R, O, E, W, I>(
     rt: R,
     served: ServeArguments<'_>,
@@ -36,12 +37,14 @@ where
     I: Read + Drop + Send + 'static,
     ensures { result ≤ 1 }
 {
+    if let Err(error) = check_files(rt.alloc(), &rt, given.file, given.har) {
+        return report(rt.alloc(), given, error, err);
+    }
     match planned(rt.alloc(), given, input) {
         Ok((plan, outcome)) => {
             let status = serve(rt, served, plan, out, err, log);
             match outcome.get(&rt) {
-                Some(Ok(recorded)) => put_recorded(recorded, status, out),
-                Some(Err(error)) => report(rt.alloc(), given, error, err),
+                Some(recorded) => put_recorded(recorded, status, out),
                 None => status,
             }
         }

@@ -108,8 +108,8 @@ where
     let Ok(ender) = ender_of(rt.alloc()) else {
         return out_of_memory(err);
     };
-    match log_to(rt, arguments, log) {
-        Ok((lines, log)) => {
+    match log_to(rt, arguments, log, plan) {
+        Ok((lines, log, plan)) => {
             let blank = Blank::new(PARTS);
             let opened = open_history(&rt, &book);
             let status = serve_book::<Brand, R, O, E, I>(
@@ -127,19 +127,31 @@ fn ender_of(alloc: Global) -> Result<Arc<Ender>, AllocError> {
     Ok(Arc::new(alloc, Ender::new(alloc)?)?)
 }
 
-// The lines that a thread writes to `out`, and what tells of requests by them.
-fn log_to<R, W>(
+// The lines that a thread writes to `out`, what tells of requests by them, and the plan whose watch tells by them.
+fn log_to<R, W, I>(
     rt: R,
     arguments: ServeArguments<'_>,
     out: W,
-) -> Result<(Arc<Lines>, RequestLog), AllocError>
+    plan: Plan<I>,
+) -> Result<(Arc<Lines>, RequestLog, Plan<I>), AllocError>
 where
     R: System,
     W: Write + Drop + Send + 'static,
+    I: Read + Drop + Send + 'static,
 {
     let lines = start(rt, out)?;
     let log = RequestLog::new(Arc::try_clone(&lines)?, arguments.verbose, Limits::usual());
-    Ok((lines, log))
+    let Plan {
+        recording,
+        page,
+        watch,
+    } = plan;
+    let plan = Plan {
+        recording,
+        page,
+        watch: watch.telling(Arc::try_clone(&lines)?),
+    };
+    Ok((lines, log, plan))
 }
 
 fn serve_book<L, R, O, E, I>(

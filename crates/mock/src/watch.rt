@@ -1,12 +1,17 @@
-// The thread that waits for the end of standard input, ends the recording then, and the server.
+// The thread that waits for the end of standard input, ends the recording then, and the server once that is written.
 use crate::system::System;
 use http_connections::ender::Ender;
 use mapping_files::recorded::{RecordError, Recorded, end_recording};
+use request_log::lines::Lines;
 use std::alloc::{AllocError, Global};
 use std::io::{ErrorKind, Read};
 use std::net::{IpAddr, Ipv4Addr, Ipv6Addr, SocketAddr};
 use std::sync::{Arc, Mutex, Wait};
 use std::{io, thread};
+
+// Where what was recorded is then.
+const GOES_ON: &str =
+    "  the server goes on with what it has recorded (GET /__admin/mappings, GET /__admin/recordings/har); Ctrl-C ends it\n";
 
 /// What is done when standard input ends.
 #[derive(Drop)]
@@ -14,6 +19,8 @@ pub(crate) struct Watch<I> {
     /// `None` where nothing is.
     input: Option<I>,
     recording: Option<RecordedFiles>,
+    /// Where it is said why a recording isn't written.
+    lines: Option<Arc<Lines>>,
 }
 
 /// Where a recording is written, and whether it was.
@@ -27,8 +34,8 @@ pub(crate) struct RecordedFiles {
 /// What became of a recording.
 #[derive(Drop)]
 pub(crate) struct Outcome {
-    /// `None` as long as it is on.
-    ended: Mutex<Option<Result<Recorded, RecordError>>>,
+    /// `None` as long as it isn't written.
+    ended: Mutex<Option<Recorded>>,
 }
 
 impl Outcome {
@@ -38,12 +45,12 @@ impl Outcome {
         }
     }
 
-    pub(crate) fn get<R: Wait>(&self, rt: &R) -> Option<Result<Recorded, RecordError>> {
+    pub(crate) fn get<R: Wait>(&self, rt: &R) -> Option<Recorded> {
         *self.ended.lock(rt)
     }
 
-    fn set<R: Wait>(&self, rt: &R, ended: Result<Recorded, RecordError>) {
-        *self.ended.lock(rt) = Some(ended);
+    fn set<R: Wait>(&self, rt: &R, recorded: Recorded) {
+        *self.ended.lock(rt) = Some(recorded);
     }
 }
 
@@ -64,13 +71,25 @@ impl RecordedFiles {
         })
     }
 
-    fn write<R: System>(&self, rt: &R, address: &str) {
-        let har = match &self.har {
+    fn har(&self) -> Option<&str> {
+        match &self.har {
             Some(path) => Some(path.as_str()),
             None => None,
-        };
-        let ended = end_recording(rt, address, self.file.as_str(), har);
-        self.outcome.set(rt, ended);
+        }
+    }
+
+    fn write<R: System>(&self, rt: &R, address: &str) -> Result<(), RecordError> {
+        let recorded = end_recording(rt, address, self.file.as_str(), self.har())?;
+        self.outcome.set(rt, recorded);
+        Ok(())
+    }
+
+    // It is said if there is memory for it.
+    fn tell<R: System>(&self, rt: &R, lines: &Lines, error: RecordError) {
+        if let Ok(text) = error.text(rt.alloc(), self.file.as_str(), self.har().unwrap_or("")) {
+            lines.add(rt, text.as_str());
+            lines.add(rt, GOES_ON);
+        }
     }
 }
 
@@ -80,6 +99,7 @@ impl<I: Read + Drop + Send + 'static> Watch<I> {
         Watch {
             input: if ends_with_input { Some(input) } else { None },
             recording: None,
+            lines: None,
         }
     }
 
@@ -88,6 +108,21 @@ impl<I: Read + Drop + Send + 'static> Watch<I> {
         Watch {
             input: Some(input),
             recording: Some(files),
+            lines: None,
+        }
+    }
+
+    /// The same, where what can't be written is told by these lines.
+    pub(crate) fn telling(self, lines: Arc<Lines>) -> Watch<I> {
+        let Watch {
+            input,
+            recording,
+            lines: _none,
+        } = self;
+        Watch {
+            input,
+            recording,
+            lines: Some(lines),
         }
     }
 
@@ -98,13 +133,20 @@ impl<I: Read + Drop + Send + 'static> Watch<I> {
         address: SocketAddr,
         ender: Arc<Ender>,
     ) -> io::Result<()> {
-        let Watch { input, recording } = self;
+        let Watch {
+            input,
+            recording,
+            lines,
+        } = self;
         let Some(input) = input else {
             return Ok(());
         };
         let address = reached_at(address);
         let address = format!(in rt.alloc(); "{address}")?;
-        let _thread = thread::spawn(&rt, move || end_with(rt, input, recording, address, ender))?;
+        let _thread = thread::spawn(
+            &rt,
+            move || end_with(rt, input, recording, lines, address, ender),
+        )?;
         Ok(())
     }
 }
@@ -114,14 +156,35 @@ fn end_with<R: System, I: Read + Drop>(
     rt: R,
     input: I,
     recording: Option<RecordedFiles>,
+    lines: Option<Arc<Lines>>,
     address: String,
     ender: Arc<Ender>,
 ) {
     wait_for_end(&rt, input);
-    if let Some(files) = &recording {
-        files.write(&rt, address.as_str());
+    if is_kept(&rt, &recording, &lines, address.as_str()) {
+        ender.end();
     }
-    ender.end();
+}
+
+// Whether there is no recording, or it is written. With a server that goes on nothing of it is lost.
+fn is_kept<R: System>(
+    rt: &R,
+    recording: &Option<RecordedFiles>,
+    lines: &Option<Arc<Lines>>,
+    address: &str,
+) -> bool {
+    let Some(files) = recording else {
+        return true;
+    };
+    match files.write(rt, address) {
+        Ok(()) => true,
+        Err(error) => {
+            if let Some(lines) = lines {
+                files.tell(rt, lines, error);
+            }
+            false
+        }
+    }
 }
 
 // A server that listens at every address is at the machine's own.

@@ -2,7 +2,10 @@
 ghost use Rattle.std.specs.Prelude.{◌≤◌, length};
 
 use crate::mapping_name::push_mapping;
-use match_difference::difference::{Difference, differences};
+use match_difference::condition::Condition;
+use match_difference::difference::unmet_conditions;
+use match_difference::look_up::found_of;
+use match_difference::read_request::ReadRequest;
 use match_difference::said::line_of;
 use mock_request::snapshot::Snapshot;
 use request_journal::mapping::Mapping;
@@ -30,7 +33,7 @@ pub struct Offer {
 // A mapping, and the conditions of it that the request doesn't meet.
 struct Near {
     mapping: Mapping,
-    differences: Vec<Difference>,
+    unmet: Vec<Condition>,
 }
 
 // Written out, so that a caller's proof sees one call and not the drop of each part.
@@ -38,7 +41,7 @@ impl Drop for Near {
     fn drop(self) {
         let Near {
             mapping: _mapping,
-            differences: _differences,
+            unmet: _unmet,
         } = self;
     }
 }
@@ -55,9 +58,10 @@ pub(crate) fn nearest_lines(
         scenarios,
     } = offer;
     let nearest = nearest(alloc, request, in_order(mappings)?, &scenarios)?;
+    let mut read = ReadRequest::new(request);
     let mut lines = String::new(alloc);
     for near in &nearest {
-        push_near(alloc, &mut lines, near)?;
+        push_near(alloc, &mut lines, near, &mut read, &scenarios)?;
     }
     Ok(lines)
 }
@@ -84,12 +88,8 @@ fn nearest(
     let mut left = LOOKED_AT;
     for mapping in mappings {
         if left > 0 || is_of_request(alloc, &mapping, &parsed)? {
-            let found = differences(alloc, &mapping, &mut parsed, scenarios)?;
-            let near = Near {
-                mapping,
-                differences: found,
-            };
-            keep(&mut nearest, near)?;
+            let unmet = unmet_conditions(alloc, &mapping, &mut parsed, scenarios)?;
+            keep(&mut nearest, Near { mapping, unmet })?;
         }
         left = left.saturating_sub(1);
     }
@@ -112,7 +112,7 @@ fn is_of_request(
 
 // Keeps it among the nearest so far, after those that differ in no more.
 fn keep(nearest: &mut Vec<Near>, near: Near) -> Result<(), AllocError> {
-    let index = count_nearer(nearest.as_slice(), near.differences.len());
+    let index = count_nearer(nearest.as_slice(), near.unmet.len());
     if index >= TOLD {
         return Ok(());
     }
@@ -126,7 +126,7 @@ fn count_nearer(nearest: &[Near], count: usize) -> usize
     ensures { result ≤ length nearest.now }
 {
     for index in 0..nearest.len() {
-        if nearest[index].differences.len() > count {
+        if nearest[index].unmet.len() > count {
             return index;
         }
     }
@@ -134,16 +134,23 @@ fn count_nearer(nearest: &[Near], count: usize) -> usize
 }
 
 // As `  nearest 3f83df0b-a3bf-5f1c-9b5c-bffae2bac110 "todo": method "PUT", found "GET"; url "/a", found "/b"`.
-fn push_near(alloc: Global, lines: &mut String, near: &Near) -> Result<(), AllocError> {
+fn push_near(
+    alloc: Global,
+    lines: &mut String,
+    near: &Near,
+    read: &mut ReadRequest<'_>,
+    scenarios: &Scenarios,
+) -> Result<(), AllocError> {
     lines.push_str("  nearest ")?;
     push_mapping(alloc, lines, &near.mapping)?;
     let mut front = ": ";
-    for difference in &near.differences {
+    for condition in &near.unmet {
+        let found = found_of(alloc, condition, read, scenarios)?;
         lines.push_str(front)?;
-        lines.push_str(line_of(alloc, difference)?.as_str())?;
+        lines.push_str(line_of(alloc, condition, &found)?.as_str())?;
         front = "; ";
     }
-    if near.differences.is_empty() {
+    if near.unmet.is_empty() {
         // The book has changed since the request was answered.
         lines.push_str(": it matches by now")?;
     }

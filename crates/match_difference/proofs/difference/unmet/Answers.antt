@@ -1,18 +1,13 @@
-use Rattle.std.proofs.Common.{◌≡◌, ◌∙◌, ◌∷◌, [], List, Any, ap, arith, length, map, refl, subst, sym}
+use Rattle.std.proofs.Common.{◌≡◌, ◌∙◌, [], Any, ap, arith, length, refl, subst, sym}
 use Rattle.std.proofs.lemmas.List.{append-nil}
 use Rattle.std.specs.Vec.Iter.{into_iter_items}
-use Rattle.match_difference.proofs.UnmetLemmas.{one_more}
+use Rattle.match_difference.proofs.UnmetLemmas.{none_left, one_more}
 use Rattle.match_difference.specs.Inner.Added.{IsAdded}
 use Rattle.match_difference.specs.Refusal.{IsConditionRefusal}
 use Rattle.match_difference.specs.Unmet.{AreUnmet}
-use Rattle.match_difference.specs.declared.difference.Difference.{Difference}
 use Rattle.request_match.proofs.AnyLemmas.{any_there}
 use Rattle.scenario_core.specs.Scenarios.{state_of}
 use Rattle.match_difference.proofs.difference.unmet.Goals as goal
-
-none_left : {X : Type 0} (xs : List X) → length xs ≡ 0 → xs ≡ []
-none_left [] e = refl
-none_left (x ∷ xs) e = absurd (omega (arith, e))
 
 pub loop-condition-preserved : goal.loop-condition-preserved
 loop-condition-preserved c =
@@ -20,8 +15,8 @@ loop-condition-preserved c =
     let x = c.in-Some.condition in
     let rest = into_iter_items c.next.new.self in
     let states = state_of c.args.scenarios.now in
-    let old = map (λ (d : Difference). d.condition) l.list.items in
-    let new = map (λ (d : Difference). d.condition) c.add_unmet.new.list.items in
+    let old = l.list.items in
+    let new = c.add_unmet.new.list.items in
     let steps = c.in-Some.ensures.steps in
     record {
       counted = omega (arith, l.invariant.counted, steps.1, ap length steps.0);
@@ -41,6 +36,6 @@ returns-clause-unmet c =
     let left = none_left (into_iter_items l.condition-iterator)
     (sym l.invariant.counted ∙ c.in-None.ensures.steps.0) in
     subst (AreUnmet (state_of c.args.scenarios.now) c.args.request.now c.args.conditions.items)
-    (append-nil (map (λ (d : Difference). d.condition) l.list.items))
+    (append-nil l.list.items)
     (l.invariant.found []
     (subst (λ cs. AreUnmet (state_of c.args.scenarios.now) c.args.request.now cs []) (sym left) refl))
