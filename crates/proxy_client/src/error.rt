@@ -90,6 +90,8 @@ fn failure_of(error: &hyper::Error) -> Failure {
         Failure::TooLong
     } else if error.is_parse() {
         Failure::NotHttp
+    } else if error.is_user() {
+        Failure::Unsendable
     } else {
         Failure::Broken
     }
