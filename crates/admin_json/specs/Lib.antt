@@ -5,7 +5,6 @@ pub mod Mappings
 pub mod Requests
 pub mod Scenarios
 pub mod Recordings
-pub mod ErrorValue
 pub mod Bodies
 pub mod State
 pub mod Start

@@ -1,6 +1,6 @@
 // The documents of the admin calls (WireMock's documentation, "Admin API"): the bodies that are read, and the JSON that
 // is answered. Contracts cite `specs/State.antt` and `specs/Start.antt` (what a body asks for, with `Bodies`), and
-// `specs/Mappings.antt`, `Requests`, `Scenarios`, `Recordings` and `ErrorValue` (the JSON of each answer), with
+// `specs/Mappings.antt`, `Requests`, `Scenarios` and `Recordings` (the JSON of each answer), with
 // `Written` and `Names` as their parts, and `specs/WholeNumbers.antt` (which numbers they have).
 #![tactic(auto)]
 
@@ -11,7 +11,6 @@ pub mod start;
 pub mod state;
 
 // Answers that are written.
-pub mod error_value;
 mod grouped;
 pub mod mappings;
 pub mod recordings;

@@ -1,13 +1,12 @@
 // Mappings of the book, as values.
 ghost use Rattle.std.specs.Prelude.{◌≡◌, ◌<◌, ◌^◌, false, All, IfOk, IfSome, codes, nat_abs, string_bytes};
-ghost use Rattle.admin_json.specs.Mappings.{with_id, json_of_held, json_of_list, json_of_mappings};
+ghost use Rattle.admin_json.specs.Mappings.{with_id, json_of_held};
 ghost use Rattle.admin_json.specs.WholeNumbers.{HasWholeBody, HasWholeJson, HasWholeNumbers};
 ghost use Rattle.mapping_json.specs.Writing.{json_of_id};
 ghost use Rattle.serde_json.specs.Data.{object, put};
 ghost use Rattle.serde_json.specs.View.{view, members_view};
 ghost use Rattle.serde_json.specs.Written.{compact_text, has_float};
 
-use crate::written::meta_value;
 use mapping_json::write::write_mapping;
 use mapping_model::mapping_id::MappingId;
 use mapping_model::response_spec::{Body, Content};
@@ -22,29 +21,6 @@ pub fn mapping_value(alloc: Global, mapping: &Mapping) -> Result<Value, AllocErr
 {
     let value = write_mapping(alloc, mapping.spec.spec())?;
     with_id(alloc, mapping.id, value)
-}
-
-/// The mappings, in the order that is given, and how many there are.
-pub fn mappings_value(alloc: Global, mappings: &[Mapping]) -> Result<Value, AllocError>
-    ensures { IfOk result (λ value. view value ≡ json_of_mappings mappings.now) }
-{
-    let mut members = Map::new(alloc);
-    let list = list_value(alloc, mappings)?;
-    serde_json::put(&mut members, alloc, "mappings", list)?;
-    let meta = meta_value(alloc, mappings.len())?;
-    serde_json::put(&mut members, alloc, "meta", meta)?;
-    Ok(Value::Object(members))
-}
-
-/// The list of the mappings.
-pub(crate) fn list_value(alloc: Global, mappings: &[Mapping]) -> Result<Value, AllocError>
-    ensures { IfOk result (λ value. view value ≡ json_of_list mappings.now) }
-{
-    let mut values = Vec::with_capacity(alloc, mappings.len())?;
-    for mapping in mappings {
-        values.push(mapping_value(alloc, mapping)?)?;
-    }
-    Ok(Value::Array(values))
 }
 
 /// The compact text of a mapping under its id.

@@ -1,54 +1,16 @@
 // Requests of the journal, as values.
 ghost use Rattle.std.specs.Prelude.{◌≡◌, IfOk, string_bytes};
-ghost use Rattle.admin_json.specs.Requests.{json_of_received, json_of_entry, json_of_entries};
-ghost use Rattle.admin_json.specs.Requests.{json_of_requests, json_of_found, json_of_number};
+ghost use Rattle.admin_json.specs.Requests.{json_of_received, json_of_entry};
 ghost use Rattle.serde_json.specs.View.{view};
 ghost use Rattle.serde_json.specs.Written.{compact_text};
 
 use crate::grouped::pairs_value;
-use crate::written::{meta_value, only_member};
 use mock_request::body::body_text;
 use mock_request::header_fields::header_pairs;
 use mock_request::snapshot::Snapshot;
 use request_journal::entry::Entry;
 use serde_json::{Map, Value};
 use std::alloc::{AllocError, Global};
-
-/// The requests, in the order that is given, and how many there are.
-pub fn requests_value(alloc: Global, entries: &[Entry]) -> Result<Value, AllocError>
-    ensures { IfOk result (λ value. view value ≡ json_of_requests entries.now) }
-{
-    let mut members = Map::new(alloc);
-    let meta = meta_value(alloc, entries.len())?;
-    serde_json::put(&mut members, alloc, "meta", meta)?;
-    let list = list_value(alloc, entries)?;
-    serde_json::put(&mut members, alloc, "requests", list)?;
-    Ok(Value::Object(members))
-}
-
-/// The requests that were found, in the order that is given.
-pub fn found_value(alloc: Global, entries: &[Entry]) -> Result<Value, AllocError>
-    ensures { IfOk result (λ value. view value ≡ json_of_found entries.now) }
-{
-    only_member(alloc, "requests", list_value(alloc, entries)?)
-}
-
-/// How many requests there are.
-pub fn count_value(alloc: Global, count: usize) -> Result<Value, AllocError>
-    ensures { IfOk result (λ value. view value ≡ json_of_number count) }
-{
-    only_member(alloc, "count", Value::from(count))
-}
-
-fn list_value(alloc: Global, entries: &[Entry]) -> Result<Value, AllocError>
-    ensures { IfOk result (λ value. view value ≡ json_of_entries entries.now) }
-{
-    let mut values = Vec::with_capacity(alloc, entries.len())?;
-    for entry in entries {
-        values.push(entry_value(alloc, entry)?)?;
-    }
-    Ok(Value::Array(values))
-}
 
 /// The compact text of a request.
 pub fn entry_text(alloc: Global, entry: &Entry) -> Result<String, AllocError>

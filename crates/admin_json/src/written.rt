@@ -1,6 +1,6 @@
 // Parts of the values that are answered.
 ghost use Rattle.std.specs.Prelude.{◌≡◌, IfOk, OnOk, string_bytes};
-ghost use Rattle.admin_json.specs.Written.{json_of_texts, json_of_meta, only_member};
+ghost use Rattle.admin_json.specs.Written.{json_of_texts, only_member};
 ghost use Rattle.serde_json.specs.Data.{put};
 ghost use Rattle.serde_json.specs.View.{view, members_view};
 
@@ -28,13 +28,6 @@ pub(crate) fn only_member(alloc: Global, name: &str, value: Value) -> Result<Val
     let mut members = Map::new(alloc);
     serde_json::put(&mut members, alloc, name, value)?;
     Ok(Value::Object(members))
-}
-
-/// How many there are.
-pub(crate) fn meta_value(alloc: Global, total: usize) -> Result<Value, AllocError>
-    ensures { IfOk result (λ value. view value ≡ json_of_meta total) }
-{
-    only_member(alloc, "total", Value::from(total))
 }
 
 /// A list of texts, which aren't copied.

@@ -1,4 +1,5 @@
 // What is wrong, and where.
+use crate::pointer::pointer_under;
 use crate::shown::{joined, shown};
 use itoa::Buffer;
 use serde_json::Value;
@@ -18,10 +19,7 @@ impl Fault {
     /// The value itself isn't what was wanted.
     pub(crate) fn of(alloc: Global, wanted: &str, found: &Value) -> Result<Fault, AllocError> {
         let found = shown(alloc, found)?;
-        let said = joined(
-            alloc,
-            ["wanted ", wanted, ", found ", found.as_str()].as_slice(),
-        )?;
+        let said = said_of(alloc, wanted, found.as_str())?;
         Ok(Fault::saying(alloc, said))
     }
 
@@ -35,13 +33,8 @@ impl Fault {
     /// The same fault, of the object that has the value at that name.
     pub(crate) fn under(self, alloc: Global, name: &str) -> Result<Fault, AllocError> {
         let Fault { pointer, said } = self;
-        let mut longer = String::from_str(alloc, "/")?;
-        push_token(&mut longer, name)?;
-        longer.push_str(pointer.as_str())?;
-        Ok(Fault {
-            pointer: longer,
-            said,
-        })
+        let pointer = pointer_under(alloc, name, pointer.as_str())?;
+        Ok(Fault { pointer, said })
     }
 
     /// The same fault, of the list that has the value at that index.
@@ -51,26 +44,7 @@ impl Fault {
     }
 }
 
-/// A name as a pointer has it.
-fn push_token(pointer: &mut String, name: &str) -> Result<(), AllocError> {
-    for character in name.chars() {
-        match character {
-            '~' => pointer.push_str("~0")?,
-            '/' => pointer.push_str("~1")?,
-            character => if character.is_control() {
-                push_escaped(pointer, character)?;
-            } else {
-                pointer.push(character)?;
-            },
-        }
-    }
-    Ok(())
-}
-
-// As `\n` or `\u{1b}`: by itself it would break the line.
-fn push_escaped(pointer: &mut String, control: char) -> Result<(), AllocError> {
-    for character in control.escape_debug() {
-        pointer.push(character)?;
-    }
-    Ok(())
+/// What was wanted, and what was found, as it is shown.
+pub(crate) fn said_of(alloc: Global, wanted: &str, found: &str) -> Result<String, AllocError> {
+    joined(alloc, ["wanted ", wanted, ", found ", found].as_slice())
 }

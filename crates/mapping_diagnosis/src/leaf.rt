@@ -2,7 +2,7 @@
 use crate::fault::{Fault, Found};
 use crate::numbers::number_fault;
 use crate::reasons::{json_reason, pattern_reason, template_reason};
-use crate::shown::{joined, quoted, shown_pointer};
+use crate::shown::{joined, quoted, shortened};
 use crate::sought::Sought;
 use json_bridge::error::JsonPathError;
 use json_bridge::json_path::JsonPath;
@@ -185,7 +185,7 @@ fn expected_number_fault(alloc: Global, text: &str) -> Found {
         return Ok(None);
     };
     let Fault { pointer, said } = fault;
-    let pointer = shown_pointer(alloc, pointer.as_str())?;
+    let pointer = shortened(alloc, pointer.as_str())?;
     let texts = [
         "in the JSON of this text, at \"",
         pointer.as_str(),

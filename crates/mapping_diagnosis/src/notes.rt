@@ -4,7 +4,7 @@ use crate::known_ids::KnownIds;
 use crate::part::Part;
 use crate::reasons::json_reason;
 use crate::search::{mapping_fault, part_fault};
-use crate::shown::{joined, quoted, shown, shown_pointer};
+use crate::shown::{joined, quoted, shortened, shown};
 use crate::sought::Sought;
 use crate::warnings::{text_at, warnings_of};
 use itoa::Buffer;
@@ -381,7 +381,7 @@ fn said_at(alloc: Global, fault: Fault) -> Result<String, AllocError> {
     if pointer.is_empty() {
         joined(alloc, [": ", said.as_str()].as_slice())
     } else {
-        let pointer = shown_pointer(alloc, pointer.as_str())?;
+        let pointer = shortened(alloc, pointer.as_str())?;
         joined(
             alloc,
             [", at ", pointer.as_str(), ": ", said.as_str()].as_slice(),

@@ -2,10 +2,10 @@
 use serde_json::Value;
 use std::alloc::{AllocError, Global};
 
-/// How many characters of a value are shown.
+/// How many characters of a value or a text are shown.
 const SHOWN: usize = 60;
 
-/// How many of the first characters of a longer pointer are shown, and how many of its last ones.
+/// How many of the first characters of a longer text are shown, and how many of its last ones, where both are.
 const SHOWN_FIRST: usize = 40;
 
 const SHOWN_LAST: usize = 18;
@@ -32,18 +32,18 @@ pub fn cut(alloc: Global, text: &str, characters: usize) -> Result<String, Alloc
     Ok(front)
 }
 
-/// The pointer, or the beginning and the end of a long one.
-pub(crate) fn shown_pointer(alloc: Global, pointer: &str) -> Result<String, AllocError> {
-    let count = pointer.chars().count();
+/// The text, or the beginning and the end of a long one.
+pub fn shortened(alloc: Global, text: &str) -> Result<String, AllocError> {
+    let count = text.chars().count();
     if count <= SHOWN {
-        return String::from_str(alloc, pointer);
+        return String::from_str(alloc, text);
     }
     let mut short = String::new(alloc);
-    for character in pointer.chars().take(SHOWN_FIRST) {
+    for character in text.chars().take(SHOWN_FIRST) {
         short.push(character)?;
     }
     short.push_str("..")?;
-    for character in pointer.chars().skip(count.saturating_sub(SHOWN_LAST)) {
+    for character in text.chars().skip(count.saturating_sub(SHOWN_LAST)) {
         short.push(character)?;
     }
     Ok(short)

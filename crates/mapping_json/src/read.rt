@@ -44,18 +44,7 @@ pub fn read_mapping_with(
 }
 
 /// What is read of each mapping of a document, which is an object with a list `mappings`, or one mapping. The outer
-/// error says that the document is neither, or that memory is out. No template escapes.
-pub fn read_each(
-    alloc: Global,
-    bytes: &[u8],
-) -> Result<Vec<Result<ReadyMapping, MappingError>>, MappingError>
-    ensures ok { IfOk result (λ results. AreResults Off bytes.now results.items) }
-    ensures error { IfErr result (IsOuterError bytes.now) }
-{
-    read_each_with(alloc, bytes, Escape::Off)
-}
-
-/// The same, where the prints of templates are escaped so.
+/// error says that the document is neither, or that memory is out. The prints of templates are escaped so.
 pub fn read_each_with(
     alloc: Global,
     bytes: &[u8],
@@ -86,15 +75,7 @@ pub fn mapping_values(document: &Value) -> Option<&[Value]>
 }
 
 /// All mappings of a document, or the error of the first that is none, with its index. Without an index the document
-/// is no list of mappings, or memory is out. No template escapes.
-pub fn read_mappings(alloc: Global, bytes: &[u8]) -> Result<Vec<ReadyMapping>, MappingsError>
-    ensures ok { IfOk result (λ mappings. SpellMappings Off bytes.now mappings.items) }
-    ensures error { IfErr result (IsMappingsError Off bytes.now) }
-{
-    read_mappings_with(alloc, bytes, Escape::Off)
-}
-
-/// The same, where the prints of templates are escaped so.
+/// is no list of mappings, or memory is out. The prints of templates are escaped so.
 pub fn read_mappings_with(
     alloc: Global,
     bytes: &[u8],

@@ -4,6 +4,7 @@ use crate::found::Found;
 use base64::engine::general_purpose::STANDARD;
 use itoa::Buffer;
 use json_match::json_spec::JsonSpec;
+use mapping_diagnosis::shown::shortened;
 use mapping_model::body_pattern::BodyPattern;
 use mapping_model::named_matcher::NamedMatcher;
 use mapping_model::url_spec::UrlSpec;
@@ -11,14 +12,6 @@ use plain_text::text::Text;
 use serde_json::Value;
 use std::alloc::{AllocError, Global};
 use value_match::value_spec::ValueSpec;
-
-/// How many characters of a text are shown: of a longer one the first and the last ones.
-const SHOWN: usize = 60;
-
-/// How many of the first characters of a longer text are shown, and how many of its last ones.
-const SHOWN_FIRST: usize = 40;
-
-const SHOWN_LAST: usize = 18;
 
 /// How many values of a name are shown.
 const VALUES_SHOWN: usize = 10;
@@ -34,24 +27,7 @@ pub fn line_of(alloc: Global, condition: &Condition, found: &Found) -> Result<St
 
 /// A text in quotation marks, escaped as in JSON; a long one is cut in the middle.
 pub fn quoted(alloc: Global, text: &str) -> Result<String, AllocError> {
-    Value::String(cut(alloc, text)?).to_string(alloc)
-}
-
-/// The text, or the beginning and the end of a long one.
-pub(crate) fn cut(alloc: Global, text: &str) -> Result<String, AllocError> {
-    let count = text.chars().count();
-    if count <= SHOWN {
-        return String::from_str(alloc, text);
-    }
-    let mut short = String::new(alloc);
-    for character in text.chars().take(SHOWN_FIRST) {
-        short.push(character)?;
-    }
-    short.push_str("..")?;
-    for character in text.chars().skip(count.saturating_sub(SHOWN_LAST)) {
-        short.push(character)?;
-    }
-    Ok(short)
+    Value::String(shortened(alloc, text)?).to_string(alloc)
 }
 
 fn push_condition(
