@@ -7,7 +7,6 @@ ghost use Rattle.admin_routes.specs.declared.route.Route.TheVariants as route;
 ghost use Rattle.request_journal.specs.declared.input.BookInput.TheVariants as input;
 ghost use Rattle.request_journal.specs.declared.read.BookRead.TheVariants as read;
 ghost use Rattle.template_tree.specs.declared.escape.Escape.{Escape};
-ghost use Rattle.template_tree.specs.declared.escape.Escape.TheVariants.{Off};
 ghost use Rattle.uuid.specs.Text.{parsed};
 
 use crate::call::AdminCall;
@@ -25,24 +24,9 @@ use request_journal::read::BookRead;
 use std::alloc::Global;
 use template_tree::escape::Escape;
 
-/// The call that a request below `/__admin` is, by its method, its URL and its body. A method and a path that the table
-/// doesn't have are reported without memory, then an id that is none, then what is wrong with the body.
-///
-/// No template of a posted mapping escapes.
-pub fn admin(
-    alloc: Global,
-    routes: &AdminRoutes,
-    method: &str,
-    url: &str,
-    body: &[u8],
-) -> Result<AdminCall, AdminError>
-    ensures ok { IfOk result (IsCall Off method.now url.now body.now) }
-    ensures error { IfErr result (IsAdminError Off method.now url.now body.now) }
-{
-    admin_with(alloc, routes, method, url, body, Escape::Off)
-}
-
-/// The same, where the prints of the templates of posted mappings are escaped so.
+/// The call that a request below `/__admin` is, by its method, its URL and its body, where the prints of the templates of
+/// posted mappings are escaped so. A method and a path that the table doesn't have are reported without memory, then an
+/// id that is none, then what is wrong with the body.
 pub fn admin_with(
     alloc: Global,
     routes: &AdminRoutes,

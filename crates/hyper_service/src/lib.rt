@@ -10,7 +10,6 @@ pub mod render_exchange;
 pub mod renderer;
 pub mod renders;
 mod report;
-pub mod serve_io;
 pub mod serving;
 pub mod site_answers;
 pub mod site_exchange;

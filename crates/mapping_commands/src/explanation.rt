@@ -152,11 +152,11 @@ fn each_explained(
     request: &Snapshot,
 ) -> Result<Vec<Explained>, CommandError> {
     let mut parsed = ParsedRequest::new(alloc, request);
-    let mut read = ReadRequest::new(request);
+    let read = ReadRequest::read(alloc, request)?;
     let mut listed = Vec::new(alloc);
     for mapping in book.mappings()? {
         let states = book.scenarios();
-        let found = match differences(alloc, &mapping, &mut parsed, &mut read, states) {
+        let found = match differences(alloc, &mapping, &mut parsed, &read, states) {
             Ok(found) => found,
             Err(error) => return Err(CommandError::from(error.error_code())),
         };

@@ -43,7 +43,7 @@ pub fn differences(
     alloc: Global,
     mapping: &Mapping,
     request: &mut ParsedRequest<'_>,
-    read: &mut ReadRequest<'_>,
+    read: &ReadRequest<'_>,
     scenarios: &Scenarios,
 ) -> Result<Vec<Difference>, RequestMatchError>
     ensures unmet { IfOk result (λ found. AreUnmet (state_of scenarios.now) request.old
@@ -116,7 +116,7 @@ fn add_unmet(
 fn each_with_found(
     alloc: Global,
     conditions: Vec<Condition>,
-    read: &mut ReadRequest<'_>,
+    read: &ReadRequest<'_>,
     scenarios: &Scenarios,
 ) -> Result<Vec<Difference>, AllocError>
     ensures { IfOk result (λ list. map (λ d. d.condition) list.items ≡ conditions.items) }
@@ -132,7 +132,7 @@ fn push_found(
     alloc: Global,
     list: &mut Vec<Difference>,
     condition: Condition,
-    read: &mut ReadRequest<'_>,
+    read: &ReadRequest<'_>,
     scenarios: &Scenarios,
 ) -> Result<(), AllocError>
     ensures { OnOk result (map (λ d. d.condition) list.new.items

@@ -17,19 +17,18 @@ use std::alloc::{AllocError, Global};
 pub fn found_of(
     alloc: Global,
     condition: &Condition,
-    request: &mut ReadRequest<'_>,
+    request: &ReadRequest<'_>,
     scenarios: &Scenarios,
 ) -> Result<Found, AllocError> {
     match condition {
-        Condition::Method(_) => one_value(alloc, request.snapshot().method()),
-        Condition::Url(wanted) => one_value(alloc, compared(wanted, request.snapshot())),
+        Condition::Method(_) => one_value(alloc, request.snapshot.method()),
+        Condition::Url(wanted) => one_value(alloc, compared(wanted, request.snapshot)),
         Condition::Value { source, matcher } => {
-            let values = request.values(alloc)?;
-            values_found(alloc, *source, matcher.name.as_str(), values)
+            values_found(alloc, *source, matcher.name.as_str(), &request.values)
         }
         Condition::PathParameter { template, matcher } => {
             let name = matcher.name.as_str();
-            segment_found(alloc, template.as_str(), name, request.snapshot())
+            segment_found(alloc, template.as_str(), name, request.snapshot)
         }
         Condition::Body(pattern) => body_found(alloc, pattern, request),
         Condition::Scenario(scenario) => {
@@ -114,26 +113,26 @@ fn segment_found(
 fn body_found(
     alloc: Global,
     pattern: &BodyPattern,
-    request: &mut ReadRequest<'_>,
+    request: &ReadRequest<'_>,
 ) -> Result<Found, AllocError> {
     match pattern {
-        BodyPattern::Value(_) => one_value(alloc, request.values(alloc)?.body_text()),
-        BodyPattern::BinaryEqualTo(_) => Ok(Found::Bytes(request.snapshot().body().len())),
+        BodyPattern::Value(_) => one_value(alloc, request.values.body_text()),
+        BodyPattern::BinaryEqualTo(_) => Ok(Found::Bytes(request.snapshot.body().len())),
         BodyPattern::Json(JsonSpec::EqualTo { .. }) => json_found(alloc, request),
         BodyPattern::Json(JsonSpec::Path(expression)) => {
-            path_found(alloc, expression.as_str(), request.body(alloc)?)
+            path_found(alloc, expression.as_str(), &request.body)
         }
         BodyPattern::JsonPath { expression, .. } => {
-            path_found(alloc, expression.as_str(), request.body(alloc)?)
+            path_found(alloc, expression.as_str(), &request.body)
         }
     }
 }
 
-fn json_found(alloc: Global, request: &mut ReadRequest<'_>) -> Result<Found, AllocError> {
-    if let ReadBody::NotJson(reason) = request.body(alloc)? {
-        return not_json(alloc, reason.as_str());
+fn json_found(alloc: Global, request: &ReadRequest<'_>) -> Result<Found, AllocError> {
+    match &request.body {
+        ReadBody::Json(_) => one_value(alloc, request.values.body_text()),
+        ReadBody::NotJson(reason) => not_json(alloc, reason.as_str()),
     }
-    one_value(alloc, request.values(alloc)?.body_text())
 }
 
 /// What a path finds in the body, as it is printed.

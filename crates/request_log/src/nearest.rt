@@ -58,10 +58,10 @@ pub(crate) fn nearest_lines(
         scenarios,
     } = offer;
     let nearest = nearest(alloc, request, in_order(mappings)?, &scenarios)?;
-    let mut read = ReadRequest::new(request);
+    let read = ReadRequest::read(alloc, request)?;
     let mut lines = String::new(alloc);
     for near in &nearest {
-        push_near(alloc, &mut lines, near, &mut read, &scenarios)?;
+        push_near(alloc, &mut lines, near, &read, &scenarios)?;
     }
     Ok(lines)
 }
@@ -138,7 +138,7 @@ fn push_near(
     alloc: Global,
     lines: &mut String,
     near: &Near,
-    read: &mut ReadRequest<'_>,
+    read: &ReadRequest<'_>,
     scenarios: &Scenarios,
 ) -> Result<(), AllocError> {
     lines.push_str("  nearest ")?;

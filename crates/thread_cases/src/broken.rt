@@ -9,9 +9,9 @@ use admin_routes::router::AdminRoutes;
 use answering::site::Site;
 use bytes::Bytes;
 use case_table::mappings::mapping;
+use http_connections::serve_io::serve_io;
 use hyper_service::journal_limit::JournalLimit;
 use hyper_service::log::NoLog;
-use hyper_service::serve_io::serve_io;
 use hyper_service::site_answers::SiteAnswers;
 use proxy_client::scripted_io::{Script, ScriptedIo};
 use shared_book::gate::NoGate;
@@ -295,7 +295,7 @@ where
     let input = Bytes::copy_from_slice(alloc, peer.input(index))?;
     let io = ScriptedIo::new(alloc, input, peer.script(index))?;
     let taken = io.taken()?;
-    let (seat, _ended) = serve_io(*rt, runtime, &answers, seat, io);
+    let (seat, _ended) = serve_io(*rt, runtime, &answers, seat, peer.turns(index), io);
     let events = events(rt, alloc, shared, seat)?;
     Ok(judged(peer, index, events, taken.take(alloc).as_slice()))
 }

@@ -6,7 +6,7 @@ use crate::message_threads::{Task, book_of, both_answer, length_of, site_of};
 use crate::messages::Asked;
 use crate::outcomes::{add_counts, add_number, add_refusal, add_told};
 use admin_answers::answer::answer_admin;
-use admin_routes::admin::admin;
+use admin_routes::admin::admin_with;
 use admin_routes::call::AdminCall;
 use admin_routes::router::AdminRoutes;
 use case_table::cells::Cells;
@@ -18,6 +18,7 @@ use std::alloc::{AllocError, Global};
 use std::str;
 use std::sync::Wait;
 use std::thread::Threads;
+use template_tree::escape::Escape;
 
 /// Each thread answers 500 requests, one that no mapping answers, and 10 edits. Then a third seat edits once more and
 /// counts the requests by an admin call, each seat takes over the next, and 1,023 events are settled.
@@ -96,7 +97,7 @@ fn add_count<L: Origin, R: Wait>(
 
 fn call_of(alloc: Global, method: &str, url: &str, body: &str) -> Result<AdminCall, AllocError> {
     let routes = AdminRoutes::new(alloc)?;
-    let call = admin(alloc, &routes, method, url, body.as_bytes());
+    let call = admin_with(alloc, &routes, method, url, body.as_bytes(), Escape::Off);
     call.ok().ok_or(AllocError)
 }
 
