@@ -40,13 +40,10 @@ pub(crate) fn number_fault(alloc: Global, value: &Value) -> Found {
 #[cycle(first_not_taken)]
 pub fn first_not_taken(alloc: Global, value: &Value) -> Result<Option<NumberAt>, AllocError> {
     match value {
-        Value::Number(number) => match number.as_i128() {
-            Some(_) => Ok(None),
-            None => Ok(Some(NumberAt {
-                number: value.to_string(alloc)?,
-                pointer: String::new(alloc),
-            })),
-        },
+        Value::Number(number) if number.as_i128().is_none() => Ok(Some(NumberAt {
+            number: value.to_string(alloc)?,
+            pointer: String::new(alloc),
+        })),
         Value::Array(items) => first_in_items(alloc, items),
         Value::Object(members) => first_in_members(alloc, members),
         _ => Ok(None),

@@ -108,7 +108,8 @@ fn report_answer<E: Write>(err: &mut E) -> u8
     FAILURE
 }
 
-fn out_of_memory<E: Write>(err: &mut E) -> u8
+/// Reports it, and gives the exit status.
+pub fn out_of_memory<E: Write>(err: &mut E) -> u8
     ensures { result ≡ FAILURE }
 {
     CommandError::from(ErrorCode::OutOfMemory).report(err);

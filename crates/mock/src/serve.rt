@@ -30,6 +30,7 @@ use hyper_service::renderer::Renderer;
 use hyper_service::serving::{begin_serving, end_serving};
 use hyper_service::site_answers::SiteAnswers;
 use mapping_files::book::{BookArguments, book_of};
+use mapping_files::save::out_of_memory;
 use proxy_client::client::{Client, SILENCE_SECONDS};
 use proxy_client::forwarder::Forwarder;
 use request_journal::input::BookInput;
@@ -407,14 +408,6 @@ where
     let renderer = Renderer::new(rt)?;
     let journal = JournalLimit::new(arguments.journal_limit);
     Ok(SiteAnswers::new(site, forwarder, renderer, log, journal))
-}
-
-/// Reports it, and gives the exit status.
-pub(crate) fn out_of_memory<E: Write>(err: &mut E) -> u8
-    ensures { result ≡ FAILURE }
-{
-    CommandError::from(ErrorCode::OutOfMemory).report(err);
-    FAILURE
 }
 
 // A listener, the runtime of the calling thread, and what forwards requests.

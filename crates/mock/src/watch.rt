@@ -78,10 +78,20 @@ impl RecordedFiles {
         }
     }
 
-    fn write<R: System>(&self, rt: &R, address: &str) -> Result<(), RecordError> {
-        let recorded = end_recording(rt, address, self.file.as_str(), self.har())?;
-        self.outcome.set(rt, recorded);
-        Ok(())
+    // Writes it, or says why it can't be.
+    fn is_written<R: System>(&self, rt: &R, address: &str, lines: &Option<Arc<Lines>>) -> bool {
+        match end_recording(rt, address, self.file.as_str(), self.har()) {
+            Ok(recorded) => {
+                self.outcome.set(rt, recorded);
+                true
+            }
+            Err(error) => {
+                if let Some(lines) = lines {
+                    self.tell(rt, lines, error);
+                }
+                false
+            }
+        }
     }
 
     // It is said if there is memory for it.
@@ -161,29 +171,13 @@ fn end_with<R: System, I: Read + Drop>(
     ender: Arc<Ender>,
 ) {
     wait_for_end(&rt, input);
-    if is_kept(&rt, &recording, &lines, address.as_str()) {
-        ender.end();
-    }
-}
-
-// Whether there is no recording, or it is written. With a server that goes on nothing of it is lost.
-fn is_kept<R: System>(
-    rt: &R,
-    recording: &Option<RecordedFiles>,
-    lines: &Option<Arc<Lines>>,
-    address: &str,
-) -> bool {
-    let Some(files) = recording else {
-        return true;
+    // With a server that goes on nothing of a recording is lost.
+    let is_kept = match &recording {
+        Some(files) => files.is_written(&rt, address.as_str(), &lines),
+        None => true,
     };
-    match files.write(rt, address) {
-        Ok(()) => true,
-        Err(error) => {
-            if let Some(lines) = lines {
-                files.tell(rt, lines, error);
-            }
-            false
-        }
+    if is_kept {
+        ender.end();
     }
 }
 

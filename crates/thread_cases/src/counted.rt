@@ -5,17 +5,17 @@ use crate::calls;
 use crate::message_threads::{Task, book_of, both_answer, length_of, site_of};
 use crate::messages::Asked;
 use crate::outcomes::{add_counts, add_number, add_refusal, add_told};
+use admin_answers::admin_answer::AdminAnswer;
 use admin_answers::answer::answer_admin;
+use admin_answers::listing::Listing;
 use admin_routes::admin::admin_with;
 use admin_routes::call::AdminCall;
 use admin_routes::router::AdminRoutes;
 use case_table::cells::Cells;
-use mapping_model::reply::Reply;
 use shared_book::origin::Origin;
 use shared_book::seat::Seat;
 use shared_book::shared_book::SharedBook;
 use std::alloc::{AllocError, Global};
-use std::str;
 use std::sync::Wait;
 use std::thread::Threads;
 use template_tree::escape::Escape;
@@ -89,8 +89,13 @@ fn add_count<L: Origin, R: Wait>(
     seat: &mut Seat<L>,
 ) -> Result<(), AllocError> {
     let call = call_of(alloc, "POST", "/__admin/requests/count", "{}")?;
-    let reply = reply_to(rt, alloc, shared, seat, call)?;
-    cells.add(str::from_utf8(reply.body.as_slice()).unwrap_or("not UTF-8"));
+    match answer_admin(rt, alloc, shared, seat, call)
+        .ok()
+        .ok_or(AllocError)?
+    {
+        AdminAnswer::Listed(listing) => add_piece(alloc, cells, listing)?,
+        AdminAnswer::Whole(_reply) => cells.add("no list"),
+    }
     cells.add("; ");
     Ok(())
 }
@@ -101,13 +106,11 @@ fn call_of(alloc: Global, method: &str, url: &str, body: &str) -> Result<AdminCa
     call.ok().ok_or(AllocError)
 }
 
-fn reply_to<L: Origin, R: Wait>(
-    rt: &R,
-    alloc: Global,
-    shared: &SharedBook<L>,
-    seat: &mut Seat<L>,
-    call: AdminCall,
-) -> Result<Reply, AllocError> {
-    let answer = answer_admin(rt, alloc, shared, seat, call);
-    answer.ok().ok_or(AllocError)?.into_reply(alloc)
+// The text of a count is one piece.
+fn add_piece(alloc: Global, cells: &mut Cells, listing: Listing) -> Result<(), AllocError> {
+    let mut listing = listing;
+    if let Some(piece) = listing.next(alloc)? {
+        cells.add(piece.as_str());
+    }
+    Ok(())
 }
