@@ -174,7 +174,7 @@ fn tag_words(alloc: Global, content: &str) -> Result<Vec<&str>, AllocError> {
             if closing == Some(*byte) {
                 closing = None;
             }
-        } else if is_between_words(*byte) {
+        } else if matches!(*byte, b' ' | b'\t' | b'\n' | b'\r' | b'(' | b')') {
             add_word(content.get(start..at), &mut words)?;
             start = at.saturating_add(1);
         } else {
@@ -195,10 +195,6 @@ fn add_word<'a>(word: Option<&'a str>, words: &mut Vec<&'a str>) -> Result<(), A
     }
 }
 
-fn is_between_words(byte: u8) -> bool {
-    matches!(byte, b' ' | b'\t' | b'\n' | b'\r' | b'(' | b')')
-}
-
 /// What closes a text in quotation marks, or brackets, that the byte opens.
 fn closing_of(byte: u8, is_first: bool) -> Option<u8> {
     match byte {
@@ -209,14 +205,10 @@ fn closing_of(byte: u8, is_first: bool) -> Option<u8> {
 }
 
 fn unsupported_cause(words: &[&str]) -> &'static str {
-    match words.first() {
-        Some(first) => cause_after(*first, words),
-        None => "",
-    }
-}
-
-/// By the first of the words.
-fn cause_after(first: &str, words: &[&str]) -> &'static str {
+    let Some(first) = words.first() else {
+        return "";
+    };
+    let first = *first;
     match first.strip_prefix("#") {
         Some(name) => block_cause(name, words),
         None => if first == "else" {

@@ -9,7 +9,7 @@ use command_output::files::{Documents, FileReader, read_documents};
 use command_output::output::put_notes;
 use mapping_commands::check::check_documents;
 use mapping_commands::fresh::{book_with, mappings_of};
-use mapping_commands::notes::notes_of;
+use mapping_commands::notes::{notes_of, put_all_notes};
 use mapping_diagnosis::notes::Notes;
 use std::alloc::Global;
 use std::io::Write;
@@ -91,12 +91,12 @@ fn book_of_documents<E: Write>(
     match opened(alloc, documents, given) {
         Ok((book, skipped)) => {
             report_skipped(alloc, skipped, err);
-            put_all_notes(alloc, documents, given, !skipped.is_none(), err);
+            put_book_notes(alloc, documents, given, !skipped.is_none(), err);
             Some(book)
         }
         Err(error) => {
             error.report(err);
-            put_all_notes(alloc, documents, given, true, err);
+            put_book_notes(alloc, documents, given, true, err);
             None
         }
     }
@@ -137,7 +137,7 @@ fn report_skipped<E: Write>(alloc: Global, skipped: Skipped, err: &mut E) {
 }
 
 // Which files were passed over, and what there is to say of the others.
-fn put_all_notes<E: Write>(
+fn put_book_notes<E: Write>(
     alloc: Global,
     documents: &Documents,
     given: BookArguments<'_>,
@@ -150,8 +150,7 @@ fn put_all_notes<E: Write>(
         notes_of(alloc, documents, false, given.escape)
     };
     let _ = notes.add_replaced_later(alloc, given.opening.saturating_add(1));
-    put_notes(err, documents.passed_over.as_str());
-    put_notes(err, notes.as_str());
+    put_all_notes(err, documents, &notes);
 }
 
 // Where and why each mapping that is refused is wrong, and warnings.

@@ -61,13 +61,12 @@ pub fn check_files<F: FileWriter>(
     if let Err(error) = files.check(alloc, file) {
         return Err(RecordError::File(error));
     }
-    let Some(path) = har else {
-        return Ok(());
-    };
-    match files.check(alloc, path) {
-        Ok(()) => Ok(()),
-        Err(error) => Err(RecordError::Har(error)),
+    if let Some(path) = har {
+        if let Err(error) = files.check(alloc, path) {
+            return Err(RecordError::Har(error));
+        }
     }
+    Ok(())
 }
 
 /// Stops the recording of the server at the address, and writes its mappings to a file, the oldest first; and first the
