@@ -8,6 +8,7 @@ use std::alloc::{AllocError, Global};
 
 /// A request with its values by name and the text of its body, and the JSON of that: read once for all conditions of all
 /// mappings.
+#[derive(Drop)]
 pub struct ReadRequest<'a> {
     pub(crate) snapshot: &'a Snapshot,
     pub(crate) values: RequestValues<'a>,
@@ -30,17 +31,6 @@ impl<'a> ReadRequest<'a> {
             values,
             body,
         })
-    }
-}
-
-// Written out, so that a caller's proof sees one call and not the drop of each part.
-impl<'a> Drop for ReadRequest<'a> {
-    fn drop(self) {
-        let ReadRequest {
-            snapshot: _snapshot,
-            values: _values,
-            body: _body,
-        } = self;
     }
 }
 
