@@ -208,13 +208,12 @@ fn unsupported_cause(words: &[&str]) -> &'static str {
     let Some(first) = words.first() else {
         return "";
     };
-    let first = *first;
     match first.strip_prefix("#") {
         Some(name) => block_cause(name, words),
-        None => if first == "else" {
+        None => if *first == "else" {
             " (an else takes no words: write {{else}}{{#if ..}} .. {{/if}})"
         } else {
-            other_cause(first, words)
+            other_cause(*first, words)
         },
     }
 }
