@@ -5,65 +5,48 @@ use std::io::{Error, ErrorKind, Write};
 use std::random::RandomSource;
 use std::{fs, io};
 
-/// Writes the bytes to a file. A link stays: the file that it leads to is written.
+/// Writes the bytes to a new file beside the path, and then renames it to the path. At an error the new file is removed.
+/// A link stays: the file that it leads to is written.
 pub(crate) fn store_over<R: Files + RandomSource>(
     rt: &R,
     alloc: Global,
     path: &str,
     bytes: &[u8],
 ) -> io::Result<()> {
-    match rt.canonicalize(alloc, path) {
-        Ok(file) => store_at(rt, alloc, file.into_string().as_str(), bytes),
-        Err(_error) => store_at(rt, alloc, path, bytes),
-    }
-}
-
-// Writes the bytes to a new file beside the path, and then renames it to the path. At an error the new file is removed.
-fn store_at<R: Files + RandomSource>(
-    rt: &R,
-    alloc: Global,
-    path: &str,
-    bytes: &[u8],
-) -> io::Result<()> {
-    if is_no_file(rt, path) {
-        return Err(no_file());
-    }
-    let new = new_path(rt, alloc, path)?;
-    let stored = write_new(rt, new.as_str(), path, bytes);
+    let place = place_of(rt, alloc, path)?;
+    let new = new_path(rt, alloc, place.as_str())?;
+    let stored = write_new(rt, new.as_str(), place.as_str(), bytes);
     if stored.is_err() {
         // It may not be there.
         let _ = fs::remove_file(rt, new.as_str());
         return stored;
     }
-    sync_folder(rt, path);
+    sync_folder(rt, place.as_str());
     Ok(())
 }
 
-/// Whether a new file can be made beside the path, or beside the file that a link leads to, and take its place. It is
-/// removed at once.
+/// Whether a new file can be made there, and take its place. It is removed at once.
 pub(crate) fn check_over<R: Files + RandomSource>(
     rt: &R,
     alloc: Global,
     path: &str,
 ) -> io::Result<()> {
-    match rt.canonicalize(alloc, path) {
-        Ok(file) => check_at(rt, alloc, file.into_string().as_str()),
-        Err(_error) => check_at(rt, alloc, path),
-    }
-}
-
-fn check_at<R: Files + RandomSource>(rt: &R, alloc: Global, path: &str) -> io::Result<()> {
-    if is_no_file(rt, path) {
-        return Err(no_file());
-    }
-    let new = new_path(rt, alloc, path)?;
+    let new = new_path(rt, alloc, place_of(rt, alloc, path)?.as_str())?;
     let file = File::create_new(rt, new.as_str())?;
     drop(file);
     fs::remove_file(rt, new.as_str())
 }
 
-fn no_file() -> Error {
-    Error::new(ErrorKind::InvalidInput, "it is no regular file")
+// The path, or where a link there leads to. It is an error where something is there that a file can't take the place of.
+fn place_of<R: Files>(rt: &R, alloc: Global, path: &str) -> io::Result<String> {
+    let place = match rt.canonicalize(alloc, path) {
+        Ok(file) => file.into_string(),
+        Err(_error) => String::from_str(alloc, path)?,
+    };
+    if is_no_file(rt, place.as_str()) {
+        return Err(Error::new(ErrorKind::InvalidInput, "it is no regular file"));
+    }
+    Ok(place)
 }
 
 // Something is there, as a folder or a device, that a file can't take the place of.

@@ -1,7 +1,7 @@
 // What a request has in place of what a condition asks for.
 use crate::condition::{Condition, Source};
 use crate::found::Found;
-use crate::read_request::{ReadBody, ReadRequest};
+use crate::read_request::{JsonBody, ReadBody, ReadRequest};
 use data_tree::data::Data;
 use json_bridge::json_path::JsonPath;
 use json_match::json_spec::JsonSpec;
@@ -138,16 +138,16 @@ fn json_found(alloc: Global, request: &ReadRequest<'_>) -> Result<Found, AllocEr
 /// What a path finds in the body, as it is printed.
 fn path_found(alloc: Global, expression: &str, body: &ReadBody) -> Result<Found, AllocError> {
     match body {
-        ReadBody::Json(data) => found_at(alloc, expression, data),
+        ReadBody::Json(json) => found_at(alloc, expression, json),
         ReadBody::NotJson(reason) => not_json(alloc, reason.as_str()),
     }
 }
 
-fn found_at(alloc: Global, expression: &str, data: &Data) -> Result<Found, AllocError> {
+fn found_at(alloc: Global, expression: &str, json: &JsonBody) -> Result<Found, AllocError> {
     let Ok(path) = JsonPath::parse(alloc, expression) else {
         return Ok(Found::NoSuchPath);
     };
-    match data.at(path.steps()) {
+    match json.root().at(path.steps()) {
         None | Some(Data::Nothing) => Ok(Found::NoSuchPath),
         Some(data) => {
             let mut printed = String::new(alloc);

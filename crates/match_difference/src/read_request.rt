@@ -1,4 +1,8 @@
 // A request as it is looked through for what there is in place of conditions.
+ghost use Rattle.data_tree.specs.Tree.{view};
+ghost use Rattle.data_tree.specs.Inner.OneProof.{IsWellFormed-prop};
+ghost use Rattle.data_tree.specs.WellFormed.{IsWellFormed};
+
 use crate::not_json::not_json_reason;
 use data_tree::data::Data;
 use json_bridge::read::data_of_json;
@@ -18,8 +22,23 @@ pub struct ReadRequest<'a> {
 /// A body as JSON, or why it isn't JSON.
 #[derive(Drop)]
 pub(crate) enum ReadBody {
-    Json(Data),
+    Json(JsonBody),
     NotJson(String),
+}
+
+/// Names come in byte order in it, as whoever looks into it needs.
+#[derive(Drop)]
+pub(crate) struct JsonBody {
+    root: Data,
+    ghost well_formed: { IsWellFormed (view root) } by { IsWellFormed-prop (view root) },
+}
+
+impl JsonBody {
+    pub(crate) fn root(&self) -> &Data
+        ensures { IsWellFormed (view result.now) }
+    {
+        &self.root
+    }
 }
 
 impl<'a> ReadRequest<'a> {
@@ -36,7 +55,7 @@ impl<'a> ReadRequest<'a> {
 
 fn body_of(alloc: Global, text: &str) -> Result<ReadBody, AllocError> {
     match data_of_json(alloc, text)? {
-        Some(data) => Ok(ReadBody::Json(data)),
+        Some(root) => Ok(ReadBody::Json(JsonBody { root })),
         None => Ok(ReadBody::NotJson(not_json_reason(alloc, text)?)),
     }
 }

@@ -185,7 +185,7 @@ fn push_found(alloc: Global, line: &mut String, found: &Found) -> Result<(), All
 
 fn push_values(alloc: Global, line: &mut String, values: &[String]) -> Result<(), AllocError> {
     let mut front = "";
-    for value in values.iter().take(VALUES_SHOWN) {
+    for value in values.get(..VALUES_SHOWN).unwrap_or(values) {
         push_quoted(alloc, line, front, value.as_str())?;
         front = ", ";
     }

@@ -31,19 +31,10 @@ pub struct Offer {
 }
 
 // A mapping, and the conditions of it that the request doesn't meet.
+#[derive(Drop)]
 struct Near {
     mapping: Mapping,
     unmet: Vec<Condition>,
-}
-
-// Written out, so that a caller's proof sees one call and not the drop of each part.
-impl Drop for Near {
-    fn drop(self) {
-        let Near {
-            mapping: _mapping,
-            unmet: _unmet,
-        } = self;
-    }
 }
 
 /// A line for each of the mappings that differ from the request in the fewest conditions; of two that differ in as many,
