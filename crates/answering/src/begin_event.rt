@@ -1,7 +1,9 @@
 // Requests that were served.
-ghost use Rattle.std.specs.Prelude.{◌≡◌, IfOk};
+ghost use Rattle.std.specs.Prelude.{IfOk};
 ghost use Rattle.answering.specs.Inner.Sent.{HasBegun, IsBegunOf, IsForwardOf, IsRenderingOf};
 ghost use Rattle.answering.specs.Served.{IsEventReply};
+ghost use Rattle.request_journal.specs.declared.event.Event.TheVariants.{Serve};
+ghost use Rattle.request_journal.specs.declared.event.ServeAnswer.TheVariants.{Proxy, Stub};
 ghost use Rattle.stub_book.specs.Growth.{IsServed};
 ghost use Rattle.stub_response.specs.ErrorReply.{unmatched_reply};
 
@@ -20,7 +22,7 @@ use request_journal::event::{Captured, Event, ServeAnswer};
 use request_journal::shared_request::SharedRequest;
 use shared_book::gate::Gate;
 use shared_book::origin::Origin;
-use std::alloc::{AllocError, Global};
+use std::alloc::Global;
 use stub_response::limits::Limits;
 use stub_response::prepared::Prepared;
 use stub_response::unmatched_reply::unmatched_reply;
@@ -74,58 +76,54 @@ fn begin_other<L: Origin, G: Gate, C: Clock>(
             site.gate.between_choice_and_render(number);
             let spec = &captured.mapping.spec;
             if is_slow(spec, request.request()) {
-                let rendering = rendering_of(number, request, captured, site.limits)?;
-                return Ok(Begun::ToRender(rendering));
+                return rendering_of(number, request, captured, site.limits);
             }
             mapping_response(alloc, spec, request.request(), site.limits)
         }
-        ServeAnswer::Proxy(target) => {
-            let forward = forward_of(&site.clock, number, request, target)?;
-            Ok(Begun::ToForward(forward))
-        }
+        ServeAnswer::Proxy(target) => forward_of(&site.clock, number, request, target),
         ServeAnswer::Unmatched => unmatched_response(alloc),
     }
 }
 
-// What is to be forwarded from now on. It shares the request with the event.
+// What is to be forwarded from now on. It shares the request with the event. Not inlined, as the two below: most events
+// need none of their locals.
+#[inline(never)]
 fn forward_of<C: Clock>(
     clock: &C,
     number: u64,
     request: &SharedRequest,
     target: &Target,
-) -> Result<Forward, AllocError>
-    ensures number { IfOk result (λ forward. forward.number ≡ number) }
-    ensures request { IfOk result (λ forward. forward.request ≡ request.now) }
-    ensures target { IfOk result (λ forward. forward.target ≡ target.now) }
+) -> Result<Begun, ServiceError>
+    ensures { IfOk result (HasBegun (λ _. ⊥) (IsForwardOf number (Serve request.now (Proxy target.now))) (λ _. ⊥)) }
 {
-    Ok(Forward {
+    Ok(Begun::ToForward(Forward {
         number,
         request: request.try_clone()?,
         target: target.try_clone()?,
         started_ms: clock.now_ms(),
-    })
+    }))
 }
 
 // What is to be rendered. It shares all of it with the event.
+#[inline(never)]
 fn rendering_of(
     number: u64,
     request: &SharedRequest,
     captured: &Captured,
     limits: Limits,
-) -> Result<Rendering, AllocError>
-    ensures number { IfOk result (λ rendering. rendering.number ≡ number) }
-    ensures request { IfOk result (λ rendering. rendering.request ≡ request.now) }
-    ensures captured { IfOk result (λ rendering. rendering.captured ≡ captured.now) }
-    ensures limits { IfOk result (λ rendering. rendering.limits ≡ limits) }
+) -> Result<Begun, ServiceError>
+    ensures { IfOk result (HasBegun (λ _. ⊥) (λ _. ⊥)
+        (IsRenderingOf limits number (Serve request.now (Stub captured.now)))) }
 {
-    Ok(Rendering {
+    Ok(Begun::ToRender(Rendering {
         number,
         request: request.try_clone()?,
         captured: captured.try_clone()?,
         limits,
-    })
+    }))
 }
 
+#[inline(never)]
 fn unmatched_response(alloc: Global) -> Result<Begun, ServiceError>
     ensures { IfOk result (IsBegunOf unmatched_reply) }
 {

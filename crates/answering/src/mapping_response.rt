@@ -37,6 +37,8 @@ pub(crate) fn mapping_response(
     }
 }
 
+// Not inlined: where headers were made before, none of its locals is needed.
+#[inline(never)]
 fn whole_response(
     alloc: Global,
     mapping: &MappingSpec,

@@ -10,11 +10,11 @@ use template_code::instr::Instr;
 
 // The steps that the templates of a response may take without holding others up. A step takes some 100 ns, besides what
 // its helper does with a value.
-const STEPS: u128 = 200_000;
+const STEPS: u64 = 200_000;
 
 // The bytes that their helpers may handle so, in all steps together (64 MiB). No value is larger than the request's
 // data.
-const HANDLED_BYTES: u128 = 67_108_864;
+const HANDLED_BYTES: u64 = 67_108_864;
 
 // The bytes of the data of a request beside those of its URL, headers and body, or some more.
 const DATA_OF_NONE: usize = 300;
@@ -49,16 +49,16 @@ fn may_be_slow(mapping: &SharedSpec, request: &Snapshot) -> bool {
 }
 
 // The bytes that helpers handle, if each step has one that handles all of the data.
-fn handled(steps: u128, size: u64) -> u128 {
-    steps.saturating_mul(u128::from(size))
+fn handled(steps: u64, size: u64) -> u64 {
+    steps.saturating_mul(size)
 }
 
-// The most steps of the templates of a response over data of that size.
-fn steps_at(content: &Content, size: u64) -> u128 {
+// The most steps of the templates of a response over data of that size, or 2^64 - 1 where there are more.
+fn steps_at(content: &Content, size: u64) -> u64 {
     let Content::Templated { headers, body } = content else {
         return 0;
     };
-    let mut steps: u128 = 0;
+    let mut steps: u64 = 0;
     for header in headers.as_slice() {
         steps = steps.saturating_add(template_steps(&header.value, size));
     }
@@ -68,11 +68,15 @@ fn steps_at(content: &Content, size: u64) -> u128 {
     }
 }
 
-fn template_steps(template: &TemplateText, size: u64) -> u128 {
-    match template.program().budget().at(size) {
-        Some((steps, _bytes)) => steps,
-        None => u128::MAX,
+// `Budget::at` would find the bytes too, and either as a number of 128 bits.
+fn template_steps(template: &TemplateText, size: u64) -> u64 {
+    let mut steps: u64 = 0;
+    let mut power: u64 = 1;
+    for coefficient in template.program().budget().steps() {
+        steps = steps.saturating_add(power.saturating_mul(*coefficient));
+        power = power.saturating_mul(size);
     }
+    steps
 }
 
 // Whether a template has a loop in whose turns a helper may handle the same value again.

@@ -1,2 +1,3 @@
+pub mod FieldSets
 pub mod NeededFacts
 pub mod Examples

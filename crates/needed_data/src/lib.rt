@@ -2,4 +2,6 @@
 //! `specs/Needed.antt`: what is needed, and when two roots of data are alike in it.
 #![tactic(auto)]
 
+mod field_set;
 pub mod needed;
+pub mod request_field;

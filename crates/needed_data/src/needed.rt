@@ -1,5 +1,5 @@
 //! The data that is looked at.
-ghost use Rattle.std.specs.Prelude.{◌≡◌, ◌↔◌, false, true, [], ◌∷◌, IfSome, IsTrue, codes, map};
+ghost use Rattle.std.specs.Prelude.{◌≡◌, false, true, [], ◌∷◌, All, IfOk, IfSome, IsTrue, codes, map};
 ghost use Rattle.std.specs.List.{list_any};
 ghost use Rattle.std.specs.Str.{bytes_eq};
 ghost use Rattle.data_tree.specs.declared.step.Step.TheVariants.{Name};
@@ -7,27 +7,34 @@ ghost use Rattle.needed_data.specs.Needed.{is_json_needed, is_json_field_needed,
 ghost use Rattle.data_tree.specs.RootPaths.{json_path};
 ghost use Rattle.needed_data.specs.Needed.{json_field_path, Includes, Covers};
 ghost use Rattle.data_tree.specs.RootPaths.{field_path};
+ghost use Rattle.needed_data.specs.Fields.{name_of};
+ghost use Rattle.needed_data.specs.Inner.Parts.{IncludesParts};
 
+use crate::field_set::{self, has_field, set_of, union};
+use crate::request_field::RequestField;
 use arrayvec::ArrayVec;
+use data_tree::compact_text::CompactText;
 use data_tree::step::Step;
+use std::alloc::{AllocError, Global};
 use std::marker::Model;
 
-/// How many names are told apart: data with more of them is needed as a whole.
+/// How many names of fields of the body's data are told apart: data with more of them is needed as a whole.
 const MAX_NAMES: usize = 8;
 
 /// Which of a request's data is looked at: all of it, the body's data or fields of it by their names, or fields of the
-/// request by their names. Takes no memory.
+/// request. Takes no memory.
 #[derive(Drop)]
 pub struct Needed<'a> {
     everything: bool,
     json: bool,
     json_names: ArrayVec<&'a str, MAX_NAMES>,
-    names: ArrayVec<&'a str, MAX_NAMES>,
+    fields: u16,
 }
 
 impl<'a> Model for Needed<'a> {
     ghost use Rattle.std.specs.Prelude.{map};
     ghost use Rattle.needed_data.specs.Needed.{NeededData};
+    ghost use Rattle.needed_data.specs.Inner.FieldSet.{names_in};
 
     ghost Value = { NeededData };
 
@@ -35,7 +42,30 @@ impl<'a> Model for Needed<'a> {
       everything = n.everything;
       json = n.json;
       json_names = map (λ name. name.now) n.json_names.items;
-      names = map (λ name. name.now) n.names.items;
+      names = names_in n.fields;
+    } };
+}
+
+/// The same, with names of its own.
+#[derive(Debug, Drop)]
+pub struct KeptNeeded {
+    everything: bool,
+    json: bool,
+    json_names: Vec<CompactText>,
+    fields: u16,
+}
+
+impl Model for KeptNeeded {
+    ghost use Rattle.needed_data.specs.Needed.{NeededData};
+    ghost use Rattle.needed_data.specs.Inner.FieldSet.{names_in};
+
+    ghost Value = { NeededData };
+
+    ghost view = { λ n. record {
+      everything = n.everything;
+      json = n.json;
+      json_names = n.json_names.items;
+      names = names_in n.fields;
     } };
 }
 
@@ -51,8 +81,52 @@ impl<'a> Needed<'a> {
             everything: false,
             json: false,
             json_names: ArrayVec::new(),
-            names: ArrayVec::new(),
+            fields: 0,
         }
+    }
+
+    /// What was needed of another is needed too.
+    pub fn add_kept(&mut self, kept: &'a KeptNeeded)
+        ensures more { Includes self.new self.old }
+        ensures kept { Includes self.new kept.now }
+    {
+        self.add_kept_parts(kept);
+        self.add_json_fields(kept.json_names.as_slice());
+    }
+
+    // All of it but the names of fields of the body's data.
+    fn add_kept_parts(&mut self, kept: &KeptNeeded)
+        ensures more { Includes self.new self.old }
+        ensures parts { IncludesParts self.new kept.now }
+    {
+        self.everything = self.everything | kept.everything;
+        self.json = self.json | kept.json;
+        self.fields = union(self.fields, kept.fields);
+    }
+
+    fn add_json_fields(&mut self, names: &'a [CompactText])
+        ensures more { Includes self.new self.old }
+        ensures fields { All (λ name. Covers self.new (json_field_path name)) names.now }
+    {
+        for name in names {
+            self.add_json_field(name.as_str());
+        }
+    }
+
+    /// What is needed, to be kept.
+    pub fn to_kept(&self, alloc: Global) -> Result<KeptNeeded, AllocError>
+        ensures { IfOk result (λ kept. kept ≡ self.now) }
+    {
+        let mut json_names = Vec::new(alloc);
+        for name in self.json_names.as_slice() {
+            json_names.push(CompactText::from_str(alloc, name)?)?;
+        }
+        Ok(KeptNeeded {
+            everything: self.everything,
+            json: self.json,
+            json_names,
+            fields: self.fields,
+        })
     }
 
     /// What the steps find is needed too: the body's data, a field of it, a field of the request, or else everything.
@@ -118,25 +192,32 @@ impl<'a> Needed<'a> {
         }
     }
 
-    fn add_field(&mut self, name: &'a str)
+    // Only all of the request's data has a field of an unknown name.
+    fn add_field(&mut self, name: &str)
         ensures more { Includes self.new self.old }
         ensures field { Covers self.new (field_path name.now) }
     {
-        if self.has(name) {
-            return;
+        match RequestField::from_name(name) {
+            Some(field) => self.add_known_field(field),
+            None => self.add_everything(),
         }
-        if self.names.is_full() {
-            self.add_everything();
-        } else {
-            self.names.push(name);
-        }
+    }
+
+    fn add_known_field(&mut self, field: RequestField)
+        ensures more { Includes self.new self.old }
+        ensures field { Covers self.new (field_path (name_of field)) }
+    {
+        self.fields = union(self.fields, set_of(field));
     }
 
     /// Whether nothing is needed.
     pub fn is_empty(&self) -> bool
-        ensures { IsTrue result ↔ (self.now ≡ nothing) }
+        ensures { IsTrue result → self.now ≡ nothing }
     {
-        !self.everything && !self.json && self.json_names.is_empty() && self.names.is_empty()
+        !self.everything
+            && !self.json
+            && self.json_names.is_empty()
+            && field_set::is_empty(self.fields)
     }
 
     /// Whether all of the body's data is needed.
@@ -160,11 +241,12 @@ impl<'a> Needed<'a> {
         self.has_json() || has_name(self.json_names.as_slice(), name)
     }
 
-    /// Whether the request's field of that name is needed.
-    pub fn has(&self, name: &str) -> bool
-        ensures { result ≡ is_needed self.now name.now }
+    /// Whether that field of the request is needed.
+    #[inline]
+    pub fn has(&self, field: RequestField) -> bool
+        ensures { result ≡ is_needed self.now (name_of field) }
     {
-        self.everything || has_name(self.names.as_slice(), name)
+        self.everything || has_field(self.fields, field)
     }
 }
 

@@ -1,5 +1,6 @@
 pub mod GroupLemmas
 pub mod RunLemmas
+pub mod RunFieldLemmas
 pub mod DecodedLemmas
 pub mod HostLemmas
 pub mod AuthorityLemmas

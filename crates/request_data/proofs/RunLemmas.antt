@@ -94,12 +94,6 @@ any_of_run name runs run some =
     by (value ∷ values) more =
         ap (λ b. list_any (is_named name) (pairs_of_runs runs) || b) (any_under name run.0 value values)
 
--- a run without values has no pairs
-pub empty_run : (runs : List Run) (run : Run) → run.1 ≡ [] → pairs_of_runs (runs ++ run ∷ []) ≡ pairs_of_runs runs
-empty_run runs run none =
-    runs_more runs run ∙ ap (λ vs. pairs_of_runs runs ++ pairs_under run.0 vs) none
-    ∙ append-nil (pairs_of_runs runs)
-
 -- ---- a form whose names and values are read one after the other
 
 abbrev pub text_of : List ℕ → List ℕ
@@ -154,11 +148,16 @@ none_left done new last values left whole so_far none pushed =
 
 -- ---- runs in order
 
+-- each name has a value
+abbrev pub HaveValues : List Run → Type 0
+HaveValues [] = Unit {0}
+HaveValues (run ∷ runs) = (0 < length run.1) × HaveValues runs
+
 above
     : (name : List ℕ) (runs : List Run) → IsBefore name runs → AreInOrder runs
     → AllByRecursion (λ k. slice_cmp nat_cmp name k ≡ Less) (keys_of runs)
 above name [] before order = tt
-above name (run ∷ runs) before order = (before, later runs (above run.0 runs order.1 order.2))
+above name (run ∷ runs) before order = (before, later runs (above run.0 runs order.0 order.1))
   where
     later
         : (rest : List Run) → AllByRecursion (λ k. slice_cmp nat_cmp run.0 k ≡ Less) (keys_of rest)
@@ -172,7 +171,7 @@ above name (run ∷ runs) before order = (before, later runs (above run.0 runs o
 sorted_runs : (runs : List Run) → AreInOrder runs → IsStrictlySortedBy (slice_cmp nat_cmp) (keys_of runs)
 unfolding IsStrictlySortedBy
 sorted_runs [] order = tt
-sorted_runs (run ∷ runs) order = (above run.0 runs order.1 order.2, sorted_runs runs order.2)
+sorted_runs (run ∷ runs) order = (above run.0 runs order.0 order.1, sorted_runs runs order.1)
 
 values_before
     : (name : List ℕ) (run : Run) (runs : List Run)
@@ -199,7 +198,7 @@ found_values
     → unwrap_or (found (λ key. key) values_tree name runs) [] ≡ values_of name (pairs_of_runs runs)
 found_values [] order name = refl
 found_values (run ∷ runs) order name =
-    by (bytes_eq name run.0) refl (found_values runs order.2 name) ∙ sym (values_before name run runs)
+    by (bytes_eq name run.0) refl (found_values runs order.1 name) ∙ sym (values_before name run runs)
   where
     by
         : (b : Bool) → bytes_eq name run.0 ≡ b
@@ -209,18 +208,18 @@ found_values (run ∷ runs) order name =
     by true e later =
         let same : name ≡ run.0 = (bytes_eq-Decides name run.0).0 e in
         let none : values_of name (pairs_of_runs runs) ≡ [] =
-        ap (λ n. values_of n (pairs_of_runs runs)) same ∙ none_above run.0 runs (above run.0 runs order.1 order.2) in
+        ap (λ n. values_of n (pairs_of_runs runs)) same ∙ none_above run.0 runs (above run.0 runs order.0 order.1) in
         rw (is_eq-slice_cmp name run.0, e, none) (sym (append-nil run.1))
     by false e later = rw (is_eq-slice_cmp name run.0, e) later
 
 -- a name is found where a pair has it
 found_among
-    : (runs : List Run) → AreInOrder runs → (name : List ℕ)
+    : (runs : List Run) → AreInOrder runs → HaveValues runs → (name : List ℕ)
     → is_some (found (λ key. key) values_tree name runs) ≡ list_any (is_named name) (pairs_of_runs runs)
-found_among [] order name = refl
-found_among (run ∷ runs) order name =
-    by (bytes_eq name run.0) refl (found_among runs order.2 name)
-    ∙ sym (any_before run.1 order.0)
+found_among [] order have name = refl
+found_among (run ∷ runs) order have name =
+    by (bytes_eq name run.0) refl (found_among runs order.1 have.1 name)
+    ∙ sym (any_before run.1 have.0)
   where
     any_before
         : (values : List (List ℕ)) → 0 < length values
@@ -241,9 +240,9 @@ found_among (run ∷ runs) order name =
 
 -- runs in order are what the definition groups
 pub grouped_in_order
-    : (runs : List Run) → AreInOrder runs
+    : (runs : List Run) → AreInOrder runs → HaveValues runs
     → members_of (map (entry_tree (λ key. key) values_tree) runs)
     ≡ members_under values_tree (names_in (pairs_of_runs runs)) (pairs_of_runs runs)
-grouped_in_order runs order =
+grouped_in_order runs order have =
     grouped_entries (λ key. key) values_tree (pairs_of_runs runs) runs (sorted_runs runs order) (found_values runs order)
-    (found_among runs order)
+    (found_among runs order have)

@@ -3,3 +3,4 @@ pub mod Lengths
 pub mod Runs
 pub mod Plain
 pub mod Values
+pub mod RunFields

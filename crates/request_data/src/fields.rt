@@ -8,6 +8,7 @@ ghost use Rattle.mock_request.specs.HeaderFields.{header_pairs};
 ghost use Rattle.mock_request.specs.Query.{query_pairs};
 ghost use Rattle.mock_request.specs.Url.{path_of};
 ghost use Rattle.mock_request.specs.Authority.{host_of, port_of};
+ghost use Rattle.needed_data.specs.Fields.{name_of};
 ghost use Rattle.request_data.specs.Authority.{authority_of};
 ghost use Rattle.request_data.specs.Grouped.{grouped};
 ghost use Rattle.request_data.specs.Inner.Views.{entries_of, kept_of};
@@ -26,6 +27,7 @@ use mock_request::cookies::cookie_pairs;
 use mock_request::header_fields::header_pairs;
 use mock_request::snapshot::Snapshot;
 use needed_data::needed::Needed;
+use needed_data::request_field::RequestField;
 use path_template::path_template::PathTemplate;
 use std::alloc::{AllocError, Global};
 
@@ -39,7 +41,7 @@ pub(crate) fn push_base_url(
     ensures { OnOk result (entries_of made.new.fields.items ≡ entries_of made.old.fields.items
         ++ kept_of needed.now ((codes "baseUrl", text (codes "http://" ++ authority_of snapshot.now.headers)) ∷ [])) }
 {
-    if !needed.has("baseUrl") {
+    if !needed.has(RequestField::BaseUrl) {
         return Ok(());
     }
     let mut url = String::from_str(alloc, "http://")?;
@@ -59,7 +61,7 @@ pub(crate) fn push_body(
     ensures { OnOk result (entries_of made.new.fields.items ≡ entries_of made.old.fields.items
         ++ kept_of needed.now ((codes "body", text (utf8_lossy snapshot.now.body)) ∷ [])) }
 {
-    if !needed.has("body") {
+    if !needed.has(RequestField::Body) {
         return Ok(());
     }
     let text = match body {
@@ -78,7 +80,7 @@ pub(crate) fn push_cookies(
     ensures { OnOk result (entries_of made.new.fields.items ≡ entries_of made.old.fields.items
         ++ kept_of needed.now ((codes "cookies", grouped (cookie_pairs snapshot.now.headers)) ∷ [])) }
 {
-    if !needed.has("cookies") {
+    if !needed.has(RequestField::Cookies) {
         return Ok(());
     }
     made.push("cookies", grouped(alloc, cookie_pairs(alloc, snapshot)?)?)
@@ -93,7 +95,7 @@ pub(crate) fn push_headers(
     ensures { OnOk result (entries_of made.new.fields.items ≡ entries_of made.old.fields.items
         ++ kept_of needed.now ((codes "headers", grouped (header_pairs snapshot.now.headers)) ∷ [])) }
 {
-    if !needed.has("headers") {
+    if !needed.has(RequestField::Headers) {
         return Ok(());
     }
     made.push("headers", grouped(alloc, header_pairs(alloc, snapshot)?)?)
@@ -109,7 +111,7 @@ pub(crate) fn push_host(
     ensures { OnOk result (entries_of made.new.fields.items ≡ entries_of made.old.fields.items
         ++ kept_of needed.now ((codes "host", text (host_of (authority_of snapshot.now.headers))) ∷ [])) }
 {
-    if !needed.has("host") {
+    if !needed.has(RequestField::Host) {
         return Ok(());
     }
     let authority = authority(alloc, snapshot)?;
@@ -132,7 +134,7 @@ pub(crate) fn push_path(
               (bound_in (path_of snapshot.now.url) (option_copied template.entry)),
         ) ∷ [])) }
 {
-    if !needed.has("path") {
+    if !needed.has(RequestField::Path) {
         return Ok(());
     }
     let path = snapshot.path();
@@ -150,7 +152,7 @@ pub(crate) fn push_path_segments(
     ensures { OnOk result (entries_of made.new.fields.items ≡ entries_of made.old.fields.items
         ++ kept_of needed.now ((codes "pathSegments", path_tree (path_of snapshot.now.url) no_members) ∷ [])) }
 {
-    if !needed.has("pathSegments") {
+    if !needed.has(RequestField::PathSegments) {
         return Ok(());
     }
     let segments = path_data(alloc, snapshot.path(), Vec::new(alloc))?;
@@ -167,7 +169,7 @@ pub(crate) fn push_port(
     ensures { OnOk result (entries_of made.new.fields.items ≡ entries_of made.old.fields.items
         ++ kept_of needed.now ((codes "port", number (pos (port_of (authority_of snapshot.now.headers)))) ∷ [])) }
 {
-    if !needed.has("port") {
+    if !needed.has(RequestField::Port) {
         return Ok(());
     }
     let authority = authority(alloc, snapshot)?;
@@ -184,7 +186,7 @@ pub(crate) fn push_query(
     ensures { OnOk result (entries_of made.new.fields.items ≡ entries_of made.old.fields.items
         ++ kept_of needed.now ((codes "query", grouped (query_pairs snapshot.now.url)) ∷ [])) }
 {
-    if !needed.has("query") {
+    if !needed.has(RequestField::Query) {
         return Ok(());
     }
     made.push("query", query_data(alloc, snapshot)?)
@@ -194,14 +196,14 @@ pub(crate) fn push_query(
 pub(crate) fn push_text(
     made: &mut Object,
     needed: &Needed<'_>,
-    name: &str,
+    field: RequestField,
     content: &str,
 ) -> Result<(), AllocError>
     ensures { OnOk result (entries_of made.new.fields.items ≡ entries_of made.old.fields.items
-        ++ kept_of needed.now ((name.now, text content.now) ∷ [])) }
+        ++ kept_of needed.now ((name_of field, text content.now) ∷ [])) }
 {
-    if !needed.has(name) {
+    if !needed.has(field) {
         return Ok(());
     }
-    made.push_text(name, content)
+    made.push_text(field.name(), content)
 }

@@ -1,6 +1,5 @@
 // Names and values, grouped by name.
 ghost use Rattle.std.specs.Prelude.{◌≡◌, ℕ, List, [], is_some, IfOk};
-ghost use Rattle.std.specs.Bool.{OnTrue};
 ghost use Rattle.std.specs.BTreeMap.{get_by_text};
 ghost use Rattle.std.specs.List.{list_any};
 ghost use Rattle.std.specs.Option.{unwrap_or};
@@ -8,13 +7,13 @@ ghost use Rattle.std.specs.Str.{bytes_eq};
 ghost use Rattle.data_tree.specs.Tree.{members_view, view};
 ghost use Rattle.mock_request.specs.Values.{pairs_of, values_of};
 ghost use Rattle.request_data.specs.Grouped.{firsts, grouped};
-ghost use Rattle.request_data.specs.Inner.Runs.{pairs_of_runs, AreInOrder};
+ghost use Rattle.request_data.specs.Inner.Runs.{pairs_of_runs};
 
+use crate::runs::Runs;
 use crate::values::Values;
 use data_tree::compact_text::CompactText;
 use data_tree::data::Data;
 use std::alloc::{AllocError, Global};
-use std::cmp::Ordering;
 use std::collections::BTreeMap;
 
 /// The names in byte order, each with its first value and all its values.
@@ -26,47 +25,14 @@ pub(crate) fn grouped(alloc: Global, pairs: Vec<(String, String)>) -> Result<Dat
 }
 
 /// The same of names that come with several values. No map is made of names that are in byte order.
-pub(crate) fn grouped_runs(
-    alloc: Global,
-    runs: Vec<(CompactText, Values)>,
-) -> Result<Data, AllocError>
-    ensures { IfOk result (λ made. view made ≡ grouped (pairs_of_runs runs.items)) }
+pub(crate) fn grouped_runs(alloc: Global, runs: Runs) -> Result<Data, AllocError>
+    ensures { IfOk result (λ made. view made ≡ grouped (pairs_of_runs runs)) }
 {
-    if are_in_order(&runs) {
-        return fields_of_runs(alloc, runs);
+    if runs.are_in_order() {
+        return Ok(runs.into_data());
     }
-    let groups = runs_by_name(alloc, runs)?;
+    let groups = runs.by_name(alloc)?;
     fields_of(alloc, groups)
-}
-
-// Whether each name is before the next, and each has a value.
-fn are_in_order(runs: &[(CompactText, Values)]) -> bool
-    ensures { OnTrue result (AreInOrder runs.now) }
-{
-    let mut rest = runs;
-    while let [(name, values), after @ ..] = rest {
-        if values.is_empty() {
-            return false;
-        }
-        if let [(next, _), ..] = after {
-            if name.as_str().cmp(next.as_str()) != Ordering::Less {
-                return false;
-            }
-        }
-        rest = after;
-    }
-    true
-}
-
-fn fields_of_runs(alloc: Global, runs: Vec<(CompactText, Values)>) -> Result<Data, AllocError>
-    requires { AreInOrder runs.items }
-    ensures { IfOk result (λ made. view made ≡ grouped (pairs_of_runs runs.items)) }
-{
-    let mut fields = Vec::with_capacity(alloc, runs.len())?;
-    for (name, values) in runs {
-        fields.push((name, values.into_data()))?;
-    }
-    Ok(Data::Fields(fields))
 }
 
 // The first value and all values of each name.
@@ -115,29 +81,6 @@ fn by_name(
             .entry(name)?
             .or_insert(Values::new(alloc))
             .push(CompactText::new(value))?;
-    }
-    Ok(groups)
-}
-
-// The same of runs.
-fn runs_by_name(
-    alloc: Global,
-    runs: Vec<(CompactText, Values)>,
-) -> Result<BTreeMap<String, Values>, AllocError>
-    ensures values { IfOk result (λ groups. (name : List ℕ) →
-        unwrap_or (get_by_text groups name) [] ≡ values_of name (pairs_of_runs runs.items)) }
-    ensures names { IfOk result (λ groups. (name : List ℕ) →
-        is_some (get_by_text groups name)
-        ≡ list_any (λ pair. bytes_eq name pair.0) (pairs_of_runs runs.items)) }
-{
-    let mut groups: BTreeMap<String, Values> = BTreeMap::new(alloc);
-    for (name, values) in runs {
-        if !values.is_empty() {
-            groups
-                .entry(name.into_string(alloc)?)?
-                .or_insert(Values::new(alloc))
-                .append(values)?;
-        }
     }
     Ok(groups)
 }

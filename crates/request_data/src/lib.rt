@@ -15,4 +15,5 @@ mod grouped;
 mod object;
 mod path_data;
 mod query_data;
+mod runs;
 mod values;

@@ -21,6 +21,7 @@ use json_bridge::read::data_of_json;
 use mock_request::body::body_text;
 use mock_request::snapshot::Snapshot;
 use needed_data::needed::Needed;
+use needed_data::request_field::RequestField;
 use path_template::path_template::PathTemplate;
 use std::alloc::{AllocError, Global};
 
@@ -113,12 +114,12 @@ fn request(
     push_cookies(alloc, &mut made, needed, snapshot)?;
     push_headers(alloc, &mut made, needed, snapshot)?;
     push_host(alloc, &mut made, needed, snapshot)?;
-    push_text(&mut made, needed, "method", snapshot.method())?;
+    push_text(&mut made, needed, RequestField::Method, snapshot.method())?;
     push_path(alloc, &mut made, needed, snapshot, template)?;
     push_path_segments(alloc, &mut made, needed, snapshot)?;
     push_port(alloc, &mut made, needed, snapshot)?;
     push_query(alloc, &mut made, needed, snapshot)?;
-    push_text(&mut made, needed, "scheme", "http")?;
-    push_text(&mut made, needed, "url", snapshot.url())?;
+    push_text(&mut made, needed, RequestField::Scheme, "http")?;
+    push_text(&mut made, needed, RequestField::Url, snapshot.url())?;
     Ok(made.into_data())
 }

@@ -9,6 +9,7 @@ ghost use Rattle.request_data.specs.Inner.Plain.{IsPlain};
 ghost use Rattle.request_data.specs.Inner.Runs.{pairs_of_runs, pairs_under};
 
 use crate::grouped::grouped_runs;
+use crate::runs::Runs;
 use crate::values::Values;
 use data_tree::compact_text::CompactText;
 use data_tree::data::Data;
@@ -37,10 +38,10 @@ pub(crate) fn query_data(alloc: Global, snapshot: &Snapshot) -> Result<Data, All
 
 // The decoded names and values of a form. A query mostly gives the values of one name one after the other, and then the
 // name is decoded once.
-fn form_runs(alloc: Global, form: &str) -> Result<Vec<(CompactText, Values)>, AllocError>
-    ensures { IfOk result (λ runs. pairs_of_runs runs.items ≡ map text_pair (parse form.now)) }
+fn form_runs(alloc: Global, form: &str) -> Result<Runs, AllocError>
+    ensures { IfOk result (λ runs. pairs_of_runs runs ≡ map text_pair (parse form.now)) }
 {
-    let mut runs = Vec::with_capacity(alloc, USUAL_NAMES)?;
+    let mut runs = Runs::with_room(alloc, USUAL_NAMES)?;
     let mut last: &[u8] = &[];
     let mut values = Values::new(alloc);
     for (name, value) in form_urlencoded::raw_pairs(form.as_bytes()) {
@@ -55,17 +56,12 @@ fn form_runs(alloc: Global, form: &str) -> Result<Vec<(CompactText, Values)>, Al
     Ok(runs)
 }
 
-fn push_run(
-    alloc: Global,
-    runs: &mut Vec<(CompactText, Values)>,
-    name: &[u8],
-    values: Values,
-) -> Result<(), AllocError>
-    ensures { OnOk result (pairs_of_runs runs.new.items
-        ≡ pairs_of_runs runs.old.items ++ pairs_under (utf8_lossy (decode name.now)) values) }
+fn push_run(alloc: Global, runs: &mut Runs, name: &[u8], values: Values) -> Result<(), AllocError>
+    ensures { OnOk result (pairs_of_runs runs.new
+        ≡ pairs_of_runs runs.old ++ pairs_under (utf8_lossy (decode name.now)) values) }
 {
     if !values.is_empty() {
-        runs.push((decoded(alloc, name)?, values))?;
+        runs.push(decoded(alloc, name)?, values)?;
     }
     Ok(())
 }

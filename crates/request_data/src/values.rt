@@ -3,6 +3,7 @@ ghost use Rattle.std.specs.Prelude.{◌≡◌, [], ◌∷◌, ◌++◌, length, 
 ghost use Rattle.data_tree.specs.Tree.{view};
 ghost use Rattle.mock_request.specs.Values.{first_of};
 ghost use Rattle.request_data.specs.Grouped.{values_tree};
+ghost use Rattle.request_data.specs.Inner.RunFields.{items_in, HoldsValues};
 
 use data_tree::compact_text::CompactText;
 use data_tree::data::Data;
@@ -69,8 +70,20 @@ impl Values {
 
     /// The first value and all values.
     pub(crate) fn into_data(self) -> Data
-        ensures { view result ≡ values_tree self }
+        ensures tree { view result ≡ values_tree self }
+        ensures holds { HoldsValues result self }
     {
         Data::Values(self.items)
+    }
+
+    /// The values that a value of the data holds.
+    pub(crate) fn from_data(value: Data) -> Values
+        requires { HoldsValues value (items_in (view value)) }
+        ensures { result ≡ items_in (view value) }
+    {
+        let Data::Values(items) = value else {
+            unreachable!()
+        };
+        Values { items }
     }
 }

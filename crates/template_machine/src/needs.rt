@@ -1,5 +1,5 @@
 //! The data that code looks at.
-ghost use Rattle.std.specs.Prelude.{IfSome};
+ghost use Rattle.std.specs.Prelude.{IfOk, IfSome};
 ghost use Rattle.needed_data.specs.Needed.{Includes};
 ghost use Rattle.helper_set.specs.declared.helper.Helper.TheVariants.{JsonPath};
 ghost use Rattle.template_code.specs.Finds.{IsPushedBefore};
@@ -7,13 +7,22 @@ ghost use Rattle.template_code.specs.declared.instr.Instr.TheVariants.{Call};
 ghost use Rattle.template_machine.specs.Inner.Needs.{CoversInstr, CoversJump, CoversCode};
 
 use helper_set::helper::Helper;
-use needed_data::needed::Needed;
+use needed_data::needed::{KeptNeeded, Needed};
+use std::alloc::{AllocError, Global};
 use template_code::code::Code;
 use template_code::code_text::CodeText;
 use template_code::instr::Instr;
 
-// What the code's paths find is needed too, and what helpers look up in the body's data.
-pub(crate) fn add_code<'a>(code: &'a Code, needed: &mut Needed<'a>)
+/// What the code's paths find, and what helpers look up in the body's data.
+pub(crate) fn needed_by(alloc: Global, code: &Code) -> Result<KeptNeeded, AllocError>
+    ensures { IfOk result (λ needed. CoversCode needed code.now) }
+{
+    let mut needed = Needed::new();
+    add_code(code, &mut needed);
+    needed.to_kept(alloc)
+}
+
+fn add_code<'a>(code: &'a Code, needed: &mut Needed<'a>)
     ensures more { Includes needed.new needed.old }
     ensures code { CoversCode needed.new code.now }
 {

@@ -10,6 +10,7 @@ ghost use Rattle.code_rules.specs.declared.rule.Rule.{Rule};
 ghost use Rattle.template_code.specs.Machine.{Runs};
 ghost use Rattle.template_tree.specs.Source.{with_escape, unescaped};
 ghost use Rattle.template_machine.specs.Errors.{IsErrorOf};
+ghost use Rattle.template_machine.specs.Inner.Needs.{CoversCode};
 ghost use Rattle.template_machine.specs.Inner.Programs.{IsCodeOf, IsOnlyErrorOf};
 ghost use Rattle.template_machine.specs.Program.{IsProgram, IsProgramText, IsMeant, FindsSame};
 ghost use Rattle.safe_code.specs.Safe.{IsSafe};
@@ -18,13 +19,13 @@ ghost use Rattle.template_tree.specs.declared.error.TemplateErrorKind.TheVariant
 ghost use Rattle.template_tree.specs.declared.parser.TheConstants.{TEXT_LIMIT};
 
 use crate::error::ProgramError;
-use crate::needs::add_code;
+use crate::needs::needed_by;
 use crate::run::{Rendered, run};
 use code_verifier::budget::Budget;
 use code_verifier::verified::Verified;
 use code_verifier::verify::verify;
 use data_tree::request_data::RequestData;
-use needed_data::needed::Needed;
+use needed_data::needed::{KeptNeeded, Needed};
 use std::alloc::{AllocError, Global};
 use std::marker::Model;
 use template_code::code::Code;
@@ -32,17 +33,19 @@ use template_compile::compiler::compile;
 use template_tree::escape::Escape;
 use template_tree::parser::parse_with;
 
-/// A template's text, how its prints are escaped, and its verified code. Contracts see all three, and only `from_text`
-/// and `from_text_with` make one.
+/// A template's text, how its prints are escaped, its verified code, and what that looks at, which is found once.
+/// Contracts see the first three, and only `from_text` and `from_text_with` make one.
 #[derive(Debug, Drop)]
 pub struct Program {
     source: String,
     escape: Escape,
     verified: Verified,
+    needed: KeptNeeded,
 }
 
 impl Model for Program {
     ghost use Rattle.std.specs.Prelude.{string_bytes};
+    ghost use Rattle.template_machine.specs.Inner.Needs.{CoversCode};
     ghost use Rattle.template_tree.specs.Source.{with_escape};
     ghost use Rattle.template_machine.specs.Program.{ProgramParts, IsProgram};
 
@@ -50,8 +53,9 @@ impl Model for Program {
 
     ghost view = { λ p. record { source = with_escape p.escape (string_bytes p.source); code = p.verified } };
 
-    ghost invariant = { λ p. IsProgram
-        (record { source = with_escape p.escape (string_bytes p.source); code = p.verified }) };
+    ghost invariant = { λ p.
+        IsProgram (record { source = with_escape p.escape (string_bytes p.source); code = p.verified })
+        × CoversCode p.needed p.verified };
 }
 
 impl Program {
@@ -90,12 +94,14 @@ impl Program {
         ensures never_refused { (index : ℕ) (rule : Rule) → IsErrOf result (CodeRefused index rule) → ⊥ }
     {
         let verified = verified_code(alloc, text, escape)?;
+        let needed = needed_by(alloc, verified.code())?;
         let source = String::from_str(alloc, text)?;
-        Ok(Program::new(source, escape, verified))
+        Ok(Program::new(source, escape, verified, needed))
     }
 
-    fn new(source: String, escape: Escape, verified: Verified) -> Program
-        requires { IsProgram (record { source = with_escape escape (string_bytes source); code = verified }) }
+    fn new(source: String, escape: Escape, verified: Verified, needed: KeptNeeded) -> Program
+        requires program { IsProgram (record { source = with_escape escape (string_bytes source); code = verified }) }
+        requires covers { CoversCode needed verified }
         ensures source { result.source ≡ with_escape escape (string_bytes source) }
         ensures program { IsProgram result }
     {
@@ -103,6 +109,7 @@ impl Program {
             source,
             escape,
             verified,
+            needed,
         }
     }
 
@@ -124,7 +131,7 @@ impl Program {
         ensures more { Includes needed.new needed.old }
         ensures finds { (r r' : Tree) → AreAlike needed.new r r' → FindsSame self.now.source r r' }
     {
-        add_code(self.verified.code(), needed);
+        needed.add_kept(&self.needed);
     }
 
     /// Its verified code.

@@ -1,5 +1,5 @@
 -- Names with values, where a name stands once for values that follow each other.
-use Rattle.std.specs.Prelude.{◌≡◌, ◌<◌, ℕ, List, [], ◌∷◌, map, length}
+use Rattle.std.specs.Prelude.{◌≡◌, ℕ, List, [], ◌∷◌, map}
 use Rattle.std.specs.Cmp.Lexicographic.{slice_cmp}
 use Rattle.std.specs.List.{flat_map}
 use Rattle.std.specs.Ordering.{nat_cmp}
@@ -24,7 +24,7 @@ abbrev pub IsBefore : List ℕ → List Run → Type 0
 IsBefore name [] = Unit {0}
 IsBefore name (run ∷ runs) = slice_cmp nat_cmp name run.0 ≡ Less
 
--- each name is before the next, and has a value
+-- each name is before the next
 abbrev pub AreInOrder : List Run → Type 0
 AreInOrder [] = Unit {0}
-AreInOrder (run ∷ runs) = (0 < length run.1) × IsBefore run.0 runs × AreInOrder runs
+AreInOrder (run ∷ runs) = IsBefore run.0 runs × AreInOrder runs

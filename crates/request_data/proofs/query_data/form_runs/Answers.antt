@@ -17,20 +17,20 @@ loop-name-preserved c =
     c.in-Some.ensures.steps in
     let same : c.in-Some.name.now ≡ now.last.now =
     elim now.branch [ then-ne+in_ok-push_run w ↦ search rules | else-ne w ↦ search rules ] in
-    let at : HasRead (pairs_of_runs now.runs.items) now.last.now now.values left whole =
+    let at : HasRead (pairs_of_runs now.runs) now.last.now now.values left whole =
     elim now.branch [
       | then-ne+in_ok-push_run w ↦
-          another_name (pairs_of_runs was.runs.items) (pairs_of_runs now.runs.items) was.last.now now.last.now
+          another_name (pairs_of_runs was.runs) (pairs_of_runs now.runs) was.last.now now.last.now
           was.values now.values left whole was.invariant (search rules) (search rules)
       | else-ne w ↦ search rules
     ] in
-    value_more (pairs_of_runs now.runs.items) now.last.now now.values c.push.new.self
+    value_more (pairs_of_runs now.runs) now.last.now now.values c.push.new.self
     c.in_ok-decoded.field-0 c.in-Some.name.now c.in-Some.value.now left _ whole at next same
     c.in_ok-decoded.ensures (search rules)
 
 pub returns : goal.returns
 returns c =
-    none_left (pairs_of_runs c.loop-name.runs.items) (pairs_of_runs c.push_run-2.new.runs.items)
+    none_left (pairs_of_runs c.loop-name.runs) (pairs_of_runs c.push_run-2.new.runs)
     c.loop-name.last.now c.loop-name.values (raw_pairs_left c.loop-name.name-iterator)
     (texts_left (raw_pairs c.args.form.now)) c.loop-name.invariant c.in-None.ensures.steps.0 (search rules)
     ∙ sym (texts_of_form c.args.form.now)

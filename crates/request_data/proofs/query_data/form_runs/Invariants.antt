@@ -7,5 +7,5 @@ use Rattle.request_data.proofs.query_data.form_runs.Given as goal
 
 abbrev pub invariant-loop-name : goal.invariant-loop-name
 invariant-loop-name l =
-    HasRead (pairs_of_runs l.runs.items) l.last l.values (raw_pairs_left l.name-iterator)
+    HasRead (pairs_of_runs l.runs) l.last l.values (raw_pairs_left l.name-iterator)
     (texts_left (raw_pairs l.form))

@@ -15,6 +15,6 @@ returns-clause-meant c =
     rw (← c.program.view_is)
     (IfOk-weaker c.run.result (λ rendered. Runs i.verified root rendered.steps (string_bytes rendered.text))
     (λ rendered. IsMeant program.source root (string_bytes rendered.text))
-    (λ rendered r. run_means program root rendered.steps (string_bytes rendered.text) c.program.invariant
+    (λ rendered r. run_means program root rendered.steps (string_bytes rendered.text) c.program.invariant.0
     c.args.request.now.no_empty_name r)
     c.run.ensures.run)

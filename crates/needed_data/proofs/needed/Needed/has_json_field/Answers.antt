@@ -10,5 +10,5 @@ returns-else-has_json c =
     let none : (i.everything || i.json) ≡ false =
     ap is_json_needed c.self.view_is ∙ sym c.has_json.ensures ∙ c.if-has_json.false in
     rw (← c.self.view_is)
-    (json_needed_by_name i.everything i.json c.args.name.now c.as_slice.result.now i.json_names.items i.names.items
+    (json_needed_by_name i.everything i.json c.args.name.now c.as_slice.result.now i.json_names.items i.fields
     c.has_name.result none c.as_slice.ensures.value c.has_name.ensures)

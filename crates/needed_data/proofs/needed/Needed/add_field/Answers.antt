@@ -1,7 +1,0 @@
-use Rattle.needed_data.proofs.NeededFacts.{covers_last}
-use Rattle.needed_data.proofs.needed.Needed.add_field.Goals as goal
-
-pub returns-else-is_full-clause-field : goal.returns-else-is_full-clause-field
-returns-else-is_full-clause-field c =
-    let i = c.self.inside in
-    covers_last i.everything i.json c.args.name i.json_names.items i.names.items c.push.new.self.items c.push.ensures.items

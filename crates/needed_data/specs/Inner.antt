@@ -1,0 +1,2 @@
+pub mod FieldSet
+pub mod Parts
