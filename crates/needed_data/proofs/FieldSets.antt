@@ -1,13 +1,14 @@
 -- Which names the fields of a set have.
 use Rattle.std.proofs.Common.{◌≡◌, ℕ, ◌==◌, Bool, true, false, cond, List, [], ◌∷◌, map, refl, ap, sym, ◌∙◌}
-use Rattle.std.proofs.Common.{Option, Some, find, ◌*◌, ◌%◌, ◌^◌, ◌<◌, arith, bit_or}
+use Rattle.std.proofs.Common.{Option, Some, find, ◌*◌, ◌%◌, ◌^◌, ◌<◌, arith, bit_and, bit_or, zero, suc}
 use Rattle.std.specs.Int.{bit_at}
 use Rattle.std.specs.Prelude.{◌||◌, ◌&&◌, filter}
 use Rattle.std.specs.List.{list_any}
 use Rattle.std.specs.Str.{bytes_eq}
-use Rattle.std.proofs.lemmas.Bool.{and_right, or_right, false≢true, eqb-true}
-use Rattle.std.proofs.lemmas.Nat.{one_shl}
-use Rattle.std.proofs.lemmas.Nat.Bits.{bit_at_or, bit_at-lt, bit_at-pow_same}
+use Rattle.std.proofs.lemmas.Bool.{and_right, or_right, false≢true, eqb-true, eqb-false}
+use Rattle.std.proofs.lemmas.Nat.{and_le_r, one_shl}
+use Rattle.std.proofs.lemmas.Nat.Bits.{bit_at_and, bit_at_or, bit_at_ones, bit_at-lt, bit_at-zero, bit_at-pow_same}
+use Rattle.std.proofs.lemmas.Nat.Bits.{same_from_bits_below}
 use Rattle.std.proofs.lemmas.Slice.Eq.{bytes_eq-Decides}
 use Rattle.needed_data.specs.Fields.{name_of}
 use Rattle.needed_data.specs.Inner.FieldSet.{index_of, all_fields, is_in, names_in, has_name, HasNamesOf}
@@ -154,3 +155,74 @@ own_name field i is within =
 pub no_names : names_in 0 ≡ []
 unfolding names_in
 no_names = refl
+
+none_kept : (has : RequestField → Bool) (fields : List RequestField) → ((field : RequestField) → has field ≡ false)
+    → filter has fields ≡ []
+none_kept has [] none = refl
+none_kept has (f ∷ fs) none =
+    ap (λ b. cond b (f ∷ filter has fs) (filter has fs)) (none f) ∙ none_kept has fs none
+
+within_all : (field : RequestField) → index_of field < 12
+within_all BaseUrl = omega arith
+within_all Body = omega arith
+within_all Cookies = omega arith
+within_all Headers = omega arith
+within_all Host = omega arith
+within_all Method = omega arith
+within_all Path = omega arith
+within_all PathSegments = omega arith
+within_all Port = omega arith
+within_all Query = omega arith
+within_all Scheme = omega arith
+within_all Url = omega arith
+
+-- the bits of fields are those of the mask
+masked : (set i : ℕ) → i < 12 → bit_at (bit_and set 4095) i ≡ bit_at set i
+masked set i within =
+    let ones : bit_at 4095 i ≡ 1 = bit_at_ones 12 i within in
+    omega (arith, bit_at_and set 4095 i, ones, bit_at-lt set i)
+
+-- a set without a bit of a field has no names
+pub none_of_zero : (set : ℕ) → bit_and set 4095 ≡ 0 → names_in set ≡ []
+unfolding names_in
+none_of_zero set cleared =
+    ap (map name_of)
+    (none_kept (is_in set) all_fields
+    (λ field.
+    let i = index_of field in
+    let bit : bit_at set i ≡ 0 =
+    sym (masked set i (within_all field)) ∙ ap (λ n. bit_at n i) cleared ∙ bit_at-zero i in
+    ap (λ n. n == 1) bit))
+
+not_one : (n : ℕ) → n < 2 → (n == 1) ≡ false → n ≡ 0
+not_one n low other = omega (arith, low, eqb-false n 1 other)
+
+bit_of_none : (set : ℕ) → names_in set ≡ [] → (field : RequestField) → bit_at set (index_of field) ≡ 0
+bit_of_none set none field =
+    not_one (bit_at set (index_of field)) (bit_at-lt set (index_of field))
+    (sym (has_name_of set field) ∙ ap (list_any (λ other. bytes_eq other (name_of field))) none)
+
+at_fields : (P : ℕ → Type 0) → ((field : RequestField) → P (index_of field)) → (i : ℕ) → i < 12 → P i
+at_fields P each zero within = each BaseUrl
+at_fields P each (suc zero) within = each Body
+at_fields P each (suc (suc zero)) within = each Cookies
+at_fields P each (suc (suc (suc zero))) within = each Headers
+at_fields P each (suc (suc (suc (suc zero)))) within = each Host
+at_fields P each (suc (suc (suc (suc (suc zero))))) within = each Method
+at_fields P each (suc (suc (suc (suc (suc (suc zero)))))) within = each Path
+at_fields P each (suc (suc (suc (suc (suc (suc (suc zero))))))) within = each PathSegments
+at_fields P each (suc (suc (suc (suc (suc (suc (suc (suc zero)))))))) within = each Port
+at_fields P each (suc (suc (suc (suc (suc (suc (suc (suc (suc zero))))))))) within = each Query
+at_fields P each (suc (suc (suc (suc (suc (suc (suc (suc (suc (suc zero)))))))))) within = each Scheme
+at_fields P each (suc (suc (suc (suc (suc (suc (suc (suc (suc (suc (suc zero))))))))))) within = each Url
+at_fields P each (suc (suc (suc (suc (suc (suc (suc (suc (suc (suc (suc (suc i)))))))))))) within =
+    absurd (omega (arith, within))
+
+-- and one without names has no bit of a field
+pub zero_of_none : (set : ℕ) → names_in set ≡ [] → bit_and set 4095 ≡ 0
+zero_of_none set none =
+    same_from_bits_below 12 (bit_and set 4095) 0 (omega (arith, and_le_r set 4095)) (omega arith)
+    (at_fields (λ i. bit_at (bit_and set 4095) i ≡ bit_at 0 i)
+    (λ field.
+    let i = index_of field in
+    masked set i (within_all field) ∙ bit_of_none set none field ∙ sym (bit_at-zero i)))

@@ -1,5 +1,5 @@
 // Sets of fields of a request: a bit for each.
-ghost use Rattle.std.specs.Prelude.{◌≡◌, [], IsTrue};
+ghost use Rattle.std.specs.Prelude.{◌≡◌, ◌↔◌, [], IsTrue};
 ghost use Rattle.needed_data.specs.Fields.{name_of};
 ghost use Rattle.needed_data.specs.Inner.FieldSet.{names_in, has_name, HasNamesOf};
 
@@ -26,8 +26,9 @@ pub(crate) fn has_field(set: u16, field: RequestField) -> bool
     (set >> field.index()) & 1 == 1
 }
 
+// Bits of no field don't count.
 pub(crate) fn is_empty(set: u16) -> bool
-    ensures { IsTrue result → names_in set ≡ [] }
+    ensures { IsTrue result ↔ (names_in set ≡ []) }
 {
-    set == 0
+    set & 4095 == 0
 }

@@ -1,5 +1,5 @@
 //! The data that is looked at.
-ghost use Rattle.std.specs.Prelude.{◌≡◌, false, true, [], ◌∷◌, All, IfOk, IfSome, IsTrue, codes, map};
+ghost use Rattle.std.specs.Prelude.{◌≡◌, ◌↔◌, false, true, [], ◌∷◌, All, IfOk, IfSome, IsTrue, codes, map};
 ghost use Rattle.std.specs.List.{list_any};
 ghost use Rattle.std.specs.Str.{bytes_eq};
 ghost use Rattle.data_tree.specs.declared.step.Step.TheVariants.{Name};
@@ -212,7 +212,7 @@ impl<'a> Needed<'a> {
 
     /// Whether nothing is needed.
     pub fn is_empty(&self) -> bool
-        ensures { IsTrue result → self.now ≡ nothing }
+        ensures { IsTrue result ↔ (self.now ≡ nothing) }
     {
         !self.everything
             && !self.json
