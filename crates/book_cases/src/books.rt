@@ -77,21 +77,17 @@ fn defaults(alloc: Global, row: &Row) -> Result<Vec<ReadyMapping>, AllocError> {
         let (word, text) = parts(cell.as_str());
         match word {
             "default" => defaults.push(ready(alloc, text)?)?,
-            "defaults" => push_defaults(alloc, &mut defaults, count(text))?,
+            "defaults" => push_defaults(alloc, &mut defaults, number(text))?,
             _ => {}
         }
     }
     Ok(defaults)
 }
 
-fn count(text: &str) -> u32 {
-    u32::try_from(number(text)).unwrap_or(0)
-}
-
 fn push_defaults(
     alloc: Global,
     defaults: &mut Vec<ReadyMapping>,
-    count: u32,
+    count: u64,
 ) -> Result<(), AllocError> {
     for index in 0..count {
         let words = default_words(alloc, index)?;
@@ -101,11 +97,11 @@ fn push_defaults(
 }
 
 // As `7 GET /7`.
-fn default_words(alloc: Global, index: u32) -> Result<String, AllocError> {
+fn default_words(alloc: Global, index: u64) -> Result<String, AllocError> {
     let mut words = Cells::new(alloc);
-    words.add_number(index);
+    add_number(alloc, &mut words, index)?;
     words.add(" GET /");
-    words.add_number(index);
+    add_number(alloc, &mut words, index)?;
     words.finish()
 }
 

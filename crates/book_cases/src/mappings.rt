@@ -19,23 +19,15 @@ use request_match::ready_mapping::ReadyMapping;
 use std::alloc::{AllocError, Global};
 use value_match::value_spec::ValueSpec;
 
-/// A number stands for the UUID with these digits, `default:0` and `event:3` for the ids that mappings without one get.
+/// `default:0` and `event:3` stand for the ids that mappings without one get; a number stands for an id that none gets,
+/// since no recording is stopped by event 0.
 pub fn id(alloc: Global, text: &str) -> Result<MappingId, AllocError> {
     let (word, digits) = text.split_once(':').unwrap_or(("", text));
     match word {
         "default" => MappingId::of_default(alloc, number(digits)),
         "event" => MappingId::of_event(alloc, number(digits)),
-        _ => plain_id(alloc, digits),
+        _ => MappingId::of_recording(alloc, 0, number(digits)),
     }
-}
-
-// The digits in place of the last ones of a UUID of zeros.
-fn plain_id(alloc: Global, digits: &str) -> Result<MappingId, AllocError> {
-    let zeros = "00000000-0000-0000-0000-000000000000";
-    let kept = zeros.len().saturating_sub(digits.len());
-    let mut text = String::from_str(alloc, zeros.get(..kept).unwrap_or(""))?;
-    text.push_str(digits)?;
-    MappingId::parse(text.as_str()).ok_or(AllocError)
 }
 
 pub fn ready(alloc: Global, words: &str) -> Result<ReadyMapping, AllocError> {

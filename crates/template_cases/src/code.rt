@@ -2,6 +2,7 @@
 //! two, and texts and paths, with a `|` between two. The steps of a path have a dot between two: a number is an index,
 //! a name may stand between apostrophes, and `this` is a path without steps.
 
+use crate::answers::{add_shown, run_cells};
 use crate::numbers::{index, number};
 use crate::snapshots::{request, request_with_body};
 use crate::templates::{add_path, add_text};
@@ -73,23 +74,18 @@ pub fn run_over(alloc: Global, row: &Row) -> Result<String, AllocError> {
 fn refused(alloc: Global, error: &VerifyError) -> Result<String, AllocError> {
     match error {
         VerifyError::CodeRefused { code, index, rule } => {
-            let count = code.instrs().len();
-            format!(in alloc; "\t{rule:?}\t{index}\t{count}")
+            let mut cells = Cells::new(alloc);
+            add_shown(alloc, &mut cells, rule)?;
+            add_shown(alloc, &mut cells, *index)?;
+            add_shown(alloc, &mut cells, code.instrs().len())?;
+            cells.finish()
         }
         VerifyError::OutOfMemory { .. } => Err(AllocError),
     }
 }
 
 fn accepted(alloc: Global, verified: &Verified, data: &RequestData) -> Result<String, AllocError> {
-    let (steps, bytes) = (verified.budget().steps(), verified.budget().bytes());
-    let written = written(alloc, verified, data)?;
-    format!(in alloc; "\t{steps:?}\t{bytes:?}{written}")
-}
-
-fn written(alloc: Global, verified: &Verified, data: &RequestData) -> Result<String, AllocError> {
-    let rendered = run(alloc, verified, data)?;
-    let (steps, text) = (rendered.steps, rendered.text.as_str());
-    format!(in alloc; "\t{steps}\t{text}")
+    run_cells(alloc, verified.budget(), &run(alloc, verified, data)?)
 }
 
 fn read_code(alloc: Global, row: &Row) -> Result<Code, AllocError> {

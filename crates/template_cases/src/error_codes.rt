@@ -1,6 +1,8 @@
 //! The codes of errors.
 
+use crate::answers::add_shown;
 use crate::numbers;
+use case_table::cells::Cells;
 use error_code::error_code::ErrorCode;
 use std::alloc::{AllocError, Global};
 
@@ -41,12 +43,18 @@ pub fn code(alloc: Global, number: &str) -> Result<String, AllocError> {
     let number = numbers::number(number).unwrap_or(0);
     for code in CODES {
         if u64::from(code.number()) == number {
-            let title = code.title();
-            return match code.status() {
-                Some(status) => format!(in alloc; "\t{title}\t{status}"),
-                None => format!(in alloc; "\t{title}\tnone"),
-            };
+            return cells_of(alloc, code);
         }
     }
     Ok(String::new(alloc))
+}
+
+fn cells_of(alloc: Global, code: ErrorCode) -> Result<String, AllocError> {
+    let mut cells = Cells::new(alloc);
+    cells.add_cell(code.title());
+    match code.status() {
+        Some(status) => add_shown(alloc, &mut cells, status)?,
+        None => cells.add_cell("none"),
+    }
+    cells.finish()
 }

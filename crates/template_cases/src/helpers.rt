@@ -1,12 +1,14 @@
 //! Helpers: what they take, and what they give.
 
+use crate::answers::{add_shown, shown};
 use crate::values::{cell_of, value};
+use case_table::cells::Cells;
 use data_tree::compact_text::CompactText;
 use data_tree::data::Data;
 use helper_set::apply::apply;
 use helper_set::helper::Helper;
 use helper_set::kind::Kind;
-use helper_set::signature::{Growth, HelperSignature, Parameter, signature};
+use helper_set::signature::{Parameter, signature};
 use helper_set::value::{MadeValue, Value};
 use std::alloc::{AllocError, Global};
 use std::borrow::CowStr;
@@ -93,14 +95,14 @@ pub fn signature_of(alloc: Global, name: &str) -> Result<String, AllocError> {
     let Some(helper) = Helper::from_name(name) else {
         return String::from_str(alloc, "\tnone");
     };
-    let HelperSignature {
-        first,
-        second,
-        gives,
-        growth,
-    } = signature(helper);
-    let Growth { times, plus } = growth;
-    format!(in alloc; "\t{first:?}\t{second:?}\t{gives:?}\t{times}\t{plus}")
+    let signature = signature(helper);
+    let mut cells = Cells::new(alloc);
+    add_shown(alloc, &mut cells, signature.first)?;
+    add_shown(alloc, &mut cells, signature.second)?;
+    add_shown(alloc, &mut cells, signature.gives)?;
+    add_shown(alloc, &mut cells, signature.growth.times)?;
+    add_shown(alloc, &mut cells, signature.growth.plus)?;
+    cells.finish()
 }
 
 /// The kinds that a parameter accepts: each, all but text, data or text, or a truth.
@@ -111,11 +113,13 @@ pub fn accepted(alloc: Global, name: &str) -> Result<String, AllocError> {
         "DataOrText" => Parameter::DataOrText,
         _ => Parameter::Of(Kind::Truth),
     };
-    let mut kinds = String::from_str(alloc, "\t")?;
+    let mut kinds = Cells::new(alloc);
+    kinds.add("\t");
     for kind in [Kind::Data, Kind::Text, Kind::Number, Kind::Truth] {
         if parameter.accepts(kind) {
-            kinds.push_str(format!(in alloc; " {kind:?}")?.as_str())?;
+            kinds.add(" ");
+            kinds.add(shown(alloc, kind)?.as_str());
         }
     }
-    Ok(kinds)
+    kinds.finish()
 }

@@ -1,6 +1,9 @@
 //! Compares what values, the data of requests, helpers, templates and stack code give with the tables in `data/`.
 #![tactic(auto)]
 
+// Cells of answers.
+mod answers;
+
 // Values, the data of requests, and helpers.
 mod error_codes;
 mod helpers;

@@ -1,7 +1,8 @@
 //! What is found in the data that templates see of requests.
 
+use crate::answers::error_cell;
 use crate::snapshots::{data, plain_request, snapshot};
-use crate::values::{cell_of, measured, path, printed_cell};
+use crate::values::{cell_of, path, printed_cell, size_cells};
 use case_table::cells::Cells;
 use case_table::row::Row;
 use data_tree::request_data::RequestData;
@@ -15,8 +16,7 @@ fn refused(alloc: Global, error: SnapshotError) -> Result<String, AllocError> {
     if error == SnapshotError::OutOfMemory {
         return Err(AllocError);
     }
-    let number = error.error_code().number();
-    format!(in alloc; "\terror {number}")
+    error_cell(alloc, error.error_code().number(), None)
 }
 
 /// The JSON text of what the steps find in the data of a request.
@@ -83,12 +83,7 @@ fn path_cells(alloc: Global, data: &RequestData) -> Result<String, AllocError> {
 /// The size of the data of a request, or of what is handed back, after the error's number.
 pub fn size(alloc: Global, row: &Row) -> Result<String, AllocError> {
     match snapshot(alloc, row) {
-        Ok(request) => size_of(alloc, &request),
+        Ok(request) => size_cells(alloc, request_data(alloc, &request, None)),
         Err(error) => refused(alloc, error),
     }
-}
-
-fn size_of(alloc: Global, request: &Snapshot) -> Result<String, AllocError> {
-    let (error, size) = measured(request_data(alloc, request, None));
-    format!(in alloc; "\t{error}\t{size}")
 }

@@ -1,6 +1,7 @@
 //! Requests of rows, and the data that templates see of them. A row gives a method, a target, headers with a line feed
 //! between two, and a body whose characters are its bytes (ISO-8859-1).
 
+use case_table::requests;
 use case_table::row::Row;
 use data_tree::request_data::RequestData;
 use http_header::{HeaderName, HeaderValue};
@@ -26,9 +27,7 @@ fn headers(alloc: Global, lines: &str) -> Result<Vec<(HeaderName, HeaderValue)>,
 
 fn header(alloc: Global, line: &str) -> Result<(HeaderName, HeaderValue), AllocError> {
     let (name, value) = line.split_once(": ").unwrap_or((line, ""));
-    let name = HeaderName::from_bytes(alloc, name.as_bytes());
-    let value = HeaderValue::from_bytes(alloc, value.as_bytes());
-    Ok((name.ok().ok_or(AllocError)?, value.ok().ok_or(AllocError)?))
+    requests::header(alloc, name, value.as_bytes())
 }
 
 // A byte for each character.
@@ -42,8 +41,7 @@ fn latin1(alloc: Global, text: &str) -> Result<Vec<u8>, AllocError> {
 
 /// The request without headers and body.
 pub fn plain_request(alloc: Global, method: &str, target: &str) -> Result<Snapshot, SnapshotError> {
-    let (headers, body) = (Vec::new(alloc), Vec::new(alloc));
-    Snapshot::new(alloc, method, target, &headers, &body)
+    Snapshot::new(alloc, method, target, &[], &[])
 }
 
 /// The data of a request. None in the tables is over the limit.

@@ -1,5 +1,6 @@
 //! Templates: how they are read, and their code.
 
+use crate::answers::error_cell;
 use crate::code::code_cells;
 use case_table::cells::Cells;
 use data_tree::step::{Path, Step};
@@ -21,8 +22,7 @@ pub fn tree(alloc: Global, text: &str) -> Result<String, AllocError> {
 }
 
 fn refused(alloc: Global, error: TemplateError) -> Result<String, AllocError> {
-    let (number, at) = (error.error_code().number(), error.at);
-    format!(in alloc; "\terror {number} at {at}")
+    error_cell(alloc, error.error_code().number(), Some(error.at))
 }
 
 fn parts(alloc: Global, template: Template) -> Result<String, AllocError> {

@@ -5,6 +5,7 @@ ghost use Rattle.std.specs.Prelude.{IfOk};
 ghost use Rattle.data_tree.specs.Tree.{view};
 ghost use Rattle.data_tree.specs.WellFormed.{IsWellFormed};
 
+use crate::answers::{add_shown, text_cell};
 use crate::numbers;
 use case_table::cells::Cells;
 use data_tree::compact_text::CompactText;
@@ -20,7 +21,7 @@ pub fn described(alloc: Global, text: &str) -> Result<String, AllocError> {
     let mut cells = Cells::new(alloc);
     cells.add_cell(printed(alloc, &value(alloc, text)?)?.as_str());
     cells.add_cell(printed(alloc, &list(alloc, text)?)?.as_str());
-    cells.add(measures(alloc, &value(alloc, text)?)?.as_str());
+    add_measures(alloc, &mut cells, &value(alloc, text)?)?;
     cells.finish()
 }
 
@@ -28,9 +29,10 @@ fn list(alloc: Global, text: &str) -> Result<Data, AllocError> {
     Ok(Data::List(vec![in alloc; value(alloc, text)?]?))
 }
 
-fn measures(alloc: Global, value: &Data) -> Result<String, AllocError> {
-    let (size, truth, items) = (value.size(), value.is_true(), value.items_len());
-    format!(in alloc; "\t{size}\t{truth}\t{items}")
+fn add_measures(alloc: Global, cells: &mut Cells, value: &Data) -> Result<(), AllocError> {
+    add_shown(alloc, cells, value.size())?;
+    add_shown(alloc, cells, value.is_true())?;
+    add_shown(alloc, cells, value.items_len())
 }
 
 /// The JSON text of what the steps find.
@@ -129,12 +131,23 @@ fn json_or_none(alloc: Global, item: Option<&Data>) -> Result<String, AllocError
 
 /// The size of a root that is this text, or of what is handed back, after the error's number.
 pub fn root_size(alloc: Global, text: &str) -> Result<String, AllocError> {
-    let (error, size) = measured(RequestData::new(Data::Text(CompactText::from_str(alloc, text)?)));
-    format!(in alloc; "\t{error}\t{size}")
+    let text = CompactText::from_str(alloc, text)?;
+    size_cells(alloc, RequestData::new(Data::Text(text)))
 }
 
 /// The error's number, or 0, and the size of the root.
-pub fn measured(made: Result<RequestData, DataError>) -> (u16, u64) {
+pub fn size_cells(
+    alloc: Global,
+    made: Result<RequestData, DataError>,
+) -> Result<String, AllocError> {
+    let (error, size) = measured(made);
+    let mut cells = Cells::new(alloc);
+    add_shown(alloc, &mut cells, error)?;
+    add_shown(alloc, &mut cells, size)?;
+    cells.finish()
+}
+
+fn measured(made: Result<RequestData, DataError>) -> (u16, u64) {
     match made {
         Ok(made) => (0, made.root().size()),
         Err(error) => (error.error_code().number(), size_of_refused(&error)),
@@ -151,7 +164,7 @@ fn size_of_refused(error: &DataError) -> u64 {
 /// A cell with what prints where something was found.
 pub fn printed_cell(alloc: Global, found: Option<&Data>) -> Result<String, AllocError> {
     let text = printed(alloc, found.unwrap_or(&Data::Nothing))?;
-    format!(in alloc; "\t{text}")
+    text_cell(alloc, text.as_str())
 }
 
 fn printed(alloc: Global, value: &Data) -> Result<String, AllocError> {
@@ -163,7 +176,7 @@ fn printed(alloc: Global, value: &Data) -> Result<String, AllocError> {
 /// A cell with the JSON text of what was found.
 pub fn cell_of(alloc: Global, found: Option<&Data>) -> Result<String, AllocError> {
     let json = json_of(alloc, found.unwrap_or(&Data::Nothing))?;
-    format!(in alloc; "\t{json}")
+    text_cell(alloc, json.as_str())
 }
 
 /// The steps of a list of names and indices.

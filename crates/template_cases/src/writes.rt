@@ -2,6 +2,7 @@
 
 use crate::numbers::index;
 use crate::writer::SlowWriter;
+use case_table::cells::Cells;
 use case_table::row::Row;
 use command_output::output::put;
 use std::alloc::{AllocError, Global};
@@ -16,7 +17,10 @@ pub fn written(alloc: Global, row: &Row) -> Result<String, AllocError> {
         "not all"
     };
     let text = std::str::from_utf8(writer.taken.as_slice()).unwrap_or("not UTF-8");
-    format!(in alloc; "\t{text}\t{word}")
+    let mut cells = Cells::new(alloc);
+    cells.add_cell(text);
+    cells.add_cell(word);
+    cells.finish()
 }
 
 fn is_put(writer: &mut SlowWriter, text: &str) -> bool {

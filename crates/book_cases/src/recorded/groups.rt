@@ -1,7 +1,9 @@
 //! Equal keys as groups.
 
+use crate::words::add_number;
 use case_table::cells::Cells;
 use case_table::row::Row;
+use key_groups::place::Place;
 use key_groups::places::places_of;
 use std::alloc::{AllocError, Global};
 
@@ -9,11 +11,19 @@ use std::alloc::{AllocError, Global};
 pub fn places(alloc: Global, row: &Row) -> Result<String, AllocError> {
     let mut cells = Cells::new(alloc);
     for place in places_of(alloc, row.given.as_slice())?.as_slice() {
-        cells.add_cell("");
-        cells.add(format!(in alloc; "{} of {}", place.position, place.size)?.as_str());
-        if let Some(group) = place.group {
-            cells.add(format!(in alloc; " in {group}")?.as_str());
-        }
+        add_place(alloc, &mut cells, place)?;
     }
     cells.finish()
+}
+
+fn add_place(alloc: Global, cells: &mut Cells, place: &Place) -> Result<(), AllocError> {
+    cells.add_cell("");
+    add_number(alloc, cells, place.position as u64)?;
+    cells.add(" of ");
+    add_number(alloc, cells, place.size as u64)?;
+    if let Some(group) = place.group {
+        cells.add(" in ");
+        add_number(alloc, cells, group as u64)?;
+    }
+    Ok(())
 }

@@ -1,12 +1,14 @@
 //! Targets, and the calls of a recording.
 
+use crate::answers::status_word;
+use crate::words::add_number;
 use case_table::cells::Cells;
 use case_table::exchanges::exchange_of;
 use case_table::row::Row;
 use case_table::words::{number, parts};
 use plain_text::items::Items;
 use recorder::error::RecordingError;
-use recorder::recording::{Recording, RecordingStatus};
+use recorder::recording::Recording;
 use recorder::target::Target;
 use std::alloc::{AllocError, Global};
 
@@ -50,17 +52,10 @@ fn add_recording(
     if let Some(session) = recording.session() {
         let count = session.exchanges.as_slice().len();
         cells.add_cell(session.target.as_str());
-        cells.add_cell(format!(in alloc; "{count}")?.as_str());
+        cells.add_cell("");
+        add_number(alloc, cells, count as u64)?;
     }
     Ok(())
-}
-
-fn status_word(status: RecordingStatus) -> &'static str {
-    match status {
-        RecordingStatus::NeverStarted => "never started",
-        RecordingStatus::Recording => "recording",
-        RecordingStatus::Stopped => "stopped",
-    }
 }
 
 fn answer(alloc: Global, recording: &mut Recording, call: &str) -> Result<(), RecordingError> {
