@@ -6,7 +6,7 @@ import threading, time
 FOLDER = pathlib.Path(__file__).resolve().parent
 TOP = FOLDER.parent
 EXAMPLES = TOP / "examples"
-FORWARDER = TOP / "crates" / "proxy_cases" / "out" / "proxy_cases"  # forwards a request as it is told
+FORWARDER = TOP / "crates" / "server_cases" / "out" / "server_cases"  # forwards a request as it is told
 SCRIPT = pathlib.Path(sys.argv[0]).name
 SKIPPED = 77  # the status of a script that can't run here
 

@@ -1,0 +1,6 @@
+//! Requests that are forwarded: to peers that a script plays, and to a target that arguments name.
+
+pub mod cases;
+pub mod one;
+mod outcome;
+mod peer;
