@@ -1,8 +1,8 @@
 // Renders the templates of bench/templates by Handlebars, as often as it is told. node handlebars.js HANDLEBARS.JS FILE:
 // the file has the cases as JSON. Lines on standard input are `text CASE`, answered by the rendered text as JSON, and
-// `run CASE COUNT` and `alone CASE COUNT`, answered by the length of so many rendered texts: `alone` reads no body, but
-// renders over data that were read before. Templates are compiled before the first line is read: Handlebars makes their
-// code at the first rendering, and `text` is asked first.
+// `run CASE COUNT` and `alone CASE COUNT`, answered by the length of so many rendered texts: `alone` reads neither query
+// nor body, but renders over data that were read before. Templates are compiled before the first line is read: Handlebars
+// makes their code at the first rendering, and `text` is asked first.
 const fs = require('fs');
 const path = require('path');
 const readline = require('readline');
@@ -45,12 +45,25 @@ function find(value, jsonPath) {
 
 Handlebars.registerHelper({ upper, lower, trim, jsonPath: find, eq: (one, other) => one === other });
 
-// One rendering, which begins with the body's text, if there is one, and one over data that were read before.
-function rendering({ handlebars, request, body }) {
+// The names of a query, each with its value, or with all of them in a list.
+function valuesOf(query) {
+  const values = {};
+  for (const [name, value] of new URLSearchParams(query)) {
+    const found = values[name];
+    if (found === undefined) values[name] = value;
+    else if (Array.isArray(found)) found.push(value);
+    else values[name] = [found, value];
+  }
+  return values;
+}
+
+// One rendering, which begins with the texts of the query and of the body, if there is one, and one over data that were
+// read before.
+function rendering({ handlebars, request, query, body }) {
   const template = Handlebars.compile(handlebars, { noEscape: true });
-  const data = { request: body === null ? request : { body: JSON.parse(body) } };
-  const alone = () => template(data);
-  return { run: body === null ? alone : () => template({ request: { body: JSON.parse(body) } }), alone };
+  const read = () => body === null ? { ...request, query: valuesOf(query) } : { body: JSON.parse(body) };
+  const data = { request: read() };
+  return { run: () => template({ request: read() }), alone: () => template(data) };
 }
 
 const cases = JSON.parse(fs.readFileSync(process.argv[3], 'utf8'));

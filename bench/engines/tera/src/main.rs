@@ -1,7 +1,7 @@
 //! Renders the templates of `bench/templates` by Tera, as often as it is told. `engine FILE`: the file has the cases as
 //! JSON. Lines on standard input are `text CASE`, answered by the rendered text as JSON, and `run CASE COUNT` and
-//! `alone CASE COUNT`, answered by the length of so many rendered texts: `alone` reads no body, but renders over data that
-//! were read before. Templates are compiled before the first line is read.
+//! `alone CASE COUNT`, answered by the length of so many rendered texts: `alone` reads neither query nor body, but renders
+//! over data that were read before. Templates are compiled before the first line is read.
 use serde_json::{Map, Value};
 use std::collections::HashMap;
 use std::error::Error;
@@ -36,38 +36,74 @@ fn context(request: Value) -> tera::Result<Context> {
     Context::from_value(object("request", request))
 }
 
-/// A template's name, and what it is rendered with: the request's data as it was read, with its body's, and the body's
-/// text, if any.
-struct Case {
-    name: String,
-    context: Context,
-    body: Option<String>,
+/// The names of a query, each with its value, or with all of them in a list.
+fn values_of(query: &str) -> Value {
+    let mut values: Map<String, Value> = Map::new();
+    for (name, value) in form_urlencoded::parse(query.as_bytes()) {
+        let value = Value::String(value.into_owned());
+        match values.get_mut(name.as_ref()) {
+            None => {
+                values.insert(name.into_owned(), value);
+            }
+            Some(Value::Array(found)) => found.push(value),
+            Some(found) => *found = Value::Array(vec![found.take(), value]),
+        }
+    }
+    Value::Object(values)
 }
 
-/// What a template sees of a request with that body.
-fn context_of_body(body: &str) -> Result<Context, Box<dyn Error>> {
-    Ok(context(object("body", serde_json::from_str(body)?))?)
+/// What of a request a template may look at: the text of its body, if it has one, or else the text of its query, and
+/// fields that are at hand.
+enum Request {
+    Body(String),
+    Head { fields: Map<String, Value>, query: String },
+}
+
+impl Request {
+    fn of(case: &Value) -> Request {
+        match case["body"].as_str() {
+            Some(text) => Request::Body(text.to_owned()),
+            None => Request::Head {
+                fields: case["request"].as_object().cloned().unwrap_or_default(),
+                query: case["query"].as_str().unwrap_or("").to_owned(),
+            },
+        }
+    }
+
+    /// What a template sees of it; the texts of query and body are read.
+    fn read(&self) -> Result<Context, Box<dyn Error>> {
+        let request = match self {
+            Request::Body(text) => object("body", serde_json::from_str(text)?),
+            Request::Head { fields, query } => {
+                let mut fields = fields.clone();
+                fields.insert("query".to_owned(), values_of(query));
+                Value::Object(fields)
+            }
+        };
+        Ok(context(request)?)
+    }
+}
+
+/// A template's name, and what it is rendered with: the request, and its data as they were read before.
+struct Case {
+    name: String,
+    request: Request,
+    context: Context,
 }
 
 impl Case {
     fn of(name: &str, case: &Value) -> Result<Case, Box<dyn Error>> {
-        let body = case["body"].as_str();
+        let request = Request::of(case);
         Ok(Case {
             name: name.to_owned(),
-            context: match body {
-                Some(text) => context_of_body(text)?,
-                None => context(case["request"].clone())?,
-            },
-            body: body.map(str::to_owned),
+            context: request.read()?,
+            request,
         })
     }
 
-    /// One rendering; it begins with the body's text, if there is one.
+    /// One rendering; it begins with the texts of the query and of the body, if there is one.
     fn render(&self, tera: &Tera) -> Result<String, Box<dyn Error>> {
-        match &self.body {
-            Some(body) => Ok(tera.render(&self.name, &context_of_body(body)?)?),
-            None => self.render_alone(tera),
-        }
+        Ok(tera.render(&self.name, &self.request.read()?)?)
     }
 
     /// One rendering over data that were read before.
