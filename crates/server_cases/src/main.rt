@@ -44,7 +44,7 @@ mod forwarding;
 use broken::{Peer, broken};
 use case_table::compare::compare_all;
 use cases::{Case, play};
-use forwarding::cases::{Forwarding, name_of, play_forwarding};
+use forwarding::cases::{Forwarding, forwarded};
 use forwarding::one::{Printed, forward_one};
 use std::alloc::{AllocError, Global};
 use std::process::ExitCode;
@@ -59,13 +59,6 @@ fn main(rt: HostRuntime) -> io::Result<ExitCode> {
     if arguments.len() > 1 {
         return print(&rt, &forward_one(&rt, arguments.as_slice())?);
     }
-    show_books(&rt)?;
-    show_connections(&rt)?;
-    show_forwarding(&rt)?;
-    compare_all(&rt, &[Schedules])
-}
-
-fn show_books(rt: &HostRuntime) -> io::Result<()> {
     for case in [
         Case::TwoThreads,
         Case::Scripts,
@@ -79,14 +72,10 @@ fn show_books(rt: &HostRuntime) -> io::Result<()> {
     ]
     .as_slice()
     {
-        let line = play_again(rt, rt.alloc(), *case)?;
+        let line = play_again(&rt, rt.alloc(), *case)?;
         println!(rt; "{line}")?;
     }
-    Ok(())
-}
-
-fn show_connections(rt: &HostRuntime) -> io::Result<()> {
-    let mut runtime = LocalRuntime::new(rt)?;
+    let mut runtime = LocalRuntime::new(&rt)?;
     for peer in [
         Peer::Pieces,
         Peer::StopsSending,
@@ -98,13 +87,9 @@ fn show_connections(rt: &HostRuntime) -> io::Result<()> {
     ]
     .as_slice()
     {
-        let line = broken(rt, rt.alloc(), &mut runtime, *peer)?;
+        let line = broken(&rt, rt.alloc(), &mut runtime, *peer)?;
         println!(rt; "{line}")?;
     }
-    Ok(())
-}
-
-fn show_forwarding(rt: &HostRuntime) -> io::Result<()> {
     for case in [
         Forwarding::Pieces,
         Forwarding::CutReply,
@@ -118,14 +103,10 @@ fn show_forwarding(rt: &HostRuntime) -> io::Result<()> {
     ]
     .as_slice()
     {
-        let name = name_of(*case);
-        let tally = play_forwarding(rt, *case)?;
-        println!(rt;
-            "forwarding, {name}: {} whole, {} failed, {} other",
-            tally.whole, tally.failed, tally.other
-        )?;
+        let line = forwarded(&rt, rt.alloc(), *case)?;
+        println!(rt; "{line}")?;
     }
-    Ok(())
+    compare_all(&rt, &[Schedules])
 }
 
 // Once more where memory ran out.

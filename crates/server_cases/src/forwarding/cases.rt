@@ -3,7 +3,7 @@ use crate::forwarding::outcome::{Outcome, Shown, exchange};
 use crate::forwarding::peer::{CHUNKS, REPLY, SENT};
 use counted_io::counted::TURN_LIMIT;
 use proxy_client::scripted_io::Script;
-use std::alloc::{AllocError, AllocGlobal};
+use std::alloc::{AllocError, AllocGlobal, Global};
 use std::net::Net;
 use std::random::RandomSource;
 use std::sync::Wait;
@@ -31,11 +31,11 @@ pub enum Forwarding {
 
 /// How many exchanges had which outcome.
 #[derive(Clone, Copy)]
-pub struct Tally {
-    pub whole: u64,
-    pub failed: u64,
+struct Tally {
+    whole: u64,
+    failed: u64,
     /// Neither, or something else was sent than is to be.
-    pub other: u64,
+    other: u64,
 }
 
 impl Tally {
@@ -49,8 +49,8 @@ impl Tally {
     }
 }
 
-/// How many exchanges of a case gave what.
-pub fn play_forwarding<R>(rt: &R, case: Forwarding) -> Result<Tally, AllocError>
+/// How many exchanges of a case gave what, in words.
+pub fn forwarded<R>(rt: &R, alloc: Global, case: Forwarding) -> Result<String, AllocError>
 where
     R: Wait + Net + Clock + RandomSource + AllocGlobal + Copy + Drop,
 {
@@ -62,10 +62,20 @@ where
     for step in 0..steps(case) {
         tally.add(step_of(rt, case, step)?);
     }
-    Ok(tally)
+    described(alloc, case, tally)
 }
 
-pub fn name_of(case: Forwarding) -> &'static str {
+fn described(alloc: Global, case: Forwarding, tally: Tally) -> Result<String, AllocError> {
+    let name = name_of(case);
+    let Tally {
+        whole,
+        failed,
+        other,
+    } = tally;
+    format!(in alloc; "forwarding, {name}: {whole} whole, {failed} failed, {other} other")
+}
+
+fn name_of(case: Forwarding) -> &'static str {
     match case {
         Forwarding::Pieces => "pieces of each size",
         Forwarding::CutReply => "a reply that is cut",
