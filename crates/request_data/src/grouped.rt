@@ -80,7 +80,7 @@ fn by_name(
         groups
             .entry(name)?
             .or_insert(Values::new(alloc))
-            .push(alloc, CompactText::new(value))?;
+            .push(CompactText::new(value))?;
     }
     Ok(groups)
 }

@@ -50,7 +50,7 @@ fn form_runs(alloc: Global, form: &str) -> Result<Runs, AllocError>
             last = name;
             values = Values::new(alloc);
         }
-        values.push(alloc, decoded(alloc, value)?)?;
+        values.push(decoded(alloc, value)?)?;
     }
     push_run(alloc, &mut runs, last, values)?;
     Ok(runs)

@@ -11,12 +11,6 @@ use data_tree::parts::first_text;
 use std::alloc::{AllocError, Global};
 use std::marker::Model;
 
-// A list takes memory for that many values at the first.
-const FEW: usize = 4;
-
-// And for that many once there are more.
-const MORE: usize = 16;
-
 /// The values of one name, which contracts see as their bytes. They lie as they do in the data.
 #[derive(Drop)]
 pub(crate) struct Values {
@@ -43,24 +37,10 @@ impl Values {
         }
     }
 
-    pub(crate) fn push(&mut self, alloc: Global, value: CompactText) -> Result<(), AllocError>
+    pub(crate) fn push(&mut self, value: CompactText) -> Result<(), AllocError>
         ensures { OnOk result (self.new ≡ self.old ++ value ∷ []) }
     {
-        if self.items.len() == FEW {
-            self.make_room(alloc)?;
-        }
         self.items.push(Data::Text(value))?;
-        Ok(())
-    }
-
-    // Moves the values to a new piece of memory. The old one then waits for the next list; a piece that grows where it
-    // lies leaves none, and each list would have to look for its first one.
-    fn make_room(&mut self, alloc: Global) -> Result<(), AllocError>
-        ensures { OnOk result (self.new ≡ self.old) }
-    {
-        let mut items = Vec::with_capacity(alloc, MORE)?;
-        items.append(&mut self.items)?;
-        self.items = items;
         Ok(())
     }
 
