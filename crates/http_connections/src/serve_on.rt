@@ -13,6 +13,7 @@ use crate::seat_pool::SeatPool;
 use crate::settings::Settings;
 use bytes::Bytes;
 use http_body::Body;
+use hyper::rt::TokioTimer;
 use std::alloc::{AllocError, AllocGlobal, Global};
 use std::io::ErrorKind;
 use std::random::RandomSource;
@@ -21,6 +22,7 @@ use std::sync::{Arc, Wait};
 use std::time::{Clock, Duration};
 use std::{io, net};
 use tokio::net::TcpListener;
+use tokio::runtime;
 use tokio::runtime::LocalRuntime;
 
 /// How long answers may go on once the end was asked for, in seconds.
@@ -167,21 +169,30 @@ where
     A::Content: Body<Data = Bytes, Error: Into<anyhow::Error>>,
     requires { (content : A.Content) → A.Content.can_poll content }
 {
-    let handle = runtime.handle().clone()?;
-    let connects = Connecting::with_timers(rt, handle.time(), turns)?;
-    let pause = Pause::new(rt, handle.time())?;
-    let mut accepting = Accepting::new(
-        rt,
-        listener,
-        Arc::try_clone(pool)?,
-        settings,
-        pause,
-        pool.ender.notified()?,
-        Rc::new(rt.alloc(), handle)?,
-        connects,
-    );
+    let mut accepting = accepting(rt, runtime.handle(), listener, pool, settings, turns)?;
     // The stream ends before its connections have only where the end was asked for.
     runtime.set_shutdown_timeout(Some(Duration::from_secs(END_TIME)));
     // By reference: the event loop moves what it is given, and clears room for it at each turn.
     runtime.run_all(&rt, &mut accepting)
+}
+
+// The connections that come to a listener of the runtime with this handle.
+fn accepting<R, A>(
+    rt: R,
+    handle: &runtime::Handle,
+    listener: TcpListener,
+    pool: &Arc<SeatPool<A>>,
+    settings: Settings,
+    turns: u64,
+) -> io::Result<Accepting<R, A, Connecting<TokioTimer<R>>>>
+where
+    R: Wait + Clock + RandomSource + AllocGlobal + Copy + Drop,
+    A: Answers,
+{
+    let handle = Rc::new(rt.alloc(), handle.clone()?)?;
+    let pool = Arc::try_clone(pool)?;
+    let asked = pool.ender.notified()?;
+    let pause = Pause::new(rt, handle.time())?;
+    let connects = Connecting::with_timers(rt, handle.time(), turns)?;
+    Ok(Accepting::new(rt, listener, pool, settings, pause, asked, handle, connects))
 }

@@ -203,23 +203,32 @@ where
         ensures content { IfOk result (λ waiting. IsNewFor waiting.value.content (body_of request)) }
         ensures giver { IfOk result (λ waiting. giver_of waiting.value.slot ≡ giver_of self.now.slot) }
     {
-        let alloc = self.rt.alloc();
+        let slot = Arc::try_clone(&self.slot)?;
+        let course = Arc::try_clone(&self.course)?;
         let (head, body) = request.into_parts();
         let waiting = Waiting {
             rt: self.rt,
-            slot: Arc::try_clone(&self.slot)?,
+            slot,
+            content: self.content_of(body)?,
             request: Request::from_parts(head, Bytes::new()),
-            content: Gathering::new(
-                alloc,
-                body,
-                Arc::try_clone(&self.course)?,
-                Patience::new(self.rt, self.timers.clone()?),
-            ),
-            course: Arc::try_clone(&self.course)?,
+            course,
         };
-        let waiting = Box::new(alloc, waiting)?;
+        let waiting = Box::new(self.rt.alloc(), waiting)?;
         self.course.gathers();
         Ok(waiting)
+    }
+
+    // What gathers the content of a body.
+    fn content_of<I: Drop>(
+        &self,
+        body: Incoming<I>,
+    ) -> Result<Gathering<R, Incoming<I>>, AllocError>
+        ensures { IfOk result (λ content. IsNewFor content body) }
+    {
+        let timers = self.timers.clone()?;
+        let course = Arc::try_clone(&self.course)?;
+        let patience = Patience::new(self.rt, timers);
+        Ok(Gathering::new(self.rt.alloc(), body, course, patience))
     }
 }
 

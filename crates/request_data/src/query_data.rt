@@ -1,5 +1,5 @@
 // A query's names and values as templates see them.
-ghost use Rattle.std.specs.Prelude.{◌≡◌, ◌≤◌, ◌++◌, length, map, take, All, IfOk, IfSome, OnOk, IsTrue, string_bytes};
+ghost use Rattle.std.specs.Prelude.{◌≡◌, ◌≤◌, [], ◌++◌, length, map, take, All, IfOk, IfSome, OnOk, IsTrue, string_bytes};
 ghost use Rattle.std.specs.Str.Lossy.{utf8_lossy};
 ghost use Rattle.data_tree.specs.Tree.{view};
 ghost use Rattle.form_urlencoded.specs.Form.{decode, parse, plus_to_space};
@@ -17,8 +17,10 @@ use mock_request::snapshot::Snapshot;
 use std::alloc::{AllocError, Global};
 use std::str;
 
-// Few queries have more names. Room for more is made as they come.
-const USUAL_NAMES: usize = 16;
+// Few queries have more names, or more values of their first name. Room for more is made as they come.
+const USUAL_NAMES: usize = 8;
+
+const USUAL_VALUES: usize = 16;
 
 // A text of up to this number of bytes lies within its value.
 const SHORT_BYTES: usize = 30;
@@ -37,18 +39,17 @@ pub(crate) fn query_data(alloc: Global, snapshot: &Snapshot) -> Result<Data, All
 }
 
 // The decoded names and values of a form. A query mostly gives the values of one name one after the other, and then the
-// name is decoded once.
+// name is decoded once. The first name has room for several: where a query has many values, they are mostly of one name.
 fn form_runs(alloc: Global, form: &str) -> Result<Runs, AllocError>
     ensures { IfOk result (λ runs. pairs_of_runs runs ≡ map text_pair (parse form.now)) }
 {
     let mut runs = Runs::with_room(alloc, USUAL_NAMES)?;
     let mut last: &[u8] = &[];
-    let mut values = Values::new(alloc);
+    let mut values = Values::with_room(alloc, USUAL_VALUES)?;
     for (name, value) in form_urlencoded::raw_pairs(form.as_bytes()) {
         if name != last {
-            push_run(alloc, &mut runs, last, values)?;
+            values = push_run(alloc, &mut runs, last, values)?;
             last = name;
-            values = Values::new(alloc);
         }
         values.push(decoded(alloc, value)?)?;
     }
@@ -56,14 +57,22 @@ fn form_runs(alloc: Global, form: &str) -> Result<Runs, AllocError>
     Ok(runs)
 }
 
-fn push_run(alloc: Global, runs: &mut Runs, name: &[u8], values: Values) -> Result<(), AllocError>
-    ensures { OnOk result (pairs_of_runs runs.new
+// Pushes the values of a name, if it has any. Gives a list for those of the next name.
+fn push_run(
+    alloc: Global,
+    runs: &mut Runs,
+    name: &[u8],
+    values: Values,
+) -> Result<Values, AllocError>
+    ensures pushed { OnOk result (pairs_of_runs runs.new
         ≡ pairs_of_runs runs.old ++ pairs_under (utf8_lossy (decode name.now)) values) }
+    ensures next { IfOk result (λ next. next ≡ []) }
 {
-    if !values.is_empty() {
-        runs.push(decoded(alloc, name)?, values)?;
+    if values.is_empty() {
+        return Ok(values);
     }
-    Ok(())
+    runs.push(decoded(alloc, name)?, values)?;
+    Ok(Values::new(alloc))
 }
 
 // The text of a name or a value. Most are short.

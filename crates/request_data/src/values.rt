@@ -1,5 +1,5 @@
 // The values of one name.
-ghost use Rattle.std.specs.Prelude.{◌≡◌, [], ◌∷◌, ◌++◌, length, nat_eq, OnOk};
+ghost use Rattle.std.specs.Prelude.{◌≡◌, [], ◌∷◌, ◌++◌, length, nat_eq, IfOk, OnOk};
 ghost use Rattle.data_tree.specs.Tree.{view};
 ghost use Rattle.mock_request.specs.Values.{first_of};
 ghost use Rattle.request_data.specs.Grouped.{values_tree};
@@ -35,6 +35,15 @@ impl Values {
         Values {
             items: Vec::new(alloc),
         }
+    }
+
+    /// None, with room for that many values.
+    pub(crate) fn with_room(alloc: Global, room: usize) -> Result<Values, AllocError>
+        ensures { IfOk result (λ made. made ≡ []) }
+    {
+        Ok(Values {
+            items: Vec::with_capacity(alloc, room)?,
+        })
     }
 
     pub(crate) fn push(&mut self, value: CompactText) -> Result<(), AllocError>

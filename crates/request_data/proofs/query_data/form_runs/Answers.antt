@@ -5,7 +5,7 @@ use Rattle.mock_request.proofs.QueryLemmas.{texts_left, texts_of_form}
 use Rattle.request_data.specs.Inner.Runs.{pairs_of_runs}
 use Rattle.request_data.proofs.RunLemmas.{HasRead, another_name, value_more, none_left}
 use Rattle.request_data.proofs.query_data.form_runs.Goals as goal
-use Rattle.request_data.proofs.query_data.form_runs.Goals.{then-ne+in_ok-push_run, else-ne}
+use Rattle.request_data.proofs.query_data.form_runs.Goals.{then-ne+in_ok-values-2, else-ne}
 
 pub loop-name-preserved : goal.loop-name-preserved
 loop-name-preserved c =
@@ -16,10 +16,10 @@ loop-name-preserved c =
     let next : left ≡ (c.in-Some.name.now, c.in-Some.value.now) ∷ raw_pairs_left c.next.new.self =
     c.in-Some.ensures.steps in
     let same : c.in-Some.name.now ≡ now.last.now =
-    elim now.branch [ then-ne+in_ok-push_run w ↦ search rules | else-ne w ↦ search rules ] in
+    elim now.branch [ then-ne+in_ok-values-2 w ↦ search rules | else-ne w ↦ search rules ] in
     let at : HasRead (pairs_of_runs now.runs) now.last.now now.values left whole =
     elim now.branch [
-      | then-ne+in_ok-push_run w ↦
+      | then-ne+in_ok-values-2 w ↦
           another_name (pairs_of_runs was.runs) (pairs_of_runs now.runs) was.last.now now.last.now
           was.values now.values left whole was.invariant (search rules) (search rules)
       | else-ne w ↦ search rules
