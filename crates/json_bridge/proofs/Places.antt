@@ -1,5 +1,5 @@
 -- Where a name is among members whose names ascend.
-use Rattle.std.proofs.Common.{◌≡◌, ◌<◌, ◌+◌, ℕ, zero, suc, List, [], ◌∷◌, length}
+use Rattle.std.proofs.Common.{◌≡◌, ◌<◌, ◌+◌, ℕ, zero, suc, List, [], ◌∷◌, ◌++◌, length}
 use Rattle.std.proofs.Common.{Greater, Less, Equal, nat_cmp, refl, ap, arith, slice_index_or, slice_set}
 use Rattle.std.specs.Cmp.Lexicographic.{slice_cmp}
 use Rattle.std.specs.List.{insert}
@@ -58,6 +58,12 @@ put_inserted name d zero (e ∷ ms) at = rw at refl
 put_inserted name d (suc n) [] at = absurd at
 put_inserted name d (suc n) (e ∷ ms) at =
     rw at.0 (ap (member e.0 (view e.1)) (put_inserted name d n ms at.1))
+
+pub put_last
+    : (name : List ℕ) (d : Data) (ms : List Field) → BelongsAt name (length ms) ms
+    → members_view (ms ++ (name, d) ∷ []) ≡ put name (view d) (members_view ms)
+put_last name d [] at = refl
+put_last name d (e ∷ ms) at = rw at.0 (ap (member e.0 (view e.1)) (put_last name d ms at.1))
 
 pub put_changed
     : (k : List ℕ) (d : Data) (n : ℕ) (ms : List Field) (m : Field) → IsFoundAt k n ms

@@ -27,6 +27,9 @@ pub(crate) const MAX_DEPTH: usize = 127;
 // The most members that are put in order one after the other, with as many comparisons as there are pairs.
 const FEW: usize = 16;
 
+// Most objects have no more members. Room for them is made at once: a list that grows is moved.
+const USUAL_MEMBERS: usize = 8;
+
 /// The value of a JSON text. `NumberNotWhole` says that some number in it isn't whole or doesn't fit: the text has a
 /// value all the same where that number is in a value of a name that is repeated, of which the last value counts.
 ///
@@ -172,11 +175,22 @@ fn add(
         ≡ put name (view member) (put_all found.old.items no_members)) }
     ensures in_order { OnOk result (AreFewInOrder found.new.items) }
 {
+    make_room(found)?;
     if found.len() < FEW {
         put(found, name, member)?;
         return Ok(());
     }
     found.push((name, member))?;
+    Ok(())
+}
+
+// Makes room before the first member: an object without members takes no memory.
+fn make_room(found: &mut Vec<(CompactText, Data)>) -> Result<(), AllocError>
+    ensures { found.new.items ≡ found.old.items }
+{
+    if found.is_empty() {
+        found.reserve(USUAL_MEMBERS)?;
+    }
     Ok(())
 }
 
@@ -250,6 +264,7 @@ fn put_each(
     Ok(made)
 }
 
+// Puts the member where its name belongs, which mostly is after all others.
 fn put(
     made: &mut Vec<(CompactText, Data)>,
     name: CompactText,
@@ -259,6 +274,10 @@ fn put(
     ensures { OnOk result (members_view made.new.items
         ≡ put name (view member) (members_view made.old.items)) }
 {
+    if end_before(made.as_slice(), name.as_str()) {
+        made.push((name, member))?;
+        return Ok(());
+    }
     match place_of(made.as_slice(), name.as_str()) {
         Ok(index) => made[index].1 = member,
         Err(index) => made.insert(index, (name, member))?,
@@ -266,15 +285,12 @@ fn put(
     Ok(())
 }
 
-// Where the name is, or else where it belongs. Mostly it is after all others.
+// Where the name is, or else where it belongs.
 fn place_of(members: &[(CompactText, Data)], name: &str) -> Result<usize, usize>
     requires { IsAscending (names_of (members_view members.now)) }
     ensures { MatchResult result
         (λ index. IsFoundAt name.now index members.now) (λ index. BelongsAt name.now index members.now) }
 {
-    if end_before(members, name) {
-        return Err(members.len());
-    }
     let mut index = 0;
     while index < members.len() {
         match name.cmp(members[index].0.as_str()) {

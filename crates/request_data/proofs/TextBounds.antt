@@ -137,7 +137,7 @@ within_most (suc k) bs =
     (fault_most bs (utf8_lossy_within k (after_first_chunk bs)) (within_most k (after_first_chunk bs)))
 
 -- in a string, three bytes for each that isn't UTF-8, and six at most for another
-escape-append : (a s : List ℕ) → length (escape (a ++ s)) ≡ length (escape a) + length (escape s)
+pub escape-append : (a s : List ℕ) → length (escape (a ++ s)) ≡ length (escape a) + length (escape s)
 escape-append [] s = omega arith
 escape-append (x ∷ a) s =
     omega (

@@ -1,7 +1,7 @@
 use Rattle.std.proofs.Common.{◌≡◌, ◌<◌, ◌+◌, suc, length, slice_index_or, Less, Equal, Greater, nat_cmp, rules, arith, subst}
 use Rattle.std.specs.Cmp.Lexicographic.{slice_cmp}
 use Rattle.json_bridge.proofs.Places.{ArePassed}
-use Rattle.json_bridge.proofs.Places.{passed_more, found_after, belongs_after, belongs_last, belongs_at_end}
+use Rattle.json_bridge.proofs.Places.{passed_more, found_after, belongs_after, belongs_last}
 use Rattle.json_bridge.proofs.direct.place_of.Goals as goal
 
 pub returns-in-Less : goal.returns-in-Less
@@ -42,7 +42,3 @@ returns c =
     let ms = c.args.members.now in
     let last : i ≡ length ms = grind (arith, c.loop-index.invariant.within) in
     belongs_last c.args.name.now i ms c.loop-index.invariant.passed last
-
-pub returns-then-end_before : goal.returns-then-end_before
-returns-then-end_before c =
-    belongs_at_end c.args.name.now c.args.members.now c.requires (c.end_before.ensures c.if-end_before.true)
