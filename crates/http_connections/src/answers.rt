@@ -39,6 +39,9 @@ pub trait Answers: Drop {
     /// It may forward the message by this exchange.
     ghost forwards: { Self → Self.Seat → Self.Seat → Message (List ℕ) → Self.Exchange → Type 0 };
 
+    /// It may give this answer to what came of an exchange, whichever message that was for.
+    ghost finishes: { Self → Self.Seat → Self.Seat → Self.Reply → Answer Self.Content → Type 0 };
+
     /// It may leave the seat so where there is no answer to the message.
     ghost unanswered: { Self → Self.Seat → Self.Seat → Message (List ℕ) → Type 0 };
 
@@ -81,6 +84,7 @@ pub trait Answers: Drop {
         ensures ok { (message : _) (old : _) (new : _) (exchange : _) → number_of old ≡ number_of seat.old
             → forwards self.now old new message exchange → Self.Exchange.gives exchange reply
             → IfOk result (gives self.now seat.old seat.new message) }
+        ensures by_reply { IfOk result (finishes self.now seat.old seat.new reply) }
         ensures err { IfErr result (λ error. (error ≡ OutOfMemory) × unfinished self.now seat.old seat.new) };
 
     /// A new seat for a connection, `None` where the seat can't be split.

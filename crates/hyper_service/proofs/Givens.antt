@@ -32,6 +32,12 @@ use Rattle.stub_book.specs.declared.error.BookError.{BookError}
 some_same : {A : Type 0} (a b : A) → Some a ≡ Some b → a ≡ b
 some_same a b e = cc
 
+-- the answer came, and the seat is as it was
+pub at_unchanged_seat : {Made Refusal : Type 0} (P : Made → Type 0) (seat : Held) (result : Result Made Refusal)
+    → IfOk result P → IfOk result (λ made. (seat ≡ seat) × P made)
+at_unchanged_seat P seat (Ok made) is = (refl, is)
+at_unchanged_seat P seat (Err error) is = tt
+
 module _ (rules : SiteRules) where
   -- there is no answer, and the journal's limit is kept
   pub left_with : {Refusal T : Type 0} (P : Refusal → Type 0) (old middle new : Held) (message : Message (List ℕ))

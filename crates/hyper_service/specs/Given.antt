@@ -5,7 +5,7 @@ use Rattle.std.specs.Arc.{arc_value}
 use Rattle.std.specs.declared.alloc.AllocError.{AllocError}
 use Rattle.answering.specs.Answering.{IsBegun, IsNotBegun}
 use Rattle.answering.specs.Forwarding.{IsFinished, IsToForward}
-use Rattle.answering.specs.Rendering.{IsRenderedReply, IsToRender}
+use Rattle.answering.specs.Rendering.{IsRenderedReply, IsResponseOfRendered, IsToRender}
 use Rattle.answering.specs.declared.forward.Forward.{Forward}
 use Rattle.answering.specs.declared.rendering.Rendering.{Rendering}
 use Rattle.http.specs.declared.request.Request.{Request as Message}
@@ -15,6 +15,8 @@ use Rattle.hyper_service.specs.declared.render_exchange.RenderExchange.{RenderEx
 use Rattle.hyper_service.specs.declared.site_answers.SiteAnswers.{SiteAnswers}
 use Rattle.hyper_service.specs.declared.site_exchange.SiteExchange.{SiteExchange}
 use Rattle.hyper_service.specs.declared.site_exchange.SiteExchange.TheVariants as kind
+use Rattle.hyper_service.specs.declared.site_exchange.SiteReply.{SiteReply}
+use Rattle.hyper_service.specs.declared.site_exchange.SiteReply.TheVariants.{Forwarded, Rendered}
 use Rattle.logbook.specs.Pages.{Book}
 use Rattle.mapping_model.specs.declared.reply.Reply.{Reply}
 use Rattle.mock_request.specs.Request.{Request}
@@ -59,6 +61,14 @@ IsKept limit origin name old new =
     (new ≡ old)
     ⊎ (IsSome limit × (HasMadeNoCall origin name old new
     ⊎ ((receipt : Receipt) × Gains origin name old new (IsAsked ClearJournal) receipt)))
+
+-- The response to what came of an exchange: of a request that was forwarded, the one to that, and its record is the one
+-- call that may be made; of one that was rendered, that of its reply, and nothing is asked of the book.
+abbrev pub IsFinishedBy : Past → Book → Held → Held → SiteReply → Response (List ℕ) → Type 0
+IsFinishedBy origin name old new (Forwarded forwarded) response =
+    IsFinished origin name old new forwarded.forward forwarded.reply response
+IsFinishedBy origin name old new (Rendered rendered) response =
+    (new ≡ old) × IsResponseOfRendered rendered.reply response
 
 module _ (rules : SiteRules) where
   -- the message was answered at once

@@ -3,7 +3,7 @@ ghost use Rattle.std.specs.Prelude.{◌≡◌, IfErr, IfOk, IsSome, IsTrue};
 ghost use Rattle.answering.specs.Forwarding.{IsFinished};
 ghost use Rattle.answering.specs.Rendering.{IsResponseOfRendered};
 ghost use Rattle.http_messages.specs.declared.error.ServiceError.TheVariants.{OutOfMemory as NoMemory};
-ghost use Rattle.hyper_service.specs.Given.{IsGiven, IsLeft, IsPassedTo, IsUnanswered};
+ghost use Rattle.hyper_service.specs.Given.{IsFinishedBy, IsGiven, IsLeft, IsPassedTo, IsUnanswered};
 ghost use Rattle.hyper_service.specs.Given.{rules_of};
 ghost use Rattle.hyper_service.specs.Inner.Begins.{Begins, HasNoAnswer, IsAnswering, IsForwardBegun};
 ghost use Rattle.hyper_service.specs.Inner.Begins.{IsForwardingBy, IsRenderBegun, IsRenderingBy};
@@ -106,6 +106,8 @@ where
     ghost forwards = { λ answers.
         IsPassedTo (rules_of L.origin L.book answers) (F.reaches answers.forwarder) F.sends F.Exchange.gives
         V.Run.gives };
+
+    ghost finishes = { λ _. IsFinishedBy L.origin L.book };
 
     ghost unanswered = { λ answers. IsUnanswered (rules_of L.origin L.book answers) };
 
