@@ -1,5 +1,5 @@
 // The fields of a request's data. Each is made only where its name is needed.
-ghost use Rattle.std.specs.Prelude.{◌≡◌, [], ◌∷◌, ◌++◌, IfOk, OnOk, IfSome, pos, codes, string_bytes};
+ghost use Rattle.std.specs.Prelude.{◌≡◌, [], ◌∷◌, ◌++◌, IfOk, OnOk, pos, codes};
 ghost use Rattle.std.specs.Prelude.{option_copied};
 ghost use Rattle.std.specs.Str.Lossy.{utf8_lossy};
 ghost use Rattle.data_tree.specs.Tree.{number, text, no_members};
@@ -49,26 +49,23 @@ pub(crate) fn push_base_url(
     made.push("baseUrl", Data::Text(CompactText::new(url)))
 }
 
-/// The body's text, which may be at hand.
+/// The body's text.
 pub(crate) fn push_body(
     alloc: Global,
     made: &mut Object,
     needed: &Needed<'_>,
     snapshot: &Snapshot,
-    body: Option<String>,
 ) -> Result<(), AllocError>
-    requires { IfSome body (λ text. string_bytes text ≡ utf8_lossy snapshot.now.body) }
     ensures { OnOk result (entries_of made.new.fields.items ≡ entries_of made.old.fields.items
         ++ kept_of needed.now ((codes "body", text (utf8_lossy snapshot.now.body)) ∷ [])) }
 {
     if !needed.has(RequestField::Body) {
         return Ok(());
     }
-    let text = match body {
-        Some(text) => text,
-        None => body_text(alloc, snapshot)?,
-    };
-    made.push("body", Data::Text(CompactText::new(text)))
+    made.push(
+        "body",
+        Data::Text(CompactText::new(body_text(alloc, snapshot)?)),
+    )
 }
 
 pub(crate) fn push_cookies(

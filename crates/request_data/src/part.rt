@@ -1,5 +1,5 @@
 // The part of a request's data that is needed.
-ghost use Rattle.std.specs.Prelude.{◌≡◌, ◌≤◌, IfOk, IfSome, string_bytes, option_copied};
+ghost use Rattle.std.specs.Prelude.{◌≡◌, ◌≤◌, IfOk, option_copied};
 ghost use Rattle.std.specs.Str.Lossy.{utf8_lossy};
 ghost use Rattle.data_tree.specs.Tree.{fields, view};
 ghost use Rattle.data_tree.specs.Json.{size};
@@ -59,16 +59,12 @@ pub(crate) fn root(
 {
     if !has_json_part(needed) {
         let mut root = Object::with_room(alloc, 1)?;
-        root.push("request", request(alloc, snapshot, template, needed, None)?)?;
+        root.push("request", request(alloc, snapshot, template, needed)?)?;
         return Ok(root.into_data());
     }
     let mut root = Object::with_room(alloc, 2)?;
-    let body = body_text(alloc, snapshot)?;
-    root.push("json", json(alloc, body.as_str(), needed)?)?;
-    root.push(
-        "request",
-        request(alloc, snapshot, template, needed, Some(body))?,
-    )?;
+    root.push("json", json_of_body(alloc, snapshot, needed)?)?;
+    root.push("request", request(alloc, snapshot, template, needed)?)?;
     Ok(root.into_data())
 }
 
@@ -77,6 +73,18 @@ fn has_json_part(needed: &Needed<'_>) -> bool
     ensures { result ≡ is_json_part_needed needed.now }
 {
     needed.has_json() || !needed.json_names().is_empty()
+}
+
+// What is needed of the data of the body, read as UTF-8, with U+FFFD for what is not. A body that is UTF-8 isn't copied.
+fn json_of_body(alloc: Global, snapshot: &Snapshot, needed: &Needed<'_>) -> Result<Data, AllocError>
+    ensures tree { IfOk result (λ made.
+        view made ≡ json_part needed.now (utf8_lossy snapshot.now.body)) }
+    ensures well_formed { IfOk result (λ made. IsWellFormed (view made)) }
+{
+    if let Ok(text) = str::from_utf8(snapshot.body()) {
+        return json(alloc, text, needed);
+    }
+    json(alloc, body_text(alloc, snapshot)?.as_str(), needed)
 }
 
 // What is needed of the data of a JSON text, and `Nothing` of another. Most requests have no body, and a reader of JSON
@@ -96,21 +104,19 @@ fn json(alloc: Global, text: &str, needed: &Needed<'_>) -> Result<Data, AllocErr
     Ok(found.unwrap_or(Data::Nothing))
 }
 
-// The fields of the request that are needed. The body's text may be at hand.
+// The fields of the request that are needed.
 fn request(
     alloc: Global,
     snapshot: &Snapshot,
     template: Option<&PathTemplate>,
     needed: &Needed<'_>,
-    body: Option<String>,
 ) -> Result<Data, AllocError>
-    requires { IfSome body (λ text. string_bytes text ≡ utf8_lossy snapshot.now.body) }
     ensures { IfOk result (λ made.
         view made ≡ fields (kept needed.now (request_fields snapshot.now (option_copied template.entry)))) }
 {
     let mut made = Object::with_room(alloc, USUAL_FIELDS)?;
     push_base_url(alloc, &mut made, needed, snapshot)?;
-    push_body(alloc, &mut made, needed, snapshot, body)?;
+    push_body(alloc, &mut made, needed, snapshot)?;
     push_cookies(alloc, &mut made, needed, snapshot)?;
     push_headers(alloc, &mut made, needed, snapshot)?;
     push_host(alloc, &mut made, needed, snapshot)?;

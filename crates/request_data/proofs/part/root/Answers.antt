@@ -1,8 +1,7 @@
 use Rattle.std.proofs.Common.{◌≡◌, false, option_copied, ap, subst, sym, ◌∙◌, codes}
-use Rattle.std.specs.Str.Lossy.{utf8_lossy}
-use Rattle.data_tree.specs.Tree.{fields, view}
+use Rattle.data_tree.specs.Tree.{fields}
 use Rattle.data_tree.specs.WellFormed.{IsWellFormed}
-use Rattle.request_data.specs.Part.{is_json_part_needed, json_part}
+use Rattle.request_data.specs.Part.{is_json_part_needed}
 use Rattle.request_data.proofs.PartLemmas.{with_json, without_json, part_well_formed}
 use Rattle.request_data.proofs.TreeLemmas.{entry_more, members_from, members_of_entries}
 use Rattle.request_data.proofs.part.root.Goals as goal
@@ -26,8 +25,7 @@ returns-then-not-has_json_part-clause-well_formed c =
 pub returns-clause-tree : goal.returns-clause-tree
 returns-clause-tree c =
     let json =
-    entry_more (codes "json") c.in_ok-push-2.ensures c.in_ok-root-2.ensures
-    (c.in_ok-json.ensures.tree ∙ ap (json_part c.args.needed.now) (c.as_str.ensures.value ∙ c.in_ok-body.ensures)) in
+    entry_more (codes "json") c.in_ok-push-2.ensures c.in_ok-root-2.ensures c.in_ok-json_of_body.ensures.tree in
     let all = entry_more (codes "request") c.in_ok-push-3.ensures json c.in_ok-request-2.ensures in
     c.into_data-2.ensures
     ∙ ap fields (members_of_entries c.push-3.new.self.fields.items ∙ ap members_from all)
@@ -36,8 +34,6 @@ returns-clause-tree c =
 
 pub returns-clause-well_formed : goal.returns-clause-well_formed
 returns-clause-well_formed c =
-    let json : view c.in_ok-json.field-0 ≡ json_part c.args.needed.now (utf8_lossy c.args.snapshot.now.body) =
-    c.in_ok-json.ensures.tree ∙ ap (json_part c.args.needed.now) (c.as_str.ensures.value ∙ c.in_ok-body.ensures) in
     subst IsWellFormed (sym (returns-clause-tree c))
     (part_well_formed c.args.needed.now c.args.snapshot.now (option_copied c.args.template)
-    (λ _. subst IsWellFormed json c.in_ok-json.ensures.well_formed))
+    (λ _. subst IsWellFormed c.in_ok-json_of_body.ensures.tree c.in_ok-json_of_body.ensures.well_formed))
