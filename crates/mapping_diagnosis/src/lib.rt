@@ -7,7 +7,6 @@
 mod budget;
 mod combination;
 mod fault;
-mod first_names;
 mod known_ids;
 mod leaf;
 mod nearest_name;
@@ -20,4 +19,5 @@ mod search;
 pub mod shown;
 mod sought;
 mod templates;
+mod unknown_names;
 mod warnings;

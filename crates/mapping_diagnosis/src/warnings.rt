@@ -1,8 +1,8 @@
 // What is taken, and yet hasn't the effect that was probably meant.
 use crate::budget::always_over;
-use crate::first_names::add_unknown_names;
 use crate::part::{Field, Part, field_of};
 use crate::shown::{joined, quoted};
+use crate::unknown_names::add_unknown_names;
 use path_template::error::PathTemplateError;
 use path_template::path_template::PathTemplate;
 use serde_json::{Map, Value};
@@ -30,7 +30,8 @@ pub(crate) fn warnings_of(alloc: Global, value: &Value) -> Result<Vec<String>, A
         warnings.add_status_message(response)?;
         warnings.add_body(response)?;
         warnings.add_json_body(response)?;
-        warnings.add_templates(response)?;
+        warnings.add_headers(response)?;
+        warnings.add_templates(response, path_template_of(value))?;
     }
     let Warnings {
         alloc: _alloc,
@@ -82,37 +83,26 @@ impl Warnings {
         self.add(["the field `", name, effect].as_slice())
     }
 
-    /// A method with a small letter: clients send methods in capitals, and they are compared as they stand.
+    /// A method with a small letter, or WireMock's word for two: clients send methods in capitals, and one is compared as
+    /// it stands.
     fn add_method(&mut self, request: &Value) -> Result<(), AllocError> {
         let Some(method) = text_at(request, "method") else {
             return Ok(());
         };
-        if !method
-            .as_bytes()
-            .iter()
-            .any(|byte| byte.is_ascii_lowercase())
-        {
+        let Some(reason) = reason_unsent(method) else {
             return Ok(());
-        }
+        };
         let method = quoted(self.alloc, method)?;
-        let reason = " is compared as it stands, and clients send methods in capitals";
         self.add(["the `method` ", method.as_str(), reason].as_slice())
     }
 
     /// URLs that no request has: that of a request begins with a slash, and its path has no question mark.
     fn add_url(&mut self, request: &Value) -> Result<(), AllocError> {
-        let no_slash = "it doesn't begin with a slash";
-        if let Some(url) = text_at(request, "url") {
-            if !url.starts_with("/") {
-                self.add_unmatched("url", url, no_slash)?;
-            }
-        }
-        if let Some(path) = text_at(request, "urlPath") {
-            if !path.starts_with("/") {
-                self.add_unmatched("urlPath", path, no_slash)?;
-            } else if path.contains("?") {
-                let reason = "a path has no query; use `url`, or `queryParameters`";
-                self.add_unmatched("urlPath", path, reason)?;
+        for name in ["url", "urlPath", "urlPathTemplate"] {
+            if let Some(text) = text_at(request, name) {
+                if let Some(reason) = reason_unmatched(name, text) {
+                    self.add_unmatched(name, text, reason)?;
+                }
             }
         }
         Ok(())
@@ -202,11 +192,15 @@ impl Warnings {
     }
 
     /// Templates with names that find nothing, or that may take too much for every request.
-    fn add_templates(&mut self, response: &Value) -> Result<(), AllocError> {
+    fn add_templates(
+        &mut self,
+        response: &Value,
+        path_template: Option<&str>,
+    ) -> Result<(), AllocError> {
         if !is_templated(response) {
             return Ok(());
         }
-        add_unknown_names(self.alloc, response, &mut self.sentences)?;
+        add_unknown_names(self.alloc, response, path_template, &mut self.sentences)?;
         if let Some(warning) = always_over(self.alloc, response)? {
             self.sentences.push(warning)?;
         }
@@ -226,6 +220,25 @@ impl Warnings {
         self.add([warning].as_slice())
     }
 
+    /// Headers with tags that are no templates.
+    fn add_headers(&mut self, response: &Value) -> Result<(), AllocError> {
+        let Some(members) = object_at(response, "headers") else {
+            return Ok(());
+        };
+        if is_templated(response) {
+            return Ok(());
+        }
+        for (name, member) in members.iter() {
+            if member.to_string(self.alloc)?.as_str().contains("{{") {
+                let name = quoted(self.alloc, name.as_str())?;
+                let reason =
+                    " is no template, its {{ is sent as it is: it is one where `transformers` names `response-template`";
+                self.add(["the header ", name.as_str(), reason].as_slice())?;
+            }
+        }
+        Ok(())
+    }
+
     /// A JSON body is sent as it is, also beside `response-template`.
     fn add_json_body(&mut self, response: &Value) -> Result<(), AllocError> {
         let Some(body) = response.get("jsonBody") else {
@@ -242,6 +255,49 @@ impl Warnings {
             "`jsonBody` is no template, its {{ is sent as it is: write the JSON as the text of `body`";
         self.add([warning].as_slice())
     }
+}
+
+/// Why no client sends the method, where none does.
+fn reason_unsent(method: &str) -> Option<&'static str> {
+    let has_small_letter = method
+        .as_bytes()
+        .iter()
+        .any(|byte| byte.is_ascii_lowercase());
+    if has_small_letter {
+        Some(" is compared as it stands, and clients send methods in capitals")
+    } else if method == "GET_OR_HEAD" {
+        Some(" is compared as it stands: the one special method is `ANY`")
+    } else {
+        None
+    }
+}
+
+/// Why no request has the URL, the path or the path template, if none has. What a path template has to be is judged where
+/// it is refused.
+fn reason_unmatched(name: &str, text: &str) -> Option<&'static str> {
+    let is_template = name == "urlPathTemplate";
+    if !text.starts_with("/") && !is_template {
+        Some("it doesn't begin with a slash")
+    } else if name == "urlPath" && text.contains("?") {
+        Some("a path has no query; use `url`, or `queryParameters`")
+    } else if is_below_admin(text) {
+        Some("what begins with /__admin are the server's own calls")
+    } else {
+        None
+    }
+}
+
+/// Whether requests with such a URL are admin calls, known or not.
+fn is_below_admin(url: &str) -> bool {
+    match url.strip_prefix("/__admin") {
+        Some(after) => after.is_empty() || after.starts_with('/') || after.starts_with('?'),
+        None => false,
+    }
+}
+
+/// The text of the mapping's path template, if it has one.
+fn path_template_of(value: &Value) -> Option<&str> {
+    text_at(value.get("request")?, "urlPathTemplate")
 }
 
 /// Whether the field is read, or written by WireMock.
