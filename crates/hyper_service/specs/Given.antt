@@ -63,7 +63,7 @@ IsKept limit origin name old new =
     ⊎ ((receipt : Receipt) × Gains origin name old new (IsAsked ClearJournal) receipt)))
 
 -- The response to what came of an exchange: of a request that was forwarded, the one to that, and its record is the one
--- call that may be made; of one that was rendered, that of its reply, and nothing is asked of the book.
+-- call that may be made; of one that was rendered, that of its reply, and the seat is as it was.
 abbrev pub IsFinishedBy : Past → Book → Held → Held → SiteReply → Response (List ℕ) → Type 0
 IsFinishedBy origin name old new (Forwarded forwarded) response =
     IsFinished origin name old new forwarded.forward forwarded.reply response

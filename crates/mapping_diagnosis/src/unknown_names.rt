@@ -16,9 +16,9 @@ use template_tree::template::Template;
 /// How many names of a mapping are warned of.
 const NAME_LIMIT: usize = 10;
 
-/// Warns of the first names of paths, outside of all loops, that aren't `request`, of names after `request` that no field
-/// of a request has, and of names after `request.path` to which the path template, if there is one, binds no segment: what
-/// they find is nothing. Each is said once.
+/// Warns of the first names of paths, outside of all loops, that aren't `request`, of names after `request` that no
+/// field of a request has, and of names after `request.path` to which the path template, if there is one, binds no
+/// segment: what they find is nothing. Each is said once.
 pub(crate) fn add_unknown_names(
     alloc: Global,
     response: &Value,
@@ -59,9 +59,9 @@ fn add_those_of_text(
     Ok(())
 }
 
-/// The code of the template as the body of a loop. Outside of loops a name finds nothing, and the code of a template has
-/// no trace of it. In the body of one more loop the same name is looked up in that loop's item, and the code says so.
-/// A template that has no room for one more loop gives none.
+/// The code of the template as the body of a loop. Outside of loops a name finds nothing, and the code of a template
+/// has no trace of it. In the body of one more loop the same name is looked up in that loop's item, and the code says
+/// so. A template that has no room for one more loop gives none.
 fn code_in_loop(alloc: Global, text: &str) -> Result<Option<Code>, AllocError> {
     let looped = joined(alloc, ["{{#each request}} ", text, " {{/each}}"].as_slice())?;
     match template_of(alloc, looped.as_str())? {
@@ -129,6 +129,11 @@ fn add_first_name(
 ) -> Result<(), AllocError> {
     match steps.first() {
         Some(Step::Name(name)) => {
+            // By `this.request`: `request` alone, or after `../`, is the request wherever it stands.
+            if name.as_str() == "request" {
+                let why = "outside of loops `this` is nothing, and request stands without it";
+                return add_sentence(finds_nothing(alloc, name.as_str(), why, None)?, sentences);
+            }
             let why = "outside of loops a path begins with request";
             let nearest = nearest_name(alloc, name.as_str())?;
             add_sentence(
@@ -175,9 +180,20 @@ fn binds(path_template: Option<&str>, name: &str) -> bool {
     let Some(template) = path_template else {
         return false;
     };
+    if !may_be_bound(name) {
+        return false;
+    }
     template
         .split('/')
         .any(|segment| bound_name(segment) == Some(name))
+}
+
+/// Whether a segment of a path template can be bound to the name.
+fn may_be_bound(name: &str) -> bool {
+    !name.is_empty()
+        && name.as_bytes().iter().all(|byte| byte.is_ascii_alphanumeric()
+            || *byte == b'_'
+            || *byte == b'-')
 }
 
 fn bound_name(segment: &str) -> Option<&str> {

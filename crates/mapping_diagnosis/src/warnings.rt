@@ -83,8 +83,8 @@ impl Warnings {
         self.add(["the field `", name, effect].as_slice())
     }
 
-    /// A method with a small letter, or WireMock's word for two: clients send methods in capitals, and one is compared as
-    /// it stands.
+    /// A method with a small letter, or WireMock's word for two: clients send methods in capitals, and one is compared
+    /// as it stands.
     fn add_method(&mut self, request: &Value) -> Result<(), AllocError> {
         let Some(method) = text_at(request, "method") else {
             return Ok(());
@@ -96,12 +96,15 @@ impl Warnings {
         self.add(["the `method` ", method.as_str(), reason].as_slice())
     }
 
-    /// URLs that no request has: that of a request begins with a slash, and its path has no question mark.
+    /// URLs that no request has: that of a request begins with a slash, and its path has no question mark. And those of
+    /// a server's own calls.
     fn add_url(&mut self, request: &Value) -> Result<(), AllocError> {
         for name in ["url", "urlPath", "urlPathTemplate"] {
             if let Some(text) = text_at(request, name) {
                 if let Some(reason) = reason_unmatched(name, text) {
                     self.add_unmatched(name, text, reason)?;
+                } else if is_below_admin(text) {
+                    self.add_own(name, text)?;
                 }
             }
         }
@@ -117,6 +120,18 @@ impl Warnings {
             text.as_str(),
             ": ",
             reason,
+        ];
+        self.add(texts.as_slice())
+    }
+
+    fn add_own(&mut self, name: &str, text: &str) -> Result<(), AllocError> {
+        let text = quoted(self.alloc, text)?;
+        let texts = [
+            "a server matches no request by the `",
+            name,
+            "` ",
+            text.as_str(),
+            ": /__admin and what is below it are its own calls",
         ];
         self.add(texts.as_slice())
     }
@@ -272,16 +287,12 @@ fn reason_unsent(method: &str) -> Option<&'static str> {
     }
 }
 
-/// Why no request has the URL, the path or the path template, if none has. What a path template has to be is judged where
-/// it is refused.
+/// Why no request has the URL or the path, if none has. What a path template has to be is judged where it is refused.
 fn reason_unmatched(name: &str, text: &str) -> Option<&'static str> {
-    let is_template = name == "urlPathTemplate";
-    if !text.starts_with("/") && !is_template {
+    if name != "urlPathTemplate" && !text.starts_with("/") {
         Some("it doesn't begin with a slash")
     } else if name == "urlPath" && text.contains("?") {
         Some("a path has no query; use `url`, or `queryParameters`")
-    } else if is_below_admin(text) {
-        Some("what begins with /__admin are the server's own calls")
     } else {
         None
     }
