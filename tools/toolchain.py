@@ -1,7 +1,7 @@
 """The toolchain's `rt` as a module, where each crate's checksum and the list of the libraries below it are computed once.
 
-A toolchain as old as `rattle-kit-13b` computes them again along each way that leads to a crate: some 900,000 ways to
-`mock`. What is proved and tried is the same.
+The toolchain computes that list again along each way that leads to a crate, some 900,000 ways to `mock`, which takes
+minutes; one as old as `rattle-kit-13b` does so with the checksums, too. What is proved and tried is the same.
 """
 import importlib.machinery
 import importlib.util
@@ -31,15 +31,15 @@ def once_each(name, compute):
     return found
 
 
-def computes_once(rt):
-    """Whether the toolchain does so by itself."""
+def has_stamps_once(rt):
+    """Whether the toolchain computes each checksum once by itself."""
     return hasattr(rt, "stamp_once")
 
 
 def quick():
     """`rt` as a module that computes them once."""
     rt = loaded()
-    if not computes_once(rt):
-        rt.rtlib.Crate.below = once_each("known_below", rt.rtlib.Crate.below)
+    rt.rtlib.Crate.below = once_each("known_below", rt.rtlib.Crate.below)
+    if not has_stamps_once(rt):
         rt.rtlib.Crate.stamp = once_each("known_stamp", rt.rtlib.Crate.stamp)
     return rt
