@@ -1,5 +1,5 @@
 -- The one line that says why an admin call is refused.
-use Rattle.std.specs.Prelude.{ℕ, List, ◌≤◌, ◌<◌, length, All}
+use Rattle.std.specs.Prelude.{ℕ, List, ◌≤◌, ◌<◌, length, All, Bool, ◌&&◌, ◌||◌, if◌then◌else◌, nat_lt, filter, map, take}
 use Rattle.call_refusal.specs.declared.reason.TheConstants.{LENGTH_LIMIT}
 
 -- a visible character of ASCII, or a space
@@ -14,3 +14,15 @@ pub record IsReason (reason : List ℕ) : Type 0 where
   pub said : 0 < length reason
   pub short : length reason ≤ LENGTH_LIMIT
   pub visible : AreVisible reason
+
+-- the first byte of a character of UTF-8 (RFC 3629, section 3)
+abbrev pub begins_character : ℕ → Bool
+begins_character byte = nat_lt byte 128 || nat_lt 191 byte
+
+-- a visible character or a space as it is, and a question mark for another
+abbrev pub shown : ℕ → ℕ
+shown byte = if nat_lt 31 byte && nat_lt byte 127 then byte else 63
+
+-- as much of a text as a reason may have
+abbrev pub reason_of : List ℕ → List ℕ
+reason_of text = take LENGTH_LIMIT (map shown (filter begins_character text))

@@ -1,6 +1,6 @@
 // A reason that fits a header.
-ghost use Rattle.std.specs.Prelude.{◌≡◌, ◌≤◌, IfOk, length};
-ghost use Rattle.call_refusal.specs.Reason.{AreVisible, IsReason, IsVisible};
+ghost use Rattle.std.specs.Prelude.{◌≡◌, ◌≤◌, ◌∷◌, ◌++◌, [], IfOk, MatchOption, OnOk, filter, length, map, take};
+ghost use Rattle.call_refusal.specs.Reason.{AreVisible, IsReason, begins_character, reason_of, shown};
 
 use plain_text::octets::Octets;
 use std::alloc::{AllocError, Global};
@@ -29,7 +29,9 @@ impl Model for Reason {
 impl Reason {
     /// As much of the text as a reason may have, with a question mark for each other character; `None` where that is
     /// nothing.
-    pub fn of(alloc: Global, text: &str) -> Result<Option<Reason>, AllocError> {
+    pub fn of(alloc: Global, text: &str) -> Result<Option<Reason>, AllocError>
+        ensures { IfOk result (λ made. MatchOption made (reason_of text.now ≡ []) (λ reason. reason ≡ reason_of text.now)) }
+    {
         let bytes = visible(alloc, text)?;
         if bytes.is_empty() {
             return Ok(None);
@@ -49,27 +51,46 @@ impl Reason {
     }
 }
 
-// The characters of the text that may be in a reason.
+// As much of the text as a reason may have.
 fn visible(alloc: Global, text: &str) -> Result<Vec<u8>, AllocError>
+    ensures value { IfOk result (λ bytes. bytes.items ≡ reason_of text.now) }
     ensures visible { IfOk result (λ bytes. AreVisible bytes.items) }
     ensures short { IfOk result (λ bytes. length bytes.items ≤ LENGTH_LIMIT) }
 {
     let mut bytes = Vec::new(alloc);
     for byte in text.as_bytes() {
-        if bytes.len() < LENGTH_LIMIT && begins_character(*byte) {
-            bytes.push(visible_byte(*byte))?;
-        }
+        add_visible(&mut bytes, *byte)?;
     }
     Ok(bytes)
 }
 
+// Adds what is shown for the byte, where it is the first of a character, and there is room.
+fn add_visible(bytes: &mut Vec<u8>, byte: u8) -> Result<(), AllocError>
+    requires { length bytes.old.items ≤ LENGTH_LIMIT }
+    ensures value { OnOk result
+        (bytes.new.items ≡ take LENGTH_LIMIT (bytes.old.items ++ map shown (filter begins_character (byte ∷ [])))) }
+    ensures visible { OnOk result (AreVisible bytes.old.items → AreVisible bytes.new.items) }
+    ensures short { OnOk result (length bytes.new.items ≤ LENGTH_LIMIT) }
+{
+    if !begins_character(byte) {
+        return Ok(());
+    }
+    if bytes.len() >= LENGTH_LIMIT {
+        return Ok(());
+    }
+    bytes.push(visible_byte(byte))?;
+    Ok(())
+}
+
 // Whether it is the first byte of a character of UTF-8 (RFC 3629, section 3).
-fn begins_character(byte: u8) -> bool {
+fn begins_character(byte: u8) -> bool
+    ensures { result ≡ begins_character byte }
+{
     byte < 0x80 || byte >= 0xc0
 }
 
 fn visible_byte(byte: u8) -> u8
-    ensures { IsVisible result }
+    ensures { result ≡ shown byte }
 {
     if byte < 0x20 || byte > 0x7e {
         return b'?';

@@ -157,11 +157,9 @@ fn cause_of(
 
 /// What is between the braces of a tag.
 fn content_of(tag: &str) -> &str {
-    let inner = tag
-        .strip_prefix("{{{")
-        .or_else(|| tag.strip_prefix("{{"))
-        .unwrap_or(tag);
-    inner.strip_suffix("}}").unwrap_or(inner)
+    let close = close_of(tag);
+    let inner = tag.get(close.len()..).unwrap_or(tag);
+    inner.strip_suffix(close).unwrap_or(inner)
 }
 
 /// The words of a tag. Between them are white space and parentheses, outside of texts in quotation marks and of brackets.
@@ -307,8 +305,52 @@ fn begins_with_path(path: &str, front: &str) -> bool {
 
 /// The tag at the start of the text.
 fn tag_of(text: &str) -> &str {
-    match text.find("}}") {
-        Some(at) => text.get(..at.saturating_add(2)).unwrap_or(text),
+    match end_of_tag(text) {
+        Some(end) => text.get(..end).unwrap_or(text),
         None => text,
+    }
+}
+
+fn end_of_tag(text: &str) -> Option<usize> {
+    let close = close_of(text);
+    let content = text.get(close.len()..)?;
+    let at = match close_outside_texts(content, close) {
+        Some(at) => at,
+        None => content.find(close)?,
+    };
+    Some(at.saturating_add(close.len()).saturating_add(close.len()))
+}
+
+/// What closes the tag at the start of the text.
+fn close_of(text: &str) -> &'static str {
+    if text.starts_with("{{{") { "}}}" } else { "}}" }
+}
+
+/// Where the content of a tag has its first close that is no part of a text in quotation marks. A comment has no such text.
+fn close_outside_texts(content: &str, close: &str) -> Option<usize> {
+    if content.starts_with("!") {
+        return None;
+    }
+    let mut closing: Option<u8> = None;
+    let mut is_first = true;
+    for (at, byte) in content.as_bytes().iter().enumerate() {
+        let is_in_text = matches!(closing, Some(b'"' | b'\''));
+        if !is_in_text && stands_at(content, at, close) {
+            return Some(at);
+        }
+        if closing.is_none() {
+            closing = closing_of(*byte, is_first);
+        } else if closing == Some(*byte) {
+            closing = None;
+        }
+        is_first = matches!(*byte, b' ' | b'\t' | b'\n' | b'\r' | b'(');
+    }
+    None
+}
+
+fn stands_at(text: &str, at: usize, sought: &str) -> bool {
+    match text.get(at..) {
+        Some(rest) => rest.starts_with(sought),
+        None => false,
     }
 }

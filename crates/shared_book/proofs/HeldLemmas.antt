@@ -137,10 +137,10 @@ none_held [] none = refl
 none_held (r ∷ rs) none = absurd (omega (arith, none))
 
 -- a list of one receipt, whose event was let go
-pub single_line : (list : ReceiptList) → length list.let_go.items ≡ 1 → length list.held.items ≡ 0
-    → map single list.let_go.items ≡ line_of list ∷ []
+pub single_line : (list : ReceiptList) → length list.let_go ≡ 1 → length list.held.items ≡ 0
+    → map single list.let_go ≡ line_of list ∷ []
 single_line list one none =
-    let is = one_number list.let_go.items one in
+    let is = one_number list.let_go one in
     ap (map single) is.1
     ∙ (λ i. record { let_go = sym is.1 i; held = sym (none_held list.held.items none) i } ∷ [])
 

@@ -9,6 +9,8 @@ pub mod EndLemmas
 pub mod SettledLemmas
 pub mod EventLemmas
 pub mod ReceiptLemmas
+pub mod NumberLemmas
+pub mod FallLemmas
 pub mod CountLemmas
 pub mod RefusalLemmas
 pub mod ScriptLemmas

@@ -1,46 +1,15 @@
 -- What one list of receipts shows by itself, and what several do.
-use Rattle.std.proofs.Common.{◌≡◌, ℕ, zero, suc, ◌+◌, ◌-◌, ◌<◌, ◌≤◌, ◌⊎◌, inl, inr, List, [], ◌∷◌, ◌++◌, map, length}
+use Rattle.std.proofs.Common.{◌≡◌, ℕ, zero, suc, ◌+◌, ◌<◌, ◌≤◌, inr, List, [], ◌∷◌, ◌++◌, map, length}
 use Rattle.std.proofs.Common.{get_or, take, All, refl, sym, ap, ◌∙◌, subst, arith}
 use Rattle.std.proofs.lemmas.List.{map-append, take_more, take_all}
 use Rattle.std.proofs.lemmas.List.Concat.{get_or-flat_map, flat_map-append}
 use Rattle.std.proofs.lemmas.List.Elements.{All-append, All-cons, All-map, All-nil, All-push, All-weaker}
 use Rattle.std.proofs.lemmas.List.Folds.{length-flat_map-take}
-use Rattle.std.specs.Prelude.{slice_index, Any, Contains, MatchOption, Option, Some, None}
+use Rattle.std.specs.Prelude.{Any, Contains, MatchOption, Option, Some, None}
 use Rattle.std.specs.List.{flat_map}
 use Rattle.shared_book.specs.Inner.Misplaced.{IsMisplaced, IsWellPlaced}
 use Rattle.shared_book.specs.Inner.Seat.{single}
-use Rattle.shared_book.specs.Receipts.{Line, IsRising, Falls, LetGoAbove, LetGoUpTo, numbers_of}
-
--- a number that isn't above the one before it
-pub falls_at : (line : Line) (i number before : ℕ) → 1 ≤ i → i < length (numbers_of line)
-    → number ≡ slice_index (numbers_of line) i → before ≡ slice_index (numbers_of line) (i - 1) → number ≤ before
-    → Falls number line
-falls_at line i number before one l at at_before le =
-    let up : i ≡ i - 1 + 1 = omega (arith, one) in (
-      i - 1,
-      omega (arith, one, l),
-      subst (λ (k : ℕ). slice_index (numbers_of line) k ≡ number) up (sym at),
-      omega (arith, at_before, le),
-    )
-
--- one more number, above the one before it
-pub rises_more : (xs : List ℕ) (i number before : ℕ) → 1 ≤ i
-    → ((k : ℕ) → k + 1 < i → slice_index xs k < slice_index xs (k + 1))
-    → number ≡ slice_index xs i → before ≡ slice_index xs (i - 1) → before < number
-    → (k : ℕ) → k + 1 < i + 1 → slice_index xs k < slice_index xs (k + 1)
-rises_more xs i number before one up at at_before lt k m =
-    elim (less_or_last k i m) as (λ _. slice_index xs k < slice_index xs (k + 1)) [
-      | inl below ↦ up k below
-      | inr last ↦
-          let same : i - 1 ≡ k = omega (arith, last) in
-          let next : i ≡ k + 1 = omega (arith, last) in
-          let here : slice_index xs (i - 1) < slice_index xs i = omega (arith, at, at_before, lt) in
-          subst (λ (j : ℕ). slice_index xs j < slice_index xs (k + 1)) same
-          (subst (λ (j : ℕ). slice_index xs (i - 1) < slice_index xs j) next here)
-    ]
-  where
-    less_or_last : (k i : ℕ) → k + 1 < i + 1 → (k + 1 < i) ⊎ (k + 1 ≡ i)
-    less_or_last k i m = grind arith
+use Rattle.shared_book.specs.Receipts.{Line, IsRising, LetGoAbove, LetGoUpTo}
 
 -- one more element of a mapped list
 pub all_map_more : {X Y : Type 0} (P : Y → Type 0) (f : X → Y) (xs : List X) (i : ℕ) (d : X) → i < length xs

@@ -4,3 +4,4 @@ pub mod Keeps
 pub mod Refusal
 pub mod Misplaced
 pub mod Ends
+pub mod Numbers

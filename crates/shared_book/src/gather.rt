@@ -2,12 +2,12 @@
 ghost use Rattle.std.specs.Prelude.{◌≡◌, ◌++◌, IfOk, OnOk};
 ghost use Rattle.shared_book.specs.Held.{all_lists, all_numbers, lists, receipts_of};
 ghost use Rattle.shared_book.specs.Inner.Seat.{line_of, lines_in, lines_of};
-ghost use Rattle.shared_book.specs.Receipts.{numbers_of};
+ghost use Rattle.shared_book.specs.Receipts.{numbers, numbers_of};
 
 use crate::origin::Origin;
 use crate::pile::Pile;
 use crate::receipt::Receipt;
-use crate::receipt_list::{ReceiptList, add_numbers};
+use crate::receipt_list::ReceiptList;
 use crate::seat::Seat;
 use std::alloc::{AllocError, Global};
 
@@ -46,21 +46,27 @@ fn number_pile(all: &mut Vec<u64>, pile: &Pile) -> Result<(), AllocError>
 {
     match pile {
         Pile::Whole(list) => number_list(all, list),
-        Pile::Singles(numbers) => add_plain(all, numbers.as_slice()),
+        Pile::Singles(numbers) => numbers.add_to(all),
     }
-}
-
-fn add_plain(all: &mut Vec<u64>, numbers: &[u64]) -> Result<(), AllocError>
-    ensures { OnOk result (all.new.items ≡ all.old.items ++ numbers.now) }
-{
-    all.extend_from_slice(numbers)
 }
 
 fn number_list(all: &mut Vec<u64>, list: &ReceiptList) -> Result<(), AllocError>
     ensures { OnOk result (all.new.items ≡ all.old.items ++ numbers_of (line_of list.now)) }
 {
-    all.extend_from_slice(list.let_go.as_slice())?;
+    list.let_go.add_to(all)?;
     add_numbers(all, list.held.as_slice())
+}
+
+fn add_numbers(all: &mut Vec<u64>, receipts: &[Receipt]) -> Result<(), AllocError>
+    ensures { OnOk result (all.new.items ≡ all.old.items ++ numbers receipts.now) }
+{
+    all.reserve(receipts.len())?;
+    for receipt in receipts {
+        let Ok(()) = all.push(receipt.number) else {
+            unreachable!()
+        };
+    }
+    Ok(())
 }
 
 /// Copies of all receipts that are held. They share the events.

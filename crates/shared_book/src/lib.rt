@@ -18,6 +18,7 @@ mod lines;
 mod locked;
 mod look;
 mod misplaced;
+mod numbers;
 pub mod origin;
 mod pile;
 pub mod receipt;

@@ -1,10 +1,11 @@
 // What one list of receipts shows by itself.
-ghost use Rattle.std.specs.Prelude.{◌<◌, ◌≤◌, All, Any, Contains, MatchOption};
+ghost use Rattle.std.specs.Prelude.{◌<◌, ◌≤◌, ◌↔◌, All, Any, Contains, IsSomeAnd, IsTrue, MatchOption};
 ghost use Rattle.shared_book.specs.Held.{all_lists, lists};
 ghost use Rattle.shared_book.specs.Inner.Misplaced.{IsMisplaced, IsWellPlaced};
 ghost use Rattle.shared_book.specs.Inner.Seat.{line_of, lines_in, lines_of};
 ghost use Rattle.shared_book.specs.Receipts.{Falls, IsRising, LetGoAbove, LetGoUpTo};
 
+use crate::numbers::Numbers;
 use crate::origin::Origin;
 use crate::pile::Pile;
 use crate::receipt_list::ReceiptList;
@@ -52,7 +53,7 @@ fn misplaced_in_pile(pile: &Pile, last: u64) -> Option<u64>
 {
     match pile {
         Pile::Whole(list) => misplaced_in_list(list, last),
-        Pile::Singles(numbers) => above(numbers.as_slice(), last),
+        Pile::Singles(numbers) => above(numbers, last),
     }
 }
 
@@ -69,27 +70,43 @@ fn misplaced_in_list(list: &ReceiptList, last: u64) -> Option<u64>
 fn fall(list: &ReceiptList) -> Option<u64>
     ensures { MatchOption result (IsRising (line_of list.now)) (λ n. Falls n (line_of list.now)) }
 {
-    for i in 1..list.len() {
-        let number = list.number_at(i);
-        if number <= list.number_at(i - 1) {
+    let mut before = None;
+    let mut left = list.let_go.iter();
+    while let Some(number) = left.next() {
+        if is_fall(before, number) {
             return Some(number);
         }
+        before = Some(number);
+    }
+    for receipt in &list.held {
+        if is_fall(before, receipt.number) {
+            return Some(receipt.number);
+        }
+        before = Some(receipt.number);
     }
     None
+}
+
+// Whether the number isn't above the one before it.
+fn is_fall(before: Option<u64>, number: u64) -> bool
+    ensures { IsTrue result ↔ IsSomeAnd before (λ b. number ≤ b) }
+{
+    before.is_some_and(|before| number <= before)
 }
 
 fn let_go_above(list: &ReceiptList, last: u64) -> Option<u64>
     ensures { MatchOption result (LetGoUpTo last (line_of list.now)) (λ n. LetGoAbove last n (line_of list.now)) }
 {
-    above(list.let_go.as_slice(), last)
+    above(&list.let_go, last)
 }
 
-fn above(numbers: &[u64], last: u64) -> Option<u64>
+fn above(numbers: &Numbers, last: u64) -> Option<u64>
     ensures { MatchOption result (All (λ n. n ≤ last) numbers.now) (λ n. Contains numbers.now n × (last < n)) }
 {
-    for number in numbers {
-        if *number > last {
-            return Some(*number);
+    let mut left = numbers.iter();
+    while let Some(number) = left.next() {
+        if number > last {
+            return Some(number);
         }
     }
     None

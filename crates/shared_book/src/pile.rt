@@ -2,6 +2,7 @@
 ghost use Rattle.std.specs.Prelude.{◌≡◌, ◌≤◌, ◌+◌, ◌<◌, ◌++◌, IfErr, IfOk, map, vec_capacity, vec_len};
 ghost use Rattle.shared_book.specs.Inner.Seat.{lines_in, lines_of, single};
 
+use crate::numbers::Numbers;
 use crate::receipt_list::ReceiptList;
 
 /// One list of receipts; or several of one receipt each, whose events are free, so that only their numbers are kept. A
@@ -9,7 +10,7 @@ use crate::receipt_list::ReceiptList;
 #[derive(Drop)]
 pub(crate) enum Pile {
     Whole(ReceiptList),
-    Singles(Vec<u64>),
+    Singles(Numbers),
 }
 
 /// Adds a pile to these, on top of the last one where both are of lists of one number. Takes no memory for the lists.
@@ -40,15 +41,15 @@ fn add_both(piles: &mut Vec<Pile>, first: Pile, second: Pile)
     }
 }
 
-fn add_numbers(piles: &mut Vec<Pile>, numbers: Vec<u64>, more: Vec<u64>)
+fn add_numbers(piles: &mut Vec<Pile>, numbers: Numbers, more: Numbers)
     requires { vec_len piles.old + 2 ≤ vec_capacity piles.old }
     ensures items { lines_in piles.new.items
-        ≡ lines_in piles.old.items ++ (map single numbers.items ++ map single more.items) }
+        ≡ lines_in piles.old.items ++ (map single numbers ++ map single more) }
     ensures room { vec_capacity piles.old ≤ vec_capacity piles.new }
     ensures length { vec_len piles.new ≤ vec_len piles.old + 2 }
 {
     let mut all = numbers;
-    match all.extend_from_slice(more.as_slice()) {
+    match all.append(&more) {
         Ok(()) => push(piles, Pile::Singles(all)),
         Err(_error) => push_both(piles, Pile::Singles(all), Pile::Singles(more)),
     }
@@ -77,8 +78,8 @@ fn push(piles: &mut Vec<Pile>, pile: Pile)
 }
 
 // The numbers of a pile of lists of one number; or the pile.
-fn numbers_in(pile: Pile) -> Result<Vec<u64>, Pile>
-    ensures ok { IfOk result (λ numbers. map single numbers.items ≡ lines_of pile) }
+fn numbers_in(pile: Pile) -> Result<Numbers, Pile>
+    ensures ok { IfOk result (λ numbers. map single numbers ≡ lines_of pile) }
     ensures err { IfErr result (λ same. lines_of same ≡ lines_of pile) }
 {
     match pile {

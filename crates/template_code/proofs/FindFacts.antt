@@ -1,12 +1,13 @@
 -- Over two roots in which code finds the same, it has the same runs.
-use Rattle.std.proofs.Common.{◌≡◌, ℕ, zero, suc, ◌⊎◌, inl, inr, List, [], ◌∷◌, length, Option, Some, None, Bool, true}
+use Rattle.std.proofs.Common.{◌≡◌, ◌<◌, ◌≤◌, ℕ, zero, suc, ◌⊎◌, inl, inr, List, [], ◌∷◌, length, Option, Some, None, Bool, true}
 use Rattle.std.proofs.Common.{false, refl, sym, ap, subst, arith, ◌∙◌}
-use Rattle.std.specs.Prelude.{slice_get, option_map, option_and_then, if◌then◌else◌, take, drop, reverse}
+use Rattle.std.specs.Prelude.{slice_get, option_map, option_and_then, if◌then◌else◌, take, drop, reverse, ◌++◌}
 use Rattle.std.specs.Option.{option_map_or}
 use Rattle.std.proofs.lemmas.Option.{none-some, same_Some, option_and_then_some}
 use Rattle.data_tree.specs.Tree.{Tree, nothing}
 use Rattle.data_tree.specs.LookUp.{at}
 use Rattle.data_tree.specs.Parts.{items}
+use Rattle.data_tree.specs.declared.step.Step.{Step}
 use Rattle.json_bridge.specs.PathFound.{path_of}
 use Rattle.helper_set.specs.Helpers.{applied, argument_kinds, is_looked_up}
 use Rattle.helper_set.specs.Values.{Value, a_datum, a_text, truth_of}
@@ -14,11 +15,11 @@ use Rattle.helper_set.specs.declared.helper.Helper.{Helper}
 use Rattle.helper_set.specs.declared.helper.Helper.TheVariants.{JsonPath}
 use Rattle.template_code.specs.Code.{StackCode}
 use Rattle.template_code.specs.Finds.{HaveSameJson, IsPushedBefore, LiteralFindsSame, JumpFindsSame}
-use Rattle.template_code.specs.Finds.{FindsSameBy, FindSame}
+use Rattle.template_code.specs.Finds.{FindsSameBy, IsUnread, FindSame}
 use Rattle.template_code.specs.Instructions.{flow}
 use Rattle.template_code.specs.Machine.{Loop, State, Effect, with_stack, found_by, looked_up, result_of, called, effect}
 use Rattle.template_code.specs.Machine.{Way, has_next, opened, closed, way, state_after}
-use Rattle.template_code.specs.Machine.{next_state, act, step, advance, Runs, first}
+use Rattle.template_code.specs.Machine.{next_state, act, step, advance, IsAtHalt, Runs, first}
 use Rattle.template_code.specs.declared.flow.Flow.{Flow}
 use Rattle.template_code.specs.declared.instr.Instr.{Instr}
 use Rattle.template_code.specs.declared.instr.Instr.TheVariants.{Emit, Root, Item, Index, Key, First, Last, Text}
@@ -133,12 +134,18 @@ same_effect code r r' index Halt loops stack h ready = refl
 abbrev IsReady : StackCode → Tree → Tree → State → Type 0
 IsReady code r r' s = (h : Helper) → slice_get code.instrs s.index ≡ Some (Call h) → LooksUpSame r r' h s.stack
 
-same_step : (code : StackCode) (r r' : Tree) (s : State) → FindSame code r r' → IsReady code r r' s
-    → step code r s ≡ step code r' s
-same_step code r r' s same ready =
-    same_and_then (λ i. act code r i s) (λ i. act code r' i s) (slice_get code.instrs s.index)
-    (λ i e. ap (option_and_then (next_state (flow i) s))
-    (same_effect code r r' s.index i s.loops s.stack (same s.index i e) (λ h is. ready h (e ∙ ap Some is))))
+-- the step that the instruction at the state's index makes
+step_by : (code : StackCode) (root : Tree) (s : State) (i : Instr) → slice_get code.instrs s.index ≡ Some i
+    → step code root s ≡ act code root i s
+step_by code root s i here = ap (option_and_then (λ i. act code root i s)) here
+
+same_step : (code : StackCode) (r r' : Tree) (s : State) (i : Instr) → slice_get code.instrs s.index ≡ Some i
+    → FindsSameBy code r r' s.index i → IsReady code r r' s → step code r s ≡ step code r' s
+same_step code r r' s i here same ready =
+    step_by code r s i here
+    ∙ (ap (option_and_then (next_state (flow i) s))
+    (same_effect code r r' s.index i s.loops s.stack same (λ h is. ready h (here ∙ ap Some is)))
+    ∙ sym (step_by code r' s i here))
 
 -- each jump of the flow
 abbrev JumpsFindSame : StackCode → Tree → Tree → Flow → Type 0
@@ -148,13 +155,18 @@ JumpsFindSame code r r' (Flow.Open target) = JumpFindsSame code r r' target
 JumpsFindSame code r r' (Flow.Close start) = JumpFindsSame code r r' start
 JumpsFindSame code r r' f = Unit {0}
 
-jumps_find_same : (code : StackCode) (r r' : Tree) (index : ℕ) (i : Instr) → FindsSameBy code r r' index i
-    → JumpsFindSame code r r' (flow i)
-jumps_find_same code r r' index (Jump target) same = same
-jumps_find_same code r r' index (Branch target) same = same
-jumps_find_same code r r' index (Each target) same = same
-jumps_find_same code r r' index (Next start) same = same
-jumps_find_same code r r' index i same = tt
+jumps_find_same : (code : StackCode) (r r' : Tree) (index : ℕ) (i : Instr)
+    → IsUnread code index i ⊎ FindsSameBy code r r' index i → JumpsFindSame code r r' (flow i)
+jumps_find_same code r r' index i (inl unread) =
+    subst (λ i. JumpsFindSame code r r' (flow i)) (sym unread.pushes) tt
+jumps_find_same code r r' index i (inr same) = of_flow i same
+  where
+    of_flow : (i : Instr) → FindsSameBy code r r' index i → JumpsFindSame code r r' (flow i)
+    of_flow (Jump target) same = same
+    of_flow (Branch target) same = same
+    of_flow (Each target) same = same
+    of_flow (Next start) same = same
+    of_flow i same = tt
 
 -- a run comes to an index from the one before it, or by a jump
 abbrev Leads : StackCode → Tree → Tree → ℕ → Way → Type 0
@@ -253,7 +265,7 @@ literal_on_top code r r' s t move text next pushed same =
 
 ready_next : (code : StackCode) (r r' : Tree) (s t : State) → FindSame code r r' → step code r s ≡ Some t
     → IsReady code r r' t
-ready_next code r r' s t same moved h called is = by (same t.index (Call h) called is)
+ready_next code r r' s t same moved h called is = by_call (same t.index (Call h) called)
   where
     move : Move code r s t
     move = move_of code r s t moved
@@ -270,26 +282,244 @@ ready_next code r r' s t same moved h called is = by (same t.index (Call h) call
         by_way literal (way_leads code r r' (flow move.instr) s.index s.loops s.stack move.goes
         (jumps_find_same code r r' s.index move.instr (same s.index move.instr move.here)) move.leads)
 
+    by_call : IsUnread code t.index (Call h) ⊎ FindsSameBy code r r' t.index (Call h)
+        → HaveSameJson r r' ⊎ TopFindsSame r r' t.stack
+    by_call (inl unread) = absurd (cc unread.pushes)
+    by_call (inr reads) = by (reads is)
+
 -- no instruction is before the first
 ready_first : (code : StackCode) (r r' : Tree) → FindSame code r r' → IsReady code r r' first
-ready_first code r r' same h called is = by (same 0 (Call h) called is)
+ready_first code r r' same h called is = by_call (same 0 (Call h) called)
   where
     by : HaveSameJson r r' ⊎ LiteralFindsSame code r r' 0 → HaveSameJson r r' ⊎ TopFindsSame r r' []
     by (inl json) = inl json
     by (inr literal) = absurd (omega (arith, literal.1.next))
 
-same_advance : (code : StackCode) (r r' : Tree) (n : ℕ) (s : State) → FindSame code r r' → IsReady code r r' s
-    → advance code r n s ≡ advance code r' n s
-same_advance code r r' zero s same ready = refl
-same_advance code r r' (suc n) s same ready =
-    let moves = same_step code r r' s same ready in
-    ap (option_and_then (advance code r n)) moves
-    ∙ same_and_then (advance code r n) (advance code r' n) (step code r' s)
-    (λ t e. same_advance code r r' n t same (ready_next code r r' s t same (moves ∙ e)))
+    by_call : IsUnread code 0 (Call h) ⊎ FindsSameBy code r r' 0 (Call h) → HaveSameJson r r' ⊎ TopFindsSame r r' []
+    by_call (inl unread) = absurd (cc unread.pushes)
+    by_call (inr reads) = by (reads is)
+
+-- ---- what nobody reads
+
+-- what the literal that `jsonPath` reads finds is the same in both
+same_found : (code : StackCode) (r r' : Tree) (before entry : ℕ) (text : List ℕ) → FindSame code r r'
+    → slice_get code.instrs before ≡ Some (Text entry) → slice_get code.texts entry ≡ Some text
+    → slice_get code.instrs (suc before) ≡ Some (Call JsonPath) → found_by r text ≡ found_by r' text
+same_found code r r' before entry text same pushes literal taken = by_call (same (suc before) (Call JsonPath) taken)
+  where
+    by_literal : (other : List ℕ) → IsPushedBefore code (suc before) other → found_by r other ≡ found_by r' other
+        → found_by r text ≡ found_by r' text
+    by_literal other pushed finds =
+        let here : before ≡ pushed.before = omega (arith, pushed.next) in
+        let is : Text entry ≡ Text pushed.entry =
+        same_Some (Text entry) (Text pushed.entry) (sym pushes ∙ (ap (slice_get code.instrs) here ∙ pushed.pushes)) in
+        let entries : entry ≡ pushed.entry = cc is in
+        let texts : text ≡ other =
+        same_Some text other (sym literal ∙ (ap (slice_get code.texts) entries ∙ pushed.literal)) in
+        subst (λ text. found_by r text ≡ found_by r' text) (sym texts) finds
+
+    by : HaveSameJson r r' ⊎ LiteralFindsSame code r r' (suc before) → found_by r text ≡ found_by r' text
+    by (inl json) = ap (λ body. option_map_or (λ path. at path body) (path_of text) nothing) json
+    by (inr literal) = by_literal literal.0 literal.1 literal.2
+
+    by_call : IsUnread code (suc before) (Call JsonPath) ⊎ FindsSameBy code r r' (suc before) (Call JsonPath)
+        → found_by r text ≡ found_by r' text
+    by_call (inl unread) = absurd (cc unread.pushes)
+    by_call (inr reads) = by (reads refl)
+
+-- three instructions, of which the first pushes what nobody reads, with the path that it finds, and the text
+record Unread (code : StackCode) (s : State) : Type 0 where
+  path_entry : ℕ
+  text_entry : ℕ
+  path : List Step
+  text : List ℕ
+  pushes : slice_get code.instrs s.index ≡ Some (Root path_entry)
+  next : slice_get code.instrs (suc s.index) ≡ Some (Text text_entry)
+  taken : slice_get code.instrs (suc (suc s.index)) ≡ Some (Call JsonPath)
+  has_path : slice_get code.paths path_entry ≡ Some path
+  has_text : slice_get code.texts text_entry ≡ Some text
+
+-- the states after its three instructions
+abbrev after_root : (code : StackCode) (root : Tree) (s : State) → Unread code s → State
+after_root code root s u = record {
+  index = suc s.index;
+  stack = a_datum (at u.path root) ∷ s.stack;
+  loops = s.loops;
+  output = s.output ++ [];
+}
+
+abbrev after_text : (code : StackCode) (root : Tree) (s : State) → Unread code s → State
+after_text code root s u = record {
+  index = suc (suc s.index);
+  stack = a_text u.text ∷ a_datum (at u.path root) ∷ s.stack;
+  loops = s.loops;
+  output = (s.output ++ []) ++ [];
+}
+
+abbrev after_call : (code : StackCode) (s : State) → Unread code s → Tree → State
+after_call code s u found = record {
+  index = suc (suc (suc s.index));
+  stack = a_datum found ∷ s.stack;
+  loops = s.loops;
+  output = ((s.output ++ []) ++ []) ++ [];
+}
+
+step_root : (code : StackCode) (root : Tree) (s : State) (u : Unread code s)
+    → step code root s ≡ Some (after_root code root s u)
+step_root code root s u =
+    step_by code root s (Root u.path_entry) u.pushes
+    ∙ ap (λ o. option_and_then (next_state Flow.Straight s)
+    (option_map (λ path. with_stack (a_datum (at path root) ∷ s.stack)) o)) u.has_path
+
+step_text : (code : StackCode) (root : Tree) (s : State) (u : Unread code s)
+    → step code root (after_root code root s u) ≡ Some (after_text code root s u)
+step_text code root s u =
+    step_by code root (after_root code root s u) (Text u.text_entry) u.next
+    ∙ ap (λ o. option_and_then (next_state Flow.Straight (after_root code root s u))
+    (option_map (λ text. with_stack (a_text text ∷ a_datum (at u.path root) ∷ s.stack)) o)) u.has_text
+
+step_call : (code : StackCode) (root : Tree) (s : State) (u : Unread code s)
+    → step code root (after_text code root s u) ≡ Some (after_call code s u (found_by root u.text))
+step_call code root s u = step_by code root (after_text code root s u) (Call JsonPath) u.taken
+
+three_steps : (code : StackCode) (root : Tree) (s : State) (u : Unread code s) (n : ℕ)
+    → advance code root (suc (suc (suc n))) s ≡ advance code root n (after_call code s u (found_by root u.text))
+three_steps code root s u n =
+    ap (option_and_then (advance code root (suc (suc n)))) (step_root code root s u)
+    ∙ (ap (option_and_then (advance code root (suc n))) (step_text code root s u)
+    ∙ ap (option_and_then (advance code root n)) (step_call code root s u))
+
+-- the moves that lead to `Halt` over the one root do so over the other
+abbrev EndSame : StackCode → Tree → Tree → ℕ → State → State → Type 0
+EndSame code r r' n s last =
+    advance code r n s ≡ Some last → IsAtHalt code last → advance code r' n s ≡ Some last
+
+-- a step that is no jump comes to the next index
+goes_on : (code : StackCode) (root : Tree) (s t : State) (i : Instr) → slice_get code.instrs s.index ≡ Some i
+    → flow i ≡ Flow.Straight → step code root s ≡ Some t → t.index ≡ suc s.index
+goes_on code root s t i here is moved =
+    let move : Move code root s t = move_of code root s t moved in
+    let same : move.instr ≡ i = same_Some move.instr i (sym move.here ∙ here) in
+    let goes : Some (record { index = suc s.index; loops = s.loops }) ≡ Some move.goes =
+    subst (λ f. way f s.index s.loops s.stack ≡ Some move.goes) (ap flow same ∙ is) move.leads in
+    sym (ap (λ (u : State). u.index) move.after) ∙ sym (ap (λ (w : Way). w.index) (same_Some _ move.goes goes))
+
+-- such a step has its path, or its text
+path_there : (code : StackCode) (root : Tree) (s t : State) (p : ℕ) → slice_get code.instrs s.index ≡ Some (Root p)
+    → step code root s ≡ Some t → (path : List Step) × (slice_get code.paths p ≡ Some path)
+path_there code root s t p here moved = by (slice_get code.paths p) refl
+  where
+    by : (o : Option (List Step)) → slice_get code.paths p ≡ o
+        → (path : List Step) × (slice_get code.paths p ≡ Some path)
+    by None is =
+        absurd (none-some t (sym (step_by code root s (Root p) here
+        ∙ ap (λ o. option_and_then (next_state Flow.Straight s)
+        (option_map (λ path. with_stack (a_datum (at path root) ∷ s.stack)) o)) is) ∙ moved))
+    by (Some path) is = (path, is)
+
+text_there : (code : StackCode) (root : Tree) (s t : State) (e : ℕ) → slice_get code.instrs s.index ≡ Some (Text e)
+    → step code root s ≡ Some t → (text : List ℕ) × (slice_get code.texts e ≡ Some text)
+text_there code root s t e here moved = by (slice_get code.texts e) refl
+  where
+    by : (o : Option (List ℕ)) → slice_get code.texts e ≡ o → (text : List ℕ) × (slice_get code.texts e ≡ Some text)
+    by None is =
+        absurd (none-some t (sym (step_by code root s (Text e) here
+        ∙ ap (λ o. option_and_then (next_state Flow.Straight s)
+        (option_map (λ text. with_stack (a_text text ∷ s.stack)) o)) is) ∙ moved))
+    by (Some text) is = (text, is)
+
+-- a run that comes to what nobody reads ends after that, where it is as the other
+unread_ends : (code : StackCode) (r r' : Tree) (n : ℕ) (s last : State) (i : Instr)
+    → slice_get code.instrs s.index ≡ Some i → IsUnread code s.index i → FindSame code r r'
+    → ((k : ℕ) (t : State) → k < n → IsReady code r r' t → EndSame code r r' k t last) → EndSame code r r' n s last
+unread_ends code r r' n s last i is unread same later = by n later
+  where
+    here : slice_get code.instrs s.index ≡ Some (Root unread.path)
+    here = is ∙ ap Some unread.pushes
+
+    second : (t : State) → step code r s ≡ Some t → t.index ≡ suc s.index
+    second t moved = goes_on code r s t (Root unread.path) here refl moved
+
+    is_text : (t : State) → step code r s ≡ Some t → slice_get code.instrs t.index ≡ Some (Text unread.entry)
+    is_text t moved = ap (slice_get code.instrs) (second t moved) ∙ unread.next
+
+    is_call : (t u : State) → step code r s ≡ Some t → step code r t ≡ Some u
+        → slice_get code.instrs u.index ≡ Some (Call JsonPath)
+    is_call t u moved more =
+        ap (slice_get code.instrs)
+        (goes_on code r t u (Text unread.entry) (is_text t moved) refl more ∙ ap suc (second t moved)) ∙ unread.taken
+
+    whole : (t u : State) → step code r s ≡ Some t → step code r t ≡ Some u → Unread code s
+    whole t u moved more =
+        let path = path_there code r s t unread.path here moved in
+        let text = text_there code r t u unread.entry (is_text t moved) more in
+        record {
+          path_entry = unread.path;
+          text_entry = unread.entry;
+          path = path.0;
+          text = text.0;
+          pushes = here;
+          next = unread.next;
+          taken = unread.taken;
+          has_path = path.1;
+          has_text = text.1;
+        }
+
+    after : (k : ℕ) (u : Unread code s)
+        → ((t : State) → IsReady code r r' t → EndSame code r r' k t last)
+        → EndSame code r r' (suc (suc (suc k))) s last
+    after k u rest goes halts =
+        let found : found_by r u.text ≡ found_by r' u.text =
+        same_found code r r' (suc s.index) u.text_entry u.text same u.next u.has_text u.taken in
+        let third : State = after_call code s u (found_by r u.text) in
+        let ready : IsReady code r r' third =
+        ready_next code r r' (after_text code r s u) third same (step_call code r s u) in
+        three_steps code r' s u k
+        ∙ (ap (λ found. advance code r' k (after_call code s u found)) (sym found)
+        ∙ rest third ready (sym (three_steps code r s u k) ∙ goes) halts)
+
+    by : (n : ℕ) → ((k : ℕ) (t : State) → k < n → IsReady code r r' t → EndSame code r r' k t last)
+        → EndSame code r r' n s last
+    by zero rest goes halts = goes
+    by (suc zero) rest goes halts =
+        option_and_then_some (advance code r zero) (step code r s) last goes (λ t moved ended.
+        absurd (cc (sym (is_text t moved)
+        ∙ (ap (λ (u : State). slice_get code.instrs u.index) (same_Some t last ended) ∙ halts))))
+    by (suc (suc zero)) rest goes halts =
+        option_and_then_some (advance code r (suc zero)) (step code r s) last goes (λ t moved more.
+        option_and_then_some (advance code r zero) (step code r t) last more (λ u moved_on ended.
+        absurd (cc (sym (is_call t u moved moved_on)
+        ∙ (ap (λ (u : State). slice_get code.instrs u.index) (same_Some u last ended) ∙ halts)))))
+    by (suc (suc (suc k))) rest goes halts =
+        option_and_then_some (advance code r (suc (suc k))) (step code r s) last goes (λ t moved more.
+        option_and_then_some (advance code r (suc k)) (step code r t) last more (λ u moved_on ended.
+        after k (whole t u moved moved_on) (λ t ready. rest k t (omega (arith)) ready) goes halts))
+
+same_ends : (code : StackCode) (r r' : Tree) (fuel n : ℕ) (s last : State) → n ≤ fuel → FindSame code r r'
+    → IsReady code r r' s → EndSame code r r' n s last
+same_ends code r r' zero zero s last fits same ready goes halts = goes
+same_ends code r r' zero (suc n) s last fits same ready goes halts = absurd (omega (arith, fits))
+same_ends code r r' (suc fuel) zero s last fits same ready goes halts = goes
+same_ends code r r' (suc fuel) (suc n) s last fits same ready goes halts =
+    option_and_then_some (advance code r n) (step code r s) last goes (λ t moved ended.
+    let move : Move code r s t = move_of code r s t moved in
+    by (λ k t below ready. same_ends code r r' fuel k t last (omega (arith, fits, below)) same ready)
+    t moved ended move.instr move.here (same s.index move.instr move.here))
+  where
+    by : ((k : ℕ) (t : State) → k < suc n → IsReady code r r' t → EndSame code r r' k t last) → (t : State)
+        → step code r s ≡ Some t → advance code r n t ≡ Some last → (i : Instr)
+        → slice_get code.instrs s.index ≡ Some i → IsUnread code s.index i ⊎ FindsSameBy code r r' s.index i
+        → advance code r' (suc n) s ≡ Some last
+    by later t moved ended i here (inl unread) =
+        unread_ends code r r' (suc n) s last i here unread same later goes halts
+    by later t moved ended i here (inr reads) =
+        ap (option_and_then (advance code r' n)) (sym (same_step code r r' s i here reads ready) ∙ moved)
+        ∙ later n t (omega (arith)) (ready_next code r r' s t same moved) ended halts
 
 pub same_runs : (code : StackCode) (r r' : Tree) (steps : ℕ) (text : List ℕ) → FindSame code r r'
     → Runs code r steps text → Runs code r' steps text
 same_runs code r r' steps text same run =
     let ends = run.1 in
-    let moves = same_advance code r r' ends.0 first same (ready_first code r r' same) in
-    (run.0, (ends.0, ends.1, sym moves ∙ ends.2, ends.3), run.2)
+    let moves = same_ends code r r' ends.0 ends.0 first run.0 (omega (arith)) same (ready_first code r r' same)
+    ends.2 ends.3 in
+    (run.0, (ends.0, ends.1, moves, ends.3), run.2)

@@ -1,5 +1,5 @@
--- What code reads of a root: what its paths find, and, where a helper looks a path up, what a literal that is the path
--- finds in the body's data, or else that data.
+-- What code reads of a root: what its paths find, but where nobody reads that, and, where a helper looks a path up, what
+-- a literal that is the path finds in the body's data, or else that data.
 use Rattle.std.specs.Prelude.{◌≡◌, ◌⊎◌, ℕ, suc, true, List, Some, slice_get}
 use Rattle.data_tree.specs.Tree.{Tree}
 use Rattle.data_tree.specs.LookUp.{at}
@@ -7,6 +7,7 @@ use Rattle.data_tree.specs.RootPaths.{json_path}
 use Rattle.data_tree.specs.declared.step.Step.{Step}
 use Rattle.helper_set.specs.Helpers.{is_looked_up}
 use Rattle.helper_set.specs.declared.helper.Helper.{Helper}
+use Rattle.helper_set.specs.declared.helper.Helper.TheVariants.{JsonPath}
 use Rattle.template_code.specs.Code.{StackCode}
 use Rattle.template_code.specs.Machine.{found_by}
 use Rattle.template_code.specs.declared.instr.Instr.{Instr}
@@ -47,7 +48,19 @@ FindsSameBy code r r' index (Each target) = JumpFindsSame code r r' target
 FindsSameBy code r r' index (Next start) = JumpFindsSame code r r' start
 FindsSameBy code r r' index i = Unit {0}
 
+-- The instruction pushes what nobody reads: a text comes on top, and then `jsonPath` takes both and reads the text alone.
+pub record IsUnread (code : StackCode) (index : ℕ) (i : Instr) : Type 0 where
+  pub path : ℕ
+  pub entry : ℕ
+  pub pushes : i ≡ Root path
+  pub next : slice_get code.instrs (suc index) ≡ Some (Text entry)
+  pub taken : slice_get code.instrs (suc (suc index)) ≡ Some (Call JsonPath)
+
+-- it pushes what nobody reads, or what it reads of a root is the same in both
+abbrev pub FindsSameAt : StackCode → Tree → Tree → ℕ → Instr → Type 0
+FindsSameAt code r r' index i = IsUnread code index i ⊎ FindsSameBy code r r' index i
+
 -- and so for each instruction of the code
 abbrev pub FindSame : StackCode → Tree → Tree → Type 0
 FindSame code r r' =
-    (index : ℕ) (i : Instr) → slice_get code.instrs index ≡ Some i → FindsSameBy code r r' index i
+    (index : ℕ) (i : Instr) → slice_get code.instrs index ≡ Some i → FindsSameAt code r r' index i

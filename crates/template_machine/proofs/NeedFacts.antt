@@ -51,8 +51,8 @@ covers_all count needed code instrs same all covers r r' alike index i found =
 pub covers_path : (needed : NeededData) (code : StackCode) (index : ℕ) (text : List ℕ) (path : List Step)
     → IsPushedBefore code index text → SpellsPath text path → Covers needed (Name (codes "json") ∷ path)
     → CoversInstr needed code index (Call JsonPath)
-covers_path needed code index text path pushed spelled covers r r' alike is =
-    inr (text, pushed, found r ∙ covers r r' alike ∙ sym (found r'))
+covers_path needed code index text path pushed spelled covers r r' alike =
+    inr (λ is. inr (text, pushed, found r ∙ covers r r' alike ∙ sym (found r')))
   where
     found : (root : Tree) → found_by root text ≡ at (Name (codes "json") ∷ path) root
     found root = ap (λ o. option_map_or (λ p. at p (at json_path root)) o nothing) (found_path text path spelled)

@@ -1,9 +1,9 @@
 //! The data that code looks at.
-ghost use Rattle.std.specs.Prelude.{IfOk, IfSome};
+ghost use Rattle.std.specs.Prelude.{IfOk, IfSome, IsTrue, ℕ};
 ghost use Rattle.needed_data.specs.Needed.{Includes};
 ghost use Rattle.helper_set.specs.declared.helper.Helper.TheVariants.{JsonPath};
-ghost use Rattle.template_code.specs.Finds.{IsPushedBefore};
-ghost use Rattle.template_code.specs.declared.instr.Instr.TheVariants.{Call};
+ghost use Rattle.template_code.specs.Finds.{IsPushedBefore, IsUnread};
+ghost use Rattle.template_code.specs.declared.instr.Instr.TheVariants.{Call, Root};
 ghost use Rattle.template_machine.specs.Inner.Needs.{CoversInstr, CoversJump, CoversCode};
 
 use helper_set::helper::Helper;
@@ -36,16 +36,39 @@ fn add_instr<'a>(code: &'a Code, index: usize, instr: Instr, needed: &mut Needed
     ensures instr { CoversInstr needed.new code.now index instr }
 {
     match instr {
-        Instr::Root(path) => {
-            if let Some(path) = code.paths().get(path) {
-                needed.add_steps(path.steps());
-            }
-        }
+        Instr::Root(path) => add_root(code, index, path, needed),
         Instr::Call(Helper::JsonPath) => add_looked_up(code, index, needed),
-        Instr::Jump(target) | Instr::Branch(target) | Instr::Each(target) | Instr::Next(target) => {
-            add_jump(code, target, needed)
-        }
+        Instr::Jump(target) => add_jump(code, target, needed),
+        Instr::Branch(target) => add_jump(code, target, needed),
+        Instr::Each(target) => add_jump(code, target, needed),
+        Instr::Next(start) => add_jump(code, start, needed),
         _ => {}
+    }
+}
+
+// What the path finds, unless nobody reads it.
+fn add_root<'a>(code: &'a Code, index: usize, path: usize, needed: &mut Needed<'a>)
+    ensures more { Includes needed.new needed.old }
+    ensures root { CoversInstr needed.new code.now index (Root path) }
+{
+    if is_unread(code, index) {
+        return;
+    }
+    if let Some(path) = code.paths().get(path) {
+        needed.add_steps(path.steps());
+    }
+}
+
+// Whether a text comes on top of what the instruction at that index pushes, and then `jsonPath`, which reads the text alone.
+fn is_unread(code: &Code, index: usize) -> bool
+    ensures { IsTrue result → (path : ℕ) → IsUnread code.now index (Root path) }
+{
+    let (Some(next), Some(taken)) = (index.checked_add(1), index.checked_add(2)) else {
+        return false;
+    };
+    match (code.instrs().get(next), code.instrs().get(taken)) {
+        (Some(Instr::Text(_)), Some(Instr::Call(Helper::JsonPath))) => true,
+        _ => false,
     }
 }
 

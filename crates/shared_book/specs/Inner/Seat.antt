@@ -11,7 +11,7 @@ use Rattle.shared_book.specs.declared.receipt_list.ReceiptList.{ReceiptList}
 
 -- the line of a list of receipts
 abbrev pub line_of : ReceiptList → Line
-line_of list = record { let_go = list.let_go.items; held = list.held.items }
+line_of list = record { let_go = list.let_go; held = list.held.items }
 
 -- the line of one receipt whose event was let go
 abbrev pub single : ℕ → Line
@@ -20,7 +20,7 @@ single number = record { let_go = number ∷ []; held = [] }
 -- the lines of a pile
 abbrev pub lines_of : Pile → List Line
 lines_of (Whole list) = line_of list ∷ []
-lines_of (Singles numbers) = map single numbers.items
+lines_of (Singles numbers) = map single numbers
 
 -- the lines of several
 abbrev pub lines_in : List Pile → List Line

@@ -3,12 +3,12 @@ use Rattle.std.specs.Prelude.{ℕ}
 use Rattle.data_tree.specs.Tree.{Tree}
 use Rattle.needed_data.specs.Needed.{NeededData, AreAlike}
 use Rattle.template_code.specs.Code.{StackCode}
-use Rattle.template_code.specs.Finds.{JumpFindsSame, FindsSameBy, FindSame}
+use Rattle.template_code.specs.Finds.{JumpFindsSame, FindsSameAt, FindSame}
 use Rattle.template_code.specs.declared.instr.Instr.{Instr}
 
 -- in what the instruction at that index finds
 abbrev pub CoversInstr : NeededData → StackCode → ℕ → Instr → Type 0
-CoversInstr needed code index i = (r r' : Tree) → AreAlike needed r r' → FindsSameBy code r r' index i
+CoversInstr needed code index i = (r r' : Tree) → AreAlike needed r r' → FindsSameAt code r r' index i
 
 -- in what a jump to that index finds
 abbrev pub CoversJump : NeededData → StackCode → ℕ → Type 0

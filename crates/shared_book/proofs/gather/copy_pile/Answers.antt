@@ -11,4 +11,4 @@ returns-in-Singles c =
     subst (λ (p : Pile). c.args.all.now.items ≡ c.args.all.now.items ++ receipts_of (lines_of p))
     (sym c.in-Singles.is)
     (sym (append-nil c.args.all.now.items)
-    ∙ ap (λ (l : List Receipt). c.args.all.now.items ++ l) (sym (receipts_singles c.in-Singles.field-0.items)))
+    ∙ ap (λ (l : List Receipt). c.args.all.now.items ++ l) (sym (receipts_singles c.in-Singles.field-0)))

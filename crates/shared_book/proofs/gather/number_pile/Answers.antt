@@ -7,8 +7,7 @@ use Rattle.shared_book.proofs.gather.number_pile.Goals as goal
 
 pub returns-in-Singles : goal.returns-in-Singles
 returns-in-Singles c =
-    let more : c.as_slice.result.now ≡ all_numbers (lines_of c.args.pile.now) =
-    c.as_slice.ensures.value ∙ sym (numbers_singles c.in-Singles.numbers.items)
-    ∙ ap (λ (p : Pile). all_numbers (lines_of p)) (sym c.in-Singles.is) in
-    subst (λ (ns : List ℕ). OnOk c.add_plain.result (c.add_plain.new.all.items ≡ c.args.all.now.items ++ ns)) more
-    c.add_plain.ensures
+    let more : c.in-Singles.numbers ≡ all_numbers (lines_of c.args.pile.now) =
+    sym (numbers_singles c.in-Singles.numbers) ∙ ap (λ (p : Pile). all_numbers (lines_of p)) (sym c.in-Singles.is) in
+    subst (λ (ns : List ℕ). OnOk c.add_to.result (c.add_to.new.all.items ≡ c.args.all.now.items ++ ns)) more
+    c.add_to.ensures

@@ -9,5 +9,5 @@ use Rattle.shared_book.proofs.lines.add_filled.Goals as goal
 pub returns-in-Singles-clause-items : goal.returns-in-Singles-clause-items
 returns-in-Singles-clause-items c =
     c.add_pile.ensures.items
-    ∙ ap (λ (l : List Line). lines_in c.args.piles.now.items ++ l) (sym (filled_singles c.in-Singles.numbers.items))
+    ∙ ap (λ (l : List Line). lines_in c.args.piles.now.items ++ l) (sym (filled_singles c.in-Singles.numbers))
     ∙ ap (λ (p : Pile). lines_in c.args.piles.now.items ++ filled (lines_of p)) (sym c.in-Singles.is)

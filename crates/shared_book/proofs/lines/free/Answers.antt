@@ -9,5 +9,5 @@ use Rattle.shared_book.proofs.lines.free.Goals as goal
 pub returns-in-Singles : goal.returns-in-Singles
 returns-in-Singles c =
     subst (λ (p : Pile). AllZip (LetsGo (λ n. n ≤ c.args.last)) (lines_of p)
-    (map single c.in-Singles.numbers.items)) (sym c.in-Singles.is)
-    (all_go_none (λ n. n ≤ c.args.last) (map single c.in-Singles.numbers.items))
+    (map single c.in-Singles.numbers)) (sym c.in-Singles.is)
+    (all_go_none (λ n. n ≤ c.args.last) (map single c.in-Singles.numbers))

@@ -1,15 +1,25 @@
-use Rattle.std.proofs.Common.{arith}
-use Rattle.shared_book.proofs.ReceiptLemmas.{falls_at, rises_more}
+use Rattle.std.proofs.Common.{◌++◌, ℕ, List, ap, refl, arith}
+use Rattle.std.proofs.lemmas.Bool.{false≢true}
+use Rattle.shared_book.proofs.FallLemmas.{numbers_left, walk_falls, walk_more}
+use Rattle.shared_book.specs.Receipts.{numbers}
 use Rattle.shared_book.specs.Inner.Seat.{line_of}
-use Rattle.shared_book.specs.Receipts.{numbers_of}
 use Rattle.shared_book.proofs.misplaced.fall.Goals as goal
 
-pub returns-then-number-number_at : goal.returns-then-number-number_at
-returns-then-number-number_at c =
-    falls_at (line_of c.args.list.now) c.loop-i.i c.number_at-number.result c.number_at.result
-    (omega arith) (omega arith) c.number_at-number.ensures c.number_at.ensures c.if-number-number_at.true
+pub loop-number-preserved : goal.loop-number-preserved
+loop-number-preserved c =
+    let held : List ℕ = numbers c.args.list.now.held.items in
+    walk_more (line_of c.args.list.now) c.loop-number.before (c.loop-number.left ++ held) (c.next.new.self ++ held)
+    c.in-Some.number c.loop-number.invariant (ap (λ (ns : List ℕ). ns ++ held) c.in-Some.ensures)
+    (λ le. absurd (false≢true (c.if-is_fall.ensures.1 le)))
 
-pub loop-i-preserved : goal.loop-i-preserved
-loop-i-preserved c =
-    rises_more (numbers_of (line_of c.args.list.now)) c.loop-i.i c.number_at-number.result c.number_at.result
-    (omega arith) c.loop-i.invariant c.number_at-number.ensures c.number_at.ensures c.if-number-number_at.false
+pub returns-then-is_fall-2 : goal.returns-then-is_fall-2
+returns-then-is_fall-2 c =
+    walk_falls (line_of c.args.list.now) c.loop-receipt.before _ _ _ c.loop-receipt.invariant
+    (numbers_left c.deref-receipt-items.result.now _ c.loop-receipt.receipt-index c.receipt-item.result
+    c.deref-receipt-items.ensures.value c.receipt-item.is (omega arith)) (c.if-is_fall-2.ensures.0 refl)
+
+pub loop-receipt-preserved : goal.loop-receipt-preserved
+loop-receipt-preserved c =
+    walk_more (line_of c.args.list.now) c.loop-receipt.before _ _ _ c.loop-receipt.invariant
+    (numbers_left c.deref-receipt-items.result.now _ c.loop-receipt.receipt-index c.receipt-item.result
+    c.deref-receipt-items.ensures.value c.receipt-item.is (omega arith)) (λ le. absurd (false≢true (c.if-is_fall-2.ensures.1 le)))

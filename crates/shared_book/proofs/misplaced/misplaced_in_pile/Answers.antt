@@ -1,5 +1,5 @@
-use Rattle.std.proofs.Common.{◌≤◌, ◌<◌, List, ℕ, All, subst, sym}
-use Rattle.std.specs.Prelude.{Any, Contains, MatchOption}
+use Rattle.std.proofs.Common.{All, subst, sym}
+use Rattle.std.specs.Prelude.{Any, MatchOption}
 use Rattle.shared_book.proofs.ReceiptLemmas.{singles_placed}
 use Rattle.shared_book.specs.Inner.Misplaced.{IsMisplaced, IsWellPlaced}
 use Rattle.shared_book.specs.Inner.Seat.{lines_of}
@@ -10,6 +10,4 @@ pub returns-in-Singles : goal.returns-in-Singles
 returns-in-Singles c =
     subst (λ (p : Pile). MatchOption c.above.result (All (IsWellPlaced c.args.last) (lines_of p))
     (λ n. Any (IsMisplaced c.args.last n) (lines_of p))) (sym c.in-Singles.is)
-    (singles_placed c.above.result c.args.last c.in-Singles.numbers.items
-    (subst (λ (ns : List ℕ). MatchOption c.above.result (All (λ n. n ≤ c.args.last) ns)
-    (λ n. Contains ns n × (c.args.last < n))) c.as_slice.ensures.value c.above.ensures))
+    (singles_placed c.above.result c.args.last c.in-Singles.numbers c.above.ensures)

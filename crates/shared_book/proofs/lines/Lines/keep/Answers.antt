@@ -7,6 +7,6 @@ pub returns-clause-own : goal.returns-clause-own
 returns-clause-own c = record {
   before = line_of c.let_go.new.self.own;
   let_go = c.let_go.ensures.own;
-  added = ap (λ (l : List Receipt). record { let_go = c.let_go.new.self.own.let_go.items; held = l })
+  added = ap (λ (l : List Receipt). record { let_go = c.let_go.new.self.own.let_go; held = l })
       c.in-Ok.ensures.items;
 }

@@ -15,7 +15,7 @@ invariant_of-self-2 g c =
     let keeps : Keeps c.keep.new.self.told (line_of c.self.inside.lines.own) (line_of c.keep.new.self.own)
     c.in_ok-entered.entered.receipt =
     subst (λ (held : List Receipt). Keeps c.keep.new.self.told
-    (record { let_go = c.self.inside.lines.own.let_go.items; held = held }) (line_of c.keep.new.self.own)
+    (record { let_go = c.self.inside.lines.own.let_go; held = held }) (line_of c.keep.new.self.own)
     c.in_ok-entered.entered.receipt) c.in_ok-reserve.ensures.items c.keep.ensures.own in
     seat_entered g.L.Origin.origin c.self.inside.place c.apply.new.place c.in_ok-entered.entered.receipt _ _ _ _ _ _ _ _
     _ _ _ _ _ _ c.self.invariant c.in_ok-entered.ensures.ok.1 c.in_ok-entered.ensures.base c.keep.ensures.told
@@ -42,7 +42,7 @@ returns-clause-ok g c =
     } in
     let keeps : Keeps c.keep.new.self.told old.own new.own receipt =
     subst (λ (held : List Receipt). Keeps c.keep.new.self.told
-    (record { let_go = c.self.inside.lines.own.let_go.items; held = held }) (line_of c.keep.new.self.own)
+    (record { let_go = c.self.inside.lines.own.let_go; held = held }) (line_of c.keep.new.self.own)
     receipt) c.in_ok-reserve.ensures.items c.keep.ensures.own in (
       receipt,
       record {
@@ -61,13 +61,13 @@ returns-clause-ok g c =
 pub invariant_of-self-in_err-entered : goal.invariant_of-self-in_err-entered
 invariant_of-self-in_err-entered g c =
     seat_refused g.L.Origin.origin c.self.inside.place c.apply.new.place _ _ _ _ _ _ _ _
-    c.self.inside.lines.own.let_go.items c.self.inside.lines.own.held.items c.reserve.new.self.items _
+    c.self.inside.lines.own.let_go c.self.inside.lines.own.held.items c.reserve.new.self.items _
     c.self.invariant c.in_err-entered.ensures.seen c.apply.ensures.parts c.in_err-entered.ensures.not_entered
     c.in_ok-reserve.ensures.items
 
 pub returns-in_err-entered-clause-why : goal.returns-in_err-entered-clause-why
 returns-in_err-entered-clause-why g c =
-    let let_go : List ℕ = c.self.inside.lines.own.let_go.items in
+    let let_go : List ℕ = c.self.inside.lines.own.let_go in
     let old : Held = record {
       number = c.self.inside.place.number;
       seen = c.self.inside.place.seen;

@@ -1,6 +1,6 @@
 use Rattle.std.proofs.Common.{◌≡◌, ◌+◌, ◌≤◌, ◌++◌, length, take, vec_capacity, vec_len}
 use Rattle.shared_book.specs.Receipts.{numbers}
-use Rattle.shared_book.proofs.receipt_list.add_numbers.Given as goal
+use Rattle.shared_book.proofs.gather.add_numbers.Given as goal
 
 abbrev pub invariant-loop-receipt : goal.invariant-loop-receipt
 invariant-loop-receipt l = record {
