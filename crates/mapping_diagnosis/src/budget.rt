@@ -53,23 +53,48 @@ fn with_program(taken: Taken, program: &Program) -> Taken {
     }
 }
 
+// Says what is too much, and not what is within its limit.
 fn said(alloc: Global, taken: Taken) -> Result<String, AllocError> {
     let mut size = Buffer::new();
-    let mut steps = Buffer::new();
-    let mut step_limit = Buffer::new();
-    let mut bytes = Buffer::new();
-    let mut byte_limit = Buffer::new();
+    let steps = said_if_over(alloc, " take ", taken.steps, " steps", STEP_LIMIT)?;
+    let bytes = said_if_over(alloc, " write ", taken.bytes, " bytes", BYTE_LIMIT)?;
     let texts = [
         "every request is answered 500: even over data of size ",
         size.format(SMALLEST),
-        ", and no request has less, the templates may take ",
-        steps.format(taken.steps),
-        " steps (limit ",
-        step_limit.format(STEP_LIMIT),
-        ") and write ",
-        bytes.format(taken.bytes),
-        " bytes (limit ",
-        byte_limit.format(BYTE_LIMIT),
+        ", and no request has less, the templates may",
+        steps.as_str(),
+        between(steps.as_str(), bytes.as_str()),
+        bytes.as_str(),
+    ];
+    joined(alloc, texts.as_slice())
+}
+
+fn between(steps: &str, bytes: &str) -> &'static str {
+    if steps.is_empty() || bytes.is_empty() {
+        ""
+    } else {
+        " and"
+    }
+}
+
+fn said_if_over(
+    alloc: Global,
+    verb: &str,
+    taken: u128,
+    unit: &str,
+    limit: u64,
+) -> Result<String, AllocError> {
+    if taken <= u128::from(limit) {
+        return Ok(String::new(alloc));
+    }
+    let mut number = Buffer::new();
+    let mut limits_number = Buffer::new();
+    let texts = [
+        verb,
+        number.format(taken),
+        unit,
+        " (limit ",
+        limits_number.format(limit),
         ")",
     ];
     joined(alloc, texts.as_slice())

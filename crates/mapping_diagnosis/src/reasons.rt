@@ -162,7 +162,8 @@ fn content_of(tag: &str) -> &str {
     inner.strip_suffix(close).unwrap_or(inner)
 }
 
-/// The words of a tag. Between them are white space and parentheses, outside of texts in quotation marks and of brackets.
+/// The words of a tag. Between them are white space and parentheses, outside of texts in quotation marks and of
+/// brackets.
 fn tag_words(alloc: Global, content: &str) -> Result<Vec<&str>, AllocError> {
     let mut words = Vec::new(alloc);
     let mut start = 0usize;
@@ -326,7 +327,8 @@ fn close_of(text: &str) -> &'static str {
     if text.starts_with("{{{") { "}}}" } else { "}}" }
 }
 
-/// Where the content of a tag has its first close that is no part of a text in quotation marks. A comment has no such text.
+/// Where the content of a tag has its first close that is no part of a text in quotation marks. A comment has no such
+/// text.
 fn close_outside_texts(content: &str, close: &str) -> Option<usize> {
     if content.starts_with("!") {
         return None;

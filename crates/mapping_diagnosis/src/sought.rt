@@ -54,7 +54,6 @@ impl Sought {
     pub(crate) fn of_recording(number: u64) -> Option<Sought> {
         let errors = [
             (ErrorCode::BadDocument, Sought::Shape),
-            (ErrorCode::NumberNotWhole, Sought::Number),
             (ErrorCode::UnsupportedField, Sought::Field),
             (ErrorCode::BadTarget, Sought::Target),
         ];

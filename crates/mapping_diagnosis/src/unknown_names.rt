@@ -17,8 +17,8 @@ use template_tree::template::Template;
 const NAME_LIMIT: usize = 10;
 
 /// Warns of the first names of paths, outside of all loops, that aren't `request`, of names after `request` that no
-/// field of a request has, and of names after `request.path` to which the path template, if there is one, binds no
-/// segment: what they find is nothing. Each is said once.
+/// field of a request has, of names after `request.path` to which the path template, if there is one, binds no segment,
+/// and of names after `request.pathSegments`: what they find is nothing. Each is said once.
 pub(crate) fn add_unknown_names(
     alloc: Global,
     response: &Value,
@@ -165,18 +165,28 @@ fn add_name_after_request(
             sentences,
         );
     }
-    match after.first() {
-        Some(Step::Name(name))
-            if field.as_str() == "path" && !binds(path_template, name.as_str()) => {
-            let why = "no `urlPathTemplate` of the mapping binds it to a segment of request.path";
-            add_sentence(finds_nothing(alloc, name.as_str(), why, None)?, sentences)
-        }
-        _ => Ok(()),
+    let Some(Step::Name(name)) = after.first() else {
+        return Ok(());
+    };
+    match reason_unbound(field.as_str(), name.as_str(), path_template) {
+        Some(why) => add_sentence(finds_nothing(alloc, name.as_str(), why, None)?, sentences),
+        None => Ok(()),
+    }
+}
+
+/// Why a name after these fields of a request finds nothing, if it finds nothing.
+fn reason_unbound(field: &str, name: &str, path_template: Option<&str>) -> Option<&'static str> {
+    if field == "pathSegments" {
+        Some("request.pathSegments is a list, whose segments have numbers")
+    } else if field == "path" && !binds(path_template, name) {
+        Some("no `urlPathTemplate` of the mapping binds it to a segment of request.path")
+    } else {
+        None
     }
 }
 
 /// Whether the path template binds a segment to the name.
-fn binds(path_template: Option<&str>, name: &str) -> bool {
+pub(crate) fn binds(path_template: Option<&str>, name: &str) -> bool {
     let Some(template) = path_template else {
         return false;
     };

@@ -2,11 +2,14 @@
 use crate::budget::always_over;
 use crate::part::{Field, Part, field_of};
 use crate::shown::{joined, quoted};
-use crate::unknown_names::add_unknown_names;
+use crate::unknown_names::{add_unknown_names, binds};
 use path_template::error::PathTemplateError;
 use path_template::path_template::PathTemplate;
 use serde_json::{Map, Value};
 use std::alloc::{AllocError, Global};
+
+const IS_NO_TEMPLATE: &str =
+    " is no template, its {{ is sent as it is: it is one where `transformers` names `response-template`";
 
 /// The warnings of a mapping, each a sentence.
 pub(crate) fn warnings_of(alloc: Global, value: &Value) -> Result<Vec<String>, AllocError> {
@@ -21,6 +24,7 @@ pub(crate) fn warnings_of(alloc: Global, value: &Value) -> Result<Vec<String>, A
         warnings.add_method(request)?;
         warnings.add_url(request)?;
         warnings.add_path_template(request)?;
+        warnings.add_path_parameters(request, path_template_of(value))?;
         warnings.add_negative(request, "headers", "header")?;
         warnings.add_negative(request, "queryParameters", "query parameter")?;
         warnings.add_negative(request, "cookies", "cookie")?;
@@ -96,15 +100,15 @@ impl Warnings {
         self.add(["the `method` ", method.as_str(), reason].as_slice())
     }
 
-    /// URLs that no request has: that of a request begins with a slash, and its path has no question mark. And those of
-    /// a server's own calls.
+    /// URLs that no request has: that of a request begins with a slash, and its path has no question mark. And those by
+    /// which a server matches none.
     fn add_url(&mut self, request: &Value) -> Result<(), AllocError> {
         for name in ["url", "urlPath", "urlPathTemplate"] {
             if let Some(text) = text_at(request, name) {
-                if let Some(reason) = reason_unmatched(name, text) {
+                if let Some(reason) = reason_unserved(text) {
+                    self.add_unserved(name, text, reason)?;
+                } else if let Some(reason) = reason_unmatched(name, text) {
                     self.add_unmatched(name, text, reason)?;
-                } else if is_below_admin(text) {
-                    self.add_own(name, text)?;
                 }
             }
         }
@@ -124,14 +128,15 @@ impl Warnings {
         self.add(texts.as_slice())
     }
 
-    fn add_own(&mut self, name: &str, text: &str) -> Result<(), AllocError> {
+    fn add_unserved(&mut self, name: &str, text: &str, reason: &str) -> Result<(), AllocError> {
         let text = quoted(self.alloc, text)?;
         let texts = [
             "a server matches no request by the `",
             name,
             "` ",
             text.as_str(),
-            ": /__admin and what is below it are its own calls",
+            ": ",
+            reason,
         ];
         self.add(texts.as_slice())
     }
@@ -151,6 +156,29 @@ impl Warnings {
                 let reason =
                     " of `urlPathTemplate` is compared as it stands: only a whole segment {name} takes any text";
                 self.add(["the segment ", segment.as_str(), reason].as_slice())?;
+            }
+        }
+        Ok(())
+    }
+
+    /// Path parameters that no segment of the path template is bound to.
+    fn add_path_parameters(
+        &mut self,
+        request: &Value,
+        template: Option<&str>,
+    ) -> Result<(), AllocError> {
+        let Some(members) = object_at(request, "pathParameters") else {
+            return Ok(());
+        };
+        // Without a template the field is refused.
+        if template.is_none() {
+            return Ok(());
+        }
+        for (name, _matcher) in members.iter() {
+            if !binds(template, name.as_str()) {
+                let name = quoted(self.alloc, name.as_str())?;
+                let reason = " has no value: `urlPathTemplate` binds no segment to it";
+                self.add(["the path parameter ", name.as_str(), reason].as_slice())?;
             }
         }
         Ok(())
@@ -230,9 +258,7 @@ impl Warnings {
         if is_templated(response) || !body.contains("{{") {
             return Ok(());
         }
-        let warning =
-            "`body` is no template, its {{ is sent as it is: it is one where `transformers` names `response-template`";
-        self.add([warning].as_slice())
+        self.add(["`body`", IS_NO_TEMPLATE].as_slice())
     }
 
     /// Headers with tags that are no templates.
@@ -246,9 +272,7 @@ impl Warnings {
         for (name, member) in members.iter() {
             if member.to_string(self.alloc)?.as_str().contains("{{") {
                 let name = quoted(self.alloc, name.as_str())?;
-                let reason =
-                    " is no template, its {{ is sent as it is: it is one where `transformers` names `response-template`";
-                self.add(["the header ", name.as_str(), reason].as_slice())?;
+                self.add(["the header ", name.as_str(), IS_NO_TEMPLATE].as_slice())?;
             }
         }
         Ok(())
@@ -293,6 +317,22 @@ fn reason_unmatched(name: &str, text: &str) -> Option<&'static str> {
         Some("it doesn't begin with a slash")
     } else if name == "urlPath" && text.contains("?") {
         Some("a path has no query; use `url`, or `queryParameters`")
+    } else {
+        None
+    }
+}
+
+/// Why a server matches no request by the URL, if none: it reads `#` and what follows it off a target, and refuses one
+/// with a space.
+fn reason_unserved(text: &str) -> Option<&'static str> {
+    if is_below_admin(text) {
+        Some("/__admin and what is below it are its own calls")
+    } else if text.contains(' ') || text.contains('<') || text.contains('>') {
+        Some(
+            "clients send a space, < and > as %20, %3C and %3E, and these are compared as they are sent",
+        )
+    } else if text.contains('#') {
+        Some("a # and what follows it are dropped from what a client asks for")
     } else {
         None
     }

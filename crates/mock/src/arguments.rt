@@ -13,8 +13,8 @@ were received; a reset brings the mappings of FILE back. A recording, from
 POST /__admin/recordings/start to POST /__admin/recordings/stop, forwards what no mapping matches to
 another server, and makes mappings of its answers.
 With --page a browser shows the requests and steers all that at http://127.0.0.1:PORT/__admin/page.
-With --connections it ends after N connections, and prints how many events its history has, as
-`settled 3 events`, if they are those that the connections have seen.
+With --connections it ends after N connections, and prints the number of its last event, as
+`settled 3 events`, if its events are those that the connections have seen.
 Where mappings are refused it says which and why, and ends; with --skip-refused it serves the others.
 With --end-with-stdin it ends when its standard input does, as a test suite's server is ended by closing
 it: what is being answered is answered, for 2 s at most, and then it ends as after N connections.
