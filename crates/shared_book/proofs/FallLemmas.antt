@@ -1,5 +1,5 @@
 -- A walk over the numbers of a line, which looks for one that isn't above the one before it.
-use Rattle.std.proofs.Common.{◌≡◌, ℕ, zero, suc, ◌+◌, ◌<◌, ◌≤◌, List, [], ◌∷◌, length, drop, get_or}
+use Rattle.std.proofs.Common.{◌≡◌, ℕ, zero, suc, ◌+◌, ◌<◌, ◌≤◌, List, ◌∷◌, length, drop, get_or}
 use Rattle.std.proofs.Common.{refl, sym, ap, ◌∙◌, subst, arith, drop-cons}
 use Rattle.std.specs.Prelude.{slice_index, IsSomeAnd, Option, Some, None}
 use Rattle.std.specs.List.Sorted.{IsStrictlyIncreasing}

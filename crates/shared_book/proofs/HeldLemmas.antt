@@ -1,17 +1,16 @@
 -- Lines of receipts: what stays where they let go of events, and what is there once a seat took over another.
-use Rattle.std.proofs.Common.{◌≡◌, ℕ, ◌+◌, ◌<◌, ◌≤◌, Bool, true, false, cond, List, [], ◌∷◌, ◌++◌, map, length, refl}
+use Rattle.std.proofs.Common.{◌≡◌, ℕ, ◌+◌, ◌<◌, ◌≤◌, Bool, true, false, cond, List, [], ◌∷◌, ◌++◌, All, map, length, refl}
 use Rattle.std.proofs.Common.{sym, ap, ◌∙◌, subst, append_assoc, append-nil, length-append, arith}
 use Rattle.std.proofs.lemmas.List.{map-append}
 use Rattle.std.proofs.lemmas.List.Concat.{flat_map-append}
-use Rattle.std.proofs.lemmas.List.Elements.{All-append, All-nil, All-weaker, filter-append}
-use Rattle.std.specs.List.{AllZip}
+use Rattle.std.proofs.lemmas.List.Elements.{All-append, All-head, All-nil, All-tail, All-weaker, filter-append}
+use Rattle.std.specs.List.{AllZip, concat}
 use Rattle.shared_book.specs.Held.{Held, LetsGo, all_numbers, all_parts, filled, is_filled, receipts_of}
 use Rattle.shared_book.specs.Inner.Keeps.{Keeps}
-use Rattle.shared_book.specs.Inner.Seat.{line_of, lines_in, lines_of, single}
+use Rattle.shared_book.specs.Inner.Seat.{free_line, lines_in, lines_of}
 use Rattle.shared_book.specs.Receipts.{Line, numbers, numbers_of}
 use Rattle.shared_book.specs.declared.receipt.Receipt.{Receipt}
 use Rattle.shared_book.specs.declared.pile.Pile.{Pile}
-use Rattle.shared_book.specs.declared.receipt_list.ReceiptList.{ReceiptList}
 
 -- ---- one line
 
@@ -115,34 +114,29 @@ lines_in-append ps qs = flat_map-append lines_of ps qs
 pub lines_more : (ps : List Pile) (p : Pile) → lines_in (ps ++ p ∷ []) ≡ lines_in ps ++ lines_of p
 lines_more ps p = lines_in-append ps (p ∷ []) ∙ ap (λ (l : List Line). lines_in ps ++ l) (append-nil (lines_of p))
 
-pub filled_singles : (ns : List ℕ) → filled (map single ns) ≡ map single ns
-filled_singles [] = refl
-filled_singles (n ∷ ns) = ap (λ (l : List Line). single n ∷ l) (filled_singles ns)
+-- ---- lines whose events are all free
 
-pub numbers_singles : (ns : List ℕ) → all_numbers (map single ns) ≡ ns
-numbers_singles [] = refl
-numbers_singles (n ∷ ns) = ap (λ (l : List ℕ). n ∷ l) (numbers_singles ns)
+filled_one : (ns : List ℕ) (xs : List Line) → 0 < length ns
+    → cond (is_filled (ns ++ [])) (free_line ns ∷ xs) xs ≡ free_line ns ∷ xs
+filled_one [] xs some = absurd (omega (arith, some))
+filled_one (n ∷ ns) xs some = refl
 
-pub receipts_singles : (ns : List ℕ) → receipts_of (map single ns) ≡ []
-receipts_singles [] = refl
-receipts_singles (n ∷ ns) = receipts_singles ns
+pub filled_free : (lists : List (List ℕ)) → All (λ list. 0 < length list) lists
+    → filled (map free_line lists) ≡ map free_line lists
+filled_free [] all = refl
+filled_free (ns ∷ lists) all =
+    filled_one ns (filled (map free_line lists)) (All-head (λ list. 0 < length list) ns lists all)
+    ∙ ap (λ (l : List Line). free_line ns ∷ l) (filled_free lists (All-tail (λ list. 0 < length list) ns lists all))
 
-one_number : (ns : List ℕ) → length ns ≡ 1 → (n : ℕ) × (ns ≡ n ∷ [])
-one_number [] one = absurd (omega (arith, one))
-one_number (n ∷ []) one = (n, refl)
-one_number (n ∷ m ∷ ns) one = absurd (omega (arith, one))
+pub numbers_free : (lists : List (List ℕ)) → all_numbers (map free_line lists) ≡ concat lists
+numbers_free [] = refl
+numbers_free (ns ∷ lists) =
+    ap (λ (l : List ℕ). l ++ all_numbers (map free_line lists)) (append-nil ns)
+    ∙ ap (λ (l : List ℕ). ns ++ l) (numbers_free lists)
 
-none_held : (rs : List Receipt) → length rs ≡ 0 → rs ≡ []
-none_held [] none = refl
-none_held (r ∷ rs) none = absurd (omega (arith, none))
-
--- a list of one receipt, whose event was let go
-pub single_line : (list : ReceiptList) → length list.let_go ≡ 1 → length list.held.items ≡ 0
-    → map single list.let_go ≡ line_of list ∷ []
-single_line list one none =
-    let is = one_number list.let_go one in
-    ap (map single) is.1
-    ∙ (λ i. record { let_go = sym is.1 i; held = sym (none_held list.held.items none) i } ∷ [])
+pub receipts_free : (lists : List (List ℕ)) → receipts_of (map free_line lists) ≡ []
+receipts_free [] = refl
+receipts_free (ns ∷ lists) = receipts_free lists
 
 -- ---- lines that have a receipt
 

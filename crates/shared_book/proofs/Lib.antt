@@ -11,6 +11,7 @@ pub mod EventLemmas
 pub mod ReceiptLemmas
 pub mod NumberLemmas
 pub mod FallLemmas
+pub mod ShortLemmas
 pub mod CountLemmas
 pub mod RefusalLemmas
 pub mod ScriptLemmas

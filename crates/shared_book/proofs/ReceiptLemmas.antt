@@ -1,14 +1,13 @@
 -- What one list of receipts shows by itself, and what several do.
-use Rattle.std.proofs.Common.{◌≡◌, ℕ, zero, suc, ◌+◌, ◌<◌, ◌≤◌, inr, List, [], ◌∷◌, ◌++◌, map, length}
+use Rattle.std.proofs.Common.{◌≡◌, ℕ, suc, ◌+◌, ◌<◌, ◌≤◌, inr, List, [], ◌∷◌, ◌++◌, map, length}
 use Rattle.std.proofs.Common.{get_or, take, All, refl, sym, ap, ◌∙◌, subst, arith}
 use Rattle.std.proofs.lemmas.List.{map-append, take_more, take_all}
 use Rattle.std.proofs.lemmas.List.Concat.{get_or-flat_map, flat_map-append}
-use Rattle.std.proofs.lemmas.List.Elements.{All-append, All-cons, All-map, All-nil, All-push, All-weaker}
+use Rattle.std.proofs.lemmas.List.Elements.{All-append, All-cons, All-push}
 use Rattle.std.proofs.lemmas.List.Folds.{length-flat_map-take}
-use Rattle.std.specs.Prelude.{Any, Contains, MatchOption, Option, Some, None}
+use Rattle.std.specs.Prelude.{Any, MatchOption, Option, Some, None}
 use Rattle.std.specs.List.{flat_map}
 use Rattle.shared_book.specs.Inner.Misplaced.{IsMisplaced, IsWellPlaced}
-use Rattle.shared_book.specs.Inner.Seat.{single}
 use Rattle.shared_book.specs.Receipts.{Line, IsRising, LetGoAbove, LetGoUpTo}
 
 -- one more element of a mapped list
@@ -65,30 +64,3 @@ pub line_misplaced : (r : Option ℕ) (last : ℕ) (line : Line) → IsRising li
     → MatchOption r (IsWellPlaced last line) (λ n. IsMisplaced last n line)
 line_misplaced None last line rising up_to = (rising, up_to)
 line_misplaced (Some n) last line rising above = inr above
-
--- ---- lines of one number
-
-single_placed : (last n : ℕ) → n ≤ last → IsWellPlaced last (single n)
-single_placed last n le = (
-  λ k (l : k + 1 < 1). absurd (omega (arith, l)),
-  All-cons (λ m. m ≤ last) n [] le (All-nil (λ m. m ≤ last)),
-)
-
-all_singles : (last : ℕ) (ns : List ℕ) → All (λ n. n ≤ last) ns → All (IsWellPlaced last) (map single ns)
-all_singles last ns all =
-    All-map (IsWellPlaced last) single ns
-    (All-weaker (λ n. n ≤ last) (λ n. IsWellPlaced last (single n)) (λ n le. single_placed last n le) ns all)
-
-any_single : (last n : ℕ) (ns : List ℕ) (k : ℕ) → k < length ns → get_or ns k n ≡ n → last < n
-    → Any (IsMisplaced last n) (map single ns)
-any_single last n [] k l is above = absurd (omega (arith, l))
-any_single last n (m ∷ ms) zero l is above = (0, single m, omega arith, refl, inr ((0, omega arith, is), above))
-any_single last n (m ∷ ms) (suc k) l is above =
-    let a = any_single last n ms k (omega (arith, l)) is above in
-    (suc a.0, a.1, omega (arith, a.2), a.3, a.4)
-
-pub singles_placed : (result : Option ℕ) (last : ℕ) (ns : List ℕ)
-    → MatchOption result (All (λ n. n ≤ last) ns) (λ n. Contains ns n × (last < n))
-    → MatchOption result (All (IsWellPlaced last) (map single ns)) (λ n. Any (IsMisplaced last n) (map single ns))
-singles_placed None last ns all = all_singles last ns all
-singles_placed (Some n) last ns found = any_single last n ns found.0.0 found.0.1 found.0.2 found.1

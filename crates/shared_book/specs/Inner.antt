@@ -5,3 +5,4 @@ pub mod Refusal
 pub mod Misplaced
 pub mod Ends
 pub mod Numbers
+pub mod ShortLists

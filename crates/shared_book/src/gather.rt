@@ -46,7 +46,7 @@ fn number_pile(all: &mut Vec<u64>, pile: &Pile) -> Result<(), AllocError>
 {
     match pile {
         Pile::Whole(list) => number_list(all, list),
-        Pile::Singles(numbers) => numbers.add_to(all),
+        Pile::Short(lists) => lists.add_to(all),
     }
 }
 
@@ -104,7 +104,7 @@ fn copy_pile(all: &mut Vec<Receipt>, pile: &Pile) -> Result<(), AllocError>
 {
     match pile {
         Pile::Whole(list) => copy_list(all, list.held.as_slice()),
-        Pile::Singles(_) => Ok(()),
+        Pile::Short(_) => Ok(()),
     }
 }
 

@@ -28,3 +28,4 @@ pub mod seat;
 pub mod settle;
 pub mod settled;
 pub mod shared_book;
+mod short_lists;

@@ -115,8 +115,8 @@ fn lesser(a: u64, b: u64) -> u64 {
     if a < b { a } else { b }
 }
 
-// Lets go of the events of each list up to this number, where there is memory for their numbers, and puts lists of one
-// number together. Whether there was memory for all.
+// Lets go of the events of each list up to this number, where there is memory for their numbers, and puts short lists
+// together. Whether there was memory for all.
 fn let_all_go(piles: &mut Vec<Pile>, last: u64, room: usize) -> bool
     ensures lines { AllZip (LetsGo (λ n. n ≤ last)) (lines_in piles.old.items) (lines_in piles.new.items) }
     ensures length { vec_len piles.new ≤ vec_len piles.old }
@@ -170,7 +170,7 @@ fn free(pile: Pile, last: u64) -> (Pile, bool)
             let is_free = free_list(&mut list, last);
             (Pile::Whole(list), is_free)
         }
-        Pile::Singles(numbers) => (Pile::Singles(numbers), true),
+        Pile::Short(lists) => (Pile::Short(lists), true),
     }
 }
 
@@ -207,7 +207,10 @@ fn add_filled(piles: &mut Vec<Pile>, pile: Pile)
 {
     match pile {
         Pile::Whole(list) => add_list(piles, list),
-        Pile::Singles(numbers) => add_pile(piles, Pile::Singles(numbers)),
+        Pile::Short(lists) => {
+            lists.are_filled();
+            add_pile(piles, Pile::Short(lists))
+        }
     }
 }
 

@@ -1,11 +1,11 @@
 // What one list of receipts shows by itself.
-ghost use Rattle.std.specs.Prelude.{◌<◌, ◌≤◌, ◌↔◌, All, Any, Contains, IsSomeAnd, IsTrue, MatchOption};
+ghost use Rattle.std.specs.Prelude.{◌<◌, ◌≤◌, All, Any, Contains, MatchOption};
 ghost use Rattle.shared_book.specs.Held.{all_lists, lists};
 ghost use Rattle.shared_book.specs.Inner.Misplaced.{IsMisplaced, IsWellPlaced};
 ghost use Rattle.shared_book.specs.Inner.Seat.{line_of, lines_in, lines_of};
 ghost use Rattle.shared_book.specs.Receipts.{Falls, IsRising, LetGoAbove, LetGoUpTo};
 
-use crate::numbers::Numbers;
+use crate::numbers::{Numbers, is_fall};
 use crate::origin::Origin;
 use crate::pile::Pile;
 use crate::receipt_list::ReceiptList;
@@ -53,7 +53,7 @@ fn misplaced_in_pile(pile: &Pile, last: u64) -> Option<u64>
 {
     match pile {
         Pile::Whole(list) => misplaced_in_list(list, last),
-        Pile::Singles(numbers) => above(numbers, last),
+        Pile::Short(lists) => lists.misplaced(last),
     }
 }
 
@@ -85,13 +85,6 @@ fn fall(list: &ReceiptList) -> Option<u64>
         before = Some(receipt.number);
     }
     None
-}
-
-// Whether the number isn't above the one before it.
-fn is_fall(before: Option<u64>, number: u64) -> bool
-    ensures { IsTrue result ↔ IsSomeAnd before (λ b. number ≤ b) }
-{
-    before.is_some_and(|before| number <= before)
 }
 
 fn let_go_above(list: &ReceiptList, last: u64) -> Option<u64>

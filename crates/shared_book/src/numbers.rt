@@ -1,6 +1,6 @@
 // Numbers in their order, mostly of one byte each.
-ghost use Rattle.std.specs.Prelude.{◌≡◌, ◌+◌, ◌^◌, ◌<◌, ◌≤◌, ◌∷◌, ◌++◌, []};
-ghost use Rattle.std.specs.Prelude.{length, OnErr, OnOk, MatchOption, vec_capacity, vec_len};
+ghost use Rattle.std.specs.Prelude.{◌≡◌, ◌+◌, ◌^◌, ◌<◌, ◌≤◌, ◌∷◌, ◌++◌, ◌↔◌, []};
+ghost use Rattle.std.specs.Prelude.{length, IsSomeAnd, IsTrue, OnErr, OnOk, MatchOption, vec_capacity, vec_len};
 ghost use Rattle.shared_book.specs.Inner.Numbers.{IsPacked, unpacked};
 ghost use Rattle.shared_book.specs.Receipts.{numbers};
 
@@ -121,6 +121,7 @@ fn push(steps: &mut Vec<u8>, far: &mut Vec<u64>, last: u64, number: u64) -> u64
     ensures steps_length { vec_len steps.new ≡ vec_len steps.old + 1 }
     ensures far_capacity { vec_capacity far.new ≡ vec_capacity far.old }
     ensures far_length { vec_len far.new ≤ vec_len far.old + 1 }
+    ensures near { last < number → number ≤ last + 255 → far.new.items ≡ far.old.items }
 {
     let step = step_to(last, number);
     steps.push_reserved(step);
@@ -181,4 +182,11 @@ impl<'a> NumbersLeft<'a> {
         self.before += u64::from(*step);
         Some(self.before)
     }
+}
+
+/// Whether the number isn't above the one before it.
+pub(crate) fn is_fall(before: Option<u64>, number: u64) -> bool
+    ensures { IsTrue result ↔ IsSomeAnd before (λ b. number ≤ b) }
+{
+    before.is_some_and(|before| number <= before)
 }

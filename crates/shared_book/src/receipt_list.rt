@@ -2,11 +2,12 @@
 ghost use Rattle.std.specs.Prelude.{◌≡◌, ◌≤◌, ◌∷◌, [], All, IfErr, IfOk};
 ghost use Rattle.std.specs.Prelude.{drop, length, map, take, vec_capacity, vec_len};
 ghost use Rattle.shared_book.specs.Held.{LetsGo};
-ghost use Rattle.shared_book.specs.Inner.Seat.{line_of, single};
+ghost use Rattle.shared_book.specs.Inner.Seat.{free_line, line_of};
 ghost use Rattle.shared_book.specs.Receipts.{numbers_of};
 
 use crate::numbers::Numbers;
 use crate::receipt::Receipt;
+use crate::short_lists::ShortLists;
 use std::alloc::Global;
 
 /// Receipts in the order of their calls. Of the first ones, whose events are free, only the numbers are kept.
@@ -49,19 +50,24 @@ impl ReceiptList {
         true
     }
 
-    /// Its number, where it has one receipt, whose event is free; or the list.
-    pub(crate) fn into_single(self) -> Result<Numbers, ReceiptList>
-        ensures ok { IfOk result (λ numbers. map single numbers ≡ line_of self ∷ []) }
+    /// As short lists, where it holds no receipt, has 1 to 255 numbers, and there is memory for that; or the list. Frees
+    /// what such lists don't need.
+    pub(crate) fn into_short(self) -> Result<ShortLists, ReceiptList>
+        ensures ok { IfOk result (λ lists. map free_line lists ≡ line_of self ∷ []) }
         ensures err { IfErr result (λ same. line_of same ≡ line_of self) }
     {
-        if self.let_go.len() != 1 || self.held.len() != 0 {
+        if !self.held.is_empty() {
             return Err(self);
         }
-        let ReceiptList {
-            let_go,
-            held: _held,
-        } = self;
-        Ok(let_go)
+        let ReceiptList { let_go, held } = self;
+        match ShortLists::one(*held.allocator(), let_go) {
+            Ok(lists) => {
+                let mut lists = lists;
+                lists.shrink();
+                Ok(lists)
+            }
+            Err(let_go) => Err(ReceiptList { let_go, held }),
+        }
     }
 
     /// Frees the memory of the receipts, and what the numbers don't need, where it holds no receipt.

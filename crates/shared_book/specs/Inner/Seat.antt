@@ -6,21 +6,21 @@ use Rattle.shared_book.specs.Held.{HoldReceipts, IsDropped, all_numbers}
 use Rattle.shared_book.specs.Reached.{IsLawful, Log}
 use Rattle.shared_book.specs.Receipts.{Line}
 use Rattle.shared_book.specs.declared.pile.Pile.{Pile}
-use Rattle.shared_book.specs.declared.pile.Pile.TheVariants.{Whole, Singles}
+use Rattle.shared_book.specs.declared.pile.Pile.TheVariants.{Short, Whole}
 use Rattle.shared_book.specs.declared.receipt_list.ReceiptList.{ReceiptList}
 
 -- the line of a list of receipts
 abbrev pub line_of : ReceiptList → Line
 line_of list = record { let_go = list.let_go; held = list.held.items }
 
--- the line of one receipt whose event was let go
-abbrev pub single : ℕ → Line
-single number = record { let_go = number ∷ []; held = [] }
+-- the line of receipts whose events are all let go
+abbrev pub free_line : List ℕ → Line
+free_line numbers = record { let_go = numbers; held = [] }
 
 -- the lines of a pile
 abbrev pub lines_of : Pile → List Line
 lines_of (Whole list) = line_of list ∷ []
-lines_of (Singles numbers) = map single numbers
+lines_of (Short lists) = map free_line lists
 
 -- the lines of several
 abbrev pub lines_in : List Pile → List Line
