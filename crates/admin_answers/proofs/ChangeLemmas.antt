@@ -2,7 +2,7 @@
 use Rattle.std.proofs.Common.{◌≡◌, inl, sym, ap, subst}
 use Rattle.admin_answers.specs.Answers.{IsNotChanged}
 use Rattle.admin_answers.specs.declared.error.SharedError.{SharedError}
-use Rattle.logbook.specs.Pages.{Book}
+use Rattle.logbook.specs.Pages.{Book as HistoryName}
 use Rattle.request_journal.specs.Past.{Past}
 use Rattle.request_journal.specs.declared.input.BookInput.{BookInput}
 use Rattle.shared_book.specs.Held.{Held}
@@ -10,7 +10,7 @@ use Rattle.shared_book.specs.Refused.{IsRefused}
 use Rattle.stub_book.specs.declared.error.BookError.{BookError}
 
 pub not_changed
-    : (origin : Past) (name : Book) (old new : Held) (asked : BookInput) (lower : BookError) (error : SharedError)
+    : (origin : Past) (name : HistoryName) (old new : Held) (asked : BookInput) (lower : BookError) (error : SharedError)
     → IsRefused origin name old new asked lower.code → error ≡ record { code = lower.code }
     → IsNotChanged origin name old new asked error.code
 not_changed origin name old new asked lower error why e =

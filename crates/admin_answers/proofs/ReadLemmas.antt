@@ -4,7 +4,7 @@ use Rattle.std.proofs.Common.{IfErr, inl, inr, sym, subst, refl, ◌∙◌, ◌+
 use Rattle.std.specs.declared.alloc.AllocError.{AllocError}
 use Rattle.std.specs.declared.alloc.Global.{Global}
 use Rattle.admin_answers.proofs.NumberLemmas.{AreBelow, below_more, visible_below}
-use Rattle.admin_answers.specs.Answers.{IsHeldReply, IsReadReply, IsUnread}
+use Rattle.admin_answers.specs.Answers.{IsHeldReply, IsReadReply, HasNoReadReply}
 use Rattle.admin_answers.specs.Inner.Said.{IsSaid, IsUnsaid}
 use Rattle.admin_answers.specs.Recordings.{HasNoHar, IsHarReply}
 use Rattle.admin_answers.specs.Replies.{reply_of}
@@ -177,7 +177,7 @@ not_held kept reason (inr none) = inr (λ past asked says.
     missing past asked (subst (λ k. IsReadAnswer past asked (answer.Mapping k)) none.1 says))
   where
     missing : (past : Past) (asked : BookRead) → IsReadAnswer past asked (answer.Mapping None)
-        → IsUnread asked reason past
+        → HasNoReadReply asked reason past
     missing past (read.Mapping id) says = (none.0, says)
     missing past asked says = absurd says
 
@@ -202,7 +202,7 @@ no_har kept reason (inl memory) = inl memory
 no_har kept reason (inr none) = inr (λ past asked says. missing past asked says)
   where
     missing : (past : Past) (asked : BookRead) → IsReadAnswer past asked (answer.Recording kept)
-        → IsUnread asked reason past
+        → HasNoReadReply asked reason past
     missing past read.Recording says = subst (λ r. HasNoHar (session_of r) reason) says none
     missing past asked says = absurd says
 
@@ -220,7 +220,7 @@ replied_in origin log asked reading (Err why) caught is says = tt
 refused_as
     : (origin : Past) (log : Log) (asked : BookRead) (reading : Reading) (reason : ErrorCode)
     → IsRead origin log asked reading → IsUnsaid reading.answer reason
-    → (reason ≡ code.OutOfMemory) ⊎ InPastOf origin log (IsUnread asked reason)
+    → (reason ≡ code.OutOfMemory) ⊎ InPastOf origin log (HasNoReadReply asked reason)
 refused_as origin log asked reading reason is (inl memory) = inl memory
 refused_as origin log asked reading reason is (inr why) =
     inr (is.past, is.past_of, why is.past asked is.answer)
@@ -229,7 +229,7 @@ pub refused_in
     : {A : Type 0} (origin : Past) (log : Log) (asked : BookRead) (reading : Reading)
     (result : Result AdminAnswer SharedError) → A → IsRead origin log asked reading
     → IfErr result (λ error. IsUnsaid reading.answer error.code)
-    → IfErr result (λ error. A × ((error.code ≡ code.OutOfMemory) ⊎ InPastOf origin log (IsUnread asked error.code)))
+    → IfErr result (λ error. A × ((error.code ≡ code.OutOfMemory) ⊎ InPastOf origin log (HasNoReadReply asked error.code)))
 refused_in origin log asked reading (Ok given) caught is why = tt
 refused_in origin log asked reading (Err error) caught is why =
     (caught, refused_as origin log asked reading error.code is why)

@@ -10,7 +10,7 @@ use Rattle.admin_routes.specs.declared.call.AdminCall.{AdminCall}
 use Rattle.admin_routes.specs.declared.call.AdminCall.TheVariants as call
 use Rattle.error_code.specs.declared.error_code.ErrorCode.{ErrorCode}
 use Rattle.error_code.specs.declared.error_code.ErrorCode.TheVariants as code
-use Rattle.logbook.specs.Pages.{Book}
+use Rattle.logbook.specs.Pages.{Book as HistoryName}
 use Rattle.mapping_model.specs.declared.reply.Reply.{Reply}
 use Rattle.mapping_store.specs.Stored.{IsNewestFirst}
 use Rattle.recorder.specs.Recording.{session_of, status_of}
@@ -42,11 +42,11 @@ use Rattle.shared_book.specs.declared.receipt.Receipt.{Receipt}
 
 -- the mapping as it is after the event, and 201 where it is a new one; what was recorded, where the event stops a
 -- recording; `{}` with any other event
-abbrev pub IsEventReply : Event → Reply → Type 0
-IsEventReply (event.Add mapping) reply = IsJsonReply 201 (json_of_held mapping) reply
-IsEventReply (event.Edit id spec) reply = IsJsonReply 200 (json_of_held (record { id = id; spec = spec })) reply
-IsEventReply (event.StopRecording mappings skipped) reply = IsJsonReply 200 (json_of_recorded mappings skipped) reply
-IsEventReply other reply = IsJsonReply 200 (object no_members) reply
+abbrev pub IsChangeReply : Event → Reply → Type 0
+IsChangeReply (event.Add mapping) reply = IsJsonReply 201 (json_of_held mapping) reply
+IsChangeReply (event.Edit id spec) reply = IsJsonReply 200 (json_of_held (record { id = id; spec = spec })) reply
+IsChangeReply (event.StopRecording mappings skipped) reply = IsJsonReply 200 (json_of_recorded mappings skipped) reply
+IsChangeReply other reply = IsJsonReply 200 (object no_members) reply
 
 -- the mapping, where there is one
 abbrev pub IsHeldReply : Option Mapping → Reply → Type 0
@@ -78,19 +78,19 @@ IsReadReply read.RecordingStatus reply past =
 IsReadReply read.Recording reply past = IsHarReply (session_of (recording past)) reply
 
 -- why a past has no answer to it
-abbrev pub IsUnread : BookRead → ErrorCode → Past → Type 0
-IsUnread (read.Mapping id) reason past = (reason ≡ code.UnknownMapping) × ¬ (IsLive past id)
-IsUnread read.Recording reason past = HasNoHar (session_of (recording past)) reason
-IsUnread other reason past = ⊥
+abbrev pub HasNoReadReply : BookRead → ErrorCode → Past → Type 0
+HasNoReadReply (read.Mapping id) reason past = (reason ≡ code.UnknownMapping) × ¬ (IsLive past id)
+HasNoReadReply read.Recording reason past = HasNoHar (session_of (recording past)) reason
+HasNoReadReply other reason past = ⊥
 
 -- ---- calls
 
 -- by a seat of a book that had the past `origin` when it was shared, in the history with this name
-module _ (origin : Past) (name : Book) where
+module _ (origin : Past) (name : HistoryName) where
   -- the change was made, and this is answered
   abbrev pub IsChanged : Held → Held → BookInput → Reply → Type 0
   IsChanged old new asked reply =
-      (receipt : Receipt) × Gains origin name old new (IsAsked asked) receipt × IsEventReply receipt.event reply
+      (receipt : Receipt) × Gains origin name old new (IsAsked asked) receipt × IsChangeReply receipt.event reply
 
   -- the change was refused; or memory ran out while the answer was written, and the change stands
   abbrev pub IsNotChanged : Held → Held → BookInput → ErrorCode → Type 0
@@ -100,14 +100,14 @@ module _ (origin : Past) (name : Book) where
 
   -- the call was answered: what it changed is the seat's next call in the one history, and what it read is what the
   -- history says at the entry of the reading
-  abbrev pub IsAnswered : Held → Held → AdminCall → Reply → Type 0
-  IsAnswered old new (call.Change asked) reply = IsChanged old new asked reply
-  IsAnswered old new (call.Read asked) reply =
+  abbrev pub IsAnsweredByBook : Held → Held → AdminCall → Reply → Type 0
+  IsAnsweredByBook old new (call.Change asked) reply = IsChanged old new asked reply
+  IsAnsweredByBook old new (call.Read asked) reply =
       HasCaughtUp origin name old new × InPastOf origin new.seen (IsReadReply asked reply)
 
   -- why the call has no answer, and what it left
-  abbrev pub IsNotAnswered : Held → Held → AdminCall → ErrorCode → Type 0
-  IsNotAnswered old new (call.Change asked) reason = IsNotChanged old new asked reason
-  IsNotAnswered old new (call.Read asked) reason =
+  abbrev pub IsUnansweredByBook : Held → Held → AdminCall → ErrorCode → Type 0
+  IsUnansweredByBook old new (call.Change asked) reason = IsNotChanged old new asked reason
+  IsUnansweredByBook old new (call.Read asked) reason =
       HasCaughtUp origin name old new
-      × ((reason ≡ code.OutOfMemory) ⊎ InPastOf origin new.seen (IsUnread asked reason))
+      × ((reason ≡ code.OutOfMemory) ⊎ InPastOf origin new.seen (HasNoReadReply asked reason))

@@ -1,6 +1,6 @@
 // What a shared book answers to an admin call.
 ghost use Rattle.std.specs.Prelude.{IfOk, IfErr};
-ghost use Rattle.admin_answers.specs.Answers.{IsAnswered, IsNotAnswered};
+ghost use Rattle.admin_answers.specs.Answers.{IsAnsweredByBook, IsUnansweredByBook};
 ghost use Rattle.admin_answers.specs.Replies.{reply_of};
 
 use crate::admin_answer::AdminAnswer;
@@ -23,8 +23,8 @@ pub fn answer_admin<L: Origin, R: Wait>(
     seat: &mut Seat<L>,
     call: AdminCall,
 ) -> Result<AdminAnswer, SharedError>
-    ensures ok { IfOk result (λ answer. IsAnswered L.origin L.book seat.old seat.new call (reply_of answer)) }
-    ensures refused { IfErr result (λ error. IsNotAnswered L.origin L.book seat.old seat.new call error.code) }
+    ensures ok { IfOk result (λ answer. IsAnsweredByBook L.origin L.book seat.old seat.new call (reply_of answer)) }
+    ensures refused { IfErr result (λ error. IsUnansweredByBook L.origin L.book seat.old seat.new call error.code) }
 {
     match call {
         AdminCall::Change(asked) => change(rt, alloc, shared, seat, asked),

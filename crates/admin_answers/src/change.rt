@@ -1,6 +1,6 @@
 // Calls that change the book.
 ghost use Rattle.std.specs.Prelude.{IfOk, IfErr};
-ghost use Rattle.admin_answers.specs.Answers.{IsChanged, IsNotChanged, IsEventReply};
+ghost use Rattle.admin_answers.specs.Answers.{IsChanged, IsNotChanged, IsChangeReply};
 ghost use Rattle.admin_answers.specs.JsonReply.{IsJsonReply};
 ghost use Rattle.admin_json.specs.Mappings.{json_of_held};
 ghost use Rattle.admin_json.specs.Recordings.{json_of_recorded};
@@ -45,7 +45,7 @@ pub(crate) fn change<L: Origin, R: Wait>(
 }
 
 fn event_answer(alloc: Global, event: &Event) -> Result<AdminAnswer, AllocError>
-    ensures { IfOk result (λ answer. IsEventReply event.now (reply_of answer)) }
+    ensures { IfOk result (λ answer. IsChangeReply event.now (reply_of answer)) }
 {
     match event {
         Event::StopRecording { mappings, skipped } => {
@@ -73,7 +73,7 @@ fn empty_reply(alloc: Global) -> Result<Reply, AllocError>
 fn edited_reply(alloc: Global, id: MappingId, spec: &SharedSpec) -> Result<Reply, AllocError>
     ensures { IfOk result (IsJsonReply 200 (json_of_held (record { id = id; spec = spec.now }))) }
 {
-    let spec = spec.try_clone()?;
+    let spec = spec.clone()?;
     value_reply(alloc, 200, &mapping_value(alloc, &Mapping { id, spec })?)
 }
 

@@ -1,6 +1,6 @@
 // The entries of a list, and what stands after them.
 ghost use Rattle.std.specs.Prelude.{◌≡◌, ◌<◌, ◌++◌, false, Some, length, IfOk, OnOk, slice_get, string_bytes};
-ghost use Rattle.admin_answers.specs.Inner.Joined.{end_of, texts_in, IsReady};
+ghost use Rattle.admin_answers.specs.Inner.Joined.{end_of, texts_in, IsAllSearched};
 
 use crate::mapping_texts::MappingTexts;
 use crate::search::Search;
@@ -31,7 +31,7 @@ impl Entries {
     pub fn search(&mut self, alloc: Global) -> Result<bool, AllocError>
         ensures texts { texts_in self.new ≡ texts_in self.old }
         ensures end { end_of self.new ≡ end_of self.old }
-        ensures all { IfOk result (λ more. more ≡ false → IsReady self.new) }
+        ensures all { IfOk result (λ more. more ≡ false → IsAllSearched self.new) }
     {
         match self {
             Entries::Found(search) => search.search(alloc),
@@ -44,7 +44,7 @@ impl Entries {
     pub fn search_all(&mut self, alloc: Global) -> Result<(), AllocError>
         ensures texts { texts_in self.new ≡ texts_in self.old }
         ensures end { end_of self.new ≡ end_of self.old }
-        ensures all { OnOk result (IsReady self.new) }
+        ensures all { OnOk result (IsAllSearched self.new) }
     {
         match self {
             Entries::Found(search) => search.search_all(alloc),
@@ -54,7 +54,7 @@ impl Entries {
     }
 
     pub fn len(&self) -> usize
-        requires { IsReady self.now }
+        requires { IsAllSearched self.now }
         ensures { result ≡ length (texts_in self.now) }
     {
         match self {
@@ -68,7 +68,7 @@ impl Entries {
 
     /// The text of the entry.
     pub fn text(&self, alloc: Global, index: usize) -> Result<String, AllocError>
-        requires ready { IsReady self.now }
+        requires ready { IsAllSearched self.now }
         requires within { index < length (texts_in self.now) }
         ensures { IfOk result (λ text. slice_get (texts_in self.now) index ≡ Some (string_bytes text)) }
     {

@@ -6,7 +6,7 @@ ghost use Rattle.admin_json.specs.Mappings.{json_of_mappings};
 ghost use Rattle.admin_json.specs.Recordings.{json_of_recorded};
 ghost use Rattle.admin_json.specs.Requests.{json_of_found, json_of_number, json_of_requests};
 ghost use Rattle.admin_answers.specs.Inner.Joined.{end_of_mappings, end_of_recorded, head_of_requests, joined};
-ghost use Rattle.admin_answers.specs.Inner.Joined.{left_of, texts_in, IsReady};
+ghost use Rattle.admin_answers.specs.Inner.Joined.{left_of, texts_in, IsAllSearched};
 ghost use Rattle.har_export.specs.Document.{AreInRange, IsHarText};
 ghost use Rattle.request_journal.specs.Journal.{IsCount, Picks};
 ghost use Rattle.request_match.specs.Matching.{MeetsRequest};
@@ -142,7 +142,7 @@ impl Listing {
         mapping_listing(alloc, texts, end)
     }
 
-    /// The HAR document of exchanges with the target. An exchange that started too late is reported before any memory
+    /// The HAR document of exchanges with the upstream. An exchange that started too late is reported before any memory
     /// is taken.
     pub fn of_exchanges(
         alloc: Global,
@@ -239,7 +239,7 @@ fn piece_from(
     entries: &Entries,
     first: usize,
 ) -> Result<(String, Option<usize>), AllocError>
-    requires { IsReady entries.now }
+    requires { IsAllSearched entries.now }
     ensures some { IfOk result (λ made. string_bytes made.0 ≢ []) }
     ensures text { IfOk result (λ made. left_of head.now entries.now (Some first)
         ≡ string_bytes made.0 ++ left_of [] entries.now made.1) }
@@ -263,7 +263,7 @@ fn push_entry(
     entries: &Entries,
     index: usize,
 ) -> Result<(), AllocError>
-    requires ready { IsReady entries.now }
+    requires ready { IsAllSearched entries.now }
     requires within { index < length (texts_in entries.now) }
     ensures { OnOk result (string_bytes piece.old ++ left_of [] entries.now (Some index)
         ≡ string_bytes piece.new ++ left_of [] entries.now (Some (index + 1))) }

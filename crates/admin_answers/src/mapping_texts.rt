@@ -3,7 +3,6 @@ ghost use Rattle.std.specs.Prelude.{◌≡◌, ◌<◌, Some, length, map, IfOk,
 ghost use Rattle.admin_answers.specs.Inner.Mapped.{text_of_mapping};
 
 use admin_json::mappings::mapping_text;
-use plain_text::plain::TryClone;
 use request_journal::mapping::Mapping;
 use std::alloc::{AllocError, Global};
 use std::marker::Model;
@@ -52,7 +51,7 @@ fn shared(alloc: Global, mappings: &[Mapping]) -> Result<Vec<Mapping>, AllocErro
 {
     let mut shared = Vec::with_capacity(alloc, mappings.len())?;
     for mapping in mappings {
-        shared.push(mapping.try_clone()?)?;
+        shared.push(mapping.clone()?)?;
     }
     Ok(shared)
 }

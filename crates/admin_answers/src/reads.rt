@@ -2,7 +2,7 @@
 // searched then, too.
 ghost use Rattle.std.specs.Prelude.{◌≡◌, ◌⊎◌, ◌+◌, ◌<◌, ℕ, List, IfErr, IfOk, None, Some};
 ghost use Rattle.std.specs.List.{AllByRecursion};
-ghost use Rattle.admin_answers.specs.Answers.{IsAnswered, IsHeldReply, IsNotAnswered};
+ghost use Rattle.admin_answers.specs.Answers.{IsAnsweredByBook, IsHeldReply, IsUnansweredByBook};
 ghost use Rattle.admin_answers.specs.Inner.Said.{IsSaid, IsUnsaid};
 ghost use Rattle.admin_answers.specs.JsonReply.{IsJsonReply};
 ghost use Rattle.admin_answers.specs.Recordings.{HasNoHar, IsHarReply};
@@ -51,9 +51,9 @@ pub(crate) fn read<L: Origin, R: Wait>(
     asked: BookRead,
 ) -> Result<AdminAnswer, SharedError>
     ensures ok { IfOk result (λ answer.
-        IsAnswered L.origin L.book seat.old seat.new (call.Read asked) (reply_of answer)) }
+        IsAnsweredByBook L.origin L.book seat.old seat.new (call.Read asked) (reply_of answer)) }
     ensures refused { IfErr result (λ error.
-        IsNotAnswered L.origin L.book seat.old seat.new (call.Read asked) error.code) }
+        IsUnansweredByBook L.origin L.book seat.old seat.new (call.Read asked) error.code) }
 {
     let Reading { number, answer } = seat.read(rt, shared, asked)?;
     reading_answer(alloc, number, answer)

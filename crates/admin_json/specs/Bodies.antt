@@ -9,12 +9,12 @@ use Rattle.json_reading.specs.declared.reading.Reading.TheVariants.{Wrong}
 use Rattle.serde_json.specs.Data.{Data}
 
 -- with this reading of documents, that is what the bytes are read as
-abbrev pub IsRead : {A : Type 0} → (Data → Reading A) → List ℕ → Reading A → Type 0
-IsRead reading bytes part =
+abbrev pub IsReadAs : {A : Type 0} → (Data → Reading A) → List ℕ → Reading A → Type 0
+IsReadAs reading bytes part =
     (((d : Data) → ¬ (IsDocument bytes d)) × (part ≡ Wrong NotJson))
     ⊎ ((d : Data) × IsDocument bytes d × (part ≡ reading d))
 
 -- memory may run out before another reason is found
 abbrev pub IsBodyError : {A : Type 0} → (Data → Reading A) → List ℕ → BodyError → Type 0
-IsBodyError reading bytes (Document kind) = IsRead reading bytes (Wrong kind)
+IsBodyError reading bytes (Document kind) = IsReadAs reading bytes (Wrong kind)
 IsBodyError reading bytes OutOfMemory = Unit {0}

@@ -1,4 +1,4 @@
--- What a body asks to record (WireMock's documentation, "Record and Playback"): the target, the headers that recorded
+-- What a body asks to record (WireMock's documentation, "Record and Playback"): the upstream, the headers that recorded
 -- mappings match, and whether equal requests become a scenario. `persist` is ignored.
 use Rattle.std.specs.Prelude.{ℕ, List, [], ◌∷◌, Bool, true, map, unwrap_or, codes}
 use Rattle.std.specs.Char.{to_ascii_lowercase}

@@ -1,6 +1,6 @@
 -- The state that a body asks for: `{"state":"two"}`, or no body, which asks for the state in which scenarios begin.
 use Rattle.std.specs.Prelude.{◌≡◌, ◌≢◌, ◌⊎◌, ℕ, List, [], ◌∷◌, codes}
-use Rattle.admin_json.specs.Bodies.{IsRead}
+use Rattle.admin_json.specs.Bodies.{IsReadAs}
 use Rattle.admin_json.specs.declared.error.BodyError.{BodyError}
 use Rattle.admin_json.specs.declared.error.BodyError.TheVariants.{Document, OutOfMemory}
 use Rattle.json_reading.specs.Fields.{only, text_field}
@@ -22,9 +22,9 @@ reading_of_state d = misshapen (only (codes "state" ∷ []) d (needed (text_fiel
 
 abbrev pub AsksFor : List ℕ → List ℕ → Type 0
 AsksFor body state =
-    ((body ≡ []) × (state ≡ started)) ⊎ ((body ≢ []) × IsRead reading_of_state body (Read state))
+    ((body ≡ []) × (state ≡ started)) ⊎ ((body ≢ []) × IsReadAs reading_of_state body (Read state))
 
 -- memory may run out before another reason is found
 abbrev pub IsStateError : List ℕ → BodyError → Type 0
-IsStateError body (Document kind) = (body ≢ []) × IsRead reading_of_state body (Wrong kind)
+IsStateError body (Document kind) = (body ≢ []) × IsReadAs reading_of_state body (Wrong kind)
 IsStateError body OutOfMemory = Unit {0}

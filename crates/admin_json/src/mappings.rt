@@ -38,7 +38,7 @@ pub fn law_numbers_are_whole(mapping: &Mapping)
 {
     // Each part is looked at so that the prover knows what its type keeps; nothing is done with it.
     let spec = mapping.spec.spec();
-    let response = spec.response.response();
+    let response = &spec.response;
     law_body_is_whole(&response.content);
     law_status_is_word(response.status);
     law_priority_is_word(spec.priority);

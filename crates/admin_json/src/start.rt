@@ -1,6 +1,6 @@
 // What a body asks to record.
 ghost use Rattle.std.specs.Prelude.{◌≡◌, IfOk, IfErr};
-ghost use Rattle.admin_json.specs.Bodies.{IsRead, IsBodyError};
+ghost use Rattle.admin_json.specs.Bodies.{IsReadAs, IsBodyError};
 ghost use Rattle.admin_json.specs.Names.{in_order};
 ghost use Rattle.admin_json.specs.Start.{reading_of_start, captured_in, captured_of, name_at, repeats_in, start_with};
 ghost use Rattle.json_reading.specs.Fields.{members_of};
@@ -32,7 +32,7 @@ pub struct RecordingStart {
 
 /// What a body asks to record.
 pub fn start_of(alloc: Global, body: &[u8]) -> Result<RecordingStart, BodyError>
-    ensures ok { IfOk result (λ start. IsRead reading_of_start body.now (Read start)) }
+    ensures ok { IfOk result (λ start. IsReadAs reading_of_start body.now (Read start)) }
     ensures error { IfErr result (IsBodyError reading_of_start body.now) }
 {
     let Some(value) = document_of(alloc, body)? else {

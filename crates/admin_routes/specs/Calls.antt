@@ -1,6 +1,6 @@
 -- What an admin call is, with its parameters and what its body asks for, and why it is refused.
 use Rattle.std.specs.Prelude.{◌≡◌, ℕ, List, Some, None}
-use Rattle.admin_json.specs.Bodies.{IsRead, IsBodyError}
+use Rattle.admin_json.specs.Bodies.{IsReadAs, IsBodyError}
 use Rattle.admin_json.specs.Start.{reading_of_start}
 use Rattle.admin_json.specs.State.{AsksFor, IsStateError}
 use Rattle.admin_json.specs.declared.start.RecordingStart.{RecordingStart}
@@ -52,7 +52,7 @@ IsCallOf escape route.ResetScenarios body found = found ≡ call.Change input.Re
 IsCallOf escape (route.SetScenario name) body found =
     (state : List ℕ) × AsksFor body state × (found ≡ call.Change (input.SetScenario (decoded name) state))
 IsCallOf escape route.StartRecording body found =
-    (start : RecordingStart) × IsRead reading_of_start body (Read start) × (found ≡ call.Change (input.StartRecording start.target start.captured start.repeats))
+    (start : RecordingStart) × IsReadAs reading_of_start body (Read start) × (found ≡ call.Change (input.StartRecording start.target start.captured start.repeats))
 IsCallOf escape route.StopRecording body found = found ≡ call.Change input.StopRecording
 IsCallOf escape route.ReadRecordingStatus body found = found ≡ call.Read read.RecordingStatus
 IsCallOf escape route.ReadRecordingHar body found = found ≡ call.Read read.Recording

@@ -7,7 +7,7 @@ use Rattle.http.specs.Request.{body_of}
 use Rattle.http.specs.declared.request.Request.{Request as Message}
 use Rattle.http_header.specs.FieldName.{IsHeaderName}
 use Rattle.http_messages.specs.Received.{IsReceived, target_of}
-use Rattle.answering.specs.Answering.{Begins, IsNotBegun, IsNotRead, IsReply, IsRequestAnswered, IsUnread, refusal}
+use Rattle.answering.specs.Answering.{BeginsMessage, IsMessageUnanswered, IsAnsweredUnread, IsMessageReply, IsRequestAnswered, IsUnreadable, refusal}
 use Rattle.answering.specs.Forwarding.{IsToForward, serve_receipt}
 use Rattle.answering.specs.Inner.Sent.{HasBegun, IsBegunOf, IsServedToForward, IsServedToRender}
 use Rattle.answering.specs.Rendering.{IsToRender, rendering_receipt}
@@ -15,7 +15,7 @@ use Rattle.answering.specs.declared.begun.Begun.{Begun}
 use Rattle.answering.specs.declared.begun.Begun.TheVariants.{Answered, Refused, ToForward, ToRender}
 use Rattle.answering.specs.declared.forward.Forward.{Forward}
 use Rattle.answering.specs.declared.rendering.Rendering.{Rendering}
-use Rattle.logbook.specs.Pages.{Book}
+use Rattle.logbook.specs.Pages.{Book as HistoryName}
 use Rattle.mapping_model.specs.declared.reply.Reply.{Reply}
 use Rattle.mock_request.specs.Request.{Header, Request}
 use Rattle.mock_request.specs.Target.{HasUrl}
@@ -31,12 +31,12 @@ use Rattle.stub_response.specs.declared.limits.Limits.{Limits}
 use Rattle.template_tree.specs.declared.escape.Escape.{Escape}
 
 -- it is no admin call
-abbrev pub IsRequestToRender : Past → Book → Limits → Held → Held → Request → Rendering → Type 0
+abbrev pub IsRequestToRender : Past → HistoryName → Limits → Held → Held → Request → Rendering → Type 0
 IsRequestToRender origin name limits old new request rendering =
     ¬ (IsAdmin request.url) × IsServedToRender origin name limits old new request rendering
 
 -- it is no admin call
-abbrev pub IsRequestToForward : Past → Book → Held → Held → Request → Forward → Type 0
+abbrev pub IsRequestToForward : Past → HistoryName → Held → Held → Request → Forward → Type 0
 IsRequestToForward origin name old new request forward =
     ¬ (IsAdmin request.url) × IsServedToForward origin name old new request forward
 
@@ -45,14 +45,14 @@ pub is_unread : {T : Type 0} (message : Message (List ℕ)) (error : SnapshotErr
     → result ≡ Err error
     → (IsErrOf result unread.BadUrl → ¬ (HasUrl (target_of message)))
     → (IsErrOf result unread.BodyTooLarge → HasUrl (target_of message) × (BODY_LIMIT < length (body_of message)))
-    → IsUnread message error
+    → IsUnreadable message error
 is_unread message unread.BadUrl result is bad large = bad is
 is_unread message unread.BodyTooLarge result is bad large = large is
 is_unread message unread.OutOfMemory result is bad large = tt
 
 -- what is to be forwarded of a request of the message
 to_forward
-    : (origin : Past) (name : Book) (old middle new : Held) (message : Message (List ℕ)) (request : Request)
+    : (origin : Past) (name : HistoryName) (old middle new : Held) (message : Message (List ℕ)) (request : Request)
     (forward : Forward)
     → middle ≡ old → IsReceived message request → length (body_of message) ≤ BODY_LIMIT
     → All (λ (h : Header). IsHeaderName h.name) request.headers
@@ -68,7 +68,7 @@ to_forward origin name old middle new message request forward same received with
 
 -- what is to be rendered of a request of the message
 to_render
-    : (origin : Past) (name : Book) (limits : Limits) (old middle new : Held) (message : Message (List ℕ))
+    : (origin : Past) (name : HistoryName) (limits : Limits) (old middle new : Held) (message : Message (List ℕ))
     (request : Request) (rendering : Rendering)
     → middle ≡ old → IsReceived message request → length (body_of message) ≤ BODY_LIMIT
     → IsRequestToRender origin name limits middle new request rendering
@@ -83,7 +83,7 @@ to_render origin name limits old middle new message request rendering same recei
 }
 
 -- its request begins what the message begins
-pub of_request : {E : Type 0} (origin : Past) (name : Book) (limits : Limits) (escape : Escape)
+pub of_request : {E : Type 0} (origin : Past) (name : HistoryName) (limits : Limits) (escape : Escape)
     (page : Option (List ℕ)) (old middle new : Held)
     (message : Message (List ℕ)) (request : Request) (result : Result Begun E)
     → middle ≡ old → IsReceived message request → length (body_of message) ≤ BODY_LIMIT
@@ -93,9 +93,9 @@ pub of_request : {E : Type 0} (origin : Past) (name : Book) (limits : Limits) (e
     (IsRequestToForward origin name middle new request) (IsRequestToRender origin name limits middle new request))
     (λ _. (reply : Reply) × IsRequestAnswered origin name limits escape page middle new request reply)
     → MatchResult result
-    (HasBegun (IsReply origin name limits escape page old new message) (IsToForward origin name old new message)
+    (HasBegun (IsMessageReply origin name limits escape page old new message) (IsToForward origin name old new message)
     (IsToRender origin name limits old new message))
-    (λ _. IsNotBegun origin name limits escape page old new message)
+    (λ _. IsMessageUnanswered origin name limits escape page old new message)
 of_request origin name limits escape page old middle new message request (Ok (Answered response)) same received within
     names is = (
       is.0,
@@ -134,15 +134,15 @@ of_request origin name limits escape page old middle new message request (Err er
 
 -- a message that isn't read has no request
 pub refused : (old new : Held) (message : Message (List ℕ)) (error : SnapshotError) → new ≡ old
-    → IsUnread message error → IsNotRead old new message (refusal error)
+    → IsUnreadable message error → IsAnsweredUnread old new message (refusal error)
 refused old new message error same is = (same, (error, is, refl))
 
-module _ (origin : Past) (name : Book) (limits : Limits) (escape : Escape) (page : Option (List ℕ)) (old new : Held)
+module _ (origin : Past) (name : HistoryName) (limits : Limits) (escape : Escape) (page : Option (List ℕ)) (old new : Held)
     (message : Message (List ℕ)) where
   -- where nothing was begun, the answer is that memory ran out
-  pub begins_503 : {E : Type 0} (result : Result Begun E) → IsNotBegun origin name limits escape page old new message
+  pub begins_503 : {E : Type 0} (result : Result Begun E) → IsMessageUnanswered origin name limits escape page old new message
       → IfOk result (IsBegunOf (error_reply 503 OutOfMemory))
-      → IfOk result (Begins origin name limits escape page old new message)
+      → IfOk result (BeginsMessage origin name limits escape page old new message)
   begins_503 (Ok (Answered response)) left is = (left.0, left.1, inr is)
   begins_503 (Ok (Refused refused)) left is = (left.0, left.1, inr is)
   begins_503 (Ok (ToForward forward)) left is = absurd is

@@ -11,7 +11,7 @@ use Rattle.answering.specs.declared.begun.Begun.{Begun}
 use Rattle.answering.specs.declared.begun.Begun.TheVariants.{Answered, Refused, ToForward, ToRender}
 use Rattle.answering.specs.declared.forward.Forward.{Forward}
 use Rattle.answering.specs.declared.rendering.Rendering.{Rendering}
-use Rattle.logbook.specs.Pages.{Book}
+use Rattle.logbook.specs.Pages.{Book as HistoryName}
 use Rattle.mapping_model.specs.declared.reply.Reply.{Reply}
 use Rattle.mock_request.specs.Request.{Request}
 use Rattle.request_journal.specs.Past.{Past}
@@ -28,11 +28,11 @@ receipt_of_forward : (receipt : Receipt) (forward : Forward) → IsForwardOf rec
 receipt_of_forward receipt forward is = rw (sym is.0, sym is.1) refl
 
 -- and its request
-request_of_forward : (origin : Past) (name : Book) (old new : Held) (request : Request) (forward : Forward)
+request_of_forward : (origin : Past) (name : HistoryName) (old new : Held) (request : Request) (forward : Forward)
     → Gains origin name old new (IsServed request) (serve_receipt forward) → forward.request ≡ request
 request_of_forward origin name old new request forward gains = let served = gains.asked_for.1 in cc
 
-to_forward : (origin : Past) (name : Book) (old new : Held) (request : Request) (forward : Forward)
+to_forward : (origin : Past) (name : HistoryName) (old new : Held) (request : Request) (forward : Forward)
     → Gains origin name old new (IsServed request) (serve_receipt forward)
     → IsServedToForward origin name old new request forward
 to_forward origin name old new request forward gains =
@@ -45,11 +45,11 @@ receipt_of_rendering : (limits : Limits) (receipt : Receipt) (rendering : Render
 receipt_of_rendering limits receipt rendering is = rw (sym is.0, sym is.1) refl
 
 -- and its request
-request_of_rendering : (origin : Past) (name : Book) (old new : Held) (request : Request) (rendering : Rendering)
+request_of_rendering : (origin : Past) (name : HistoryName) (old new : Held) (request : Request) (rendering : Rendering)
     → Gains origin name old new (IsServed request) (rendering_receipt rendering) → rendering.request ≡ request
 request_of_rendering origin name old new request rendering gains = let served = gains.asked_for.1 in cc
 
-to_render : (origin : Past) (name : Book) (limits : Limits) (old new : Held) (request : Request) (rendering : Rendering)
+to_render : (origin : Past) (name : HistoryName) (limits : Limits) (old new : Held) (request : Request) (rendering : Rendering)
     → rendering.limits ≡ limits → Gains origin name old new (IsServed request) (rendering_receipt rendering)
     → IsServedToRender origin name limits old new request rendering
 to_render origin name limits old new request rendering kept gains =
@@ -57,7 +57,7 @@ to_render origin name limits old new request rendering kept gains =
     (same, kept, subst (λ r. Gains origin name old new (IsServed r) (rendering_receipt rendering)) (sym same) gains)
 
 -- where it was served, by the event of its receipt
-pub of_event : {E : Type 0} (origin : Past) (name : Book) (limits : Limits) (old new : Held) (request : Request)
+pub of_event : {E : Type 0} (origin : Past) (name : HistoryName) (limits : Limits) (old new : Held) (request : Request)
     (receipt : Receipt)
     (result : Result Begun E) → Gains origin name old new (IsServed request) receipt
     → IfOk result (HasBegun (IsEventReply limits receipt.event) (IsForwardOf receipt.number receipt.event)

@@ -1,6 +1,6 @@
 -- How an admin call is answered.
 use Rattle.std.specs.Prelude.{◌≡◌, ◌⊎◌, ℕ, List, Option, codes, unwrap_or}
-use Rattle.admin_answers.specs.Answers.{IsAnswered, IsNotAnswered}
+use Rattle.admin_answers.specs.Answers.{IsAnsweredByBook, IsUnansweredByBook}
 use Rattle.admin_routes.specs.Calls.{IsCall, IsAdminError}
 use Rattle.admin_routes.specs.Errors.{error_code_of}
 use Rattle.admin_routes.specs.declared.call.AdminCall.{AdminCall}
@@ -10,7 +10,7 @@ use Rattle.answering.specs.Page.{IsGivenPage, page_reply}
 use Rattle.answering.specs.Reason.{IsRefusalReply}
 use Rattle.error_code.specs.Codes.{status_of}
 use Rattle.error_code.specs.declared.error_code.ErrorCode.{ErrorCode}
-use Rattle.logbook.specs.Pages.{Book}
+use Rattle.logbook.specs.Pages.{Book as HistoryName}
 use Rattle.mapping_model.specs.declared.reply.Reply.{Reply}
 use Rattle.mock_request.specs.Request.{Request}
 use Rattle.request_journal.specs.Past.{Past}
@@ -31,14 +31,14 @@ IsRefusedCall escape old new request reply =
     × IsRefusalReply (reporting (error_code_of why)) reply)
 
 -- it is the call, and its answer is the shared book's, or reports why there is none
-abbrev pub IsAnsweredCall : Past → Book → Held → Held → AdminCall → Reply → Type 0
+abbrev pub IsAnsweredCall : Past → HistoryName → Held → Held → AdminCall → Reply → Type 0
 IsAnsweredCall origin name old new call reply =
-    IsAnswered origin name old new call reply
-    ⊎ ((reason : ErrorCode) × IsNotAnswered origin name old new call reason
+    IsAnsweredByBook origin name old new call reply
+    ⊎ ((reason : ErrorCode) × IsUnansweredByBook origin name old new call reason
     × IsRefusalReply (reporting reason) reply)
 
 -- how a call is answered that asks for no page
-abbrev pub IsCallAnswered : Past → Book → Escape → Held → Held → Request → Reply → Type 0
+abbrev pub IsCallAnswered : Past → HistoryName → Escape → Held → Held → Request → Reply → Type 0
 IsCallAnswered origin name escape old new request reply =
     IsRefusedCall escape old new request reply
     ⊎ ((call : AdminCall) × IsCall escape request.method request.url request.body call
@@ -50,7 +50,7 @@ IsPageAnswered page old new request reply =
     (bytes : List ℕ) × IsGivenPage page request bytes × (new ≡ old) × (reply ≡ page_reply bytes)
 
 -- how a call is answered that no page of another site makes
-abbrev pub IsOwnAnswered : Past → Book → Escape → Option (List ℕ) → Held → Held → Request → Reply → Type 0
+abbrev pub IsOwnAnswered : Past → HistoryName → Escape → Option (List ℕ) → Held → Held → Request → Reply → Type 0
 IsOwnAnswered origin name escape page old new request reply =
     IsPageAnswered page old new request reply
     ⊎ (((bytes : List ℕ) → ¬ (IsGivenPage page request bytes))
@@ -61,7 +61,7 @@ abbrev pub foreign_reply : Reply
 foreign_reply = json_reply 403 (codes "{\"errors\":[{\"title\":\"not for pages of other sites\"}]}")
 
 -- a page of another site can't steer the server: its call is refused, and the seat is as before
-abbrev pub IsAdminAnswered : Past → Book → Escape → Option (List ℕ) → Held → Held → Request → Reply → Type 0
+abbrev pub IsAdminAnswered : Past → HistoryName → Escape → Option (List ℕ) → Held → Held → Request → Reply → Type 0
 IsAdminAnswered origin name escape page old new request reply =
     (IsForeign request.headers × (new ≡ old) × IsRefusalReply foreign_reply reply)
     ⊎ (¬ (IsForeign request.headers) × IsOwnAnswered origin name escape page old new request reply)

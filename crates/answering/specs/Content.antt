@@ -5,8 +5,8 @@ use Rattle.http_body.specs.declared.frame.Frame.{Frame}
 use Rattle.http_messages.specs.declared.error.ServiceError.{ServiceError}
 
 -- the frame has the first bytes of the content, and what holds of the rest
-abbrev pub IsFront : Frame (List ℕ) → List ℕ → (List ℕ → Type 0) → Type 0
-IsFront frame content Holds =
+abbrev pub IsFrontOfBody : Frame (List ℕ) → List ℕ → (List ℕ → Type 0) → Type 0
+IsFrontOfBody frame content Holds =
     (piece : List ℕ) × (frame ≡ data_frame piece)
     × ((rest : List ℕ) × (content ≡ piece ++ rest) × Holds rest)
 
@@ -15,7 +15,7 @@ IsFront frame content Holds =
 unfoldable pub Yields : List ℕ → List (Result (Frame (List ℕ)) ServiceError)
     → Option (Result (Frame (List ℕ)) ServiceError) → Type 0
 Yields content [] None = content ≡ []
-Yields content [] (Some (Ok frame)) = IsFront frame content (λ _. ⊤)
+Yields content [] (Some (Ok frame)) = IsFrontOfBody frame content (λ _. ⊤)
 Yields content [] (Some (Err error)) = ⊤
-Yields content (Ok frame ∷ frames) last = IsFront frame content (λ rest. Yields rest frames last)
+Yields content (Ok frame ∷ frames) last = IsFrontOfBody frame content (λ rest. Yields rest frames last)
 Yields content (Err error ∷ frames) last = ⊤

@@ -13,11 +13,11 @@ IsOf authority origin =
     ⊎ (lower_case origin ≡ codes "https://" ++ lower_case authority)
 
 -- a `host` header that names the site of the origin
-abbrev pub IsHost : List ℕ → Header → Type 0
-IsHost origin header = (header.name ≡ codes "host") × IsOf header.value origin
+abbrev pub NamesHost : List ℕ → Header → Type 0
+NamesHost origin header = (header.name ≡ codes "host") × IsOf header.value origin
 
 abbrev pub HasHost : List Header → List ℕ → Type 0
-HasHost headers origin = Any (IsHost origin) headers
+HasHost headers origin = Any (NamesHost origin) headers
 
 -- an `origin` header whose site no `host` header names
 abbrev pub IsOtherOrigin : List Header → Header → Type 0

@@ -2,14 +2,14 @@
 use Rattle.std.specs.Prelude.{◌≡◌, ◌⊎◌, ◌≤◌, ℕ, Err, List, Ok, Result, length}
 use Rattle.std.specs.declared.alloc.AllocError.{AllocError}
 use Rattle.admin_routes.specs.Routes.{IsAdmin}
-use Rattle.answering.specs.Reply.{IsResponseOf}
+use Rattle.answering.specs.Reply.{IsResponseOfReply}
 use Rattle.answering.specs.declared.rendering.Rendering.{Rendering}
 use Rattle.error_code.specs.declared.error_code.ErrorCode.TheVariants.{OutOfMemory}
 use Rattle.http.specs.Request.{body_of}
 use Rattle.http.specs.declared.request.Request.{Request as Message}
 use Rattle.http.specs.declared.response.Response.{Response}
 use Rattle.http_messages.specs.Received.{IsReceived}
-use Rattle.logbook.specs.Pages.{Book}
+use Rattle.logbook.specs.Pages.{Book as HistoryName}
 use Rattle.mapping_model.specs.declared.reply.Reply.{Reply}
 use Rattle.mock_request.specs.declared.snapshot.TheConstants.{BODY_LIMIT}
 use Rattle.request_journal.specs.Past.{Past}
@@ -30,7 +30,7 @@ rendering_receipt rendering =
 
 -- the message is a request that is no admin call, and was served: what is to be rendered has the number, the request and
 -- the version of the mapping of the receipt
-pub record IsToRender (origin : Past) (name : Book) (limits : Limits) (old new : Held) (message : Message (List ℕ))
+pub record IsToRender (origin : Past) (name : HistoryName) (limits : Limits) (old new : Held) (message : Message (List ℕ))
     (rendering : Rendering) : Type 0 where
   pub received : IsReceived message rendering.request
   pub within : length (body_of message) ≤ BODY_LIMIT
@@ -46,5 +46,5 @@ IsRenderedReply rendering reply =
 -- the response is that of the reply, or reports that memory ran out
 abbrev pub IsResponseOfRendered : Result Reply AllocError → Response (List ℕ) → Type 0
 IsResponseOfRendered (Ok reply) response =
-    IsResponseOf reply response ⊎ IsResponseOf (error_reply 503 OutOfMemory) response
-IsResponseOfRendered (Err error) response = IsResponseOf (error_reply 503 OutOfMemory) response
+    IsResponseOfReply reply response ⊎ IsResponseOfReply (error_reply 503 OutOfMemory) response
+IsResponseOfRendered (Err error) response = IsResponseOfReply (error_reply 503 OutOfMemory) response

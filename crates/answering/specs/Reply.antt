@@ -10,7 +10,7 @@ use Rattle.stub_response.specs.Headers.{headers_of}
 abbrev pub response_status : ℕ → ℕ
 response_status status = if nat_le 100 status && nat_lt status 1000 then status else 500
 
-pub record IsResponseOf (reply : Reply) (response : Response (List ℕ)) : Type 0 where
+pub record IsResponseOfReply (reply : Reply) (response : Response (List ℕ)) : Type 0 where
   pub version : (head_of response).version ≡ HTTP_11
   pub status : (head_of response).status ≡ response_status reply.status
   pub headers : (head_of response).headers ≡ headers_of reply.headers

@@ -1,7 +1,7 @@
 // The response to a message, or what is to be forwarded or rendered to have one.
 ghost use Rattle.std.specs.Prelude.{◌≡◌, IfErr, IfOk};
 ghost use Rattle.http_messages.specs.declared.error.ServiceError.TheVariants.{OutOfMemory as NoMemory};
-ghost use Rattle.answering.specs.Answering.{Begins, IsNotBegun};
+ghost use Rattle.answering.specs.Answering.{BeginsMessage, IsMessageUnanswered};
 ghost use Rattle.answering.specs.Inner.Sent.{IsBegunOf};
 ghost use Rattle.error_code.specs.declared.error_code.ErrorCode.TheVariants.{OutOfMemory};
 ghost use Rattle.stub_response.specs.ErrorReply.{error_reply};
@@ -32,10 +32,10 @@ pub fn begin<L: Origin, R: Wait, G: Gate, C: Clock>(
     seat: &mut Seat<L>,
     message: &Request<Bytes>,
 ) -> Result<Begun, ServiceError>
-    ensures ok { IfOk result (Begins L.origin L.book site.now.limits site.now.escape site.now.page seat.old seat.new
+    ensures ok { IfOk result (BeginsMessage L.origin L.book site.now.limits site.now.escape site.now.page seat.old seat.new
         message.now) }
     ensures err { IfErr result (λ error. (error ≡ NoMemory)
-        × IsNotBegun L.origin L.book site.now.limits site.now.escape site.now.page seat.old seat.new message.now) }
+        × IsMessageUnanswered L.origin L.book site.now.limits site.now.escape site.now.page seat.old seat.new message.now) }
 {
     match begin_message(rt, alloc, site, seat, message) {
         // `return`, as in `serve`.

@@ -98,8 +98,8 @@ fn forward_of<C: Clock>(
 {
     Ok(Begun::ToForward(Forward {
         number,
-        request: request.try_clone()?,
-        target: target.try_clone()?,
+        request: request.clone()?,
+        target: target.clone()?,
         started_ms: clock.now_ms(),
     }))
 }
@@ -117,7 +117,7 @@ fn rendering_of(
 {
     Ok(Begun::ToRender(Rendering {
         number,
-        request: request.try_clone()?,
+        request: request.clone()?,
         captured: captured.try_clone()?,
         limits,
     }))

@@ -6,12 +6,12 @@ ghost use Rattle.mock_request.specs.Target.{HasUrl};
 ghost use Rattle.mock_request.specs.declared.snapshot.TheConstants.{BODY_LIMIT};
 ghost use Rattle.admin_answers.specs.Replies.{reply_of};
 ghost use Rattle.answering.specs.Admin.{IsAdminAnswered};
-ghost use Rattle.answering.specs.Answering.{IsNotBegun, IsReply, refusal};
+ghost use Rattle.answering.specs.Answering.{IsMessageUnanswered, IsMessageReply, refusal};
 ghost use Rattle.answering.specs.Forwarding.{IsToForward};
 ghost use Rattle.answering.specs.Inner.Outcome.{reply_in};
 ghost use Rattle.answering.specs.Inner.Sent.{HasBegun, IsBegunOf};
 ghost use Rattle.answering.specs.Rendering.{IsToRender};
-ghost use Rattle.answering.specs.Reply.{IsResponseOf};
+ghost use Rattle.answering.specs.Reply.{IsResponseOfReply};
 
 use crate::admin_answer::{AdminOutcome, admin_answer};
 use crate::begun::Begun;
@@ -48,10 +48,10 @@ pub(crate) fn begin_message<L: Origin, R: Wait, G: Gate, C: Clock>(
     message: &Request<Bytes>,
 ) -> Result<Begun, ServiceError>
     ensures { MatchResult result
-        (HasBegun (IsReply L.origin L.book site.now.limits site.now.escape site.now.page seat.old seat.new message.now)
+        (HasBegun (IsMessageReply L.origin L.book site.now.limits site.now.escape site.now.page seat.old seat.new message.now)
         (IsToForward L.origin L.book seat.old seat.new message.now)
         (IsToRender L.origin L.book site.now.limits seat.old seat.new message.now))
-        (λ _. IsNotBegun L.origin L.book site.now.limits site.now.escape site.now.page seat.old seat.new message.now) }
+        (λ _. IsMessageUnanswered L.origin L.book site.now.limits site.now.escape site.now.page seat.old seat.new message.now) }
 {
     match request_of(alloc, seat, message) {
         Ok(request) => {
@@ -114,7 +114,7 @@ fn refused_begun(
     response: Response<Content>,
     lines: String,
 ) -> Result<Begun, ServiceError>
-    ensures { (reply : _) → IsResponseOf reply response → IfOk result (IsBegunOf reply) }
+    ensures { (reply : _) → IsResponseOfReply reply response → IfOk result (IsBegunOf reply) }
 {
     match Box::new(alloc, Refused { response, lines }) {
         Ok(refused) => Ok(Begun::Refused(refused)),
@@ -124,7 +124,7 @@ fn refused_begun(
 
 // The response to a message that isn't read.
 fn refusal_response(alloc: Global, error: SnapshotError) -> Result<Response<Content>, AllocError>
-    ensures { IfOk result (IsResponseOf (refusal error)) }
+    ensures { IfOk result (IsResponseOfReply (refusal error)) }
 {
     match error {
         SnapshotError::BadUrl => error_response(alloc, 400, ErrorCode::BadUrl),
@@ -169,7 +169,7 @@ fn outcome_begun(alloc: Global, outcome: AdminOutcome) -> Result<Begun, ServiceE
 }
 
 fn answer_response(alloc: Global, answer: AdminAnswer) -> Result<Response<Content>, AllocError>
-    ensures { IfOk result (IsResponseOf (reply_of answer)) }
+    ensures { IfOk result (IsResponseOfReply (reply_of answer)) }
 {
     match answer {
         AdminAnswer::Whole(reply) => response_of(alloc, reply),

@@ -1,7 +1,7 @@
 // The response to a message that was forwarded.
 ghost use Rattle.std.specs.Prelude.{◌≡◌, IfErr, IfOk, Ok, OnErr};
 ghost use Rattle.answering.specs.Forwarding.{IsFinished, IsForwardReply, is_not_taken, record_of, reply_unrecorded};
-ghost use Rattle.answering.specs.Reply.{IsResponseOf};
+ghost use Rattle.answering.specs.Reply.{IsResponseOfReply};
 ghost use Rattle.error_code.specs.declared.error_code.ErrorCode.TheVariants as code;
 ghost use Rattle.http_messages.specs.declared.error.ServiceError.TheVariants.{OutOfMemory as NoMemory};
 ghost use Rattle.shared_book.specs.Seen.{HasMadeNoCall};
@@ -112,8 +112,8 @@ fn unrecorded_response(
     response: Response<Content>,
     reason: ErrorCode,
 ) -> Result<Response<Content>, AllocError>
-    ensures { (sent : _) → IsResponseOf sent response
-        → IfOk result (IsResponseOf (reply_unrecorded sent reason)) }
+    ensures { (sent : _) → IsResponseOfReply sent response
+        → IfOk result (IsResponseOfReply (reply_unrecorded sent reason)) }
 {
     if is_not_taken(reason) {
         return Ok(response);

@@ -1,6 +1,6 @@
 // Requests that a page of another site makes.
 ghost use Rattle.std.specs.Prelude.{◌≡◌, ◌↔◌, ◌<◌, ◌++◌, length, IsTrue, MatchOption, slice_get};
-ghost use Rattle.answering.specs.Foreign.{HasHost, IsForeign, IsHost, IsOf, IsOtherOrigin, lower_case};
+ghost use Rattle.answering.specs.Foreign.{HasHost, IsForeign, NamesHost, IsOf, IsOtherOrigin, lower_case};
 
 use mock_request::snapshot::Snapshot;
 
@@ -38,7 +38,7 @@ fn has_host(request: &Snapshot, origin: &[u8]) -> bool
 
 fn is_host(request: &Snapshot, index: usize, origin: &[u8]) -> bool
     requires { index < length request.now.headers }
-    ensures { MatchOption (slice_get request.now.headers index) ⊥ (λ header. IsTrue result ↔ IsHost origin.now header) }
+    ensures { MatchOption (slice_get request.now.headers index) ⊥ (λ header. IsTrue result ↔ NamesHost origin.now header) }
 {
     matches!(request.header(index), Some((name, value)) if name == "host" && is_of(value, origin))
 }

@@ -63,7 +63,7 @@ fn templated_body_response(
     requires { IsPrepared mapping.now.response (Headers headers.now) }
     ensures { IfOk result (HasBegun (IsRendering limits mapping.now request.now) (λ _. ⊥) (λ _. ⊥)) }
 {
-    let status = mapping.response.response().status.code();
+    let status = mapping.response.status.code();
     match respond_body(alloc, mapping, request, limits)? {
         Some(body) => Ok(Begun::Answered(response_with(
             status,

@@ -45,7 +45,7 @@ impl Rendering {
     {
         Ok(Rendering {
             number: self.number,
-            request: self.request.try_clone()?,
+            request: self.request.clone()?,
             captured: self.captured.try_clone()?,
             limits: self.limits,
         })

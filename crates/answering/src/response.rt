@@ -1,6 +1,6 @@
 // The response of `http` that a reply is.
 ghost use Rattle.std.specs.Prelude.{◌≡◌, IfOk};
-ghost use Rattle.answering.specs.Reply.{IsResponseOf, response_status};
+ghost use Rattle.answering.specs.Reply.{IsResponseOfReply, response_status};
 ghost use Rattle.http.specs.Response.{head_of, body_of};
 ghost use Rattle.http.specs.declared.version.TheConstants.Version.{HTTP_11};
 ghost use Rattle.stub_response.specs.ErrorReply.{error_reply, json_reply};
@@ -23,14 +23,14 @@ pub(crate) fn error_response(
     status: u16,
     code: ErrorCode,
 ) -> Result<Response<Content>, AllocError>
-    ensures { IfOk result (IsResponseOf (error_reply status code)) }
+    ensures { IfOk result (IsResponseOfReply (error_reply status code)) }
 {
     response_of(alloc, error_reply(alloc, status, code)?)
 }
 
 /// The response that a reply is. Values and body are moved, and not copied.
 pub(crate) fn response_of(alloc: Global, reply: Reply) -> Result<Response<Content>, AllocError>
-    ensures { IfOk result (IsResponseOf reply) }
+    ensures { IfOk result (IsResponseOfReply reply) }
 {
     let Reply {
         status,
@@ -48,7 +48,7 @@ pub(crate) fn listed_response(
     alloc: Global,
     listing: Listing,
 ) -> Result<Response<Content>, AllocError>
-    ensures { IfOk result (IsResponseOf (json_reply 200 listing)) }
+    ensures { IfOk result (IsResponseOfReply (json_reply 200 listing)) }
 {
     let without = json_reply(alloc, 200, String::new(alloc))?;
     let headers = header_map(alloc, without.headers.into_vec())?;

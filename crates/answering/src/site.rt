@@ -16,7 +16,7 @@ pub struct Site<L: Origin, G, C> {
     pub gate: G,
     /// By which the exchanges of a recording are timed.
     pub clock: C,
-    /// How often a connection, or an exchange with a target, may read or write.
+    /// How often a connection, or an exchange with an upstream, may read or write.
     pub turns: u64,
     pub routes: AdminRoutes,
     /// What `GET /__admin/page` is answered with, if it has a page.

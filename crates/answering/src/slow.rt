@@ -37,7 +37,7 @@ pub(crate) fn is_slow(mapping: &SharedSpec, request: &Snapshot) -> bool {
 // Not inlined: a plain response needs none of this.
 #[inline(never)]
 fn may_be_slow(mapping: &SharedSpec, request: &Snapshot) -> bool {
-    let content = &mapping.spec().response.response().content;
+    let content = &mapping.spec().response.content;
     let size = data_size(request);
     let steps = steps_at(content, size);
     if steps <= STEPS && handled(steps, size) <= HANDLED_BYTES {

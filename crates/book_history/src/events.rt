@@ -17,7 +17,7 @@ impl Events {
     {
         let mut items = Vec::with_capacity(*self.items.allocator(), self.items.len())?;
         for event in self.items.as_slice() {
-            items.push(event.try_clone()?)?;
+            items.push(event.clone()?)?;
         }
         Ok(Events { items })
     }

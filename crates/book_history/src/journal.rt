@@ -51,7 +51,7 @@ pub(crate) fn visible(
         if let Some(request) = shown.request_of(event) {
             entries.push(Entry {
                 number: before + left as u64 + 1,
-                request: request.try_clone()?,
+                request: request.clone()?,
             })?;
         }
     }

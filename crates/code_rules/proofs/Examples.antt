@@ -11,7 +11,7 @@ use Rattle.template_code.specs.declared.instr.Instr.TheVariants.{Emit, Root, Tex
 use Rattle.template_code.specs.declared.instr.Instr.TheVariants.{Print, Jump, Branch, Halt}
 use Rattle.template_code.specs.declared.limits.TheConstants.{MAX_INSTRUCTIONS}
 use Rattle.code_rules.specs.Polynomial.{as_printed}
-use Rattle.code_rules.specs.Table.{Entry, entry_at}
+use Rattle.code_rules.specs.Table.{TableEntry, entry_at}
 use Rattle.code_rules.specs.Rules.{broken_by}
 use Rattle.code_rules.specs.Regions.{budget}
 use Rattle.code_rules.specs.Verdict.{verdict}
@@ -102,7 +102,7 @@ no_code : verdicts [] 2 ≡ Some V1 ∷ None ∷ []
 no_code = refl
 
 -- whatever the instruction is
-index_4096 : (code : StackCode) (sources : List (List ℕ)) (i : Instr) (e : Entry) →
+index_4096 : (code : StackCode) (sources : List (List ℕ)) (i : Instr) (e : TableEntry) →
     broken_by code MAX_INSTRUCTIONS sources i e ≡ Some V1
 index_4096 code sources i e = refl
 

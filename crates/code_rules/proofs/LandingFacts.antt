@@ -15,7 +15,7 @@ use Rattle.template_code.specs.Instructions.{slots_after}
 use Rattle.template_code.specs.declared.instr.Instr.{Instr}
 use Rattle.template_code.specs.declared.limits.TheConstants.{MAX_INSTRUCTIONS, MAX_SLOTS, MAX_LOOPS}
 use Rattle.code_rules.specs.Costs.{is_empty}
-use Rattle.code_rules.specs.Table.{Entry, nest_after, entry_at}
+use Rattle.code_rules.specs.Table.{TableEntry, nest_after, entry_at}
 use Rattle.code_rules.specs.Rules.{has_invalid_target, is_target, jumps, jumps_among, nests_to, same_nest, lacks_slots}
 use Rattle.code_rules.specs.Rules.{kinds_fit, target_has_slots, leaves_slots, closes_wrongly, lacks_loop, broken_by}
 use Rattle.code_rules.specs.Rules.{broken_beyond, broken_where, broken}
@@ -25,7 +25,7 @@ use Rattle.code_rules.proofs.TableFacts.{IsTable-entry_at}
 
 -- what the rules up to V12 ask of an instruction on its own, in code that isn't too long: all but what they say of its
 -- target and of the jumps to it
-pub record KeepsAlone (code : StackCode) (index : ℕ) (i : Instr) (e : Entry) : Type 0 where
+pub record KeepsAlone (code : StackCode) (index : ℕ) (i : Instr) (e : TableEntry) : Type 0 where
   pub names : names_entries code i ≡ true
   pub enough : lacks_slots (pops i) e.kinds ≡ false
   pub fit : kinds_fit (pops i) e.kinds ≡ true
@@ -55,7 +55,7 @@ EachJumpLands code =
     target_of (flow i) ≡ Some target → Lands code index target
 
 -- what keeps the rules breaks none
-unbroken : (code : StackCode) (index : ℕ) (sources : List (List ℕ)) (i : Instr) (e : Entry) →
+unbroken : (code : StackCode) (index : ℕ) (sources : List (List ℕ)) (i : Instr) (e : TableEntry) →
     Keeps code index sources i e → broken_by code index sources i e ≡ None
 unbroken code index sources i e k =
     rw (
@@ -96,8 +96,8 @@ module _ (code : StackCode) (lands : EachJumpLands code) where
   same_as target ns = same_nest (entry_at code target).nest ns
 
   -- what holds of the target of jumps from these nests
-  abbrev IsTarget : ℕ → List (List ℕ) → Type 0
-  IsTarget target sources =
+  abbrev IsLanding : ℕ → List (List ℕ) → Type 0
+  IsLanding target sources =
       (list_all (same_as target) sources ≡ true) × ((sources ≡ []) ⊎ ((entry_at code target).kinds ≡ []))
 
   source-lands : (target n : ℕ) (o : Option Instr) → slice_get code.instrs n ≡ o → jumps o target ≡ true →
@@ -105,7 +105,7 @@ module _ (code : StackCode) (lands : EachJumpLands code) where
   source-lands target n None at h = absurd (true≢false (sym h))
   source-lands target n (Some i) at h = lands n target i at (target-is (target_of (flow i)) target h)
 
-  is-target : (target n : ℕ) → IsTarget target (nests_among target n)
+  is-target : (target n : ℕ) → IsLanding target (nests_among target n)
   is-target target zero = (refl, inl refl)
   is-target target (suc n) =
       by (is-target target n) (jumps (slice_get code.instrs n) target) refl
@@ -116,8 +116,8 @@ module _ (code : StackCode) (lands : EachJumpLands code) where
       nests : List ℕ → List (List ℕ)
       nests sources = map (λ source. (entry_at code source).nest) sources
 
-      by : IsTarget target (nests earlier) → (b : Bool) → jumps (slice_get code.instrs n) target ≡ b →
-          IsTarget target (nests (if b then n ∷ earlier else earlier))
+      by : IsLanding target (nests earlier) → (b : Bool) → jumps (slice_get code.instrs n) target ≡ b →
+          IsLanding target (nests (if b then n ∷ earlier else earlier))
       by rest true is =
           let l = source-lands target n (slice_get code.instrs n) refl is in
           let others = list_all (same_as target) (nests earlier) in
@@ -126,7 +126,7 @@ module _ (code : StackCode) (lands : EachJumpLands code) where
           (ap (λ b. b && others) same ∙ rest.0, inr l.kinds)
       by rest false is = rest
 
-  no_slots : (target : ℕ) (sources : List (List ℕ)) → IsTarget target sources →
+  no_slots : (target : ℕ) (sources : List (List ℕ)) → IsLanding target sources →
       target_has_slots sources (entry_at code target).kinds ≡ false
   no_slots target sources h =
       ⊎_elim (λ none. ap (λ ns. not (is_empty ns) && not (is_empty (entry_at code target).kinds)) none)

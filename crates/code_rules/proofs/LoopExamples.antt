@@ -15,7 +15,7 @@ use Rattle.template_code.specs.declared.instr.Instr.TheVariants.{Each, Next, Hal
 use Rattle.code_rules.specs.Table.{entry_at}
 use Rattle.code_rules.specs.Regions.{budget}
 use Rattle.code_rules.specs.Verdict.{verdict}
-use Rattle.code_rules.specs.Laws.{coarse_budget}
+use Rattle.code_rules.specs.Shown.Laws.{coarse_budget}
 use Rattle.code_rules.specs.declared.rule.Rule.TheVariants.{V3, V4, V6, V8, V9, V10, V11, V13}
 use Rattle.code_rules.proofs.Examples.{with_tables, judged, verdicts, judged_to}
 

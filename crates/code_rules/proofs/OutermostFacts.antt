@@ -21,7 +21,7 @@ use Rattle.code_rules.specs.Polynomial.{times}
 use Rattle.code_rules.specs.Bounds.{Bound, plus_bound, times_bound, sum_of, at_most, of_turns}
 use Rattle.code_rules.specs.Costs.{is_empty, top, bound_by, pushed_bounds, bounds_after, bounds_at, written_bound}
 use Rattle.code_rules.specs.Costs.{goes_over_part, Cost, no_cost, cost_of_turns, cost, cost_at}
-use Rattle.code_rules.specs.Table.{Entry, nest_after, IsTable, entry_at}
+use Rattle.code_rules.specs.Table.{TableEntry, nest_after, IsTable, entry_at}
 use Rattle.code_rules.specs.Rules.{lacks_loop}
 use Rattle.code_rules.specs.Regions.{share, region}
 use Rattle.code_rules.specs.Verdict.{IsWellFormed}
@@ -140,16 +140,16 @@ length-slots_after code i bounds kinds e =
     ∙ (rw (length-pushed code i bounds, length-drop-same n bounds kinds e)
     (sym (length-append (pushes i) (drop n kinds)))))
 
-pub length-bounds_at : (code : StackCode) (table : ℕ → Entry) (index : ℕ) → IsTable code table →
+pub length-bounds_at : (code : StackCode) (table : ℕ → TableEntry) (index : ℕ) → IsTable code table →
     index ≤ length code.instrs → length (bounds_at code index) ≡ length (table index).kinds
-length-bounds_at code table zero t le = ap (λ (e : Entry). length e.kinds) (sym t.start)
+length-bounds_at code table zero t le = ap (λ (e : TableEntry). length e.kinds) (sym t.start)
 length-bounds_at code table (suc index) t le =
     ⊎_elim
     (λ w.
     ap length (bounds_at-next code index w.0 w.2)
     ∙ (length-slots_after code w.0 (bounds_at code index) (table index).kinds
     (length-bounds_at code table index t (omega (arith, le)))
-    ∙ ap (λ (e : Entry). length e.kinds) (sym (t.next index w.0 w.2))))
+    ∙ ap (λ (e : TableEntry). length e.kinds) (sym (t.next index w.0 w.2))))
     (λ w. absurd (omega (arith, le, w.0)))
     ((slice_get_cases code.instrs index).1)
 
@@ -197,7 +197,7 @@ module _ (code : StackCode) (well : IsWellFormed code) where
       (λ w.
       subst (λ bounds. AllFlat bounds) (sym (bounds_at-next code index w.0 w.2))
       (flat-next index w.0 (flow w.0) w.2 refl
-      (sym (ap (λ (e : Entry). e.nest) (well.follows.next index w.0 w.2)) ∙ out)
+      (sym (ap (λ (e : TableEntry). e.nest) (well.follows.next index w.0 w.2)) ∙ out)
       (λ k. flat-at index (omega (arith, le)) k) (omega (arith, le))))
       (λ w. absurd (omega (arith, le, w.0)))
       ((slice_get_cases code.instrs index).1)
@@ -213,7 +213,7 @@ module _ (code : StackCode) (well : IsWellFormed code) where
       AllFlat (bounds_at code index)
   flat-bounds index le out =
       flat-at index le
-      (ap (λ (e : Entry). e.nest)
+      (ap (λ (e : TableEntry). e.nest)
       (entry-same code well.table (entry_at code) well.follows (IsTable-entry_at code) index le)
       ∙ out)
 

@@ -7,7 +7,7 @@ use Rattle.code_rules.specs.Bounds.{Bound, plus_bound, of_turns}
 use Rattle.code_rules.specs.Costs.{goes_over_part, Cost, no_cost, plus_cost, cost_of_turns, cost_at}
 use Rattle.code_rules.specs.Table.{entry_at}
 use Rattle.code_rules.specs.Regions.{share, region, budget}
-use Rattle.code_rules.specs.Laws.{coarse, times_size_often, coarse_total, coarse_budget}
+use Rattle.code_rules.specs.Shown.Laws.{coarse, times_size_often, coarse_total, coarse_budget}
 use Rattle.code_rules.proofs.PolynomialFacts.{value-plus, value-times_size}
 
 times-le : (p q m : ℕ) → p ≤ q → m * p ≤ m * q

@@ -8,7 +8,7 @@ use Rattle.template_code.specs.declared.limits.TheConstants.{MAX_COEFFICIENT}
 use Rattle.code_rules.specs.Polynomial.{Polynomial, constant, plus, times, times_size, fits}
 use Rattle.code_rules.specs.Bounds.{Bound, at_most, plus_bound, times_bound, sum_of, bound_fits, of_turns}
 use Rattle.code_rules.specs.Costs.{goes_over_part, Cost, no_cost, plus_cost, cost_fits, cost_of_turns, cost_at}
-use Rattle.code_rules.specs.Table.{Entry}
+use Rattle.code_rules.specs.Table.{TableEntry}
 use Rattle.code_rules.specs.Rules.{same_nest}
 use Rattle.code_rules.specs.Regions.{share, region}
 
@@ -101,7 +101,7 @@ within-share code most outer (opener ∷ ns) c h =
     (within-share code most outer ns turned (within-turns most (goes_over_part code opener) c h))
 
 -- a region up to an index has at most that total for each instruction, whatever the loops
-pub within-region : (code : StackCode) (table : ℕ → Entry) (most : ℕ) (nest : List ℕ) (n : ℕ) →
+pub within-region : (code : StackCode) (table : ℕ → TableEntry) (most : ℕ) (nest : List ℕ) (n : ℕ) →
     ((index : ℕ) → IsWithin most (cost_at code index)) → IsWithin (n * most) (region code table nest n)
 within-region code table most nest zero each = within-no_cost (0 * most)
 within-region code table most nest (suc n) each =

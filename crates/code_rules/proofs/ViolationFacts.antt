@@ -7,10 +7,10 @@ use Rattle.std.proofs.lemmas.Option.{none-some, same_Some, slice_get_past}
 use Rattle.std.proofs.lemmas.Bool.{cases_lt}
 use Rattle.template_code.specs.Code.{StackCode}
 use Rattle.template_code.specs.declared.instr.Instr.{Instr}
-use Rattle.code_rules.specs.Table.{Entry, IsTable, entry_at}
+use Rattle.code_rules.specs.Table.{TableEntry, IsTable, entry_at}
 use Rattle.code_rules.specs.Rules.{nests_to, broken, broken_beyond, broken_where}
 use Rattle.code_rules.specs.Verdict.{is_over, is_over_at, or_over, verdict, IsWellFormed, IsWithinLimits, IsViolation}
-use Rattle.code_rules.specs.Laws.{IsBroken}
+use Rattle.code_rules.specs.Shown.Laws.{IsBroken}
 use Rattle.code_rules.specs.declared.rule.Rule.{Rule}
 use Rattle.code_rules.specs.declared.rule.Rule.TheVariants.{V13}
 use Rattle.code_rules.proofs.TableFacts.{IsTable-entry_at, over-same, verdict-same, broken-same}
@@ -29,7 +29,7 @@ beyond [] index = refl
 beyond (i ∷ is) index = refl
 
 -- no rule is broken after the last instruction
-verdict-past : (code : StackCode) (index : ℕ) (t : ℕ → Entry) → length code.instrs ≤ index →
+verdict-past : (code : StackCode) (index : ℕ) (t : ℕ → TableEntry) → length code.instrs ≤ index →
     verdict code t (suc index) ≡ None
 verdict-past code index t le =
     ap (λ o. or_over (broken_where code (suc index) (nests_to code t (suc index)) o (t (suc index)))
@@ -125,7 +125,7 @@ broken_not_formed code b w =
     none-some b.2.1 (sym (w.unbroken b.2.0) ∙ (broken-same code w.table b.0 w.follows b.1 b.2.0 ∙ b.2.2))
 
 -- what a violation says of another table
-here-by : (code : StackCode) (index : ℕ) (rule : Rule) → IsViolation code index rule → (t : ℕ → Entry) →
+here-by : (code : StackCode) (index : ℕ) (rule : Rule) → IsViolation code index rule → (t : ℕ → TableEntry) →
     IsTable code t → verdict code t index ≡ Some rule
 here-by code index rule f t b = verdict-same code t f.table b f.follows index ∙ f.here
 

@@ -5,5 +5,5 @@ pub mod Table
 pub mod Rules
 pub mod Regions
 pub mod Verdict
-pub mod Laws
+pub mod Shown
 pub mod Inner

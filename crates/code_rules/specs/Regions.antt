@@ -5,7 +5,7 @@ use Rattle.std.specs.Prelude.{ℕ, zero, suc, if◌then◌else◌, List, [], ◌
 use Rattle.template_code.specs.Code.{StackCode}
 use Rattle.code_rules.specs.Polynomial.{Polynomial}
 use Rattle.code_rules.specs.Costs.{goes_over_part, Cost, no_cost, plus_cost, cost_of_turns, cost_at}
-use Rattle.code_rules.specs.Table.{Entry, entry_at}
+use Rattle.code_rules.specs.Table.{TableEntry, entry_at}
 use Rattle.code_rules.specs.Rules.{same_nest}
 
 -- what an instruction costs in the region of a nest, given the nest that it stands in and its cost: its cost, once for
@@ -17,7 +17,7 @@ share code outer (opener ∷ nest) c =
     else share code outer nest (cost_of_turns (goes_over_part code opener) c)
 
 -- the cost of the region of a nest, of the instructions before an index
-abbrev pub region : StackCode → (ℕ → Entry) → List ℕ → ℕ → Cost
+abbrev pub region : StackCode → (ℕ → TableEntry) → List ℕ → ℕ → Cost
 region code table nest zero = no_cost
 region code table nest (suc index) =
     plus_cost (region code table nest index) (share code nest (table index).nest (cost_at code index))

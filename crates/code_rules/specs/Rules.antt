@@ -13,7 +13,7 @@ use Rattle.template_code.specs.declared.flow.Flow.{Flow}
 use Rattle.template_code.specs.declared.instr.Instr.{Instr}
 use Rattle.template_code.specs.declared.limits.TheConstants.{MAX_INSTRUCTIONS, MAX_SLOTS, MAX_LOOPS}
 use Rattle.code_rules.specs.Costs.{is_empty}
-use Rattle.code_rules.specs.Table.{Entry, nest_after}
+use Rattle.code_rules.specs.Table.{TableEntry, nest_after}
 use Rattle.code_rules.specs.declared.rule.Rule.{Rule}
 use Rattle.code_rules.specs.declared.rule.Rule.TheVariants.{V1, V2, V3, V4, V5, V6, V7, V8, V9, V10, V11, V12}
 
@@ -40,7 +40,7 @@ jumps_among code (suc index) target =
 
 -- the nests of the earlier instructions that jump to one, that of an `Each` being the one round its loop; no later one
 -- has a valid target there
-abbrev pub nests_to : StackCode → (ℕ → Entry) → ℕ → List (List ℕ)
+abbrev pub nests_to : StackCode → (ℕ → TableEntry) → ℕ → List (List ℕ)
 nests_to code table index = map (λ source. (table source).nest) (jumps_among code index index)
 
 abbrev pub same_nest : List ℕ → List ℕ → Bool
@@ -77,7 +77,7 @@ lacks_loop named count = option_map_or (λ k. not (nat_lt k count)) named false
 
 -- the first of the rules up to V12 that an instruction with that index and that entry breaks, to which jumps from these
 -- nests go
-abbrev pub broken_by : StackCode → ℕ → List (List ℕ) → Instr → Entry → Option Rule
+abbrev pub broken_by : StackCode → ℕ → List (List ℕ) → Instr → TableEntry → Option Rule
 broken_by code index sources i e =
     if nat_eq index MAX_INSTRUCTIONS then Some V1
     else if not (names_entries code i) then Some V2
@@ -98,11 +98,11 @@ abbrev pub broken_beyond : List Instr → ℕ → Option Rule
 broken_beyond [] zero = Some V1
 broken_beyond is index = None
 
-abbrev pub broken_where : StackCode → ℕ → List (List ℕ) → Option Instr → Entry → Option Rule
+abbrev pub broken_where : StackCode → ℕ → List (List ℕ) → Option Instr → TableEntry → Option Rule
 broken_where code index sources instr e =
     option_map_or (λ i. broken_by code index sources i e) instr (broken_beyond code.instrs index)
 
 -- the first of the rules up to V12 that is broken at an index, by a table
-abbrev pub broken : StackCode → (ℕ → Entry) → ℕ → Option Rule
+abbrev pub broken : StackCode → (ℕ → TableEntry) → ℕ → Option Rule
 broken code table index =
     broken_where code index (nests_to code table index) (slice_get code.instrs index) (table index)

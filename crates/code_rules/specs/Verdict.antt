@@ -8,7 +8,7 @@ use Rattle.template_code.specs.declared.flow.Flow.{Flow}
 use Rattle.template_code.specs.declared.instr.Instr.{Instr}
 use Rattle.code_rules.specs.Bounds.{bound_fits}
 use Rattle.code_rules.specs.Costs.{pushed_bounds, bounds_at, cost_fits}
-use Rattle.code_rules.specs.Table.{Entry, IsTable, entry_at}
+use Rattle.code_rules.specs.Table.{TableEntry, IsTable, entry_at}
 use Rattle.code_rules.specs.Rules.{broken}
 use Rattle.code_rules.specs.Regions.{region}
 use Rattle.code_rules.specs.declared.rule.Rule.{Rule}
@@ -16,7 +16,7 @@ use Rattle.code_rules.specs.declared.rule.Rule.TheVariants.{V13}
 
 -- the code has a table by which no rule up to V12 is broken
 pub record IsWellFormed (code : StackCode) : Type 0 where
-  pub table : ℕ → Entry
+  pub table : ℕ → TableEntry
   pub follows : IsTable code table
   pub unbroken : (index : ℕ) → broken code table index ≡ None
 
@@ -27,13 +27,13 @@ judged_nests f nest = nest ∷ []
 
 -- the bound of a slot that the instruction pushes, or the cost up to and with it of a region that is judged there,
 -- has a coefficient that is too large
-abbrev pub is_over : StackCode → (ℕ → Entry) → ℕ → Option Instr → Bool
+abbrev pub is_over : StackCode → (ℕ → TableEntry) → ℕ → Option Instr → Bool
 is_over code table index None = false
 is_over code table index (Some i) =
     not (list_all bound_fits (pushed_bounds code i (bounds_at code index))
     && list_all (λ nest. cost_fits (region code table nest (suc index))) (judged_nests (flow i) (table index).nest))
 
-abbrev pub is_over_at : StackCode → (ℕ → Entry) → ℕ → Bool
+abbrev pub is_over_at : StackCode → (ℕ → TableEntry) → ℕ → Bool
 is_over_at code table index = is_over code table index (slice_get code.instrs index)
 
 -- no bound and no cost has a coefficient that is too large
@@ -46,12 +46,12 @@ or_over None true = Some V13
 or_over None false = None
 
 -- the first of all rules that is broken at an index, by a table
-abbrev pub verdict : StackCode → (ℕ → Entry) → ℕ → Option Rule
+abbrev pub verdict : StackCode → (ℕ → TableEntry) → ℕ → Option Rule
 verdict code table index = or_over (broken code table index) (is_over_at code table index)
 
 -- the first index at which a rule is broken, and the first rule that is broken there
 pub record IsViolation (code : StackCode) (index : ℕ) (rule : Rule) : Type 0 where
-  pub table : ℕ → Entry
+  pub table : ℕ → TableEntry
   pub follows : IsTable code table
   pub before : (earlier : ℕ) → earlier < index → verdict code table earlier ≡ None
   pub here : verdict code table index ≡ Some rule

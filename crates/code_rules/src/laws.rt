@@ -1,9 +1,9 @@
 //! Laws over the definitions, for all code: functions that do nothing, whose contracts are the laws.
-ghost use Rattle.code_rules.specs.Laws.{EachHasTable, TableIsOne, EachIsJudged, NoneIsBoth, ViolationIsOne};
-ghost use Rattle.code_rules.specs.Laws.{EachIsFormed, NoneIsBothFormed, FormedIsLimited, FormedViolatesV13};
-ghost use Rattle.code_rules.specs.Laws.{EffectsAreRuled, EffectsAreKinded, EffectsAreSteps, JumpsLand, LoopsRepeat};
-ghost use Rattle.code_rules.specs.Laws.{BoundsFollow, OwnRegionGrows, RegionOpens, RegionCloses, WholeHasNoItem};
-ghost use Rattle.code_rules.specs.Laws.{NoneEndsInZero, PrintedKeepsValues, BudgetIsSharper};
+ghost use Rattle.code_rules.specs.Shown.Laws.{EachHasTable, TableIsOne, EachIsJudged, NoneIsBoth, ViolationIsOne};
+ghost use Rattle.code_rules.specs.Shown.Laws.{EachIsFormed, NoneIsBothFormed, FormedIsLimited, FormedViolatesV13};
+ghost use Rattle.code_rules.specs.Shown.Laws.{EffectsAreRuled, EffectsAreKinded, EffectsAreSteps, JumpsLand, LoopsRepeat};
+ghost use Rattle.code_rules.specs.Shown.Laws.{BoundsFollow, OwnRegionGrows, RegionOpens, RegionCloses, WholeHasNoItem};
+ghost use Rattle.code_rules.specs.Shown.Laws.{NoneEndsInZero, PrintedKeepsValues, BudgetIsSharper};
 
 /// Code has one table.
 pub fn law_code_has_one_table()

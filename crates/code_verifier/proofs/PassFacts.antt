@@ -19,7 +19,7 @@ use Rattle.code_rules.specs.Costs.{cost_fits}
 use Rattle.code_rules.specs.Regions.{region, Budget}
 use Rattle.code_rules.specs.Rules.{jumps, jumps_among, nests_to, same_nest, closes_wrongly, broken_by, broken_beyond}
 use Rattle.code_rules.specs.Rules.{broken_where, broken}
-use Rattle.code_rules.specs.Table.{Entry, blank, nest_after, entry_at}
+use Rattle.code_rules.specs.Table.{TableEntry, blank, nest_after, entry_at}
 use Rattle.code_rules.specs.Verdict.{is_over, is_over_at, or_over, verdict, IsViolation}
 use Rattle.code_rules.specs.declared.rule.Rule.{Rule}
 use Rattle.code_rules.specs.declared.rule.Rule.TheVariants.{V1}
@@ -94,7 +94,7 @@ verdict-keeps code index i at v =
 -- what is judged of an instruction is the verdict at its index
 module _ (code : StackCode) (index : ℕ) (i : Instr) (slots : List Slot) (loops : List OpenLoop) (marks : List Mark)
     (spent : Cost) (k : IsKnown code index slots loops marks spent) (at : slice_get code.instrs index ≡ Some i) where
-  abbrev here : Entry
+  abbrev here : TableEntry
   here = entry_at code index
 
   abbrev sources : List (List ℕ)

@@ -1,3 +1,4 @@
 pub mod Documents
 pub mod FileFacts
+pub mod OneStream
 pub mod PartsWritten

@@ -1,3 +1,4 @@
+pub mod Ends
 pub mod Files
 pub mod Lines
 pub mod Output

@@ -6,7 +6,7 @@ use std::alloc::{AllocError, Global};
 use std::marker::Model;
 
 /// One step into a value.
-#[derive(Debug, Drop)]
+#[derive(Clone, Debug, Drop)]
 pub enum Step {
     /// To the field of that name.
     Name(Text),
@@ -22,16 +22,6 @@ impl Step {
         ensures { IfOk result (λ step. step ≡ Step.Name name.now) }
     {
         Ok(Step::Name(Text::from(String::from_str(alloc, name)?)))
-    }
-
-    /// A copy.
-    pub fn try_clone(&self) -> Result<Step, AllocError>
-        ensures { IfOk result (λ copy. copy ≡ self.now) }
-    {
-        match self {
-            Step::Name(name) => Ok(Step::Name(name.try_clone()?)),
-            Step::Index(index) => Ok(Step::Index(*index)),
-        }
     }
 }
 
@@ -64,15 +54,16 @@ impl Path {
     {
         self.steps.as_slice()
     }
+}
 
-    /// A copy.
-    pub fn try_clone(&self) -> Result<Path, AllocError>
-        ensures { IfOk result (λ copy. copy ≡ self.now) }
-    {
-        let mut steps = Vec::new(*self.steps.allocator());
-        for step in self.steps.as_slice() {
-            steps.push(step.try_clone()?)?;
-        }
-        Ok(Path { steps })
+impl Clone for Path {
+    ghost use Rattle.std.specs.Prelude.{◌≡◌};
+
+    ghost is_clone = { λ original copy. copy ≡ original };
+
+    fn clone(&self) -> Result<Path, AllocError> {
+        Ok(Path {
+            steps: self.steps.clone()?,
+        })
     }
 }

@@ -46,7 +46,7 @@ impl HarEntries {
             return Err(HarError::MomentOutOfRange);
         }
         let timed = with_moments(alloc, exchanges)?;
-        let target = target.try_clone()?;
+        let target = target.clone()?;
         Ok(HarEntries { target, timed })
     }
 
@@ -81,7 +81,7 @@ fn timed_exchange(shared: &SharedExchange) -> Result<Timed, AllocError>
     ensures { IfOk result (λ timed. timed.exchange ≡ shared.now) }
 {
     Ok(Timed {
-        exchange: shared.try_clone()?,
+        exchange: shared.clone()?,
         shown: clock_at(shared.exchange().started_ms),
     })
 }

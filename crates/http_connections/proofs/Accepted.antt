@@ -4,7 +4,7 @@ use Rattle.std.proofs.Common.{subst, sym}
 use Rattle.http_connections.specs.Inner.Accepted.{AreWanted}
 use Rattle.http_connections.specs.Sent.{Giver}
 use Rattle.http_connections.specs.Site.{IsConnectionFor, giver_of}
-use Rattle.http_connections.specs.declared.service.MessageService.{MessageService}
+use Rattle.http_connections.specs.declared.request.service.MessageService.{MessageService}
 
 -- one fewer is wanted
 abbrev fewer : Option ℕ → Option ℕ

@@ -5,11 +5,11 @@ use Rattle.std.proofs.Common.{append-nil, sym, ap, subst, ◌∙◌}
 use Rattle.futures.specs.Runs.{Runs, After}
 use Rattle.http_body.specs.Frame.{bytes_in, joined_data}
 use Rattle.http_body.specs.declared.frame.Frame.{Frame}
-use Rattle.http_connections.specs.Content.{Exceeds, Fails, Gathers, IsGathered}
+use Rattle.http_connections.specs.Content.{Exceeds, BodyFails, Gathers, IsGathered}
 use Rattle.http_connections.specs.Inner.Pushed.{IsPushed}
-use Rattle.http_connections.specs.declared.content_error.ContentError.{ContentError}
-use Rattle.http_connections.specs.declared.content_error.ContentError.TheVariants.{Late, Malformed, OutOfMemory}
-use Rattle.http_connections.specs.declared.content_error.ContentError.TheVariants.{TooLong}
+use Rattle.http_connections.specs.declared.request.content_error.ContentError.{ContentError}
+use Rattle.http_connections.specs.declared.request.content_error.ContentError.TheVariants.{Late, Malformed, OutOfMemory}
+use Rattle.http_connections.specs.declared.request.content_error.ContentError.TheVariants.{TooLong}
 use Rattle.mock_request.specs.declared.snapshot.TheConstants.{BODY_LIMIT}
 
 module _ {E : Type 0} (old : Runs (Result (Frame (List ℕ)) E)) where
@@ -96,7 +96,7 @@ module _ {E : Type 0} (old : Runs (Result (Frame (List ℕ)) E)) where
                 more.over;
           }
 
-      fails_after : Fails new → Fails old
+      fails_after : BodyFails new → BodyFails old
       fails_after more = record {
         frames = frame ∷ more.frames;
         error = more.error;

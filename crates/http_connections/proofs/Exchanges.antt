@@ -6,14 +6,14 @@ use Rattle.futures.specs.declared.task.Poll.TheVariants.{Ready, Pending}
 use Rattle.http.specs.declared.request.Parts.{Parts}
 use Rattle.http.specs.declared.request.Request.{Request}
 use Rattle.http.specs.declared.response.Response.{Response}
-use Rattle.http_connections.specs.Content.{IsAnswerFor, IsAnswerTo, IsContentOf, IsRefusal, Refuses}
+use Rattle.http_connections.specs.Content.{IsAnswerFor, IsAnswerTo, IsContentOf, IsEmptyAnswer, Refuses}
 use Rattle.http_connections.specs.Sent.{IsExchangeFor, IsSentFor}
-use Rattle.http_connections.specs.declared.content_error.ContentError.{ContentError}
-use Rattle.http_connections.specs.declared.content_error.ContentError.TheVariants.{Late, Malformed, OutOfMemory, TooLong}
+use Rattle.http_connections.specs.declared.request.content_error.ContentError.{ContentError}
+use Rattle.http_connections.specs.declared.request.content_error.ContentError.TheVariants.{Late, Malformed, OutOfMemory, TooLong}
 
 -- memory ran out for a request that has content to be answered with
 refused : {C : Type 0} (IsEmpty : C → Type 0) (gathered : Result (List ℕ) ContentError) (body : List ℕ)
-    → IsContentOf gathered body → (made : Response C) → IsRefusal IsEmpty 503 made
+    → IsContentOf gathered body → (made : Response C) → IsEmptyAnswer IsEmpty 503 made
     → Refuses IsEmpty gathered made
 refused IsEmpty (Ok content) body is made refusal = refusal
 refused IsEmpty (Err TooLong) body is made refusal = refusal

@@ -1,5 +1,5 @@
 mod Accepted
-mod BegunLemmas
+mod ProgressLemmas
 mod ContentLemmas
 mod Exchanges
 mod SeatLemmas

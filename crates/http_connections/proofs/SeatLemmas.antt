@@ -22,7 +22,7 @@ module _ {S : Type 0} (joins : S → S → S → Result (Unit {0}) S → Type 0)
   taken_over own own' (Some seat) None is_free taken = joined_some own own' seat (Ok tt) taken.0
   taken_over own own' (Some seat) (Some kept) is_free taken = joined_some own own' seat (Err kept) taken.0
 
--- the place has the seat that was split off
+-- the cell has the seat that was split off
 pub filled_some : {S : Type 0} (number_of : S → ℕ) (splits : S → S → Option S → Type 0) (own own' held : Option S)
     (number : ℕ)
     → IsSomeAnd held (λ seat. (number_of seat ≡ number) × OnSeat own own' (λ old new. splits old new (Some seat)))

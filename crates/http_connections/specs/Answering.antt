@@ -6,9 +6,9 @@ use Rattle.http.specs.declared.response.Response.{Response}
 use Rattle.http_connections.specs.Content.{IsAnsweredAtOnce, IsContentAtOnce, IsNewFor}
 use Rattle.http_connections.specs.Sent.{Giver}
 use Rattle.http_connections.specs.Site.{giver_of}
-use Rattle.http_connections.specs.declared.gathering.Gathering.{Gathering}
-use Rattle.http_connections.specs.declared.service.Answering.{Answering}
-use Rattle.http_connections.specs.declared.service.Answering.TheVariants.{Forwarding, Made, Waiting}
+use Rattle.http_connections.specs.declared.request.gathering.Gathering.{Gathering}
+use Rattle.http_connections.specs.declared.request.service.Answering.{Answering}
+use Rattle.http_connections.specs.declared.request.service.Answering.TheVariants.{Pending, Made, Waiting}
 use Rattle.http_messages.specs.TransferCoding.{HasOtherCoding}
 use Rattle.hyper.specs.declared.body.incoming.Incoming.{Incoming}
 
@@ -22,7 +22,7 @@ module _ {R A Seat Reply Exchange Content I : Type 0} (IsEmpty : Content → Typ
   IsCalled (Waiting waiting) =
       (head_of waiting.value.request ≡ head_of request) × IsNewFor waiting.value.content (body_of request)
       × ¬ (HasOtherCoding (head_of request).headers) × (giver_of waiting.value.slot ≡ by)
-  IsCalled (Forwarding forwarding) =
+  IsCalled (Pending pending) =
       ((content : List ℕ) × IsContentAtOnce (body_of request) content
-      × forwards by (record { head = head_of request; body = content }) forwarding.exchange.value)
-      × (giver_of forwarding.slot ≡ by)
+      × forwards by (record { head = head_of request; body = content }) pending.exchange.value)
+      × (giver_of pending.slot ≡ by)

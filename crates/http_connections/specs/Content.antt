@@ -13,10 +13,10 @@ use Rattle.hyper.specs.Incoming.{size_left}
 use Rattle.hyper.specs.declared.body.incoming.Incoming.{Incoming}
 use Rattle.http_messages.specs.TransferCoding.{HasOtherCoding}
 use Rattle.http_connections.specs.Sent.{IsSentFor}
-use Rattle.http_connections.specs.declared.content_error.ContentError.{ContentError}
-use Rattle.http_connections.specs.declared.content_error.ContentError.TheVariants.{Late, Malformed, OutOfMemory}
-use Rattle.http_connections.specs.declared.content_error.ContentError.TheVariants.{TooLong}
-use Rattle.http_connections.specs.declared.gathering.Gathering.{Gathering}
+use Rattle.http_connections.specs.declared.request.content_error.ContentError.{ContentError}
+use Rattle.http_connections.specs.declared.request.content_error.ContentError.TheVariants.{Late, Malformed, OutOfMemory}
+use Rattle.http_connections.specs.declared.request.content_error.ContentError.TheVariants.{TooLong}
+use Rattle.http_connections.specs.declared.request.gathering.Gathering.{Gathering}
 use Rattle.mock_request.specs.declared.snapshot.TheConstants.{BODY_LIMIT}
 
 module _ {E : Type 0} (source : Runs (Result (Frame (List ℕ)) E)) (held : List ℕ) where
@@ -36,7 +36,7 @@ module _ {E : Type 0} (source : Runs (Result (Frame (List ℕ)) E)) (held : List
     pub over : BODY_LIMIT < length (held ++ (joined_data frames ++ bytes_in last.kind))
 
 -- a body gave frames, and then an error
-pub record Fails {E : Type 0} (source : Runs (Result (Frame (List ℕ)) E)) : Type 0 where
+pub record BodyFails {E : Type 0} (source : Runs (Result (Frame (List ℕ)) E)) : Type 0 where
   pub frames : List (Frame (List ℕ))
   pub error : E
   pub came : source (map Ok frames) (Some (Err error))
@@ -49,7 +49,7 @@ IsGathered source true held (Ok content) = ⊥
 IsGathered source true held (Err TooLong) = ⊤
 IsGathered source false held (Ok content) = Gathers source held content
 IsGathered source false held (Err TooLong) = Exceeds source held
-IsGathered source is_too_long held (Err Malformed) = Fails source
+IsGathered source is_too_long held (Err Malformed) = BodyFails source
 IsGathered source is_too_long held (Err Late) = ⊤
 IsGathered source is_too_long held (Err OutOfMemory) = ⊤
 
@@ -80,23 +80,23 @@ IsContentOf (Err OutOfMemory) body = ⊥
 
 module _ {C : Type 0} (IsEmpty : C → Type 0) where
   -- an answer of the connection's own, with this status and without content
-  pub record IsRefusal (status : ℕ) (made : Response C) : Type 0 where
+  pub record IsEmptyAnswer (status : ℕ) (made : Response C) : Type 0 where
     pub answers : (response.head_of made).status ≡ status
     pub empty : IsEmpty (response.body_of made)
 
   -- how the connection itself refuses a request: where its content is malformed, or late while another connection waits
-  -- for its place, and where memory runs out
+  -- for room, and where memory runs out
   abbrev pub Refuses : Result (List ℕ) ContentError → Response C → Type 0
-  Refuses (Ok content) made = IsRefusal 503 made
-  Refuses (Err TooLong) made = IsRefusal 503 made
-  Refuses (Err Malformed) made = IsRefusal 400 made
-  Refuses (Err Late) made = IsRefusal 408 made
-  Refuses (Err OutOfMemory) made = IsRefusal 503 made
+  Refuses (Ok content) made = IsEmptyAnswer 503 made
+  Refuses (Err TooLong) made = IsEmptyAnswer 503 made
+  Refuses (Err Malformed) made = IsEmptyAnswer 400 made
+  Refuses (Err Late) made = IsEmptyAnswer 408 made
+  Refuses (Err OutOfMemory) made = IsEmptyAnswer 503 made
 
   -- what is sent for the message, or that memory ran out for it
   abbrev pub IsAnswerFor : (Request (List ℕ) → Response C → Type 0) → Request (List ℕ) → Response C
       → Type 0
-  IsAnswerFor gives message made = IsSentFor IsEmpty gives message made ⊎ IsRefusal 503 made
+  IsAnswerFor gives message made = IsSentFor IsEmpty gives message made ⊎ IsEmptyAnswer 503 made
 
   -- what is sent for a request with this head, after this came of gathering its content
   abbrev pub IsAnswerTo : (Request (List ℕ) → Response C → Type 0) → Parts → Result (List ℕ) ContentError
@@ -112,4 +112,4 @@ module _ {C : Type 0} (IsEmpty : C → Type 0) where
   IsAnsweredAtOnce gives message made =
       ((content : List ℕ) × IsContentAtOnce (request.body_of message) content
       × IsSentFor IsEmpty gives (record { head = request.head_of message; body = content }) made)
-      ⊎ ((HasOtherCoding (request.head_of message).headers × IsRefusal 501 made) ⊎ IsRefusal 503 made)
+      ⊎ ((HasOtherCoding (request.head_of message).headers × IsEmptyAnswer 501 made) ⊎ IsEmptyAnswer 503 made)

@@ -1,6 +1,6 @@
 -- Words of private clauses.
 pub mod Accepted
-pub mod Begun
+pub mod Progress
 pub mod Pushed
 pub mod Ready
 pub mod Seat

@@ -2,8 +2,8 @@
 use Rattle.std.specs.Prelude.{◌≡◌, ℕ, List}
 use Rattle.http.specs.declared.request.Request.{Request}
 use Rattle.http.specs.declared.response.Response.{Response}
-use Rattle.http_connections.specs.declared.begun.Begun.{Begun}
-use Rattle.http_connections.specs.declared.begun.Begun.TheVariants.{Answered, Forwarding}
+use Rattle.http_connections.specs.declared.request.progress.Progress.{Progress}
+use Rattle.http_connections.specs.declared.request.progress.Progress.TheVariants.{Answered, Pending}
 use Rattle.http_messages.specs.Wire.{IsSent}
 
 -- it is what is sent of an answer that may be given to the message; `IsEmpty` says which content has no bytes
@@ -13,10 +13,10 @@ IsSentFor {C} IsEmpty gives message made = (answer : Response C) × gives messag
 
 -- the message has an answer that may be given to it, or an exchange by which it may be forwarded, and which
 -- may be polled
-abbrev pub IsBegun : {E C : Type 0} → (Request (List ℕ) → Response C → Type 0)
-    → (Request (List ℕ) → E → Type 0) → (E → Type 0) → Request (List ℕ) → Begun E C → Type 0
-IsBegun gives forwards can_poll message (Answered answer) = gives message answer
-IsBegun gives forwards can_poll message (Forwarding exchange) =
+abbrev pub IsProgress : {E C : Type 0} → (Request (List ℕ) → Response C → Type 0)
+    → (Request (List ℕ) → E → Type 0) → (E → Type 0) → Request (List ℕ) → Progress E C → Type 0
+IsProgress gives forwards can_poll message (Answered answer) = gives message answer
+IsProgress gives forwards can_poll message (Pending exchange) =
     forwards message exchange.value × can_poll exchange.value
 
 -- the exchange goes on from one by which the message may be forwarded: what it gives, that one gives

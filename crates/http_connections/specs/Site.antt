@@ -3,10 +3,10 @@ use Rattle.std.specs.Prelude.{◌≡◌, ℕ}
 use Rattle.std.specs.Arc.{arc_value}
 use Rattle.std.specs.declared.sync.Arc.{Arc}
 use Rattle.http_connections.specs.Sent.{Giver}
-use Rattle.http_connections.specs.declared.seat_pool.SeatPool.{SeatPool}
-use Rattle.http_connections.specs.declared.seat_slot.SeatSlot.{SeatSlot}
+use Rattle.http_connections.specs.declared.seats.pool.SeatPool.{SeatPool}
+use Rattle.http_connections.specs.declared.seats.slot.SeatSlot.{SeatSlot}
 use Rattle.http_connections.specs.declared.serve_on.Server.{Server}
-use Rattle.http_connections.specs.declared.service.MessageService.{MessageService}
+use Rattle.http_connections.specs.declared.request.service.MessageService.{MessageService}
 use Rattle.http_connections.specs.declared.settings.Settings.{Settings}
 
 module _ {A Seat Reply Exchange Content : Type 0} where

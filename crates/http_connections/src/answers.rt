@@ -2,10 +2,10 @@
 ghost use Rattle.std.specs.Prelude.{◌≡◌, List, ℕ, Option, Result, IfErr, IfOk};
 ghost use Rattle.http.specs.declared.request.Request.{Request as Message};
 ghost use Rattle.http.specs.declared.response.Response.{Response as Answer};
-ghost use Rattle.http_connections.specs.Sent.{IsBegun};
+ghost use Rattle.http_connections.specs.Sent.{IsProgress};
 ghost use Rattle.http_messages.specs.declared.error.ServiceError.TheVariants.{OutOfMemory};
 
-use crate::begun::Begun;
+use crate::request::progress::Progress;
 use bytes::Bytes;
 use futures::Future;
 use http::{Request, Response};
@@ -66,8 +66,8 @@ pub trait Answers: Drop {
         handle: &Handle,
         seat: &mut Self::Seat,
         request: &Request<Bytes>,
-    ) -> Result<Begun<Self::Exchange, Self::Content>, ServiceError>
-        ensures ok { IfOk result (IsBegun (gives self.now seat.old seat.new) (forwards self.now seat.old seat.new)
+    ) -> Result<Progress<Self::Exchange, Self::Content>, ServiceError>
+        ensures ok { IfOk result (IsProgress (gives self.now seat.old seat.new) (forwards self.now seat.old seat.new)
             Self.Exchange.can_poll request.now) }
         ensures err { IfErr result (λ error. (error ≡ OutOfMemory)
             × unanswered self.now seat.old seat.new request.now) };

@@ -6,20 +6,24 @@ ghost use Rattle.http_connections.specs.declared.seats.Admission.TheVariants as 
 ghost use Rattle.http_connections.specs.declared.seats.Assignment.TheVariants as given;
 ghost use Rattle.http_connections.specs.declared.seats.Filled.TheVariants as filled;
 
+pub mod cell;
+pub mod pool;
+pub mod slot;
+
+use crate::accept::room::Room;
 use crate::answers::Answers;
-use crate::room::Room;
-use crate::seat_place::SeatPlace;
+use crate::seats::cell::SeatCell;
 use std::alloc::{AllocError, Global};
 use std::sync::{Arc, Wait};
 
-/// The server's own seat, and a place for that of each connection. A place without a connection is free, and has no
+/// The server's own seat, and a cell for that of each connection. A cell without a connection is free, and has no
 /// seat. Where memory ran out when its seat was to be joined, it keeps that seat and isn't used again.
 #[derive(Drop)]
 pub(crate) struct Seats<S> {
     own: Option<S>,
-    places: Vec<Arc<SeatPlace<S>>>,
-    free: Vec<Arc<SeatPlace<S>>>,
-    /// How many places connections have.
+    cells: Vec<Arc<SeatCell<S>>>,
+    free: Vec<Arc<SeatCell<S>>>,
+    /// How many cells connections have.
     taken: u64,
     /// How many more connections are wanted; `None` for any number.
     wanted: Option<u64>,
@@ -41,17 +45,17 @@ pub(crate) enum Admission {
 /// What a connection that was accepted gets.
 #[derive(Drop)]
 pub(crate) enum Assignment<S> {
-    /// A place with a seat of this number.
-    Place(Arc<SeatPlace<S>>, u64),
+    /// A cell with a seat of this number.
+    Cell(Arc<SeatCell<S>>, u64),
     /// As many as were wanted were accepted before: the connection is closed.
     Enough,
-    /// No memory for a place: the connection is closed.
-    NoPlace,
+    /// No memory for a cell: the connection is closed.
+    NoCell,
     /// The server's seat can't be split: no more connections are accepted.
     NoSeat,
 }
 
-/// What became of a place that was free.
+/// What became of a cell that was free.
 enum Filled {
     /// It has a seat of this number.
     Seat(u64),
@@ -66,7 +70,7 @@ impl<S: Drop> Seats<S> {
     {
         Ok(Seats {
             own: None,
-            places: Vec::new(alloc),
+            cells: Vec::new(alloc),
             free: Vec::new(alloc),
             taken: 0,
             wanted,
@@ -127,7 +131,7 @@ impl<S: Drop> Seats<S> {
         self.wanted == Some(0)
     }
 
-    /// Whether a connection has a place.
+    /// Whether a connection has a cell.
     pub(crate) fn has_connections(&self) -> bool
         ensures { IsTrue result ↔ (0 < self.now.taken) }
     {
@@ -142,10 +146,10 @@ impl<S: Drop> Seats<S> {
         site: &A,
     ) -> Assignment<S>
         ensures given { elim result [
-          | given.Place place number ↦ (self.old.wanted ≢ Some 0) × OnSeat self.old.own self.new.own (λ old new.
+          | given.Cell cell number ↦ (self.old.wanted ≢ Some 0) × OnSeat self.old.own self.new.own (λ old new.
               (seat : S) × (A.number_of seat ≡ number) × A.splits site.now old new (Some seat))
           | given.Enough ↦ (self.old.wanted ≡ Some 0) × (self.new.own ≡ self.old.own)
-          | given.NoPlace ↦ (self.old.wanted ≢ Some 0) × (self.new.own ≡ self.old.own)
+          | given.NoCell ↦ (self.old.wanted ≢ Some 0) × (self.new.own ≡ self.old.own)
           | given.NoSeat ↦ (self.old.wanted ≢ Some 0) × HasNoSeat (A.splits site.now) self.old.own self.new.own
         ] }
         ensures wanted { self.new.wanted ≡ option_map (λ wanted. wanted - 1) self.old.wanted }
@@ -154,43 +158,43 @@ impl<S: Drop> Seats<S> {
             return Assignment::Enough;
         }
         self.wanted = self.wanted.map(|wanted| wanted.saturating_sub(1));
-        self.assign_place(rt, alloc, site)
+        self.assign_cell(rt, alloc, site)
     }
 
-    fn assign_place<R: Wait, A: Answers<Seat = S>>(
+    fn assign_cell<R: Wait, A: Answers<Seat = S>>(
         &mut self,
         rt: &R,
         alloc: Global,
         site: &A,
     ) -> Assignment<S>
         ensures given { elim result [
-          | given.Place place number ↦ OnSeat self.old.own self.new.own (λ old new.
+          | given.Cell cell number ↦ OnSeat self.old.own self.new.own (λ old new.
               (seat : S) × (A.number_of seat ≡ number) × A.splits site.now old new (Some seat))
           | given.Enough ↦ ⊥
-          | given.NoPlace ↦ self.new.own ≡ self.old.own
+          | given.NoCell ↦ self.new.own ≡ self.old.own
           | given.NoSeat ↦ HasNoSeat (A.splits site.now) self.old.own self.new.own
         ] }
         ensures wanted { self.new.wanted ≡ self.old.wanted }
     {
-        let Ok(place) = self.free_place(alloc) else {
-            return Assignment::NoPlace;
+        let Ok(cell) = self.free_cell(alloc) else {
+            return Assignment::NoCell;
         };
-        match self.fill_place(rt, site, &place) {
+        match self.fill_cell(rt, site, &cell) {
             Filled::Seat(number) => {
                 self.taken = self.taken.saturating_add(1);
-                place.course.begin();
-                Assignment::Place(place, number)
+                cell.state.begin();
+                Assignment::Cell(cell, number)
             }
-            Filled::Occupied => Assignment::NoPlace,
+            Filled::Occupied => Assignment::NoCell,
             Filled::NoSeat => Assignment::NoSeat,
         }
     }
 
-    fn fill_place<R: Wait, A: Answers<Seat = S>>(
+    fn fill_cell<R: Wait, A: Answers<Seat = S>>(
         &mut self,
         rt: &R,
         site: &A,
-        place: &SeatPlace<S>,
+        cell: &SeatCell<S>,
     ) -> Filled
         ensures filled { elim result [
           | filled.Seat number ↦ OnSeat self.old.own self.new.own (λ old new.
@@ -200,7 +204,7 @@ impl<S: Drop> Seats<S> {
         ] }
         ensures wanted { self.new.wanted ≡ self.old.wanted }
     {
-        let mut held = place.seat.lock(rt);
+        let mut held = cell.seat.lock(rt);
         self.fill(rt, site, &mut *held)
     }
 
@@ -246,37 +250,37 @@ impl<S: Drop> Seats<S> {
         }
     }
 
-    // A place that is free, or a new one.
-    fn free_place(&mut self, alloc: Global) -> Result<Arc<SeatPlace<S>>, AllocError>
+    // A cell that is free, or a new one.
+    fn free_cell(&mut self, alloc: Global) -> Result<Arc<SeatCell<S>>, AllocError>
         ensures own { self.new.own ≡ self.old.own }
         ensures wanted { self.new.wanted ≡ self.old.wanted }
     {
-        if let Some(place) = self.free.pop() {
-            return Ok(place);
+        if let Some(cell) = self.free.pop() {
+            return Ok(cell);
         }
-        self.places.reserve(1)?;
-        self.free.reserve(self.places.len().saturating_add(1))?;
-        let course = self.room.course(alloc)?;
-        let place = Arc::new(alloc, SeatPlace::new(course))?;
-        self.places.push(Arc::try_clone(&place)?)?;
-        Ok(place)
+        self.cells.reserve(1)?;
+        self.free.reserve(self.cells.len().saturating_add(1))?;
+        let state = self.room.state(alloc)?;
+        let cell = Arc::new(alloc, SeatCell::new(state))?;
+        self.cells.push(Arc::try_clone(&cell)?)?;
+        Ok(cell)
     }
 
     pub(crate) fn release<R: Wait, A: Answers<Seat = S>>(
         &mut self,
         rt: &R,
         site: &A,
-        place: Arc<SeatPlace<S>>,
+        cell: Arc<SeatCell<S>>,
     )
         ensures own { (self.new.own ≡ self.old.own) ⊎ OnSeat self.old.own self.new.own (λ old new.
             (seat : S) × (joined : Result (Unit {0}) S) × A.joins site.now old seat new joined) }
         ensures taken { self.new.taken ≡ self.old.taken - 1 }
     {
         self.taken = self.taken.saturating_sub(1);
-        place.course.end();
-        if self.vacate(rt, site, &*place) {
-            // There is room for each place.
-            let _ = self.free.push(place);
+        cell.state.end();
+        if self.vacate(rt, site, &*cell) {
+            // There is room for each cell.
+            let _ = self.free.push(cell);
         }
     }
 
@@ -284,17 +288,17 @@ impl<S: Drop> Seats<S> {
         &mut self,
         rt: &R,
         site: &A,
-        place: &SeatPlace<S>,
+        cell: &SeatCell<S>,
     ) -> bool
         ensures own { (self.new.own ≡ self.old.own) ⊎ OnSeat self.old.own self.new.own (λ old new.
             (seat : S) × (joined : Result (Unit {0}) S) × A.joins site.now old seat new joined) }
         ensures taken { self.new.taken ≡ self.old.taken }
     {
-        let mut held = place.seat.lock(rt);
+        let mut held = cell.seat.lock(rt);
         self.take_over(rt, site, &mut *held)
     }
 
-    // Joins the seat of a place, if it has one. Where it can't, the place keeps it, and isn't free.
+    // Joins the seat of a cell, if it has one. Where it can't, the cell keeps it, and isn't free.
     fn take_over<R: Wait, A: Answers<Seat = S>>(
         &mut self,
         rt: &R,
@@ -331,12 +335,12 @@ impl<S: Drop> Seats<S> {
         ensures { IfOk result (λ seats. IfSome self.old.own
             (λ first. (others : List S) × (seats.items ≡ first ∷ others))) }
     {
-        let mut seats = Vec::with_capacity(alloc, self.places.len().saturating_add(1))?;
+        let mut seats = Vec::with_capacity(alloc, self.cells.len().saturating_add(1))?;
         if let Some(own) = self.own.take() {
             seats.push(own)?;
         }
-        for place in &self.places {
-            if let Some(seat) = place.take(rt) {
+        for cell in &self.cells {
+            if let Some(seat) = cell.take(rt) {
                 seats.push(seat)?;
             }
         }

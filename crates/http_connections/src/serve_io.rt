@@ -3,13 +3,13 @@ ghost use Rattle.std.specs.Prelude.{◌≡◌, IfOk, Ok};
 ghost use Rattle.std.specs.Arc.{arc_value};
 ghost use Rattle.http_connections.specs.Site.{IsConnectionFor, giver_of};
 
+use crate::accept::coarse_clock::CoarseClock;
+use crate::accept::connection_state::ConnectionState;
+use crate::accept::connects::{Connecting, Connects, connection};
 use crate::answers::Answers;
-use crate::connects::{Connecting, Connects, connection};
-use crate::course::Course;
-use crate::hour::Hour;
-use crate::seat_place::SeatPlace;
-use crate::seat_slot::SeatSlot;
-use crate::service::MessageService;
+use crate::request::service::MessageService;
+use crate::seats::cell::SeatCell;
+use crate::seats::slot::SeatSlot;
 use bytes::Bytes;
 use futures::Future;
 use http_body::Body;
@@ -43,44 +43,44 @@ where
     I: AsyncRead + AsyncWrite,
     requires { (content : A.Content) → A.Content.can_poll content }
 {
-    let place = match place_of(rt.alloc()) {
-        Ok(place) => place,
+    let cell = match cell_of(rt.alloc()) {
+        Ok(cell) => cell,
         Err(_error) => return (Some(seat), Err(ServiceError::OutOfMemory)),
     };
     let number = A::number(&seat);
-    place.put(&rt, seat);
-    let served = serve_at(rt, runtime, site, &place, number, turns, io);
-    (place.take(&rt), served)
+    cell.put(&rt, seat);
+    let served = serve_at(rt, runtime, site, &cell, number, turns, io);
+    (cell.take(&rt), served)
 }
 
-// A place by itself, which has to make room for no other.
-fn place_of<S: Drop>(alloc: Global) -> Result<Arc<SeatPlace<S>>, AllocError> {
-    let hour = Arc::new(alloc, Hour::new())?;
-    let course = Arc::new(alloc, Course::new(hour))?;
-    course.begin();
-    Ok(Arc::new(alloc, SeatPlace::new(course))?)
+// A cell by itself, which has to make room for no other.
+fn cell_of<S: Drop>(alloc: Global) -> Result<Arc<SeatCell<S>>, AllocError> {
+    let clock = Arc::new(alloc, CoarseClock::new())?;
+    let state = Arc::new(alloc, ConnectionState::new(clock))?;
+    state.begin();
+    Ok(Arc::new(alloc, SeatCell::new(state))?)
 }
 
 fn slot_of<A: Answers>(
     alloc: Global,
     site: &Arc<A>,
-    place: &Arc<SeatPlace<A::Seat>>,
+    cell: &Arc<SeatCell<A::Seat>>,
     number: u64,
     handle: Rc<runtime::Handle>,
 ) -> Result<Arc<SeatSlot<A>>, AllocError>
     ensures { IfOk result (λ slot. giver_of slot ≡ record { site = arc_value site.now; number = number }) }
 {
     let site = Arc::try_clone(site)?;
-    let place = Arc::try_clone(place)?;
-    Ok(Arc::new(alloc, SeatSlot::new(site, place, number, handle))?)
+    let cell = Arc::try_clone(cell)?;
+    Ok(Arc::new(alloc, SeatSlot::new(site, cell, number, handle))?)
 }
 
-// Serves one connection by the seat of the place, which has this number.
+// Serves one connection by the seat of the cell, which has this number.
 fn serve_at<R, A, I>(
     rt: R,
     runtime: &mut LocalRuntime,
     site: &Arc<A>,
-    place: &Arc<SeatPlace<A::Seat>>,
+    cell: &Arc<SeatCell<A::Seat>>,
     number: u64,
     turns: u64,
     io: I,
@@ -101,8 +101,8 @@ where
     let Ok(handle) = Rc::new(rt.alloc(), handle) else {
         return Err(ServiceError::OutOfMemory);
     };
-    let slot = slot_of(rt.alloc(), site, place, number, handle)?;
-    run(rt, runtime, &connects, &timers, slot, &place.course, io)
+    let slot = slot_of(rt.alloc(), site, cell, number, handle)?;
+    run(rt, runtime, &connects, &timers, slot, &cell.state, io)
 }
 
 // Runs a connection to its end, whose requests are answered by the seat of the slot.
@@ -112,7 +112,7 @@ fn run<R, A, I, M, F>(
     connects: &M,
     timers: &Handle,
     slot: Arc<SeatSlot<A>>,
-    course: &Arc<Course>,
+    state: &Arc<ConnectionState>,
     io: I,
 ) -> Result<(), ServiceError>
 where
@@ -126,7 +126,7 @@ where
     ensures { IfOk result (λ _. (made : F) × IsConnectionFor M.makes connects.now io (giver_of slot) made
         × F.gives made (Ok tt)) }
 {
-    let Some(connection) = connection(rt, connects, timers, slot, course, io) else {
+    let Some(connection) = connection(rt, connects, timers, slot, state, io) else {
         return Err(ServiceError::OutOfMemory);
     };
     match runtime.block_on(&rt, connection) {

@@ -4,12 +4,12 @@ ghost use Rattle.std.specs.IoError.{error_kind};
 ghost use Rattle.std.specs.Arc.{arc_value};
 ghost use Rattle.http_connections.specs.Site.{settings_of, site_of};
 
-use crate::accepting::Accepting;
+use crate::accept::accepting::Accepting;
+use crate::accept::connects::Connecting;
+use crate::accept::pause::Pause;
 use crate::answers::Answers;
-use crate::connects::Connecting;
 use crate::ender::Ender;
-use crate::pause::Pause;
-use crate::seat_pool::SeatPool;
+use crate::seats::pool::SeatPool;
 use crate::settings::Settings;
 use bytes::Bytes;
 use http_body::Body;

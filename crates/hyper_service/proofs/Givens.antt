@@ -8,17 +8,17 @@ use Rattle.answering.specs.declared.forward.Forward.{Forward}
 use Rattle.answering.specs.declared.rendering.Rendering.{Rendering}
 use Rattle.http.specs.declared.request.Request.{Request as Message}
 use Rattle.http.specs.declared.response.Response.{Response}
-use Rattle.http_connections.specs.Sent.{IsBegun as IsBegunBy}
-use Rattle.http_connections.specs.declared.begun.Begun.{Begun}
-use Rattle.http_connections.specs.declared.begun.Begun.TheVariants.{Answered, Forwarding}
-use Rattle.hyper_service.specs.Given.{IsGiven, IsKept, IsLeft, IsPassedTo, IsUnanswered, SiteRules, IsRenderedBy}
+use Rattle.http_connections.specs.Sent.{IsProgress}
+use Rattle.http_connections.specs.declared.request.progress.Progress.{Progress}
+use Rattle.http_connections.specs.declared.request.progress.Progress.TheVariants.{Answered, Pending}
+use Rattle.hyper_service.specs.Given.{IsGivenToMessage, IsJournalKept, IsLeft, IsPassedTo, IsUnanswered, SiteRules, IsRenderedBy}
 use Rattle.hyper_service.specs.Inner.Begins.{Begins, IsForwardBegun, IsForwardingBy, IsRenderBegun, IsRenderingBy}
 use Rattle.hyper_service.specs.Inner.Exchange.{CanPoll, Gives}
 use Rattle.hyper_service.specs.declared.render_exchange.RenderExchange.{RenderExchange}
 use Rattle.hyper_service.specs.declared.site_exchange.SiteExchange.{SiteExchange}
 use Rattle.hyper_service.specs.declared.site_exchange.SiteExchange.TheVariants as kind
 use Rattle.hyper_service.specs.declared.site_exchange.SiteReply.TheVariants as came
-use Rattle.logbook.specs.Pages.{Book}
+use Rattle.logbook.specs.Pages.{Book as HistoryName}
 use Rattle.mapping_model.specs.declared.reply.Reply.{Reply}
 use Rattle.mock_request.specs.Request.{Request}
 use Rattle.proxy_client.specs.declared.error.ProxyError.{ProxyError}
@@ -41,7 +41,7 @@ at_unchanged_seat P seat (Err error) is = tt
 module _ (rules : SiteRules) where
   -- there is no answer, and the journal's limit is kept
   pub left_with : {Refusal T : Type 0} (P : Refusal → Type 0) (old middle new : Held) (message : Message (List ℕ))
-      → IsKept rules.journal rules.origin rules.history middle new → (result : Result T Refusal)
+      → IsJournalKept rules.journal rules.origin rules.history middle new → (result : Result T Refusal)
       → IfErr result (λ error. P error × IsLeft rules old middle message)
       → IfErr result (λ error. P error × IsUnanswered rules old new message)
   left_with P old middle new message kept (Ok begun) left = tt
@@ -76,7 +76,7 @@ module _ (rules : SiteRules) {E : Type 0} (reaches : List ℕ → Type 0) (sends
     module _ (can_poll : E → Type 0) (can_run : V → Type 0) where
       -- what becomes of a message that isn't answered at once
       passed : (old middle new : Held) (message : Message (List ℕ))
-          → IsKept rules.journal rules.origin rules.history middle new → (exchange : SiteExchange E V)
+          → IsJournalKept rules.journal rules.origin rules.history middle new → (exchange : SiteExchange E V)
           → ((forward : Forward) × (begun : Held) × IsToForward rules.origin rules.history old begun message forward
           × ((middle ≡ begun) × IsForwardingBy rules reaches sends exchanged can_poll forward exchange))
           ⊎ ((rendering : Rendering)
@@ -91,7 +91,7 @@ module _ (rules : SiteRules) {E : Type 0} (reaches : List ℕ → Type 0) (sends
               held = held;
               middle = given.1;
               begun = given.2;
-              kept = subst (λ held. IsKept rules.journal rules.origin rules.history held new) given.3.0 kept;
+              kept = subst (λ held. IsJournalKept rules.journal rules.origin rules.history held new) given.3.0 kept;
               sent = given.3.1.1;
             },
             (rw held refl, given.3.1.2),
@@ -112,10 +112,10 @@ module _ (rules : SiteRules) {E : Type 0} (reaches : List ℕ → Type 0) (sends
           )
 
       begun_with : (old middle new : Held) (message : Message (List ℕ))
-          → IsKept rules.journal rules.origin rules.history middle new
-          → (begun : Begun (SiteExchange E V) (List ℕ))
+          → IsJournalKept rules.journal rules.origin rules.history middle new
+          → (begun : Progress (SiteExchange E V) (List ℕ))
           → Begins rules reaches sends exchanged can_poll rendered can_run old middle message begun
-          → IsBegunBy (IsGiven rules reaches sends exchanged old new)
+          → IsProgress (IsGivenToMessage rules reaches sends exchanged old new)
           (IsPassedTo rules reaches sends exchanged rendered old new) (CanPoll can_poll can_run) message begun
       begun_with old middle new message kept (Answered response) (inl begun) =
           inl (record { middle = middle; begun = begun; kept = kept })
@@ -129,14 +129,14 @@ module _ (rules : SiteRules) {E : Type 0} (reaches : List ℕ → Type 0) (sends
         finished = given.3.2;
         kept = kept;
       }))
-      begun_with old middle new message kept (Forwarding exchange) given =
+      begun_with old middle new message kept (Pending exchange) given =
           passed old middle new message kept exchange.value given
 
       pub kept_with : {Refusal : Type 0} (old middle new : Held) (message : Message (List ℕ))
-          → IsKept rules.journal rules.origin rules.history middle new
-          → (result : Result (Begun (SiteExchange E V) (List ℕ)) Refusal)
+          → IsJournalKept rules.journal rules.origin rules.history middle new
+          → (result : Result (Progress (SiteExchange E V) (List ℕ)) Refusal)
           → IfOk result (Begins rules reaches sends exchanged can_poll rendered can_run old middle message)
-          → IfOk result (IsBegunBy (IsGiven rules reaches sends exchanged old new)
+          → IfOk result (IsProgress (IsGivenToMessage rules reaches sends exchanged old new)
           (IsPassedTo rules reaches sends exchanged rendered old new) (CanPoll can_poll can_run) message)
       kept_with old middle new message kept (Ok begun) given = begun_with old middle new message kept begun given
       kept_with old middle new message kept (Err error) given = tt
@@ -144,26 +144,26 @@ module _ (rules : SiteRules) {E : Type 0} (reaches : List ℕ → Type 0) (sends
       -- it is to be forwarded, and that was begun
       pub forward_begun : (old middle new : Held) (message : Message (List ℕ)) (forward : Forward)
           → IsToForward rules.origin rules.history old middle message forward → {Refusal : Type 0}
-          → (result : Result (Begun (SiteExchange E V) (List ℕ)) Refusal)
+          → (result : Result (Progress (SiteExchange E V) (List ℕ)) Refusal)
           → IfOk result (IsForwardBegun rules reaches sends exchanged can_poll middle new forward)
           → IfOk result (Begins rules reaches sends exchanged can_poll rendered can_run old new message)
       forward_begun old middle new message forward to_forward (Ok (Answered response)) begun =
           inr (forward, middle, to_forward, begun)
-      forward_begun old middle new message forward to_forward (Ok (Forwarding exchange)) begun =
+      forward_begun old middle new message forward to_forward (Ok (Pending exchange)) begun =
           inl (forward, middle, to_forward, begun)
       forward_begun old middle new message forward to_forward (Err error) begun = tt
 
       -- it is to be rendered, and that was begun
       pub render_begun : (old new : Held) (message : Message (List ℕ)) (rendering : Rendering)
           → IsToRender rules.origin rules.history rules.limits old new message rendering → {Refusal : Type 0}
-          → (result : Result (Begun (SiteExchange E V) (List ℕ)) Refusal)
+          → (result : Result (Progress (SiteExchange E V) (List ℕ)) Refusal)
           → IfOk result (IsRenderBegun rendered can_run rendering)
           → IfOk result (Begins rules reaches sends exchanged can_poll rendered can_run old new message)
       render_begun old new message rendering to_render (Ok (Answered response)) begun =
           inl (is_begun rules.origin rules.history rules.limits rules.escape rules.page old new message rendering
           to_render
           begun.0 response begun.1 begun.2)
-      render_begun old new message rendering to_render (Ok (Forwarding exchange)) begun =
+      render_begun old new message rendering to_render (Ok (Pending exchange)) begun =
           inr (rendering, to_render, begun)
       render_begun old new message rendering to_render (Err error) begun = tt
 
@@ -183,7 +183,7 @@ module _ (rules : SiteRules) {E : Type 0} (reaches : List ℕ → Type 0) (sends
         → Gives exchanged rendered exchange (came.Rendered (record { rendering = rendering; reply = reply }))
         → {Refusal : Type 0} (result : Result (Response (List ℕ)) Refusal)
         → IfOk result (IsResponseOfRendered reply)
-        → IfOk result (IsGiven rules reaches sends exchanged old new message)
+        → IfOk result (IsGivenToMessage rules reaches sends exchanged old new message)
     given_rendered old new message first_old first_new (kind.Rendering exchange) unchanged seat by rendering reply given
         (Ok response) of =
         let is = is_rendered first_old first_new message exchange by rendering reply given.0 given.1 in
@@ -212,7 +212,7 @@ module _ (rules : SiteRules) {E : Type 0} (reaches : List ℕ → Type 0) (sends
         → Gives exchanged rendered exchange (came.Forwarded (record { forward = forward; reply = forwarded }))
         → {Refusal : Type 0} (result : Result (Response (List ℕ)) Refusal)
         → IfOk result (IsFinished rules.origin rules.history old new forward forwarded)
-        → IfOk result (IsGiven rules reaches sends exchanged old new message)
+        → IfOk result (IsGivenToMessage rules reaches sends exchanged old new message)
     given_later old new message first_old first_new (kind.Forwarding exchange) seat by forward forwarded given
         (Ok response) finished =
         let same = some_same by.forward forward (sym by.held ∙ given.0) in
@@ -231,7 +231,7 @@ module _ (rules : SiteRules) {E : Type 0} (reaches : List ℕ → Type 0) (sends
         (Ok response) finished = absurd given
     given_later old new message first_old first_new exchange seat by forward forwarded given (Err error) finished = tt
 
-module _ (origin : Past) (name : Book) (old new : Held) where
+module _ (origin : Past) (name : HistoryName) (old new : Held) where
   -- the call that clears the journal was refused
   pub refused : (error : BookError) → LendsApplied origin name old new ClearJournal (Err error)
       → HasMadeNoCall origin name old new

@@ -3,7 +3,7 @@
 use Rattle.std.specs.Prelude.{◌≡◌, ◌⊎◌, ℕ, List, IfOk, IsErr, IsSome, Option, Result, Some}
 use Rattle.std.specs.Arc.{arc_value}
 use Rattle.std.specs.declared.alloc.AllocError.{AllocError}
-use Rattle.answering.specs.Answering.{IsBegun, IsNotBegun}
+use Rattle.answering.specs.Answering.{IsMessageAnswered, IsMessageUnanswered}
 use Rattle.answering.specs.Forwarding.{IsFinished, IsToForward}
 use Rattle.answering.specs.Rendering.{IsRenderedReply, IsResponseOfRendered, IsToRender}
 use Rattle.answering.specs.declared.forward.Forward.{Forward}
@@ -17,7 +17,7 @@ use Rattle.hyper_service.specs.declared.site_exchange.SiteExchange.{SiteExchange
 use Rattle.hyper_service.specs.declared.site_exchange.SiteExchange.TheVariants as kind
 use Rattle.hyper_service.specs.declared.site_exchange.SiteReply.{SiteReply}
 use Rattle.hyper_service.specs.declared.site_exchange.SiteReply.TheVariants.{Forwarded, Rendered}
-use Rattle.logbook.specs.Pages.{Book}
+use Rattle.logbook.specs.Pages.{Book as HistoryName}
 use Rattle.mapping_model.specs.declared.reply.Reply.{Reply}
 use Rattle.mock_request.specs.Request.{Request}
 use Rattle.proxy_client.specs.Messages.{IsSomeReply}
@@ -36,14 +36,14 @@ use Rattle.template_tree.specs.declared.escape.Escape.{Escape}
 -- history, and how many requests the journal shows at most, where it is cleared then
 pub record SiteRules : Type 0 where
   pub origin : Past
-  pub history : Book
+  pub history : HistoryName
   pub limits : Limits
   pub escape : Escape
   pub page : Option (List ℕ)
   pub journal : Option ℕ
 
 -- those of the site that answers
-abbrev pub rules_of : {L G C F V N : Type 0} → Past → Book → SiteAnswers L G C F V N → SiteRules
+abbrev pub rules_of : {L G C F V N : Type 0} → Past → HistoryName → SiteAnswers L G C F V N → SiteRules
 rules_of origin name answers =
     record {
       origin = origin;
@@ -56,15 +56,15 @@ rules_of origin name answers =
 
 -- The seat is as before. Where the journal has a limit, it may have been cleared, which is the seat's next call; or that
 -- was refused, and the seat has made no call.
-abbrev pub IsKept : Option ℕ → Past → Book → Held → Held → Type 0
-IsKept limit origin name old new =
+abbrev pub IsJournalKept : Option ℕ → Past → HistoryName → Held → Held → Type 0
+IsJournalKept limit origin name old new =
     (new ≡ old)
     ⊎ (IsSome limit × (HasMadeNoCall origin name old new
     ⊎ ((receipt : Receipt) × Gains origin name old new (IsAsked ClearJournal) receipt)))
 
 -- The response to what came of an exchange: of a request that was forwarded, the one to that, and its record is the one
 -- call that may be made; of one that was rendered, that of its reply, and the seat is as it was.
-abbrev pub IsFinishedBy : Past → Book → Held → Held → SiteReply → Response (List ℕ) → Type 0
+abbrev pub IsFinishedBy : Past → HistoryName → Held → Held → SiteReply → Response (List ℕ) → Type 0
 IsFinishedBy origin name old new (Forwarded forwarded) response =
     IsFinished origin name old new forwarded.forward forwarded.reply response
 IsFinishedBy origin name old new (Rendered rendered) response =
@@ -74,8 +74,8 @@ module _ (rules : SiteRules) where
   -- the message was answered at once
   pub record IsGivenAtOnce (old new : Held) (message : Message (List ℕ)) (response : Response (List ℕ)) : Type 0 where
     pub middle : Held
-    pub begun : IsBegun rules.origin rules.history rules.limits rules.escape rules.page old middle message response
-    pub kept : IsKept rules.journal rules.origin rules.history middle new
+    pub begun : IsMessageAnswered rules.origin rules.history rules.limits rules.escape rules.page old middle message response
+    pub kept : IsJournalKept rules.journal rules.origin rules.history middle new
 
   -- The response was rendered after the call that served the message, and is one that this call may have given at once.
   -- That call was of the same seat, which need not be as it left it. Now nothing is asked of the book.
@@ -95,14 +95,14 @@ module _ (rules : SiteRules) where
     pub held : exchange.rendering ≡ Some rendering
     pub middle : Held
     pub begun : IsToRender rules.origin rules.history rules.limits old middle message rendering
-    pub kept : IsKept rules.journal rules.origin rules.history middle new
+    pub kept : IsJournalKept rules.journal rules.origin rules.history middle new
     pub genuine : (given : Result Reply AllocError) → rendered exchange.run given
         → IfOk given (IsRenderedReply rendering)
 
   -- there is no memory for an answer; or for that to a message that couldn't be forwarded
   abbrev pub IsLeft : Held → Held → Message (List ℕ) → Type 0
   IsLeft old new message =
-      IsNotBegun rules.origin rules.history rules.limits rules.escape rules.page old new message
+      IsMessageUnanswered rules.origin rules.history rules.limits rules.escape rules.page old new message
       ⊎ ((forward : Forward) × (begun : Held) × IsToForward rules.origin rules.history old begun message forward
       × HasMadeNoCall rules.origin rules.history begun new)
 
@@ -110,25 +110,25 @@ module _ (rules : SiteRules) where
   pub record IsUnanswered (old new : Held) (message : Message (List ℕ)) : Type 0 where
     pub middle : Held
     pub left : IsLeft old middle message
-    pub kept : IsKept rules.journal rules.origin rules.history middle new
+    pub kept : IsJournalKept rules.journal rules.origin rules.history middle new
 
-  -- `reaches` says which targets requests are forwarded to, `sends` which request an exchange sends to which target,
-  -- and `exchanged` what an exchange may give: those of what forwards the requests of the site.
+  -- `reaches` says which upstreams requests are forwarded to, `sends` which request an exchange sends to which
+  -- upstream, and `exchanged` what an exchange may give: those of what forwards the requests of the site.
   module _ {E : Type 0} (reaches : List ℕ → Type 0) (sends : List ℕ → Request → E → Type 0)
       (exchanged : E → Result Reply ProxyError → Type 0) where
-    -- an exchange that sends the request of what is to be forwarded to the target of it
+    -- an exchange that sends the request of what is to be forwarded to the upstream of it
     pub record IsSentBy (forward : Forward) (exchange : E) : Type 0 where
       pub reached : reaches forward.target
       pub sent : sends forward.target forward.request exchange
       pub genuine : (forwarded : Result Reply ProxyError) → exchanged exchange forwarded → IfOk forwarded IsSomeReply
 
     -- the message was begun to be forwarded by the exchange, which holds what is kept of it
-    pub record IsForwardedBy (old new : Held) (message : Message (List ℕ)) (exchange : ForwardExchange E) : Type 0 where
+    pub record IsBegunToForward (old new : Held) (message : Message (List ℕ)) (exchange : ForwardExchange E) : Type 0 where
       pub forward : Forward
       pub held : exchange.forward ≡ Some forward
       pub middle : Held
       pub begun : IsToForward rules.origin rules.history old middle message forward
-      pub kept : IsKept rules.journal rules.origin rules.history middle new
+      pub kept : IsJournalKept rules.journal rules.origin rules.history middle new
       pub sent : IsSentBy forward exchange.exchange
 
     -- the message was to be forwarded, there was no exchange, and this is the response to that
@@ -141,7 +141,7 @@ module _ (rules : SiteRules) where
       pub failed : IsErr forwarded
       pub middle : Held
       pub finished : IsFinished rules.origin rules.history begun middle forward forwarded response
-      pub kept : IsKept rules.journal rules.origin rules.history middle new
+      pub kept : IsJournalKept rules.journal rules.origin rules.history middle new
 
     -- The message was forwarded, the exchange gave this, and the response is the one to that. Both calls are of the same
     -- seat, and in what a seat has seen are all entries of its own (`IsIn`). It isn't held meanwhile, so before the
@@ -151,13 +151,13 @@ module _ (rules : SiteRules) where
       pub first_old : Held
       pub first_new : Held
       pub same : first_old.number ≡ old.number
-      pub by : IsForwardedBy first_old first_new message exchange
+      pub by : IsBegunToForward first_old first_new message exchange
       pub forwarded : Result Reply ProxyError
       pub came : exchanged exchange.exchange forwarded
       pub finished : IsFinished rules.origin rules.history old new by.forward forwarded response
 
-    abbrev pub IsGiven : Held → Held → Message (List ℕ) → Response (List ℕ) → Type 0
-    IsGiven old new message response =
+    abbrev pub IsGivenToMessage : Held → Held → Message (List ℕ) → Response (List ℕ) → Type 0
+    IsGivenToMessage old new message response =
         IsGivenAtOnce old new message response
         ⊎ (IsGivenWithout old new message response
         ⊎ (IsGivenLater old new message response ⊎ IsGivenRendered old new message response))
@@ -165,5 +165,5 @@ module _ (rules : SiteRules) where
     -- the message was begun to be forwarded, or was served and begun to be rendered, by the exchange
     abbrev pub IsPassedTo : {V : Type 0} → (V → Result Reply AllocError → Type 0) → Held → Held → Message (List ℕ)
         → SiteExchange E V → Type 0
-    IsPassedTo rendered old new message (kind.Forwarding forwards) = IsForwardedBy old new message forwards
+    IsPassedTo rendered old new message (kind.Forwarding forwards) = IsBegunToForward old new message forwards
     IsPassedTo rendered old new message (kind.Rendering renders) = IsRenderedBy rendered old new message renders

@@ -7,7 +7,7 @@ use Rattle.command_output.specs.Lines.{error_line, out_of_memory}
 use Rattle.command_output.specs.Output.{AppendsFront, AppendsPart}
 use Rattle.http_connections.specs.declared.serve_on.End.{End}
 use Rattle.http_connections.specs.declared.serve_on.End.TheVariants as end
-use Rattle.logbook.specs.Pages.{Book}
+use Rattle.logbook.specs.Pages.{Book as HistoryName}
 use Rattle.request_journal.specs.Past.{Past}
 use Rattle.shared_book.specs.Held.{Held}
 use Rattle.shared_book.specs.Settled.{AreSettled, AreUnsettled}
@@ -36,28 +36,28 @@ ReportsEnd holds end.OutOfMemory err err' status =
 
 -- The number of events is on standard output, and then the end is reported; or standard output took a part of that line
 -- alone (1); or, where the seats aren't settled, standard error says why (1). The other stream is as it was.
-abbrev pub Reports : {O E : Type 0} → (O → Option (List ℕ)) → (E → Option (List ℕ))
+abbrev pub ReportsSeats : {O E : Type 0} → (O → Option (List ℕ)) → (E → Option (List ℕ))
     → Result ℕ SettleRefusal → End → O → O → E → E → ℕ → Type 0
-Reports out_holds err_holds (Ok events) why out out' err err' status =
+ReportsSeats out_holds err_holds (Ok events) why out out' err err' status =
     (Appends (out_holds out) (out_holds out') (settled_line events) × ReportsEnd err_holds why err err' status)
     ⊎ ((status ≡ 1) × AppendsPart (out_holds out) (out_holds out') (settled_line events) × (err' ≡ err))
-Reports out_holds err_holds (Err refused) why out out' err err' status =
+ReportsSeats out_holds err_holds (Err refused) why out out' err err' status =
     (status ≡ 1) × AppendsFront (err_holds err) (err_holds err') (refusal_line refused) × (out' ≡ out)
 
 -- the number of events in the one history of these seats; or why they have none
-abbrev pub IsSettling : Past → ℕ → Book → List Held → Result ℕ SettleRefusal → Type 0
+abbrev pub IsSettling : Past → ℕ → HistoryName → List Held → Result ℕ SettleRefusal → Type 0
 IsSettling origin parts name seats (Ok events) =
     (settled : Settled) × AreSettled origin parts name seats settled × (settled.events ≡ events)
 IsSettling origin parts name seats (Err reason) = AreUnsettled origin parts name seats reason
 
 -- some seats were settled, and that is reported, and the end
 pub record ReportsSettled {O E : Type 0} (out_holds : O → Option (List ℕ)) (err_holds : E → Option (List ℕ))
-    (origin : Past) (parts : ℕ) (name : Book) (out out' : O) (err err' : E) (status : ℕ) : Type 0 where
+    (origin : Past) (parts : ℕ) (name : HistoryName) (out out' : O) (err err' : E) (status : ℕ) : Type 0 where
   pub seats : List Held
   pub settled : Result ℕ SettleRefusal
   pub settling : IsSettling origin parts name seats settled
   pub why : End
-  pub reported : Reports out_holds err_holds settled why out out' err err' status
+  pub reported : ReportsSeats out_holds err_holds settled why out out' err err' status
 
 -- the line that says where the server listens
 abbrev pub listening_line : SocketAddr → List ℕ
@@ -82,7 +82,7 @@ abbrev pub MayReportMemory : {E : Type 0} → (E → Option (List ℕ)) → E �
 MayReportMemory holds err err' = (err' ≡ err) ⊎ AppendsFront (holds err) (holds err') (error_line out_of_memory)
 
 -- the seats were settled, and that is reported; or memory ran out, as standard error says (1)
-abbrev pub ReportsEnded : {O E : Type 0} → (O → Option (List ℕ)) → (E → Option (List ℕ)) → Past → ℕ → Book → O → O
+abbrev pub ReportsEnded : {O E : Type 0} → (O → Option (List ℕ)) → (E → Option (List ℕ)) → Past → ℕ → HistoryName → O → O
     → E → E → ℕ → Type 0
 ReportsEnded out_holds err_holds origin parts name out out' err err' status =
     ReportsSettled out_holds err_holds origin parts name out out' err err' status
@@ -90,7 +90,7 @@ ReportsEnded out_holds err_holds origin parts name out out' err err' status =
 
 -- What a server writes: the line that says where it listens, which standard output may not take (1), or for which there
 -- may be no memory, as standard error then says (1); then that its seats were settled, or that memory ran out (1).
-abbrev pub ReportsServed : {O E : Type 0} → (O → Option (List ℕ)) → (E → Option (List ℕ)) → Past → ℕ → Book → O → O
+abbrev pub ReportsServed : {O E : Type 0} → (O → Option (List ℕ)) → (E → Option (List ℕ)) → Past → ℕ → HistoryName → O → O
     → E → E → ℕ → Type 0
 ReportsServed {O = O} out_holds err_holds origin parts name out out' err err' status =
     (AnnouncesInPart (out_holds out) (out_holds out') × MayReportMemory err_holds err err' × (status ≡ 1))
@@ -102,5 +102,5 @@ ReportsServed {O = O} out_holds err_holds origin parts name out out' err err' st
 abbrev pub ReportsUnserved : {O E : Type 0} → (O → Option (List ℕ)) → (E → Option (List ℕ)) → O → O → E → E → ℕ
     → Type 0
 ReportsUnserved out_holds err_holds out out' err err' status =
-    (origin : Past) (parts : ℕ) (name : Book)
+    (origin : Past) (parts : ℕ) (name : HistoryName)
     → ReportsServed out_holds err_holds origin parts name out out' err err' status

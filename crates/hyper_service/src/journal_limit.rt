@@ -1,6 +1,6 @@
 // A journal that the server itself clears once it shows as many requests as it may.
 ghost use Rattle.std.specs.Prelude.{◌≡◌, IsFalse, IsSome, IsTrue};
-ghost use Rattle.hyper_service.specs.Given.{IsKept};
+ghost use Rattle.hyper_service.specs.Given.{IsJournalKept};
 ghost use Rattle.request_journal.specs.Input.{IsAsked};
 ghost use Rattle.request_journal.specs.declared.input.BookInput.TheVariants.{ClearJournal as Cleared};
 ghost use Rattle.shared_book.specs.Lent.{Gains};
@@ -57,7 +57,7 @@ impl JournalLimit {
         is_full: bool,
     )
         requires { IsTrue is_full → IsSome self.now.limit }
-        ensures { IsKept self.now.limit L.origin L.book seat.old seat.new }
+        ensures { IsJournalKept self.now.limit L.origin L.book seat.old seat.new }
     {
         if is_full && clear(rt, book, seat) {
             *self.shown.lock(rt) = 0;

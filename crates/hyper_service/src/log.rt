@@ -34,7 +34,7 @@ pub trait Log {
     );
 
     /// A request that was forwarded, and whose event has this number, was answered with this status; the failure is why
-    /// the target gave no reply, if it gave none.
+    /// the upstream gave no reply, if it gave none.
     fn forwarded<R: Wait>(
         &self,
         rt: &R,
@@ -47,40 +47,4 @@ pub trait Log {
 
     /// A request whose response was rendered beside the connections was answered with this status.
     fn rendered<R: Wait>(&self, rt: &R, alloc: Global, rendering: &Rendering, status: u16);
-}
-
-/// Nothing is told.
-#[derive(Clone, Copy, Debug, Drop)]
-pub struct NoLog;
-
-impl Log for NoLog {
-    fn answered<R: Wait>(
-        &self,
-        _rt: &R,
-        _alloc: Global,
-        _message: &Request<Bytes>,
-        _outcome: Option<Outcome<'_>>,
-        _response: &Response<Content>,
-    ) {}
-
-    fn refused<R: Wait>(
-        &self,
-        _rt: &R,
-        _alloc: Global,
-        _message: &Request<Bytes>,
-        _outcome: Option<Outcome<'_>>,
-        _refused: &Refused,
-    ) {}
-
-    fn forwarded<R: Wait>(
-        &self,
-        _rt: &R,
-        _alloc: Global,
-        _number: u64,
-        _request: &Snapshot,
-        _status: u16,
-        _failure: Option<Failure>,
-    ) {}
-
-    fn rendered<R: Wait>(&self, _rt: &R, _alloc: Global, _rendering: &Rendering, _status: u16) {}
 }

@@ -1,7 +1,7 @@
 // What is written once no more connections are accepted.
 ghost use Rattle.std.specs.Prelude.{◌≤◌};
 ghost use Rattle.command_output.specs.Output.{AppendsFront, Writes};
-ghost use Rattle.hyper_service.specs.Report.{Reports, ReportsEnd, refusal_line, settled_line};
+ghost use Rattle.hyper_service.specs.Report.{ReportsSeats, ReportsEnd, refusal_line, settled_line};
 
 use command_output::error::CommandError;
 use command_output::output::{put, put_all};
@@ -21,7 +21,7 @@ pub fn report<O: Write, E: Write>(
     out: &mut O,
     err: &mut E,
 ) -> u8
-    ensures written { Reports O.contents E.contents settled end out.old out.new err.old err.new result }
+    ensures written { ReportsSeats O.contents E.contents settled end out.old out.new err.old err.new result }
     ensures status { result ≤ 1 }
 {
     match settled {

@@ -3,12 +3,12 @@ ghost use Rattle.std.specs.Prelude.{◌≡◌, IfErr, IfOk, IsSome, IsTrue};
 ghost use Rattle.answering.specs.Forwarding.{IsFinished};
 ghost use Rattle.answering.specs.Rendering.{IsResponseOfRendered};
 ghost use Rattle.http_messages.specs.declared.error.ServiceError.TheVariants.{OutOfMemory as NoMemory};
-ghost use Rattle.hyper_service.specs.Given.{IsFinishedBy, IsGiven, IsLeft, IsPassedTo, IsUnanswered};
+ghost use Rattle.hyper_service.specs.Given.{IsFinishedBy, IsGivenToMessage, IsLeft, IsPassedTo, IsUnanswered};
 ghost use Rattle.hyper_service.specs.Given.{rules_of};
 ghost use Rattle.hyper_service.specs.Inner.Begins.{Begins, HasNoAnswer, IsAnswering, IsForwardBegun};
 ghost use Rattle.hyper_service.specs.Inner.Begins.{IsForwardingBy, IsRenderBegun, IsRenderingBy};
 ghost use Rattle.hyper_service.specs.Inner.Failure.{IsFailure};
-ghost use Rattle.hyper_service.specs.Seats.{IsJoined, IsSplit};
+ghost use Rattle.hyper_service.specs.Seats.{IsConnectionJoined, IsConnectionSplit};
 ghost use Rattle.shared_book.specs.Seen.{HasMadeNoCall};
 
 use crate::forward_exchange::Forwarded;
@@ -18,6 +18,7 @@ use crate::outcome::{Outcome, last_number, outcome_of};
 use crate::render_exchange::Rendered;
 use crate::renders::Renders;
 use crate::site_exchange::{SiteExchange, SiteReply};
+use answering::begun::Begun;
 use answering::clock::Clock;
 use answering::content::Content;
 use answering::forward::Forward;
@@ -27,7 +28,7 @@ use answering::site::Site;
 use bytes::Bytes;
 use http::{Request, Response};
 use http_connections::answers::Answers;
-use http_connections::begun::Begun;
+use http_connections::request::progress::Progress;
 use http_messages::error::ServiceError;
 use proxy_client::error::ProxyError;
 use proxy_client::failure::Failure;
@@ -101,7 +102,7 @@ where
     ghost number_of = { λ seat. seat.number };
 
     ghost gives = { λ answers.
-        IsGiven (rules_of L.origin L.book answers) (F.reaches answers.forwarder) F.sends F.Exchange.gives };
+        IsGivenToMessage (rules_of L.origin L.book answers) (F.reaches answers.forwarder) F.sends F.Exchange.gives };
 
     ghost forwards = { λ answers.
         IsPassedTo (rules_of L.origin L.book answers) (F.reaches answers.forwarder) F.sends F.Exchange.gives
@@ -113,9 +114,9 @@ where
 
     ghost unfinished = { λ _. HasMadeNoCall L.origin L.book };
 
-    ghost splits = { λ _. IsSplit L.origin L.book };
+    ghost splits = { λ _. IsConnectionSplit L.origin L.book };
 
-    ghost joins = { λ _. IsJoined L.origin L.book };
+    ghost joins = { λ _. IsConnectionJoined L.origin L.book };
 
     fn number(seat: &Seat<L>) -> u64 {
         seat.number()
@@ -128,7 +129,7 @@ where
         handle: &Handle,
         seat: &mut Seat<L>,
         request: &Request<Bytes>,
-    ) -> Result<Begun<SiteExchange<F::Exchange, V::Run>, Content>, ServiceError> {
+    ) -> Result<Progress<SiteExchange<F::Exchange, V::Run>, Content>, ServiceError> {
         let before = last_number(seat);
         let answered = answering::begin::begin(rt, alloc, &self.site, seat, request);
         let is_full = self.tell(rt, alloc, request, outcome_of(seat, before), &answered);
@@ -178,15 +179,15 @@ where
         alloc: Global,
         request: &Request<Bytes>,
         outcome: Option<Outcome<'_>>,
-        answered: &Result<answering::begun::Begun, ServiceError>,
+        answered: &Result<Begun, ServiceError>,
     ) -> bool
         ensures { IsTrue result → IsSome self.now.journal.limit }
     {
         match answered {
-            Ok(answering::begun::Begun::Answered(response)) => {
+            Ok(Begun::Answered(response)) => {
                 self.log.answered(rt, alloc, request, outcome, response)
             }
-            Ok(answering::begun::Begun::Refused(refused)) => {
+            Ok(Begun::Refused(refused)) => {
                 self.log.refused(rt, alloc, request, outcome, refused)
             }
             _ => {}
@@ -201,8 +202,8 @@ where
         alloc: Global,
         handle: &Handle,
         seat: &mut Seat<L>,
-        answered: Result<answering::begun::Begun, ServiceError>,
-    ) -> Result<Begun<SiteExchange<F::Exchange, V::Run>, Content>, ServiceError>
+        answered: Result<Begun, ServiceError>,
+    ) -> Result<Progress<SiteExchange<F::Exchange, V::Run>, Content>, ServiceError>
         ensures ok { (old : _) → (message : _)
             → IfOk answered (IsAnswering (rules_of L.origin L.book self.now) old seat.old message)
             → IfOk result (Begins (rules_of L.origin L.book self.now) (F.reaches self.now.forwarder) F.sends
@@ -215,14 +216,10 @@ where
             × IsLeft (rules_of L.origin L.book self.now) old seat.new message) }
     {
         match answered {
-            Ok(answering::begun::Begun::Answered(response)) => Ok(Begun::Answered(response)),
-            Ok(answering::begun::Begun::Refused(refused)) => {
-                Ok(Begun::Answered(refused_response(refused)))
-            }
-            Ok(answering::begun::Begun::ToForward(forward)) => {
-                self.forward(rt, alloc, handle, seat, forward)
-            }
-            Ok(answering::begun::Begun::ToRender(rendering)) => self.render(rt, alloc, rendering),
+            Ok(Begun::Answered(response)) => Ok(Progress::Answered(response)),
+            Ok(Begun::Refused(refused)) => { Ok(Progress::Answered(refused_response(refused))) }
+            Ok(Begun::ToForward(forward)) => { self.forward(rt, alloc, handle, seat, forward) }
+            Ok(Begun::ToRender(rendering)) => self.render(rt, alloc, rendering),
             Err(error) => Err(error),
         }
     }
@@ -237,16 +234,16 @@ where
         handle: &Handle,
         seat: &mut Seat<L>,
         forward: Forward,
-    ) -> Result<Begun<SiteExchange<F::Exchange, V::Run>, Content>, ServiceError>
+    ) -> Result<Progress<SiteExchange<F::Exchange, V::Run>, Content>, ServiceError>
         ensures ok { IfOk result (IsForwardBegun (rules_of L.origin L.book self.now) (F.reaches self.now.forwarder)
             F.sends F.Exchange.gives F.Exchange.can_poll seat.old seat.new forward) }
         ensures err { IfErr result (λ error. (error ≡ NoMemory) × HasMadeNoCall L.origin L.book seat.old seat.new) }
     {
         match self.exchange(alloc, handle, forward) {
-            Ok(exchange) => Ok(Begun::Forwarding(exchange)),
+            Ok(exchange) => Ok(Progress::Pending(exchange)),
             Err(failed) => {
                 let response = self.finish_forwarded(rt, alloc, seat, failed)?;
-                Ok(Begun::Answered(response))
+                Ok(Progress::Answered(response))
             }
         }
     }
@@ -264,7 +261,7 @@ where
         let Forwarded { forward, reply } = forwarded;
         let number = forward.number;
         let failure = failure_in(&reply);
-        let request = forward.request.try_clone();
+        let request: Result<_, _> = forward.request.clone();
         let response = answering::finish::finish(rt, alloc, &self.site, seat, forward, reply)?;
         if let Ok(request) = &request {
             let status = response.status().as_u16();
@@ -282,16 +279,16 @@ where
         rt: &R,
         alloc: Global,
         rendering: Rendering,
-    ) -> Result<Begun<SiteExchange<F::Exchange, V::Run>, Content>, ServiceError>
+    ) -> Result<Progress<SiteExchange<F::Exchange, V::Run>, Content>, ServiceError>
         ensures ok { IfOk result (IsRenderBegun V.Run.gives V.Run.can_poll rendering) }
         ensures err { IfErr result (λ error. error ≡ NoMemory) }
     {
         match self.render_exchange(alloc, rendering) {
-            Ok(exchange) => Ok(Begun::Forwarding(exchange)),
+            Ok(exchange) => Ok(Progress::Pending(exchange)),
             Err(rendering) => {
                 let reply = rendering.reply(alloc);
                 let response = self.finish_rendered(rt, alloc, Rendered { rendering, reply })?;
-                Ok(Begun::Answered(response))
+                Ok(Progress::Answered(response))
             }
         }
     }
@@ -357,7 +354,7 @@ fn refused_response(refused: Box<Refused>) -> Response<Content>
     Box::into_inner(refused).into_response()
 }
 
-// Why the target gave no reply; nothing where it gave one, or where memory ran out.
+// Why the upstream gave no reply; nothing where it gave one, or where memory ran out.
 fn failure_in<T>(reply: &Result<T, ProxyError>) -> Option<Failure> {
     match reply {
         Err(ProxyError::UpstreamFailed(failure)) => Some(*failure),

@@ -51,7 +51,7 @@ impl JsonMatcher {
     {
         let test = test_of(alloc, spec)?;
         Ok(JsonMatcher {
-            spec: spec.try_clone()?,
+            spec: spec.clone()?,
             test,
         })
     }

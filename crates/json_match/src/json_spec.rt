@@ -1,11 +1,10 @@
 // What a JSON value has to meet.
-ghost use Rattle.std.specs.Prelude.{◌≡◌, ◌↔◌, IfOk, IsTrue};
+ghost use Rattle.std.specs.Prelude.{◌≡◌, ◌↔◌, IsTrue};
 
 use plain_text::text::Text;
-use std::alloc::AllocError;
 
 /// A JSON matcher as it was written.
-#[derive(Debug, Drop)]
+#[derive(Clone, Debug, Drop)]
 pub enum JsonSpec {
     /// The value is equal to the expected one.
     EqualTo {
@@ -21,23 +20,6 @@ pub enum JsonSpec {
 }
 
 impl JsonSpec {
-    pub fn try_clone(&self) -> Result<JsonSpec, AllocError>
-        ensures { IfOk result (λ copy. copy ≡ self.now) }
-    {
-        Ok(match self {
-            JsonSpec::EqualTo {
-                expected,
-                ignore_array_order,
-                ignore_extra_elements,
-            } => JsonSpec::EqualTo {
-                expected: expected.try_clone()?,
-                ignore_array_order: *ignore_array_order,
-                ignore_extra_elements: *ignore_extra_elements,
-            },
-            JsonSpec::Path(path) => JsonSpec::Path(path.try_clone()?),
-        })
-    }
-
     /// Whether the two are equal.
     pub fn same(&self, other: &JsonSpec) -> bool
         ensures { IsTrue result ↔ (self.now ≡ other.now) }

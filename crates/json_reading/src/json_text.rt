@@ -7,7 +7,7 @@ use plain_text::text::Text;
 use std::marker::Model;
 
 /// The compact text of a value of which each number is whole and fits 64 bits, which contracts see as its bytes.
-#[derive(Drop)]
+#[derive(Clone, Drop)]
 pub struct JsonText {
     text: Text,
 }

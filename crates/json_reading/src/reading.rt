@@ -43,11 +43,13 @@ pub fn either<T: Drop>(
 ) -> Reading<Option<T>>
     ensures { result ≡ either kind a b }
 {
-    match both(a, b) {
-        Reading::Read((None, b)) => Reading::Read(b),
-        Reading::Read((a, None)) => Reading::Read(a),
-        Reading::Read((Some(_), Some(_))) => Reading::Wrong(kind),
-        Reading::Wrong(kind) => Reading::Wrong(kind),
+    match (a, b) {
+        (Reading::Read(None), b) => b,
+        (Reading::Read(a), Reading::Read(None)) => Reading::Read(a),
+        (Reading::Read(_), Reading::Read(_)) => Reading::Wrong(kind),
+        (Reading::Read(_), Reading::Wrong(kind)) => Reading::Wrong(kind),
+        (Reading::Wrong(kind), Reading::Read(_)) => Reading::Wrong(kind),
+        (Reading::Wrong(a), Reading::Wrong(b)) => Reading::Wrong(a.first(b)),
     }
 }
 

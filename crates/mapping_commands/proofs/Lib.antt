@@ -2,4 +2,3 @@ pub mod LinesOf
 pub mod Totals
 pub mod DocumentLemmas
 pub mod FreshLemmas
-pub mod OneStream

@@ -15,24 +15,24 @@ use Rattle.mapping_json.specs.declared.error.MappingError.TheVariants.{OutOfMemo
 use Rattle.mapping_json.proofs.Zips.{zip_push}
 use Rattle.mapping_model.specs.declared.mapping_spec.MappingSpec.{MappingSpec}
 use Rattle.mapping_model.specs.declared.response_spec.ResponseSpec.{ResponseSpec}
-use Rattle.mapping_commands.specs.Checking.{AreLines, HasValues, IsContentLine, IsLineOf, IsReportOf, refused_line}
+use Rattle.mapping_commands.specs.Checking.{AreLines, HasValues, IsContentLine, IsMappingLine, IsReportOf, refused_line}
 use Rattle.mapping_commands.specs.Inner.Reports.{Adds, AddsDocument, AreReported, IsChecked, Reports}
 use Rattle.mapping_commands.specs.declared.check.Checked.{Checked}
 use Rattle.serde_json.specs.Data.{Data}
 use Rattle.template_tree.specs.declared.escape.Escape.{Escape}
 
 lines_push : (n : ℕ) (rs : List (Result MappingSpec MappingError)) (text : List ℕ)
-    (r : Result MappingSpec MappingError) (line : List ℕ) → AreLines n rs text → IsLineOf (n + length rs) r line
+    (r : Result MappingSpec MappingError) (line : List ℕ) → AreLines n rs text → IsMappingLine (n + length rs) r line
     → AreLines n (rs ++ r ∷ []) (text ++ line)
 lines_push n [] text r line lines is =
     let here : n + 0 ≡ n = omega arith in
-    (line, [], subst (λ k. IsLineOf k r line) here is, refl, ap (λ t. t ++ line) lines ∙ sym (append-nil line))
+    (line, [], subst (λ k. IsMappingLine k r line) here is, refl, ap (λ t. t ++ line) lines ∙ sym (append-nil line))
 lines_push n (x ∷ xs) text r line lines is =
     let here : n + suc (length xs) ≡ suc n + length xs = omega arith in (
       lines.0,
       lines.1 ++ line,
       lines.2,
-      lines_push (suc n) xs lines.1 r line lines.3 (subst (λ k. IsLineOf k r line) here is),
+      lines_push (suc n) xs lines.1 r line lines.3 (subst (λ k. IsMappingLine k r line) here is),
       ap (λ t. t ++ line) lines.4 ∙ append_assoc lines.0 lines.1 line,
     )
 
@@ -48,7 +48,7 @@ pub one_more : (escape : Escape) (ds : List Data) (text : List ℕ) (refused : B
 one_more escape ds text refused d new more so_far next =
     let long = AllZip-long (IsResultOf escape) ds so_far.results so_far.read in
     let number : length ds + 1 ≡ 1 + length so_far.results = omega (arith, long) in
-    let line = subst (λ n. IsLineOf n next.result next.line) number next.is_line in
+    let line = subst (λ n. IsMappingLine n next.result next.line) number next.is_line in
     record {
       results = so_far.results ++ next.result ∷ [];
       read = zip_push (IsResultOf escape) ds so_far.results d next.result so_far.read next.read;

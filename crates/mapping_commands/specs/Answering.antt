@@ -1,13 +1,10 @@
 -- What `mock answer` prints for documents and a request: the reply of a book that was just opened with the
--- documents' mappings. And which errors it reports, and how it ends.
+-- documents' mappings. And which errors it reports.
 use Rattle.std.specs.Prelude.{◌≡◌, ◌⊎◌, ◌<◌, ◌≤◌, ℕ, List, [], ◌∷◌, ◌++◌, length, codes, decimal, flat_map, Option}
 use Rattle.std.specs.Prelude.{None}
-use Rattle.std.specs.Io.KnownBytes.{Appends}
-use Rattle.command_output.specs.Files.{AreDocuments, IsDocumentsError, file_error_line}
-use Rattle.command_output.specs.Lines.{error_line, out_of_memory}
-use Rattle.command_output.specs.Output.{AppendsPart, AppendsFront}
+use Rattle.command_output.specs.Ends.{Ends, EndsOnFiles}
+use Rattle.command_output.specs.Lines.{out_of_memory}
 use Rattle.command_output.specs.declared.error.CommandError.{CommandError}
-use Rattle.command_output.specs.declared.files.FileError.{FileError}
 use Rattle.error_code.specs.declared.error_code.ErrorCode.{ErrorCode}
 use Rattle.mapping_commands.specs.declared.sent.SentRequest.{SentRequest}
 use Rattle.mapping_json.specs.Documents.{SpellMappings, IsMappingsError}
@@ -26,7 +23,7 @@ use Rattle.request_journal.specs.declared.event.ServeAnswer.{ServeAnswer}
 use Rattle.request_journal.specs.declared.event.ServeAnswer.TheVariants.{Stub, Proxy, Unmatched}
 use Rattle.request_journal.specs.declared.limits.TheConstants.{LIVE_LIMIT}
 use Rattle.stub_response.specs.ErrorReply.{unmatched_reply}
-use Rattle.stub_response.specs.Response.{IsRendering, IsResponse}
+use Rattle.stub_response.specs.Response.{IsRendering}
 use Rattle.stub_response.specs.declared.limits.Limits.{Limits}
 use Rattle.template_tree.specs.declared.escape.Escape.{Escape}
 use Rattle.stub_response.specs.declared.limits.TheConstants.{STEP_LIMIT, BYTE_LIMIT}
@@ -51,9 +48,7 @@ usual_limits = record { steps = STEP_LIMIT; bytes = BYTE_LIMIT }
 -- by what the book answers the request with: the response of the mapping that it chose, with the runs that wrote its
 -- texts, or a 404. Without a recording nothing is sent on
 abbrev pub IsReplyBy : ServeAnswer → Request → Reply → Type 0
-IsReplyBy (Stub captured) request reply =
-    IsResponse usual_limits captured.mapping.spec request reply
-    × IsRendering usual_limits captured.mapping.spec request reply
+IsReplyBy (Stub captured) request reply = IsRendering usual_limits captured.mapping.spec request reply
 IsReplyBy (Proxy target) request reply = ⊥
 IsReplyBy Unmatched request reply = reply ≡ unmatched_reply
 
@@ -87,7 +82,7 @@ SpellDocuments escape (bytes ∷ documents) mappings =
 
 -- the reply to that request of a book that was just opened with the documents' mappings, whose templates' prints are
 -- escaped so
-pub record IsReply (escape : Escape) (documents : List (List ℕ)) (sent : Sent) (reply : Reply)
+pub record IsCommandReply (escape : Escape) (documents : List (List ℕ)) (sent : Sent) (reply : Reply)
     : Type 0 where
   pub mappings : List MappingSpec
   pub spelled : SpellDocuments escape documents mappings
@@ -102,7 +97,7 @@ pub record IsReply (escape : Escape) (documents : List (List ℕ)) (sent : Sent)
 -- such a reply as it is printed
 abbrev pub IsReplyText : Escape → List (List ℕ) → Sent → List ℕ → Type 0
 IsReplyText escape documents sent text =
-    (reply : Reply) × IsReply escape documents sent reply × (text ≡ reply_text reply)
+    (reply : Reply) × IsCommandReply escape documents sent reply × (text ≡ reply_text reply)
 
 -- ---- errors
 
@@ -140,8 +135,8 @@ RefusesRequest sent error =
 
 -- the first error, where the documents are judged first, then the book, then the request; memory may run out at any
 -- moment
-abbrev pub IsRefusal : Escape → List (List ℕ) → Sent → CommandError → Type 0
-IsRefusal escape documents sent error =
+abbrev pub IsAnswerError : Escape → List (List ℕ) → Sent → CommandError → Type 0
+IsAnswerError escape documents sent error =
     RefusesDocument escape documents error
     ⊎ RefusesBook escape documents error
     ⊎ (HasBook escape documents × RefusesRequest sent error)
@@ -149,43 +144,17 @@ IsRefusal escape documents sent error =
 
 -- ---- the whole
 
--- the whole reply was written
-abbrev pub ShowsReply : Escape → List (List ℕ) → Sent → Option (List ℕ)
-    → Option (List ℕ) → Type 0
-ShowsReply escape documents sent old new =
-    (text : List ℕ) × IsReplyText escape documents sent text × Appends old new text
-
--- the reply was begun, and the writer refused the rest
-abbrev pub BreaksReplyOff : Escape → List (List ℕ) → Sent → Option (List ℕ)
-    → Option (List ℕ) → Type 0
-BreaksReplyOff escape documents sent old new =
-    (text : List ℕ) × IsReplyText escape documents sent text × AppendsPart old new text
-
--- an error was reported, as far as the writer took its line
-abbrev pub ReportsRefusal : Escape → List (List ℕ) → Sent
-    → Option (List ℕ) → Option (List ℕ) → Type 0
-ReportsRefusal escape documents sent old new =
-    (error : CommandError) × IsRefusal escape documents sent error × AppendsFront old new (error_line error)
-
--- How an answer ends, by what standard output and standard error hold before and after it, and the exit status: the
--- reply is on standard output (0), an error is on standard error (1), or standard output took a part of the reply (1).
--- Each time the other of both is as it was.
+-- How an answer ends: the reply is on standard output (0), or the first error on standard error.
 abbrev pub Answers : {O E : Type 0} → (O → Option (List ℕ)) → (E → Option (List ℕ)) → Escape
     → List (List ℕ) → Sent → O → O → E → E → ℕ → Type 0
-Answers out_holds err_holds escape documents sent out out' err err' status =
-    ((status ≡ 0) × ShowsReply escape documents sent (out_holds out) (out_holds out') × (err' ≡ err))
-    ⊎ ((status ≡ 1) × ReportsRefusal escape documents sent (err_holds err) (err_holds err') × (out' ≡ out))
-    ⊎ ((status ≡ 1) × BreaksReplyOff escape documents sent (out_holds out) (out_holds out')
-    × (err' ≡ err))
+Answers out_holds err_holds escape documents sent =
+    Ends out_holds err_holds (λ text status. IsReplyText escape documents sent text × (status ≡ 0))
+    (IsAnswerError escape documents sent)
 
--- How `mock answer` ends: the files that the path names are read and the request answered, or an error in reading them
--- is on standard error (1), as far as the writer took its line, and standard output is as it was. The files are known,
--- or they aren't.
+-- how `mock answer` ends
 abbrev pub AnswersFiles : {O E : Type 0} → (O → Option (List ℕ)) → (E → Option (List ℕ)) → Escape
     → Option (List (List ℕ)) → (List ℕ → Option (List ℕ)) → List ℕ → Sent
     → O → O → E → E → ℕ → Type 0
-AnswersFiles out_holds err_holds escape listed known path sent out out' err err' status =
-    ((documents : List (List ℕ)) × AreDocuments listed known documents
-    × Answers out_holds err_holds escape documents sent out out' err err' status)
-    ⊎ ((error : FileError) × IsDocumentsError listed known error × (status ≡ 1)
-    × AppendsFront (err_holds err) (err_holds err') (file_error_line path error) × (out' ≡ out))
+AnswersFiles out_holds err_holds escape listed known path sent =
+    EndsOnFiles out_holds err_holds listed known path
+    (λ documents. Answers out_holds err_holds escape documents sent)

@@ -1,7 +1,6 @@
 -- What `mock check` prints for documents: a line for each of their mappings.
 use Rattle.std.specs.Prelude.{◌≡◌, ◌⊎◌, ℕ, suc, List, [], ◌∷◌, ◌++◌, Bool, map, is_err}
 use Rattle.std.specs.Prelude.{if◌then◌else◌, Option, None, Some, Result, Ok, Err, codes, decimal}
-use Rattle.std.specs.Io.KnownBytes.{Appends}
 use Rattle.std.specs.List.{AllZip, list_any}
 use Rattle.json_reading.specs.Document.{IsDocument}
 use Rattle.mapping_json.specs.Documents.{IsOuterError, IsResultOf, mappings_in}
@@ -11,11 +10,9 @@ use Rattle.mapping_json.specs.declared.error.MappingError.TheVariants.{OutOfMemo
 use Rattle.mapping_model.specs.declared.mapping_spec.MappingSpec.{MappingSpec}
 use Rattle.mapping_model.specs.declared.response_spec.Content.{Content}
 use Rattle.mapping_model.specs.declared.response_spec.Content.TheVariants.{Plain, Templated}
-use Rattle.command_output.specs.Files.{AreDocuments, IsDocumentsError, file_error_line}
-use Rattle.command_output.specs.Lines.{error_line, numbers_text}
-use Rattle.command_output.specs.Output.{AppendsPart, AppendsFront}
+use Rattle.command_output.specs.Ends.{Ends, EndsOnFiles}
+use Rattle.command_output.specs.Lines.{numbers_text}
 use Rattle.command_output.specs.declared.error.CommandError.{CommandError}
-use Rattle.command_output.specs.declared.files.FileError.{FileError}
 use Rattle.error_code.specs.Codes.{number_of}
 use Rattle.error_code.specs.declared.error_code.ErrorCode.{ErrorCode}
 use Rattle.response_json.specs.Draft.{values_of, body_templates}
@@ -69,15 +66,15 @@ IsContentLine number (Templated headers body) line =
     IsBudgetLine number (values_of headers ++ body_templates body) line
 
 -- what is read of a mapping: its line
-abbrev pub IsLineOf : ℕ → Result MappingSpec MappingError → List ℕ → Type 0
-IsLineOf number (Ok mapping) line = IsContentLine number mapping.response.content line
-IsLineOf number (Err error) line = line ≡ refused_line number (error_code_of error)
+abbrev pub IsMappingLine : ℕ → Result MappingSpec MappingError → List ℕ → Type 0
+IsMappingLine number (Ok mapping) line = IsContentLine number mapping.response.content line
+IsMappingLine number (Err error) line = line ≡ refused_line number (error_code_of error)
 
 -- the lines of what is read, numbered from there on
 abbrev pub AreLines : ℕ → List (Result MappingSpec MappingError) → List ℕ → Type 0
 AreLines number [] text = text ≡ []
 AreLines number (result ∷ results) text =
-    (line : List ℕ) × (rest : List ℕ) × IsLineOf number result line × AreLines (suc number) results rest
+    (line : List ℕ) × (rest : List ℕ) × IsMappingLine number result line × AreLines (suc number) results rest
     × (text ≡ line ++ rest)
 
 -- ---- the whole
@@ -97,7 +94,7 @@ IsReportOf escape documents text refused =
     × AllZip (IsResultOf escape) values results × AreLines 1 results text × (refused ≡ list_any is_err results)
 
 -- the first document that has no mappings, and why
-pub record IsFirstRefused (documents : List (List ℕ)) (error : MappingError) : Type 0 where
+pub record IsFirstWithoutMappings (documents : List (List ℕ)) (error : MappingError) : Type 0 where
   pub before : List (List ℕ)
   pub bytes : List ℕ
   pub after : List (List ℕ)
@@ -107,45 +104,24 @@ pub record IsFirstRefused (documents : List (List ℕ)) (error : MappingError) :
   pub is : IsOuterError bytes error
 
 abbrev pub IsDocumentsRefusal : List (List ℕ) → MappingError → Type 0
-IsDocumentsRefusal documents error = IsFirstRefused documents error ⊎ (error ≡ OutOfMemory)
+IsDocumentsRefusal documents error = IsFirstWithoutMappings documents error ⊎ (error ≡ OutOfMemory)
 
 -- a document has no mappings, or memory is out
 abbrev pub IsCheckError : List (List ℕ) → CommandError → Type 0
 IsCheckError documents error =
     (e : MappingError) × IsDocumentsRefusal documents e × (error ≡ record { code = error_code_of e; at = None })
 
--- the whole report was written; the status is 1 where a mapping is refused
-abbrev pub ShowsLines : Escape → List (List ℕ) → Option (List ℕ) → Option (List ℕ) → ℕ → Type 0
-ShowsLines escape documents old new status =
-    (text : List ℕ) × (refused : Bool) × IsReportOf escape documents text refused × Appends old new text
-    × (status ≡ (if refused then 1 else 0))
-
--- the report was begun, and the writer refused the rest
-abbrev pub BreaksLinesOff : Escape → List (List ℕ) → Option (List ℕ) → Option (List ℕ) → Type 0
-BreaksLinesOff escape documents old new =
-    (text : List ℕ) × (refused : Bool) × IsReportOf escape documents text refused × AppendsPart old new text
-
--- an error was reported, as far as the writer took its line
-abbrev pub ReportsDocument : List (List ℕ) → Option (List ℕ) → Option (List ℕ) → Type 0
-ReportsDocument documents old new =
-    (error : CommandError) × IsCheckError documents error × AppendsFront old new (error_line error)
-
--- How a check ends: the report is on standard output (0, or 1 where a mapping is refused), an error is on standard
--- error (1), or standard output took a part of the report (1). Each time the other of both is as it was.
+-- How a check ends: the report is on standard output (0, or 1 where a mapping is refused), or an error on standard
+-- error.
 abbrev pub Checks : {O E : Type 0} → (O → Option (List ℕ)) → (E → Option (List ℕ)) → Escape
     → List (List ℕ) → O → O → E → E → ℕ → Type 0
-Checks out_holds err_holds escape documents out out' err err' status =
-    (ShowsLines escape documents (out_holds out) (out_holds out') status × (err' ≡ err))
-    ⊎ ((status ≡ 1) × ReportsDocument documents (err_holds err) (err_holds err') × (out' ≡ out))
-    ⊎ ((status ≡ 1) × BreaksLinesOff escape documents (out_holds out) (out_holds out') × (err' ≡ err))
+Checks out_holds err_holds escape documents =
+    Ends out_holds err_holds (λ text status. (refused : Bool) × IsReportOf escape documents text refused
+    × (status ≡ (if refused then 1 else 0))) (IsCheckError documents)
 
--- How `mock check` ends: the files that the path names are read and checked, or an error in reading them is on standard
--- error (1), as far as the writer took its line, and standard output is as it was. The files are known, or they aren't.
+-- how `mock check` ends
 abbrev pub ChecksFiles : {O E : Type 0} → (O → Option (List ℕ)) → (E → Option (List ℕ)) → Escape
     → Option (List (List ℕ)) → (List ℕ → Option (List ℕ)) → List ℕ
     → O → O → E → E → ℕ → Type 0
-ChecksFiles out_holds err_holds escape listed known path out out' err err' status =
-    ((documents : List (List ℕ)) × AreDocuments listed known documents
-    × Checks out_holds err_holds escape documents out out' err err' status)
-    ⊎ ((error : FileError) × IsDocumentsError listed known error × (status ≡ 1)
-    × AppendsFront (err_holds err) (err_holds err') (file_error_line path error) × (out' ≡ out))
+ChecksFiles out_holds err_holds escape listed known path =
+    EndsOnFiles out_holds err_holds listed known path (λ documents. Checks out_holds err_holds escape documents)

@@ -1,9 +1,7 @@
--- Which mapping `mock explain` says answers: the one that a book chooses that was just opened with the documents' mappings,
--- and whose scenarios were set to the given states. And how it ends.
-use Rattle.std.specs.Prelude.{◌≡◌, ◌⊎◌, ⊤, ℕ, Bool, true, false, List, [], ◌∷◌, ◌++◌, Option, codes, decimal, if◌then◌else◌}
-use Rattle.std.specs.Io.KnownBytes.{Appends}
-use Rattle.command_output.specs.Files.{AreDocuments}
-use Rattle.command_output.specs.Output.{AppendsPart}
+-- Which mapping `mock explain` says answers: the one that a book chooses that was just opened with the documents'
+-- mappings, and whose scenarios were set to the given states.
+use Rattle.std.specs.Prelude.{◌≡◌, ⊤, ℕ, Bool, true, false, List, [], ◌∷◌, ◌++◌, Option, codes, decimal, if◌then◌else◌}
+use Rattle.command_output.specs.Ends.{Ends, EndsOnFiles}
 use Rattle.mapping_commands.specs.Answering.{IsRequest, Sent, SpellDocuments}
 use Rattle.mapping_commands.specs.declared.explain.Form.{Form}
 use Rattle.mapping_commands.specs.declared.explain.Form.TheVariants.{Coloured, Json, Text}
@@ -35,7 +33,7 @@ AreSet ((scenario, state) ∷ states) old new =
     (next : Past) × IsSetTo scenario state old next × AreSet states next new
 
 -- what that book answers the request with
-pub record IsAnswer (escape : Escape) (documents : List (List ℕ)) (sent : Sent) (states : List (List ℕ × List ℕ))
+pub record IsChosenFor (escape : Escape) (documents : List (List ℕ)) (sent : Sent) (states : List (List ℕ × List ℕ))
     (answer : ServeAnswer) : Type 0 where
   pub mappings : List MappingSpec
   pub spelled : SpellDocuments escape documents mappings
@@ -58,34 +56,31 @@ front_of number (Stub captured) =
 front_of number (Proxy target) = codes "no mapping answers: status "
 front_of number Unmatched = codes "no mapping answers: status "
 
-abbrev pub Names : ServeAnswer → List ℕ → Type 0
-Names answer text = (number : ℕ) × (rest : List ℕ) × (text ≡ front_of number answer ++ rest)
+abbrev pub NamesMapping : ServeAnswer → List ℕ → Type 0
+NamesMapping answer text = (number : ℕ) × (rest : List ℕ) × (text ≡ front_of number answer ++ rest)
 
 -- of what is printed as JSON nothing is said
-abbrev pub Says : Form → ServeAnswer → List ℕ → Type 0
-Says Text answer text = Names answer text
-Says Coloured answer text = Names answer text
-Says Json answer text = ⊤
+abbrev pub IsSaidBy : Form → ServeAnswer → List ℕ → Type 0
+IsSaidBy Text answer text = NamesMapping answer text
+IsSaidBy Coloured answer text = NamesMapping answer text
+IsSaidBy Json answer text = ⊤
 
--- what standard output holds after it, and the exit status: the text, and 0 where a mapping answers; or a part of it, and 1
-abbrev pub Ends : Bool → List ℕ → Option (List ℕ) → Option (List ℕ) → ℕ → Type 0
-Ends answered text old new status =
-    (Appends old new text × (status ≡ (if answered then 0 else 1)))
-    ⊎ (AppendsPart old new text × (status ≡ 1))
+-- what it says, and the exit status: 0 where a mapping answers
+abbrev pub IsExplanation : Escape → List (List ℕ) → Sent → List (List ℕ × List ℕ) → Form → List ℕ → ℕ → Type 0
+IsExplanation escape documents sent states form text status =
+    (answer : ServeAnswer) × IsChosenFor escape documents sent states answer × IsSaidBy form answer text
+    × (status ≡ (if is_answered answer then 0 else 1))
 
--- How an explanation ends: it says which mapping answers, and standard error is as it was; or an error was reported there,
--- and standard output is as it was.
-abbrev pub Explains : {O E : Type 0} → (O → Option (List ℕ)) → Escape → List (List ℕ) → Sent → List (List ℕ × List ℕ)
-    → Form → O → O → E → E → ℕ → Type 0
-Explains out_holds escape documents sent states form out out' err err' status =
-    ((answer : ServeAnswer) × (text : List ℕ) × IsAnswer escape documents sent states answer × Says form answer text
-    × Ends (is_answered answer) text (out_holds out) (out_holds out') status × (err' ≡ err))
-    ⊎ ((status ≡ 1) × (out' ≡ out))
+-- how an explanation ends: it says which mapping answers, or an error is on standard error
+abbrev pub Explains : {O E : Type 0} → (O → Option (List ℕ)) → (E → Option (List ℕ)) → Escape → List (List ℕ) → Sent
+    → List (List ℕ × List ℕ) → Form → O → O → E → E → ℕ → Type 0
+Explains out_holds err_holds escape documents sent states form =
+    Ends out_holds err_holds (IsExplanation escape documents sent states form) (λ _. ⊤)
 
--- the same of the files that the path names
-abbrev pub ExplainsFiles : {O E : Type 0} → (O → Option (List ℕ)) → Escape → Option (List (List ℕ))
-    → (List ℕ → Option (List ℕ)) → Sent → List (List ℕ × List ℕ) → Form → O → O → E → E → ℕ → Type 0
-ExplainsFiles out_holds escape listed known sent states form out out' err err' status =
-    ((documents : List (List ℕ)) × AreDocuments listed known documents
-    × Explains out_holds escape documents sent states form out out' err err' status)
-    ⊎ ((status ≡ 1) × (out' ≡ out))
+-- how `mock explain` ends
+abbrev pub ExplainsFiles : {O E : Type 0} → (O → Option (List ℕ)) → (E → Option (List ℕ)) → Escape
+    → Option (List (List ℕ)) → (List ℕ → Option (List ℕ)) → List ℕ → Sent → List (List ℕ × List ℕ) → Form
+    → O → O → E → E → ℕ → Type 0
+ExplainsFiles out_holds err_holds escape listed known path sent states form =
+    EndsOnFiles out_holds err_holds listed known path
+    (λ documents. Explains out_holds err_holds escape documents sent states form)

@@ -1,7 +1,7 @@
 //! `mock answer`: the reply to one request.
 ghost use Rattle.std.specs.Prelude.{IfErr, IfOk, map};
 ghost use Rattle.command_output.specs.Output.{Followed};
-ghost use Rattle.mapping_commands.specs.Answering.{Answers, AnswersFiles, IsRefusal, IsReplyText, sent_of};
+ghost use Rattle.mapping_commands.specs.Answering.{Answers, AnswersFiles, IsAnswerError, IsReplyText, sent_of};
 
 use crate::fresh::{answer_of, fresh_book, reply_by};
 use crate::notes::{notes_of, put_all_notes};
@@ -26,7 +26,7 @@ pub fn answer_request(
     ensures reply { IfOk result (λ printed. IsReplyText escape (map (λ text. text.items) documents.now.texts.items)
         (sent_of sent.entry) printed.items) }
     ensures refusal { IfErr result
-        (IsRefusal escape (map (λ text. text.items) documents.now.texts.items) (sent_of sent.entry)) }
+        (IsAnswerError escape (map (λ text. text.items) documents.now.texts.items) (sent_of sent.entry)) }
 {
     let mut book = fresh_book(alloc, documents, escape)?;
     let request = snapshot_of(alloc, sent)?;

@@ -9,7 +9,6 @@ use match_difference::condition::{Condition, Source};
 use match_difference::difference::Difference;
 use match_difference::found::Found;
 use plain_text::items::Items;
-use plain_text::plain::TryClone;
 use plain_text::text::Text;
 use request_journal::event::ServeAnswer;
 use request_journal::mapping::Mapping;
@@ -114,8 +113,8 @@ fn difference_json(alloc: Global, difference: &Difference) -> Result<Value, Allo
 fn condition_json(alloc: Global, condition: &Condition) -> Result<Value, AllocError> {
     let mut spec = RequestSpec::any(alloc);
     match condition {
-        Condition::Method(wanted) => spec.method = Some(wanted.try_clone()?),
-        Condition::Url(wanted) => spec.url = wanted.try_clone()?,
+        Condition::Method(wanted) => spec.method = Some(wanted.clone()?),
+        Condition::Url(wanted) => spec.url = wanted.clone()?,
         Condition::Value { source, matcher } => {
             let one = one_matcher(alloc, matcher)?;
             match source {
@@ -126,7 +125,7 @@ fn condition_json(alloc: Global, condition: &Condition) -> Result<Value, AllocEr
         }
         Condition::PathParameter { template, matcher } => {
             spec.url = UrlSpec::UrlPathTemplate {
-                template: template.try_clone()?,
+                template: template.clone()?,
                 parameters: one_matcher(alloc, matcher)?,
             }
         }
@@ -138,13 +137,13 @@ fn condition_json(alloc: Global, condition: &Condition) -> Result<Value, AllocEr
 
 fn one_matcher(alloc: Global, matcher: &NamedMatcher) -> Result<Items<NamedMatcher>, AllocError> {
     let mut one = Vec::new(alloc);
-    one.push(matcher.try_clone()?)?;
+    one.push(matcher.clone()?)?;
     Ok(Items::from(one))
 }
 
 fn one_pattern(alloc: Global, pattern: &BodyPattern) -> Result<Items<BodyPattern>, AllocError> {
     let mut one = Vec::new(alloc);
-    one.push(pattern.try_clone()?)?;
+    one.push(pattern.clone()?)?;
     Ok(Items::from(one))
 }
 

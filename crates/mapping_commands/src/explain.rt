@@ -1,10 +1,9 @@
 //! `mock explain`: what it prints, and how it ends.
-ghost use Rattle.std.specs.Prelude.{◌≡◌, IfOk, map, string_bytes};
-ghost use Rattle.command_output.specs.Output.{Followed, WritesOneStream};
+ghost use Rattle.std.specs.Prelude.{◌≡◌, IfOk, if◌then◌else◌, map, string_bytes};
+ghost use Rattle.command_output.specs.Output.{Followed};
 ghost use Rattle.mapping_commands.specs.Answering.{sent_of};
-ghost use Rattle.mapping_commands.specs.Explaining.{Ends, Explains, ExplainsFiles, IsAnswer, Says, given_of};
-ghost use Rattle.mapping_commands.specs.Explaining.{is_answered};
-ghost use Rattle.request_journal.specs.declared.event.ServeAnswer.{ServeAnswer};
+ghost use Rattle.mapping_commands.specs.Explaining.{Explains, ExplainsFiles, IsExplanation, IsSaidBy};
+ghost use Rattle.mapping_commands.specs.Explaining.{given_of, is_answered};
 
 use crate::as_json::json_of;
 pub use crate::explanation::GivenState;
@@ -52,11 +51,10 @@ pub fn explain_file<F: FileReader, O: Write, E: Write>(
     err: &mut E,
     escape: Escape,
 ) -> u8
-    ensures answer { Followed E.contents
-        (λ e. ExplainsFiles O.contents escape (F.listed files.now path.now) (F.content files.now)
+    ensures { Followed E.contents
+        (λ e. ExplainsFiles O.contents E.contents escape (F.listed files.now path.now) (F.content files.now) path.now
         (sent_of question.entry.request) (map given_of question.entry.states.now) question.entry.form
         out.old out.new err.old e result) err.new }
-    ensures streams { Followed E.contents (λ e. WritesOneStream out.old out.new err.old e result) err.new }
 {
     match read_documents(alloc, files, path) {
         Ok(documents) => {
@@ -81,13 +79,15 @@ fn explain_to<O: Write, E: Write>(
     err: &mut E,
     escape: Escape,
 ) -> (u8, bool)
-    ensures answer { Explains O.contents escape (map (λ text. text.items) documents.now.texts.items)
+    ensures { Explains O.contents E.contents escape (map (λ text. text.items) documents.now.texts.items)
         (sent_of question.entry.request) (map given_of question.entry.states.now) question.entry.form
         out.old out.new err.old err.new result.0 }
-    ensures streams { WritesOneStream out.old out.new err.old err.new result.0 }
 {
-    match text_and_answer(alloc, documents, question, escape) {
-        Ok(made) => (write_to(out, &made), false),
+    match text_and_status(alloc, documents, question, escape) {
+        Ok(printed) => match put(out, printed.text.as_bytes()) {
+            Ok(()) => (printed.status, false),
+            Err(_error) => (FAILURE, false),
+        },
         Err(error) => {
             error.report(err);
             (FAILURE, true)
@@ -95,52 +95,42 @@ fn explain_to<O: Write, E: Write>(
     }
 }
 
-fn write_to<O: Write>(out: &mut O, made: &Printed) -> u8
-    ensures { Ends made.now.is_answered (string_bytes made.now.text) (O.contents out.old) (O.contents out.new) result }
-{
-    match put(out, made.text.as_str().as_bytes()) {
-        Ok(()) => if made.is_answered { SUCCESS } else { FAILURE },
-        Err(_error) => FAILURE,
-    }
-}
-
 #[derive(Drop)]
 struct Printed {
     text: String,
-    /// Whether a mapping answers.
-    is_answered: bool,
+    /// The exit status once it is written.
+    status: u8,
 }
 
-fn text_and_answer(
+fn text_and_status(
     alloc: Global,
     documents: &Documents,
     question: Question<'_>,
     escape: Escape,
 ) -> Result<Printed, CommandError>
-    ensures { IfOk result (λ made. (answer : ServeAnswer)
-        × IsAnswer escape (map (λ text. text.items) documents.now.texts.items)
-        (sent_of question.entry.request) (map given_of question.entry.states.now) answer
-        × Says question.entry.form answer (string_bytes made.text) × (made.is_answered ≡ is_answered answer)) }
+    ensures { IfOk result (λ printed. IsExplanation escape (map (λ text. text.items) documents.now.texts.items)
+        (sent_of question.entry.request) (map given_of question.entry.states.now) question.entry.form
+        (string_bytes printed.text) printed.status) }
 {
     let found = explanation_of(alloc, documents, question.request, question.states, escape)?;
     Ok(Printed {
-        is_answered: is_answered(&found.answer),
+        status: status_of(&found.answer),
         text: printed_as(alloc, &found, question.form)?,
     })
 }
 
-fn is_answered(answer: &ServeAnswer) -> bool
-    ensures { result ≡ is_answered answer.now }
+fn status_of(answer: &ServeAnswer) -> u8
+    ensures { result ≡ (if is_answered answer.now then 0 else 1) }
 {
     match answer {
-        ServeAnswer::Stub(_captured) => true,
-        ServeAnswer::Proxy(_target) => false,
-        ServeAnswer::Unmatched => false,
+        ServeAnswer::Stub(_captured) => SUCCESS,
+        ServeAnswer::Proxy(_target) => FAILURE,
+        ServeAnswer::Unmatched => FAILURE,
     }
 }
 
 fn printed_as(alloc: Global, found: &Explanation, form: Form) -> Result<String, AllocError>
-    ensures { IfOk result (λ text. Says form found.now.answer (string_bytes text)) }
+    ensures { IfOk result (λ text. IsSaidBy form found.now.answer (string_bytes text)) }
 {
     match form {
         Form::Text => text_of(alloc, found, false),

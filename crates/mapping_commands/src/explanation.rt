@@ -1,7 +1,7 @@
 // Which mapping answers a request, and what each other one wants.
 ghost use Rattle.std.specs.Prelude.{IfOk, OnOk, map};
 ghost use Rattle.mapping_commands.specs.Answering.{sent_of};
-ghost use Rattle.mapping_commands.specs.Explaining.{AreSet, IsAnswer, IsSetTo, given_of};
+ghost use Rattle.mapping_commands.specs.Explaining.{AreSet, IsChosenFor, IsSetTo, given_of};
 
 use crate::fresh::{answer_of, book_with, mappings_of};
 use crate::sent::{SentRequest, snapshot_of};
@@ -85,7 +85,7 @@ pub(crate) fn explanation_of(
     states: &[GivenState<'_>],
     escape: Escape,
 ) -> Result<Explanation, CommandError>
-    ensures { IfOk result (λ made. IsAnswer escape (map (λ text. text.items) documents.now.texts.items)
+    ensures { IfOk result (λ made. IsChosenFor escape (map (λ text. text.items) documents.now.texts.items)
         (sent_of sent.entry) (map given_of states.now) made.answer) }
 {
     let mappings = mappings_of(alloc, documents.texts.as_slice(), escape)?;

@@ -1,6 +1,6 @@
 // An explanation as text.
 ghost use Rattle.std.specs.Prelude.{◌≡◌, IfOk, string_bytes};
-ghost use Rattle.mapping_commands.specs.Explaining.{Names, front_of};
+ghost use Rattle.mapping_commands.specs.Explaining.{NamesMapping, front_of};
 
 use crate::explanation::{Explained, Explanation};
 use itoa::Buffer;
@@ -23,7 +23,7 @@ pub(crate) fn text_of(
     explanation: &Explanation,
     is_coloured: bool,
 ) -> Result<String, AllocError>
-    ensures { IfOk result (λ text. Names explanation.now.answer (string_bytes text)) }
+    ensures { IfOk result (λ text. NamesMapping explanation.now.answer (string_bytes text)) }
 {
     let mut text = answer_front(alloc, explanation.number, &explanation.answer)?;
     let rest = rest_of(alloc, explanation, is_coloured)?;

@@ -10,8 +10,8 @@ use Rattle.serde_json.specs.Read.{max_depth, read}
 use Rattle.serde_json.specs.Written.{IsInOrder}
 
 -- the text has the value's items and members, each once and in order; and it is read back as this very value
-abbrev pub IsTextOf : Data → List ℕ → Type 0
-IsTextOf d text = IsInOrder text d × (depth d ≤ max_depth → read text ≡ Some d)
+abbrev pub IsDocumentText : Data → List ℕ → Type 0
+IsDocumentText d text = IsInOrder text d × (depth d ≤ max_depth → read text ≡ Some d)
 
 -- a text after another
 abbrev pub next_text : List ℕ → List ℕ
@@ -31,7 +31,7 @@ in_order NewestFirst texts = reverse texts
 abbrev pub IsFileText : Listed → List ℕ → List ℕ → ℕ → Type 0
 IsFileText listed document text count =
     (d : Data) × (values : List Data) × (texts : List (List ℕ)) × IsDocument document d
-    × (mappings_in d ≡ Some values) × AllZip IsTextOf values texts × (text ≡ file_text (in_order listed texts))
+    × (mappings_in d ≡ Some values) × AllZip IsDocumentText values texts × (text ≡ file_text (in_order listed texts))
     × (count ≡ length values)
 
 -- as `saved 4 mappings`

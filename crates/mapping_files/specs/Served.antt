@@ -1,6 +1,6 @@
 -- The book that `mock serve` opens with files of mappings.
 use Rattle.std.specs.Prelude.{◌≡◌, ◌≢◌, ◌⊎◌, ◌≤◌, ℕ, Bool, false, true, List, [], ◌∷◌, ◌++◌, length, Option, None}
-use Rattle.std.specs.Prelude.{Some, Result, Ok, Err}
+use Rattle.std.specs.Prelude.{Some, Result, Ok, Err, ◌-◌, ⊤, unwrap_or}
 use Rattle.command_output.specs.Files.{AreDocuments}
 use Rattle.mapping_commands.specs.Answering.{SpellDocuments}
 use Rattle.mapping_json.specs.Documents.{AreResults, IsOuterError}
@@ -46,17 +46,23 @@ abbrev pub AreServed : Bool → Escape → List (List ℕ) → List MappingSpec 
 AreServed false escape documents mappings = SpellDocuments escape documents mappings
 AreServed true escape documents mappings = SpellAccepted escape documents mappings
 
--- a book with these mappings, and no event yet: the first will have the number after `opening`
-abbrev pub IsOpened : ℕ → Bool → Escape → List (List ℕ) → Past → Type 0
-IsOpened opening skips escape documents past =
-    (mappings : List MappingSpec) × AreServed skips escape documents mappings × (past ≡ opened opening mappings)
-    × (length (live past) ≤ LIVE_LIMIT)
+-- the number before that of the first event; if none is asked for, it is made so that ids don't collide, of which
+-- nothing is said here
+abbrev pub IsOpening : Option ℕ → ℕ → Type 0
+IsOpening None opening = ⊤
+IsOpening (Some first) opening = opening ≡ first - 1
+
+-- a book with these mappings, and no event yet
+abbrev pub IsOpenedWith : Option ℕ → Bool → Escape → List (List ℕ) → Past → Type 0
+IsOpenedWith asked skips escape documents past =
+    (opening : ℕ) × (mappings : List MappingSpec) × IsOpening asked opening
+    × AreServed skips escape documents mappings × (past ≡ opened opening mappings) × (length (live past) ≤ LIVE_LIMIT)
 
 -- With the mappings of the documents at the path, one document after another; or with none without a path. Which files
 -- a path names, and what a file has, are known or not.
-abbrev pub IsServedBook : ℕ → Bool → Escape → Option (List ℕ) → (List ℕ → Option (List (List ℕ)))
+abbrev pub IsServedBook : Option ℕ → Bool → Escape → Option (List ℕ) → (List ℕ → Option (List (List ℕ)))
     → (List ℕ → Option (List ℕ)) → Past → Type 0
-IsServedBook opening skips escape None listed known past = past ≡ opened opening []
-IsServedBook opening skips escape (Some path) listed known past =
+IsServedBook asked skips escape None listed known past = past ≡ opened (unwrap_or asked 1 - 1) []
+IsServedBook asked skips escape (Some path) listed known past =
     (documents : List (List ℕ)) × AreDocuments (listed path) known documents
-    × IsOpened opening skips escape documents past
+    × IsOpenedWith asked skips escape documents past

@@ -1,7 +1,7 @@
 // The text of a file of mappings.
 ghost use Rattle.std.specs.Prelude.{◌≡◌, ◌++◌, IfOk, List, OnOk, flat_map, length, map, string_bytes, ℕ};
 ghost use Rattle.std.specs.List.{AllZip};
-ghost use Rattle.mapping_files.specs.Saved.{IsFileText, IsTextOf, file_text, in_order, next_text};
+ghost use Rattle.mapping_files.specs.Saved.{IsFileText, IsDocumentText, file_text, in_order, next_text};
 ghost use Rattle.serde_json.specs.View.{view};
 
 use json_reading::document::document_of;
@@ -62,7 +62,7 @@ pub fn file_text_of(alloc: Global, document: &[u8], listed: Listed) -> Result<Fi
 }
 
 fn text_of(alloc: Global, values: &[Value], listed: Listed) -> Result<FileText, AllocError>
-    ensures text { IfOk result (λ made. (texts : List (List ℕ)) × AllZip IsTextOf (map view values.now) texts
+    ensures text { IfOk result (λ made. (texts : List (List ℕ)) × AllZip IsDocumentText (map view values.now) texts
         × (string_bytes made.text ≡ file_text (in_order listed texts))) }
     ensures count { IfOk result (λ made. made.count ≡ length values.now) }
 {
@@ -92,7 +92,7 @@ fn ordered_text(alloc: Global, texts: Vec<String>, listed: Listed) -> Result<Str
 
 // The compact text of each value.
 fn texts_of(alloc: Global, values: &[Value]) -> Result<Vec<String>, AllocError>
-    ensures { IfOk result (λ texts. AllZip IsTextOf (map view values.now) (map string_bytes texts.items)) }
+    ensures { IfOk result (λ texts. AllZip IsDocumentText (map view values.now) (map string_bytes texts.items)) }
 {
     let mut texts = Vec::with_capacity(alloc, values.len())?;
     for value in values {

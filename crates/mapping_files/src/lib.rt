@@ -8,6 +8,7 @@ mod accepted;
 pub mod book;
 pub mod file_text;
 pub mod file_writer;
+mod first_event;
 pub mod recorded;
 pub mod save;
 pub mod server;

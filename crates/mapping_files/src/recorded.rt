@@ -1,6 +1,6 @@
 //! What `mock record` writes when it ends: the mappings that its server has recorded, and the exchanges as a HAR
 //! document.
-ghost use Rattle.std.specs.Prelude.{IfOk, List, OnOk, ℕ};
+ghost use Rattle.std.specs.Prelude.{◌<◌, IfOk, List, OnOk, ℕ};
 ghost use Rattle.mapping_files.specs.Saved.{IsFileText};
 ghost use Rattle.mapping_files.specs.declared.file_text.Listed.TheVariants.{OldestFirst};
 
@@ -69,9 +69,9 @@ pub fn check_files<F: FileWriter>(
     Ok(())
 }
 
-/// Stops the recording of the server at the address, and writes its mappings to a file, the oldest first; and first the
-/// exchanges as a HAR document to another file, if it is asked for. Where these can't be had or written, the mappings are
-/// written all the same.
+/// Stops the recording of the server at the address, and writes its mappings to a file, the oldest first; and then the
+/// exchanges as a HAR document to another file, if it is asked for. What is empty isn't written. Where the mappings can't be
+/// had or written, the exchanges are written all the same.
 pub fn end_recording<R>(
     rt: &R,
     address: &str,
@@ -81,16 +81,35 @@ pub fn end_recording<R>(
 where
     R: Wait + Net + Clock + RandomSource + AllocGlobal + FileWriter + Copy + Drop,
     ensures { IfOk result (λ recorded. (answer : List ℕ) × (text : List ℕ)
-        × IsFileText OldestFirst answer text recorded.count × R.stored rt.now file.now text) }
+        × IsFileText OldestFirst answer text recorded.count × (0 < recorded.count → R.stored rt.now file.now text)) }
 {
+    let stopped = stop_recording(rt, address, file);
     let exchanges = match har {
-        Some(path) => store_exchanges(rt, address, path),
-        None => Ok(()),
+        Some(path) if !is_nothing(&stopped) => store_exchanges(rt, address, path),
+        _ => Ok(()),
     };
-    let answer = call(rt, address, "POST", "/__admin/recordings/stop")?;
-    let recorded = store_recorded(rt.alloc(), rt, answer.as_slice(), file)?;
+    let recorded = stopped?;
     exchanges?;
     Ok(recorded)
+}
+
+fn stop_recording<R>(rt: &R, address: &str, file: &str) -> Result<Recorded, RecordError>
+where
+    R: Wait + Net + Clock + RandomSource + AllocGlobal + FileWriter + Copy + Drop,
+    ensures { IfOk result (λ recorded. (answer : List ℕ) × (text : List ℕ)
+        × IsFileText OldestFirst answer text recorded.count × (0 < recorded.count → R.stored rt.now file.now text)) }
+{
+    let answer = call(rt, address, "POST", "/__admin/recordings/stop")?;
+    let recorded = store_recorded(rt.alloc(), rt, answer.as_slice(), file)?;
+    Ok(recorded)
+}
+
+// Whether the recording has no exchanges.
+fn is_nothing(stopped: &Result<Recorded, RecordError>) -> bool {
+    match stopped {
+        Ok(recorded) => recorded.count == 0 && recorded.skipped == 0,
+        Err(_error) => false,
+    }
 }
 
 // Writes the exchanges of the recording as a HAR document.
@@ -105,22 +124,26 @@ where
     }
 }
 
-/// Writes the mappings of the answer to a call that has stopped a recording.
+/// Writes the mappings of the answer to a call that has stopped a recording, if it has any.
 pub fn store_recorded<F: FileWriter>(
     alloc: Global,
     files: &F,
     answer: &[u8],
     path: &str,
 ) -> Result<Recorded, RecordError>
-    ensures { IfOk result (λ recorded. (text : List ℕ)
-        × IsFileText OldestFirst answer.now text recorded.count × F.stored files.now path.now text) }
+    ensures { IfOk result (λ recorded. (text : List ℕ) × IsFileText OldestFirst answer.now text recorded.count
+        × (0 < recorded.count → F.stored files.now path.now text)) }
 {
     let made = file_text_of(alloc, answer, Listed::OldestFirst)?;
+    let recorded = Recorded {
+        count: made.count,
+        skipped: skipped_in(alloc, answer),
+    };
+    if recorded.count == 0 {
+        return Ok(recorded);
+    }
     match store_text(alloc, files, path, made.text.as_str()) {
-        Ok(()) => Ok(Recorded {
-            count: made.count,
-            skipped: skipped_in(alloc, answer),
-        }),
+        Ok(()) => Ok(recorded),
         Err(error) => Err(RecordError::File(error)),
     }
 }

@@ -5,8 +5,8 @@ use request_journal::input::BookInput;
 use serde_json::{Map, Value};
 use std::alloc::{AllocError, Global};
 
-/// The call that starts a recording of the target, as an admin call with these names of headers does; or the error of
-/// the admin call. The book judges the target.
+/// The call that starts a recording of the upstream, as an admin call with these names of headers does; or the error of
+/// the admin call. The book judges the upstream.
 pub fn recording_start(
     alloc: Global,
     target: &str,

@@ -7,7 +7,6 @@ use mapping_model::mapping_id::MappingId;
 use mapping_model::mapping_spec::MappingSpec;
 use mapping_model::request_spec::RequestSpec;
 use mapping_model::scenario_spec::ScenarioSpec;
-use mapping_model::version::Version;
 use plain_text::text::Text;
 use request_match::ready_mapping::ReadyMapping;
 use request_match::request_matcher::RequestMatcher;
@@ -44,7 +43,6 @@ impl MappingDraft {
         } = self;
         match response.compile(alloc, escape) {
             Ok(response) => {
-                let response = Version::new(alloc, response)?;
                 Ok(ReadyMapping::build(
                     alloc,
                     MappingSpec {

@@ -24,7 +24,7 @@ pub fn write_mapping(alloc: Global, mapping: &MappingSpec) -> Result<Value, Allo
     put_names(alloc, &mut members, mapping)?;
     let request = write_request(alloc, &mapping.request)?;
     serde_json::put(&mut members, alloc, "request", request)?;
-    let response = write_response(alloc, mapping.response.response())?;
+    let response = write_response(alloc, &mapping.response)?;
     serde_json::put(&mut members, alloc, "response", response)?;
     Ok(Value::Object(members))
 }

@@ -2,13 +2,12 @@
 
 use json_match::json_spec::JsonSpec;
 use plain_text::octets::Octets;
-use plain_text::plain::{Same, TryClone};
+use plain_text::plain::Same;
 use plain_text::text::Text;
-use std::alloc::AllocError;
 use value_match::value_spec::ValueSpec;
 
 /// A body matcher as it was written.
-#[derive(Drop)]
+#[derive(Clone, Drop)]
 pub enum BodyPattern {
     /// On the text of the body.
     Value(ValueSpec),
@@ -19,23 +18,6 @@ pub enum BodyPattern {
         expression: Text,
         matcher: ValueSpec,
     },
-}
-
-impl TryClone for BodyPattern {
-    fn try_clone(&self) -> Result<BodyPattern, AllocError> {
-        Ok(match self {
-            BodyPattern::Value(matcher) => BodyPattern::Value(matcher.try_clone()?),
-            BodyPattern::BinaryEqualTo(bytes) => BodyPattern::BinaryEqualTo(bytes.try_clone()?),
-            BodyPattern::Json(matcher) => BodyPattern::Json(matcher.try_clone()?),
-            BodyPattern::JsonPath {
-                expression,
-                matcher,
-            } => BodyPattern::JsonPath {
-                expression: expression.try_clone()?,
-                matcher: matcher.try_clone()?,
-            },
-        })
-    }
 }
 
 impl Same for BodyPattern {

@@ -1,5 +1,5 @@
 // The name of a header.
-ghost use Rattle.std.specs.Prelude.{◌≡◌, ◌↔◌, IfOk, IfSome, IsSome, IsTrue};
+ghost use Rattle.std.specs.Prelude.{◌≡◌, ◌↔◌, IfSome, IsSome, IsTrue};
 ghost use Rattle.http_header.specs.Token.{IsToken};
 
 use http_header::is_token;
@@ -44,18 +44,22 @@ impl FieldName {
         self.name.as_str()
     }
 
-    pub fn try_clone(&self) -> Result<FieldName, AllocError>
-        ensures { IfOk result (λ copy. copy ≡ self.now) }
-    {
-        Ok(FieldName {
-            name: self.name.try_clone()?,
-        })
-    }
-
     /// Whether they are equal, byte by byte.
     pub fn same(&self, other: &FieldName) -> bool
         ensures { IsTrue result ↔ (self.now ≡ other.now) }
     {
         self.name.same(&other.name)
+    }
+}
+
+impl Clone for FieldName {
+    ghost use Rattle.std.specs.Prelude.{◌≡◌};
+
+    ghost is_clone = { λ original copy. copy ≡ original };
+
+    fn clone(&self) -> Result<FieldName, AllocError> {
+        Ok(FieldName {
+            name: self.name.clone()?,
+        })
     }
 }

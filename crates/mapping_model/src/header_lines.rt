@@ -10,7 +10,7 @@ use std::marker::Model;
 pub const HEADER_LIMIT: usize = 100;
 
 /// A header line: a name with one value, a text or a template.
-#[derive(Drop)]
+#[derive(Clone, Drop)]
 pub struct HeaderLine<V> {
     pub name: FieldName,
     pub value: V,
@@ -23,7 +23,7 @@ impl<V: Same> Same for HeaderLine<V> {
 }
 
 /// The header lines of a response, at most `HEADER_LIMIT`, which contracts see as a list.
-#[derive(Drop)]
+#[derive(Clone, Drop)]
 pub struct HeaderLines<V> {
     lines: Items<HeaderLine<V>>,
 }

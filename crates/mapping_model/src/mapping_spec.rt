@@ -3,10 +3,10 @@ ghost use Rattle.std.specs.Prelude.{◌≡◌, ◌↔◌, IfOk, IsTrue};
 ghost use Rattle.mapping_model.specs.Priority.{priority_of};
 
 use crate::mapping_id::MappingId;
-use crate::option_text::{same_option, try_clone_option};
 use crate::request_spec::RequestSpec;
+use crate::response_spec::ResponseSpec;
+use crate::same_option::same_option;
 use crate::scenario_spec::ScenarioSpec;
-use crate::version::Version;
 use plain_text::text::Text;
 use std::alloc::AllocError;
 
@@ -22,7 +22,7 @@ pub struct MappingSpec {
     pub priority: Option<i32>,
     pub scenario: Option<ScenarioSpec>,
     pub request: RequestSpec,
-    pub response: Version,
+    pub response: ResponseSpec,
 }
 
 impl MappingSpec {
@@ -33,27 +33,27 @@ impl MappingSpec {
         self.priority.unwrap_or(DEFAULT_PRIORITY)
     }
 
-    /// Shares the response.
+    /// A copy, which shares the programs of templates.
     pub fn try_clone(&self) -> Result<MappingSpec, AllocError>
         ensures { IfOk result (λ copy. copy ≡ self.now) }
     {
         Ok(MappingSpec {
             id: self.id,
-            name: try_clone_option(&self.name)?,
+            name: self.name.clone()?,
             priority: self.priority,
-            scenario: try_clone_scenario(&self.scenario)?,
-            request: self.request.try_clone()?,
-            response: self.response.try_clone()?,
+            scenario: self.scenario.clone()?,
+            request: self.request.clone()?,
+            response: self.response.clone()?,
         })
     }
 
     pub fn same(&self, other: &MappingSpec) -> bool
         ensures { IsTrue result ↔ (self.now ≡ other.now) }
     {
-        same_id(self.id, other.id)
+        self.id == other.id
             && same_option(&self.name, &other.name)
             && self.priority == other.priority
-            && same_scenario(&self.scenario, &other.scenario)
+            && same_option(&self.scenario, &other.scenario)
             && self.request.same(&other.request)
             && self.response.same(&other.response)
     }
@@ -70,34 +70,5 @@ impl Drop for MappingSpec {
             request: _request,
             response: _response,
         } = self;
-    }
-}
-
-fn same_id(a: Option<MappingId>, b: Option<MappingId>) -> bool
-    ensures { IsTrue result ↔ (a ≡ b) }
-{
-    match (a, b) {
-        (Some(a), Some(b)) => a.same(b),
-        (None, None) => true,
-        _ => false,
-    }
-}
-
-fn try_clone_scenario(scenario: &Option<ScenarioSpec>) -> Result<Option<ScenarioSpec>, AllocError>
-    ensures { IfOk result (λ copy. copy ≡ scenario.now) }
-{
-    match scenario {
-        Some(scenario) => Ok(Some(scenario.try_clone()?)),
-        None => Ok(None),
-    }
-}
-
-fn same_scenario(a: &Option<ScenarioSpec>, b: &Option<ScenarioSpec>) -> bool
-    ensures { IsTrue result ↔ (a.now ≡ b.now) }
-{
-    match (a, b) {
-        (Some(a), Some(b)) => a.same(b),
-        (None, None) => true,
-        _ => false,
     }
 }

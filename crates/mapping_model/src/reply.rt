@@ -5,23 +5,14 @@ use crate::field_name::FieldName;
 use bytes::Bytes;
 use plain_text::items::Items;
 use plain_text::octets::Octets;
-use plain_text::plain::{Same, TryClone};
+use plain_text::plain::Same;
 use std::alloc::AllocError;
 
 /// A header line of a reply.
-#[derive(Drop)]
+#[derive(Clone, Drop)]
 pub struct ReplyHeader {
     pub name: FieldName,
     pub value: Octets,
-}
-
-impl TryClone for ReplyHeader {
-    fn try_clone(&self) -> Result<ReplyHeader, AllocError> {
-        Ok(ReplyHeader {
-            name: self.name.try_clone()?,
-            value: self.value.try_clone()?,
-        })
-    }
 }
 
 impl Same for ReplyHeader {
@@ -31,7 +22,7 @@ impl Same for ReplyHeader {
 }
 
 /// A reply: a stub's, the server's own, or that of an upstream, which may have any status.
-#[derive(Drop)]
+#[derive(Clone, Drop)]
 pub struct Reply {
     pub status: u16,
     pub headers: Items<ReplyHeader>,
@@ -43,11 +34,7 @@ impl Reply {
     pub fn try_clone(&self) -> Result<Reply, AllocError>
         ensures { IfOk result (λ copy. copy ≡ self.now) }
     {
-        Ok(Reply {
-            status: self.status,
-            headers: self.headers.try_clone()?,
-            body: self.body.clone()?,
-        })
+        self.clone()
     }
 
     pub fn same(&self, other: &Reply) -> bool

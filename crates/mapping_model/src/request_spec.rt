@@ -3,7 +3,7 @@ ghost use Rattle.std.specs.Prelude.{◌≡◌, ◌↔◌, [], None, IfOk, IsTrue
 
 use crate::body_pattern::BodyPattern;
 use crate::named_matcher::NamedMatcher;
-use crate::option_text::{same_option, try_clone_option};
+use crate::same_option::same_option;
 use crate::url_spec::UrlSpec;
 use plain_text::items::Items;
 use plain_text::text::Text;
@@ -18,6 +18,24 @@ pub struct RequestSpec {
     pub query: Items<NamedMatcher>,
     pub cookies: Items<NamedMatcher>,
     pub body: Items<BodyPattern>,
+}
+
+// Written out, so that a caller's proof sees one fact and not a copy of each field.
+impl Clone for RequestSpec {
+    ghost use Rattle.std.specs.Prelude.{◌≡◌};
+
+    ghost is_clone = { λ original copy. copy ≡ original };
+
+    fn clone(&self) -> Result<RequestSpec, AllocError> {
+        Ok(RequestSpec {
+            method: self.method.clone()?,
+            url: copied_url(&self.url)?,
+            headers: copied(&self.headers)?,
+            query: copied(&self.query)?,
+            cookies: copied(&self.cookies)?,
+            body: copied_body(&self.body)?,
+        })
+    }
 }
 
 // Written out, so that a caller's proof sees one call and not the drop of each field.
@@ -56,19 +74,6 @@ impl RequestSpec {
         }
     }
 
-    pub fn try_clone(&self) -> Result<RequestSpec, AllocError>
-        ensures { IfOk result (λ copy. copy ≡ self.now) }
-    {
-        Ok(RequestSpec {
-            method: try_clone_option(&self.method)?,
-            url: self.url.try_clone()?,
-            headers: self.headers.try_clone()?,
-            query: self.query.try_clone()?,
-            cookies: self.cookies.try_clone()?,
-            body: self.body.try_clone()?,
-        })
-    }
-
     pub fn same(&self, other: &RequestSpec) -> bool
         ensures { IsTrue result ↔ (self.now ≡ other.now) }
     {
@@ -79,4 +84,22 @@ impl RequestSpec {
             && self.cookies.same(&other.cookies)
             && self.body.same(&other.body)
     }
+}
+
+fn copied(matchers: &Items<NamedMatcher>) -> Result<Items<NamedMatcher>, AllocError>
+    ensures { IfOk result (λ copy. copy ≡ matchers.now) }
+{
+    matchers.clone()
+}
+
+fn copied_body(patterns: &Items<BodyPattern>) -> Result<Items<BodyPattern>, AllocError>
+    ensures { IfOk result (λ copy. copy ≡ patterns.now) }
+{
+    patterns.clone()
+}
+
+fn copied_url(url: &UrlSpec) -> Result<UrlSpec, AllocError>
+    ensures { IfOk result (λ copy. copy ≡ url.now) }
+{
+    url.clone()
 }

@@ -8,9 +8,10 @@ use json_reading::json_text::JsonText;
 use plain_text::octets::Octets;
 use plain_text::plain::Same;
 use plain_text::text::Text;
+use std::alloc::AllocError;
 
 /// The body of a response, in the form in which it was given. Only a `body` may be a template.
-#[derive(Drop)]
+#[derive(Clone, Drop)]
 pub enum Body<V> {
     /// No body. An empty `body` is none: `of_text` gives it so, and whoever makes a template's body has to.
     Empty,
@@ -51,7 +52,7 @@ impl<V: Same> Same for Body<V> {
 
 /// The headers and the body of a response: texts, or templates where the response has the transformer
 /// `response-template`.
-#[derive(Drop)]
+#[derive(Clone, Drop)]
 pub enum Content {
     Plain {
         headers: HeaderLines<Text>,
@@ -98,6 +99,20 @@ impl Content {
 pub struct ResponseSpec {
     pub status: Status,
     pub content: Content,
+}
+
+// Written out, so that a caller's proof sees one fact and not a copy of each part.
+impl Clone for ResponseSpec {
+    ghost use Rattle.std.specs.Prelude.{◌≡◌};
+
+    ghost is_clone = { λ original copy. copy ≡ original };
+
+    fn clone(&self) -> Result<ResponseSpec, AllocError> {
+        Ok(ResponseSpec {
+            status: self.status,
+            content: self.content.clone()?,
+        })
+    }
 }
 
 impl ResponseSpec {

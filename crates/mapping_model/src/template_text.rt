@@ -7,28 +7,30 @@ ghost use Rattle.template_machine.specs.Program.{IsProgram, IsProgramText};
 ghost use Rattle.template_machine.specs.declared.error.ProgramError.TheVariants.{CodeRefused, OutOfMemory};
 
 use plain_text::plain::Same;
-use std::alloc::Global;
+use std::alloc::{AllocError, Global};
 use std::marker::Model;
+use std::sync::Arc;
 use template_machine::error::ProgramError;
 use template_machine::program::Program;
 use template_tree::escape::Escape;
 
-/// A template with its verified program. Contracts see its text and how its prints are escaped, by which the program is
-/// determined.
-#[derive(Drop)]
+/// A template with its verified program, which copies share. Contracts see its text and how its prints are escaped, by
+/// which the program is determined.
+#[derive(Clone, Drop)]
 pub struct TemplateText {
-    program: Program,
+    program: Arc<Program>,
 }
 
 impl Model for TemplateText {
+    ghost use Rattle.std.specs.Arc.{arc_value};
     ghost use Rattle.template_tree.specs.Source.{Source};
     ghost use Rattle.template_machine.specs.Program.{IsProgram};
 
     ghost Value = { Source };
 
-    ghost view = { λ t. t.program.source };
+    ghost view = { λ t. (arc_value t.program).source };
 
-    ghost invariant = { λ t. IsProgram t.program };
+    ghost invariant = { λ t. IsProgram (arc_value t.program) };
 }
 
 impl TemplateText {
@@ -45,8 +47,9 @@ impl TemplateText {
         ensures reported { IfErr result (λ error. IsErrorOf (with_escape escape text.now) error) }
         ensures never_refused { (index : ℕ) (rule : Rule) → IsErrOf result (CodeRefused index rule) → ⊥ }
     {
+        let program = Program::from_text_with(alloc, text, escape)?;
         Ok(TemplateText {
-            program: Program::from_text_with(alloc, text, escape)?,
+            program: Arc::new(alloc, program).map_err(AllocError::from)?,
         })
     }
 

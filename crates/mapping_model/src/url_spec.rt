@@ -1,14 +1,13 @@
 // What the URL of a request has to meet.
-ghost use Rattle.std.specs.Prelude.{◌≡◌, ◌↔◌, IfOk, IsTrue};
+ghost use Rattle.std.specs.Prelude.{◌≡◌, ◌↔◌, IsTrue};
 
 use crate::named_matcher::NamedMatcher;
 use plain_text::items::Items;
 use plain_text::text::Text;
-use std::alloc::AllocError;
 
 /// A URL matcher as it was written (WireMock's documentation, "URL matching"). A request has one at most, and path
 /// parameters only with a template.
-#[derive(Drop)]
+#[derive(Clone, Drop)]
 pub enum UrlSpec {
     Any,
     /// The path and the query.
@@ -24,25 +23,6 @@ pub enum UrlSpec {
 }
 
 impl UrlSpec {
-    pub fn try_clone(&self) -> Result<UrlSpec, AllocError>
-        ensures { IfOk result (λ copy. copy ≡ self.now) }
-    {
-        Ok(match self {
-            UrlSpec::Any => UrlSpec::Any,
-            UrlSpec::Url(text) => UrlSpec::Url(text.try_clone()?),
-            UrlSpec::UrlPattern(text) => UrlSpec::UrlPattern(text.try_clone()?),
-            UrlSpec::UrlPath(text) => UrlSpec::UrlPath(text.try_clone()?),
-            UrlSpec::UrlPathPattern(text) => UrlSpec::UrlPathPattern(text.try_clone()?),
-            UrlSpec::UrlPathTemplate {
-                template,
-                parameters,
-            } => UrlSpec::UrlPathTemplate {
-                template: template.try_clone()?,
-                parameters: parameters.try_clone()?,
-            },
-        })
-    }
-
     pub fn same(&self, other: &UrlSpec) -> bool
         ensures { IsTrue result ↔ (self.now ≡ other.now) }
     {

@@ -75,7 +75,7 @@ impl BookMapping {
     {
         Ok(Mapping {
             id: self.id,
-            spec: self.shared().try_clone()?,
+            spec: self.shared().clone()?,
         })
     }
 

@@ -82,7 +82,7 @@ fn list_one(entry: &Entry, defaults: &[BookMapping]) -> Result<Listed, AllocErro
         index: entry.index,
         mapping: Mapping {
             id: entry.id,
-            spec: spec_of(entry, defaults).try_clone()?,
+            spec: spec_of(entry, defaults).clone()?,
         },
     })
 }

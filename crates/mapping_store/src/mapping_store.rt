@@ -179,7 +179,7 @@ impl MappingStore {
                 let entry = &self.live[at];
                 Ok(Some(Mapping {
                     id: entry.id,
-                    spec: spec_of(entry, self.defaults.as_slice()).try_clone()?,
+                    spec: spec_of(entry, self.defaults.as_slice()).clone()?,
                 }))
             }
             None => Ok(None),

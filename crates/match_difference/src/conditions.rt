@@ -14,7 +14,6 @@ use mapping_model::named_matcher::NamedMatcher;
 use mapping_model::scenario_spec::ScenarioSpec;
 use mapping_model::url_spec::UrlSpec;
 use plain_text::items::Items;
-use plain_text::plain::TryClone;
 use plain_text::text::Text;
 use std::alloc::{AllocError, Global};
 
@@ -55,7 +54,7 @@ fn push_method(list: &mut Vec<Condition>, method: &Option<Text>) -> Result<(), A
     ensures { OnOk result (list.new.items ≡ list.old.items ++ method_conditions method.now) }
 {
     match method {
-        Some(wanted) => push(list, Condition::Method(wanted.try_clone()?)),
+        Some(wanted) => push(list, Condition::Method(wanted.clone()?)),
         None => Ok(()),
     }
 }
@@ -67,12 +66,12 @@ fn push_url(alloc: Global, list: &mut Vec<Condition>, url: &UrlSpec) -> Result<(
         UrlSpec::Any => Ok(()),
         UrlSpec::UrlPathTemplate { template, .. } => {
             let alone = UrlSpec::UrlPathTemplate {
-                template: template.try_clone()?,
+                template: template.clone()?,
                 parameters: Items::from(Vec::new(alloc)),
             };
             push(list, Condition::Url(alone))
         }
-        _ => push(list, Condition::Url(url.try_clone()?)),
+        _ => push(list, Condition::Url(url.clone()?)),
     }
 }
 
@@ -89,7 +88,7 @@ fn push_values(
             list,
             Condition::Value {
                 source,
-                matcher: matcher.try_clone()?,
+                matcher: copied(matcher)?,
             },
         )?;
     }
@@ -120,19 +119,26 @@ fn push_each_parameter(
         push(
             list,
             Condition::PathParameter {
-                template: template.try_clone()?,
-                matcher: matcher.try_clone()?,
+                template: template.clone()?,
+                matcher: copied(matcher)?,
             },
         )?;
     }
     Ok(())
 }
 
+// Apart, so that the proofs of loops see one fact and not a copy of each part.
+fn copied(matcher: &NamedMatcher) -> Result<NamedMatcher, AllocError>
+    ensures { IfOk result (λ copy. copy ≡ matcher.now) }
+{
+    matcher.clone()
+}
+
 fn push_body(list: &mut Vec<Condition>, patterns: &[BodyPattern]) -> Result<(), AllocError>
     ensures { OnOk result (list.new.items ≡ list.old.items ++ map (λ p. condition.Body p) patterns.now) }
 {
     for pattern in patterns {
-        push(list, Condition::Body(pattern.try_clone()?))?;
+        push(list, Condition::Body(pattern.clone()?))?;
     }
     Ok(())
 }
@@ -144,7 +150,7 @@ fn push_scenario(
     ensures { OnOk result (list.new.items ≡ list.old.items ++ scenario_conditions scenario.now) }
 {
     match scenario {
-        Some(scenario) => push(list, Condition::Scenario(scenario.try_clone()?)),
+        Some(scenario) => push(list, Condition::Scenario(scenario.clone()?)),
         None => Ok(()),
     }
 }

@@ -7,8 +7,8 @@ use Rattle.mock.specs.declared.descriptors.TheConstants.{
   USUAL_CONNECTIONS,
 }
 
--- of those that the process and its threads leave, half, or all but those that are kept for targets, whichever are more;
--- one at least and the usual number at most
+-- of those that the process and its threads leave, half, or all but those that are kept for upstreams, whichever are
+-- more; one at least and the usual number at most
 abbrev pub connections_within : ℕ → ℕ → ℕ
 connections_within limit threads =
     let free = limit - (OWN_DESCRIPTORS + THREAD_DESCRIPTORS * threads) in

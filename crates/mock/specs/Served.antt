@@ -1,7 +1,7 @@
 -- What `mock serve` writes.
 use Rattle.std.specs.Prelude.{◌≡◌, ◌⊎◌, ℕ, List, Option}
 use Rattle.hyper_service.specs.Report.{ReportsServed}
-use Rattle.logbook.specs.Pages.{Book}
+use Rattle.logbook.specs.Pages.{Book as HistoryName}
 use Rattle.request_journal.specs.Past.{Past}
 
 -- Nothing is written to standard output, and the status is 1: there is no such book, nothing to listen with, or no
@@ -11,5 +11,5 @@ abbrev pub ServesBook : {O E : Type 0} → (O → Option (List ℕ)) → (E → 
     → ℕ → Type 0
 ServesBook {E = E} out_holds err_holds IsOrigin out out' err' status =
     ((out' ≡ out) × (status ≡ 1))
-    ⊎ ((origin : Past) × IsOrigin origin × (parts : ℕ) × (name : Book) × (ready : E)
+    ⊎ ((origin : Past) × IsOrigin origin × (parts : ℕ) × (name : HistoryName) × (ready : E)
     × ReportsServed out_holds err_holds origin parts name out out' ready err' status)

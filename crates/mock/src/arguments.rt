@@ -81,8 +81,8 @@ pub struct ServeArguments<'a> {
     pub journal_limit: Option<u64>,
     /// The path of the file of the page.
     pub page: Option<&'a str>,
-    /// The number before that of the first event.
-    pub opening: u64,
+    /// The number of the first event, if it is asked for.
+    pub first_event: Option<u64>,
     /// Whether mappings that are refused are left out.
     pub skips_refused: bool,
     /// Whether it ends when standard input does.
@@ -208,7 +208,6 @@ fn address_in<'a>(given: &ArgMatches<'a>) -> Result<IpAddr, &'a str> {
 }
 
 fn arguments_in<'a>(given: &ArgMatches<'a>, address: IpAddr) -> Option<ServeArguments<'a>> {
-    let first_event: Option<u64> = given.get_one("first-event");
     Some(ServeArguments {
         port: given.get_one("port")?,
         mappings: given.get_str("mappings"),
@@ -219,7 +218,7 @@ fn arguments_in<'a>(given: &ArgMatches<'a>, address: IpAddr) -> Option<ServeArgu
         threads: given.get_one("threads").unwrap_or(THREADS),
         journal_limit: given.get_one("journal-limit"),
         page: given.get_str("page"),
-        opening: first_event.unwrap_or(1).saturating_sub(1),
+        first_event: given.get_one("first-event"),
         skips_refused: given.get_flag("skip-refused"),
         ends_with_input: given.get_flag("end-with-stdin"),
         verbose: given.get_flag("verbose"),
@@ -328,7 +327,8 @@ fn page<'a>(alloc: Global) -> Arg<'a> {
 }
 
 fn first_event<'a>(alloc: Global) -> Arg<'a> {
-    let help = "The number of the first event, from which ids and names are made [default: 1]";
+    let help =
+        "The number of the first event, from which ids and names are made [default: 1, or more where ids of the files would be given anew]";
     option(alloc, "first-event", "N", help).value_parser(value_parser!(u64).range(1..))
 }
 

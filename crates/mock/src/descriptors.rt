@@ -16,7 +16,7 @@ const OWN_DESCRIPTORS: u64 = 12;
 /// Descriptors of each thread that serves.
 const THREAD_DESCRIPTORS: u64 = 4;
 
-/// Descriptors that are kept for connections to targets, where there are more than twice as many: a request that is
+/// Descriptors that are kept for connections to upstreams, where there are more than twice as many: a request that is
 /// forwarded has one while its connection waits.
 const FORWARD_DESCRIPTORS: u64 = 108;
 
@@ -39,9 +39,9 @@ pub fn open_connections<E: Write>(given: Option<u64>, threads: u64, err: &mut E)
     count
 }
 
-// As many as there are descriptors for beside those of the process, of its threads and for targets, and one at least. Of
-// few descriptors half are for targets, so that each connection may wait for one; more aren't kept than leave the usual
-// number of connections with 1,024 and one thread.
+// As many as there are descriptors for beside those of the process, of its threads and for upstreams, and one at least.
+// Of few descriptors half are for upstreams, so that each connection may wait for one; more aren't kept than leave the
+// usual number of connections with 1,024 and one thread.
 fn connections_within(limit: u64, threads: u64) -> u64
     ensures { result ≡ connections_within limit threads }
 {

@@ -44,7 +44,12 @@ where
         Ok((plan, outcome)) => {
             let status = serve(rt, served, plan, out, err, log);
             match outcome.get(&rt) {
-                Some(recorded) => put_recorded(recorded, status, out),
+                Some(recorded) => {
+                    if recorded.count == 0 {
+                        put_unwritten(rt.alloc(), given.file, err);
+                    }
+                    put_recorded(recorded, status, out)
+                }
                 None => status,
             }
         }
@@ -93,6 +98,15 @@ fn put_recorded<O: Write>(recorded: Recorded, status: u8, out: &mut O) -> u8
     match put_all(out, texts.as_slice()) {
         Ok(()) => status,
         Err(_error) => FAILURE,
+    }
+}
+
+// Why the file isn't there, or is what it was before. It is said if there is memory for it.
+fn put_unwritten<E: Write>(alloc: Global, file: &str, err: &mut E) {
+    if let Ok(text) = format!(in alloc;
+        "warning: no mappings were recorded, so {file} isn't written\n"
+    ) {
+        put_notes(err, text.as_str());
     }
 }
 

@@ -57,7 +57,7 @@ use tokio::runtime::LocalRuntime;
 // Into how many parts the ledger is cut: as many connections may be open at once, less one.
 const PARTS: u64 = 4_294_967_296;
 
-// What a target of a recording is.
+// What an upstream of a recording is.
 const TARGETS: &str =
     "  TARGET is http://host[:port][/prefix] with localhost, an IPv4 address or an IPv6 address in brackets as its host\n";
 
@@ -91,7 +91,7 @@ where
     W: Write + Drop + Send + 'static,
     I: Read + Drop + Send + 'static,
     ensures serves { ServesBook O.contents E.contents
-        (IsServedBook arguments.entry.opening arguments.entry.skips_refused arguments.entry.escape
+        (IsServedBook arguments.entry.first_event arguments.entry.skips_refused arguments.entry.escape
         (option_copied arguments.entry.mappings) (R.listed rt) (R.content rt))
         out.old out.new err.new result }
     ensures status { result ≤ 1 }
@@ -100,7 +100,7 @@ where
     let given = BookArguments {
         mappings: arguments.mappings,
         escape,
-        opening: arguments.opening,
+        first_event: arguments.first_event,
         skips_refused: arguments.skips_refused,
     };
     let Some(book) = book_of(rt.alloc(), &rt, given, err) else {

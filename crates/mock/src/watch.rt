@@ -94,6 +94,16 @@ impl RecordedFiles {
         }
     }
 
+    // How the recording ends. It is said if there is memory for it.
+    fn tell_end<R: System>(&self, rt: &R, lines: &Lines) {
+        let file = self.file.as_str();
+        if let Ok(text) = format!(in rt.alloc();
+            "recording: Ctrl-C, or the end of standard input, ends it and writes {file}\n"
+        ) {
+            lines.add(rt, text.as_str());
+        }
+    }
+
     // It is said if there is memory for it.
     fn tell<R: System>(&self, rt: &R, lines: &Lines, error: RecordError) {
         if let Ok(text) = error.text(rt.alloc(), self.file.as_str(), self.har().unwrap_or("")) {
@@ -151,6 +161,9 @@ impl<I: Read + Drop + Send + 'static> Watch<I> {
         let Some(input) = input else {
             return Ok(());
         };
+        if let (Some(files), Some(lines)) = (&recording, &lines) {
+            files.tell_end(&rt, lines);
+        }
         let address = reached_at(address);
         let address = format!(in rt.alloc(); "{address}")?;
         let _thread = thread::spawn(

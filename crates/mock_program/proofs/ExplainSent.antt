@@ -16,7 +16,7 @@ pub explained : {O E : Type 0} (out_holds : O → Option (List ℕ)) (err_holds 
     (status : ℕ)
     → (options ≡ [] → (question.request.headers.now ≡ []) × (question.request.body.now ≡ [])
     × (question.states.now ≡ []) × (question.form ≢ Json))
-    → Followed err_holds (λ e. ExplainsFiles out_holds escape (listed path) known (sent_of question.request)
+    → Followed err_holds (λ e. ExplainsFiles out_holds err_holds escape (listed path) known path (sent_of question.request)
     (map given_of question.states.now) question.form out out' err e status) err'
     → Does out_holds err_holds listed known escape
     (explain path question.request.method.now question.request.target.now) options out out' err err' status

@@ -23,7 +23,7 @@ pub without_memory : {O E : Type 0} (out_holds : O → Option (List ℕ)) (err_h
     → Does out_holds err_holds listed known escape asked options out out' err err' status
 without_memory out_holds err_holds listed known escape (render template method target) options out out' err err'
     status one shown same =
-    inr (inl (one, (out_of_memory, inr (inr refl), shown), same))
+    inr (inl (out_of_memory, inr (inr refl), one, shown, same))
 without_memory out_holds err_holds listed known escape (check path) options out out' err err' status one shown same =
     alone err_holds (λ e. ChecksFiles out_holds err_holds escape (listed path) known path out out' err e status) err'
     (inr (file.OutOfMemory, inl refl, one, shown, same))
@@ -47,6 +47,6 @@ without_memory out_holds err_holds listed known escape (explain path method targ
       record { method_is = refl; target_is = refl; plain_headers = λ none. refl; plain_body = λ none. refl },
       record { plain_states = λ none. refl; plain_form = λ none. text_not_json },
       alone err_holds
-          (λ e. ExplainsFiles out_holds escape (listed path) known sent [] form.Text out out' err e status) err'
-          (inr (one, same)),
+          (λ e. ExplainsFiles out_holds err_holds escape (listed path) known path sent [] form.Text out out' err e status) err'
+          (inr (file.OutOfMemory, inl refl, one, shown, same)),
     )

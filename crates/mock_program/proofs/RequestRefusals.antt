@@ -12,7 +12,7 @@ use Rattle.mock_request.specs.declared.error.SnapshotError.TheVariants.{BadUrl, 
 use Rattle.template_machine.specs.Program.{IsProgramText}
 use Rattle.template_tree.specs.Source.{Source}
 use Rattle.command_output.specs.Lines.{out_of_memory}
-use Rattle.mock_program.specs.Rendering.{IsDataOf, IsRefusal, RefusesUrl, RefusesData}
+use Rattle.mock_program.specs.Rendering.{IsDataOf, IsRenderError, RefusesUrl, RefusesData}
 use Rattle.command_output.specs.declared.error.CommandError.{CommandError}
 
 abbrev pub IsPlainRefusal : List ℕ → List ℕ → CommandError → Type 0
@@ -28,7 +28,7 @@ of_snapshot method target BodyTooLarge none small = absurd (small refl)
 of_snapshot method target OutOfMemory none small = inr (inr refl)
 
 pub of_data : (method target : List ℕ) (root : Tree) (e : DataError) → IsDataOf method target root
-    → request_data.IsRefusal root e
+    → request_data.IsDataRefusal root e
     → IsPlainRefusal method target (record { code = data_error.error_code_of e; at = None })
 of_data method target root (TooLarge value) asked large = inr (inl ((root, asked, large.1), refl))
 of_data method target root DataOutOfMemory asked memory = inr (inr refl)
@@ -36,7 +36,7 @@ of_data method target root DataOutOfMemory asked memory = inr (inr refl)
 -- the template is judged before the request
 pub of_request : (template : Source) (method target : List ℕ) (error : CommandError) → IsProgramText template
     → IsPlainRefusal method target error
-    → IsRefusal template method target error
+    → IsRenderError template method target error
 of_request template method target error program (inl url) = inr (inl (program, inl url))
 of_request template method target error program (inr (inl large)) = inr (inl (program, inr large))
 of_request template method target error program (inr (inr memory)) = inr (inr memory)

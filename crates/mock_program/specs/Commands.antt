@@ -12,7 +12,7 @@ use Rattle.template_tree.specs.Source.{with_escape}
 use Rattle.template_tree.specs.declared.escape.Escape.{Escape}
 
 -- the request that is sent: without options it has no headers and no body
-pub record IsSent (method target : List ℕ) (options : List (List ℕ × List ℕ)) (sent : Sent) : Type 0 where
+pub record IsSentByOptions (method target : List ℕ) (options : List (List ℕ × List ℕ)) (sent : Sent) : Type 0 where
   pub method_is : sent.method ≡ method
   pub target_is : sent.target ≡ target
   pub plain_headers : options ≡ [] → sent.headers ≡ []
@@ -40,13 +40,13 @@ Does out_holds err_holds listed known escape (check path) options = λ out out' 
     Followed err_holds
     (λ e. ChecksFiles out_holds err_holds escape (listed path) known path out out' err e status) err'
 Does out_holds err_holds listed known escape (answer path method target) options = λ out out' err err' status.
-    ((sent : Sent) × IsSent method target options sent
+    ((sent : Sent) × IsSentByOptions method target options sent
     × Followed err_holds (λ e. AnswersFiles out_holds err_holds escape (listed path) known path sent out out'
     err e status) err')
     ⊎ RefusesOptions options out out' status
 Does out_holds err_holds listed known escape (explain path method target) options = λ out out' err err' status.
-    ((sent : Sent) × (states : List (List ℕ × List ℕ)) × (form : Form) × IsSent method target options sent
+    ((sent : Sent) × (states : List (List ℕ × List ℕ)) × (form : Form) × IsSentByOptions method target options sent
     × IsAskedBesides options states form
-    × Followed err_holds (λ e. ExplainsFiles out_holds escape (listed path) known sent states form out out'
+    × Followed err_holds (λ e. ExplainsFiles out_holds err_holds escape (listed path) known path sent states form out out'
     err e status) err')
     ⊎ RefusesOptions options out out' status

@@ -1,6 +1,5 @@
 -- What `mock render` prints for a template, a method and a target, and which errors it reports.
 use Rattle.std.specs.Prelude.{◌≡◌, ℕ, ◌<◌, ◌⊎◌, List, [], ◌++◌, length, codes, Option, None}
-use Rattle.std.specs.Io.KnownBytes.{Appends}
 use Rattle.data_tree.specs.Tree.{Tree}
 use Rattle.data_tree.specs.Json.{size}
 use Rattle.data_tree.specs.declared.request_data.TheConstants.{SIZE_LIMIT}
@@ -15,8 +14,8 @@ use Rattle.template_machine.specs.Program.{ProgramParts, IsProgram, IsProgramTex
 use Rattle.template_machine.specs.Errors.{IsErrorOf, error_code_of, offset_of}
 use Rattle.template_machine.specs.declared.error.ProgramError.{ProgramError}
 use Rattle.template_tree.specs.Source.{Source}
-use Rattle.command_output.specs.Lines.{measure_line, error_line, out_of_memory}
-use Rattle.command_output.specs.Output.{AppendsPart, AppendsFront}
+use Rattle.command_output.specs.Ends.{Ends}
+use Rattle.command_output.specs.Lines.{measure_line, out_of_memory}
 use Rattle.command_output.specs.declared.error.CommandError.{CommandError}
 
 -- the coefficients of both budgets, the steps that the run took, and the text that it wrote
@@ -43,7 +42,7 @@ IsDataOf method target root = (url : List ℕ) × IsTarget target url × (root �
 
 -- what a run of a program over a root gave: the text is what its source means, the steps are those of the run, and the
 -- budgets are the program's own
-pub record IsRun (program : ProgramParts) (root : Tree) (r : Report) : Type 0 where
+pub record IsRunReport (program : ProgramParts) (root : Tree) (r : Report) : Type 0 where
   pub meant : IsMeant program.source root r.text
   pub ran : Runs program.code root r.steps r.text
   pub step_budget : r.step_budget ≡ as_printed (budget program.code).steps
@@ -57,7 +56,7 @@ pub record IsReport (template : Source) (method target : List ℕ) (r : Report) 
   pub source : program.source ≡ template
   pub whole : IsProgram program
   pub safe : IsSafe program.code
-  pub run : IsRun program root r
+  pub run : IsRunReport program root r
 
 -- such a report as it is printed
 abbrev pub IsReportText : Source → List ℕ → List ℕ → List ℕ → Type 0
@@ -80,33 +79,15 @@ RefusesData method target error =
     × (error ≡ record { code = ErrorCode.TooLarge; at = None })
 
 -- the first error, where the template is judged before the request; memory may run out at any moment
-abbrev pub IsRefusal : Source → List ℕ → List ℕ → CommandError → Type 0
-IsRefusal template method target error =
+abbrev pub IsRenderError : Source → List ℕ → List ℕ → CommandError → Type 0
+IsRenderError template method target error =
     RefusesTemplate template error
     ⊎ (IsProgramText template × (RefusesUrl target error ⊎ RefusesData method target error))
     ⊎ (error ≡ out_of_memory)
 
--- the whole report was written
-abbrev pub ShowsReport : Source → List ℕ → List ℕ → Option (List ℕ) → Option (List ℕ) → Type 0
-ShowsReport template method target old new =
-    (text : List ℕ) × IsReportText template method target text × Appends old new text
-
--- the report was begun, and the writer refused the rest
-abbrev pub BreaksOff : Source → List ℕ → List ℕ → Option (List ℕ) → Option (List ℕ) → Type 0
-BreaksOff template method target old new =
-    (text : List ℕ) × IsReportText template method target text × AppendsPart old new text
-
--- an error was reported, as far as the writer took its line
-abbrev pub ReportsError : Source → List ℕ → List ℕ → Option (List ℕ) → Option (List ℕ) → Type 0
-ReportsError template method target old new =
-    (error : CommandError) × IsRefusal template method target error × AppendsFront old new (error_line error)
-
--- How a rendering ends, by what standard output and standard error hold before and after it, and the exit status: the
--- report is on standard output (0), an error is on standard error (1), or standard output took a part of the report
--- (1). Each time the other of both is as it was.
+-- how a rendering ends: the report is on standard output (0), or the first error on standard error
 abbrev pub Renders : {O E : Type 0} → (O → Option (List ℕ)) → (E → Option (List ℕ)) → Source
     → List ℕ → List ℕ → O → O → E → E → ℕ → Type 0
-Renders out_holds err_holds template method target out out' err err' status =
-    ((status ≡ 0) × ShowsReport template method target (out_holds out) (out_holds out') × (err' ≡ err))
-    ⊎ ((status ≡ 1) × ReportsError template method target (err_holds err) (err_holds err') × (out' ≡ out))
-    ⊎ ((status ≡ 1) × BreaksOff template method target (out_holds out) (out_holds out') × (err' ≡ err))
+Renders out_holds err_holds template method target =
+    Ends out_holds err_holds (λ text status. IsReportText template method target text × (status ≡ 0))
+    (IsRenderError template method target)

@@ -3,7 +3,7 @@ ghost use Rattle.std.specs.Prelude.{◌≡◌, ◌⊎◌, IfOk, IfErr, string_by
 ghost use Rattle.data_tree.specs.RequestData.{root_of};
 ghost use Rattle.safe_code.specs.Safe.{IsSafe};
 ghost use Rattle.command_output.specs.Lines.{out_of_memory};
-ghost use Rattle.mock_program.specs.Rendering.{Report, IsDataOf, IsReportText, IsRefusal, IsRun, report_text};
+ghost use Rattle.mock_program.specs.Rendering.{Report, IsDataOf, IsReportText, IsRenderError, IsRunReport, report_text};
 ghost use Rattle.mock_program.specs.Rendering.{RefusesUrl, RefusesData, Renders};
 ghost use Rattle.template_tree.specs.Source.{with_escape};
 
@@ -31,7 +31,7 @@ pub fn render_request(
 ) -> Result<String, CommandError>
     ensures report { IfOk result (λ printed.
         IsReportText (with_escape escape template.now) method.now target.now (string_bytes printed)) }
-    ensures refusal { IfErr result (IsRefusal (with_escape escape template.now) method.now target.now) }
+    ensures refusal { IfErr result (IsRenderError (with_escape escape template.now) method.now target.now) }
 {
     let program = Program::from_text_with(alloc, template, escape)?;
     let data = plain_request(alloc, method, target)?;
@@ -51,7 +51,7 @@ fn plain_request(alloc: Global, method: &str, target: &str) -> Result<RequestDat
 // What is printed of a run over the request's data.
 fn report(alloc: Global, program: &Program, request: &RequestData) -> Result<String, AllocError>
     ensures safe { IsSafe program.now.code }
-    ensures run { IfOk result (λ printed. (report : Report) × IsRun program.now (root_of request.now) report
+    ensures run { IfOk result (λ printed. (report : Report) × IsRunReport program.now (root_of request.now) report
         × (string_bytes printed ≡ report_text report)) }
 {
     let rendered = render(alloc, program, request)?;

@@ -7,7 +7,7 @@ use std::marker::Model;
 use std::str;
 
 /// A request without its headers: method, URL and body, one after the other in a block of memory.
-#[derive(Debug, Drop)]
+#[derive(Clone, Debug, Drop)]
 pub(crate) struct BareRequest {
     bytes: Vec<u8>,
     url_start: u32,
@@ -71,17 +71,6 @@ impl BareRequest {
         ensures { result.now ≡ self.now.body }
     {
         &self.bytes[self.body_start as usize..]
-    }
-
-    /// A copy.
-    pub(crate) fn try_clone(&self) -> Result<BareRequest, AllocError>
-        ensures { IfOk result (λ copy. copy ≡ self.now) }
-    {
-        Ok(BareRequest {
-            bytes: self.bytes.clone()?,
-            url_start: self.url_start,
-            body_start: self.body_start,
-        })
     }
 }
 

@@ -25,7 +25,7 @@ pub const BODY_LIMIT: usize = 1_048_576;
 /// A request as it was received: its method, its URL (path and query as they were received), its headers in their
 /// order, and its body. It owns its method, URL and body, in one allocation. Its headers are shared with its copies,
 /// and with a later request that has the same.
-#[derive(Debug)]
+#[derive(Clone, Debug)]
 pub struct Snapshot {
     bare: BareRequest,
     headers: Arc<Fields>,
@@ -233,10 +233,7 @@ impl Snapshot {
     pub fn try_clone(&self) -> Result<Snapshot, AllocError>
         ensures { IfOk result (λ copy. copy ≡ self.now) }
     {
-        Ok(Snapshot {
-            bare: self.bare.try_clone()?,
-            headers: Arc::try_clone(&self.headers)?,
-        })
+        self.clone()
     }
 }
 

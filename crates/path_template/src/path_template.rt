@@ -134,21 +134,6 @@ impl PathTemplate {
         }
     }
 
-    pub fn try_clone(&self) -> Result<PathTemplate, AllocError>
-        ensures { IfOk result (λ copy. copy ≡ self.now) }
-    {
-        Ok(PathTemplate {
-            source: self.source.clone()?,
-        })
-    }
-
-    /// Whether the two are equal.
-    pub fn same(&self, other: &PathTemplate) -> bool
-        ensures { IsTrue result ↔ (self.now ≡ other.now) }
-    {
-        self.source() == other.source()
-    }
-
     // The template and the path from their starts, if the path begins with a slash.
     fn walk<'t, 'p>(&'t self, path: &'p str) -> Option<Walk<'t, 'p>>
         ensures { MatchOption result (bindings_of self.now path.now ≡ None)

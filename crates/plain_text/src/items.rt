@@ -1,7 +1,7 @@
 // A list that contracts see as one.
-ghost use Rattle.std.specs.Prelude.{◌≡◌, ◌↔◌, IfOk, IsTrue};
+ghost use Rattle.std.specs.Prelude.{◌≡◌, ◌↔◌, IsTrue};
 
-use crate::plain::{Same, TryClone};
+use crate::plain::Same;
 use std::alloc::AllocError;
 use std::marker::Model;
 
@@ -35,15 +35,15 @@ impl<T> Items<T> {
     }
 }
 
-impl<T: TryClone + Drop> Items<T> {
-    pub fn try_clone(&self) -> Result<Items<T>, AllocError>
-        ensures { IfOk result (λ copy. copy ≡ self.now) }
-    {
-        let mut items = Vec::with_capacity(*self.items.allocator(), self.items.len())?;
-        for item in self.items.as_slice() {
-            items.push(item.try_clone()?)?;
-        }
-        Ok(Items { items })
+impl<T: Clone> Clone for Items<T> {
+    ghost use Rattle.std.specs.List.{AllZip};
+
+    ghost is_clone = { λ original copy. AllZip T.is_clone original copy };
+
+    fn clone(&self) -> Result<Items<T>, AllocError> {
+        Ok(Items {
+            items: self.items.clone()?,
+        })
     }
 }
 

@@ -1,7 +1,7 @@
 // A run of bytes that contracts see as a list.
-ghost use Rattle.std.specs.Prelude.{◌≡◌, ◌↔◌, IfOk, IsTrue};
+ghost use Rattle.std.specs.Prelude.{◌≡◌, ◌↔◌, IsTrue};
 
-use crate::plain::{Same, TryClone};
+use crate::plain::Same;
 use std::alloc::AllocError;
 use std::marker::Model;
 
@@ -34,14 +34,6 @@ impl Octets {
         bytes
     }
 
-    pub fn try_clone(&self) -> Result<Octets, AllocError>
-        ensures { IfOk result (λ copy. copy ≡ self.now) }
-    {
-        Ok(Octets {
-            bytes: self.bytes.clone()?,
-        })
-    }
-
     pub fn same(&self, other: &Octets) -> bool
         ensures { IsTrue result ↔ (self.now ≡ other.now) }
     {
@@ -49,9 +41,15 @@ impl Octets {
     }
 }
 
-impl TryClone for Octets {
-    fn try_clone(&self) -> Result<Octets, AllocError> {
-        Octets::try_clone(self)
+impl Clone for Octets {
+    ghost use Rattle.std.specs.Prelude.{◌≡◌};
+
+    ghost is_clone = { λ original copy. copy ≡ original };
+
+    fn clone(&self) -> Result<Octets, AllocError> {
+        Ok(Octets {
+            bytes: self.bytes.clone()?,
+        })
     }
 }
 

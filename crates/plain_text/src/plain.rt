@@ -1,13 +1,5 @@
-// What a list needs of its items, so that it can be copied and compared.
-ghost use Rattle.std.specs.Prelude.{◌≡◌, ◌↔◌, IfOk, IsTrue};
-
-use std::alloc::AllocError;
-
-/// A value whose copy equals it, as contracts see both.
-pub trait TryClone: Sized {
-    fn try_clone(&self) -> Result<Self, AllocError>
-        ensures { IfOk result (λ copy. copy ≡ self.now) };
-}
+// What a list needs of its items, so that it can be compared.
+ghost use Rattle.std.specs.Prelude.{◌≡◌, ◌↔◌, IsTrue};
 
 /// A value that tells whether another equals it, as contracts see both.
 pub trait Same {

@@ -1,7 +1,7 @@
 // A text that contracts see as its bytes.
-ghost use Rattle.std.specs.Prelude.{◌≡◌, ◌↔◌, IfOk, IsTrue, string_bytes};
+ghost use Rattle.std.specs.Prelude.{◌≡◌, ◌↔◌, IsTrue, string_bytes};
 
-use crate::plain::{Same, TryClone};
+use crate::plain::Same;
 use std::alloc::AllocError;
 use std::marker::Model;
 
@@ -34,14 +34,6 @@ impl Text {
         text
     }
 
-    pub fn try_clone(&self) -> Result<Text, AllocError>
-        ensures { IfOk result (λ copy. copy ≡ self.now) }
-    {
-        Ok(Text {
-            text: self.text.clone()?,
-        })
-    }
-
     pub fn same(&self, other: &Text) -> bool
         ensures { IsTrue result ↔ (self.now ≡ other.now) }
     {
@@ -49,9 +41,15 @@ impl Text {
     }
 }
 
-impl TryClone for Text {
-    fn try_clone(&self) -> Result<Text, AllocError> {
-        Text::try_clone(self)
+impl Clone for Text {
+    ghost use Rattle.std.specs.Prelude.{◌≡◌};
+
+    ghost is_clone = { λ original copy. copy ≡ original };
+
+    fn clone(&self) -> Result<Text, AllocError> {
+        Ok(Text {
+            text: self.text.clone()?,
+        })
     }
 }
 

@@ -1,4 +1,4 @@
--- The address of a target: its host names an IP address (RFC 3986, section 3.2.2), or is `localhost`.
+-- The address of an upstream: its host names an IP address (RFC 3986, section 3.2.2), or is `localhost`.
 use Rattle.std.specs.Prelude.{◌≡◌, ℕ, List, [], ◌∷◌, ◌++◌, ◌⊎◌, codes}
 use Rattle.std.specs.Net.Addr.{ipv4_octets}
 use Rattle.std.specs.Net.Socket.{socket_ip, socket_port}

@@ -23,8 +23,8 @@ abbrev pub ComesTo : IpAddr → IpAddr → Type 0
 ComesTo ip own = (ip ≡ own) ⊎ (IsUnspecified ip ⊎ (IsLoopback ip × IsUnspecified own))
 
 -- the server's port, and an address by which connections come to it
-abbrev pub IsOwn : SocketAddr → SocketAddr → Type 0
-IsOwn own address = (socket_port address ≡ socket_port own)
+abbrev pub IsOwnAddress : SocketAddr → SocketAddr → Type 0
+IsOwnAddress own address = (socket_port address ≡ socket_port own)
     × ((ip : IpAddr) × IsCanonicalIp (socket_ip address) ip
     × ((own_ip : IpAddr) × IsCanonicalIp (socket_ip own) own_ip × ComesTo ip own_ip))
 

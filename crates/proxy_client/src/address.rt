@@ -1,4 +1,4 @@
-// The address of a target.
+// The address of an upstream.
 ghost use Rattle.std.specs.Prelude.{◌≡◌, ℕ, List, ◌++◌, codes, MatchOption};
 ghost use Rattle.std.specs.Net.Grammar.{IsIpv6Text};
 ghost use Rattle.recorder.specs.Target.{IsBracketed, IsHost};
@@ -7,14 +7,14 @@ ghost use Rattle.proxy_client.specs.Address.{IsAddressOf, IsIpOf};
 use recorder::target::{Target, in_brackets};
 use std::net::{IpAddr, Ipv4Addr, Ipv6Addr, SocketAddr};
 
-/// The address of a target; each target has one.
+/// The address of an upstream; each upstream has one.
 pub fn address_of(target: &Target) -> SocketAddr
     ensures { IsAddressOf target.now result }
 {
     match ip_of(target.host()) {
         Some(ip) => SocketAddr::new(ip, target.port()),
         None => {
-            // Its text is that of a target, so its host has an address.
+            // Its text is that of an upstream, so its host has an address.
             let _text = target.as_str();
             unreachable!()
         }

@@ -2,7 +2,7 @@
 ghost use Rattle.std.specs.Prelude.{IfOk};
 ghost use Rattle.futures.specs.Poll.{IfReady, OnPending};
 ghost use Rattle.futures.specs.Task.{IsArmed, Keeps};
-ghost use Rattle.proxy_client.specs.Messages.{IsReply, IsSomeReply};
+ghost use Rattle.proxy_client.specs.Messages.{IsReplyMessage, IsSomeReply};
 
 use crate::content::Content;
 use crate::error::ProxyError;
@@ -76,7 +76,7 @@ impl<I: Drop> Received<I> {
     }
 
     fn reply(&self, content: Bytes) -> Result<Reply, ProxyError>
-        ensures { IfOk result (λ reply. IsReply self.now.head content reply) }
+        ensures { IfOk result (λ reply. IsReplyMessage self.now.head content reply) }
     {
         Ok(reply_of(self.alloc, &self.head, content)?)
     }

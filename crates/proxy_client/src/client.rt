@@ -1,4 +1,4 @@
-// What makes exchanges with targets.
+// What makes exchanges with upstreams.
 ghost use Rattle.std.specs.Prelude.{◌≡◌, IfOk, Some};
 ghost use Rattle.proxy_client.specs.Messages.{IsForwarded};
 ghost use Rattle.proxy_client.specs.declared.client.TheConstants.{HEADER_LINES};
@@ -26,15 +26,15 @@ use std::time::{Clock, Duration};
 use tokio::net::{ConnectFuture, TcpStream};
 use tokio::runtime::Handle;
 
-/// How long a target may be silent, in seconds.
+/// How long an upstream may be silent, in seconds.
 pub const SILENCE_SECONDS: u64 = 30;
 
 /// How many lines of headers a reply may have.
 pub const HEADER_LINES: usize = 256;
 
-/// An exchange with a target as a future, connecting by the future `K`, which gives an `I`. It may be a part of another
-/// future: it never blocks. It fails once no byte has moved for a time, or its reads and writes have used up their
-/// turns.
+/// An exchange with an upstream as a future, connecting by the future `K`, which gives an `I`. It may be a part of
+/// another future: it never blocks. It fails once no byte has moved for a time, or its reads and writes have used up
+/// their turns.
 pub type Exchange<R, K, I> = Timed<R, Stage<K, I>>;
 
 /// Makes exchanges, each over a connection of its own.
@@ -101,7 +101,7 @@ impl<R: Clock + AllocGlobal + Copy + Drop> Client<R> {
 }
 
 impl<R: Clock + Net + AllocGlobal + Copy + Drop> Client<R> {
-    /// The exchange for a request with its target, over a connection that is still to be made.
+    /// The exchange for a request with its upstream, over a connection that is still to be made.
     pub fn connect(
         &self,
         handle: &Handle,

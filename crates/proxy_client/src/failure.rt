@@ -1,15 +1,15 @@
-//! Why a target has given no reply, for whoever wonders about a 502.
+//! Why an upstream has given no reply, for whoever wonders about a 502.
 
-/// Why a target has given no reply.
+/// Why an upstream has given no reply.
 #[derive(Clone, Copy, Debug, PartialEq, Eq)]
 pub enum Failure {
-    /// The target is the server that forwards.
+    /// The upstream is the server that forwards.
     OwnTarget,
     /// The request has been forwarded as often as a request is.
     ForwardedTooOften,
     /// The request has a method, a URL or headers that can't be passed on.
     Unsendable,
-    /// There is no connection to the target.
+    /// There is no connection to the upstream.
     NotConnected,
     /// The process, or the system, has no descriptor left for a connection.
     NoDescriptor,

@@ -16,7 +16,7 @@ use std::time::{Clock, Duration};
 use tokio::io::{AsyncRead, AsyncWrite};
 use tokio::runtime::LocalRuntime;
 
-/// Forwards a request to its target over a new connection, in at most as many turns, each of which polls a read or a
+/// Forwards a request to its upstream over a new connection, in at most as many turns, each of which polls a read or a
 /// write of the connection.
 pub fn forward<R>(
     rt: &R,

@@ -2,7 +2,7 @@
 ghost use Rattle.std.specs.Prelude.{◌≡◌, ◌↔◌, IsTrue, OnOk, true, false, Some};
 ghost use Rattle.std.specs.declared.net.socket_addr.SocketAddr.{SocketAddr};
 ghost use Rattle.proxy_client.specs.Address.{IsAddressOf};
-ghost use Rattle.proxy_client.specs.Own.{ComesTo, IsOwn, IsElsewhere};
+ghost use Rattle.proxy_client.specs.Own.{ComesTo, IsOwnAddress, IsElsewhere};
 ghost use Rattle.proxy_client.specs.Messages.{IsForwarded};
 ghost use Rattle.proxy_client.specs.declared.stage.Stage.TheVariants.{Connecting};
 ghost use Rattle.proxy_client.specs.declared.stage.Start.{Start as Begun};
@@ -83,7 +83,7 @@ impl<R: Clock + Net + AllocGlobal + Copy + Drop> Forwarder<R> {
 
 // Whether a connection to that address comes to the server that listens there.
 fn is_own(target: SocketAddr, own: SocketAddr) -> bool
-    ensures own { result ≡ true → IsOwn own target }
+    ensures own { result ≡ true → IsOwnAddress own target }
     ensures elsewhere { result ≡ false → IsElsewhere own target }
 {
     target.port() == own.port() && comes_to(target.ip().to_canonical(), own.ip().to_canonical())

@@ -10,7 +10,7 @@ use mock_request::snapshot::Snapshot;
 use recorder::target::Target;
 use tokio::runtime::Handle;
 
-/// Forwards requests to their targets.
+/// Forwards requests to their upstreams.
 pub trait Forwards: Drop {
     ghost use Rattle.std.specs.Prelude.{ℕ, List, IfOk, ⊤};
     ghost use Rattle.mock_request.specs.Request.{Request};
@@ -18,13 +18,13 @@ pub trait Forwards: Drop {
 
     type Exchange: Future<Output = Result<Reply, ProxyError>>;
 
-    /// By the exchange the request may be sent to the target.
+    /// By the exchange the request may be sent to the upstream.
     ghost sends: { List ℕ → Request → Self.Exchange → Type 0 } = { λ _ _ _. ⊤ };
 
-    /// Requests to that target are forwarded.
+    /// Requests to that upstream are forwarded.
     ghost reaches: { Self → List ℕ → Type 0 } = { λ _ _. ⊤ };
 
-    /// The exchange for a request with its target, which the runtime of this handle drives. It is a future that never
+    /// The exchange for a request with its upstream, which the runtime of this handle drives. It is a future that never
     /// blocks.
     fn exchange(
         &self,

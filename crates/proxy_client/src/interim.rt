@@ -1,4 +1,4 @@
-//! Interim replies, which a target may send before the reply itself (RFC 9110, section 15.2).
+//! Interim replies, which an upstream may send before the reply itself (RFC 9110, section 15.2).
 /// The most interim replies of an exchange.
 pub const INTERIM_LIMIT: u64 = 64;
 
@@ -8,7 +8,7 @@ const PROTOCOL: &[u8] = b"HTTP/";
 /// The column of the first digit of a status.
 const CLASS_COLUMN: usize = 9;
 
-/// Counts the interim replies in the bytes that a target sends, up to the reply itself.
+/// Counts the interim replies in the bytes that an upstream sends, up to the reply itself.
 #[derive(Clone, Copy, Debug, Drop)]
 pub struct InterimReplies {
     count: u64,

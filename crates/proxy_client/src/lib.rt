@@ -1,4 +1,4 @@
-//! A request forwarded to the target of a recording, over a connection of its own: the message that is sent (`sent`),
+//! A request forwarded to the upstream of a recording, over a connection of its own: the message that is sent (`sent`),
 //! the reply (`reply`), and the exchange between them as a future (`client`), which `forward` runs. A server forwards
 //! by a `forwarder`.
 #![tactic(auto)]
@@ -16,7 +16,6 @@ pub mod forwards;
 pub mod interim;
 pub mod motion;
 pub mod reply;
-pub mod scripted_io;
 pub mod sent;
 pub mod stage;
 pub mod talk;

@@ -6,6 +6,6 @@ pub enum Motion {
     /// No byte has moved.
     Still,
     Moved,
-    /// The target has sent more interim replies than an exchange may have. This stays.
+    /// The upstream has sent more interim replies than an exchange may have. This stays.
     TooManyInterim,
 }

@@ -1,6 +1,6 @@
-// The reply that a message of a target is.
+// The reply that a message of an upstream is.
 ghost use Rattle.std.specs.Prelude.{IfOk};
-ghost use Rattle.proxy_client.specs.Messages.{IsReply};
+ghost use Rattle.proxy_client.specs.Messages.{IsReplyMessage};
 
 use bytes::Bytes;
 use http::response::Parts;
@@ -10,7 +10,7 @@ use std::alloc::{AllocError, Global};
 
 /// The reply that a message with this head and this content is.
 pub fn reply_of(alloc: Global, head: &Parts, content: Bytes) -> Result<Reply, AllocError>
-    ensures { IfOk result (IsReply head.now content) }
+    ensures { IfOk result (IsReplyMessage head.now content) }
 {
     Ok(Reply {
         status: head.status.as_u16(),

@@ -1,4 +1,4 @@
-// The message that is sent to a target for a request.
+// The message that is sent to an upstream for a request.
 ghost use Rattle.std.specs.Prelude.{◌≡◌, Err, IfOk, None, string_bytes, true};
 ghost use Rattle.http.specs.declared.version.TheConstants.Version.{HTTP_11};
 ghost use Rattle.http_uri.specs.Grammar.{without_fragment};
@@ -21,7 +21,7 @@ use recorder::forwarding::{forwarded_headers, forwarded_path};
 use recorder::target::Target;
 use std::alloc::Global;
 
-/// The message that is sent to the target for a request, unless that was forwarded too often.
+/// The message that is sent to the upstream for a request, unless that was forwarded too often.
 pub fn message_of(
     alloc: Global,
     target: &Target,

@@ -1,4 +1,4 @@
-// An exchange with a target, from connecting to the reply.
+// An exchange with an upstream, from connecting to the reply.
 ghost use Rattle.std.specs.Prelude.{IfOk, IfSome, ⊤};
 ghost use Rattle.hyper.specs.ClientDispatch.{Runs};
 ghost use Rattle.proxy_client.specs.Messages.{IsSomeReply};

@@ -1,4 +1,4 @@
-// The reader and writer of a connection to a target.
+// The reader and writer of a connection to an upstream.
 ghost use Rattle.std.specs.Prelude.{◌≡◌};
 ghost use Rattle.counted_io.specs.Turns.{Costs, IsOver, costs_in_order, costs_nothing};
 

@@ -53,7 +53,7 @@ fn header_matcher(
     ensures { IfOk result (λ matcher. matcher ≡ header_matcher request.now.headers name.now) }
 {
     Ok(NamedMatcher {
-        name: name.try_clone()?,
+        name: name.clone()?,
         matcher: first_value(alloc, request, name.as_str())?,
     })
 }

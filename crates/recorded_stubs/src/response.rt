@@ -36,7 +36,7 @@ fn header_lines(alloc: Global, lines: &[ReplyHeader]) -> Result<HeaderLines<Text
     let mut kept = Vec::with_capacity(alloc, lines.len())?;
     for line in lines {
         kept.push(HeaderLine {
-            name: line.name.try_clone()?,
+            name: line.name.clone()?,
             value: utf8_text(alloc, line.value.as_slice())?,
         })?;
     }

@@ -13,7 +13,6 @@ use key_groups::places::places_of;
 use mapping_model::mapping_id::MappingId;
 use mapping_model::mapping_spec::MappingSpec;
 use mapping_model::scenario_spec::ScenarioSpec;
-use mapping_model::version::Version;
 use plain_text::text::Text;
 use recorder::exchange::{Exchange, SharedExchange};
 use recorder::key::{Key, key_of};
@@ -128,6 +127,6 @@ fn mapping_of(
         priority: None,
         scenario,
         request: request_of(alloc, exchange, captured)?,
-        response: Version::new(alloc, response_of(alloc, &exchange.reply)?)?,
+        response: response_of(alloc, &exchange.reply)?,
     })
 }

@@ -3,7 +3,7 @@ ghost use Rattle.std.specs.Prelude.{◌≡◌, ◌↔◌, IfOk, IsTrue};
 
 use mapping_model::reply::Reply;
 use mock_request::snapshot::Snapshot;
-use plain_text::plain::{Same, TryClone};
+use plain_text::plain::Same;
 use std::alloc::{AllocError, Global};
 use std::marker::Model;
 use std::sync::Arc;
@@ -79,14 +79,6 @@ impl SharedExchange {
         &self.exchange
     }
 
-    pub fn try_clone(&self) -> Result<SharedExchange, AllocError>
-        ensures { IfOk result (λ copy. copy ≡ self.now) }
-    {
-        Ok(SharedExchange {
-            exchange: Arc::try_clone(&self.exchange)?,
-        })
-    }
-
     pub fn same(&self, other: &SharedExchange) -> bool
         ensures { IsTrue result ↔ (self.now ≡ other.now) }
     {
@@ -94,9 +86,16 @@ impl SharedExchange {
     }
 }
 
-impl TryClone for SharedExchange {
-    fn try_clone(&self) -> Result<SharedExchange, AllocError> {
-        SharedExchange::try_clone(self)
+/// Takes no memory.
+impl Clone for SharedExchange {
+    ghost use Rattle.std.specs.Prelude.{◌≡◌};
+
+    ghost is_clone = { λ original copy. copy ≡ original };
+
+    fn clone(&self) -> Result<SharedExchange, AllocError> {
+        Ok(SharedExchange {
+            exchange: Arc::try_clone(&self.exchange)?,
+        })
     }
 }
 

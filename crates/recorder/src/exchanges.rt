@@ -48,7 +48,7 @@ impl Exchanges {
     {
         let mut items = Vec::with_capacity(*self.items.allocator(), self.items.len())?;
         for item in self.items.as_slice() {
-            items.push(item.try_clone()?)?;
+            items.push(item.clone()?)?;
         }
         Ok(Exchanges { items })
     }

@@ -35,8 +35,8 @@ impl Session {
     {
         Ok(Session {
             start: self.start,
-            target: self.target.try_clone()?,
-            captured: self.captured.try_clone()?,
+            target: self.target.clone()?,
+            captured: self.captured.clone()?,
             repeats: self.repeats,
             exchanges: self.exchanges.try_clone()?,
         })

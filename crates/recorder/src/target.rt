@@ -7,7 +7,7 @@ use crate::error::RecordingError;
 pub use crate::target_text::in_brackets;
 use crate::target_text::{after_scheme, is_target, path, split_prefix, without_last_slash};
 use mock_request::authority::host_and_port;
-use plain_text::plain::{Same, TryClone};
+use plain_text::plain::Same;
 use plain_text::text::Text;
 use std::alloc::{AllocError, Global};
 use std::marker::Model;
@@ -102,14 +102,6 @@ impl Target {
         }
     }
 
-    pub fn try_clone(&self) -> Result<Target, AllocError>
-        ensures { IfOk result (λ copy. copy ≡ self.now) }
-    {
-        Ok(Target {
-            text: self.text.try_clone()?,
-        })
-    }
-
     pub fn same(&self, other: &Target) -> bool
         ensures { IsTrue result ↔ (self.now ≡ other.now) }
     {
@@ -117,9 +109,15 @@ impl Target {
     }
 }
 
-impl TryClone for Target {
-    fn try_clone(&self) -> Result<Target, AllocError> {
-        Target::try_clone(self)
+impl Clone for Target {
+    ghost use Rattle.std.specs.Prelude.{◌≡◌};
+
+    ghost is_clone = { λ original copy. copy ≡ original };
+
+    fn clone(&self) -> Result<Target, AllocError> {
+        Ok(Target {
+            text: self.text.clone()?,
+        })
     }
 }
 

@@ -39,15 +39,14 @@ pub record IsPart (needed : NeededData) (made whole : List (List ℕ × Tree)) :
 
 -- one more field
 pub kept_more
-    : (needed : NeededData) (name : List ℕ) (value tree : Tree) {old new before : List (List ℕ × Tree)}
-    → IsPart needed old before → new ≡ old ++ kept_of needed ((name, value) ∷ []) → value ≡ tree
-    → IsPart needed new (before ++ (name, tree) ∷ [])
-kept_more needed name value tree {old} {new} {before} so_far pushed same = record {
+    : {needed : NeededData} (entry : List ℕ × Tree) {old new before : List (List ℕ × Tree)}
+    → IsPart needed old before → new ≡ old ++ kept_of needed (entry ∷ [])
+    → IsPart needed new (before ++ entry ∷ [])
+kept_more {needed} entry {old} {new} {before} so_far pushed = record {
   same =
       pushed
-      ∙ ap (λ es. es ++ kept_of needed ((name, value) ∷ [])) so_far.same
-      ∙ ap (λ t. kept_of needed before ++ kept_of needed ((name, t) ∷ [])) same
-      ∙ sym (filter-append (λ entry. is_needed needed entry.0) before ((name, tree) ∷ []));
+      ∙ ap (λ es. es ++ kept_of needed (entry ∷ [])) so_far.same
+      ∙ sym (filter-append (λ entry. is_needed needed entry.0) before (entry ∷ []));
 }
 
 members_of_kept

@@ -55,6 +55,6 @@ request_tree request template =
     no_members))
 
 -- the tree is over the limit, and is given back; or memory ran out
-abbrev pub IsRefusal : Tree → DataError → Type 0
-IsRefusal tree (TooLarge root) = (view root ≡ tree) × (SIZE_LIMIT < size tree)
-IsRefusal tree OutOfMemory = Unit {0}
+abbrev pub IsDataRefusal : Tree → DataError → Type 0
+IsDataRefusal tree (TooLarge root) = (view root ≡ tree) × (SIZE_LIMIT < size tree)
+IsDataRefusal tree OutOfMemory = Unit {0}

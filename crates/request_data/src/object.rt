@@ -1,6 +1,6 @@
 // An object of the data, made field by field.
 ghost use Rattle.std.specs.Prelude.{◌≡◌, [], ◌∷◌, ◌++◌, IfOk, OnOk};
-ghost use Rattle.data_tree.specs.Tree.{fields, text, view, members_view};
+ghost use Rattle.data_tree.specs.Tree.{fields, view, members_view};
 ghost use Rattle.request_data.specs.Inner.Views.{entries_of};
 
 use data_tree::compact_text::CompactText;
@@ -10,7 +10,7 @@ use std::alloc::{AllocError, Global};
 /// The fields so far, which have to be pushed in byte order of their names.
 #[derive(Drop)]
 pub(crate) struct Object {
-    alloc: Global,
+    pub(crate) alloc: Global,
     fields: Vec<(CompactText, Data)>,
 }
 
@@ -32,14 +32,6 @@ impl Object {
         self.fields
             .push((CompactText::from_str(self.alloc, name)?, value))?;
         Ok(())
-    }
-
-    pub(crate) fn push_text(&mut self, name: &str, content: &str) -> Result<(), AllocError>
-        ensures { OnOk result (entries_of self.new.fields.items
-            ≡ entries_of self.old.fields.items ++ (name.now, text content.now) ∷ []) }
-    {
-        let value = Data::Text(CompactText::from_str(self.alloc, content)?);
-        self.push(name, value)
     }
 
     pub(crate) fn into_data(self) -> Data

@@ -9,10 +9,6 @@ ghost use Rattle.needed_data.specs.Needed.{AreAlike};
 ghost use Rattle.request_data.specs.Part.{is_json_part_needed, json_part, kept, part_tree};
 ghost use Rattle.request_data.specs.RequestTree.{request_fields, request_tree};
 
-use crate::fields::{
-    push_base_url, push_body, push_cookies, push_headers, push_host, push_path, push_path_segments,
-    push_port, push_query, push_text,
-};
 use crate::object::Object;
 use data_tree::data::Data;
 use data_tree::request_data::{RequestData, SIZE_LIMIT};
@@ -115,17 +111,17 @@ fn request(
         view made ≡ fields (kept needed.now (request_fields snapshot.now (option_copied template.entry)))) }
 {
     let mut made = Object::with_room(alloc, USUAL_FIELDS)?;
-    push_base_url(alloc, &mut made, needed, snapshot)?;
-    push_body(alloc, &mut made, needed, snapshot)?;
-    push_cookies(alloc, &mut made, needed, snapshot)?;
-    push_headers(alloc, &mut made, needed, snapshot)?;
-    push_host(alloc, &mut made, needed, snapshot)?;
-    push_text(&mut made, needed, RequestField::Method, snapshot.method())?;
-    push_path(alloc, &mut made, needed, snapshot, template)?;
-    push_path_segments(alloc, &mut made, needed, snapshot)?;
-    push_port(alloc, &mut made, needed, snapshot)?;
-    push_query(alloc, &mut made, needed, snapshot)?;
-    push_text(&mut made, needed, RequestField::Scheme, "http")?;
-    push_text(&mut made, needed, RequestField::Url, snapshot.url())?;
+    made.push_field(needed, RequestField::BaseUrl, snapshot, template)?;
+    made.push_field(needed, RequestField::Body, snapshot, template)?;
+    made.push_field(needed, RequestField::Cookies, snapshot, template)?;
+    made.push_field(needed, RequestField::Headers, snapshot, template)?;
+    made.push_field(needed, RequestField::Host, snapshot, template)?;
+    made.push_field(needed, RequestField::Method, snapshot, template)?;
+    made.push_field(needed, RequestField::Path, snapshot, template)?;
+    made.push_field(needed, RequestField::PathSegments, snapshot, template)?;
+    made.push_field(needed, RequestField::Port, snapshot, template)?;
+    made.push_field(needed, RequestField::Query, snapshot, template)?;
+    made.push_field(needed, RequestField::Scheme, snapshot, template)?;
+    made.push_field(needed, RequestField::Url, snapshot, template)?;
     Ok(made.into_data())
 }

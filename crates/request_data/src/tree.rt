@@ -3,7 +3,7 @@ ghost use Rattle.std.specs.Prelude.{◌≡◌, ◌≤◌, IfOk, OnOk, IfErr, opt
 ghost use Rattle.data_tree.specs.Json.{size};
 ghost use Rattle.data_tree.specs.RequestData.{root_of};
 ghost use Rattle.data_tree.specs.WellFormed.{IsWellFormed};
-ghost use Rattle.request_data.specs.RequestTree.{request_tree, IsRefusal};
+ghost use Rattle.request_data.specs.RequestTree.{request_tree, IsDataRefusal};
 
 use crate::part::root;
 use data_tree::request_data::{DataError, RequestData, SIZE_LIMIT};
@@ -22,7 +22,7 @@ pub fn request_data(
     ensures tree { IfOk result (λ made. root_of made ≡ request_tree snapshot.now (option_copied template.entry)) }
     ensures within { OnOk result (size (request_tree snapshot.now (option_copied template.entry)) ≤ SIZE_LIMIT) }
     ensures well_formed { IfOk result (λ made. IsWellFormed (root_of made)) }
-    ensures refusal { IfErr result (IsRefusal (request_tree snapshot.now (option_copied template.entry))) }
+    ensures refusal { IfErr result (IsDataRefusal (request_tree snapshot.now (option_copied template.entry))) }
 {
     // No step at all finds the whole.
     let mut needed = Needed::new();

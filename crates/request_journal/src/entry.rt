@@ -18,7 +18,7 @@ impl Entry {
     {
         Ok(Entry {
             number: self.number,
-            request: self.request.try_clone()?,
+            request: self.request.clone()?,
         })
     }
 }

@@ -5,7 +5,7 @@ use crate::mapping::Mapping;
 use crate::shared_request::SharedRequest;
 use mapping_model::mapping_id::MappingId;
 use plain_text::items::Items;
-use plain_text::plain::{Same, TryClone};
+use plain_text::plain::Same;
 use plain_text::text::Text;
 use recorder::exchange::SharedExchange;
 use recorder::target::Target;
@@ -29,7 +29,7 @@ impl Captured {
         ensures { IfOk result (λ copy. copy ≡ self.now) }
     {
         Ok(Captured {
-            mapping: self.mapping.try_clone()?,
+            mapping: self.mapping.clone()?,
         })
     }
 
@@ -65,7 +65,7 @@ impl ServeAnswer {
     {
         Ok(match self {
             ServeAnswer::Stub(captured) => ServeAnswer::Stub(captured.try_clone()?),
-            ServeAnswer::Proxy(target) => ServeAnswer::Proxy(target.try_clone()?),
+            ServeAnswer::Proxy(target) => ServeAnswer::Proxy(target.clone()?),
             ServeAnswer::Unmatched => ServeAnswer::Unmatched,
         })
     }
@@ -205,13 +205,13 @@ impl Event {
     {
         Ok(match self {
             Event::Serve { request, answer } => Event::Serve {
-                request: request.try_clone()?,
+                request: request.clone()?,
                 answer: answer.try_clone()?,
             },
-            Event::Add(mapping) => Event::Add(mapping.try_clone()?),
+            Event::Add(mapping) => Event::Add(mapping.clone()?),
             Event::Edit { id, spec } => Event::Edit {
                 id: *id,
-                spec: spec.try_clone()?,
+                spec: spec.clone()?,
             },
             Event::Delete(id) => Event::Delete(*id),
             Event::DeleteAll => Event::DeleteAll,
@@ -219,8 +219,8 @@ impl Event {
             Event::ResetAll => Event::ResetAll,
             Event::ResetScenarios => Event::ResetScenarios,
             Event::SetScenario { name, state } => Event::SetScenario {
-                name: name.try_clone()?,
-                state: state.try_clone()?,
+                name: name.clone()?,
+                state: state.clone()?,
             },
             Event::ClearJournal => Event::ClearJournal,
             Event::StartRecording {
@@ -228,16 +228,16 @@ impl Event {
                 captured,
                 repeats,
             } => Event::StartRecording {
-                target: target.try_clone()?,
-                captured: captured.try_clone()?,
+                target: target.clone()?,
+                captured: captured.clone()?,
                 repeats: *repeats,
             },
             Event::Record { serve, exchange } => Event::Record {
                 serve: *serve,
-                exchange: exchange.try_clone()?,
+                exchange: exchange.clone()?,
             },
             Event::StopRecording { mappings, skipped } => Event::StopRecording {
-                mappings: mappings.try_clone()?,
+                mappings: mappings.clone()?,
                 skipped: *skipped,
             },
         })

@@ -2,7 +2,7 @@
 ghost use Rattle.std.specs.Prelude.{◌≡◌, ◌↔◌, IfOk, IsTrue};
 
 use crate::event::Event;
-use plain_text::plain::{Same, TryClone};
+use plain_text::plain::Same;
 use std::alloc::{AllocError, Global};
 use std::marker::Model;
 use std::mem::size_of;
@@ -55,15 +55,6 @@ impl SharedEvent {
         &self.event
     }
 
-    /// Takes no memory.
-    pub fn try_clone(&self) -> Result<SharedEvent, AllocError>
-        ensures { IfOk result (λ copy. copy ≡ self.now) }
-    {
-        Ok(SharedEvent {
-            event: Arc::try_clone(&self.event)?,
-        })
-    }
-
     pub fn same(&self, other: &SharedEvent) -> bool
         ensures { IsTrue result ↔ (self.now ≡ other.now) }
     {
@@ -71,9 +62,16 @@ impl SharedEvent {
     }
 }
 
-impl TryClone for SharedEvent {
-    fn try_clone(&self) -> Result<SharedEvent, AllocError> {
-        SharedEvent::try_clone(self)
+/// Takes no memory.
+impl Clone for SharedEvent {
+    ghost use Rattle.std.specs.Prelude.{◌≡◌};
+
+    ghost is_clone = { λ original copy. copy ≡ original };
+
+    fn clone(&self) -> Result<SharedEvent, AllocError> {
+        Ok(SharedEvent {
+            event: Arc::try_clone(&self.event)?,
+        })
     }
 }
 

@@ -2,7 +2,7 @@
 ghost use Rattle.std.specs.Prelude.{◌≡◌, ◌↔◌, IfOk, IsTrue};
 
 use mock_request::snapshot::Snapshot;
-use plain_text::plain::{Same, TryClone};
+use plain_text::plain::Same;
 use std::alloc::{AllocError, Global};
 use std::marker::Model;
 use std::sync::Arc;
@@ -43,15 +43,6 @@ impl SharedRequest {
         &self.request
     }
 
-    /// Takes no memory.
-    pub fn try_clone(&self) -> Result<SharedRequest, AllocError>
-        ensures { IfOk result (λ copy. copy ≡ self.now) }
-    {
-        Ok(SharedRequest {
-            request: Arc::try_clone(&self.request)?,
-        })
-    }
-
     pub fn same(&self, other: &SharedRequest) -> bool
         ensures { IsTrue result ↔ (self.now ≡ other.now) }
     {
@@ -59,9 +50,16 @@ impl SharedRequest {
     }
 }
 
-impl TryClone for SharedRequest {
-    fn try_clone(&self) -> Result<SharedRequest, AllocError> {
-        SharedRequest::try_clone(self)
+/// Takes no memory.
+impl Clone for SharedRequest {
+    ghost use Rattle.std.specs.Prelude.{◌≡◌};
+
+    ghost is_clone = { λ original copy. copy ≡ original };
+
+    fn clone(&self) -> Result<SharedRequest, AllocError> {
+        Ok(SharedRequest {
+            request: Arc::try_clone(&self.request)?,
+        })
     }
 }
 

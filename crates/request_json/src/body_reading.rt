@@ -1,8 +1,7 @@
 // Which body matcher an object spells.
 ghost use Rattle.std.specs.Prelude.{◌≡◌, IfOk, codes, option_map};
 ghost use Rattle.json_reading.specs.Fields.{optional, bytes_of};
-ghost use Rattle.json_reading.specs.Reading.{both, either, read_map, read_then};
-ghost use Rattle.json_reading.specs.declared.kind.Kind.TheVariants.{Misshapen};
+ghost use Rattle.json_reading.specs.Reading.{both, read_map, read_then};
 ghost use Rattle.mapping_model.specs.declared.body_pattern.BodyPattern.TheVariants.{Value as ValueMatcher};
 ghost use Rattle.mapping_model.specs.declared.body_pattern.BodyPattern.TheVariants.{BinaryEqualTo, JsonPath};
 ghost use Rattle.request_json.specs.BodyReading.{expected_of, equal_json_with, equal_json_in, path_object_of, path_of};
@@ -48,53 +47,10 @@ pub(crate) fn body_of(alloc: Global, value: &Value) -> Result<Reading<BodyPatter
 fn body_in(alloc: Global, value: &Value) -> Result<Reading<Option<BodyPattern>>, AllocError>
     ensures { IfOk result (λ pattern. pattern ≡ body_in (view value.now)) }
 {
-    let found = equal_json_or(alloc, value, path_in(alloc, value)?)?;
-    let found = binary_or(alloc, value, found)?;
-    text_matcher_or(alloc, value, found)
-}
-
-// Each of these gives the matcher of its words or else what is found already: both together are wrong.
-fn text_matcher_or(
-    alloc: Global,
-    value: &Value,
-    found: Reading<Option<BodyPattern>>,
-) -> Result<Reading<Option<BodyPattern>>, AllocError>
-    ensures { IfOk result (λ all. all
-        ≡ either Misshapen (read_map (option_map ValueMatcher) (value_in (view value.now))) found) }
-{
-    match text_matcher_in(alloc, value)? {
-        Reading::Read(None) => Ok(found),
-        matcher => Ok(either(Kind::Misshapen, matcher, found)),
-    }
-}
-
-#[tactic(auto, using(crate::proofs::Parts::no_bytes))]
-fn binary_or(
-    alloc: Global,
-    value: &Value,
-    found: Reading<Option<BodyPattern>>,
-) -> Result<Reading<Option<BodyPattern>>, AllocError>
-    ensures { IfOk result (λ all. all
-        ≡ either Misshapen (read_map (option_map BinaryEqualTo)
-        (optional bytes_of (get (codes "binaryEqualTo") (view value.now)))) found) }
-{
-    match value.get("binaryEqualTo") {
-        Some(_text) => Ok(either(Kind::Misshapen, binary_in(alloc, value)?, found)),
-        None => Ok(found),
-    }
-}
-
-fn equal_json_or(
-    alloc: Global,
-    value: &Value,
-    found: Reading<Option<BodyPattern>>,
-) -> Result<Reading<Option<BodyPattern>>, AllocError>
-    ensures { IfOk result (λ all. all ≡ either Misshapen (equal_json_in (view value.now)) found) }
-{
-    match equal_json_in(alloc, value)? {
-        Reading::Read(None) => Ok(found),
-        matcher => Ok(either(Kind::Misshapen, matcher, found)),
-    }
+    let found = path_in(alloc, value)?;
+    let found = either(Kind::Misshapen, equal_json_in(alloc, value)?, found);
+    let found = either(Kind::Misshapen, binary_in(alloc, value)?, found);
+    Ok(either(Kind::Misshapen, text_matcher_in(alloc, value)?, found))
 }
 
 fn text_matcher_in(alloc: Global, value: &Value) -> Result<Reading<Option<BodyPattern>>, AllocError>

@@ -1,7 +1,5 @@
 // Which URL matcher the fields of a request spell.
 ghost use Rattle.std.specs.Prelude.{◌≡◌, IfOk, codes};
-ghost use Rattle.json_reading.specs.Reading.{either};
-ghost use Rattle.json_reading.specs.declared.kind.Kind.TheVariants.{TwoUrls};
 ghost use Rattle.mapping_model.specs.declared.url_spec.UrlSpec.TheVariants as url;
 ghost use Rattle.request_json.specs.RequestReading.{template_with, template_in, url_of};
 ghost use Rattle.request_json.specs.ValueReading.{word};
@@ -23,10 +21,10 @@ pub(crate) fn url_of(alloc: Global, value: &Value) -> Result<Reading<UrlSpec>, A
     ensures { IfOk result (λ url. url ≡ url_of (view value.now)) }
 {
     let found = template_in(alloc, value)?;
-    let found = path_pattern_or(alloc, value, found)?;
-    let found = path_or(alloc, value, found)?;
-    let found = pattern_or(alloc, value, found)?;
-    match url_or(alloc, value, found)? {
+    let found = either(Kind::TwoUrls, path_pattern_in(alloc, value)?, found);
+    let found = either(Kind::TwoUrls, path_in(alloc, value)?, found);
+    let found = either(Kind::TwoUrls, pattern_in(alloc, value)?, found);
+    match either(Kind::TwoUrls, url_in(alloc, value)?, found) {
         Reading::Read(url) => Ok(Reading::Read(url.unwrap_or(UrlSpec::Any))),
         Reading::Wrong(kind) => Ok(Reading::Wrong(kind)),
     }
@@ -59,66 +57,6 @@ fn template_with(
         } else {
             Reading::Wrong(Kind::Misshapen)
         },
-    }
-}
-
-// Each of these gives the matcher of its field or else what is found already: both together are wrong. Most fields are
-// absent, and such a one costs its look-up alone.
-#[tactic(auto, using(crate::proofs::Parts::no_word))]
-fn url_or(
-    alloc: Global,
-    value: &Value,
-    found: Reading<Option<UrlSpec>>,
-) -> Result<Reading<Option<UrlSpec>>, AllocError>
-    ensures { IfOk result (λ all. all ≡ either TwoUrls (word (codes "url") url.Url (view value.now)) found) }
-{
-    match value.get("url") {
-        Some(_text) => Ok(either(Kind::TwoUrls, url_in(alloc, value)?, found)),
-        None => Ok(found),
-    }
-}
-
-#[tactic(auto, using(crate::proofs::Parts::no_word))]
-fn pattern_or(
-    alloc: Global,
-    value: &Value,
-    found: Reading<Option<UrlSpec>>,
-) -> Result<Reading<Option<UrlSpec>>, AllocError>
-    ensures { IfOk result (λ all.
-        all ≡ either TwoUrls (word (codes "urlPattern") url.UrlPattern (view value.now)) found) }
-{
-    match value.get("urlPattern") {
-        Some(_text) => Ok(either(Kind::TwoUrls, pattern_in(alloc, value)?, found)),
-        None => Ok(found),
-    }
-}
-
-#[tactic(auto, using(crate::proofs::Parts::no_word))]
-fn path_or(
-    alloc: Global,
-    value: &Value,
-    found: Reading<Option<UrlSpec>>,
-) -> Result<Reading<Option<UrlSpec>>, AllocError>
-    ensures { IfOk result (λ all. all ≡ either TwoUrls (word (codes "urlPath") url.UrlPath (view value.now)) found) }
-{
-    match value.get("urlPath") {
-        Some(_text) => Ok(either(Kind::TwoUrls, path_in(alloc, value)?, found)),
-        None => Ok(found),
-    }
-}
-
-#[tactic(auto, using(crate::proofs::Parts::no_word))]
-fn path_pattern_or(
-    alloc: Global,
-    value: &Value,
-    found: Reading<Option<UrlSpec>>,
-) -> Result<Reading<Option<UrlSpec>>, AllocError>
-    ensures { IfOk result (λ all.
-        all ≡ either TwoUrls (word (codes "urlPathPattern") url.UrlPathPattern (view value.now)) found) }
-{
-    match value.get("urlPathPattern") {
-        Some(_text) => Ok(either(Kind::TwoUrls, path_pattern_in(alloc, value)?, found)),
-        None => Ok(found),
     }
 }
 

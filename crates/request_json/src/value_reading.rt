@@ -1,7 +1,5 @@
 // Which value matcher an object spells.
 ghost use Rattle.std.specs.Prelude.{◌≡◌, IfOk, codes};
-ghost use Rattle.json_reading.specs.Reading.{either};
-ghost use Rattle.json_reading.specs.declared.kind.Kind.TheVariants.{Misshapen};
 ghost use Rattle.request_json.specs.ValueReading.{equal_in, absent_in, word, value_in, reading_of_value};
 ghost use Rattle.serde_json.specs.View.{view};
 ghost use Rattle.value_match.specs.declared.value_spec.ValueSpec.TheVariants.{Contains, DoesNotContain, Matches};
@@ -37,84 +35,15 @@ pub(crate) fn value_in(
 ) -> Result<Reading<Option<ValueSpec>>, AllocError>
     ensures { IfOk result (λ matcher. matcher ≡ value_in (view value.now)) }
 {
-    let found = does_not_match_or(alloc, value, absent_in(value))?;
-    let found = matches_or(alloc, value, found)?;
-    let found = does_not_contain_or(alloc, value, found)?;
-    let found = contains_or(alloc, value, found)?;
-    equal_or(alloc, value, found)
-}
-
-// Each of these gives the matcher of its word or else what is found already: both together are wrong. Most words are
-// absent, and such a one costs its look-up alone.
-fn equal_or(
-    alloc: Global,
-    value: &Value,
-    found: Reading<Option<ValueSpec>>,
-) -> Result<Reading<Option<ValueSpec>>, AllocError>
-    ensures { IfOk result (λ all. all ≡ either Misshapen (equal_in (view value.now)) found) }
-{
-    match equal_in(alloc, value)? {
-        Reading::Read(None) => Ok(found),
-        equal => Ok(either(Kind::Misshapen, equal, found)),
-    }
-}
-
-#[tactic(auto, using(crate::proofs::Parts::no_word))]
-fn contains_or(
-    alloc: Global,
-    value: &Value,
-    found: Reading<Option<ValueSpec>>,
-) -> Result<Reading<Option<ValueSpec>>, AllocError>
-    ensures { IfOk result (λ all. all ≡ either Misshapen (word (codes "contains") Contains (view value.now)) found) }
-{
-    match value.get("contains") {
-        Some(_text) => Ok(either(Kind::Misshapen, contains_in(alloc, value)?, found)),
-        None => Ok(found),
-    }
-}
-
-#[tactic(auto, using(crate::proofs::Parts::no_word))]
-fn does_not_contain_or(
-    alloc: Global,
-    value: &Value,
-    found: Reading<Option<ValueSpec>>,
-) -> Result<Reading<Option<ValueSpec>>, AllocError>
-    ensures { IfOk result (λ all.
-        all ≡ either Misshapen (word (codes "doesNotContain") DoesNotContain (view value.now)) found) }
-{
-    match value.get("doesNotContain") {
-        Some(_text) => Ok(either(Kind::Misshapen, does_not_contain_in(alloc, value)?, found)),
-        None => Ok(found),
-    }
-}
-
-#[tactic(auto, using(crate::proofs::Parts::no_word))]
-fn matches_or(
-    alloc: Global,
-    value: &Value,
-    found: Reading<Option<ValueSpec>>,
-) -> Result<Reading<Option<ValueSpec>>, AllocError>
-    ensures { IfOk result (λ all. all ≡ either Misshapen (word (codes "matches") Matches (view value.now)) found) }
-{
-    match value.get("matches") {
-        Some(_text) => Ok(either(Kind::Misshapen, matches_in(alloc, value)?, found)),
-        None => Ok(found),
-    }
-}
-
-#[tactic(auto, using(crate::proofs::Parts::no_word))]
-fn does_not_match_or(
-    alloc: Global,
-    value: &Value,
-    found: Reading<Option<ValueSpec>>,
-) -> Result<Reading<Option<ValueSpec>>, AllocError>
-    ensures { IfOk result (λ all.
-        all ≡ either Misshapen (word (codes "doesNotMatch") DoesNotMatch (view value.now)) found) }
-{
-    match value.get("doesNotMatch") {
-        Some(_text) => Ok(either(Kind::Misshapen, does_not_match_in(alloc, value)?, found)),
-        None => Ok(found),
-    }
+    let found = either(
+        Kind::Misshapen,
+        does_not_match_in(alloc, value)?,
+        absent_in(value),
+    );
+    let found = either(Kind::Misshapen, matches_in(alloc, value)?, found);
+    let found = either(Kind::Misshapen, does_not_contain_in(alloc, value)?, found);
+    let found = either(Kind::Misshapen, contains_in(alloc, value)?, found);
+    Ok(either(Kind::Misshapen, equal_in(alloc, value)?, found))
 }
 
 fn equal_in(alloc: Global, value: &Value) -> Result<Reading<Option<ValueSpec>>, AllocError>

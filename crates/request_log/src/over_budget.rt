@@ -31,7 +31,7 @@ pub(crate) fn over_budget_line(
     request: &Snapshot,
     limits: Limits,
 ) -> Result<String, AllocError> {
-    let Content::Templated { headers, body } = &mapping.response.response().content else {
+    let Content::Templated { headers, body } = &mapping.response.content else {
         return Ok(String::new(alloc));
     };
     let template = path_template(alloc, &mapping.request.url);

@@ -121,7 +121,7 @@ impl RequestLog {
         }
     }
 
-    /// Tells of a request that was forwarded, and whose event has this number. `failure` is why the target gave no
+    /// Tells of a request that was forwarded, and whose event has this number. `failure` is why the upstream gave no
     /// reply, in words.
     pub fn forwarded<R: Wait>(
         &self,

@@ -96,7 +96,7 @@ fn kind_of(alloc: Global, spec: &BodyPattern) -> Result<BodyKind, RequestMatchEr
 {
     match spec {
         BodyPattern::Value(matcher) => Ok(BodyKind::Value(ValueMatcher::build(alloc, matcher)?)),
-        BodyPattern::BinaryEqualTo(bytes) => Ok(BodyKind::BinaryEqualTo(bytes.try_clone()?)),
+        BodyPattern::BinaryEqualTo(bytes) => Ok(BodyKind::BinaryEqualTo(bytes.clone()?)),
         BodyPattern::Json(matcher) => Ok(BodyKind::Json(JsonMatcher::build(alloc, matcher)?)),
         BodyPattern::JsonPath {
             expression,
@@ -118,7 +118,7 @@ fn path_kind(
 {
     let matcher = ValueMatcher::build(alloc, matcher)?;
     let path = JsonPath::parse(alloc, expression.as_str())?;
-    Ok(BodyKind::JsonPath(expression.try_clone()?, path, matcher))
+    Ok(BodyKind::JsonPath(expression.clone()?, path, matcher))
 }
 
 /// Builds each. All of them are tried, so that of several errors the first in order is reported.

@@ -31,7 +31,7 @@ impl HashedText {
         ensures { IfOk result (λ hashed. hashed ≡ text.now) }
     {
         Ok(HashedText {
-            text: text.try_clone()?,
+            text: text.clone()?,
             hash: hash(text.as_str()),
         })
     }

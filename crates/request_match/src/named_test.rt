@@ -39,7 +39,7 @@ impl NamedTest {
     {
         Ok(NamedTest {
             matcher: ValueMatcher::build(alloc, &spec.matcher)?,
-            name: spec.name.try_clone()?,
+            name: spec.name.clone()?,
         })
     }
 

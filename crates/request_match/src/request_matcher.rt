@@ -52,7 +52,7 @@ impl RequestMatcher {
     {
         Ok(RequestMatcher {
             method: match &spec.method {
-                Some(method) => Some(method.try_clone()?),
+                Some(method) => Some(method.clone()?),
                 None => None,
             },
             url: UrlTest::build(alloc, &spec.url)?,

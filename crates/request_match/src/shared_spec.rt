@@ -4,7 +4,7 @@ ghost use Rattle.stub_response.specs.Prepared.{IsPrepared};
 
 use bytes::Bytes;
 use mapping_model::mapping_spec::MappingSpec;
-use plain_text::plain::{Same, TryClone};
+use plain_text::plain::Same;
 use std::alloc::{AllocError, Global};
 use std::marker::Model;
 use std::sync::Arc;
@@ -47,7 +47,7 @@ impl SharedSpec {
     pub fn new(alloc: Global, spec: MappingSpec) -> Result<SharedSpec, AllocError>
         ensures { IfOk result (λ shared. shared ≡ spec) }
     {
-        let prepared = Prepared::of(alloc, spec.response.response())?;
+        let prepared = Prepared::of(alloc, &spec.response)?;
         Ok(SharedSpec {
             kept: Arc::new(alloc, Kept { spec, prepared })?,
         })
@@ -61,7 +61,7 @@ impl SharedSpec {
     ) -> Result<SharedSpec, AllocError>
         ensures { IfOk result (λ shared. shared ≡ spec) }
     {
-        let mut prepared = Prepared::of(alloc, spec.response.response())?;
+        let mut prepared = Prepared::of(alloc, &spec.response)?;
         prepared.share_body(bytes);
         Ok(SharedSpec {
             kept: Arc::new(alloc, Kept { spec, prepared })?,
@@ -81,15 +81,6 @@ impl SharedSpec {
         &self.kept.prepared
     }
 
-    /// Takes no memory.
-    pub fn try_clone(&self) -> Result<SharedSpec, AllocError>
-        ensures { IfOk result (λ copy. copy ≡ self.now) }
-    {
-        Ok(SharedSpec {
-            kept: Arc::try_clone(&self.kept)?,
-        })
-    }
-
     pub fn same(&self, other: &SharedSpec) -> bool
         ensures { IsTrue result ↔ (self.now ≡ other.now) }
     {
@@ -104,9 +95,16 @@ impl Drop for SharedSpec {
     }
 }
 
-impl TryClone for SharedSpec {
-    fn try_clone(&self) -> Result<SharedSpec, AllocError> {
-        SharedSpec::try_clone(self)
+/// Takes no memory.
+impl Clone for SharedSpec {
+    ghost use Rattle.std.specs.Prelude.{◌≡◌};
+
+    ghost is_clone = { λ original copy. copy ≡ original };
+
+    fn clone(&self) -> Result<SharedSpec, AllocError> {
+        Ok(SharedSpec {
+            kept: Arc::try_clone(&self.kept)?,
+        })
     }
 }
 

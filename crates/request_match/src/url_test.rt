@@ -125,11 +125,11 @@ fn kind_of(alloc: Global, spec: &UrlSpec) -> Result<UrlKind, RequestMatchError>
         UrlSpec::UrlPath(text) => Ok(UrlKind::UrlPath(HashedText::new(text)?)),
         UrlSpec::UrlPattern(text) => {
             let matcher = pattern_of(alloc, text)?;
-            Ok(UrlKind::UrlPattern(text.try_clone()?, matcher))
+            Ok(UrlKind::UrlPattern(text.clone()?, matcher))
         }
         UrlSpec::UrlPathPattern(text) => {
             let matcher = pattern_of(alloc, text)?;
-            Ok(UrlKind::UrlPathPattern(text.try_clone()?, matcher))
+            Ok(UrlKind::UrlPathPattern(text.clone()?, matcher))
         }
         UrlSpec::UrlPathTemplate {
             template,
@@ -160,7 +160,7 @@ fn pattern_of(alloc: Global, text: &Text) -> Result<ValueMatcher, ValueError>
     ensures bad_pattern { IsErrOf result ValueError.BadPattern
         → Any MayBeRefused (ValueSpec.Matches text.now ∷ []) }
 {
-    let pattern = ValueSpec::Matches(text.try_clone()?);
+    let pattern = ValueSpec::Matches(text.clone()?);
     ValueMatcher::build(alloc, &pattern)
 }
 

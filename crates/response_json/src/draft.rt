@@ -141,7 +141,7 @@ fn compile_line(
 {
     Ok(HeaderLine {
         value: TemplateText::from_text_with(alloc, line.value.as_str(), escape)?,
-        name: line.name.try_clone()?,
+        name: line.name.clone()?,
     })
 }
 

@@ -155,7 +155,7 @@ fn line_of(
 {
     match text_of(alloc, value)? {
         Reading::Read(value) => Ok(Reading::Read(HeaderLine {
-            name: name.try_clone()?,
+            name: name.clone()?,
             value,
         })),
         Reading::Wrong(kind) => Ok(Reading::Wrong(kind)),

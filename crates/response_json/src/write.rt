@@ -83,7 +83,7 @@ fn source_line(
     ensures { IfOk result (λ source. source ≡ text_line line.now) }
 {
     Ok(HeaderLine {
-        name: line.name.try_clone()?,
+        name: line.name.clone()?,
         value: Text::from(String::from_str(alloc, line.value.source())?),
     })
 }

@@ -15,7 +15,7 @@ use Rattle.template_code.specs.Machine.{Loop, Effect, effect}
 use Rattle.template_code.specs.declared.flow.Flow.{Flow}
 use Rattle.template_code.specs.declared.instr.Instr.{Instr}
 use Rattle.template_code.specs.declared.instr.Instr.TheVariants.{Jump, Branch, Each, Next, Halt}
-use Rattle.code_rules.specs.Table.{Entry, entry_at}
+use Rattle.code_rules.specs.Table.{TableEntry, entry_at}
 use Rattle.code_rules.specs.Verdict.{IsWellFormed}
 use Rattle.code_rules.proofs.FormFacts.{formed-inside, formed-empty_rest}
 use Rattle.code_rules.proofs.MachineFacts.{effect-kinds}
@@ -52,7 +52,7 @@ module _ (code : StackCode) (well : IsWellFormed code) where
   pub none-after : (index : ℕ) (i : Instr) → slice_get code.instrs index ≡ Some i →
       requires_empty_stack (flow i) ≡ true → (well.table (suc index)).kinds ≡ []
   none-after index i is clear =
-      ap (λ (e : Entry). e.kinds) (well.follows.next index i is)
+      ap (λ (e : TableEntry). e.kinds) (well.follows.next index i is)
       ∙ no-slots (goes_on (flow i)) (pushes i ++ drop (length (pops i)) (well.table index).kinds)
       (rw (pushes-none i clear) (formed-empty_rest code well index i is clear))
 
@@ -60,14 +60,14 @@ module _ (code : StackCode) (well : IsWellFormed code) where
       course.nest (course_of code n cost) index ≡ (well.table index).nest
   nest-at n cost index le =
       same-nests code n cost index
-      ∙ ap (λ (e : Entry). e.nest)
+      ∙ ap (λ (e : TableEntry). e.nest)
       (sym (entry-same code well.table (entry_at code) well.follows (IsTable-entry_at code) index le))
 
   -- the loop opens there
   pub opener-opens : (index opener : ℕ) (outer : List ℕ) → index ≤ length code.instrs →
       (well.table index).nest ≡ opener ∷ outer → Opens code opener
   opener-opens index opener outer le at =
-      let same = ap (λ (e : Entry). e.nest)
+      let same = ap (λ (e : TableEntry). e.nest)
       (entry-same code well.table (entry_at code) well.follows (IsTable-entry_at code) index le) in
       (subst (λ ns. AllOpen code ns) (sym same ∙ at) (all-open code index)).0
 
@@ -101,7 +101,7 @@ module _ (code : StackCode) (well : IsWellFormed code) where
     kinds-next on =
         kinds_left
         ∙ (sym (all-slots (flow i) (pushes i ++ drop (length (pops i)) (well.table index).kinds) on)
-        ∙ ap (λ (x : Entry). x.kinds) (sym (well.follows.next index i is)))
+        ∙ ap (λ (x : TableEntry). x.kinds) (sym (well.follows.next index i is)))
 
     -- no slot is left
     pub kinds-none : requires_empty_stack (flow i) ≡ true → map kind_of e.stack ≡ []

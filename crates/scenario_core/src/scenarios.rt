@@ -94,9 +94,7 @@ impl Scenarios {
     pub fn try_clone(&self) -> Result<Scenarios, AllocError>
         ensures { IfOk result (λ copy. copy ≡ self.now) }
     {
-        Ok(Scenarios {
-            entries: self.entries.clone()?,
-        })
+        self.clone()
     }
 
     fn start(&mut self, name: &str)
@@ -105,5 +103,17 @@ impl Scenarios {
         if let Ok(at) = search(&self.entries, name) {
             let _entry = self.entries.remove(at);
         }
+    }
+}
+
+impl Clone for Scenarios {
+    ghost use Rattle.std.specs.Prelude.{◌≡◌};
+
+    ghost is_clone = { λ original copy. copy ≡ original };
+
+    fn clone(&self) -> Result<Scenarios, AllocError> {
+        Ok(Scenarios {
+            entries: self.entries.clone()?,
+        })
     }
 }

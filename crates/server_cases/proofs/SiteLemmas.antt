@@ -1,5 +1,5 @@
--- A site may be lent to another thread, where its gate and its clock may: of its book, and of the router of its admin
--- calls, the toolchain's own search gives up.
+-- A site may be lent to another thread, where its pause point and its clock may: of its book, and of the router of its
+-- admin calls, the toolchain's own search gives up.
 use denote.RattleType.{RattleType}
 use denote.Param.Send.{IsSync, sendable}
 use denote.Param.SendFields.{declared_sync}

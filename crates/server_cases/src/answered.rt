@@ -13,8 +13,8 @@ use std::alloc::{AllocError, Global};
 use std::sync::Wait;
 use std::thread::Threads;
 
-/// The first thread answers a message, and the gate holds it until the second has edited the mapping and answered the
-/// same message.
+/// The first thread answers a message, and the pause point holds it until the second has edited the mapping and
+/// answered the same message.
 pub fn answered<L: Origin + Send + Sync, R: Threads + Wait + Sync>(
     rt: &R,
     alloc: Global,

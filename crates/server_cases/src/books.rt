@@ -81,7 +81,7 @@ fn version(answer: &ServeAnswer) -> &str {
     let ServeAnswer::Stub(captured) = answer else {
         return "none";
     };
-    match &captured.mapping.spec.spec().response.response().content {
+    match &captured.mapping.spec.spec().response.content {
         Content::Plain {
             body: Body::Text(text),
             ..

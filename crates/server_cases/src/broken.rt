@@ -4,16 +4,16 @@ ghost use Rattle.shared_history.specs.Entries.{opening};
 
 use crate::calls;
 use crate::no_clock::NoClock;
+use crate::no_log::NoLog;
 use crate::nowhere::Nowhere;
+use crate::scripted_io::{Script, ScriptedIo};
 use admin_routes::router::AdminRoutes;
 use answering::site::Site;
 use bytes::Bytes;
 use case_table::mappings::mapping;
 use http_connections::serve_io::serve_io;
 use hyper_service::journal_limit::JournalLimit;
-use hyper_service::log::NoLog;
 use hyper_service::site_answers::SiteAnswers;
-use proxy_client::scripted_io::{Script, ScriptedIo};
 use shared_book::gate::NoGate;
 use shared_book::history::OpenedHistory;
 use shared_book::origin::Origin;

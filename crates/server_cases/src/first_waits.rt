@@ -1,4 +1,4 @@
-//! A gate that holds its first call until its second.
+//! A pause point that holds its first call until its second.
 
 use shared_book::gate::Gate;
 use std::alloc::AllocError;

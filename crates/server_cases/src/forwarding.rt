@@ -1,4 +1,4 @@
-//! Requests that are forwarded: to peers that a script plays, and to a target that arguments name.
+//! Requests that are forwarded: to peers that a script plays, and to an upstream that arguments name.
 
 pub mod cases;
 pub mod one;

@@ -16,8 +16,8 @@ use std::alloc::{AllocError, Global};
 use std::sync::Wait;
 use std::thread::Threads;
 
-/// The first thread serves, and a gate holds it until the second has edited the mapping and served. Then the first has
-/// seen its own call, and those before it; the second all, which both have seen together.
+/// The first thread serves, and a pause point holds it until the second has edited the mapping and served. Then the
+/// first has seen its own call, and those before it; the second all, which both have seen together.
 pub fn fronts<L: Origin + Send + Sync, R: Threads + Wait + Sync>(
     rt: &R,
     alloc: Global,

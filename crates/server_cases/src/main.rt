@@ -1,6 +1,6 @@
 //! Plays calls and messages over shared books, also of two threads, connections that break off and requests that are
 //! forwarded, and prints what each case shows. Then compares what schedules over a book give with the table in `data/`.
-//! With arguments it forwards one request to a target and prints the reply, as `tests/proxy` wants it.
+//! With arguments it forwards one request to an upstream and prints the reply, as `tests/proxy` wants it.
 #![tactic(auto)]
 
 // The table of schedules, and the cases by their names.
@@ -25,9 +25,11 @@ mod threads;
 mod two_threads;
 mod versions;
 
-// Connections that break off.
+// Connections over a peer in memory that breaks off.
 mod broken;
+mod no_log;
 mod nowhere;
+mod scripted_io;
 
 // Messages that are answered over shared books, also by two threads.
 mod answered;

@@ -22,13 +22,13 @@ use template_tree::escape::Escape;
 pub enum Task {
     /// `GET /a`.
     Get,
-    /// Once the gate was called, an edit and `GET /a`.
+    /// Once the pause point was called, an edit and `GET /a`.
     EditAndGet,
     /// `GET /none`, `GET /a` 500 times, and 10 edits.
     Many,
 }
 
-/// A site of the book, with a gate that holds its first call until its second.
+/// A site of the book, with a pause point that holds its first call until its second.
 pub fn site_of<L: Origin>(
     alloc: Global,
     book: SharedBook<L>,
@@ -45,7 +45,7 @@ pub fn site_of<L: Origin>(
     })
 }
 
-/// The book of a site. The error says that its gate gave up.
+/// The book of a site. The error says that its pause point gave up.
 pub fn book_of<L: Origin>(site: Site<L, FirstWaits, NoClock>) -> Result<SharedBook<L>, AllocError> {
     let Site {
         book,

@@ -66,7 +66,7 @@ pub fn add_counts(cells: &mut Cells, settled: &Settled) {
     cells.add(" receipts");
 }
 
-/// Whether the numbers that a gate was told add up to those of the requests that a mapping answers.
+/// Whether the numbers that a pause point was told add up to those of the requests that a mapping answers.
 pub fn add_told(cells: &mut Cells, told: u64, settled: &Settled) {
     cells.add(if told == stubbed(settled) {
         "; the gate was told their numbers"

@@ -1,4 +1,4 @@
-//! Two scripts, and a gate.
+//! Two scripts, and a pause point.
 ghost use Rattle.std.specs.Prelude.{◌≤◌};
 
 use crate::books;

@@ -17,9 +17,9 @@ use std::thread::Threads;
 pub enum Job {
     /// Serves 500 requests, and makes 10 edits.
     Many,
-    /// Serves, and calls the gate.
+    /// Serves, and calls the pause point.
     Serve,
-    /// Once the gate was called, edits, serves, and calls the gate.
+    /// Once the pause point was called, edits, serves, and calls the pause point.
     EditAndServe,
 }
 

@@ -14,7 +14,7 @@ use std::alloc::{AllocError, Global};
 use std::sync::Wait;
 use std::thread::Threads;
 
-/// The first thread serves, and a gate holds it until the second has edited the mapping and served.
+/// The first thread serves, and a pause point holds it until the second has edited the mapping and served.
 pub fn versions<L: Origin + Send + Sync, R: Threads + Wait + Sync>(
     rt: &R,
     alloc: Global,

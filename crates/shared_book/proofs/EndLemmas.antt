@@ -2,7 +2,7 @@
 use Rattle.std.proofs.Common.{ℕ, [], ◌∷◌, List, refl, sym, ◌∙◌, subst}
 use Rattle.std.proofs.lemmas.List.Elements.{All-weaker}
 use mathlib.Core.List.{IsPrefix}
-use Rattle.logbook.specs.Pages.{Book}
+use Rattle.logbook.specs.Pages.{Book as HistoryName}
 use Rattle.request_journal.specs.Past.{Past}
 use Rattle.request_journal.specs.declared.event.Event.{Event}
 use Rattle.shared_book.proofs.KeptLemmas.{lawful_more}
@@ -49,7 +49,7 @@ kept_ended origin all past old new entries parts start kept same = record {
 }
 
 -- what the seats' receipts agree with is the history that has ended
-pub settled_ended : (origin : Past) (parts : ℕ) (name : Book) (old new : Log) (past : Past) (seats : List Held)
+pub settled_ended : (origin : Past) (parts : ℕ) (name : HistoryName) (old new : Log) (past : Past) (seats : List Held)
     (settled : Settled) → HaveAgreed origin parts old past seats settled → Ends origin name old new
     → AreSettled origin parts name seats settled
 settled_ended origin parts name old new past seats settled agreed ends =

@@ -5,7 +5,7 @@ use Rattle.std.proofs.lemmas.List.Concat.{flat_map-append}
 use Rattle.std.proofs.lemmas.List.Elements.{All-append, All-cons, All-head, All-nil, All-push, All-tail, All-weaker}
 use Rattle.std.specs.List.{AllZip}
 use mathlib.Core.List.{IsPrefix}
-use Rattle.logbook.specs.Pages.{Book}
+use Rattle.logbook.specs.Pages.{Book as HistoryName}
 use Rattle.request_journal.specs.Past.{Past}
 use Rattle.request_journal.specs.declared.event.Event.{Event}
 use Rattle.shared_book.specs.Held.{Held, HoldReceipts, LetsGo, all_lists, filled, is_filled, lists, receipts_of}
@@ -39,7 +39,7 @@ in_later origin old new receipt on of =
     record { seat = of.seat; is = receipt_later origin of.seat old new receipt on of.is }
 
 -- that of a call that was entered
-pub in_entered : {name : Book} {so_many : ℕ} (origin : Past) (old new : Sight Past Event) (receipt : Receipt)
+pub in_entered : {name : HistoryName} {so_many : ℕ} (origin : Past) (old new : Sight Past Event) (receipt : Receipt)
     → IsEntered origin name old new receipt so_many → IsReceiptIn origin new.seen receipt
 in_entered origin old new receipt entered = record {
   seat = old.number;

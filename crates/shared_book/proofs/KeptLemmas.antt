@@ -1,7 +1,7 @@
 -- What the lock keeps, after one more entry.
 use Rattle.std.proofs.Common.{◌≡◌, ℕ, ◌<◌, [], ◌∷◌, ◌++◌, ap, arith, refl, sym, ◌∙◌, subst}
 use Rattle.std.specs.Prelude.{IfOk, Result, Ok, Err}
-use Rattle.logbook.specs.Pages.{Book}
+use Rattle.logbook.specs.Pages.{Book as HistoryName}
 use Rattle.mock_request.specs.Request.{Request}
 use Rattle.request_journal.specs.Legal.{IsNext}
 use Rattle.request_journal.specs.Past.{Past, last_number}
@@ -70,7 +70,7 @@ module _ (origin : Past) (all : ℕ) (past : Past) (old new : Log) (entries part
       }
 
 -- a seat has seen all that there is, which was entered
-pub sees_all : {name : Book} (origin : Past) (whole more : Log) (old new : Sight Past Event) → IsLawful origin whole
+pub sees_all : {name : HistoryName} (origin : Past) (whole more : Log) (old new : Sight Past Event) → IsLawful origin whole
     → Looks old whole new → more ≡ new.seen → IsHistory MayFollow more → IsSeen MayFollow name more
     → SeesAll origin name old new
 sees_all {name} origin whole more old new lawful looks same history was_seen = record {
@@ -87,7 +87,7 @@ in_past origin past whole old new P is looks holds =
     (past, past_looked origin past whole new.seen old.number looks.seen is, holds)
 
 -- the seat has made another
-pub was_split : {name : Book} (origin : Past) (whole new : Log) (seat later made : Sight Past Event)
+pub was_split : {name : HistoryName} (origin : Past) (whole new : Log) (seat later made : Sight Past Event)
     → IsLawful origin whole
     → Splits seat whole later made → new ≡ later.seen → IsHistory MayFollow new → IsSeen MayFollow name new
     → IsSplit origin name seat later made
@@ -99,7 +99,7 @@ was_split {name} origin whole new seat later made lawful splits same history was
 }
 
 -- the other has left, and this one has seen that
-pub was_joined : {name : Book} (origin : Past) (whole new : Log) (seat other later : Sight Past Event)
+pub was_joined : {name : HistoryName} (origin : Past) (whole new : Log) (seat other later : Sight Past Event)
     → IsLawful origin whole
     → Leaves other whole new → HasLeft MayFollow new other.number → IsHistory MayFollow new
     → CatchesUp seat new later → IsSeen MayFollow name new → IsJoined origin name seat other later
@@ -131,7 +131,7 @@ looked_up origin past whole old new asked number answer is looks last looked = r
 }
 
 -- the same for who has no place
-pub looked_up_once : {E : Type 0} (name : Book) (origin past : Past) (whole seen : Log) (asked : BookRead)
+pub looked_up_once : {E : Type 0} (name : HistoryName) (origin past : Past) (whole seen : Log) (asked : BookRead)
     (result : Result ReadAnswer E) → IsLawful origin whole → IsPastOf origin whole past → seen ≡ whole
     → IsSeen MayFollow name seen → IfOk result (IsReadAnswer past asked)
     → IfOk result (IsReadOnce origin name asked)
@@ -180,7 +180,7 @@ module _ (origin past new : Past) (whole more : Log) (seat later : Sight Past Ev
       dropped_last origin new later.seen base
       (subst (λ (log : Log). IsPastOf origin log new) same (past_entered is grows calls same)) number
 
-  pub was_entered : {name : Book} (receipt : Receipt) (count : ℕ) → IsLawful origin whole → IsPastOf origin whole past
+  pub was_entered : {name : HistoryName} (receipt : Receipt) (count : ℕ) → IsLawful origin whole → IsPastOf origin whole past
       → Grows past new event
       → Calls event seat whole later → more ≡ later.seen → IsHistory MayFollow more → IsSeen MayFollow name more
       → receipt.event ≡ event → receipt.number ≡ last_number new → count ≡ replaced past event

@@ -6,7 +6,7 @@ use Rattle.std.specs.Borrow.{Bor}
 use Rattle.std.specs.List.{AllZip}
 use Rattle.std.specs.Prelude.{Result}
 use mathlib.Core.List.{IsPrefix}
-use Rattle.logbook.specs.Pages.{Book}
+use Rattle.logbook.specs.Pages.{Book as HistoryName}
 use Rattle.mock_request.specs.Request.{Request}
 use Rattle.request_journal.specs.Past.{Past}
 use Rattle.request_journal.specs.declared.input.BookInput.{BookInput}
@@ -106,7 +106,7 @@ plays_on origin a b c calls call one two = record {
 }
 
 -- a call that was accepted
-receipt_of : {name : Book} (origin : Past) (old new : Held) (receipt : Receipt) → Enters origin name old new receipt
+receipt_of : {name : HistoryName} (origin : Past) (old new : Held) (receipt : Receipt) → Enters origin name old new receipt
     → IsReceipt origin new.number new.seen receipt
 receipt_of origin old new receipt entered = record {
   before = entered.whole;
@@ -122,7 +122,7 @@ receipt_of origin old new receipt entered = record {
   number = entered.number;
 }
 
-pub plays_accepted : {name : Book} (origin : Past) (old new : Held) (call : Call) (receipt : Receipt)
+pub plays_accepted : {name : HistoryName} (origin : Past) (old new : Held) (call : Call) (receipt : Receipt)
     → Gained origin old receipt new
     → IsAskedBy call receipt.event → Enters origin name old new receipt → Plays origin old new (call ∷ [])
 plays_accepted origin old new call receipt gained of entered = record {
@@ -140,18 +140,18 @@ plays_unchanged origin old new call same =
     subst (λ (h : Held). Plays origin old h (call ∷ [])) (sym same)
     (plays_no_call origin old old (call ∷ []) (inr refl) refl (prefix_self old.seen))
 
-pub plays_caught_up : {name : Book} (origin : Past) (old new : Held) (call : Call) → HasCaughtUp origin name old new
+pub plays_caught_up : {name : HistoryName} (origin : Past) (old new : Held) (call : Call) → HasCaughtUp origin name old new
     → Plays origin old new (call ∷ [])
 plays_caught_up origin old new call caught =
     plays_no_call origin old new (call ∷ []) (inr refl) caught.same
     (sees_on origin (sight old) (sight new) caught.sees)
 
-plays_refused : {A B : Type 0} {name : Book} (origin : Past) (old new : Held) (call : Call)
+plays_refused : {A B : Type 0} {name : HistoryName} (origin : Past) (old new : Held) (call : Call)
     → (A × (new ≡ old)) ⊎ (HasCaughtUp origin name old new × B) → Plays origin old new (call ∷ [])
 plays_refused origin old new call (inl same) = plays_unchanged origin old new call same.1
 plays_refused origin old new call (inr caught) = plays_caught_up origin old new call caught.0
 
-pub plays_served : (origin : Past) (name : Book) (old new : Held) (request : Request)
+pub plays_served : (origin : Past) (name : HistoryName) (old new : Held) (request : Request)
     (result : Result (Bor Receipt) BookError)
     → LendsServed origin name old new request result → Plays origin old new (Serve request ∷ [])
 plays_served origin name old new request (Ok lent) told =
@@ -159,7 +159,7 @@ plays_served origin name old new request (Ok lent) told =
     (subst (IsAskedBy (Serve request)) (sym told.asked_for.1) refl) told.entered
 plays_served origin name old new request (Err error) told = plays_refused origin old new (Serve request) told
 
-pub plays_applied : (origin : Past) (name : Book) (old new : Held) (asked : BookInput)
+pub plays_applied : (origin : Past) (name : HistoryName) (old new : Held) (asked : BookInput)
     (result : Result (Bor Receipt) BookError)
     → LendsApplied origin name old new asked result → Plays origin old new (Apply asked ∷ [])
 plays_applied origin name old new asked (Ok lent) told =
@@ -201,7 +201,7 @@ seen_of whole x xs seen = (
 lists_given : (seat left : Held) → HasGivenTwo seat left → lists left ≡ lists seat
 lists_given seat left gave = ap lists gave.same
 
-played : (origin : Past) (parts : ℕ) (name : Book) (seat left a b : Held) (cs ds : List Call) (settled : Settled)
+played : (origin : Past) (parts : ℕ) (name : HistoryName) (seat left a b : Held) (cs ds : List Call) (settled : Settled)
     → HasGivenTwo seat left → HasPlayed origin cs a → HasPlayed origin ds b
     → AreSettled origin parts name (left ∷ a ∷ b ∷ []) settled → IsPlayed origin name seat cs ds settled
 played origin parts name seat left a b cs ds settled gave one two all =
@@ -223,7 +223,7 @@ played origin parts name seat left a b cs ds settled gave one two all =
           ++ (lists_played origin b ds two i ++ []))) all.one_history;
     }
 
-pub played_by : {E : Type 0} (origin : Past) (parts : ℕ) (name : Book) (seat left a b : Held) (cs ds : List Call)
+pub played_by : {E : Type 0} (origin : Past) (parts : ℕ) (name : HistoryName) (seat left a b : Held) (cs ds : List Call)
     (seats : List Held) (result : Result Settled E) → HasGivenTwo seat left → HasPlayed origin cs a
     → HasPlayed origin ds b → seats ≡ left ∷ a ∷ b ∷ []
     → IfOk result (λ s. AreSettled origin parts name seats s)
@@ -234,7 +234,7 @@ played_by origin parts name seat left a b cs ds seats (Ok settled) gave one two 
 played_by origin parts name seat left a b cs ds seats (Err error) gave one two is told = told
 
 -- the same seats, where they couldn't be settled
-pub stopped : (origin : Past) (parts : ℕ) (name : Book) (seat left a b : Held) (cs ds : List Call)
+pub stopped : (origin : Past) (parts : ℕ) (name : HistoryName) (seat left a b : Held) (cs ds : List Call)
     (seats back : List Held) (reason : SettleRefusal) (alone : Option Held) → HasGivenTwo seat left
     → HasPlayed origin cs a → HasPlayed origin ds b → seats ≡ left ∷ a ∷ b ∷ []
     → (back ≡ seats) × (alone ≡ None) → AreUnsettled origin parts name seats reason
@@ -258,7 +258,7 @@ err_by (Ok x) f p q = p
 err_by (Err e) f p q = f e p q
 
 -- two parts fewer, after two splits
-pub gave_two : {name : Book} (origin : Past) (seat middle left one two : Held)
+pub gave_two : {name : HistoryName} (origin : Past) (seat middle left one two : Held)
     → middle ≡ record seat { parts = seat.parts - 1; seen = middle.seen }
     → left ≡ record middle { parts = middle.parts - 1; seen = left.seen } → HasSplit origin name seat middle one
     → HasSplit origin name middle left two → HasGivenTwo seat left

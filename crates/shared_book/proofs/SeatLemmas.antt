@@ -3,7 +3,7 @@ use Rattle.std.proofs.Common.{◌≡◌, ℕ, ◌+◌, ◌-◌, ◌<◌, ◌≤�
 use Rattle.std.proofs.Common.{Result, Ok, Err, IfErr, IsErrAnd}
 use Rattle.std.specs.List.{AllZip}
 use mathlib.Core.List.{IsPrefix}
-use Rattle.logbook.specs.Pages.{Book}
+use Rattle.logbook.specs.Pages.{Book as HistoryName}
 use Rattle.request_journal.specs.Past.{Past}
 use Rattle.request_journal.specs.declared.event.Event.{Event}
 use Rattle.shared_book.proofs.HeldLemmas.{count_kept}
@@ -40,13 +40,13 @@ module _ (origin : Past) (all share amount parts count told : ℕ) (lines : List
   }
 
   -- it has caught up
-  pub seat_sees : {name : Book} (old new : Sight Past Event)
+  pub seat_sees : {name : HistoryName} (old new : Sight Past Event)
       → IsSeat origin all share amount parts count told old.seen lines → SeesAll origin name old new
       → IsSeat origin all share amount parts count told new.seen lines
   seat_sees old new seat sees = seat_on old.seen new.seen seat (sees_on origin old new sees) sees.lawful
 
 -- its call was refused, for which it had made room
-pub seat_refused : {name : Book} (origin : Past) (old new : Sight Past Event)
+pub seat_refused : {name : HistoryName} (origin : Past) (old new : Sight Past Event)
     (all share amount parts count told later_share later_amount : ℕ) (let_go : List ℕ) (held later : List Receipt)
     (joined : List Line)
     → IsSeat origin all share amount parts count told old.seen (record { let_go = let_go; held = held } ∷ joined)
@@ -71,7 +71,7 @@ seat_refused origin old new all share amount parts count told later_share later_
     }
 
 -- it has made a call, and has kept the receipt
-module _ {name : Book} {so_many : ℕ} (origin : Past) (old new : Sight Past Event) (receipt : Receipt) where
+module _ {name : HistoryName} {so_many : ℕ} (origin : Past) (old new : Sight Past Event) (receipt : Receipt) where
   -- the number up to which a checkpoint has dropped events
   pub told_on : (before base told : ℕ) → IsEntered origin name old new receipt so_many
       → IsDropped origin old.seen before → IsDropped origin new.seen base → (told ≡ before) ⊎ (told ≡ base) → IsDropped origin new.seen told
@@ -104,7 +104,7 @@ module _ {name : Book} {so_many : ℕ} (origin : Past) (old new : Sight Past Eve
       }
 
 -- it has made another, which has one of its parts
-pub seat_split : {name : Book} (origin : Past) (old new made : Sight Past Event)
+pub seat_split : {name : HistoryName} (origin : Past) (old new made : Sight Past Event)
     (all share amount parts count told later_share later_amount : ℕ) (lines : List Line)
     → IsSeat origin all share amount parts count told old.seen lines → IsSplit origin name old new made
     → 1 < parts → later_share + 1 ≡ share → later_amount + 0 ≡ amount
@@ -122,7 +122,7 @@ seat_split origin old new made all share amount parts count told later_share lat
     }
 
 -- it has taken over another
-pub told_joined : {name : Book} (origin : Past) (old other new : Sight Past Event) (before others told : ℕ)
+pub told_joined : {name : HistoryName} (origin : Past) (old other new : Sight Past Event) (before others told : ℕ)
     → IsJoined origin name old other new → IsDropped origin old.seen before → IsDropped origin other.seen others
     → (told ≡ before) ⊎ (told ≡ others) → IsDropped origin new.seen told
 told_joined origin old other new before others told joined one two either =
@@ -130,7 +130,7 @@ told_joined origin old other new before others told joined one two either =
     (dropped_later origin old.seen new.seen before (joined_on origin old new other joined) one)
     (dropped_later origin other.seen new.seen others (left_on origin old new other joined) two) either
 
-pub held_taken : {name : Book} (origin : Past) (old other new : Sight Past Event) (last : ℕ) (own now : Line)
+pub held_taken : {name : HistoryName} (origin : Past) (old other new : Sight Past Event) (last : ℕ) (own now : Line)
     (lines others later : List Line) → IsJoined origin name old other new → LetsGo (λ n. n ≤ last) own now
     → AllZip (LetsGo (λ n. n ≤ last)) (lines ++ filled others) later → HoldReceipts origin old.seen (own ∷ lines)
     → HoldReceipts origin other.seen others → HoldReceipts origin new.seen (now ∷ later)
@@ -141,7 +141,7 @@ held_taken origin old other new last own now lines others later joined go all mi
 
 -- ---- what contracts see
 
-pub caught_up : {name : Book} (origin : Past) (old new : Held) → SeesAll origin name (sight old) (sight new)
+pub caught_up : {name : HistoryName} (origin : Past) (old new : Held) → SeesAll origin name (sight old) (sight new)
     → new.parts ≡ old.parts → new.own ≡ old.own → new.joined ≡ old.joined → new.replaced ≡ old.replaced
     → HasCaughtUp origin name old new
 caught_up origin old new sees parts own joined replaced = record {
@@ -156,7 +156,7 @@ caught_up origin old new sees parts own joined replaced = record {
   };
 }
 
-pub split_left : {name : Book} (origin : Past) (old new : Held) (made : Sight Past Event)
+pub split_left : {name : HistoryName} (origin : Past) (old new : Held) (made : Sight Past Event)
     → IsSplit origin name (sight old) (sight new) made
     → new.parts ≡ old.parts - 1 → new.own ≡ old.own → new.joined ≡ old.joined → new.replaced ≡ old.replaced
     → new ≡ record old { parts = old.parts - 1; seen = new.seen }
@@ -176,12 +176,12 @@ err_of P (Ok x) error given p = absurd given
 err_of P (Err e) error given p = subst P (sym given) p
 
 -- a call that was refused
-pub refused_serve : {name : Book} (origin : Past) (old new : Held) (reason : ErrorCode)
+pub refused_serve : {name : HistoryName} (origin : Past) (old new : Held) (reason : ErrorCode)
     → HasCaughtUp origin name old new
     → InPastOf origin new.seen (λ past. IsServeRefusal past reason) → IsServeRefused origin name old new reason
 refused_serve origin old new reason caught why = inr (caught, why)
 
-pub refused_change : {name : Book} (origin : Past) (old new : Held) (asked : BookInput) (reason : ErrorCode)
+pub refused_change : {name : HistoryName} (origin : Past) (old new : Held) (asked : BookInput) (reason : ErrorCode)
     → HasCaughtUp origin name old new → InPastOf origin new.seen (λ past. IsRefusal past asked reason)
     → IsRefused origin name old new asked reason
 refused_change origin old new asked reason caught why = inr (caught, why)

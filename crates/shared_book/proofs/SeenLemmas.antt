@@ -3,7 +3,7 @@ use Rattle.std.proofs.Common.{◌≡◌, ℕ, ◌+◌, ◌<◌, List, [], ◌∷
 use Rattle.std.proofs.lemmas.List.{take_more}
 use Rattle.std.proofs.lemmas.List.Elements.{All-append, All-cons, All-nil}
 use mathlib.Core.List.{IsPrefix}
-use Rattle.logbook.specs.Pages.{Book}
+use Rattle.logbook.specs.Pages.{Book as HistoryName}
 use Rattle.request_journal.specs.Past.{Past}
 use Rattle.request_journal.specs.declared.event.Event.{Event}
 use Rattle.shared_book.specs.Held.{Held}
@@ -20,7 +20,7 @@ prefix_more : (old whole new : Log) (e : Entry Past Event) → IsPrefix old whol
 prefix_more old whole new e begins is =
     subst (IsPrefix old) (sym is) (prefix_trans old whole (whole ++ e ∷ []) begins (e ∷ [], refl))
 
-module _ {name : Book} (origin : Past) (old new : Sight Past Event) where
+module _ {name : HistoryName} (origin : Past) (old new : Sight Past Event) where
   pub sees_on : SeesAll origin name old new → IsPrefix old.seen new.seen
   sees_on sees = prefix_more old.seen sees.whole new.seen _ sees.looks.before.begins sees.looks.seen
 

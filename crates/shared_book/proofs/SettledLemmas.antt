@@ -2,7 +2,7 @@
 use Rattle.std.proofs.Common.{◌≡◌, ◌≢◌, ◌∙◌, sym, subst, ℕ, Bool, true, false, List, Ok, Err, IfOk, IfErr, IsTrue, ◌↔◌}
 use Rattle.std.specs.Prelude.{Result}
 use mathlib.Core.Bool.{true≢false}
-use Rattle.logbook.specs.Pages.{Book}
+use Rattle.logbook.specs.Pages.{Book as HistoryName}
 use Rattle.request_journal.specs.Past.{Past}
 use Rattle.shared_book.specs.Held.{Held, all_lists, all_parts}
 use Rattle.shared_book.specs.Inner.Ends.{HaveAgreed}
@@ -33,7 +33,7 @@ have_agreed origin parts whole past seats seen later (Ok settled) same all is = 
 }
 have_agreed origin parts whole past seats seen later (Err error) same all is = is
 
-module _ (origin : Past) (parts : ℕ) (name : Book) (whole : Log) (past : Past) (seats : List Held)
+module _ (origin : Past) (parts : ℕ) (name : HistoryName) (whole : Log) (past : Past) (seats : List Held)
     (was_seen : IsSeen MayFollow name whole) (seen : HaveSeen whole seats) where
   pub are_unsettled : (reason : SettleRefusal) → IsLawful origin whole → IsPastOf origin whole past
       → IsUnsettled origin parts past seats reason → AreUnsettled origin parts name seats reason

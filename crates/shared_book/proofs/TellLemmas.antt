@@ -1,6 +1,6 @@
 -- What is lent of a call that was accepted.
 use Rattle.std.proofs.Common.{◌≡◌, ◌<◌, List, [], ◌∷◌, ◌++◌, refl, sym, ap, ◌∙◌, subst, length, length-append, arith}
-use Rattle.logbook.specs.Pages.{Book}
+use Rattle.logbook.specs.Pages.{Book as HistoryName}
 use Rattle.mock_request.specs.Request.{Request}
 use Rattle.request_journal.specs.Input.{IsAsked}
 use Rattle.request_journal.specs.Past.{Past}
@@ -32,20 +32,20 @@ added_last origin old new added last gained is_last =
     one_last gained.before.own.held is_last.0 added last
     (sym (ap (λ (h : Held). h.own.held) gained.added) ∙ is_last.1)
 
-lends : {name : Book} (origin : Past) (old new : Held) (asked : Event → Type 0) (last : Receipt)
+lends : {name : HistoryName} (origin : Past) (old new : Held) (asked : Event → Type 0) (last : Receipt)
     → (receipt : Receipt) × Gains origin name old new asked receipt
     → IsLast last new.own.held
     → Gains origin name old new asked last
 lends {name} origin old new asked last (receipt, made) is_last =
     subst (Gains origin name old new asked) (added_last origin old new receipt last made.gained is_last) made
 
-pub lends_served : {name : Book} (origin : Past) (old new : Held) (request : Request) (last : Receipt)
+pub lends_served : {name : HistoryName} (origin : Past) (old new : Held) (request : Request) (last : Receipt)
     → (receipt : Receipt) × Gains origin name old new (IsServed request) receipt
     → IsLast last new.own.held
     → Gains origin name old new (IsServed request) last
 lends_served {name} origin old new request = lends {name = name} origin old new (IsServed request)
 
-pub lends_applied : {name : Book} (origin : Past) (old new : Held) (asked : BookInput) (last : Receipt)
+pub lends_applied : {name : HistoryName} (origin : Past) (old new : Held) (asked : BookInput) (last : Receipt)
     → (receipt : Receipt) × Gains origin name old new (IsAsked asked) receipt
     → IsLast last new.own.held
     → Gains origin name old new (IsAsked asked) last

@@ -1,6 +1,6 @@
 -- What is answered to who reads a book.
 use Rattle.std.specs.Prelude.{◌≡◌, ℕ, List, Any, Some, None}
-use Rattle.logbook.specs.Pages.{Book}
+use Rattle.logbook.specs.Pages.{Book as HistoryName}
 use Rattle.mapping_store.specs.Stored.{IsNewestFirst}
 use Rattle.recorder.specs.Recording.{status_of}
 use Rattle.request_journal.specs.Journal.{requests, unmatched}
@@ -47,7 +47,7 @@ pub record IsRead (origin : Past) (log : Log) (asked : BookRead) (reading : Read
 
 -- the answer is what the past after the history with this name says, as that was at some point: for who has no seat,
 -- so that nothing says at which
-pub record IsReadOnce (origin : Past) (name : Book) (asked : BookRead) (found : ReadAnswer) : Type 0 where
+pub record IsReadOnce (origin : Past) (name : HistoryName) (asked : BookRead) (found : ReadAnswer) : Type 0 where
   pub log : Log
   pub lawful : IsLawful origin log
   pub was_seen : IsSeen MayFollow name log

@@ -6,7 +6,7 @@ use Rattle.request_journal.specs.Past.{Past}
 use Rattle.request_journal.specs.declared.event.Event.{Event}
 use Rattle.request_journal.specs.declared.event.Event.TheVariants as event
 use Rattle.shared_book.specs.Held.{Held, HasLetGo, IsDropped, LetsGo, lists, new_seat}
-use Rattle.logbook.specs.Pages.{Book}
+use Rattle.logbook.specs.Pages.{Book as HistoryName}
 use Rattle.shared_book.specs.Reached.{Log, MayFollow}
 use Rattle.shared_book.specs.Receipts.{IsReceipt, Line}
 use Rattle.shared_book.specs.Settled.{AreUnsettled, IsSettled}
@@ -58,7 +58,7 @@ pub record IsLineOf (origin : Past) (log : Log) (calls : List Call) (line : Line
 -- two scripts were played beside a seat's earlier calls: each script's accepted calls have their receipts in a line of
 -- their own, in its order, and all lines together are settled, so that the numbers rise in each; and the history has
 -- ended
-pub record IsPlayed (origin : Past) (name : Book) (seat : Held) (first second : List Call) (settled : Settled)
+pub record IsPlayed (origin : Past) (name : HistoryName) (seat : Held) (first second : List Call) (settled : Settled)
     : Type 0 where
   pub one : Line
   pub two : Line
@@ -85,7 +85,7 @@ pub record HasGivenTwo (old new : Held) : Type 0 where
   pub begins : IsPrefix old.seen new.seen
 
 -- the scripts were played, which stands, and couldn't be settled: the seat and those of the scripts are handed back
-pub record IsStopped (origin : Past) (parts : ℕ) (name : Book) (seat : Held) (first second : List Call)
+pub record IsStopped (origin : Past) (parts : ℕ) (name : HistoryName) (seat : Held) (first second : List Call)
     (reason : SettleRefusal) (alone : Option Held) (seats : List Held) : Type 0 where
   pub left : Held
   pub one : Held

@@ -1,6 +1,6 @@
 -- What a seat has seen of the one history, before and after a call.
 use Rattle.std.specs.Prelude.{◌≡◌, ◌⊎◌, ◌+◌, ℕ}
-use Rattle.logbook.specs.Pages.{Book}
+use Rattle.logbook.specs.Pages.{Book as HistoryName}
 use Rattle.request_journal.specs.Legal.{IsNext}
 use Rattle.request_journal.specs.Past.{Past, last_number}
 use Rattle.request_journal.specs.declared.event.Event.{Event}
@@ -13,7 +13,7 @@ use Rattle.shared_history.specs.Sight.{Calls, CatchesUp, Leaves, Looks, Sight, S
 use Rattle.stub_book.specs.Growth.{replaced}
 
 -- of the history with this name, of a book that had the past `origin` when it was shared
-module _ (origin : Past) (name : Book) where
+module _ (origin : Past) (name : HistoryName) where
   -- all of it was seen, which was entered at its end: each call of another seat is before that entry or after it
   pub record SeesAll (old new : Sight Past Event) : Type 0 where
     pub whole : Log

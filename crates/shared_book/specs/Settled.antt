@@ -11,7 +11,7 @@ use Rattle.shared_book.specs.Reached.{IsLawful, IsPastOf, Log, MayFollow}
 use Rattle.shared_history.specs.Entries.{events}
 use Rattle.shared_history.specs.History.{HasEnded}
 use Rattle.shared_history.specs.Seal.{IsSeen}
-use Rattle.logbook.specs.Pages.{Book}
+use Rattle.logbook.specs.Pages.{Book as HistoryName}
 use Rattle.shared_book.specs.Receipts.{Line, IsRising, Falls, LetGoUpTo, LetGoAbove, count_of}
 use Rattle.shared_book.specs.declared.settled.Settled.{Settled}
 use Rattle.shared_book.specs.declared.settled.SettleRefusal.{SettleRefusal}
@@ -70,7 +70,7 @@ IsUnsettled origin parts past seats OutOfMemory = all_parts seats ≡ parts
 -- the seats have all parts; the history with this name has ended, as each seat has left, so that no call can follow;
 -- what each of these seats has seen is a beginning of it, and their receipts are those of its calls, which are as many
 -- as are counted since the book was shared
-pub record AreSettled (origin : Past) (parts : ℕ) (name : Book) (seats : List Held) (settled : Settled)
+pub record AreSettled (origin : Past) (parts : ℕ) (name : HistoryName) (seats : List Held) (settled : Settled)
     : Type 0 where
   pub whole : Log
   pub past : Past
@@ -83,7 +83,7 @@ pub record AreSettled (origin : Past) (parts : ℕ) (name : Book) (seats : List 
 
 -- what each of these seats has seen is a beginning of the history with this name, as it then is, and they aren't
 -- settled, for a reason in the past after it
-pub record AreUnsettled (origin : Past) (parts : ℕ) (name : Book) (seats : List Held) (reason : SettleRefusal)
+pub record AreUnsettled (origin : Past) (parts : ℕ) (name : HistoryName) (seats : List Held) (reason : SettleRefusal)
     : Type 0 where
   pub whole : Log
   pub past : Past

@@ -109,7 +109,7 @@ pub(crate) fn kept(
     ensures { IfOk result (λ kept. kept ≡ event_at history.now.past number) }
 {
     match history.event(number) {
-        Some(event) => Ok(Some(event.try_clone()?)),
+        Some(event) => Ok(Some(event.clone()?)),
         None => Ok(None),
     }
 }

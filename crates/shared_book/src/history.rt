@@ -1,5 +1,5 @@
 // The history of a shared book.
-use crate::course::Answers;
+use crate::rule::Answers;
 use request_journal::event::Event;
 use shared_history::{front, history, opened, seat};
 use stub_book::book::Book;

@@ -43,7 +43,7 @@ fn mapping(book: &Book, id: MappingId) -> Result<Option<Mapping>, AllocError>
     match book.mapping(id) {
         Ok(spec) => Ok(Some(Mapping {
             id,
-            spec: spec.try_clone()?,
+            spec: spec.clone()?,
         })),
         Err(_error) => Ok(None),
     }

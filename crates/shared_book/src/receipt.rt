@@ -27,7 +27,7 @@ impl Receipt {
     {
         Ok(Receipt {
             number: self.number,
-            event: self.event.try_clone()?,
+            event: self.event.clone()?,
         })
     }
 }

@@ -323,7 +323,7 @@ impl<L: Origin> Seat<L> {
         let request = SharedRequest::new(*self.lines.joined.allocator(), request)?;
         let mut parsed = ParsedRequest::new(*self.lines.joined.allocator(), request.request());
         let memory = EventMemory::new(*self.lines.joined.allocator())?;
-        let kept = request.try_clone()?;
+        let kept = request.clone()?;
         let entered = shared.lock(rt).serve(
             rt,
             &mut self.share,

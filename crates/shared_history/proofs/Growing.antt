@@ -7,6 +7,7 @@ use Rattle.std.proofs.lemmas.Option.{slice_get_within}
 use mathlib.Core.List.{IsPrefix}
 use Rattle.shared_history.specs.Entries.{entry, opening, own, is_left, IsSeat}
 use Rattle.shared_history.specs.History.{MayDo, GoesOn, IsHistory, MayFollow, HasEnded, HasLeft, IsWhole}
+use Rattle.shared_history.specs.Inner.Drafts.{silent_deed}
 use Rattle.shared_history.specs.Inner.Lines.{entries_of, line, turn_of, AreTurns, IsUnused, IsLegal, HasTurn}
 use Rattle.shared_history.specs.Inner.Kept.{IsWritten}
 use Rattle.shared_history.specs.Sight.{IsIn}
@@ -14,6 +15,8 @@ use Rattle.shared_history.specs.declared.entry.Deed.{Deed}
 use Rattle.shared_history.specs.declared.entry.Deed.TheVariants.{Opened, Called, Looked, Split, Left}
 use Rattle.shared_history.specs.declared.entry.Entry.{Entry}
 use Rattle.shared_history.specs.declared.line.Line.{Line}
+use Rattle.shared_history.specs.declared.line.Silent.{Silent}
+use Rattle.shared_history.specs.declared.line.Silent.TheVariants as silent
 use Rattle.shared_history.proofs.Entries.{own_append, own_it, own_other, seat_kept, seat_after, seat_made}
 use Rattle.shared_history.proofs.Lines.{entries_append, prefix_entries, entries_length, all_rest, all_front}
 use Rattle.shared_history.proofs.Prefixes.{prefix_whole, prefix_trans, prefix_shorter}
@@ -318,35 +321,17 @@ module _ {O E : Type 0} (may : O → List E → E → Type 0) where
       all_front (λ (l : Line O E). l.turn ≢ key) whole all.0 (subst (IsUnused key) (sym all.1) unused) in
       ((has_kept seen whole number key has legal begins free).0, is_in seen whole number key has legal begins free)
 
-  pub may_look : (log : List (Entry O E)) (deed : Deed O E) → IsHistory may log → deed ≡ Looked → MayFollow may log deed
-  may_look log deed history is =
-      record {
-        origin = history.origin;
-        after = history.after;
-        opens = history.opens;
-        allowed =
-            subst (λ (d : Deed O E). MayDo may history.origin log d) (sym is) tt;
-      }
-
-  pub may_split : (log : List (Entry O E)) (deed : Deed O E) → IsHistory may log → deed ≡ Split → MayFollow may log deed
-  may_split log deed history is =
-      record {
-        origin = history.origin;
-        after = history.after;
-        opens = history.opens;
-        allowed =
-            subst (λ (d : Deed O E). MayDo may history.origin log d) (sym is) tt;
-      }
-
-  pub may_leave : (log : List (Entry O E)) (deed : Deed O E) → IsHistory may log → deed ≡ Left → MayFollow may log deed
-  may_leave log deed history is =
-      record {
-        origin = history.origin;
-        after = history.after;
-        opens = history.opens;
-        allowed =
-            subst (λ (d : Deed O E). MayDo may history.origin log d) (sym is) tt;
-      }
+  pub may_silently : (log : List (Entry O E)) (deed : Silent) → IsHistory may log → MayFollow may log (silent_deed deed)
+  may_silently log deed history = record {
+    origin = history.origin;
+    after = history.after;
+    opens = history.opens;
+    allowed = allowed deed;
+  } where
+    allowed : (d : Silent) → MayDo may history.origin log (silent_deed d)
+    allowed silent.Looked = tt
+    allowed silent.Split = tt
+    allowed silent.Left = tt
 
   -- the first line, and the turn that its seat has then
   pub first_legal : (origin : O) (key next : ℕ) → IsLegal may (line 0 (Opened origin) key next next ∷ [])

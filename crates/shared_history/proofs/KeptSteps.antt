@@ -9,7 +9,7 @@ use prog.Atomic.{either}
 use Rattle.logbook.specs.Pages.{Cell, cell, Nib, keeps, gives, adds, no_nib, may_write, step, Moves, Goes}
 use Rattle.shared_history.specs.declared.line.Line.{Line}
 use Rattle.shared_history.specs.Inner.Lines.{IsLegal, IsUnused}
-use Rattle.shared_history.specs.Inner.Rules.{IsKept, Draws, Looks, Adds}
+use Rattle.shared_history.specs.Inner.Law.{IsKept, Draws, Looks, Adds}
 use Rattle.shared_history.proofs.Cells.{IsHome, home_set, home_grown, home_there, head_set, head_kept, head_grown}
 use Rattle.shared_history.proofs.Cells.{either_same, homes, unused}
 use Rattle.shared_history.proofs.Prefixes.{prefix_whole}

@@ -3,11 +3,12 @@ use Rattle.std.proofs.Common.{◌≡◌, ◌≢◌, ◌⊎◌, inl, inr, ℕ, ze
 use Rattle.std.proofs.Common.{◌≤◌, All, Some, slice_get, refl, ap, sym, ◌∙◌, subst, arith, length-append}
 use Rattle.std.proofs.lemmas.List.Elements.{All-head}
 use Rattle.std.proofs.lemmas.Option.{slice_get_within}
-use Rattle.logbook.specs.Pages.{Book, Named}
+use Rattle.logbook.specs.Pages.{Book as HistoryName, Named}
 use Rattle.shared_history.specs.Entries.{entry, own, makes_seat, is_left, IsSeat}
 use Rattle.shared_history.specs.History.{HasEnded}
-use Rattle.shared_history.specs.Inner.Kept.{IsAll, IsAmong, HasSeats}
-use Rattle.shared_history.specs.Inner.Lines.{entries_of, IsLegal}
+use Rattle.shared_history.specs.Inner.Kept.{IsAll, IsAmong, IsFront, IsWritten, HasSeats}
+use Rattle.shared_history.specs.Inner.Lines.{entries_of}
+use Rattle.shared_history.specs.declared.entry.Deed.{Deed}
 use Rattle.shared_history.specs.declared.entry.Deed.TheVariants.{Left}
 use Rattle.shared_history.specs.declared.entry.Entry.{Entry}
 use Rattle.shared_history.specs.declared.line.Line.{Line}
@@ -137,26 +138,27 @@ module _ {O E : Type 0} where
   no_seat log has number seat =
       let some : 0 < 0 = some_seat 0 log number seat has in absurd (omega (arith, some))
 
-  more_lines : (old new : List (Line O E)) (e : Entry O E) → entries_of new ≡ entries_of old ++ e ∷ []
+  pub more_lines : (old new : List (Line O E)) (e : Entry O E) → entries_of new ≡ entries_of old ++ e ∷ []
       → length new ≡ length old + 1
   more_lines old new e added =
       sym (entries_length new)
       ∙ (ap length added ∙ (length-append (entries_of old) (e ∷ []) ∙ ap (λ n. n + 1) (entries_length old)))
 
 -- the history after one more entry
-module _ {O E : Type 0} (may : O → List E → E → Type 0) (named : Book) where
-  pub all_more : (head : Named) (count seats : ℕ) (book : Book) (old : List (Line O E)) (e : Entry O E)
-      (later left : ℕ) (same : Book) (new : List (Line O E))
-      → IsAll may named head count seats book old → same ≡ book → later ≡ length new → IsLegal may new
-      → entries_of new ≡ entries_of old ++ e ∷ [] → HasSeats left (entries_of old ++ e ∷ []) → left ≤ seats + 1
+module _ {O E : Type 0} (may : O → List E → E → Type 0) (named : HistoryName) where
+  pub all_more : {head : Named} {count seats number next child later : ℕ} {book same : HistoryName}
+      {old new seen : List (Line O E)} {deed : Deed O E} (left : ℕ) → IsAll may named head count seats book old
+      → IsWritten may seen old new number next child deed → IsFront may named later same new
+      → HasSeats left (entries_of old ++ entry number deed ∷ []) → left ≤ seats + 1
       → IsAll may named head later left same new
-  all_more head count seats book old e later left same new all is counted legal added has few =
-      let more = more_lines old new e added in
+  all_more left all written front has few =
+      let more = more_lines _ _ _ written.added in
       let fits = all.fits in
       let before = all.front.counted in
+      let counted = front.counted in
       record {
         head_is = all.head_is;
-        front = record { name = is ∙ all.front.name; counted = counted; legal = legal };
-        has_seats = subst (HasSeats left) (sym added) has;
+        front = front;
+        has_seats = subst (HasSeats left) (sym written.added) has;
         fits = omega (arith, few, fits, before, counted, more);
       }

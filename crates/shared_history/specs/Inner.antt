@@ -1,5 +1,5 @@
 pub mod Lines
-pub mod Rules
+pub mod Law
 pub mod Drafts
 pub mod Codes
 pub mod Kept

@@ -4,20 +4,20 @@ ghost use mathlib.Core.List.{IsPrefix};
 ghost use Rattle.shared_history.specs.History.{IsHistory};
 ghost use Rattle.shared_history.specs.Seal.{IsSeen};
 
-use crate::course::Course;
+use crate::law::Log;
 use crate::naming::Naming;
-use crate::rule::Log;
+use crate::rule::Rule;
 use std::marker::{Model, PhantomData};
 
 /// A beginning of the history that was seen. Contracts see its entries.
 #[derive(Drop)]
-pub struct Front<O, E, C: Course<O, E>, J: Naming> {
+pub struct Front<O, E, C: Rule<O, E>, J: Naming> {
     pub(crate) count: u64,
     pub(crate) seen: Log<O, E, C>,
     pub(crate) of: PhantomData<J>,
 }
 
-impl<O, E, C: Course<O, E>, J: Naming> Model for Front<O, E, C, J> {
+impl<O, E, C: Rule<O, E>, J: Naming> Model for Front<O, E, C, J> {
     ghost use Rattle.std.specs.Prelude.{List};
     ghost use Rattle.shared_history.specs.Inner.Codes.{log_code};
     ghost use Rattle.shared_history.specs.Inner.Kept.{IsFront};
@@ -33,7 +33,7 @@ impl<O, E, C: Course<O, E>, J: Naming> Model for Front<O, E, C, J> {
     ghost invariant = { λ f. IsFront C.may J.book f.count f.seen.book f.seen.log };
 }
 
-impl<O, E, C: Course<O, E>, J: Naming> Front<O, E, C, J> {
+impl<O, E, C: Rule<O, E>, J: Naming> Front<O, E, C, J> {
     /// How many entries it has.
     pub fn len(&self) -> u64
         ensures length { result ≡ length self.now }

@@ -2,14 +2,13 @@
 //! and what it did. At run time it is a word, its length.
 #![tactic(auto)]
 
-pub mod course;
 pub mod entry;
 pub mod front;
 pub mod history;
+pub mod law;
 pub mod line;
 pub mod naming;
 pub mod opened;
 pub mod rule;
 pub mod seat;
 mod steps;
-mod write;

@@ -15,6 +15,12 @@ pub struct Line<O, E> {
 pub(crate) enum Ask<'a, O, E> {
     Opened(&'a O),
     Called(&'a E),
+    Silent(Silent),
+}
+
+/// A deed without a value.
+#[derive(Clone, Copy)]
+pub(crate) enum Silent {
     Looked,
     Split,
     Left,

@@ -3,9 +3,9 @@ use std::marker::Brand;
 
 /// Which history a type speaks of. Each call of a program picks it.
 pub trait Naming {
-    ghost use Rattle.logbook.specs.Pages.{Book};
+    ghost use Rattle.logbook.specs.Pages.{Book as HistoryName};
 
-    ghost book: { Book };
+    ghost book: { HistoryName };
 }
 
 impl Naming for Brand {

@@ -4,12 +4,12 @@ ghost use Rattle.shared_history.specs.Entries.{opening};
 ghost use Rattle.shared_history.specs.History.{IsHistory};
 ghost use Rattle.shared_history.specs.Seal.{IsSeen};
 
-use crate::course::Course;
-use crate::history::History;
+use crate::history::{History, Whole};
+use crate::law::{Head, Log};
 use crate::line::Ask;
 use crate::naming::Naming;
-use crate::rule::{Head, Log};
-use crate::seat::Seat;
+use crate::rule::Rule;
+use crate::seat::{Holder, Seat};
 use crate::steps::{add, draw};
 use logbook::{Pen, Seen, Start, Word};
 use std::marker::{Model, PhantomData};
@@ -17,22 +17,22 @@ use std::sync::Wait;
 
 /// A history that was just opened, which has no name yet. Contracts see which book it is, and the origin.
 #[derive(Drop)]
-pub struct Opened<O, E, C: Course<O, E>> {
+pub struct Opened<O, E, C: Rule<O, E>> {
     head: Head<O, E, C>,
     seen: Log<O, E, C>,
     turn: Pen,
 }
 
-impl<O, E, C: Course<O, E>> Model for Opened<O, E, C> {
+impl<O, E, C: Rule<O, E>> Model for Opened<O, E, C> {
     ghost use Rattle.std.specs.Coded.{coded×};
-    ghost use Rattle.logbook.specs.Pages.{Book, book_coded};
+    ghost use Rattle.logbook.specs.Pages.{Book as HistoryName, book_coded};
     ghost use Rattle.shared_history.specs.Inner.Codes.{log_code};
     ghost use Rattle.shared_history.specs.Inner.Kept.{IsOpened};
     ghost use Rattle.shared_history.specs.Inner.Lines.{entries_of};
     ghost use Rattle.shared_history.specs.declared.entry.Entry.{Entry};
     ghost use Rattle.std.specs.Prelude.{List};
 
-    ghost Value = { Book × List (Entry O E) };
+    ghost Value = { HistoryName × List (Entry O E) };
 
     ghost coded = { coded× book_coded (log_code O.code E.code) };
 
@@ -41,7 +41,7 @@ impl<O, E, C: Course<O, E>> Model for Opened<O, E, C> {
     ghost invariant = { λ o. IsOpened C.may o.head o.seen.book o.seen.log o.turn.book o.turn.nib };
 }
 
-impl<O, E, C: Course<O, E>> Opened<O, E, C> {
+impl<O, E, C: Rule<O, E>> Opened<O, E, C> {
     /// A history with this origin.
     pub fn new<R: Wait>(rt: &R, origin: &O) -> Opened<O, E, C>
         ensures { result.1 ≡ opening origin.now ∷ [] }
@@ -81,17 +81,21 @@ impl<O, E, C: Course<O, E>> Opened<O, E, C> {
         let again = seen.again();
         (
             History {
-                head,
-                count: 1,
+                whole: Whole {
+                    head,
+                    count: 1,
+                    seen,
+                },
                 seats: 1,
-                seen,
                 of: PhantomData,
             },
             Seat {
-                number: 0,
-                count: 1,
-                seen: again,
-                turn,
+                holder: Holder {
+                    number: 0,
+                    count: 1,
+                    seen: again,
+                    turn,
+                },
                 of: PhantomData,
             },
         )

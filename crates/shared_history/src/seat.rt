@@ -3,24 +3,30 @@ ghost use Rattle.std.specs.Prelude.{◌≡◌};
 ghost use Rattle.shared_history.specs.History.{IsHistory};
 ghost use Rattle.shared_history.specs.Seal.{IsSeen};
 
-use crate::course::Course;
 use crate::front::Front;
+use crate::law::Log;
 use crate::naming::Naming;
-use crate::rule::Log;
+use crate::rule::Rule;
 use logbook::Pen;
 use std::marker::{Model, PhantomData};
 
-/// A seat of the history: its number, what it has seen, and its turn, which its next entry uses up.
+/// A seat of a history of any name: its number, what it has seen, and its turn, which its next entry uses up.
 #[derive(Drop)]
-pub struct Seat<O, E, C: Course<O, E>, J: Naming> {
+pub(crate) struct Holder<O, E, C: Rule<O, E>> {
     pub(crate) number: u64,
     pub(crate) count: u64,
     pub(crate) seen: Log<O, E, C>,
     pub(crate) turn: Pen,
+}
+
+/// A seat of the history.
+#[derive(Drop)]
+pub struct Seat<O, E, C: Rule<O, E>, J: Naming> {
+    pub(crate) holder: Holder<O, E, C>,
     pub(crate) of: PhantomData<J>,
 }
 
-impl<O, E, C: Course<O, E>, J: Naming> Model for Seat<O, E, C, J> {
+impl<O, E, C: Rule<O, E>, J: Naming> Model for Seat<O, E, C, J> {
     ghost use Rattle.shared_history.specs.Inner.Codes.{sight_code};
     ghost use Rattle.shared_history.specs.Inner.Kept.{IsSeated};
     ghost use Rattle.shared_history.specs.Inner.Lines.{entries_of};
@@ -30,18 +36,18 @@ impl<O, E, C: Course<O, E>, J: Naming> Model for Seat<O, E, C, J> {
 
     ghost coded = { sight_code O.code E.code };
 
-    ghost view = { λ s. record { number = s.number; seen = entries_of s.seen.log } };
+    ghost view = { λ s. record { number = s.holder.number; seen = entries_of s.holder.seen.log } };
 
-    ghost invariant = { λ s. IsSeated C.may J.book s.number s.count s.seen.book s.seen.log s.turn.book s.turn.nib };
+    ghost invariant = { λ s. IsSeated C.may J.book s.holder.number s.holder.count s.holder.seen.book s.holder.seen.log s.holder.turn.book s.holder.turn.nib };
 }
 
-impl<O, E, C: Course<O, E>, J: Naming> Seat<O, E, C, J> {
+impl<O, E, C: Rule<O, E>, J: Naming> Seat<O, E, C, J> {
     /// The index of the entry that made it.
     pub fn number(&self) -> u64
         ensures number { result ≡ self.now.number }
         ensures legal { IsHistory C.may self.now.seen }
     {
-        self.number
+        self.holder.number
     }
 
     /// What it has seen.
@@ -51,8 +57,8 @@ impl<O, E, C: Course<O, E>, J: Naming> Seat<O, E, C, J> {
         ensures seen { IsSeen C.may J.book result }
     {
         Front {
-            count: self.count,
-            seen: self.seen.again(),
+            count: self.holder.count,
+            seen: self.holder.seen.again(),
             of: PhantomData,
         }
     }

@@ -4,11 +4,11 @@ ghost use mathlib.Core.List.{IsPrefix};
 ghost use Rattle.logbook.specs.Pages.{may_write};
 ghost use Rattle.shared_history.specs.Inner.Drafts.{MayAdd, drafted};
 ghost use Rattle.shared_history.specs.Inner.Lines.{IsUnused};
-ghost use Rattle.shared_history.specs.Inner.Rules.{head_of};
+ghost use Rattle.shared_history.specs.Inner.Law.{head_of};
 
-use crate::course::Course;
+use crate::law::{Add, Asked, Draw, Head, Log, Look, Nothing};
 use crate::line::{Ask, Draft};
-use crate::rule::{Add, Asked, Draw, Head, Log, Look, Nothing};
+use crate::rule::Rule;
 use logbook::{Pen, Word};
 use std::sync::Wait;
 
@@ -20,7 +20,7 @@ pub(crate) fn stuck<R: Wait>(rt: &R)
 }
 
 /// A turn: the right to a cell that is away.
-pub(crate) fn draw<O, E, C: Course<O, E>>(head: &Head<O, E, C>, seen: &Log<O, E, C>) -> Pen
+pub(crate) fn draw<O, E, C: Rule<O, E>>(head: &Head<O, E, C>, seen: &Log<O, E, C>) -> Pen
     requires { head.now ≡ head_of seen.now.book }
     ensures book { result.book ≡ seen.now.book }
     ensures right { result.nib.right ≡ may_write }
@@ -34,7 +34,7 @@ pub(crate) fn draw<O, E, C: Course<O, E>>(head: &Head<O, E, C>, seen: &Log<O, E,
 }
 
 /// Sees the history as it is, in which nobody has used up this turn.
-pub(crate) fn look<O, E, C: Course<O, E>>(
+pub(crate) fn look<O, E, C: Rule<O, E>>(
     head: &Head<O, E, C>,
     seen: &mut Log<O, E, C>,
     turn: &mut Pen,
@@ -53,7 +53,7 @@ pub(crate) fn look<O, E, C: Course<O, E>>(
 }
 
 /// Adds a line to all that was seen, and counts it. Where there were other lines it does not return.
-pub(crate) fn add<O, E, C: Course<O, E>, R: Wait>(
+pub(crate) fn add<O, E, C: Rule<O, E>, R: Wait>(
     rt: &R,
     head: &Head<O, E, C>,
     count: u64,

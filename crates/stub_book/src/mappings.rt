@@ -44,7 +44,7 @@ impl Book {
     {
         self.has_number()?;
         self.has_mapping(id)?;
-        let spec = mapping.shared().try_clone()?;
+        let spec = mapping.shared().clone()?;
         let edited = BookMapping::new(self.alloc, id, mapping)?;
         let made = prepare(self.alloc, &mut self.history, Event::Edit { id, spec })?;
         let _found = self.store.edit(edited);

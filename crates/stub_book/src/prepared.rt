@@ -9,7 +9,6 @@ ghost use Rattle.stub_book.specs.Refusals.{IsServeRefusal};
 use crate::accepted::Accepted;
 use crate::error::BookError;
 use book_history::history::History;
-use plain_text::plain::TryClone;
 use request_journal::event::Event;
 use request_journal::input::BookAnswer;
 use request_journal::mapping::Mapping;
@@ -37,7 +36,7 @@ pub(crate) fn prepare(
     history.reserve()?;
     let answer = answer_of(&event)?;
     let event = SharedEvent::new(alloc, event)?;
-    let shared = event.try_clone()?;
+    let shared = event.clone()?;
     Ok(Prepared {
         event,
         accepted: Accepted {
@@ -52,13 +51,13 @@ fn answer_of(event: &Event) -> Result<BookAnswer, AllocError>
     ensures { IfOk result (λ answer. answer ≡ asked.answer_of event.now) }
 {
     Ok(match event {
-        Event::Add(mapping) => BookAnswer::Mapping(mapping.try_clone()?),
+        Event::Add(mapping) => BookAnswer::Mapping(mapping.clone()?),
         Event::Edit { id, spec } => BookAnswer::Mapping(Mapping {
             id: *id,
-            spec: spec.try_clone()?,
+            spec: spec.clone()?,
         }),
         Event::StopRecording { mappings, skipped } => BookAnswer::Recorded {
-            mappings: mappings.try_clone()?,
+            mappings: mappings.clone()?,
             skipped: *skipped,
         },
         _ => BookAnswer::Done,

@@ -37,8 +37,8 @@ impl Book {
     {
         self.has_number()?;
         let upstream = self.upstream(target.as_str())?;
-        let kept = upstream.try_clone()?;
-        let names = captured.try_clone()?;
+        let kept = upstream.clone()?;
+        let names = captured.clone()?;
         let event = Event::StartRecording {
             target: kept,
             captured: names,
@@ -85,7 +85,7 @@ impl Book {
         if serve > self.history.last_number() {
             return Err(BookError::from(ErrorCode::NotRecording));
         }
-        let kept = exchange.try_clone()?;
+        let kept = exchange.clone()?;
         let event = Event::Record {
             serve,
             exchange: kept,

@@ -32,8 +32,8 @@ impl Book {
     {
         self.has_number()?;
         self.has_state(name.as_str(), state.as_str())?;
-        let scenario = name.try_clone()?;
-        let target = state.try_clone()?;
+        let scenario = name.clone()?;
+        let target = state.clone()?;
         let event = Event::SetScenario {
             name: scenario,
             state: target,

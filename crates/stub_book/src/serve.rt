@@ -33,7 +33,7 @@ impl Book {
         self.has_number()?;
         let memory = EventMemory::new(self.alloc)?;
         let shared = SharedRequest::new(self.alloc, request)?;
-        let kept = shared.try_clone()?;
+        let kept = shared.clone()?;
         let mut parsed = ParsedRequest::new(self.alloc, shared.request());
         let answer = self.chosen(&mut parsed)?;
         let copy = answer.try_clone()?;
@@ -84,7 +84,7 @@ impl Book {
     {
         self.history.reserve()?;
         let event = memory.fill(self.alloc, Event::Serve { request, answer })?;
-        let shared = event.try_clone()?;
+        let shared = event.clone()?;
         move_scenario(self.alloc, &mut self.scenarios, event.event())?;
         self.history.push_reserved(event);
         Ok(shared)
@@ -115,7 +115,7 @@ fn unchosen(recording: &Recording) -> Result<ServeAnswer, AllocError>
     ensures { IfOk result (IsUnchosen recording.now) }
 {
     match recording {
-        Recording::On(session) => Ok(ServeAnswer::Proxy(session.target.try_clone()?)),
+        Recording::On(session) => Ok(ServeAnswer::Proxy(session.target.clone()?)),
         Recording::NeverStarted | Recording::Stopped(_) => Ok(ServeAnswer::Unmatched),
     }
 }

@@ -48,7 +48,7 @@ fn plain_header(alloc: Global, header: &HeaderLine<Text>) -> Result<ReplyHeader,
     ensures { IfOk result (λ made. IsLine Itself header.now made) }
 {
     Ok(ReplyHeader {
-        name: header.name.try_clone()?,
+        name: header.name.clone()?,
         value: plain_value(alloc, &header.value)?,
     })
 }

@@ -56,7 +56,7 @@ fn rendered_header(
 {
     let text = rendered_text(alloc, &header.value, request)?;
     Ok(ReplyHeader {
-        name: header.name.try_clone()?,
+        name: header.name.clone()?,
         value: header_text(text.into_bytes()),
     })
 }

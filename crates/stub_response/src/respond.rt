@@ -31,7 +31,7 @@ pub fn respond(
     ensures rendering { IfOk result (IsRendering limits mapping.now request.now) }
 {
     let url = &mapping.request.url;
-    reply_of(alloc, url, mapping.response.response(), request, limits)
+    reply_of(alloc, url, &mapping.response, request, limits)
 }
 
 /// The body of that response alone, written by such runs; `None` where it reports an error.
@@ -44,13 +44,7 @@ pub fn respond_body(
     ensures { IfOk result (IsRenderedBody limits mapping.now request.now) }
 {
     let url = &mapping.request.url;
-    body_of(
-        alloc,
-        url,
-        &mapping.response.response().content,
-        request,
-        limits,
-    )
+    body_of(alloc, url, &mapping.response.content, request, limits)
 }
 
 fn body_of(

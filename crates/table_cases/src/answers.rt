@@ -37,7 +37,7 @@ pub fn add_served(cells: &mut Cells, answer: &ServeAnswer) {
 pub fn add_mapping(cells: &mut Cells, spec: &MappingSpec) {
     match &spec.name {
         Some(name) => cells.add(name.as_str()),
-        None => add_body(cells, &spec.response.response().content),
+        None => add_body(cells, &spec.response.content),
     }
 }
 

@@ -236,7 +236,7 @@ fn add_served_read(
     cells: &mut Cells,
 ) -> Result<(), BookError> {
     let shared = SharedRequest::new(alloc, request)?;
-    let kept = shared.try_clone()?;
+    let kept = shared.clone()?;
     let mut parsed = ParsedRequest::new(alloc, shared.request());
     let memory = EventMemory::new(alloc)?;
     let event = book.serve_read(kept, &mut parsed, memory)?;

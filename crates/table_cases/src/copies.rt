@@ -36,7 +36,7 @@ fn is_copied(history: &History, copy: &History, number: u64) -> Result<bool, All
 }
 
 fn is_shared(event: &SharedEvent) -> Result<bool, AllocError> {
-    let copy = event.try_clone()?;
+    let copy = event.clone()?;
     Ok(event.same(&copy))
 }
 

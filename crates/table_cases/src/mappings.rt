@@ -12,7 +12,6 @@ use mapping_model::response_spec::{Body, Content, ResponseSpec};
 use mapping_model::scenario_spec::ScenarioSpec;
 use mapping_model::status::Status;
 use mapping_model::url_spec::UrlSpec;
-use mapping_model::version::Version;
 use plain_text::items::Items;
 use plain_text::text::Text;
 use request_match::ready_mapping::ReadyMapping;
@@ -96,15 +95,12 @@ fn option_text(alloc: Global, words: &str, name: &str) -> Result<Option<Text>, A
     }
 }
 
-fn response(alloc: Global) -> Result<Version, AllocError> {
-    Version::new(
-        alloc,
-        ResponseSpec {
-            status: Status::ok(),
-            content: Content::Plain {
-                headers: HeaderLines::new(Vec::new(alloc)).ok_or(AllocError)?,
-                body: Body::Empty,
-            },
+fn response(alloc: Global) -> Result<ResponseSpec, AllocError> {
+    Ok(ResponseSpec {
+        status: Status::ok(),
+        content: Content::Plain {
+            headers: HeaderLines::new(Vec::new(alloc)).ok_or(AllocError)?,
+            body: Body::Empty,
         },
-    )
+    })
 }

@@ -1,5 +1,5 @@
 //! Laws over the definitions, for all code and all runs: functions that do nothing, whose contracts are the laws.
-ghost use Rattle.template_code.specs.Laws.{RunsEndAlike, EachLoopHasItem, RunsReadWhatIsFound};
+ghost use Rattle.template_code.specs.Shown.Laws.{RunsEndAlike, EachLoopHasItem, RunsReadWhatIsFound};
 ghost use Rattle.helper_set.specs.Escape.{html_escaped};
 ghost use Rattle.template_code.specs.declared.limits.TheConstants.{MAX_ESCAPE_GROWTH};
 ghost use Rattle.std.specs.Prelude.{ℕ, ◌*◌, ◌≤◌, List, length, FitsSigned};

@@ -10,7 +10,7 @@ use Rattle.template_code.specs.declared.instr.Instr.TheVariants.{Jump, Branch, E
 use Rattle.template_code.specs.declared.limits.TheConstants.{MAX_LOOPS}
 use Rattle.code_rules.specs.Bounds.{Bound}
 use Rattle.code_rules.specs.Costs.{bounds_after}
-use Rattle.code_rules.specs.Table.{Entry}
+use Rattle.code_rules.specs.Table.{TableEntry}
 use Rattle.code_rules.proofs.LandingFacts.{Lands}
 use Rattle.code_rules.proofs.LightFacts.{IsLight}
 use Rattle.template_compile.specs.Compiled.{Offsets, Gen, ◌▸◌, jump_over, branch_over, each_over, again}
@@ -29,8 +29,8 @@ module _ (code : StackCode) where
   lands index target nest slots later inside here there = record {
     later = later;
     inside = inside;
-    nest = ap (λ (e : Entry). e.nest) there.entry ∙ sym (ap (λ (e : Entry). e.nest) here.entry);
-    kinds = ap (λ (e : Entry). e.kinds) there.entry;
+    nest = ap (λ (e : TableEntry). e.nest) there.entry ∙ sym (ap (λ (e : TableEntry). e.nest) here.entry);
+    kinds = ap (λ (e : TableEntry). e.kinds) there.entry;
   }
 
   -- the one target of a jump

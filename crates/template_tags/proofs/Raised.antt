@@ -3,7 +3,8 @@ use Rattle.std.proofs.Common.{◌≡◌, ℕ, ◌≤◌, List, length, Ok, arith
 use Rattle.template_tags.specs.Expression.{Expression, datum, index, key, first, last, text_literal, number, truth}
 use Rattle.template_tags.specs.Expression.{call, call_two}
 use Rattle.template_tags.specs.Said.{tag_said}
-use Rattle.template_tags.specs.Sound.{IsSoundDatum, IsSoundExpression, IsSoundTag}
+use Rattle.template_tags.specs.Sound.{IsSoundDatum, IsSoundExpression}
+use Rattle.template_tags.specs.Shown.SoundTags.{IsSoundTag}
 use Rattle.template_tags.specs.Tags.{Tag, print, open_if, open_each, begin_else, close}
 use Rattle.template_tags.specs.Levels.{loops_open}
 use Rattle.template_tags.specs.declared.expression.Datum.{Datum}

@@ -11,7 +11,7 @@ use Rattle.json_bridge.specs.PathFound.{path_of}
 use Rattle.template_words.specs.Literals.{text_literal, whole_number, truth_literal}
 use Rattle.template_words.specs.Marks.{begins}
 use Rattle.template_words.specs.Names.{is_hash_argument, first_part}
-use Rattle.template_words.specs.Inner.PathReads.{reference_of}
+use Rattle.template_words.specs.PathReads.{reference_of}
 use Rattle.template_words.specs.Reading.{◌>>=◌}
 use Rattle.template_words.specs.Words.{is_foreign_helper}
 use Rattle.template_words.specs.declared.error.TagError.{TagError}

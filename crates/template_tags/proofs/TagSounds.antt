@@ -20,7 +20,8 @@ use Rattle.template_tags.specs.Inner.TagReads.{tag_read, value_said, print_said,
 use Rattle.template_tags.specs.Inner.TagReads.{space_error}
 use Rattle.template_tags.specs.Said.{tag_said}
 use Rattle.template_tags.specs.Items.{Item, word, left_parenthesis, right_parenthesis, items_of}
-use Rattle.template_tags.specs.Sound.{IsSoundDatum, IsSoundTag}
+use Rattle.template_tags.specs.Sound.{IsSoundDatum}
+use Rattle.template_tags.specs.Shown.SoundTags.{IsSoundTag}
 use Rattle.template_tags.specs.Tags.{Tag, close}
 use Rattle.template_tags.specs.Terms.{single, group, Terms, no_terms, first_term, terms_in, is_matched}
 use Rattle.template_tags.specs.Words.{word_of}

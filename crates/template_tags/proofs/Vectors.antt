@@ -1,7 +1,7 @@
 -- The examples, computed.
 use Rattle.std.proofs.Common.{refl}
-use Rattle.template_words.specs.Inner.PathReads.{reference_from, step_of}
-use Rattle.template_tags.specs.Examples.{ArePrints, AreBlocks, AreErrors, AreUnmatched}
+use Rattle.template_words.specs.PathReads.{reference_from, step_of}
+use Rattle.template_tags.specs.Shown.Examples.{ArePrints, AreBlocks, AreErrors, AreUnmatched}
 use Rattle.template_tags.specs.Said.{tag_said}
 use Rattle.template_tags.specs.Words.{word_of}
 

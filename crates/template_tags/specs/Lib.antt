@@ -9,5 +9,5 @@ pub mod Calls
 pub mod Blocks
 pub mod Said
 pub mod Sound
-pub mod Examples
+pub mod Shown
 pub mod Inner

@@ -1,19 +1,14 @@
--- What is always so of what a tag says, where no text in the tag is longer than a limit.
-use Rattle.std.specs.Prelude.{◌≡◌, ℕ, suc, max, ◌<◌, ◌≤◌, not, ◌&&◌, Bool, false, is_some, IsTrue}
-use Rattle.std.specs.Prelude.{FitsSigned, List, [], ◌∷◌, length}
+-- What is always so of the values that a tag names, where no text in the tag is longer than a limit.
+use Rattle.std.specs.Prelude.{ℕ, suc, max, ◌<◌, ◌≤◌, not, ◌&&◌, Bool, is_some, IsTrue, FitsSigned, length}
 use Rattle.std.specs.Int.{w64}
 use Rattle.helper_set.specs.Helpers.{signature_of, is_looked_up}
 use Rattle.helper_set.specs.declared.helper.Helper.{Helper}
 use Rattle.json_bridge.specs.PathFound.{path_of}
 use Rattle.template_tags.specs.Expression.{Expression, datum, index, key, first, last, text_literal, number, truth}
 use Rattle.template_tags.specs.Expression.{call, call_two}
-use Rattle.template_tags.specs.Levels.{loops_open}
-use Rattle.template_tags.specs.Tags.{Tag, print, open_if, open_each, begin_else, close}
 use Rattle.template_tags.specs.declared.expression.TheConstants.{CALL_LIMIT}
 use Rattle.template_tags.specs.declared.expression.Datum.{Datum}
 use Rattle.template_tags.specs.declared.expression.Datum.TheVariants.{Nothing, Root, Item, BodyPath}
-use Rattle.template_tags.specs.declared.level.TheConstants.{BLOCK_LIMIT, LOOP_LIMIT}
-use Rattle.template_tags.specs.declared.level.Level.{Level}
 
 -- an item is that of an open loop, and a path in the body is a JSON path
 abbrev pub IsSoundDatum : ℕ → ℕ → Datum → Type 0
@@ -59,17 +54,3 @@ depth_of (call_two h x y) = suc (max (depth_of x) (depth_of y))
 -- the calls in parentheses, and the tag's own
 abbrev pub IsSoundValue : ℕ → ℕ → Expression → Type 0
 IsSoundValue limit loops x = IsSoundExpression limit loops x × (depth_of x ≤ suc CALL_LIMIT)
-
-abbrev pub HasNoElse : List Level → Type 0
-HasNoElse [] = ⊥
-HasNoElse (level ∷ levels) = level.in_else ≡ false
-
--- a tag where these blocks are open, the innermost first
-abbrev pub IsSoundTag : ℕ → List Level → Tag → Type 0
-IsSoundTag limit levels (print x) = IsSoundValue limit (loops_open levels) x
-IsSoundTag limit levels (open_if unless test) =
-    IsSoundValue limit (loops_open levels) test × (length levels < BLOCK_LIMIT)
-IsSoundTag limit levels (open_each over parameter) =
-    IsSoundDatum limit (loops_open levels) over × (length levels < BLOCK_LIMIT) × (loops_open levels < LOOP_LIMIT)
-IsSoundTag limit levels begin_else = HasNoElse levels
-IsSoundTag limit levels close = 0 < length levels

@@ -12,7 +12,7 @@ use Rattle.template_words.specs.Literals.{text_literal, whole_number, truth_lite
 use Rattle.template_words.specs.Marks.{begins}
 use Rattle.template_words.specs.Names.{is_hash_argument, first_part}
 use Rattle.template_words.specs.Paths.{rest_of_steps}
-use Rattle.template_words.specs.Inner.PathReads.{reference_of}
+use Rattle.template_words.specs.PathReads.{reference_of}
 use Rattle.template_words.specs.Words.{is_foreign_helper}
 use Rattle.template_words.specs.declared.error.TagError.{TagError}
 use Rattle.template_words.specs.declared.error.TagError.TheVariants.{UnknownHelper, WrongArguments, UnsupportedTag}

@@ -1,9 +1,9 @@
 // Laws over the definitions of tags, each on a function that does nothing.
 ghost use Rattle.std.specs.Prelude.{◌≡◌, ◌≤◌, ◌↔◌, ℕ, true, false, List, [], ◌∷◌, ◌++◌, Some, Ok, length};
-ghost use Rattle.template_tags.specs.Examples.{ArePrints, AreBlocks, AreErrors, AreUnmatched};
+ghost use Rattle.template_tags.specs.Shown.Examples.{ArePrints, AreBlocks, AreErrors, AreUnmatched};
 ghost use Rattle.template_tags.specs.Items.{Item, break_before, word_before, items_after};
 ghost use Rattle.template_tags.specs.Said.{tag_said};
-ghost use Rattle.template_tags.specs.Sound.{IsSoundTag};
+ghost use Rattle.template_tags.specs.Shown.SoundTags.{IsSoundTag};
 ghost use Rattle.template_tags.specs.Tags.{Tag};
 ghost use Rattle.template_tags.specs.Terms.{Terms, flat, terms_of};
 ghost use Rattle.template_tags.specs.declared.level.Level.{Level};

@@ -132,7 +132,7 @@ fn path_of(alloc: Global, steps: &[Step]) -> Result<Path, AllocError>
 {
     let mut copies = Vec::new(alloc);
     for step in steps {
-        copies.push(step.try_clone()?)?;
+        copies.push(step.clone()?)?;
     }
     Ok(Path::new(copies))
 }

@@ -8,7 +8,8 @@ use Rattle.template_words.specs.declared.error.TagError.TheVariants.{UnclosedTag
 use Rattle.template_tree.specs.declared.error.TemplateErrorKind.TheVariants.{Tag, TooLong}
 use Rattle.template_tree.specs.declared.parser.TheConstants.{TEXT_LIMIT}
 use Rattle.template_tags.specs.declared.level.Level.{Level}
-use Rattle.template_tree.specs.Grammar.{Spells, IsTemplateError, IsRead}
+use Rattle.template_tree.specs.Grammar.{Spells, IsTemplateError}
+use Rattle.template_tree.specs.Shown.Laws.{IsReadAs}
 use Rattle.template_tree.specs.Inner.Frames.{Nest, with_token, BeginWithin, Read}
 use Rattle.template_tree.specs.Source.{Source}
 use Rattle.template_tree.specs.Tokens.{token, tag_error, ended, next_of}
@@ -70,7 +71,7 @@ tree_or_error source short =
     decided source short
     (outcome source (length source.text) nothing_read source.text short (omega arith) (read_none source))
 
-same_outcome : (source : Source) (a b : Result Nodes TemplateError) → IsRead source a → IsRead source b → a ≡ b
+same_outcome : (source : Source) (a b : Result Nodes TemplateError) → IsReadAs source a → IsReadAs source b → a ≡ b
 same_outcome source (Ok t) (Ok u) p q = ap Ok (one_tree source t u p q)
 same_outcome source (Ok t) (Err e) p q = absurd (never_both source t e p q)
 same_outcome source (Err e) (Ok t) p q = absurd (never_both source t e q p)
@@ -79,16 +80,16 @@ same_outcome source (Err d) (Err e) p q = ap Err (one_error source.text d e p q)
 -- a source is read so, and as nothing else
 abbrev IsOutcome : Source → Result Nodes TemplateError → Type 0
 IsOutcome source outcome =
-    IsRead source outcome × ((other : Result Nodes TemplateError) → IsRead source other → outcome ≡ other)
+    IsReadAs source outcome × ((other : Result Nodes TemplateError) → IsReadAs source other → outcome ≡ other)
 
-is_outcome : (source : Source) (outcome : Result Nodes TemplateError) → IsRead source outcome
+is_outcome : (source : Source) (outcome : Result Nodes TemplateError) → IsReadAs source outcome
     → IsOutcome source outcome
 is_outcome source outcome is = (is, λ other h. same_outcome source outcome other is h)
 
 too_long : TemplateError
 too_long = record { kind = TooLong; at = TEXT_LIMIT }
 
-is_too_long : (source : Source) → TEXT_LIMIT < length source.text → IsRead source (Err too_long)
+is_too_long : (source : Source) → TEXT_LIMIT < length source.text → IsReadAs source (Err too_long)
 unfolding too_long
 is_too_long source long = (long, refl)
 

@@ -7,7 +7,7 @@ use Rattle.std.proofs.lemmas.Bool.{cond_both, both_ways}
 use Rattle.std.proofs.lemmas.List.{append-nil, take-append-drop, drop-append-le, length-take-le}
 use Rattle.template_words.specs.declared.error.TagError.{TagError}
 use Rattle.template_tags.specs.declared.tag.Opening.{Opening}
-use Rattle.template_tree.specs.Laws.{IsPiece}
+use Rattle.template_tree.specs.Shown.Laws.{IsPiece}
 use Rattle.template_words.specs.Marks.{begins, offset_of}
 use Rattle.template_tree.specs.Tags.{TagText, comment, shown, tag_of}
 use Rattle.template_tree.specs.Tokens.{text_token, token, tag_error, ended, said_next, closed_next, tag_next}

@@ -9,7 +9,7 @@ use Rattle.template_words.specs.Marks.{offset_of}
 use Rattle.template_tags.specs.declared.level.Level.{Level}
 use Rattle.template_tags.specs.declared.tag.Opening.{Opening}
 use Rattle.template_tags.specs.Said.{tag_said}
-use Rattle.template_tags.specs.Sound.{IsSoundTag}
+use Rattle.template_tags.specs.Shown.SoundTags.{IsSoundTag}
 use Rattle.template_tags.specs.Tags as said
 use Rattle.template_tags.proofs.Raised.{tag_sound_within}
 use Rattle.template_tree.specs.declared.parser.TheConstants.{TEXT_LIMIT}

@@ -1,6 +1,6 @@
 -- The texts of the examples, computed.
 use Rattle.std.proofs.Common.{refl}
-use Rattle.template_tree.specs.TextExamples.{AreTexts}
+use Rattle.template_tree.specs.Shown.TextExamples.{AreTexts}
 
 pub are_texts : AreTexts
 are_texts = record {

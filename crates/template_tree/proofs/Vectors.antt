@@ -4,7 +4,7 @@ use Rattle.std.proofs.Common.{inl, inr, codes, refl, ap, subst, arith}
 use Rattle.template_words.specs.declared.error.TagError.{TagError}
 use Rattle.template_words.specs.declared.error.TagError.TheVariants as errors
 use Rattle.template_words.specs.Marks.{offset_of}
-use Rattle.template_words.specs.Inner.PathReads.{reference_from, step_of}
+use Rattle.template_words.specs.PathReads.{reference_from, step_of}
 use Rattle.template_tags.specs.declared.level.Block.TheVariants.{If}
 use Rattle.template_tags.specs.declared.level.Level.{Level}
 use Rattle.template_tags.specs.Said.{tag_said}
@@ -12,7 +12,7 @@ use Rattle.template_tags.specs.Words.{word_of}
 use Rattle.template_tree.specs.declared.escape.Escape.{Escape}
 use Rattle.template_tree.specs.declared.escape.Escape.TheVariants.{Off, Html}
 use Rattle.template_tree.specs.declared.parser.TheConstants.{TEXT_LIMIT}
-use Rattle.template_tree.specs.Examples.{AreExamples, AreBlocks, Gives, text_before}
+use Rattle.template_tree.specs.Shown.Examples.{AreExamples, AreBlocks, Gives, text_before}
 use Rattle.template_tree.specs.Grammar.{opened, token_levels, Leads, Spells, IsTagErrorAt}
 use Rattle.template_tree.specs.Parts.{parts_of, spell}
 use Rattle.template_tree.specs.Source.{with_escape}

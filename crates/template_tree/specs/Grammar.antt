@@ -1,6 +1,6 @@
 -- Which text spells which tree, and which error a text has that spells none.
 use Rattle.std.specs.Prelude.{◌≡◌, ◌⊎◌, ℕ, ◌+◌, ◌<◌, ◌≤◌, Bool, true, false, List, []}
-use Rattle.std.specs.Prelude.{◌∷◌, length, drop, Option, None, Result, Ok, Err}
+use Rattle.std.specs.Prelude.{◌∷◌, length, drop, Option, None}
 use Rattle.template_words.specs.declared.error.TagError.{TagError}
 use Rattle.template_words.specs.declared.error.TagError.TheVariants.{UnclosedTag}
 use Rattle.template_tags.specs.declared.level.Block.{Block}
@@ -95,11 +95,6 @@ IsErrorAt text TooLong at = (TEXT_LIMIT < length text) × (at ≡ TEXT_LIMIT)
 -- the error that the text has
 abbrev pub IsTemplateError : List ℕ → TemplateError → Type 0
 IsTemplateError text error = IsErrorAt text error.kind error.at
-
--- what a source is read as: a tree, or an error
-abbrev pub IsRead : Source → Result Nodes TemplateError → Type 0
-IsRead source (Ok tree) = Spells source tree
-IsRead source (Err error) = IsTemplateError source.text error
 
 -- an error that `parse` answers is the text's, unless memory ran out
 abbrev pub IsParseError : List ℕ → ParseError → Type 0

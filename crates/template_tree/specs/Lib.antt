@@ -8,7 +8,5 @@ pub mod Sound
 pub mod Grammar
 pub mod Meaning
 pub mod Errors
-pub mod Laws
-pub mod Examples
-pub mod TextExamples
+pub mod Shown
 pub mod Inner

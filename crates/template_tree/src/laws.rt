@@ -1,10 +1,9 @@
 // Laws over the definitions that `parse` is proved by, each on a function that does nothing.
 ghost use Rattle.std.specs.Prelude.{◌≡◌, ℕ, List, Result};
-ghost use Rattle.template_tree.specs.Grammar.{IsRead};
-ghost use Rattle.template_tree.specs.Laws.{IsPiece};
+ghost use Rattle.template_tree.specs.Shown.Laws.{IsReadAs, IsPiece};
 ghost use Rattle.template_tree.specs.Source.{Source};
-ghost use Rattle.template_tree.specs.Examples.{AreExamples, AreBlocks};
-ghost use Rattle.template_tree.specs.TextExamples.{AreTexts};
+ghost use Rattle.template_tree.specs.Shown.Examples.{AreExamples, AreBlocks};
+ghost use Rattle.template_tree.specs.Shown.TextExamples.{AreTexts};
 ghost use Rattle.template_tags.specs.declared.level.Level.{Level};
 ghost use Rattle.template_tree.specs.Tokens.{token, text_token, next_of};
 ghost use Rattle.template_tree.specs.Tree.{Nodes};
@@ -12,8 +11,8 @@ ghost use Rattle.template_tree.specs.declared.error.TemplateError.{TemplateError
 
 /// Each source spells a tree or has an error, and is read as nothing else: not as another tree, not as another error.
 pub fn law_source_is_tree_or_error()
-    ensures { (source : Source) → (outcome : Result Nodes TemplateError) × IsRead source outcome
-        × ((other : Result Nodes TemplateError) → IsRead source other → outcome ≡ other) }
+    ensures { (source : Source) → (outcome : Result Nodes TemplateError) × IsReadAs source outcome
+        × ((other : Result Nodes TemplateError) → IsReadAs source other → outcome ≡ other) }
 {}
 
 /// A piece of text is never split: it goes up to the next mark, or to the end.

@@ -1,6 +1,6 @@
 // The blocks that are open while a template is read.
 ghost use Rattle.std.specs.Prelude.{◌≡◌, [], IfOk};
-ghost use Rattle.template_tags.specs.Sound.{HasNoElse};
+ghost use Rattle.template_tags.specs.Shown.SoundTags.{HasNoElse};
 ghost use Rattle.template_tags.specs.Tags.{tag_view};
 ghost use Rattle.template_tree.specs.Grammar.{test_block, with_else};
 ghost use Rattle.template_tree.specs.Inner.Frames.{head_view, main_view, frame_view, nest_view, block_node};

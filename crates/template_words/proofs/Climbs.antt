@@ -3,7 +3,7 @@ use Rattle.std.proofs.Common.{◌≡◌, ℕ, ◌+◌, true, false, ◌&&◌, �
 use Rattle.std.proofs.lemmas.Bool.{and_parts, false≢true}
 use Rattle.template_words.specs.Bytes.{dot}
 use Rattle.template_words.specs.Marks.{begins}
-use Rattle.template_words.specs.Inner.PathReads.{reference_from, reference_below}
+use Rattle.template_words.specs.PathReads.{reference_from, reference_below}
 
 pub climb_yes : (depth : ℕ) (s : List ℕ) → begins (codes "../") s ≡ true
     → reference_from depth s ≡ reference_from (depth + 1) (drop 3 s)

@@ -6,7 +6,7 @@ use Rattle.std.proofs.lemmas.Bool.{and_parts, and_from, not-true, cond_both, cas
 use Rattle.std.proofs.lemmas.List.{take-append-drop, drop-drop, take_at, drop_at, length-take-le}
 use Rattle.template_words.specs.declared.mode.Mode.{Mode}
 use Rattle.template_words.specs.declared.mode.Mode.TheVariants.{Start}
-use Rattle.template_words.specs.Laws.{IsFirstMark, IsFirstClose}
+use Rattle.template_words.specs.Shown.Laws.{IsFirstMark, IsFirstClose}
 use Rattle.template_words.specs.Marks.{begins, offset_of, around, close_from}
 use Rattle.template_words.specs.Modes.{mode_after, mode_after_bytes, is_literal}
 use Rattle.template_words.proofs.Finding.{begins_own, begins_split, some_pair, some_suc}

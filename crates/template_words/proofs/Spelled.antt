@@ -20,11 +20,11 @@ use Rattle.template_words.specs.Bytes.{dot, open_bracket, close_bracket}
 use Rattle.template_words.specs.Marks.{begins, offset_of}
 use Rattle.template_words.specs.Paths.{is_name_byte, is_name, step_of_index, step_named, onto_first, next_in_bracket}
 use Rattle.template_words.specs.Paths.{is_separator, dotted_parts, is_reserved, reference_at, unreserved}
-use Rattle.template_words.specs.Inner.PathReads.{bracketed_step, step_of, all_steps, reference_below, reference_from}
-use Rattle.template_words.specs.Inner.PathReads.{reference_of}
+use Rattle.template_words.specs.PathReads.{bracketed_step, step_of, all_steps, reference_below, reference_from}
+use Rattle.template_words.specs.PathReads.{reference_of}
 use Rattle.template_words.specs.Reading.{◌>>=◌}
 use Rattle.template_words.specs.Words.{enclosed, closed_at_end}
-use Rattle.template_words.specs.Spelled.{IsWritten, SpellsStep, SpellsSteps, climbs, SpellsPath, IsReadOf}
+use Rattle.template_words.specs.Shown.Spelled.{IsWritten, SpellsStep, SpellsSteps, climbs, SpellsPath, IsReadOf}
 use Rattle.template_words.proofs.Climbs.{climb_yes, climb_no}
 use Rattle.template_words.proofs.Dots.{glue, glue_head}
 use Rattle.template_words.proofs.Finding.{begins_split}

@@ -6,8 +6,7 @@ pub mod Words
 pub mod Literals
 pub mod Paths
 pub mod Names
-pub mod Spelled
+pub mod PathReads
 pub mod Reading
 pub mod Views
-pub mod Laws
-pub mod Inner
+pub mod Shown

@@ -1,9 +1,9 @@
 // Laws over the definitions of marks, closes and paths, each on a function that does nothing.
 ghost use Rattle.std.specs.Prelude.{◌≡◌, ◌<◌, ◌↔◌, ℕ, List, Some, Result, length};
-ghost use Rattle.template_words.specs.Laws.{IsFirstMark, IsFirstClose};
+ghost use Rattle.template_words.specs.Shown.Laws.{IsFirstMark, IsFirstClose};
 ghost use Rattle.template_words.specs.Marks.{offset_of, close_from, around};
-ghost use Rattle.template_words.specs.Inner.PathReads.{reference_of};
-ghost use Rattle.template_words.specs.Spelled.{IsReadOf};
+ghost use Rattle.template_words.specs.PathReads.{reference_of};
+ghost use Rattle.template_words.specs.Shown.Spelled.{IsReadOf};
 ghost use Rattle.template_words.specs.declared.error.TagError.{TagError};
 ghost use Rattle.template_words.specs.declared.reference.Reference.{Reference};
 ghost use Rattle.template_words.specs.declared.mode.Mode.TheVariants.{Start};

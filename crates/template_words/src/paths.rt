@@ -6,7 +6,7 @@ ghost use Rattle.template_words.specs.Bytes.{dot};
 ghost use Rattle.template_words.specs.Paths.{is_name_byte, is_name, step_named, next_in_bracket, is_separator};
 ghost use Rattle.template_words.specs.Paths.{dotted_parts, is_step, begins_with_step, rest_of_steps, is_reserved};
 ghost use Rattle.template_words.specs.Paths.{in_lower_case, names_header, header_in_lower_case, reference_at};
-ghost use Rattle.template_words.specs.Inner.PathReads.{step_of, all_steps, reference_below, reference_of};
+ghost use Rattle.template_words.specs.PathReads.{step_of, all_steps, reference_below, reference_of};
 ghost use Rattle.template_words.specs.Reading.{Gives};
 
 use crate::error::{ReadError, TagError};
@@ -48,7 +48,7 @@ fn step_named(alloc: Global, text: &str) -> Result<Step, ReadError>
     }
 }
 
-#[tactic(auto, unfolding(crate::specs::Inner::PathReads::step_of))]
+#[tactic(auto, unfolding(crate::specs::PathReads::step_of))]
 fn step_of(alloc: Global, text: &str) -> Result<Step, ReadError>
     ensures { Gives (λ step. step) result (step_of text.now) }
 {

@@ -50,7 +50,7 @@ impl ValueMatcher {
             None => None,
         };
         Ok(ValueMatcher {
-            spec: spec.try_clone()?,
+            spec: spec.clone()?,
             pattern,
         })
     }

@@ -1,12 +1,11 @@
 // What a value has to meet.
-ghost use Rattle.std.specs.Prelude.{◌≡◌, ◌↔◌, IfOk, IsTrue, option_copied};
+ghost use Rattle.std.specs.Prelude.{◌≡◌, ◌↔◌, IsTrue, option_copied};
 ghost use Rattle.value_match.specs.Refusal.{pattern_of};
 
 use plain_text::text::Text;
-use std::alloc::AllocError;
 
 /// A value matcher as it was written.
-#[derive(Debug, Drop)]
+#[derive(Clone, Debug, Drop)]
 pub enum ValueSpec {
     EqualTo(Text),
     /// ASCII letters alone are compared without case.
@@ -20,22 +19,6 @@ pub enum ValueSpec {
 }
 
 impl ValueSpec {
-    pub fn try_clone(&self) -> Result<ValueSpec, AllocError>
-        ensures { IfOk result (λ copy. copy ≡ self.now) }
-    {
-        Ok(match self {
-            ValueSpec::EqualTo(text) => ValueSpec::EqualTo(text.try_clone()?),
-            ValueSpec::EqualToIgnoringCase(text) => {
-                ValueSpec::EqualToIgnoringCase(text.try_clone()?)
-            }
-            ValueSpec::Contains(text) => ValueSpec::Contains(text.try_clone()?),
-            ValueSpec::DoesNotContain(text) => ValueSpec::DoesNotContain(text.try_clone()?),
-            ValueSpec::Matches(pattern) => ValueSpec::Matches(pattern.try_clone()?),
-            ValueSpec::DoesNotMatch(pattern) => ValueSpec::DoesNotMatch(pattern.try_clone()?),
-            ValueSpec::Absent => ValueSpec::Absent,
-        })
-    }
-
     /// Whether the two are equal.
     pub fn same(&self, other: &ValueSpec) -> bool
         ensures { IsTrue result ↔ (self.now ≡ other.now) }

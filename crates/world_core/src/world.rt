@@ -114,7 +114,7 @@ impl World {
         ensures err { OnErr result (self.new ≡ self.old) }
     {
         let shared = SharedRequest::new(self.alloc, request)?;
-        let kept = shared.try_clone()?;
+        let kept = shared.clone()?;
         let mut parsed = ParsedRequest::new(self.alloc, shared.request());
         self.held.reserve(1)?;
         let memory = EventMemory::new(self.alloc)?;

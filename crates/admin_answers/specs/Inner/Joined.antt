@@ -26,12 +26,12 @@ end_of (Mappings texts end) = codes "]" ++ string_bytes end
 end_of (Exchanges texts) = codes "],\"version\":\"1.2\"}}"
 
 -- nothing is left to be searched
-abbrev pub IsReady : Entries → Type 0
-IsReady (Requests entries) = Unit {0}
-IsReady (Found search) = IsSearched search
-IsReady (Count search) = IsSearched search
-IsReady (Mappings texts end) = Unit {0}
-IsReady (Exchanges texts) = Unit {0}
+abbrev pub IsAllSearched : Entries → Type 0
+IsAllSearched (Requests entries) = Unit {0}
+IsAllSearched (Found search) = IsSearched search
+IsAllSearched (Count search) = IsSearched search
+IsAllSearched (Mappings texts end) = Unit {0}
+IsAllSearched (Exchanges texts) = Unit {0}
 
 -- what stands before a list of so many requests
 abbrev pub head_of_requests : ℕ → List ℕ

@@ -1,6 +1,6 @@
 -- What is answered, or not, of what was read, whatever was asked for and whatever past it was read of.
 use Rattle.std.specs.Prelude.{◌≡◌, ◌⊎◌, ℕ}
-use Rattle.admin_answers.specs.Answers.{IsReadReply, IsUnread}
+use Rattle.admin_answers.specs.Answers.{IsReadReply, HasNoReadReply}
 use Rattle.error_code.specs.declared.error_code.ErrorCode.{ErrorCode}
 use Rattle.error_code.specs.declared.error_code.ErrorCode.TheVariants as code
 use Rattle.mapping_model.specs.declared.reply.Reply.{Reply}
@@ -19,4 +19,4 @@ IsSaid number found reply =
 abbrev pub IsUnsaid : ReadAnswer → ErrorCode → Type 0
 IsUnsaid found reason =
     (reason ≡ code.OutOfMemory)
-    ⊎ ((past : Past) (asked : BookRead) → IsReadAnswer past asked found → IsUnread asked reason past)
+    ⊎ ((past : Past) (asked : BookRead) → IsReadAnswer past asked found → HasNoReadReply asked reason past)

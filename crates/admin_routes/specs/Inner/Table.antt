@@ -14,8 +14,8 @@ use Rattle.admin_routes.specs.declared.place.Place.TheVariants as place
 abbrev pub Rows : Type 0
 Rows = RowsOf (RouteOf Place)
 
-abbrev pub Entry : Type 0
-Entry = Bor (List ℕ) × Place
+abbrev pub PathAndPlace : Type 0
+PathAndPlace = Bor (List ℕ) × Place
 
 -- ---- how it is filled
 
@@ -28,11 +28,11 @@ abbrev pub can_insert : Result Scan InsertError → Rows → Bool
 can_insert (Ok scan) rows = is_none (nearest scan.pattern rows)
 can_insert (Err error) rows = false
 
-abbrev pub put : List Entry → Rows → Rows
+abbrev pub put : List PathAndPlace → Rows → Rows
 put [] rows = rows
 put (entry ∷ entries) rows = put entries (with_route (parse_route entry.0.now) entry.1 rows)
 
-abbrev pub is_clean : List Entry → Rows → Bool
+abbrev pub is_clean : List PathAndPlace → Rows → Bool
 is_clean [] rows = true
 is_clean (entry ∷ entries) rows =
     can_insert (parse_route entry.0.now) rows

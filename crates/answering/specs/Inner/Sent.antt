@@ -3,12 +3,12 @@ use Rattle.std.specs.Prelude.{◌≡◌, ℕ, List}
 use Rattle.http.specs.declared.response.Response.{Response}
 use Rattle.answering.specs.Forwarding.{serve_receipt}
 use Rattle.answering.specs.Rendering.{rendering_receipt}
-use Rattle.answering.specs.Reply.{IsResponseOf}
+use Rattle.answering.specs.Reply.{IsResponseOfReply}
 use Rattle.answering.specs.declared.begun.Begun.{Begun}
 use Rattle.answering.specs.declared.begun.Begun.TheVariants.{Answered, Refused, ToForward, ToRender}
 use Rattle.answering.specs.declared.forward.Forward.{Forward}
 use Rattle.answering.specs.declared.rendering.Rendering.{Rendering}
-use Rattle.logbook.specs.Pages.{Book}
+use Rattle.logbook.specs.Pages.{Book as HistoryName}
 use Rattle.mapping_model.specs.declared.reply.Reply.{Reply}
 use Rattle.mock_request.specs.Request.{Request}
 use Rattle.request_journal.specs.Past.{Past}
@@ -20,7 +20,7 @@ use Rattle.stub_response.specs.declared.limits.Limits.{Limits}
 
 -- the response is that of a reply of which this holds
 abbrev pub HasReply : (Reply → Type 0) → Response (List ℕ) → Type 0
-HasReply Holds response = (reply : Reply) × Holds reply × IsResponseOf reply response
+HasReply Holds response = (reply : Reply) × Holds reply × IsResponseOfReply reply response
 
 -- a response of which the first holds, or what is to be forwarded or rendered, of which the second or the third does
 abbrev pub HasBegun : (Reply → Type 0) → (Forward → Type 0) → (Rendering → Type 0) → Begun → Type 0
@@ -31,8 +31,8 @@ HasBegun Holds Forwards Renders (ToRender rendering) = Renders rendering
 
 -- the response of this reply
 abbrev pub IsBegunOf : Reply → Begun → Type 0
-IsBegunOf reply (Answered response) = IsResponseOf reply response
-IsBegunOf reply (Refused refused) = IsResponseOf reply refused.value.response
+IsBegunOf reply (Answered response) = IsResponseOfReply reply response
+IsBegunOf reply (Refused refused) = IsResponseOfReply reply refused.value.response
 IsBegunOf reply (ToForward forward) = ⊥
 IsBegunOf reply (ToRender rendering) = ⊥
 
@@ -42,7 +42,7 @@ IsForwardOf number event forward =
     ((serve_receipt forward).number ≡ number) × ((serve_receipt forward).event ≡ event)
 
 -- the request was served, and it is what is to be forwarded
-abbrev pub IsServedToForward : Past → Book → Held → Held → Request → Forward → Type 0
+abbrev pub IsServedToForward : Past → HistoryName → Held → Held → Request → Forward → Type 0
 IsServedToForward origin name old new request forward =
     (forward.request ≡ request) × Gains origin name old new (IsServed forward.request) (serve_receipt forward)
 
@@ -53,7 +53,7 @@ IsRenderingOf limits number event rendering =
     × (rendering.limits ≡ limits)
 
 -- the request was served, and it is what is to be rendered
-abbrev pub IsServedToRender : Past → Book → Limits → Held → Held → Request → Rendering → Type 0
+abbrev pub IsServedToRender : Past → HistoryName → Limits → Held → Held → Request → Rendering → Type 0
 IsServedToRender origin name limits old new request rendering =
     (rendering.request ≡ request) × (rendering.limits ≡ limits)
     × Gains origin name old new (IsServed rendering.request) (rendering_receipt rendering)

@@ -1,7 +1,7 @@
--- What is done with the seat of a place, and with the server's own.
+-- What is done with the seat of a cell, and with the server's own.
 use Rattle.std.specs.Prelude.{◌≡◌, ◌⊎◌, Bool, Err, None, Ok, Option, Result, Some, IsSomeAnd, false, true}
 
--- the place has a seat, before and after, of which this holds
+-- the cell has a seat, before and after, of which this holds
 abbrev pub OnSeat : {S : Type 0} → Option S → Option S → (S → S → Type 0) → Type 0
 OnSeat held held' P = IsSomeAnd held (λ old. IsSomeAnd held' (P old))
 
@@ -16,7 +16,7 @@ module _ {S : Type 0} (joins : S → S → S → Result (Unit {0}) S → Type 0)
   IsJoinedTo seat result =
       ((own ≡ None) × (own' ≡ None) × (result ≡ Err seat)) ⊎ OnSeat own own' (λ old new. joins old seat new result)
 
-  -- the seat of a place, if it had one, was joined, and the place is free; or the place keeps it
+  -- the seat of a cell, if it had one, was joined, and the cell is free; or the cell keeps it
   abbrev pub IsTakenOver : Option S → Option S → Bool → Type 0
   IsTakenOver None held' is_free = (own' ≡ own) × (held' ≡ None) × (is_free ≡ true)
   IsTakenOver (Some seat) None is_free = IsJoinedTo seat (Ok tt) × (is_free ≡ true)

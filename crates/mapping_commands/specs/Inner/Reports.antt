@@ -2,7 +2,7 @@
 use Rattle.std.specs.Prelude.{◌≡◌, ℕ, List, ◌++◌, Bool, is_err, length, Result, Some, string_bytes}
 use Rattle.std.specs.List.{AllZip, list_any}
 use Rattle.json_reading.specs.Document.{IsDocument}
-use Rattle.mapping_commands.specs.Checking.{AreLines, IsLineOf}
+use Rattle.mapping_commands.specs.Checking.{AreLines, IsMappingLine}
 use Rattle.mapping_commands.specs.declared.check.Checked.{Checked}
 use Rattle.mapping_json.specs.Documents.{IsResultOf, mappings_in}
 use Rattle.mapping_json.specs.declared.error.MappingError.{MappingError}
@@ -22,7 +22,7 @@ pub record Reports (escape : Escape) (number : ℕ) (d : Data) (old new : List �
   pub result : Result MappingSpec MappingError
   pub line : List ℕ
   pub read : IsResultOf escape d result
-  pub is_line : IsLineOf number result line
+  pub is_line : IsMappingLine number result line
   pub text : new ≡ old ++ line
   pub is_refused : refused ≡ is_err result
 

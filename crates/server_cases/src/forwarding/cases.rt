@@ -1,8 +1,8 @@
 // Cases: a peer that goes away or fails at each place in turn.
 use crate::forwarding::outcome::{Outcome, Shown, exchange};
 use crate::forwarding::peer::{CHUNKS, REPLY, SENT};
+use crate::scripted_io::Script;
 use counted_io::counted::TURN_LIMIT;
-use proxy_client::scripted_io::Script;
 use std::alloc::{AllocError, AllocGlobal, Global};
 use std::net::Net;
 use std::random::RandomSource;

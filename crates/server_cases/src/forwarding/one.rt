@@ -1,4 +1,4 @@
-// One request forwarded to the target that the arguments name.
+// One request forwarded to the upstream that the arguments name.
 use counted_io::counted::TURN_LIMIT;
 use http_header::{HeaderName, HeaderValue};
 use mapping_model::reply::Reply;
@@ -31,7 +31,7 @@ pub enum Printed {
     BadArguments,
 }
 
-/// Forwards one request: TARGET METHOD URL LENGTH SILENCE, where its content has that length, and the target may be
+/// Forwards one request: TARGET METHOD URL LENGTH SILENCE, where its content has that length, and the upstream may be
 /// silent for as many milliseconds (0: for the usual time).
 pub fn forward_one<R>(rt: &R, arguments: &[String]) -> Result<Printed, AllocError>
 where
@@ -71,7 +71,7 @@ fn reason_of(error: ProxyError) -> &'static str {
     }
 }
 
-// The same as `forward`, but for the time that the target may be silent.
+// The same as `forward`, but for the time that the upstream may be silent.
 fn forward_within<R>(
     rt: &R,
     target: &Target,

@@ -1,10 +1,10 @@
 // What comes of an exchange.
 use crate::forwarding::peer::{RELAYED, SENT, request, target};
+use crate::scripted_io::{Script, ScriptedIo};
 use bytes::Bytes;
 use mapping_model::reply::Reply;
 use proxy_client::error::ProxyError;
 use proxy_client::forward::forward_over;
-use proxy_client::scripted_io::{Script, ScriptedIo};
 use std::alloc::{AllocError, AllocGlobal, Global};
 use std::net::Net;
 use std::random::RandomSource;

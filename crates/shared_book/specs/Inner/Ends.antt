@@ -1,7 +1,7 @@
 -- How a shared book is settled.
 use Rattle.std.specs.Prelude.{◌≡◌, ℕ, List}
 use mathlib.Core.List.{IsPrefix}
-use Rattle.logbook.specs.Pages.{Book}
+use Rattle.logbook.specs.Pages.{Book as HistoryName}
 use Rattle.request_journal.specs.Past.{Past}
 use Rattle.shared_book.specs.Held.{Held, all_lists, all_parts}
 use Rattle.shared_book.specs.Reached.{IsLawful, Log, MayFollow}
@@ -25,7 +25,7 @@ pub record HasSameCalls (origin : Past) (old new : Log) : Type 0 where
   pub lawful : IsLawful origin new
 
 -- until it has ended
-pub record Ends (origin : Past) (name : Book) (old new : Log) : Type 0 where
+pub record Ends (origin : Past) (name : HistoryName) (old new : Log) : Type 0 where
   pub same : HasSameCalls origin old new
   pub was_seen : IsSeen MayFollow name new
   pub ended : HasEnded new

@@ -6,17 +6,22 @@ use Rattle.shared_history.specs.Inner.Lines.{line, IsLegal, IsUnused}
 use Rattle.shared_history.specs.declared.entry.Deed.{Deed}
 use Rattle.shared_history.specs.declared.entry.Deed.TheVariants as deed
 use Rattle.shared_history.specs.declared.line.Ask.{Ask}
-use Rattle.shared_history.specs.declared.line.Ask.TheVariants.{Opened, Called, Looked, Split, Left}
+use Rattle.shared_history.specs.declared.line.Ask.TheVariants.{Opened, Called, Silent}
 use Rattle.shared_history.specs.declared.line.Draft.{Draft}
 use Rattle.shared_history.specs.declared.line.Line.{Line}
+use Rattle.shared_history.specs.declared.line.Silent as silent
+use Rattle.shared_history.specs.declared.line.Silent.TheVariants.{Looked, Split, Left}
 
 module _ {O E : Type 0} where
+  abbrev pub silent_deed : silent.Silent → Deed O E
+  silent_deed Looked = deed.Looked
+  silent_deed Split = deed.Split
+  silent_deed Left = deed.Left
+
   abbrev pub deed_of : Ask O E → Deed O E
   deed_of (Opened origin) = deed.Opened origin.now
   deed_of (Called event) = deed.Called event.now
-  deed_of Looked = deed.Looked
-  deed_of Split = deed.Split
-  deed_of Left = deed.Left
+  deed_of (Silent kind) = silent_deed kind
 
   -- by the pens whose cells the turns are
   abbrev pub drafted : ℕ → Ask O E → Nib → Nib → Nib → Line O E

@@ -1,10 +1,10 @@
 -- What each front, seat and history keeps.
 use Rattle.std.specs.Prelude.{◌≡◌, ◌⊎◌, ◌≤◌, ℕ, false, List, [], ◌∷◌, ◌++◌, length}
-use Rattle.logbook.specs.Pages.{Book, Nib, Named, may_write}
+use Rattle.logbook.specs.Pages.{Book as HistoryName, Nib, Named, may_write}
 use Rattle.shared_history.specs.Entries.{entry, own, is_left, IsSeat}
 use Rattle.shared_history.specs.History.{HasLeft}
 use Rattle.shared_history.specs.Inner.Lines.{entries_of, IsLegal, HasTurn}
-use Rattle.shared_history.specs.Inner.Rules.{head_of}
+use Rattle.shared_history.specs.Inner.Law.{head_of}
 use Rattle.shared_history.specs.Sight.{IsIn}
 use Rattle.shared_history.specs.declared.entry.Deed.{Deed}
 use Rattle.shared_history.specs.declared.entry.Deed.TheVariants.{Split, Left}
@@ -21,22 +21,22 @@ pub record HasSeats {O E : Type 0} (count : ℕ) (log : List (Entry O E)) : Type
   pub counted : count ≡ length numbers
   pub all : (number : ℕ) → IsSeat log number → IsAmong number numbers
 
-module _ {O E : Type 0} (may : O → List E → E → Type 0) (named : Book) where
+module _ {O E : Type 0} (may : O → List E → E → Type 0) (named : HistoryName) where
   -- a front: the lines are of this history, and so many
-  pub record IsFront (count : ℕ) (book : Book) (lines : List (Line O E)) : Type 0 where
+  pub record IsFront (count : ℕ) (book : HistoryName) (lines : List (Line O E)) : Type 0 where
     pub name : book ≡ named
     pub counted : count ≡ length lines
     pub legal : IsLegal may lines
 
   -- a seat: it has a turn, the right to a cell that is away
-  pub record IsSeated (number count : ℕ) (book : Book) (lines : List (Line O E)) (pen : Book) (nib : Nib) : Type 0 where
+  pub record IsSeated (number count : ℕ) (book : HistoryName) (lines : List (Line O E)) (pen : HistoryName) (nib : Nib) : Type 0 where
     pub front : IsFront count book lines
     pub pen_name : pen ≡ named
     pub right : nib.right ≡ may_write
     pub has : HasTurn may lines number nib.key
 
   -- the history: all lines, and how many seats have not left
-  pub record IsAll (head : Named) (count seats : ℕ) (book : Book) (lines : List (Line O E)) : Type 0 where
+  pub record IsAll (head : Named) (count seats : ℕ) (book : HistoryName) (lines : List (Line O E)) : Type 0 where
     pub head_is : head ≡ head_of named
     pub front : IsFront count book lines
     pub has_seats : HasSeats seats (entries_of lines)
@@ -44,7 +44,7 @@ module _ {O E : Type 0} (may : O → List E → E → Type 0) (named : Book) whe
 
 -- a history that was just opened, and the turn of its first seat
 module _ {O E : Type 0} (may : O → List E → E → Type 0) where
-  pub record IsOpened (head : Named) (book : Book) (lines : List (Line O E)) (pen : Book) (nib : Nib) : Type 0 where
+  pub record IsOpened (head : Named) (book : HistoryName) (lines : List (Line O E)) (pen : HistoryName) (nib : Nib) : Type 0 where
     pub head_is : head ≡ head_of book
     pub pen_name : pen ≡ book
     pub right : nib.right ≡ may_write

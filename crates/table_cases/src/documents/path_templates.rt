@@ -21,7 +21,7 @@ fn answer(alloc: Global, found: Result<bool, PathTemplateError>) -> Result<Strin
 fn are_same(alloc: Global, template: &str, other: &str) -> Result<bool, PathTemplateError> {
     let template = parse(alloc, template)?;
     let other = parse(alloc, other)?;
-    Ok(template.same(&other))
+    Ok(template.source() == other.source())
 }
 
 fn parse(alloc: Global, template: &str) -> Result<PathTemplate, PathTemplateError> {

@@ -54,7 +54,7 @@ fn matches(
 
 // Whether a copy is the same.
 fn is_same(mapping: &SharedSpec) -> Result<bool, AllocError> {
-    let copy = mapping.try_clone()?;
+    let copy = mapping.clone()?;
     Ok(copy.same(mapping))
 }
 

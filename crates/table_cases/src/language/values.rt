@@ -187,7 +187,7 @@ pub fn path(alloc: Global, steps: &str) -> Result<Path, AllocError> {
             path.push(step(alloc, item)?)?;
         }
     }
-    Path::new(path).try_clone()
+    Path::new(path).clone()
 }
 
 // A number that is no index is the greatest one, which finds nothing in the tables.

@@ -50,7 +50,7 @@ pub fn same(alloc: Global, row: &Row) -> Result<String, AllocError> {
     let mut cells = Cells::new(alloc);
     if let Some(first) = given.exchanges.get(0) {
         if let Some(second) = given.exchanges.get(1) {
-            let (first, second) = (first.try_clone()?, whole_copy(alloc, second)?);
+            let (first, second) = (first.clone()?, whole_copy(alloc, second)?);
             cells.add_cell(if first.same(&second) {
                 "same"
             } else {
@@ -130,7 +130,7 @@ fn add_mapping(alloc: Global, cells: &mut Cells, mapping: &MappingSpec) -> Resul
         add_optional(cells, "next", &scenario.next);
     }
     add_request(alloc, cells, &mapping.request)?;
-    add_response(alloc, cells, mapping.response.response())
+    add_response(alloc, cells, &mapping.response)
 }
 
 fn add_request(alloc: Global, cells: &mut Cells, request: &RequestSpec) -> Result<(), AllocError> {

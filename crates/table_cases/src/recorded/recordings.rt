@@ -17,7 +17,7 @@ pub fn target(alloc: Global, row: &Row) -> Result<String, AllocError> {
     let mut cells = Cells::new(alloc);
     match Target::parse(alloc, row.cell(0)) {
         Ok(target) => {
-            let target = target.try_clone()?;
+            let target = target.clone()?;
             cells.add_cell(target.host());
             cells.add_cell("");
             cells.add_number(u32::from(target.port()));

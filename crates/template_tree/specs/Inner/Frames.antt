@@ -9,7 +9,7 @@ use Rattle.template_tags.specs.declared.level.Level.{Level}
 use Rattle.template_tags.specs.declared.tag.Opening.{Opening}
 use Rattle.template_tags.specs.Expression.{Expression, expression_view}
 use Rattle.template_tags.specs.Levels.{is_each}
-use Rattle.template_tags.specs.Sound.{HasNoElse}
+use Rattle.template_tags.specs.Shown.SoundTags.{HasNoElse}
 use Rattle.template_tags.specs.Tags as said
 use Rattle.template_tree.specs.declared.escape.Escape.{Escape}
 use Rattle.template_tree.specs.declared.nest.Frame as declared_frame

@@ -2,7 +2,7 @@ use Rattle.std.proofs.Common.{sym, ◌∙◌, subst, inl, inr}
 use Rattle.std.proofs.lemmas.Bool.{false≢true}
 use Rattle.admin_routes.specs.Routes.{IsAdmin}
 use Rattle.answering.specs.Admin.{IsAdminAnswered}
-use Rattle.answering.specs.Answering.{IsReply, IsRequestAnswered, IsServeAnswered, refusal}
+use Rattle.answering.specs.Answering.{IsMessageReply, IsRequestAnswered, IsServeAnswered, refusal}
 use Rattle.answering.specs.Forwarding.{IsToForward}
 use Rattle.answering.specs.Inner.Sent.{IsServedToForward, IsServedToRender}
 use Rattle.answering.proofs.MessageLemmas.{IsRequestToRender, IsRequestToForward, is_unread, of_request, refused}
@@ -61,7 +61,7 @@ returns g c =
     let why = is_unread c.args.message.now c.in-Err.error c.request_of.result c.in-Err.is
     c.request_of.ensures.bad_url c.request_of.ensures.too_large in
     begun_of
-    (IsReply g.L.Origin.origin g.L.Naming.book c.args.site.now.limits c.args.site.now.escape c.args.site.now.page
+    (IsMessageReply g.L.Origin.origin g.L.Naming.book c.args.site.now.limits c.args.site.now.escape c.args.site.now.page
     c.args.seat.now c.request_of.new.seat c.args.message.now)
     (IsToForward g.L.Origin.origin g.L.Naming.book c.args.seat.now c.request_of.new.seat c.args.message.now)
     (IsToRender g.L.Origin.origin g.L.Naming.book c.args.site.now.limits c.args.seat.now c.request_of.new.seat

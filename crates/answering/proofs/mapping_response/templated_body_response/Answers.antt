@@ -3,7 +3,6 @@ use Rattle.answering.specs.Reply.{response_status}
 use Rattle.answering.proofs.HeaderLemmas.{headers_same}
 use Rattle.answering.proofs.mapping_response.templated_body_response.Goals as goal
 use Rattle.error_code.specs.declared.error_code.ErrorCode.TheVariants.{OverBudget}
-use Rattle.mapping_model.specs.declared.response_spec.ResponseSpec.{ResponseSpec}
 use Rattle.answering.proofs.RenderingLemmas.{is_over, is_rendering_with}
 use Rattle.stub_response.specs.ErrorReply.{error_reply}
 use Rattle.stub_response.specs.Response.{IsRenderedBody}
@@ -21,7 +20,7 @@ returns-in_ok-clone-in-Some c =
         version = c.response_with.ensures.version;
         status = c.response_with.ensures.status
             ∙ ap response_status
-            (c.code-status.ensures.value ∙ ap (λ (r : ResponseSpec). r.status) c.response.ensures ∙ is.2.status);
+            (c.code-status.ensures.value ∙ is.2.status);
         headers = c.response_with.ensures.headers
             ∙ headers_same headers c.in_ok-clone-in-Some.field-0 c.in_ok-clone-in-Some.ensures.cases ∙ is.2.headers;
         body = c.response_with.ensures.body ∙ c.whole.ensures ∙ is.2.body;

@@ -18,9 +18,9 @@ loop-left-preserved-in_ok-push c =
       past_some (found_by c.args.shown) c.args.before c.args.events.now c.loop-left.left c.loop-left.entries.items event
           (omega (arith, c.loop-left-test.true)) c.loop-left.invariant.0 c.loop-left.invariant.1 c.index-events-left.is
           (sym (ap clears c.event-event.ensures) ∙ sym c.clears.ensures ∙ c.if-clears.false)
-          c.in_ok-try_clone.field-0
+          c.in_ok-clone.field-0
           (sym (ap (found_by c.args.shown) c.event-event.ensures) ∙ sym c.in-Some.ensures
-          ∙ ap Some (sym c.in_ok-try_clone.ensures))
+          ∙ ap Some (sym c.in_ok-clone.ensures.cases))
           c.push.new.self.items c.in_ok-push.ensures.items,
     )
 

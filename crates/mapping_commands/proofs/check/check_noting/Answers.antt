@@ -7,4 +7,4 @@ returns-in-Ok g c =
     let checked = c.in-Ok.checked in
     let part = subst (AppendsPart (g.O.Write.contents c.args.out.now) (g.O.Write.contents c.put.new.out))
     c.as_bytes.ensures.value c.in-Err-put.ensures in
-    inr (inr (refl, (string_bytes checked.text, checked.is_refused, c.in-Ok.ensures.report, part), refl))
+    inr (inr (string_bytes checked.text, _, (checked.is_refused, c.in-Ok.ensures.report, refl), refl, part, refl))

@@ -2,13 +2,13 @@ use Rattle.std.proofs.Common.{◌≡◌, ◌+◌, ◌∷◌, ◌++◌, ◌∙◌
 use Rattle.std.proofs.lemmas.List.{map-append, take_all, take_more}
 use Rattle.std.specs.List.{AllZip}
 use Rattle.mapping_json.proofs.Zips.{zip_map, zip_push}
-use Rattle.mapping_files.specs.Saved.{IsTextOf}
+use Rattle.mapping_files.specs.Saved.{IsDocumentText}
 use Rattle.serde_json.specs.View.{view}
 use Rattle.serde_json.specs.declared.value.Value.{Value}
 use Rattle.mapping_files.proofs.file_text.texts_of.Goals as goal
 
 abbrev IsText : Value → List ℕ → Type 0
-IsText value text = IsTextOf (view value) text
+IsText value text = IsDocumentText (view value) text
 
 pub loop-value-preserved : goal.loop-value-preserved
 loop-value-preserved c =
@@ -30,5 +30,5 @@ pub returns : goal.returns
 returns c =
     let all : take c.loop-value.value-index c.args.values.now ≡ c.args.values.now =
     take_all c.loop-value.value-index c.args.values.now (omega arith) in
-    zip_map IsTextOf view c.args.values.now (map string_bytes c.loop-value.texts.items)
+    zip_map IsDocumentText view c.args.values.now (map string_bytes c.loop-value.texts.items)
     (subst (λ vs. AllZip IsText vs (map string_bytes c.loop-value.texts.items)) all c.loop-value.invariant)

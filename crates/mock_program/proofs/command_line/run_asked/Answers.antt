@@ -46,7 +46,7 @@ returns-then-is_explain-clause-explained g c = λ _.
       c.as_slice-then-is_explain.ensures.value ∙ (c.in-Ok.ensures.plain none).2,
       c.form_of.ensures (c.in-Ok.ensures.plain none).3,
     ))
-    c.explain_file.ensures.answer
+    c.explain_file.ensures
 
 pub returns-clause-answered : goal.returns-clause-answered
 returns-clause-answered g c = λ _.

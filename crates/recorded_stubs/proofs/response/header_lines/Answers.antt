@@ -13,7 +13,7 @@ loop-line-preserved c =
     c.in_ok-push.ensures.items
     ∙ (λ j. c.loop-line.invariant j
     ++ record {
-      name = c.in_ok-try_clone.ensures j;
+      name = c.in_ok-clone.ensures.cases j;
       value = (c.in_ok-utf8_text.ensures ∙ c.as_slice.ensures) j;
     } ∷ [])
     ∙ ap (λ l. before ++ header_line l ∷ []) c.line-item.is

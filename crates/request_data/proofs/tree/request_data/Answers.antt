@@ -11,7 +11,7 @@ use Rattle.data_tree.specs.declared.request_data.TheConstants.{SIZE_LIMIT}
 use Rattle.mock_request.specs.Request.{Request}
 use Rattle.needed_data.specs.Needed.{Covers, NeededData}
 use Rattle.request_data.specs.Part.{part_tree}
-use Rattle.request_data.specs.RequestTree.{request_tree, IsRefusal}
+use Rattle.request_data.specs.RequestTree.{request_tree, IsDataRefusal}
 use Rattle.request_data.proofs.PartLemmas.{part_alike}
 use Rattle.request_data.proofs.tree.request_data.Goals as goal
 
@@ -35,10 +35,10 @@ within (Err error) root tree new same = tt
 
 refused
     : (r : Result RequestData DataError) (root : Data) (tree : Tree) → IsNew root r → view root ≡ tree
-    → IfErr r (IsRefusal tree)
+    → IfErr r (IsDataRefusal tree)
 refused (Ok found) root tree new same = tt
 refused (Err error) root tree new same =
-    subst (IsRefusal tree) (sym new.0) (same, subst (λ t. SIZE_LIMIT < size t) same new.1)
+    subst (IsDataRefusal tree) (sym new.0) (same, subst (λ t. SIZE_LIMIT < size t) same new.1)
 
 -- where no step at all is looked at, the part is the whole
 whole

@@ -13,7 +13,7 @@ compare_exchange-found-requires g c =
       c.requires.pen ∙ book,
       offer.0,
       rw (ap (λ w. w.key) h, offer.1, offer.3)
-          (add_moves g.C.Course.may c.args.seen.now.log
+          (add_moves g.C.Rule.may c.args.seen.now.log
           (drafted c.args.seat c.args.ask c.args.turn.now.nib c.args.next.now.nib c.args.child.now.nib)
           c.args.count c.args.turn.now.nib c.requires.right refl c.requires.long c.requires.allowed),
     )

@@ -14,5 +14,5 @@ compare_exchange-requires g c =
       book,
       pen.0 ∙ book,
       offer.0,
-      rw (ap (λ w. w.key) h, pen.1, offer.3) (draw_moves g.C.Course.may c.again-seen.result.log no_line),
+      rw (ap (λ w. w.key) h, pen.1, offer.3) (draw_moves g.C.Rule.may c.again-seen.result.log no_line),
     )

@@ -13,5 +13,5 @@ compare_exchange-requires g c =
       c.requires.pen ∙ book,
       offer.0,
       rw (ap (λ w. w.key) h, offer.3)
-          (look_moves g.C.Course.may c.args.seen.now.log no_line c.args.turn.now.nib c.requires.right),
+          (look_moves g.C.Rule.may c.args.seen.now.log no_line c.args.turn.now.nib c.requires.right),
     )

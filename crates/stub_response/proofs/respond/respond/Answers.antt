@@ -1,8 +1,6 @@
-use Rattle.std.proofs.Common.{IfOk, subst}
 use Rattle.std.proofs.lemmas.Result.{IfOk-weaker}
-use Rattle.mapping_model.specs.declared.response_spec.ResponseSpec.{ResponseSpec}
 use Rattle.stub_response.proofs.ResponseLemmas.{meant_reply}
-use Rattle.stub_response.specs.Response.{IsRendering, IsReplyOf, IsResponse, Rendered}
+use Rattle.stub_response.specs.Response.{IsRendering, IsResponse}
 use Rattle.stub_response.proofs.respond.respond.Goals as goal
 
 pub returns-clause-response : goal.returns-clause-response
@@ -10,9 +8,6 @@ returns-clause-response c =
     let limits = c.args.limits in
     let mapping = c.args.mapping.now in
     let request = c.args.request.now in
-    let made : IfOk c.reply_of.result (IsRendering limits mapping request) =
-    subst (λ (r : ResponseSpec). IfOk c.reply_of.result
-    (IsReplyOf Rendered limits mapping.request.url r.status r.content request)) c.response.ensures c.reply_of.ensures in
     IfOk-weaker c.reply_of.result (IsRendering limits mapping request) (IsResponse limits mapping request)
     (λ reply. meant_reply limits mapping.request.url mapping.response.status mapping.response.content request reply)
-    made
+    c.reply_of.ensures

@@ -1,7 +1,7 @@
 use Rattle.std.proofs.Common.{◌+◌, length, codes, Result, sym, ap, subst, ◌∙◌, arith, rules, length-drop}
 use Rattle.template_words.specs.declared.error.TagError.{TagError}
 use Rattle.template_words.specs.declared.reference.Reference.{Reference}
-use Rattle.template_words.specs.Inner.PathReads.{reference_from}
+use Rattle.template_words.specs.PathReads.{reference_from}
 use Rattle.template_words.specs.Reading.{Gives}
 use Rattle.template_words.proofs.Climbs.{climb_yes, climb_no}
 use Rattle.template_words.proofs.Finding.{begins_fits}

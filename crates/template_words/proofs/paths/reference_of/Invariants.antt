@@ -1,7 +1,7 @@
 use Rattle.std.proofs.Common.{◌≡◌, ◌+◌, ◌≤◌, length}
 use denote.Text.{Utf8}
 use denote.Shadow.{shadow}
-use Rattle.template_words.specs.Inner.PathReads.{reference_from}
+use Rattle.template_words.specs.PathReads.{reference_from}
 use Rattle.template_words.proofs.paths.reference_of.Given as goal
 
 abbrev pub invariant-loop-after : goal.invariant-loop-after

@@ -2,7 +2,7 @@ use Rattle.std.proofs.Common.{◌≡◌, false, length}
 use denote.Text.{Utf8}
 use denote.Shadow.{shadow}
 use Rattle.template_words.specs.Paths.{dotted_parts}
-use Rattle.template_words.specs.Inner.PathReads.{all_steps}
+use Rattle.template_words.specs.PathReads.{all_steps}
 use Rattle.template_words.proofs.Steps.{with_front}
 use Rattle.template_words.proofs.paths.steps_of.Given as goal
 

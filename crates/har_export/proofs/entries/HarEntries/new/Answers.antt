@@ -10,5 +10,5 @@ returns-clause-texts c =
     let timed = c.in_ok-timed.timed.items in (
       items_of_timed target timed,
       subst (λ xs. AreEntries target xs (items_of_timed target timed)) c.in_ok-timed.ensures (timed_are target timed),
-      ap (λ t. texts_of_timed t timed) c.in_ok-target.ensures ∙ timed_texts target timed,
+      ap (λ t. texts_of_timed t timed) c.in_ok-target.ensures.cases ∙ timed_texts target timed,
     )

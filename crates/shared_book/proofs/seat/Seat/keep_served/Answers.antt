@@ -54,7 +54,7 @@ returns-clause-ok g c =
             c.in_ok-entered.entered.base c.keep.new.self.told c.in_ok-entered.ensures.ok.1
             c.self.invariant.dropped c.in_ok-entered.ensures.base c.keep.ensures.told)
             refl keeps c.keep.ensures.joined);
-        asked_for = subst (λ (r : Request). IsServed r receipt.event) (c.in_ok-kept.ensures ∙ c.in_ok-request.ensures)
+        asked_for = subst (λ (r : Request). IsServed r receipt.event) (c.in_ok-kept.ensures.cases ∙ c.in_ok-request.ensures)
             c.in_ok-entered.ensures.ok.0;
         entered = subst (λ (s : Held). Enters g.L.Origin.origin g.L.Naming.book s new receipt) c.self.view_is
             c.in_ok-entered.ensures.ok.1;

@@ -10,18 +10,18 @@ use Rattle.shared_history.proofs.history.History.catch_up.Goals as goal
 pub invariant_of-seat : goal.invariant_of-seat
 invariant_of-seat g c =
     let both = c.learn.new.self.log in
-    let whole : IsPrefix c.self.inside.seen.log both =
+    let whole : IsPrefix c.self.inside.whole.seen.log both =
     prefix_same (ap (λ s. s.log) c.again-seen.ensures) c.learn.ensures.2 in
-    let enough : c.seat.inside.count ≤ c.self.inside.count =
+    let enough : c.seat.inside.holder.count ≤ c.self.inside.whole.count =
     elim c.if-self-seat.branch [
       | then-self-seat w ↦ absurd w.stuck.ensures
       | else-self-seat w ↦ w.if-self-seat.false
     ] in
-    let less : length c.seat.inside.seen.log ≤ length c.self.inside.seen.log =
+    let less : length c.seat.inside.holder.seen.log ≤ length c.self.inside.whole.seen.log =
     omega (arith, c.self.invariant.front.counted, c.seat.invariant.front.counted, enough) in
     let found =
-    caught_up g.C.Course.may c.seat.inside.seen.log c.self.inside.seen.log both c.look.new.seen.log
-    c.seat.inside.number c.seat.inside.turn.nib.key c.seat.invariant.has c.self.invariant.front.legal
+    caught_up g.C.Rule.may c.seat.inside.holder.seen.log c.self.inside.whole.seen.log both c.look.new.seen.log
+    c.seat.inside.holder.number c.seat.inside.holder.turn.nib.key c.seat.invariant.has c.self.invariant.front.legal
     whole c.learn.ensures.3 c.look.ensures.begins c.look.ensures.unused less in
     rw (c.again.ensures, c.look.ensures.nib)
     (record {
@@ -34,22 +34,22 @@ invariant_of-seat g c =
 pub returns-clause-catches_up : goal.returns-clause-catches_up
 returns-clause-catches_up g c =
     let both = c.learn.new.self.log in
-    let whole : IsPrefix c.self.inside.seen.log both =
+    let whole : IsPrefix c.self.inside.whole.seen.log both =
     prefix_same (ap (λ s. s.log) c.again-seen.ensures) c.learn.ensures.2 in
-    let enough : c.seat.inside.count ≤ c.self.inside.count =
+    let enough : c.seat.inside.holder.count ≤ c.self.inside.whole.count =
     elim c.if-self-seat.branch [
       | then-self-seat w ↦ absurd w.stuck.ensures
       | else-self-seat w ↦ w.if-self-seat.false
     ] in
-    let less : length c.seat.inside.seen.log ≤ length c.self.inside.seen.log =
+    let less : length c.seat.inside.holder.seen.log ≤ length c.self.inside.whole.seen.log =
     omega (arith, c.self.invariant.front.counted, c.seat.invariant.front.counted, enough) in
     let found =
-    caught_up g.C.Course.may c.seat.inside.seen.log c.self.inside.seen.log both c.look.new.seen.log
-    c.seat.inside.number c.seat.inside.turn.nib.key c.seat.invariant.has c.self.invariant.front.legal
+    caught_up g.C.Rule.may c.seat.inside.holder.seen.log c.self.inside.whole.seen.log both c.look.new.seen.log
+    c.seat.inside.holder.number c.seat.inside.holder.turn.nib.key c.seat.invariant.has c.self.invariant.front.legal
     whole c.learn.ensures.3 c.look.ensures.begins c.look.ensures.unused less in
     rw (← c.self.view_is, ← c.seat.view_is, c.again.ensures) (record { before = found.1; number = refl; seen = refl })
 
 pub returns-clause-seen : goal.returns-clause-seen
 returns-clause-seen g c =
     rw (← c.self.view_is)
-    (seal g.C.Course.may g.J.Naming.book (entries_of c.self.inside.seen.log) c.self.invariant.front.legal.history)
+    (seal g.C.Rule.may g.J.Naming.book (entries_of c.self.inside.whole.seen.log) c.self.invariant.front.legal.history)

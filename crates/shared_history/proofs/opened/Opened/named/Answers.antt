@@ -1,6 +1,6 @@
 use Rattle.std.proofs.Common.{◌≡◌, ◌∙◌, ap, arith, sym}
 use Rattle.shared_history.specs.Inner.Lines.{entries_of}
-use Rattle.shared_history.specs.Inner.Rules.{head_of}
+use Rattle.shared_history.specs.Inner.Law.{head_of}
 use Rattle.shared_history.specs.Seal.{seal}
 use Rattle.shared_history.proofs.Lines.{entries_length}
 use Rattle.shared_history.proofs.Seats.{seats_first}
@@ -9,7 +9,7 @@ use Rattle.shared_history.proofs.opened.Opened.named.Goals as goal
 pub returns-clause-seen : goal.returns-clause-seen
 returns-clause-seen g c =
     rw (← c.self.view_is)
-    (seal g.C.Course.may g.J.Naming.book (entries_of c.self.inside.seen.log) c.self.invariant.has.legal.history)
+    (seal g.C.Rule.may g.J.Naming.book (entries_of c.self.inside.seen.log) c.self.invariant.has.legal.history)
 
 pub invariant_of-result : goal.invariant_of-result
 invariant_of-result g c =

@@ -12,5 +12,5 @@ invariant_of-result g c =
       pen_name = c.draw-next.ensures.book ∙ sym book;
       right = c.draw-next.ensures.right;
       one = refl;
-      has = first_turn g.C.Course.may c.args.origin.now c.draw-turn.result.nib.key c.draw-next.result.nib.key;
+      has = first_turn g.C.Rule.may c.args.origin.now c.draw-turn.result.nib.key c.draw-next.result.nib.key;
     })

@@ -5,4 +5,4 @@ use Rattle.shared_history.proofs.seat.Seat.front.Goals as goal
 pub returns-clause-seen : goal.returns-clause-seen
 returns-clause-seen g c =
     rw c.again.ensures
-    (seal g.C.Course.may g.J.Naming.book (entries_of c.self.inside.seen.log) c.self.invariant.front.legal.history)
+    (seal g.C.Rule.may g.J.Naming.book (entries_of c.self.inside.holder.seen.log) c.self.invariant.front.legal.history)

@@ -37,7 +37,7 @@ returns-clause-ok c =
     let room : last_number past < NUMBER_LIMIT =
     subst (λ (p : Past). last_number p < NUMBER_LIMIT) c.reserve.ensures.same c.in_ok-reserve.ensures.ok.1 in
     let same : c.in_ok-event.event ≡ e = c.in_ok-event.ensures in
-    let shared : c.in_ok-shared.shared ≡ e = c.in_ok-shared.ensures ∙ same in (
+    let shared : c.in_ok-shared.shared ≡ e = c.in_ok-shared.ensures.cases ∙ same in (
       shared,
       subst (λ (served : Event). Grows c.args.self.now c.push_reserved.new.self.past served) (sym shared)
           (grew c.args.self.now past c.reserve.new.self.past c.push_reserved.new.self.past e c.in_ok-event.event

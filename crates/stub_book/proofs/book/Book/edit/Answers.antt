@@ -16,7 +16,7 @@ invariant_of-self-2 c =
     let past = c.self.inside.history.past in
     let ok = c.in_ok-made.ensures.ok in
     let held = subst (λ (p : Past). IsLive p c.args.id) (sym c.self.view_is) c.in_ok-has_mapping.ensures.ok in
-    let kept = c.in_ok-spec.ensures ∙ c.shared.ensures in
+    let kept = c.in_ok-spec.ensures.cases ∙ c.shared.ensures in
     let given = ap (λ (s : MappingSpec). event.Edit c.args.id s) kept in
     let same = ok.0.is ∙ given in
     fits_added past c.prepare.new.history.past c.push_reserved.new.self.past (event.Edit c.args.id c.args.mapping)
@@ -34,7 +34,7 @@ returns-clause-ok c =
     let past = c.self.inside.history.past in
     let ok = c.in_ok-made.ensures.ok in
     let held = subst (λ (p : Past). IsLive p c.args.id) (sym c.self.view_is) c.in_ok-has_mapping.ensures.ok in
-    let kept = c.in_ok-spec.ensures ∙ c.shared.ensures in
+    let kept = c.in_ok-spec.ensures.cases ∙ c.shared.ensures in
     let given = ap (λ (s : MappingSpec). event.Edit c.args.id s) kept in
     let same = ok.0.is ∙ given in
     accepts c.args.self.now c.push_reserved.new.self.past (input.Edit c.args.id c.args.mapping)

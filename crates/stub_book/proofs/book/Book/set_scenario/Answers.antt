@@ -27,7 +27,7 @@ invariant_of-self-2 c =
     (subst (λ (s : List ℕ). HasState c.args.self.now c.as_str.result.now s) c.as_str-2.ensures
     c.in_ok-has_state.ensures.ok) in
     let given : event.SetScenario c.in_ok-scenario.scenario c.in_ok-target.target ≡ e =
-    λ i. event.SetScenario (c.in_ok-scenario.ensures i) (c.in_ok-target.ensures i) in
+    λ i. event.SetScenario (c.in_ok-scenario.ensures.cases i) (c.in_ok-target.ensures.cases i) in
     let same : c.in_ok-made.made.event ≡ e = ok.0.is ∙ given in
     let moves : StatesFollow (state_of c.self.inside.scenarios) (state_of c.move_to.new.self)
     (event.SetScenario c.as_str-3.result.now c.as_str-4.result.now) =
@@ -58,7 +58,7 @@ returns-clause-ok c =
     (subst (λ (s : List ℕ). HasState c.args.self.now c.as_str.result.now s) c.as_str-2.ensures
     c.in_ok-has_state.ensures.ok) in
     let given : event.SetScenario c.in_ok-scenario.scenario c.in_ok-target.target ≡ e =
-    λ i. event.SetScenario (c.in_ok-scenario.ensures i) (c.in_ok-target.ensures i) in
+    λ i. event.SetScenario (c.in_ok-scenario.ensures.cases i) (c.in_ok-target.ensures.cases i) in
     let same : c.in_ok-made.made.event ≡ e = ok.0.is ∙ given in
     accepts c.args.self.now c.push_reserved.new.self.past (input.SetScenario name state)
     (event.SetScenario c.in_ok-scenario.scenario c.in_ok-target.target) e

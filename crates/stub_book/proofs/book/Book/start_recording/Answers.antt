@@ -1,4 +1,5 @@
 use Rattle.std.proofs.Common.{◌≡◌, ◌⊎◌, inl, inr, ◌+◌, ◌∙◌, ℕ, List, refl, sym, subst}
+use Rattle.std.specs.List.{each_same}
 use Rattle.std.proofs.lemmas.Result.{err_from_is_err_and}
 use Rattle.error_code.specs.declared.error_code.ErrorCode.TheVariants as code
 use Rattle.recorder.specs.Recording.{IsOn}
@@ -46,7 +47,8 @@ invariant_of-self-2 c =
     let to = up.0 ∙ c.as_str.ensures in
     let e : Event = event.StartRecording c.args.target c.args.captured c.args.repeats in
     let given : event.StartRecording c.in_ok-kept.kept c.in_ok-names.names c.args.repeats ≡ e =
-    λ i. event.StartRecording ((c.in_ok-kept.ensures ∙ to) i) (c.in_ok-names.ensures i) c.args.repeats in
+    λ i. event.StartRecording ((c.in_ok-kept.ensures.cases ∙ to) i)
+    (each_same c.args.captured c.in_ok-names.names c.in_ok-names.ensures.cases i) c.args.repeats in
     let same : c.in_ok-made.made.event ≡ e = ok.0.is ∙ given in
     let number = number_of_next past c.prepare.new.history.past c.last_number-start.result c.prepare.ensures.same
     c.last_number-start.ensures.value in
@@ -89,7 +91,8 @@ returns-clause-ok c =
     let to = up.0 ∙ c.as_str.ensures in
     let e : Event = event.StartRecording c.args.target c.args.captured c.args.repeats in
     let given : event.StartRecording c.in_ok-kept.kept c.in_ok-names.names c.args.repeats ≡ e =
-    λ i. event.StartRecording ((c.in_ok-kept.ensures ∙ to) i) (c.in_ok-names.ensures i) c.args.repeats in
+    λ i. event.StartRecording ((c.in_ok-kept.ensures.cases ∙ to) i)
+    (each_same c.args.captured c.in_ok-names.names c.in_ok-names.ensures.cases i) c.args.repeats in
     let same : c.in_ok-made.made.event ≡ e = ok.0.is ∙ given in
     let answer : IsAnswer past e =
     subst (λ (p : Past). ¬ (IsOn (recording p)) × IsTarget c.args.target) (sym c.self.view_is)

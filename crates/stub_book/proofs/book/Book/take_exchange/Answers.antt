@@ -32,7 +32,7 @@ invariant_of-self-2 c =
       known = omega (arith, c.if-serve-last_number.false, c.last_number.ensures.value);
       room = subst (λ (r : Recording). ¬ (recorder.IsFull r)) c.self.invariant.same_recording room;
     } in
-    let given = ap (λ (x : Exchange). event.Record c.args.serve x) c.in_ok-kept.ensures in
+    let given = ap (λ (x : Exchange). event.Record c.args.serve x) c.in_ok-kept.ensures.cases in
     let same : c.in_ok-made.made.event ≡ e = ok.0.is ∙ given in
     fits_added past c.prepare.new.history.past c.push_reserved.new.self.past e c.in_ok-made.made.event
     store store c.self.inside.scenarios c.self.inside.scenarios old c.take.new.self
@@ -58,7 +58,7 @@ returns-clause-ok c =
       known = omega (arith, c.if-serve-last_number.false, c.last_number.ensures.value);
       room = subst (λ (r : Recording). ¬ (recorder.IsFull r)) c.self.invariant.same_recording room;
     } in
-    let given = ap (λ (x : Exchange). event.Record c.args.serve x) c.in_ok-kept.ensures in
+    let given = ap (λ (x : Exchange). event.Record c.args.serve x) c.in_ok-kept.ensures.cases in
     let same : c.in_ok-made.made.event ≡ e = ok.0.is ∙ given in
     accepts c.args.self.now c.push_reserved.new.self.past (input.Record c.args.serve c.args.exchange)
     (event.Record c.args.serve c.in_ok-kept.kept) e

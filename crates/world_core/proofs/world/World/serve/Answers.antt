@@ -14,5 +14,5 @@ returns-in-Ok-clause-ok c =
     let event = c.in-Ok.event in
     let ok = c.in-Ok.ensures.ok in
     served old seen c.self.view_is c.args.actor c.args.request event c.serve_read.new.self c.hold.new.held.items
-    (subst (λ (r : Request). IsServed r event) (c.in_ok-kept.ensures ∙ c.in_ok-shared.ensures) ok.0) ok.1
+    (subst (λ (r : Request). IsServed r event) (c.in_ok-kept.ensures.cases ∙ c.in_ok-shared.ensures) ok.0) ok.1
     (c.hold.ensures ∙ ap (λ (hs : List Held). held_after c.args.actor event hs) c.reserve.ensures.items)

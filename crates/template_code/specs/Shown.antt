@@ -1,0 +1,2 @@
+-- What laws and examples show of the definitions; nothing of it has to be believed.
+pub mod Laws

@@ -1,0 +1,3 @@
+-- What laws and examples show of the definitions; nothing of it has to be believed.
+pub mod Laws
+pub mod Spelled
